@@ -1,0 +1,4 @@
+pub mod Formats
+pub mod CompactLaws
+pub mod PortLemmas
+pub mod Walks

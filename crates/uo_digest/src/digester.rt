@@ -1,0 +1,20 @@
+//! What a digest is, and what makes one.
+ghost use Rattle.std.specs.Prelude.{◌≡◌, ◌+◌, ℕ, List, length};
+ghost use Rattle.uo_digest.specs.declared.digest.Digest.{Digest as Digested};
+
+use crate::{Digest, Steps};
+use std::sync::ledger::Ledger;
+
+/// A function from texts to digests. All that is proved of the node holds for every one of them.
+pub trait Digester {
+    /// The digest of a text.
+    ghost digest_of: { List ℕ → Digested };
+
+    /// The digest of a text, as one step.
+    fn digest<L: Ledger>(text: &[u8], steps: &mut Steps<L>) -> Digest
+        ensures value { result ≡ digest_of text.now }
+        ensures step { steps.new ≡ steps.old + 1 };
+
+    /// A digest has 32 bytes.
+    ghost has_32_bytes: { (text : List ℕ) → length (digest_of text).0 ≡ 32 };
+}

@@ -1,0 +1,20 @@
+//! Digests of texts, and a count of the digests that were made. No call here takes memory.
+#![tactic(auto)]
+
+mod digest;
+mod digester;
+mod hexes;
+mod sha;
+mod steps;
+mod stream;
+#[cfg(test)]
+mod tests;
+mod xor_fold;
+
+pub use digest::Digest;
+pub use digester::Digester;
+pub use hexes::{hex_plain, hex_reversed};
+pub use sha::{Sha512t256, sha256d};
+pub use steps::Steps;
+pub use stream::Sha256dStream;
+pub use xor_fold::XorFold;
