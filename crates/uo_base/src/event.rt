@@ -39,7 +39,9 @@ pub enum Event<'a> {
         message: Option<&'a [u8]>,
     },
     /// The chain goes back by this many blocks.
-    Rollback { count: u32 },
+    Rollback {
+        count: u32,
+    },
     /// A proof that no block follows.
     Stray,
 }
