@@ -1,0 +1,10 @@
+-- What was added up and what is left make the sum.
+use Rattle.std.proofs.Common.{◌≡◌, ◌+◌, ◌*◌, ◌^◌, ◌≤◌, length, sum_by}
+use Rattle.utreexo.proofs.rules.total_output.Given as goal
+
+abbrev pub invariant-loop-output : goal.invariant-loop-output
+invariant-loop-output l = record {
+  sum : l.total + sum_by (λ output. output.amount) l.output-iterator ≡ sum_by (λ output. output.amount) l.fn.tx.outputs;
+  few : length l.yielded + length l.output-iterator ≡ length l.fn.tx.outputs;
+  bound : l.total ≤ 2 ^ 64 * length l.yielded;
+}

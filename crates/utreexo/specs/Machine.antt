@@ -1,0 +1,38 @@
+-- The machine of a node: its chain, the verdicts over a list of blocks, and what they make of the chain.
+use Rattle.std.specs.Prelude.{ℕ, ◌+◌, ◌-◌, ◌==◌, Bool, true, false, List, [], ◌∷◌, Option, Some, None, replicate, if◌then◌else◌}
+use Rattle.uo_base.specs.declared.event.Limits.{Limits}
+use Rattle.uo_digest.specs.declared.digest.Digest.{Digest}
+use Rattle.utreexo.specs.declared.chain.Chain.{Chain}
+use Rattle.utreexo.specs.declared.verdict.Verdict.{Verdict}
+use Rattle.utreexo.specs.declared.verdict.Verdict.TheVariants.{Accepted, Refused}
+use Rattle.utreexo.specs.Rules.{verdict_on}
+
+abbrev pub no_tip : Digest
+no_tip = record { 0 = replicate 32 0 }
+
+-- no block yet
+abbrev pub start : Chain
+start = record { blocks = 0; tip = no_tip; leaves = 0 }
+
+-- an accepted block is the chain's newest, and a refused one changes nothing
+abbrev pub next_chain : Chain → Verdict → Chain
+next_chain chain (Accepted height hash leaves) = record { blocks = chain.blocks + 1; tip = hash; leaves = leaves }
+next_chain chain (Refused height hash why) = chain
+
+-- the height and the hash of the newest block
+abbrev pub newest : Chain → Option (ℕ × Digest)
+newest chain = if chain.blocks == 0 then None else Some (chain.blocks - 1, chain.tip)
+
+-- the verdicts on some blocks, one after the other
+unfoldable pub verdicts : Limits → Chain → List (List ℕ) → List Verdict
+verdicts limits chain [] = []
+verdicts limits chain (body ∷ bodies) = verdict_on limits chain body ∷ verdicts limits (next_chain chain (verdict_on limits chain body)) bodies
+
+-- the chain after some blocks
+unfoldable pub chain_after : Limits → Chain → List (List ℕ) → Chain
+chain_after limits chain [] = chain
+chain_after limits chain (body ∷ bodies) = chain_after limits (next_chain chain (verdict_on limits chain body)) bodies
+
+abbrev pub is_refused : Verdict → Bool
+is_refused (Accepted height hash leaves) = false
+is_refused (Refused height hash why) = true

@@ -1,0 +1,105 @@
+-- The rules that a block is judged by.
+use Rattle.std.specs.Prelude.{ℕ, ◌+◌, ◌*◌, ◌/◌, ◌^◌, ◌==◌, ◌&&◌, nat_le, nat_lt, not, Bool, true, false, List, [], ◌∷◌, length, Option, Some, None, count_by, sum_by, replicate, bytes_eq, if◌then◌else◌}
+use Rattle.std.specs.List.{flat_map}
+use Rattle.sha2.specs.Sha256.{sha256}
+use Rattle.uo_base.specs.declared.event.Limits.{Limits}
+use Rattle.uo_digest.specs.declared.digest.Digest.{Digest}
+use Rattle.tx_codec.specs.Transaction.{Transaction, Input, Output, legacy_text}
+use Rattle.block_codec.specs.Block.{Block, header_text, whole_at}
+use Rattle.utreexo.specs.declared.chain.Chain.{Chain}
+use Rattle.utreexo.specs.declared.verdict.Refusal.{Refusal}
+use Rattle.utreexo.specs.declared.verdict.Refusal.TheVariants as Why
+use Rattle.utreexo.specs.declared.verdict.Verdict.{Verdict}
+use Rattle.utreexo.specs.declared.verdict.Verdict.TheVariants.{Accepted, Refused}
+
+-- the hash of the header
+abbrev pub hash_of : Block → Digest
+hash_of block = record { 0 = sha256 (sha256 (header_text block.header)) }
+
+abbrev pub txid_of : Transaction → List ℕ
+txid_of tx = sha256 (sha256 (legacy_text tx))
+
+-- ---- what a block adds
+
+-- an output whose script does not begin with OP_RETURN and is no longer than any script that can be run
+abbrev pub begins_with_return : List ℕ → Bool
+begins_with_return [] = false
+begins_with_return (code ∷ codes) = code == 106
+
+abbrev pub is_spendable : Output → Bool
+is_spendable output = not (begins_with_return output.script) && nat_le (length output.script) 10000
+
+-- how many entries a block of this height adds: its spendable outputs, and none at height 0
+abbrev pub new_count : ℕ → List Transaction → ℕ
+new_count height txs = if height == 0 then 0 else count_by is_spendable (flat_map (λ tx. tx.outputs) txs)
+
+-- ---- the steps, in their order
+
+-- what a coinbase may claim at a height: 50 coins, halved every 210,000 blocks, in satoshi
+abbrev pub subsidy_at : ℕ → ℕ
+subsidy_at height = if nat_lt (height / 210000) 64 then 5000000000 / 2 ^ (height / 210000) else 0
+
+-- the outpoint of no output
+abbrev pub is_null : Input → Bool
+is_null input = bytes_eq input.txid (replicate 32 0) && input.index == 4294967295
+
+-- one input, of the null outpoint, with a script of 2 to 100 bytes
+abbrev pub is_coinbase_by : List Input → Bool
+is_coinbase_by (input ∷ []) = is_null input && nat_le 2 (length input.script) && nat_le (length input.script) 100
+is_coinbase_by inputs = false
+
+-- its outputs sum to no more than the subsidy
+abbrev pub claims_no_more : ℕ → Transaction → Bool
+claims_no_more height tx = nat_le (sum_by (λ output. output.amount) tx.outputs) (subsidy_at height)
+
+-- there is a next height, and room for the entries
+abbrev pub has_room : Limits → Chain → List Transaction → Bool
+has_room limits chain txs = nat_lt chain.blocks 2147483648 && nat_le (chain.leaves + new_count chain.blocks txs) limits.leaves
+
+-- a block of the kind whose rules are built: its one transaction is a coinbase
+abbrev pub is_built : Limits → Chain → List Transaction → Bool
+is_built limits chain (tx ∷ []) = is_coinbase_by tx.inputs && claims_no_more chain.blocks tx && has_room limits chain (tx ∷ [])
+is_built limits chain txs = false
+
+abbrev pub is_single : List Transaction → Bool
+is_single txs = length txs == 1
+
+-- of one transaction the merkle root is its txid
+abbrev pub has_merkle_root : List ℕ → List Transaction → Bool
+has_merkle_root root (tx ∷ []) = bytes_eq root (txid_of tx)
+has_merkle_root root txs = true
+
+abbrev pub fails_unless : Bool → Refusal → Option Refusal
+fails_unless true why = None
+fails_unless false why = Some why
+
+abbrev pub first_of : List (Option Refusal) → Option Refusal
+first_of [] = None
+first_of (Some why ∷ steps) = Some why
+first_of (None ∷ steps) = first_of steps
+
+abbrev pub steps : Limits → Chain → Block → List (Option Refusal)
+steps limits chain block =
+    fails_unless (bytes_eq block.header.prev chain.tip.0) Why.Link
+    ∷ fails_unless (has_merkle_root block.header.merkle block.txs) Why.MerkleRoot
+    ∷ fails_unless (is_built limits chain block.txs) Why.Unbuilt
+    ∷ []
+
+-- ---- the verdict
+
+abbrev pub verdict_by : Chain → Block → Option Refusal → Verdict
+verdict_by chain block (Some why) = Refused chain.blocks (Some (hash_of block)) why
+verdict_by chain block None = Accepted chain.blocks (hash_of block) (chain.leaves + new_count chain.blocks block.txs)
+
+-- the verdict on a block that was read
+unfoldable pub judged : Limits → Chain → Block → Verdict
+judged limits chain block = verdict_by chain block (first_of (steps limits chain block))
+
+-- the bytes are the text of a block, or of none
+abbrev pub verdict_at : Limits → Chain → Option (Block × List ℕ) → Verdict
+verdict_at limits chain (Some read) = judged limits chain read.0
+verdict_at limits chain None = Refused chain.blocks None Why.Block
+
+-- the verdict on a block's bytes
+unfoldable pub verdict_on : Limits → Chain → List ℕ → Verdict
+verdict_on limits chain body = verdict_at limits chain (whole_at body)

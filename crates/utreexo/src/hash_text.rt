@@ -1,0 +1,31 @@
+//! Block hashes as they are printed.
+ghost use Rattle.std.specs.Prelude.{◌≡◌, Some};
+ghost use Rattle.std.specs.Str.{IsAscii};
+
+use std::{fmt, str};
+use uo_digest::{Digest, hex_reversed};
+
+/// A block hash in hexadecimal, from its last byte to its first.
+#[derive(Clone, Copy)]
+pub struct HashText<'a>(pub &'a Digest);
+
+impl fmt::Display for HashText<'_> {
+    ghost use Rattle.utreexo.specs.Lines.{hash_text};
+
+    ghost output = { λ hash. Some (hash_text hash.0.now) };
+
+    fn fmt<W: fmt::Write>(&self, f: &mut fmt::Formatter<W>) -> fmt::Result {
+        let digits = hex_reversed(self.0);
+        f.write_str(ascii_text(&digits))
+    }
+}
+
+fn ascii_text(digits: &[u8]) -> &str
+    requires { IsAscii digits.now }
+    ensures { result.now ≡ digits.now }
+{
+    match str::from_utf8(digits) {
+        Ok(text) => text,
+        Err(_) => unreachable!(),
+    }
+}

@@ -1,0 +1,14 @@
+//! The program `utreexo`.
+#![tactic(auto)]
+
+mod chain;
+mod hash_text;
+mod line;
+mod report;
+mod rules;
+mod status;
+mod stop;
+mod verdict;
+mod words;
+
+fn main() {}

@@ -1,0 +1,170 @@
+//! The rules that a block is judged by.
+ghost use Rattle.std.specs.Prelude.{◌≡◌, ◌+◌, ◌<◌, ◌≤◌, ◌^◌, IfOk, IsTrue, MatchOption, Some, sum_by, count_by, length, ◌∷◌, [], true, false};
+ghost use Rattle.tx_codec.specs.Views.{input_of, output_of};
+ghost use Rattle.utreexo.specs.Rules.{is_null, is_coinbase_by, is_spendable, is_single, new_count, subsidy_at, is_built, has_merkle_root, judged, verdict_on};
+
+use crate::chain::Chain;
+use crate::verdict::{Refusal, Verdict};
+use block_codec::{BlockFault, BlockView, block_hash, read_block};
+use std::alloc::Global;
+use tx_codec::{InView, OutView, TxView};
+use uo_base::{Limits, NoMemory};
+use uo_digest::Digest;
+
+const NO_HASH: [u8; 32] = [0; 32];
+const NO_INDEX: u32 = 4_294_967_295;
+const OP_RETURN: u8 = 0x6a;
+const LONGEST_SCRIPT: usize = 10_000;
+const MOST_BLOCKS: u32 = 2_147_483_648;
+const FIRST_SUBSIDY: u64 = 5_000_000_000;
+const HALVING: u32 = 210_000;
+
+/// The verdict on a block's bytes.
+#[tactic(auto, unfolding(crate::specs::Rules::verdict_on))]
+pub fn judge(
+    alloc: Global,
+    limits: Limits,
+    chain: &Chain,
+    body: &[u8],
+) -> Result<Verdict, NoMemory>
+    requires { length body.now < 2 ^ 32 }
+    ensures { IfOk result (λ verdict. verdict ≡ verdict_on limits chain.now body.now) }
+{
+    match read_block(alloc, body) {
+        Ok(block) => Ok(judge_block(limits, chain, &block)),
+        Err(BlockFault::NotABlock) => Ok(Verdict::Refused {
+            height: chain.blocks,
+            hash: None,
+            why: Refusal::Block,
+        }),
+        Err(BlockFault::NoMemory) => Err(NoMemory),
+    }
+}
+
+#[tactic(auto, unfolding(crate::specs::Rules::judged))]
+fn judge_block(limits: Limits, chain: &Chain, block: &BlockView<'_>) -> Verdict
+    ensures { result ≡ judged limits chain.now block.now }
+{
+    let height = chain.blocks;
+    let hash = block_hash(block);
+    if block.header().prev != chain.tip {
+        return refused(height, hash, Refusal::Link);
+    }
+    if !has_merkle_root(block) {
+        return refused(height, hash, Refusal::MerkleRoot);
+    }
+    match leaves_after(limits, chain, block) {
+        Some(leaves) => Verdict::Accepted {
+            height,
+            hash,
+            leaves,
+        },
+        None => refused(height, hash, Refusal::Unbuilt),
+    }
+}
+
+fn refused(height: u32, hash: Digest, why: Refusal) -> Verdict
+    ensures { result ≡ Verdict.Refused height (Some hash) why }
+{
+    Verdict::Refused {
+        height,
+        hash: Some(hash),
+        why,
+    }
+}
+
+fn only_tx<'a, 'b>(block: &'b BlockView<'a>) -> Option<&'b TxView<'a>>
+    ensures { MatchOption result (IsTrue (is_single block.now.txs) → ⊥) (λ tx. block.now.txs ≡ tx.now ∷ []) }
+{
+    if block.tx_count() == 1 {
+        Some(block.tx(0))
+    } else {
+        None
+    }
+}
+
+fn has_merkle_root(block: &BlockView<'_>) -> bool
+    ensures { result ≡ has_merkle_root block.now.header.merkle block.now.txs }
+{
+    match only_tx(block) {
+        Some(tx) => block.header().merkle == tx.txid(),
+        None => true,
+    }
+}
+
+// The entries ever added, once the block is; only for a block of the kind whose rules are built.
+fn leaves_after(limits: Limits, chain: &Chain, block: &BlockView<'_>) -> Option<u64>
+    ensures { MatchOption result (is_built limits chain.now block.now.txs ≡ false)
+        (λ leaves. (is_built limits chain.now block.now.txs ≡ true) × (leaves ≡ chain.now.leaves + new_count chain.now.blocks block.now.txs)) }
+{
+    let tx = only_tx(block)?;
+    if !is_coinbase(tx) || total_output(tx) > u128::from(subsidy(chain.blocks)) {
+        return None;
+    }
+    let leaves = u128::from(chain.leaves) + u128::from(new_entries(chain.blocks, tx));
+    if chain.blocks >= MOST_BLOCKS || leaves > u128::from(limits.leaves) {
+        return None;
+    }
+    Some(leaves as u64)
+}
+
+fn is_coinbase(tx: &TxView<'_>) -> bool
+    ensures { result ≡ is_coinbase_by tx.now.inputs }
+{
+    let mut inputs = tx.inputs();
+    match (inputs.next(), inputs.next()) {
+        (Some(input), None) => is_null(&input) && input.script.len() >= 2 && input.script.len() <= 100,
+        _ => false,
+    }
+}
+
+fn is_null(input: &InView<'_>) -> bool
+    ensures { result ≡ is_null (input_of input.now) }
+{
+    input.txid == Digest(NO_HASH) && input.index == NO_INDEX
+}
+
+// In satoshi.
+fn total_output(tx: &TxView<'_>) -> u128
+    ensures { result ≡ sum_by (λ output. output.amount) tx.now.outputs }
+{
+    let mut total = 0u128;
+    for output in tx.outputs() {
+        total += u128::from(output.amount);
+    }
+    total
+}
+
+// What a coinbase may claim at a height, in satoshi.
+fn subsidy(height: u32) -> u64
+    ensures { result ≡ subsidy_at height }
+{
+    let halvings = height / HALVING;
+    if halvings < 64 {
+        FIRST_SUBSIDY >> halvings
+    } else {
+        0
+    }
+}
+
+// How many entries a block of one transaction adds.
+fn new_entries(height: u32, tx: &TxView<'_>) -> u32
+    ensures { result ≡ new_count height (tx.now ∷ []) }
+{
+    if height == 0 {
+        return 0;
+    }
+    let mut count = 0;
+    for output in tx.outputs() {
+        if is_spendable(&output) {
+            count += 1;
+        }
+    }
+    count
+}
+
+fn is_spendable(output: &OutView<'_>) -> bool
+    ensures { result ≡ is_spendable (output_of output.now) }
+{
+    output.script.first() != Some(&OP_RETURN) && output.script.len() <= LONGEST_SCRIPT
+}

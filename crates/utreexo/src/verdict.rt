@@ -1,0 +1,82 @@
+//! What a node says of an event.
+ghost use Rattle.std.specs.Prelude.{Some};
+
+use crate::hash_text::HashText;
+use std::fmt;
+use uo_digest::Digest;
+
+/// Why a block is refused: the first rule that it breaks.
+#[derive(Clone, Copy, Debug, PartialEq, Eq)]
+pub enum Refusal {
+    /// The bytes are no block.
+    Block,
+    /// The block does not extend the tip.
+    Link,
+    /// The header's merkle root is not that of the transactions.
+    MerkleRoot,
+    /// The rules for such a block are not built yet.
+    Unbuilt,
+}
+
+impl fmt::Display for Refusal {
+    ghost use Rattle.utreexo.specs.Lines.{refusal_text};
+
+    ghost output = { λ why. Some (refusal_text why) };
+
+    fn fmt<W: fmt::Write>(&self, f: &mut fmt::Formatter<W>) -> fmt::Result {
+        match self {
+            Refusal::Block => f.write_str("block"),
+            Refusal::Link => f.write_str("link"),
+            Refusal::MerkleRoot => f.write_str("merkle root"),
+            Refusal::Unbuilt => f.write_str("unbuilt"),
+        }
+    }
+}
+
+/// What a node says of an event.
+#[derive(Clone, Copy, Debug, PartialEq, Eq)]
+pub enum Verdict {
+    /// The block is the chain's newest now.
+    Accepted {
+        /// Its height.
+        height: u32,
+        /// Its hash.
+        hash: Digest,
+        /// The entries ever added, its own among them.
+        leaves: u64,
+    },
+    /// The chain stays as it was.
+    Refused {
+        /// The height that the block would have had.
+        height: u32,
+        /// Its hash, where the bytes are a block.
+        hash: Option<Digest>,
+        why: Refusal,
+    },
+}
+
+impl fmt::Display for Verdict {
+    ghost use Rattle.utreexo.specs.Lines.{verdict_text};
+
+    ghost output = { λ verdict. Some (verdict_text verdict) };
+
+    fn fmt<W: fmt::Write>(&self, f: &mut fmt::Formatter<W>) -> fmt::Result {
+        match self {
+            Verdict::Accepted {
+                height,
+                hash,
+                leaves,
+            } => write!(f, "accepted {height} {} {leaves}", HashText(hash)),
+            Verdict::Refused {
+                height,
+                hash: Some(hash),
+                why,
+            } => write!(f, "refused {height} {} {why}", HashText(hash)),
+            Verdict::Refused {
+                height,
+                hash: None,
+                why,
+            } => write!(f, "refused {height} - {why}"),
+        }
+    }
+}
