@@ -1,1 +1,5 @@
+pub mod FollowLemmas
+pub mod FrameLemmas
+pub mod Progress
+pub mod RuleLemmas
 pub mod Singles

@@ -1,3 +1,7 @@
+pub mod Answers
+pub mod Follow
+pub mod FrameBody
+pub mod Frames
 pub mod Lines
 pub mod Machine
 pub mod Rules

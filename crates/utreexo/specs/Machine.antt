@@ -1,8 +1,9 @@
 -- The machine of a node: its chain, the verdicts over a list of blocks, and what they make of the chain.
-use Rattle.std.specs.Prelude.{ℕ, ◌+◌, ◌-◌, ◌==◌, Bool, true, false, List, [], ◌∷◌, Option, Some, None, replicate, if◌then◌else◌}
+use Rattle.std.specs.Prelude.{ℕ, ◌+◌, ◌-◌, ◌==◌, ◌||◌, Bool, true, false, List, [], ◌∷◌, Option, Some, None, replicate, if◌then◌else◌}
 use Rattle.uo_base.specs.declared.event.Limits.{Limits}
 use Rattle.uo_digest.specs.declared.digest.Digest.{Digest}
 use Rattle.utreexo.specs.declared.chain.Chain.{Chain}
+use Rattle.utreexo.specs.declared.follower.Follower.{Follower}
 use Rattle.utreexo.specs.declared.verdict.Verdict.{Verdict}
 use Rattle.utreexo.specs.declared.verdict.Verdict.TheVariants.{Accepted, Refused}
 use Rattle.utreexo.specs.Rules.{verdict_on}
@@ -23,16 +24,28 @@ next_chain chain (Refused height hash why) = chain
 abbrev pub newest : Chain → Option (ℕ × Digest)
 newest chain = if chain.blocks == 0 then None else Some (chain.blocks - 1, chain.tip)
 
--- the verdicts on some blocks, one after the other
+abbrev pub is_refused : Verdict → Bool
+is_refused (Accepted height hash leaves) = false
+is_refused (Refused height hash why) = true
+
+-- ---- over a list of blocks, one after the other
+
 unfoldable pub verdicts : Limits → Chain → List (List ℕ) → List Verdict
 verdicts limits chain [] = []
-verdicts limits chain (body ∷ bodies) = verdict_on limits chain body ∷ verdicts limits (next_chain chain (verdict_on limits chain body)) bodies
+verdicts limits chain (body ∷ bodies) =
+    verdict_on limits chain body ∷ verdicts limits (next_chain chain (verdict_on limits chain body)) bodies
 
--- the chain after some blocks
 unfoldable pub chain_after : Limits → Chain → List (List ℕ) → Chain
 chain_after limits chain [] = chain
 chain_after limits chain (body ∷ bodies) = chain_after limits (next_chain chain (verdict_on limits chain body)) bodies
 
-abbrev pub is_refused : Verdict → Bool
-is_refused (Accepted height hash leaves) = false
-is_refused (Refused height hash why) = true
+-- ---- what the program keeps: the chain, and whether an event was refused
+
+abbrev pub fresh : Follower
+fresh = record { chain = start; refused = false }
+
+unfoldable pub next_follower : Limits → Follower → List ℕ → Follower
+next_follower limits f body = record {
+  chain = next_chain f.chain (verdict_on limits f.chain body);
+  refused = f.refused || is_refused (verdict_on limits f.chain body);
+}

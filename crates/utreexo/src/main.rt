@@ -2,6 +2,9 @@
 #![tactic(auto)]
 
 mod chain;
+mod follow;
+mod follower;
+mod frames;
 mod hash_text;
 mod line;
 mod report;

@@ -3,7 +3,7 @@ ghost use Rattle.std.specs.Prelude.{◌≡◌};
 ghost use Rattle.utreexo.specs.declared.stop.Stop.TheVariants.{ReadFault, NoMemory};
 
 use std::alloc::AllocError;
-use uo_base::{Failed, SinkFault};
+use uo_base::{Failed, NoMemory as NoMemoryFault, SinkFault};
 
 /// Why a run stopped before its end.
 #[derive(Clone, Copy, Debug, PartialEq, Eq)]
@@ -17,6 +17,14 @@ impl From<AllocError> for Stop {
     ghost from_gives = { λ _ stop. stop ≡ NoMemory };
 
     fn from(_: AllocError) -> Self {
+        Stop::NoMemory
+    }
+}
+
+impl From<NoMemoryFault> for Stop {
+    ghost from_gives = { λ _ stop. stop ≡ NoMemory };
+
+    fn from(_: NoMemoryFault) -> Self {
         Stop::NoMemory
     }
 }

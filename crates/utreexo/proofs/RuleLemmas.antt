@@ -1,0 +1,51 @@
+-- What the rules keep of a chain.
+use Rattle.std.proofs.Common.{◌≡◌, ℕ, ◌+◌, ◌^◌, ◌<◌, ◌≤◌, Bool, true, false, ◌&&◌, nat_lt, List, [], ◌∷◌, Option, Some, None, refl, arith, ltb-true}
+use Rattle.std.proofs.lemmas.Bool.{and_parts}
+use Rattle.tx_codec.specs.Transaction.{Transaction}
+use Rattle.block_codec.specs.Block.{Block, whole_at}
+use Rattle.uo_base.specs.declared.event.Limits.{Limits}
+use Rattle.utreexo.specs.declared.chain.Chain.{Chain}
+use Rattle.utreexo.specs.declared.verdict.Refusal.{Refusal}
+use Rattle.utreexo.specs.declared.verdict.Refusal.TheVariants.{Unbuilt}
+use Rattle.utreexo.specs.Rules.{fails_unless, first_of, steps, is_built, has_room, judged, verdict_by, verdict_at, verdict_on}
+use Rattle.utreexo.specs.Machine.{next_chain}
+
+abbrev AllPass : List (Option Refusal) → Type 0
+AllPass [] = Unit {0}
+AllPass (step ∷ steps) = (step ≡ None) × AllPass steps
+
+-- where no step is the first to fail, each passes
+each_passes : (steps : List (Option Refusal)) → first_of steps ≡ None → AllPass steps
+each_passes [] e = tt
+each_passes (Some why ∷ steps) e = absurd cc
+each_passes (None ∷ steps) e = (refl, each_passes steps e)
+
+passed_test : (test : Bool) (why : Refusal) → fails_unless test why ≡ None → test ≡ true
+passed_test true why e = refl
+passed_test false why e = absurd cc
+
+built_has_height : (limits : Limits) (chain : Chain) (txs : List Transaction) → is_built limits chain txs ≡ true → chain.blocks < 2 ^ 31
+built_has_height limits chain [] e = absurd cc
+built_has_height limits chain (tx ∷ []) e =
+    let room = and_parts _ (has_room limits chain (tx ∷ [])) e in
+    let height = and_parts (nat_lt chain.blocks 2147483648) _ room.1 in
+    ltb-true _ _ height.0
+built_has_height limits chain (tx ∷ u ∷ us) e = absurd cc
+
+module _ (limits : Limits) (chain : Chain) (few : chain.blocks ≤ 2 ^ 31) where
+  few_by : (block : Block) (r : Option Refusal) → first_of (steps limits chain block) ≡ r → (next_chain chain (verdict_by chain block r)).blocks ≤ 2 ^ 31
+  few_by block (Some why) e = few
+  few_by block None e =
+      let passes = each_passes (steps limits chain block) e in
+      let below = built_has_height limits chain block.txs (passed_test (is_built limits chain block.txs) Unbuilt passes.1.1.0) in
+      omega (arith, below)
+
+  few_at : (read : Option (Block × List ℕ)) → (next_chain chain (verdict_at limits chain read)).blocks ≤ 2 ^ 31
+  unfolding judged
+  few_at None = few
+  few_at (Some read) = few_by read.0 (first_of (steps limits chain read.0)) refl
+
+  -- no verdict makes more blocks than there may be
+  pub next-few : (body : List ℕ) → (next_chain chain (verdict_on limits chain body)).blocks ≤ 2 ^ 31
+  unfolding verdict_on
+  next-few body = few_at (whole_at body)
