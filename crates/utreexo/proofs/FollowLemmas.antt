@@ -1,5 +1,5 @@
 -- From what was written to the answer of a command.
-use Rattle.std.proofs.Common.{◌≡◌, ℕ, Bool, true, false, ◌<◌, ◌≤◌, List, [], ◌++◌, length, nat_lt, Option, Some, None, Result, Ok, Err, IfOk, OnOk, refl, sym, ap, subst, ◌∙◌, arith, append-nil}
+use Rattle.std.proofs.Common.{◌≡◌, ℕ, ◌≤◌, List, [], ◌++◌, length, Option, Result, Ok, Err, IfOk, OnOk, refl, sym, ap, subst, ◌∙◌, append-nil}
 use Rattle.std.specs.List.{list_any}
 use Rattle.std.proofs.lemmas.Bool.{le-ltb, lt-ltb}
 use Rattle.std.specs.Io.KnownBytes.{Appends}
@@ -10,7 +10,6 @@ use Rattle.uo_base.specs.Told.{Tells, IsLonger}
 use Rattle.uo_base.proofs.PortLemmas.{AppendsPart-after, AppendsPart-front, AppendsPart-none, told_text, Tells-told_text}
 use Rattle.utreexo.specs.declared.follower.Follower.{Follower}
 use Rattle.utreexo.specs.declared.line.Line.{Line}
-use Rattle.utreexo.specs.declared.line.Line.TheVariants as Line
 use Rattle.utreexo.specs.declared.status.Status.{Status}
 use Rattle.utreexo.specs.declared.status.Status.TheVariants.{InputLimit}
 use Rattle.utreexo.specs.Answers.{Answer, said, Ends, StaysWithin}

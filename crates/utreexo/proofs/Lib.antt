@@ -2,4 +2,5 @@ pub mod FollowLemmas
 pub mod FrameLemmas
 pub mod Progress
 pub mod RuleLemmas
+pub mod RunLemmas
 pub mod Singles

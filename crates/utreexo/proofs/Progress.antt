@@ -1,15 +1,15 @@
 -- How far a run over a list of blocks has come.
-use Rattle.std.proofs.Common.{◌≡◌, ℕ, ◌≤◌, ◌^◌, Bool, true, false, ◌||◌, List, [], ◌∷◌, ◌++◌, refl, sym, ap, ◌∙◌, subst, append_assoc, append-nil}
+use Rattle.std.proofs.Common.{◌≡◌, ℕ, Bool, true, false, ◌||◌, List, [], ◌∷◌, ◌++◌, refl, sym, ap, ◌∙◌, subst, append_assoc, append-nil}
 use Rattle.std.specs.declared.option.Option.{Option}
 use Rattle.std.specs.List.{list_any}
 use Rattle.std.specs.Io.KnownBytes.{Appends}
 use Rattle.std.proofs.KnownBytes.{Appends-nil, Appends-trans}
 use Rattle.uo_base.specs.declared.event.Limits.{Limits}
 use Rattle.uo_base.specs.Moved.{AppendsPart}
-use Rattle.uo_base.proofs.PortLemmas.{AppendsPart-after, AppendsPart-whole}
+use Rattle.uo_base.proofs.PortLemmas.{AppendsPart-after}
 use Rattle.utreexo.specs.declared.follower.Follower.{Follower}
 use Rattle.utreexo.specs.Follow.{lines_of, event_line}
-use Rattle.utreexo.specs.Machine.{start, fresh, is_refused, verdicts, chain_after, next_chain, next_follower}
+use Rattle.utreexo.specs.Machine.{start, fresh, is_refused, verdicts, chain_after, next_follower}
 use Rattle.utreexo.specs.Rules.{verdict_on}
 
 -- the lines of the blocks before the rest are written, and the rest makes of the follower what all make of a fresh one

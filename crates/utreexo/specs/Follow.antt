@@ -4,7 +4,6 @@ use Rattle.std.specs.List.{flat_map, list_any}
 use Rattle.uo_base.specs.declared.event.Limits.{Limits}
 use Rattle.utreexo.specs.declared.chain.Chain.{Chain}
 use Rattle.utreexo.specs.declared.line.Line.{Line}
-use Rattle.utreexo.specs.declared.line.Line.TheVariants as Line
 use Rattle.utreexo.specs.declared.status.Status.TheVariants.{Frame, InputLimit}
 use Rattle.utreexo.specs.declared.verdict.Verdict.{Verdict}
 use Rattle.utreexo.specs.Answers.{Answer, said}

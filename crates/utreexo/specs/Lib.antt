@@ -5,5 +5,6 @@ pub mod Frames
 pub mod Lines
 pub mod Machine
 pub mod Rules
+pub mod Runs
 pub mod Status
 pub mod Words

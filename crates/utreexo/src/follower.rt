@@ -32,12 +32,7 @@ impl Follower {
     }
 
     /// Judges a block's bytes, and goes on to the chain that the verdict makes.
-    pub fn take(
-        &mut self,
-        alloc: Global,
-        limits: Limits,
-        body: &[u8],
-    ) -> Result<Verdict, NoMemory>
+    pub fn take(&mut self, alloc: Global, limits: Limits, body: &[u8]) -> Result<Verdict, NoMemory>
         requires short { length body.now < 2 ^ 32 }
         requires few { self.old.chain.blocks ≤ 2 ^ 31 }
         ensures verdict { IfOk result (λ verdict. verdict ≡ verdict_on limits self.old.chain body.now) }

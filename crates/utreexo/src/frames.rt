@@ -7,6 +7,7 @@ use std::marker::Model;
 use uo_base::Cursor;
 
 const MAIN_MAGIC: [u8; 4] = [0xf9, 0xbe, 0xb4, 0xd9];
+
 const BLOCK_LIMIT: u32 = 4_000_000;
 
 /// The body of a block's frame.

@@ -12,21 +12,22 @@ use uo_base::{Limits, NoMemory};
 use uo_digest::Digest;
 
 const NO_HASH: [u8; 32] = [0; 32];
+
 const NO_INDEX: u32 = 4_294_967_295;
+
 const OP_RETURN: u8 = 0x6a;
+
 const LONGEST_SCRIPT: usize = 10_000;
+
 const MOST_BLOCKS: u32 = 2_147_483_648;
+
 const FIRST_SUBSIDY: u64 = 5_000_000_000;
+
 const HALVING: u32 = 210_000;
 
 /// The verdict on a block's bytes.
 #[tactic(auto, unfolding(crate::specs::Rules::verdict_on))]
-pub fn judge(
-    alloc: Global,
-    limits: Limits,
-    chain: &Chain,
-    body: &[u8],
-) -> Result<Verdict, NoMemory>
+pub fn judge(alloc: Global, limits: Limits, chain: &Chain, body: &[u8]) -> Result<Verdict, NoMemory>
     requires { length body.now < 2 ^ 32 }
     ensures { IfOk result (λ verdict. verdict ≡ verdict_on limits chain.now body.now) }
 {
@@ -113,7 +114,9 @@ fn is_coinbase(tx: &TxView<'_>) -> bool
 {
     let mut inputs = tx.inputs();
     match (inputs.next(), inputs.next()) {
-        (Some(input), None) => is_null(&input) && input.script.len() >= 2 && input.script.len() <= 100,
+        (Some(input), None) => is_null(&input)
+            && input.script.len() >= 2
+            && input.script.len() <= 100,
         _ => false,
     }
 }

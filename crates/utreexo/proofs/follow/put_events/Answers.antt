@@ -1,4 +1,4 @@
-use Rattle.std.proofs.Common.{◌≤◌, arith}
+use Rattle.std.proofs.Common.{arith}
 use Rattle.uo_base.proofs.PortLemmas.{AppendsPart-whole}
 use Rattle.utreexo.proofs.Progress.{Progress-start, Progress-event, Progress-part, Progress-lines, Progress-chain, Progress-refused}
 use Rattle.utreexo.proofs.follow.put_events.Goals as goal

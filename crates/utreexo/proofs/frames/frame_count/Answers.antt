@@ -1,6 +1,5 @@
-use Rattle.std.proofs.Common.{◌≡◌, ◌<◌, length, sym, ap, ◌∙◌, arith, eqb-true}
+use Rattle.std.proofs.Common.{length, sym, ap, ◌∙◌, arith, eqb-true}
 use Rattle.std.proofs.lemmas.Bool.{eqb-false}
-use Rattle.utreexo.specs.Frames.{after_zeros}
 use Rattle.utreexo.proofs.FrameLemmas.{counted, counted-none_yet, counted-frame, counted-end, counted-bad, behind-shorter, after_zeros-twice, bodies_of-after_zeros, after_zeros-shorter}
 use Rattle.utreexo.proofs.frames.frame_count.Goals as goal
 

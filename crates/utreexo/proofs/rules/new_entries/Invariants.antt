@@ -1,5 +1,5 @@
 -- What was counted and what is left make the count.
-use Rattle.std.proofs.Common.{◌≡◌, ◌+◌, length, count_by}
+use Rattle.std.proofs.Common.{◌≡◌, ◌+◌, count_by}
 use Rattle.utreexo.specs.Rules.{is_spendable}
 use Rattle.utreexo.proofs.rules.new_entries.Given as goal
 

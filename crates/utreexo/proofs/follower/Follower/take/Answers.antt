@@ -1,5 +1,5 @@
 use Rattle.std.proofs.Common.{refl}
-use Rattle.utreexo.specs.Machine.{next_follower, next_chain}
+use Rattle.utreexo.specs.Machine.{next_follower}
 use Rattle.utreexo.proofs.RuleLemmas.{next-few}
 use Rattle.utreexo.proofs.follower.Follower.take.Goals as goal
 

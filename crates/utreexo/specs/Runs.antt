@@ -1,0 +1,78 @@
+-- The whole answer to the words of a command line, and what a run does with it.
+use Rattle.std.specs.Prelude.{◌≡◌, ℕ, Bool, true, false, List, Result, Ok, Err, IsTrue}
+use Rattle.std.specs.declared.option.Option.{Option}
+use Rattle.std.specs.Io.KnownBytes.{Appends}
+use Rattle.uo_base.specs.declared.event.Limits.{Limits}
+use Rattle.uo_base.specs.Faults.{Rose}
+use Rattle.uo_base.specs.Moved.{AppendsPart}
+use Rattle.uo_base.specs.Told.{Tells}
+use Rattle.utreexo.specs.declared.line.Line.TheVariants as Line
+use Rattle.utreexo.specs.declared.status.Status.{Status}
+use Rattle.utreexo.specs.declared.status.Status.TheVariants.{ReadFault, WriteFault, NoMemory, Words}
+use Rattle.utreexo.specs.declared.words.Command.{Command}
+use Rattle.utreexo.specs.declared.words.Command.TheVariants.{Follow}
+use Rattle.utreexo.specs.declared.words.WordFault.{WordFault}
+use Rattle.utreexo.specs.Answers.{Answer, said}
+use Rattle.utreexo.specs.Follow.{follow_answer}
+use Rattle.utreexo.specs.Words.{command_of}
+
+-- the bytes of the three inputs
+pub record Inputs : Type 0 where
+  pub feed : List ℕ
+  pub prior : List ℕ
+  pub watch : List ℕ
+
+-- the ports that a command uses beside the report
+pub record Uses : Type 0 where
+  pub feed : Bool
+  pub prior : Bool
+  pub watch : Bool
+  pub out : Bool
+
+abbrev pub uses_by : Result Command WordFault → Uses
+uses_by (Err fault) = record { feed = false; prior = false; watch = false; out = false }
+uses_by (Ok Follow) = record { feed = true; prior = false; watch = false; out = false }
+
+abbrev pub uses_of : List (List ℕ) → Uses
+uses_of words = uses_by (command_of words)
+
+-- the whole answer to a command, or to words that are refused
+abbrev pub answer_by : Result Command WordFault → Limits → Inputs → Answer
+answer_by (Err fault) limits inputs = said Words (Line.Words fault.at)
+answer_by (Ok Follow) limits inputs = follow_answer limits inputs.feed
+
+-- the whole answer to the words of a command line
+unfoldable pub answer_of : List (List ℕ) → Limits → Inputs → Answer
+answer_of words limits inputs = answer_by (command_of words) limits inputs
+
+-- the inputs are these, where their sources tell them
+pub record Agrees (feed prior watch : Option (List ℕ)) (inputs : Inputs) : Type 0 where
+  pub on_feed : Tells feed inputs.feed
+  pub on_prior : Tells prior inputs.prior
+  pub on_watch : Tells watch inputs.watch
+
+-- the run gave the whole answer to inputs which are the told ones
+pub record EndsRun (answer : Inputs → Answer) (feed prior watch report report' out out' : Option (List ℕ)) (status : Status) : Type 0 where
+  pub inputs : Inputs
+  pub told : Agrees feed prior watch inputs
+  pub answered : status ≡ (answer inputs).status
+  pub reported : Appends report report' (answer inputs).report
+  pub sent : Appends out out' (answer inputs).out
+
+-- the run wrote a part of the answer to inputs which are the told ones
+pub record StaysWithinRun (answer : Inputs → Answer) (feed prior watch report report' out out' : Option (List ℕ)) : Type 0 where
+  pub inputs : Inputs
+  pub told : Agrees feed prior watch inputs
+  pub reported : AppendsPart report report' (answer inputs).report
+  pub sent : AppendsPart out out' (answer inputs).out
+
+-- a run that a fault or want of memory stopped wrote a part of the answer, and each other run gave the whole answer
+abbrev pub Obeys : (Inputs → Answer) → (feed prior watch report report' out out' : Option (List ℕ)) → Status → Type 0
+Obeys answer feed prior watch report report' out out' ReadFault = StaysWithinRun answer feed prior watch report report' out out'
+Obeys answer feed prior watch report report' out out' WriteFault = StaysWithinRun answer feed prior watch report report' out out'
+Obeys answer feed prior watch report report' out out' NoMemory = StaysWithinRun answer feed prior watch report report' out out'
+Obeys answer feed prior watch report report' out out' status = EndsRun answer feed prior watch report report' out out' status
+
+-- a port that is used failed
+abbrev pub UsedRose : Bool → ℕ → ℕ → Type 0
+UsedRose used before now = IsTrue used × Rose before now

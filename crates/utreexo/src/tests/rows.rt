@@ -1,0 +1,212 @@
+//! Feeds, and what is printed of them.
+ghost use Rattle.std.specs.Prelude.{◌≡◌, ◌<◌};
+
+use super::{GENESIS_FRAME, GENESIS_HEADER, GENESIS_INPUT, Ports, bytes_of, run_over};
+use crate::status::Status;
+use std::alloc::Global;
+use std::marker::Brand;
+use std::process::Abort;
+use std::sync::ledger::{Blank, Ledger};
+use std::test::Fail;
+use uo_base::Limits;
+
+/// The words, a feed in pieces of hexadecimal, the bytes that may be read of it, and what is printed.
+struct Row {
+    words: &'static [&'static str],
+    feed: &'static [&'static str],
+    bytes: u64,
+    status: Status,
+    report: &'static str,
+}
+
+const FOLLOW: &[&str] = &["follow"];
+
+const ANY: u64 = 281_474_976_710_656;
+
+const ROWS: [Row; 15] = [
+    Row {
+        words: FOLLOW,
+        feed: &[],
+        bytes: ANY,
+        status: Status::AllAccepted,
+        report: "end 0 - - 0\n",
+    },
+    Row {
+        words: FOLLOW,
+        feed: &GENESIS_FRAME,
+        bytes: ANY,
+        status: Status::AllAccepted,
+        report: "accepted 0 000000000019d6689c085ae165831e934ff763ae46a2a6c172b3f1b60a8ce26f 0\nend 1 0 000000000019d6689c085ae165831e934ff763ae46a2a6c172b3f1b60a8ce26f 0\n",
+    },
+    Row {
+        words: FOLLOW,
+        feed: &[
+            "f9beb4d9",
+            "1d010000",
+            GENESIS_HEADER,
+            "010100000001",
+            GENESIS_INPUT,
+            "01",
+        ],
+        bytes: ANY,
+        status: Status::SomeRefused,
+        report: "refused 0 000000000019d6689c085ae165831e934ff763ae46a2a6c172b3f1b60a8ce26f merkle root\nend 1 - - 0\n",
+    },
+    Row {
+        words: FOLLOW,
+        feed: &[
+            "000000f9beb4d9",
+            "1d010000",
+            GENESIS_HEADER,
+            "010100000001",
+            GENESIS_INPUT,
+            "00",
+            "00f9beb4d9",
+            "1d010000",
+            GENESIS_HEADER,
+            "010100000001",
+            GENESIS_INPUT,
+            "000000",
+        ],
+        bytes: ANY,
+        status: Status::SomeRefused,
+        report: "accepted 0 000000000019d6689c085ae165831e934ff763ae46a2a6c172b3f1b60a8ce26f 0\nrefused 1 000000000019d6689c085ae165831e934ff763ae46a2a6c172b3f1b60a8ce26f link\nend 2 0 000000000019d6689c085ae165831e934ff763ae46a2a6c172b3f1b60a8ce26f 0\n",
+    },
+    Row {
+        words: FOLLOW,
+        feed: &[
+            "f9beb4d9",
+            "1f010000",
+            GENESIS_HEADER,
+            "0101000000fd0100",
+            GENESIS_INPUT,
+            "00",
+        ],
+        bytes: ANY,
+        status: Status::SomeRefused,
+        report: "refused 0 - block\nend 1 - - 0\n",
+    },
+    Row {
+        words: FOLLOW,
+        feed: &[
+            "f9beb4d9",
+            "1e010000",
+            GENESIS_HEADER,
+            "010100000001",
+            GENESIS_INPUT,
+            "0000",
+        ],
+        bytes: ANY,
+        status: Status::SomeRefused,
+        report: "refused 0 - block\nend 1 - - 0\n",
+    },
+    Row {
+        words: FOLLOW,
+        feed: &["f9be"],
+        bytes: ANY,
+        status: Status::Frame,
+        report: "frame unbuilt\n",
+    },
+    Row {
+        words: FOLLOW,
+        feed: &[
+            "f9beb4d9",
+            "1d010000",
+            GENESIS_HEADER,
+            "010100000001",
+            GENESIS_INPUT,
+        ],
+        bytes: ANY,
+        status: Status::Frame,
+        report: "frame unbuilt\n",
+    },
+    Row {
+        words: FOLLOW,
+        feed: &["f9beb4d901093d00"],
+        bytes: ANY,
+        status: Status::Frame,
+        report: "frame unbuilt\n",
+    },
+    Row {
+        words: FOLLOW,
+        feed: &[
+            "fabfb5da",
+            "1d010000",
+            GENESIS_HEADER,
+            "010100000001",
+            GENESIS_INPUT,
+            "00",
+        ],
+        bytes: ANY,
+        status: Status::Frame,
+        report: "frame unbuilt\n",
+    },
+    Row {
+        words: FOLLOW,
+        feed: &["000000000000000000"],
+        bytes: 8,
+        status: Status::InputLimit,
+        report: "limit feed 8\n",
+    },
+    Row {
+        words: FOLLOW,
+        feed: &["0000000000000000"],
+        bytes: 8,
+        status: Status::AllAccepted,
+        report: "end 0 - - 0\n",
+    },
+    Row {
+        words: &[],
+        feed: &[],
+        bytes: ANY,
+        status: Status::Words,
+        report: "words 0\n",
+    },
+    Row {
+        words: &["follow", "--net"],
+        feed: &[],
+        bytes: ANY,
+        status: Status::Words,
+        report: "words 1\n",
+    },
+    Row {
+        words: &["fallow"],
+        feed: &[],
+        bytes: ANY,
+        status: Status::Words,
+        report: "words 0\n",
+    },
+];
+
+fn check_row<L: Ledger>(rt: &impl Abort, alloc: Global, row: &Row, blank: Blank) -> Result<(), Fail>
+    requires name { blank.name ≡ L.name }
+    requires parts { blank.parts ≡ L.parts }
+    requires some { 0 < blank.parts }
+{
+    let feed = bytes_of(alloc, row.feed)?;
+    let ports = Ports {
+        words: row.words,
+        limits: Limits {
+            leaves: 100,
+            bytes: row.bytes.min(ANY),
+        },
+        feed: &feed,
+        read_piece: 100,
+        failing_reads: &[],
+        write_piece: 7,
+        failing_writes: &[],
+    };
+    let outcome = run_over::<L>(alloc, &ports, blank)?;
+    assert_eq!(rt; outcome.status, row.status);
+    assert!(rt; outcome.report.as_slice() == row.report.as_bytes());
+    assert!(rt; outcome.out.is_empty());
+    Ok(())
+}
+
+#[test]
+fn rows(rt: HostRuntime) -> Result<(), Fail> {
+    for row in &ROWS {
+        check_row::<Brand>(&rt, rt.alloc(), row, Blank::new(1))?;
+    }
+    Ok(())
+}
