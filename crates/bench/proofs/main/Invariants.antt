@@ -1,0 +1,4 @@
+use Rattle.bench.proofs.main.Given as goal
+
+abbrev pub ghosts-measure_digests : goal.ghosts-measure_digests
+ghosts-measure_digests a = record { name = a.blank.name; parts = a.blank.parts }

@@ -1,0 +1,33 @@
+//! Measures parts of the node. Without words it says which; a word runs that one and prints figures.
+#![tactic(auto)]
+
+ghost use Rattle.std.specs.Prelude.{◌≡◌, ◌<◌};
+
+mod digests;
+mod feeds;
+mod rate;
+
+use crate::digests::measure_digests;
+use crate::feeds::{hash_input, write_feed};
+use std::marker::Brand;
+use std::rt::Env;
+use std::sync::ledger::Blank;
+use std::{env, io};
+
+const USAGE: &str = "bench digests   digests per second, beside bare SHA-512/256
+bench feed      writes a feed of one block of the most bytes that is accepted
+bench hash      megabytes per second of SHA-256 twice over standard input
+";
+
+fn main(rt: HostRuntime) -> io::Result<()> {
+    let mut words = env::args(&rt)?.skip(1);
+    let Some(word) = words.next() else {
+        return print!(&rt; "{USAGE}");
+    };
+    match word.as_str() {
+        "digests" => measure_digests::<Brand, HostRuntime>(&rt, Blank::new(1)),
+        "feed" => write_feed(&rt),
+        "hash" => hash_input(&rt),
+        _ => print!(&rt; "{USAGE}"),
+    }
+}
