@@ -1,0 +1,163 @@
+//! Reading a block.
+ghost use Rattle.std.specs.Prelude.{◌≡◌, ◌<◌, ◌≤◌, ◌^◌, [], length, map, IfSome, IfOk, IsErrOf};
+ghost use Rattle.uo_base.specs.Reading.{Gives, Splits, times};
+ghost use Rattle.tx_codec.specs.Reading.{some_count_at, tx_at};
+ghost use Rattle.block_codec.specs.declared.fault.BlockFault.TheVariants.{NotABlock};
+ghost use Rattle.tx_codec.specs.Ids.{txid_of};
+ghost use Rattle.block_codec.specs.Block.{Block, BlockFits, block_text};
+ghost use Rattle.block_codec.specs.Reading.{digest_at, header_at, whole_at, GivesOrFails};
+ghost use Rattle.block_codec.specs.Views.{block_of};
+
+use crate::block_view::BlockView;
+use crate::fault::BlockFault;
+use crate::header::HeaderView;
+use std::alloc::{AllocError, Global};
+use tx_codec::{TxView, read_tx};
+use uo_base::Cursor;
+use uo_digest::Digest;
+
+#[tactic(auto, unfolding(crate::specs::Reading::digest_at))]
+fn read_digest(at: &mut Cursor<'_>) -> Option<Digest>
+    ensures { Gives (λ d. d) result at.new (digest_at at.old) }
+{
+    let bytes = at.take(32)?;
+    Some(Digest::from_bytes(bytes))
+}
+
+#[tactic(auto, unfolding(crate::specs::Reading::header_at))]
+fn read_header(at: &mut Cursor<'_>) -> Option<HeaderView>
+    ensures { Gives (λ h. h) result at.new (header_at at.old) }
+{
+    let version = at.u32()?;
+    let prev = read_digest(at)?;
+    let merkle = read_digest(at)?;
+    let time = at.u32()?;
+    let bits = at.u32()?;
+    let nonce = at.u32()?;
+    Some(HeaderView {
+        version,
+        prev,
+        merkle,
+        time,
+        bits,
+        nonce,
+    })
+}
+
+fn split_header(text: &[u8]) -> Option<(HeaderView, &[u8])>
+    ensures { Splits (λ h. h) result (header_at text.now) }
+{
+    let mut at = Cursor::new(text);
+    let header = read_header(&mut at)?;
+    Some((header, at.rest()))
+}
+
+fn front_header(text: &[u8]) -> Option<(HeaderView, &[u8])>
+    ensures exact { Splits (λ h. h) result (header_at text.now) }
+    ensures shorter { IfSome result (λ x. length x.1.now ≤ length text.now) }
+{
+    split_header(text)
+}
+
+/// A count that is not 0.
+#[tactic(auto, unfolding(tx_codec::specs::Reading::some_count_at))]
+fn split_count(text: &[u8]) -> Option<(u64, &[u8])>
+    ensures { Splits (λ n. n) result (some_count_at text.now) }
+{
+    let mut at = Cursor::new(text);
+    let count = at.compact()?;
+    if count > 0 {
+        Some((count, at.rest()))
+    } else {
+        None
+    }
+}
+
+fn front_count(text: &[u8]) -> Option<(u64, &[u8])>
+    ensures exact { Splits (λ n. n) result (some_count_at text.now) }
+    ensures shorter { IfSome result (λ x. length x.1.now ≤ length text.now) }
+{
+    split_count(text)
+}
+
+fn read_one<'a>(at: &mut Cursor<'a>) -> Result<TxView<'a>, BlockFault>
+    requires { length at.old < 2 ^ 32 }
+    ensures exact { GivesOrFails (λ tx. tx) result at.new (tx_at at.old) }
+    ensures short { length at.new < 2 ^ 32 }
+{
+    match read_tx(at) {
+        Some(tx) => Ok(tx),
+        None => Err(BlockFault::NotABlock),
+    }
+}
+
+fn read_txs<'a>(
+    alloc: Global,
+    at: &mut Cursor<'a>,
+    count: u64,
+) -> Result<Vec<TxView<'a>>, BlockFault>
+    requires { length at.old < 2 ^ 32 }
+    ensures { GivesOrFails (λ txs. txs.items) result at.new (times tx_at count at.old) }
+{
+    let mut txs = Vec::new(alloc);
+    for _ in 0..count {
+        let tx = read_one(at)?;
+        txs.push(tx)?;
+    }
+    Ok(txs)
+}
+
+/// The parts of a block, and nothing after it.
+#[tactic(auto, unfolding(crate::specs::Reading::whole_at, crate::specs::Reading::block_at))]
+fn read_parts<'a>(
+    alloc: Global,
+    text: &'a [u8],
+) -> Result<(HeaderView, Vec<TxView<'a>>), BlockFault>
+    requires { length text.now < 2 ^ 32 }
+    ensures { GivesOrFails (λ p. block_of p.0 p.1.items) result [] (whole_at text.now) }
+{
+    let Some((header, rest)) = front_header(text) else {
+        return Err(BlockFault::NotABlock);
+    };
+    let Some((count, rest)) = front_count(rest) else {
+        return Err(BlockFault::NotABlock);
+    };
+    let mut at = Cursor::new(rest);
+    let txs = read_txs(alloc, &mut at, count)?;
+    if !at.rest().is_empty() {
+        return Err(BlockFault::NotABlock);
+    }
+    Ok((header, txs))
+}
+
+fn id_of(tx: &TxView<'_>) -> Digest
+    ensures { result ≡ txid_of tx.now }
+{
+    tx.txid()
+}
+
+fn ids_of(alloc: Global, txs: &[TxView<'_>]) -> Result<Vec<Digest>, AllocError>
+    ensures { IfOk result (λ ids. ids.items ≡ map txid_of txs.now) }
+{
+    txs.iter().map(|tx| id_of(tx)).collect(alloc)
+}
+
+/// The block that the whole text is. `NotABlock` exactly where it is none, be it for one byte too many.
+///
+/// It goes over the text once to read it and once to hash the transactions.
+pub fn read_block(alloc: Global, text: &[u8]) -> Result<BlockView<'_>, BlockFault>
+    requires { length text.now < 2 ^ 32 }
+    // What is read is a block, and the text is its text.
+    ensures found { IfOk result (λ b. BlockFits b × (text.now ≡ block_text b)) }
+    // It is refused only where it is the text of no block.
+    ensures none { IsErrOf result NotABlock → (b : Block) → BlockFits b → text.now ≡ block_text b → ⊥ }
+{
+    let (header, txs) = read_parts(alloc, text)?;
+    let txids = ids_of(alloc, &txs)?;
+    Ok(BlockView {
+        bytes: text,
+        header,
+        txs,
+        txids,
+    })
+}
