@@ -2,7 +2,7 @@
 use Rattle.std.proofs.Common.{◌≡◌, ℕ, ◌+◌, ◌-◌, ◌^◌, ◌<◌, ◌≤◌, List, [], ◌∷◌, ◌++◌, length, take, map, get_or, refl, sym, ap, arith}
 use Rattle.std.specs.Int.{w32, to_le_bytes}
 use Rattle.std.specs.List.{flat_map}
-use Rattle.std.proofs.lemmas.List.{length-append, take_at, take_more, append-nil}
+use Rattle.std.proofs.lemmas.List.{length-append, length-map, take_at, take_more, append-nil}
 use Rattle.std.proofs.lemmas.List.Folds.{length-flat_map-take}
 use Rattle.std.proofs.lemmas.List.Concat.{flat_map-cons}
 use Rattle.std.proofs.lemmas.Grind.{flat_map-append}
@@ -23,6 +23,9 @@ all_below bytes txids b v = rw v.text (txs_shorter (header_text b.header) (compa
 
 pub count_below : (bytes : List ℕ) (txids : List Digest) (b : Block) → IsBlockView bytes txids b → length b.txs < 2 ^ 32
 count_below bytes txids b v = omega (arith, flat-longer tx_text tx-above b.txs, all_below bytes txids b v, v.short)
+
+pub ids_below : (bytes : List ℕ) (txids : List Digest) (b : Block) → IsBlockView bytes txids b → length txids < 2 ^ 32
+ids_below bytes txids b v = rw v.ids (simp length-map (count_below bytes txids b v))
 
 header_len : (h : HeaderView) → HeaderFits h → length (header_text h) ≡ 80
 header_len h fits = simp length-append (omega (arith, fits.prev, fits.merkle))

@@ -1,8 +1,8 @@
 -- The merkle tree over the ids of a block's transactions, level by level.
-use Rattle.std.specs.Prelude.{◌≡◌, ℕ, ◌+◌, ◌%◌, ◌<◌, Bool, List, [], ◌∷◌, ◌++◌, length, map, slice_get, slice_index_or, nat_eq, if◌then◌else◌}
+use Rattle.std.specs.Prelude.{◌≡◌, ℕ, ◌+◌, ◌%◌, ◌<◌, Bool, List, [], ◌∷◌, ◌++◌, length, map, slice_get, slice_index_or, if◌then◌else◌}
 use Rattle.std.specs.List.{flat_map, range_with_len}
 use Rattle.std.specs.Fn.{iterate}
-use lib.Pointwise.{pointwise}
+use Rattle.std.specs.Str.{bytes_eq}
 use Rattle.sha2.specs.Sha256.{sha256}
 use Rattle.uo_digest.specs.declared.digest.Digest.{Digest}
 use Rattle.block_codec.specs.declared.merkle_tree.MerkleOutcome.{MerkleOutcome}
@@ -29,7 +29,7 @@ abbrev pub level : List Digest → ℕ → List Digest
 level ids k = iterate level_above k ids
 
 abbrev pub is_same : Digest → Digest → Bool
-is_same left right = pointwise nat_eq left.0 right.0
+is_same left right = bytes_eq left.0 right.0
 
 -- the places, from this one on, whose hash is paired with an equal one of another place
 unfoldable pub repeats_from : ℕ → List Digest → List ℕ
@@ -54,27 +54,23 @@ merkle_of ids = outcome (repeats ids) (merkle_root ids)
 
 -- ---- the same as a relation
 
--- at this level, this place and the one after it are paired and hold equal hashes
-pub record IsRepeat (ids : List Digest) (k place : ℕ) : Type 0 where
+-- this place and the one after it are paired, and equal hashes stand there
+pub record IsRepeat (hashes : List Digest) (place : ℕ) : Type 0 where
   pub even : place % 2 ≡ 0
-  pub inside : place + 1 < length (level ids k)
-  pub equal : slice_get (level ids k) place ≡ slice_get (level ids k) (place + 1)
+  pub inside : place + 1 < length hashes
+  pub equal : slice_get hashes place ≡ slice_get hashes (place + 1)
 
--- and at no place before it, of this level or a lower one
+-- a repeat, and none is on a lower level or before it on its own
 pub record IsFirstRepeat (ids : List Digest) (k place : ℕ) : Type 0 where
-  pub here : IsRepeat ids k place
-  pub lower : (l p : ℕ) → l < k → IsRepeat ids l p → ⊥
-  pub before : (p : ℕ) → p < place → IsRepeat ids k p → ⊥
+  pub here : IsRepeat (level ids k) place
+  pub lower : (l p : ℕ) → l < k → IsRepeat (level ids l) p → ⊥
+  pub before : (p : ℕ) → p < place → IsRepeat (level ids k) p → ⊥
 
--- nothing is repeated, and some level is the root alone
+-- the one hash of some level, where nothing is repeated
 pub record IsRoot (ids : List Digest) (root : Digest) : Type 0 where
   pub top : (k : ℕ) × (level ids k ≡ root ∷ [])
-  pub none : (k place : ℕ) → IsRepeat ids k place → ⊥
+  pub none : (k place : ℕ) → IsRepeat (level ids k) place → ⊥
 
 abbrev pub IsMerkle : List Digest → MerkleOutcome → Type 0
 IsMerkle ids (Root root) = IsRoot ids root
 IsMerkle ids (Repeated k place) = IsFirstRepeat ids k place
-
--- the list has this at its front
-abbrev pub BeginsWith : {X : Type 0} → X → List X → Type 0
-BeginsWith {X = X} x xs = (others : List X) × (xs ≡ x ∷ others)

@@ -1,7 +1,8 @@
 //! The merkle tree over the ids of a block's transactions.
-ghost use Rattle.std.specs.Prelude.{◌≡◌, ◌+◌, ◌<◌, ◌≤◌, ◌^◌, [], ◌∷◌, ◌++◌, List, ℕ, length, IfOk, IfSome, OnSome, IfNone, MatchOption};
+ghost use Rattle.std.specs.Prelude.{◌≡◌, ◌*◌, ◌<◌, ◌^◌, [], length, drop, IfOk, IfSome, IfNone};
 ghost use Rattle.block_codec.specs.Block.{txids_of};
-ghost use Rattle.block_codec.specs.Merkle.{hash_over, paired, repeats_from, merkle_of, IsMerkle, BeginsWith};
+ghost use Rattle.block_codec.specs.Merkle.{hash_over, paired, repeats_from, merkle_of, IsMerkle};
+ghost use Rattle.block_codec.specs.Pairs.{BeginsWith, PairGives};
 
 use crate::block_view::BlockView;
 use std::alloc::Global;
@@ -29,7 +30,20 @@ fn hash_of_pair(left: &Digest, right: &Digest) -> Digest
     stream.finish()
 }
 
-/// Puts the level above in the place of a level. Where a hash is repeated, it stops there and answers the first place.
+/// The hash over the pair of a level that has this number, from 0; None where its two places hold equal hashes.
+fn hash_above(level: &[Digest], pair: usize) -> Option<Digest>
+    requires { 2 * pair < length level.now }
+    ensures { PairGives result (drop (2 * pair) level.now) }
+{
+    let left = level[2 * pair];
+    match level.get(2 * pair + 1) {
+        None => Some(hash_of_pair(&left, &left)),
+        Some(right) if left == *right => None,
+        Some(right) => Some(hash_of_pair(&left, right)),
+    }
+}
+
+/// Puts the level above in the place of a level. It stops at the first repeat, and answers its place.
 fn raise(hashes: &mut Vec<Digest>) -> Option<u32>
     requires { length hashes.old.items < 2 ^ 32 }
     ensures first { IfSome result (λ place. BeginsWith place (repeats_from 0 hashes.old.items)) }
@@ -37,16 +51,11 @@ fn raise(hashes: &mut Vec<Digest>) -> Option<u32>
     ensures above { IfNone result (hashes.new.items ≡ paired hashes.old.items) }
 {
     let count = hashes.len().div_ceil(2);
-    for i in 0..count {
-        let left = hashes[2 * i];
-        let mut right = left;
-        if 2 * i + 1 < hashes.len() {
-            right = hashes[2 * i + 1];
-            if left == right {
-                return Some(2 * i as u32);
-            }
-        }
-        hashes[i] = hash_of_pair(&left, &right);
+    for pair in 0..count {
+        let Some(hash) = hash_above(hashes, pair) else {
+            return Some((2 * pair) as u32);
+        };
+        hashes[pair] = hash;
     }
     hashes.truncate(count);
     None
@@ -56,7 +65,8 @@ fn raise(hashes: &mut Vec<Digest>) -> Option<u32>
 fn climb(mut hashes: Vec<Digest>) -> MerkleOutcome
     requires some { 0 < length hashes.items }
     requires few { length hashes.items < 2 ^ 32 }
-    ensures { result ≡ merkle_of hashes.items }
+    ensures exact { result ≡ merkle_of hashes.items }
+    ensures meaning { IsMerkle hashes.items result }
 {
     let mut level = 0;
     while hashes.len() > 1 {
