@@ -1,15 +1,23 @@
-//! Blocks, read into a list of views.
+//! Bitcoin blocks, read from a text without copying a byte of it, judged by their hashes and their weight, and written again.
+//!
+//! A block is a header of 80 bytes, a CompactSize count of transactions, at least one, and the transactions. `read_block`
+//! reads a whole text, to which nothing may be added. What it answers, a [`BlockView`], holds a view of each transaction and
+//! its id; `merkle` gives the root of the tree over the ids, `weight` the block's weight, and `write_block` writes a block.
 #![tactic(auto)]
 
 mod block_view;
 mod fault;
-mod hashes;
+mod header;
+mod merkle_tree;
 mod reading;
+mod writing;
 
-pub use block_view::{BlockView, HeaderView};
+pub use block_view::{BlockView, block_hash, weight};
 pub use fault::BlockFault;
-pub use hashes::block_hash;
+pub use header::HeaderView;
+pub use merkle_tree::{MerkleOutcome, merkle};
 pub use reading::read_block;
+pub use writing::{one_block, write_block};
 
 #[cfg(test)]
 mod tests;

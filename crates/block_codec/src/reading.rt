@@ -1,32 +1,43 @@
 //! Reading a block.
-ghost use Rattle.std.specs.Prelude.{◌≡◌, ◌<◌, ◌≤◌, ◌^◌, [], length, IfSome, IfOk, IsErrOf};
+ghost use Rattle.std.specs.Prelude.{◌≡◌, ◌<◌, ◌≤◌, ◌^◌, [], length, map, IfSome, IfOk, IsErrOf};
 ghost use Rattle.uo_base.specs.Reading.{Gives, Splits, times};
 ghost use Rattle.tx_codec.specs.Reading.{some_count_at, tx_at};
 ghost use Rattle.block_codec.specs.declared.fault.BlockFault.TheVariants.{NotABlock};
-ghost use Rattle.block_codec.specs.Block.{Block, BlockFits, block_text, header_at, whole_at, GivesOrFails};
-ghost use Rattle.block_codec.specs.Views.{header_of, block_of};
+ghost use Rattle.tx_codec.specs.Ids.{txid_of};
+ghost use Rattle.block_codec.specs.Block.{Block, BlockFits, block_text};
+ghost use Rattle.block_codec.specs.Reading.{digest_at, header_at, whole_at, GivesOrFails};
+ghost use Rattle.block_codec.specs.Views.{block_of};
 
-use crate::block_view::{BlockView, HeaderView};
+use crate::block_view::BlockView;
 use crate::fault::BlockFault;
-use std::alloc::Global;
+use crate::header::HeaderView;
+use std::alloc::{AllocError, Global};
 use tx_codec::{TxView, read_tx};
 use uo_base::Cursor;
 use uo_digest::Digest;
 
-#[tactic(auto, unfolding(crate::specs::Block::header_at))]
+#[tactic(auto, unfolding(crate::specs::Reading::digest_at))]
+fn read_digest(at: &mut Cursor<'_>) -> Option<Digest>
+    ensures { Gives (λ d. d) result at.new (digest_at at.old) }
+{
+    let bytes = at.take(32)?;
+    Some(Digest::from_bytes(bytes))
+}
+
+#[tactic(auto, unfolding(crate::specs::Reading::header_at))]
 fn read_header(at: &mut Cursor<'_>) -> Option<HeaderView>
-    ensures { Gives header_of result at.new (header_at at.old) }
+    ensures { Gives (λ h. h) result at.new (header_at at.old) }
 {
     let version = at.u32()?;
-    let prev = at.take(32)?;
-    let merkle = at.take(32)?;
+    let prev = read_digest(at)?;
+    let merkle = read_digest(at)?;
     let time = at.u32()?;
     let bits = at.u32()?;
     let nonce = at.u32()?;
     Some(HeaderView {
         version,
-        prev: Digest::from_bytes(prev),
-        merkle: Digest::from_bytes(merkle),
+        prev,
+        merkle,
         time,
         bits,
         nonce,
@@ -34,7 +45,7 @@ fn read_header(at: &mut Cursor<'_>) -> Option<HeaderView>
 }
 
 fn split_header(text: &[u8]) -> Option<(HeaderView, &[u8])>
-    ensures { Splits header_of result (header_at text.now) }
+    ensures { Splits (λ h. h) result (header_at text.now) }
 {
     let mut at = Cursor::new(text);
     let header = read_header(&mut at)?;
@@ -42,7 +53,7 @@ fn split_header(text: &[u8]) -> Option<(HeaderView, &[u8])>
 }
 
 fn front_header(text: &[u8]) -> Option<(HeaderView, &[u8])>
-    ensures exact { Splits header_of result (header_at text.now) }
+    ensures exact { Splits (λ h. h) result (header_at text.now) }
     ensures shorter { IfSome result (λ x. length x.1.now ≤ length text.now) }
 {
     split_header(text)
@@ -97,7 +108,7 @@ fn read_txs<'a>(
 }
 
 /// The parts of a block, and nothing after it.
-#[tactic(auto, unfolding(crate::specs::Block::whole_at, crate::specs::Block::block_at))]
+#[tactic(auto, unfolding(crate::specs::Reading::whole_at, crate::specs::Reading::block_at))]
 fn read_parts<'a>(
     alloc: Global,
     text: &'a [u8],
@@ -119,19 +130,34 @@ fn read_parts<'a>(
     Ok((header, txs))
 }
 
-/// The block that the whole text is.
+fn id_of(tx: &TxView<'_>) -> Digest
+    ensures { result ≡ txid_of tx.now }
+{
+    tx.txid()
+}
+
+fn ids_of(alloc: Global, txs: &[TxView<'_>]) -> Result<Vec<Digest>, AllocError>
+    ensures { IfOk result (λ ids. ids.items ≡ map txid_of txs.now) }
+{
+    txs.iter().map(|tx| id_of(tx)).collect(alloc)
+}
+
+/// The block that the whole text is. `NotABlock` exactly where it is none, be it for one byte too many.
+///
+/// It goes over the text once to read it and once to hash the transactions.
 pub fn read_block(alloc: Global, text: &[u8]) -> Result<BlockView<'_>, BlockFault>
     requires { length text.now < 2 ^ 32 }
     // What is read is a block, and the text is its text.
     ensures found { IfOk result (λ b. BlockFits b × (text.now ≡ block_text b)) }
-    ensures exact { GivesOrFails (λ b. b) result [] (whole_at text.now) }
     // It is refused only where it is the text of no block.
     ensures none { IsErrOf result NotABlock → (b : Block) → BlockFits b → text.now ≡ block_text b → ⊥ }
 {
     let (header, txs) = read_parts(alloc, text)?;
+    let txids = ids_of(alloc, &txs)?;
     Ok(BlockView {
         bytes: text,
         header,
         txs,
+        txids,
     })
 }

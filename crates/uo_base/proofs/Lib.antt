@@ -1,4 +1,5 @@
 pub mod Formats
+pub mod GrewLaws
 pub mod CompactLaws
 pub mod PortLemmas
 pub mod Walks

@@ -1,5 +1,5 @@
 //! Writing counts.
-ghost use Rattle.std.specs.Prelude.{◌≡◌, ◌<◌, ◌^◌, ◌++◌, OnOk};
+ghost use Rattle.std.specs.Prelude.{◌≡◌, ◌<◌, ◌^◌, ◌++◌, OnOk, OnErr};
 ghost use Rattle.uo_base.specs.Reading.{OneReading};
 ghost use Rattle.uo_base.specs.Compact.{compact};
 
@@ -8,19 +8,20 @@ use crate::NoMemory;
 /// Appends the shortest form of a count.
 #[tactic(auto, unfolding(crate::specs::Compact::compact))]
 pub fn put_compact(out: &mut Vec<u8>, value: u64) -> Result<(), NoMemory>
-    ensures { OnOk result (out.new.items ≡ out.old.items ++ compact value) }
+    ensures ok { OnOk result (out.new.items ≡ out.old.items ++ compact value) }
+    ensures err { OnErr result (out.new.items ≡ out.old.items) }
 {
     if value < 253 {
         out.push(value as u8)?;
     } else if value < 65_536 {
-        out.push(253)?;
-        out.extend_from_slice(&(value as u16).to_le_bytes())?;
+        let [a, b] = (value as u16).to_le_bytes();
+        out.extend_from_slice(&[253, a, b])?;
     } else if value < 4_294_967_296 {
-        out.push(254)?;
-        out.extend_from_slice(&(value as u32).to_le_bytes())?;
+        let [a, b, c, d] = (value as u32).to_le_bytes();
+        out.extend_from_slice(&[254, a, b, c, d])?;
     } else {
-        out.push(255)?;
-        out.extend_from_slice(&value.to_le_bytes())?;
+        let [a, b, c, d, e, f, g, h] = value.to_le_bytes();
+        out.extend_from_slice(&[255, a, b, c, d, e, f, g, h])?;
     }
     Ok(())
 }

@@ -1,0 +1,5 @@
+use Rattle.block_codec.proofs.DigestLaws.{digest_is}
+use Rattle.block_codec.proofs.reading.id_of.Goals as goal
+
+pub returns : goal.returns
+returns c = digest_is _ _ c.txid.ensures

@@ -1,0 +1,49 @@
+-- Reading a block from left to right.
+use Rattle.std.specs.Prelude.{◌≡◌, ℕ, List, length, Option, Some, None, Result, Ok, Err, ◌==◌, if◌then◌else◌}
+use Rattle.std.specs.Int.{w32}
+use Rattle.uo_base.specs.Reading.{◌>>=◌, bytes_at, number_at, times}
+use Rattle.uo_digest.specs.declared.digest.Digest.{Digest}
+use Rattle.tx_codec.specs.Transaction.{Transaction}
+use Rattle.tx_codec.specs.Reading.{some_count_at, tx_at}
+use Rattle.block_codec.specs.declared.fault.BlockFault.{BlockFault}
+use Rattle.block_codec.specs.declared.fault.BlockFault.TheVariants.{NotABlock, NoMemory}
+use Rattle.block_codec.specs.declared.header.HeaderView.{HeaderView}
+use Rattle.block_codec.specs.Block.{Block}
+
+unfoldable pub digest_at : List ℕ → Option (Digest × List ℕ)
+digest_at bytes = do
+  digest ← bytes_at 32 bytes
+  Some (record { 0 = digest.0 }, digest.1)
+
+unfoldable pub header_at : List ℕ → Option (HeaderView × List ℕ)
+header_at bytes = do
+  version ← number_at w32 bytes
+  prev ← digest_at version.1
+  merkle ← digest_at prev.1
+  time ← number_at w32 merkle.1
+  bits ← number_at w32 time.1
+  nonce ← number_at w32 bits.1
+  Some (record { version = version.0; prev = prev.0; merkle = merkle.0; time = time.0; bits = bits.0; nonce = nonce.0 }, nonce.1)
+
+abbrev pub txs_at : List ℕ → Option (List Transaction × List ℕ)
+txs_at bytes = do
+  n ← some_count_at bytes
+  times tx_at n.0 n.1
+
+unfoldable pub block_at : List ℕ → Option (Block × List ℕ)
+block_at bytes = do
+  header ← header_at bytes
+  txs ← txs_at header.1
+  Some (record { header = header.0; txs = txs.0 }, txs.1)
+
+-- a block, and nothing after it
+unfoldable pub whole_at : List ℕ → Option (Block × List ℕ)
+whole_at bytes = do
+  block ← block_at bytes
+  if length block.1 == 0 then Some block else None
+
+-- What a call that takes memory answered and left is what reading gives.
+abbrev pub GivesOrFails : {X A : Type 0} → (X → A) → Result X BlockFault → List ℕ → Option (A × List ℕ) → Type 0
+GivesOrFails view (Ok x) left read = read ≡ Some (view x, left)
+GivesOrFails view (Err NotABlock) left read = read ≡ None
+GivesOrFails view (Err NoMemory) left read = Unit {0}

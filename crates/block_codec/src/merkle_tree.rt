@@ -1,0 +1,89 @@
+//! The merkle tree over the ids of a block's transactions.
+ghost use Rattle.std.specs.Prelude.{◌≡◌, ◌*◌, ◌<◌, ◌^◌, [], length, drop, IfOk, IfSome, IfNone};
+ghost use Rattle.block_codec.specs.Block.{txids_of};
+ghost use Rattle.block_codec.specs.Merkle.{hash_over, paired, repeats_from, merkle_of, IsMerkle};
+ghost use Rattle.block_codec.specs.Pairs.{BeginsWith, PairGives};
+
+use crate::block_view::BlockView;
+use std::alloc::Global;
+use uo_base::NoMemory;
+use uo_digest::{Digest, Sha256dStream};
+
+/// What the tree over a list of ids comes to.
+#[derive(Clone, Copy, Debug, PartialEq, Eq)]
+pub enum MerkleOutcome {
+    /// The root.
+    Root(Digest),
+    /// Two different places that are paired hold equal hashes, so that a list with a part of it twice over has the same root
+    /// (CVE-2012-2459). These are the first such: the lowest level, where the ids are level 0, and on it the first place, that
+    /// of the left one, from 0.
+    Repeated { level: u8, place: u32 },
+}
+
+/// The hash over two hashes.
+fn hash_of_pair(left: &Digest, right: &Digest) -> Digest
+    ensures { result ≡ hash_over left.now right.now }
+{
+    let mut stream = Sha256dStream::new();
+    stream.update(&left.0);
+    stream.update(&right.0);
+    stream.finish()
+}
+
+/// The hash over the pair of a level that has this number, from 0; None where its two places hold equal hashes.
+fn hash_above(level: &[Digest], pair: usize) -> Option<Digest>
+    requires { 2 * pair < length level.now }
+    ensures { PairGives result (drop (2 * pair) level.now) }
+{
+    let left = level[2 * pair];
+    match level.get(2 * pair + 1) {
+        None => Some(hash_of_pair(&left, &left)),
+        Some(right) if left == *right => None,
+        Some(right) => Some(hash_of_pair(&left, right)),
+    }
+}
+
+/// Puts the level above in the place of a level. It stops at the first repeat, and answers its place.
+fn raise(hashes: &mut Vec<Digest>) -> Option<u32>
+    requires { length hashes.old.items < 2 ^ 32 }
+    ensures first { IfSome result (λ place. BeginsWith place (repeats_from 0 hashes.old.items)) }
+    ensures none { IfNone result (repeats_from 0 hashes.old.items ≡ []) }
+    ensures above { IfNone result (hashes.new.items ≡ paired hashes.old.items) }
+{
+    let count = hashes.len().div_ceil(2);
+    for pair in 0..count {
+        let Some(hash) = hash_above(hashes, pair) else {
+            return Some((2 * pair) as u32);
+        };
+        hashes[pair] = hash;
+    }
+    hashes.truncate(count);
+    None
+}
+
+/// Goes up to the root, or to the first repeat.
+fn climb(mut hashes: Vec<Digest>) -> MerkleOutcome
+    requires some { 0 < length hashes.items }
+    requires few { length hashes.items < 2 ^ 32 }
+    ensures exact { result ≡ merkle_of hashes.items }
+    ensures meaning { IsMerkle hashes.items result }
+{
+    let mut level = 0;
+    while hashes.len() > 1 {
+        if let Some(place) = raise(&mut hashes) {
+            return MerkleOutcome::Repeated { level, place };
+        }
+        level += 1;
+    }
+    MerkleOutcome::Root(hashes[0])
+}
+
+/// The root of the merkle tree over the block's ids, or the first repeat in it. A level pairs the neighbours of the one below
+/// and hashes each pair, an odd last one with itself, until one hash is left.
+pub fn merkle(alloc: Global, block: &BlockView<'_>) -> Result<MerkleOutcome, NoMemory>
+    ensures exact { IfOk result (λ outcome. outcome ≡ merkle_of (txids_of block.now)) }
+    ensures meaning { IfOk result (IsMerkle (txids_of block.now)) }
+{
+    let hashes = Vec::from_slice(alloc, &block.txids)?;
+    Ok(climb(hashes))
+}
