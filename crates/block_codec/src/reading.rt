@@ -151,6 +151,7 @@ pub fn read_block(alloc: Global, text: &[u8]) -> Result<BlockView<'_>, BlockFaul
     ensures found { IfOk result (λ b. BlockFits b × (text.now ≡ block_text b)) }
     // It is refused only where it is the text of no block.
     ensures none { IsErrOf result NotABlock → (b : Block) → BlockFits b → text.now ≡ block_text b → ⊥ }
+    ensures exact { GivesOrFails (λ b. b) result [] (whole_at text.now) }
 {
     let (header, txs) = read_parts(alloc, text)?;
     let txids = ids_of(alloc, &txs)?;

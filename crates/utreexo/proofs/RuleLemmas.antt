@@ -2,7 +2,8 @@
 use Rattle.std.proofs.Common.{◌≡◌, ℕ, ◌^◌, ◌<◌, ◌≤◌, Bool, true, false, nat_lt, List, [], ◌∷◌, Option, Some, None, refl, arith, ltb-true}
 use Rattle.std.proofs.lemmas.Bool.{and_parts}
 use Rattle.tx_codec.specs.Transaction.{Transaction}
-use Rattle.block_codec.specs.Block.{Block, whole_at}
+use Rattle.block_codec.specs.Block.{Block}
+use Rattle.block_codec.specs.Reading.{whole_at}
 use Rattle.uo_base.specs.declared.event.Limits.{Limits}
 use Rattle.utreexo.specs.declared.chain.Chain.{Chain}
 use Rattle.utreexo.specs.declared.verdict.Refusal.{Refusal}
@@ -37,7 +38,7 @@ module _ (limits : Limits) (chain : Chain) (few : chain.blocks ≤ 2 ^ 31) where
   few_by block (Some why) e = few
   few_by block None e =
       let passes = each_passes (steps limits chain block) e in
-      let below = built_has_height limits chain block.txs (passed_test (is_built limits chain block.txs) Unbuilt passes.1.1.0) in
+      let below = built_has_height limits chain block.txs (passed_test (is_built limits chain block.txs) Unbuilt passes.1.1.1.0) in
       omega (arith, below)
 
   few_at : (read : Option (Block × List ℕ)) → (next_chain chain (verdict_at limits chain read)).blocks ≤ 2 ^ 31

@@ -5,7 +5,7 @@ use Rattle.uo_digest.specs.declared.digest.Digest.{Digest}
 use Rattle.utreexo.specs.declared.line.Line.{Line}
 use Rattle.utreexo.specs.declared.line.Line.TheVariants.{Verdict as Told, End, Words, FrameUnbuilt, LimitFeed}
 use Rattle.utreexo.specs.declared.verdict.Refusal.{Refusal}
-use Rattle.utreexo.specs.declared.verdict.Refusal.TheVariants.{Block, Link, MerkleRoot, Unbuilt}
+use Rattle.utreexo.specs.declared.verdict.Refusal.TheVariants.{Block, Link, MerkleRoot, MerkleRepeated, Weight, Unbuilt}
 use Rattle.utreexo.specs.declared.verdict.Verdict.{Verdict}
 use Rattle.utreexo.specs.declared.verdict.Verdict.TheVariants.{Accepted, Refused}
 
@@ -17,6 +17,8 @@ abbrev pub refusal_text : Refusal → List ℕ
 refusal_text Block = codes "block"
 refusal_text Link = codes "link"
 refusal_text MerkleRoot = codes "merkle root"
+refusal_text (MerkleRepeated level place) = codes "merkle repeated " ++ decimal level ++ codes " " ++ decimal place
+refusal_text (Weight weight) = codes "weight " ++ decimal weight
 refusal_text Unbuilt = codes "unbuilt"
 
 abbrev pub verdict_text : Verdict → List ℕ

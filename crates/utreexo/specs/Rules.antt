@@ -1,23 +1,19 @@
 -- The rules that a block is judged by.
 use Rattle.std.specs.Prelude.{ℕ, ◌+◌, ◌/◌, ◌^◌, ◌==◌, ◌&&◌, nat_le, nat_lt, not, Bool, true, false, List, [], ◌∷◌, length, Option, Some, None, count_by, sum_by, replicate, bytes_eq, if◌then◌else◌}
 use Rattle.std.specs.List.{flat_map}
-use Rattle.sha2.specs.Sha256.{sha256}
 use Rattle.uo_base.specs.declared.event.Limits.{Limits}
 use Rattle.uo_digest.specs.declared.digest.Digest.{Digest}
-use Rattle.tx_codec.specs.Transaction.{Transaction, Input, Output, legacy_text}
-use Rattle.block_codec.specs.Block.{Block, header_text, whole_at}
+use Rattle.tx_codec.specs.Transaction.{Transaction, Input, Output}
+use Rattle.block_codec.specs.declared.merkle_tree.MerkleOutcome.{MerkleOutcome}
+use Rattle.block_codec.specs.declared.merkle_tree.MerkleOutcome.TheVariants.{Root, Repeated}
+use Rattle.block_codec.specs.Block.{Block, block_hash_of, txids_of, weight_of}
+use Rattle.block_codec.specs.Merkle.{is_same, merkle_of}
+use Rattle.block_codec.specs.Reading.{whole_at}
 use Rattle.utreexo.specs.declared.chain.Chain.{Chain}
 use Rattle.utreexo.specs.declared.verdict.Refusal.{Refusal}
 use Rattle.utreexo.specs.declared.verdict.Refusal.TheVariants as Why
 use Rattle.utreexo.specs.declared.verdict.Verdict.{Verdict}
 use Rattle.utreexo.specs.declared.verdict.Verdict.TheVariants.{Accepted, Refused}
-
--- the hash of the header
-abbrev pub hash_of : Block → Digest
-hash_of block = record { 0 = sha256 (sha256 (header_text block.header)) }
-
-abbrev pub txid_of : Transaction → List ℕ
-txid_of tx = sha256 (sha256 (legacy_text tx))
 
 -- ---- what a block adds
 
@@ -64,11 +60,6 @@ is_built limits chain txs = false
 abbrev pub is_single : List Transaction → Bool
 is_single txs = length txs == 1
 
--- of one transaction the merkle root is its txid
-abbrev pub has_merkle_root : List ℕ → List Transaction → Bool
-has_merkle_root root (tx ∷ []) = bytes_eq root (txid_of tx)
-has_merkle_root root txs = true
-
 abbrev pub fails_unless : Bool → Refusal → Option Refusal
 fails_unless true why = None
 fails_unless false why = Some why
@@ -78,18 +69,25 @@ first_of [] = None
 first_of (Some why ∷ steps) = Some why
 first_of (None ∷ steps) = first_of steps
 
+-- the merkle root is the header's, and no two hashes that are paired at different places are equal
+abbrev pub merkle_step : Digest → MerkleOutcome → Option Refusal
+merkle_step root (Root computed) = fails_unless (is_same computed root) Why.MerkleRoot
+merkle_step root (Repeated level place) = Some (Why.MerkleRepeated level place)
+
+-- the steps in their order, one a line
 abbrev pub steps : Limits → Chain → Block → List (Option Refusal)
 steps limits chain block =
-    fails_unless (bytes_eq block.header.prev chain.tip.0) Why.Link
-    ∷ fails_unless (has_merkle_root block.header.merkle block.txs) Why.MerkleRoot
+    fails_unless (is_same block.header.prev chain.tip) Why.Link
+    ∷ merkle_step block.header.merkle (merkle_of (txids_of block))
+    ∷ fails_unless (nat_le (weight_of block) 4000000) (Why.Weight (weight_of block))
     ∷ fails_unless (is_built limits chain block.txs) Why.Unbuilt
     ∷ []
 
 -- ---- the verdict
 
 abbrev pub verdict_by : Chain → Block → Option Refusal → Verdict
-verdict_by chain block (Some why) = Refused chain.blocks (Some (hash_of block)) why
-verdict_by chain block None = Accepted chain.blocks (hash_of block) (chain.leaves + new_count chain.blocks block.txs)
+verdict_by chain block (Some why) = Refused chain.blocks (Some (block_hash_of block)) why
+verdict_by chain block None = Accepted chain.blocks (block_hash_of block) (chain.leaves + new_count chain.blocks block.txs)
 
 -- the verdict on a block that was read
 unfoldable pub judged : Limits → Chain → Block → Verdict

@@ -1,15 +1,17 @@
 //! The rules that a block is judged by.
 ghost use Rattle.std.specs.Prelude.{◌≡◌, ◌+◌, ◌<◌, ◌≤◌, ◌^◌, IfOk, IsTrue, MatchOption, Some, sum_by, count_by, length, ◌∷◌, [], true, false};
 ghost use Rattle.tx_codec.specs.Views.{input_of, output_of};
-ghost use Rattle.utreexo.specs.Rules.{is_null, is_coinbase_by, is_spendable, is_single, new_count, subsidy_at, is_built, has_merkle_root, judged, verdict_on};
+ghost use Rattle.utreexo.specs.Rules.{is_null, is_coinbase_by, is_spendable, is_single, new_count, subsidy_at, is_built, merkle_step, judged, verdict_on};
 
 use crate::chain::Chain;
 use crate::verdict::{Refusal, Verdict};
-use block_codec::{BlockFault, BlockView, block_hash, read_block};
+use block_codec::{BlockFault, BlockView, MerkleOutcome, block_hash, merkle, read_block, weight};
 use std::alloc::Global;
 use tx_codec::{InView, OutView, TxView};
 use uo_base::{Limits, NoMemory};
 use uo_digest::Digest;
+
+const HEAVIEST: u64 = 4_000_000;
 
 const NO_HASH: [u8; 32] = [0; 32];
 
@@ -32,7 +34,7 @@ pub fn judge(alloc: Global, limits: Limits, chain: &Chain, body: &[u8]) -> Resul
     ensures { IfOk result (λ verdict. verdict ≡ verdict_on limits chain.now body.now) }
 {
     match read_block(alloc, body) {
-        Ok(block) => Ok(judge_block(limits, chain, &block)),
+        Ok(block) => judge_block(alloc, limits, chain, &block),
         Err(BlockFault::NotABlock) => Ok(Verdict::Refused {
             height: chain.blocks,
             hash: None,
@@ -43,24 +45,43 @@ pub fn judge(alloc: Global, limits: Limits, chain: &Chain, body: &[u8]) -> Resul
 }
 
 #[tactic(auto, unfolding(crate::specs::Rules::judged))]
-fn judge_block(limits: Limits, chain: &Chain, block: &BlockView<'_>) -> Verdict
-    ensures { result ≡ judged limits chain.now block.now }
+fn judge_block(
+    alloc: Global,
+    limits: Limits,
+    chain: &Chain,
+    block: &BlockView<'_>,
+) -> Result<Verdict, NoMemory>
+    ensures { IfOk result (λ verdict. verdict ≡ judged limits chain.now block.now) }
 {
     let height = chain.blocks;
     let hash = block_hash(block);
     if block.header().prev != chain.tip {
-        return refused(height, hash, Refusal::Link);
+        return Ok(refused(height, hash, Refusal::Link));
     }
-    if !has_merkle_root(block) {
-        return refused(height, hash, Refusal::MerkleRoot);
+    if let Some(why) = merkle_refusal(block.header().merkle, merkle(alloc, block)?) {
+        return Ok(refused(height, hash, why));
+    }
+    let weight = weight(block);
+    if weight > HEAVIEST {
+        return Ok(refused(height, hash, Refusal::Weight { weight }));
     }
     match leaves_after(limits, chain, block) {
-        Some(leaves) => Verdict::Accepted {
+        Some(leaves) => Ok(Verdict::Accepted {
             height,
             hash,
             leaves,
-        },
-        None => refused(height, hash, Refusal::Unbuilt),
+        }),
+        None => Ok(refused(height, hash, Refusal::Unbuilt)),
+    }
+}
+
+fn merkle_refusal(root: Digest, outcome: MerkleOutcome) -> Option<Refusal>
+    ensures { result ≡ merkle_step root outcome }
+{
+    match outcome {
+        MerkleOutcome::Root(computed) if computed == root => None,
+        MerkleOutcome::Root(_) => Some(Refusal::MerkleRoot),
+        MerkleOutcome::Repeated { level, place } => Some(Refusal::MerkleRepeated { level, place }),
     }
 }
 
@@ -81,15 +102,6 @@ fn only_tx<'a, 'b>(block: &'b BlockView<'a>) -> Option<&'b TxView<'a>>
         Some(block.tx(0))
     } else {
         None
-    }
-}
-
-fn has_merkle_root(block: &BlockView<'_>) -> bool
-    ensures { result ≡ has_merkle_root block.now.header.merkle block.now.txs }
-{
-    match only_tx(block) {
-        Some(tx) => block.header().merkle == tx.txid(),
-        None => true,
     }
 }
 

@@ -14,6 +14,17 @@ pub enum Refusal {
     Link,
     /// The header's merkle root is not that of the transactions.
     MerkleRoot,
+    /// Two hashes at different places of a level of the merkle tree are paired and equal.
+    MerkleRepeated {
+        /// The level, from 0 for the ids.
+        level: u8,
+        /// The place of the left one.
+        place: u32,
+    },
+    /// The block weighs more than 4,000,000.
+    Weight {
+        weight: u64,
+    },
     /// The rules for such a block are not built yet.
     Unbuilt,
 }
@@ -28,6 +39,10 @@ impl fmt::Display for Refusal {
             Refusal::Block => f.write_str("block"),
             Refusal::Link => f.write_str("link"),
             Refusal::MerkleRoot => f.write_str("merkle root"),
+            Refusal::MerkleRepeated { level, place } => {
+                write!(f, "merkle repeated {level} {place}")
+            }
+            Refusal::Weight { weight } => write!(f, "weight {weight}"),
             Refusal::Unbuilt => f.write_str("unbuilt"),
         }
     }

@@ -48,7 +48,8 @@ fn put_frame(alloc: Global, feed: &mut Vec<u8>, prev: &Digest, tx: &[u8]) -> Res
     header.extend_from_slice(&sha256d(tx).0)?;
     header.extend_from_slice(&[0; 12])?;
     feed.extend_from_slice(&[0xf9, 0xbe, 0xb4, 0xd9])?;
-    feed.extend_from_slice(&146u32.to_le_bytes())?;
+    let size = u32::try_from(tx.len() + 81).unwrap_or(0);
+    feed.extend_from_slice(&size.to_le_bytes())?;
     feed.extend_from_slice(&header)?;
     feed.push(1)?;
     feed.extend_from_slice(tx)?;
@@ -101,6 +102,19 @@ fn put_height(alloc: Global, chain: &mut Chain, height: u32) -> Result<(), Fail>
     put_line(alloc, chain, front.as_str(), &beside, " link")
 }
 
+// A block whose one output has a script of a million bytes: it weighs 4 times its 1,000,149 bytes.
+fn put_heavy(alloc: Global, chain: &mut Chain) -> Result<(), Fail> {
+    let mut tx = coinbase(alloc, BLOCKS, SUBSIDY)?;
+    tx.truncate(59);
+    tx.push(0xfe)?;
+    tx.extend_from_slice(&1_000_000u32.to_le_bytes())?;
+    tx.resize(1_000_064, 0)?;
+    tx.extend_from_slice(&0u32.to_le_bytes())?;
+    let tip = chain.tip;
+    let heavy = put_frame(alloc, &mut chain.feed, &tip, &tx)?;
+    put_line(alloc, chain, "refused 120 ", &heavy, " weight 4000596")
+}
+
 fn make_chain(alloc: Global) -> Result<Chain, Fail> {
     let mut chain = Chain {
         feed: Vec::new(alloc),
@@ -110,8 +124,9 @@ fn make_chain(alloc: Global) -> Result<Chain, Fail> {
     for height in 0..BLOCKS {
         put_height(alloc, &mut chain, height)?;
     }
+    put_heavy(alloc, &mut chain)?;
     let tip = chain.tip;
-    put_line(alloc, &mut chain, "end 360 119 ", &tip, " 119")?;
+    put_line(alloc, &mut chain, "end 361 119 ", &tip, " 119")?;
     Ok(chain)
 }
 
@@ -130,7 +145,7 @@ fn check_pieces<L: Ledger>(
         words: &["follow"],
         limits: Limits {
             leaves: 200,
-            bytes: 100_000,
+            bytes: 2_000_000,
         },
         feed: &chain.feed,
         read_piece: piece,

@@ -1,7 +1,7 @@
 //! Feeds, and what is printed of them.
 ghost use Rattle.std.specs.Prelude.{◌≡◌, ◌<◌};
 
-use super::{GENESIS_FRAME, GENESIS_HEADER, GENESIS_INPUT, Ports, bytes_of, run_over};
+use super::{GENESIS_CORE, GENESIS_FRAME, GENESIS_HEADER, Ports, bytes_of, run_over};
 use crate::status::Status;
 use std::alloc::Global;
 use std::marker::Brand;
@@ -23,7 +23,8 @@ const FOLLOW: &[&str] = &["follow"];
 
 const ANY: u64 = 281_474_976_710_656;
 
-const ROWS: [Row; 15] = [
+const ROWS: [Row; 18] = [
+    // nothing
     Row {
         words: FOLLOW,
         feed: &[],
@@ -31,6 +32,7 @@ const ROWS: [Row; 15] = [
         status: Status::AllAccepted,
         report: "end 0 - - 0\n",
     },
+    // the genesis block
     Row {
         words: FOLLOW,
         feed: &GENESIS_FRAME,
@@ -38,68 +40,116 @@ const ROWS: [Row; 15] = [
         status: Status::AllAccepted,
         report: "accepted 0 000000000019d6689c085ae165831e934ff763ae46a2a6c172b3f1b60a8ce26f 0\nend 1 0 000000000019d6689c085ae165831e934ff763ae46a2a6c172b3f1b60a8ce26f 0\n",
     },
+    // its last byte 01
     Row {
         words: FOLLOW,
         feed: &[
-            "f9beb4d9",
-            "1d010000",
+            "f9beb4d91d010000",
             GENESIS_HEADER,
             "010100000001",
-            GENESIS_INPUT,
-            "01",
+            GENESIS_CORE,
+            "00000001",
         ],
         bytes: ANY,
         status: Status::SomeRefused,
         report: "refused 0 000000000019d6689c085ae165831e934ff763ae46a2a6c172b3f1b60a8ce26f merkle root\nend 1 - - 0\n",
     },
+    // twice, with zero bytes before, between and after
     Row {
         words: FOLLOW,
         feed: &[
-            "000000f9beb4d9",
-            "1d010000",
+            "000000",
+            "f9beb4d91d010000",
             GENESIS_HEADER,
             "010100000001",
-            GENESIS_INPUT,
+            GENESIS_CORE,
+            "00000000",
             "00",
-            "00f9beb4d9",
-            "1d010000",
+            "f9beb4d91d010000",
             GENESIS_HEADER,
             "010100000001",
-            GENESIS_INPUT,
+            GENESIS_CORE,
+            "00000000",
             "000000",
         ],
         bytes: ANY,
         status: Status::SomeRefused,
         report: "accepted 0 000000000019d6689c085ae165831e934ff763ae46a2a6c172b3f1b60a8ce26f 0\nrefused 1 000000000019d6689c085ae165831e934ff763ae46a2a6c172b3f1b60a8ce26f link\nend 2 0 000000000019d6689c085ae165831e934ff763ae46a2a6c172b3f1b60a8ce26f 0\n",
     },
+    // with a longer count of inputs
     Row {
         words: FOLLOW,
         feed: &[
-            "f9beb4d9",
-            "1f010000",
+            "f9beb4d91f010000",
             GENESIS_HEADER,
             "0101000000fd0100",
-            GENESIS_INPUT,
-            "00",
+            GENESIS_CORE,
+            "00000000",
         ],
         bytes: ANY,
         status: Status::SomeRefused,
         report: "refused 0 - block\nend 1 - - 0\n",
     },
+    // with one more byte
     Row {
         words: FOLLOW,
         feed: &[
-            "f9beb4d9",
-            "1e010000",
+            "f9beb4d91e010000",
             GENESIS_HEADER,
             "010100000001",
-            GENESIS_INPUT,
-            "0000",
+            GENESIS_CORE,
+            "0000000000",
         ],
         bytes: ANY,
         status: Status::SomeRefused,
         report: "refused 0 - block\nend 1 - - 0\n",
     },
+    // in the segwit form, with one stack of one item
+    Row {
+        words: FOLLOW,
+        feed: &[
+            "f9beb4d941010000",
+            GENESIS_HEADER,
+            "0101000000000101",
+            GENESIS_CORE,
+            "0120000000000000000000000000000000000000000000000000000000000000000000000000",
+        ],
+        bytes: ANY,
+        status: Status::AllAccepted,
+        report: "accepted 0 000000000019d6689c085ae165831e934ff763ae46a2a6c172b3f1b60a8ce26f 0\nend 1 0 000000000019d6689c085ae165831e934ff763ae46a2a6c172b3f1b60a8ce26f 0\n",
+    },
+    // in the segwit form, with one empty stack
+    Row {
+        words: FOLLOW,
+        feed: &[
+            "f9beb4d920010000",
+            GENESIS_HEADER,
+            "0101000000000101",
+            GENESIS_CORE,
+            "0000000000",
+        ],
+        bytes: ANY,
+        status: Status::SomeRefused,
+        report: "refused 0 - block\nend 1 - - 0\n",
+    },
+    // its transaction twice
+    Row {
+        words: FOLLOW,
+        feed: &[
+            "f9beb4d9e9010000",
+            GENESIS_HEADER,
+            "020100000001",
+            GENESIS_CORE,
+            "00000000",
+            "0100000001",
+            GENESIS_CORE,
+            "00000000",
+        ],
+        bytes: ANY,
+        status: Status::SomeRefused,
+        report: "refused 0 000000000019d6689c085ae165831e934ff763ae46a2a6c172b3f1b60a8ce26f merkle repeated 0 0\nend 1 - - 0\n",
+    },
+    // feeds that are no list of frames
     Row {
         words: FOLLOW,
         feed: &["f9be"],
@@ -110,11 +160,11 @@ const ROWS: [Row; 15] = [
     Row {
         words: FOLLOW,
         feed: &[
-            "f9beb4d9",
-            "1d010000",
+            "f9beb4d91d010000",
             GENESIS_HEADER,
             "010100000001",
-            GENESIS_INPUT,
+            GENESIS_CORE,
+            "000000",
         ],
         bytes: ANY,
         status: Status::Frame,
@@ -130,17 +180,17 @@ const ROWS: [Row; 15] = [
     Row {
         words: FOLLOW,
         feed: &[
-            "fabfb5da",
-            "1d010000",
+            "fabfb5da1d010000",
             GENESIS_HEADER,
             "010100000001",
-            GENESIS_INPUT,
-            "00",
+            GENESIS_CORE,
+            "00000000",
         ],
         bytes: ANY,
         status: Status::Frame,
         report: "frame unbuilt\n",
     },
+    // nine bytes and eight, where eight may be read
     Row {
         words: FOLLOW,
         feed: &["000000000000000000"],
@@ -155,6 +205,7 @@ const ROWS: [Row; 15] = [
         status: Status::AllAccepted,
         report: "end 0 - - 0\n",
     },
+    // words
     Row {
         words: &[],
         feed: &[],
