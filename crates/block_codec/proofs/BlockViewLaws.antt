@@ -1,6 +1,5 @@
 -- What a block's view gives its accessors.
-use Rattle.std.proofs.Common.{◌≡◌, ℕ, ◌+◌, ◌-◌, ◌^◌, ◌<◌, ◌≤◌, List, [], ◌∷◌, ◌++◌, length, take, map, get_or, refl, sym, ap, arith}
-use Rattle.std.specs.Int.{w32, to_le_bytes}
+use Rattle.std.proofs.Common.{◌≡◌, ℕ, ◌+◌, ◌-◌, ◌^◌, ◌<◌, ◌≤◌, List, [], ◌∷◌, ◌++◌, length, take, get_or, sym, arith}
 use Rattle.std.specs.List.{flat_map}
 use Rattle.std.proofs.lemmas.List.{length-append, length-map, take_at, take_more, append-nil}
 use Rattle.std.proofs.lemmas.List.Folds.{length-flat_map-take}
@@ -11,7 +10,7 @@ use Rattle.uo_digest.specs.declared.digest.Digest.{Digest}
 use Rattle.tx_codec.specs.Transaction.{Transaction, tx_text, legacy_text}
 use Rattle.tx_codec.proofs.ViewLaws.{flat-longer, tx-above, legacy-shorter}
 use Rattle.block_codec.specs.declared.header.HeaderView.{HeaderView}
-use Rattle.block_codec.specs.Block.{Block, HeaderFits, header_text, block_text}
+use Rattle.block_codec.specs.Block.{Block, HeaderFits, header_text}
 use Rattle.block_codec.specs.Views.{IsBlockView}
 
 -- the texts of the transactions are a part of the whole

@@ -1,6 +1,5 @@
 -- Levels of the merkle tree, what is repeated on them, and where they end.
-use Rattle.std.proofs.Common.{◌≡◌, ℕ, zero, suc, ◌+◌, ◌-◌, ◌*◌, ◌^◌, ◌<◌, ◌≤◌, ◌%◌, Bool, true, false, cond, ◌⊎◌, List, [], ◌∷◌, ◌++◌, length, map, get_or, refl, sym, ap, subst, ◌∙◌, arith, inl, inr, add-one, add-zero}
-use Rattle.std.specs.Prelude.{slice_get}
+use Rattle.std.proofs.Common.{◌≡◌, ℕ, zero, suc, ◌+◌, ◌-◌, ◌*◌, ◌^◌, ◌<◌, ◌≤◌, Bool, true, false, ◌⊎◌, List, [], ◌∷◌, ◌++◌, length, map, get_or, refl, sym, ap, subst, ◌∙◌, arith, inl, inr, add-one, add-zero}
 use Rattle.std.specs.List.{flat_map, range_with_len}
 use Rattle.std.specs.Fn.{iterate}
 use Rattle.std.specs.Cmp.Lexicographic.{same_text, other_text}
@@ -9,8 +8,7 @@ use Rattle.std.proofs.lemmas.Bool.{cases_lt}
 use Rattle.std.proofs.lemmas.List.Concat.{flat_map-cons}
 use Rattle.uo_base.proofs.Formats.{found, some_is}
 use Rattle.uo_digest.specs.declared.digest.Digest.{Digest}
-use Rattle.block_codec.specs.Merkle.{hash_over, is_same, paired, level_above, level, repeats_from, repeats, merkle_root, outcome, merkle_of, IsRepeat, IsFirstRepeat, IsRoot, IsMerkle}
-use Rattle.block_codec.specs.declared.merkle_tree.MerkleOutcome.{MerkleOutcome}
+use Rattle.block_codec.specs.Merkle.{is_same, paired, level_above, level, repeats_from, repeats, merkle_of, IsRepeat, IsFirstRepeat, IsRoot}
 use Rattle.block_codec.specs.declared.merkle_tree.MerkleOutcome.TheVariants.{Root, Repeated}
 use Rattle.block_codec.specs.Pairs.{BeginsWith}
 

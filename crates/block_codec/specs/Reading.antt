@@ -1,5 +1,5 @@
 -- Reading a block from left to right.
-use Rattle.std.specs.Prelude.{◌≡◌, ℕ, List, length, Option, Some, None, Result, Ok, Err, ◌==◌, if◌then◌else◌}
+use Rattle.std.specs.Prelude.{◌≡◌, ℕ, List, length, Option, Some, None, Result, Ok, Err, option_map, ◌==◌, if◌then◌else◌}
 use Rattle.std.specs.Int.{w32}
 use Rattle.uo_base.specs.Reading.{◌>>=◌, bytes_at, number_at, times}
 use Rattle.uo_digest.specs.declared.digest.Digest.{Digest}
@@ -41,6 +41,16 @@ unfoldable pub whole_at : List ℕ → Option (Block × List ℕ)
 whole_at bytes = do
   block ← block_at bytes
   if length block.1 == 0 then Some block else None
+
+-- the block that a whole text is
+abbrev pub block_in : List ℕ → Option Block
+block_in bytes = option_map (λ p. p.0) (whole_at bytes)
+
+-- What a call that takes memory answered is the block of a text, or that it is none.
+abbrev pub Answers : Result Block BlockFault → Option Block → Type 0
+Answers (Ok b) found = found ≡ Some b
+Answers (Err NotABlock) found = found ≡ None
+Answers (Err NoMemory) found = Unit {0}
 
 -- What a call that takes memory answered and left is what reading gives.
 abbrev pub GivesOrFails : {X A : Type 0} → (X → A) → Result X BlockFault → List ℕ → Option (A × List ℕ) → Type 0

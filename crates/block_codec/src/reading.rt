@@ -5,7 +5,7 @@ ghost use Rattle.tx_codec.specs.Reading.{some_count_at, tx_at};
 ghost use Rattle.block_codec.specs.declared.fault.BlockFault.TheVariants.{NotABlock};
 ghost use Rattle.tx_codec.specs.Ids.{txid_of};
 ghost use Rattle.block_codec.specs.Block.{Block, BlockFits, block_text};
-ghost use Rattle.block_codec.specs.Reading.{digest_at, header_at, whole_at, GivesOrFails};
+ghost use Rattle.block_codec.specs.Reading.{digest_at, header_at, whole_at, block_in, Answers, GivesOrFails};
 ghost use Rattle.block_codec.specs.Views.{block_of};
 
 use crate::block_view::BlockView;
@@ -151,7 +151,7 @@ pub fn read_block(alloc: Global, text: &[u8]) -> Result<BlockView<'_>, BlockFaul
     ensures found { IfOk result (λ b. BlockFits b × (text.now ≡ block_text b)) }
     // It is refused only where it is the text of no block.
     ensures none { IsErrOf result NotABlock → (b : Block) → BlockFits b → text.now ≡ block_text b → ⊥ }
-    ensures exact { GivesOrFails (λ b. b) result [] (whole_at text.now) }
+    ensures exact { Answers result (block_in text.now) }
 {
     let (header, txs) = read_parts(alloc, text)?;
     let txids = ids_of(alloc, &txs)?;

@@ -1,4 +1,4 @@
-use Rattle.std.proofs.Common.{rules, arith, ap, length}
+use Rattle.std.proofs.Common.{rules}
 use Rattle.tx_codec.proofs.ViewLaws.{legacy-shorter}
 use Rattle.block_codec.proofs.BlockViewLaws.{witness_more}
 use Rattle.block_codec.proofs.block_view.witness_len.Goals as goal

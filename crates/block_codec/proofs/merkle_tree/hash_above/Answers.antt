@@ -1,4 +1,4 @@
-use Rattle.std.proofs.Common.{sym, ◌∙◌, arith}
+use Rattle.std.proofs.Common.{sym, ◌∙◌}
 use Rattle.block_codec.proofs.PairLaws.{last_gives, differing_gives, same_gives}
 use Rattle.block_codec.proofs.merkle_tree.hash_above.Goals as goal
 

@@ -1,4 +1,4 @@
-use Rattle.std.proofs.Common.{◌≡◌, ◌∙◌, arith}
+use Rattle.std.proofs.Common.{◌≡◌, arith}
 use Rattle.block_codec.proofs.PairLaws.{raised-start, raised-more, raised-repeat, raised-none, raised-end}
 use Rattle.block_codec.proofs.merkle_tree.raise.Goals as goal
 

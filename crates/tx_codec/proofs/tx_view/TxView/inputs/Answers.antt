@@ -1,4 +1,3 @@
-use Rattle.std.proofs.Common.{rules}
 use Rattle.tx_codec.proofs.ViewLaws.{count_of_inputs}
 use Rattle.tx_codec.proofs.tx_view.TxView.inputs.Goals as goal
 
