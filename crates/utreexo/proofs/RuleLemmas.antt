@@ -3,7 +3,7 @@ use Rattle.std.proofs.Common.{◌≡◌, ℕ, ◌^◌, ◌<◌, ◌≤◌, Bool,
 use Rattle.std.proofs.lemmas.Bool.{and_parts}
 use Rattle.tx_codec.specs.Transaction.{Transaction}
 use Rattle.block_codec.specs.Block.{Block}
-use Rattle.block_codec.specs.Reading.{whole_at}
+use Rattle.block_codec.specs.Reading.{block_in}
 use Rattle.uo_base.specs.declared.event.Limits.{Limits}
 use Rattle.utreexo.specs.declared.chain.Chain.{Chain}
 use Rattle.utreexo.specs.declared.verdict.Refusal.{Refusal}
@@ -41,12 +41,12 @@ module _ (limits : Limits) (chain : Chain) (few : chain.blocks ≤ 2 ^ 31) where
       let below = built_has_height limits chain block.txs (passed_test (is_built limits chain block.txs) Unbuilt passes.1.1.1.0) in
       omega (arith, below)
 
-  few_at : (read : Option (Block × List ℕ)) → (next_chain chain (verdict_at limits chain read)).blocks ≤ 2 ^ 31
+  few_at : (read : Option Block) → (next_chain chain (verdict_at limits chain read)).blocks ≤ 2 ^ 31
   unfolding judged
   few_at None = few
-  few_at (Some read) = few_by read.0 (first_of (steps limits chain read.0)) refl
+  few_at (Some block) = few_by block (first_of (steps limits chain block)) refl
 
   -- no verdict makes more blocks than there may be
   pub next-few : (body : List ℕ) → (next_chain chain (verdict_on limits chain body)).blocks ≤ 2 ^ 31
   unfolding verdict_on
-  next-few body = few_at (whole_at body)
+  next-few body = few_at (block_in body)

@@ -8,7 +8,7 @@ use Rattle.block_codec.specs.declared.merkle_tree.MerkleOutcome.{MerkleOutcome}
 use Rattle.block_codec.specs.declared.merkle_tree.MerkleOutcome.TheVariants.{Root, Repeated}
 use Rattle.block_codec.specs.Block.{Block, block_hash_of, txids_of, weight_of}
 use Rattle.block_codec.specs.Merkle.{is_same, merkle_of}
-use Rattle.block_codec.specs.Reading.{whole_at}
+use Rattle.block_codec.specs.Reading.{block_in}
 use Rattle.utreexo.specs.declared.chain.Chain.{Chain}
 use Rattle.utreexo.specs.declared.verdict.Refusal.{Refusal}
 use Rattle.utreexo.specs.declared.verdict.Refusal.TheVariants as Why
@@ -94,10 +94,10 @@ unfoldable pub judged : Limits → Chain → Block → Verdict
 judged limits chain block = verdict_by chain block (first_of (steps limits chain block))
 
 -- the bytes are the text of a block, or of none
-abbrev pub verdict_at : Limits → Chain → Option (Block × List ℕ) → Verdict
-verdict_at limits chain (Some read) = judged limits chain read.0
+abbrev pub verdict_at : Limits → Chain → Option Block → Verdict
+verdict_at limits chain (Some block) = judged limits chain block
 verdict_at limits chain None = Refused chain.blocks None Why.Block
 
 -- the verdict on a block's bytes
 unfoldable pub verdict_on : Limits → Chain → List ℕ → Verdict
-verdict_on limits chain body = verdict_at limits chain (whole_at body)
+verdict_on limits chain body = verdict_at limits chain (block_in body)
