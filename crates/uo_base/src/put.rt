@@ -1,5 +1,5 @@
 //! Writing counts.
-ghost use Rattle.std.specs.Prelude.{◌≡◌, ◌<◌, ◌^◌, ◌++◌, OnOk, OnErr};
+ghost use Rattle.std.specs.Prelude.{◌≡◌, ◌+◌, ◌<◌, ◌≤◌, ◌^◌, ◌++◌, length, vec_len, vec_capacity, OnOk, OnErr};
 ghost use Rattle.uo_base.specs.Reading.{OneReading};
 ghost use Rattle.uo_base.specs.Compact.{compact};
 
@@ -10,6 +10,9 @@ use crate::NoMemory;
 pub fn put_compact(out: &mut Vec<u8>, value: u64) -> Result<(), NoMemory>
     ensures ok { OnOk result (out.new.items ≡ out.old.items ++ compact value) }
     ensures err { OnErr result (out.new.items ≡ out.old.items) }
+    // It fails only where room was missing.
+    ensures full { OnErr result (vec_capacity out.old < vec_len out.old + length (compact value)) }
+    ensures capacity { vec_capacity out.old ≤ vec_capacity out.new }
 {
     if value < 253 {
         out.push(value as u8)?;
