@@ -3,10 +3,12 @@
 
 ghost use Rattle.std.specs.Prelude.{◌≡◌, ◌<◌};
 
+mod codecs;
 mod digests;
 mod feeds;
 mod rate;
 
+use crate::codecs::measure_codecs;
 use crate::digests::measure_digests;
 use crate::feeds::{hash_input, write_feed};
 use std::marker::Brand;
@@ -14,7 +16,9 @@ use std::rt::Env;
 use std::sync::ledger::Blank;
 use std::{env, io};
 
-const USAGE: &str = "bench digests   digests per second, beside bare SHA-512/256
+const USAGE: &str =
+    "bench codecs    megabytes per second of reading transactions, of their ids and of merkle trees
+bench digests   digests per second, beside bare SHA-512/256
 bench feed      writes a feed of one block of the most bytes that is accepted
 bench hash      megabytes per second of SHA-256 twice over standard input
 ";
@@ -25,6 +29,7 @@ fn main(rt: HostRuntime) -> io::Result<()> {
         return print!(&rt; "{USAGE}");
     };
     match word.as_str() {
+        "codecs" => measure_codecs(&rt),
         "digests" => measure_digests::<Brand, HostRuntime>(&rt, Blank::new(1)),
         "feed" => write_feed(&rt),
         "hash" => hash_input(&rt),
