@@ -1,0 +1,4 @@
+pub mod Parts
+pub mod Slots
+pub mod Positions
+pub mod Differing

@@ -1,0 +1,13 @@
+//! Laws on places and positions, which hold over any number of entries. There is no code here.
+ghost use Rattle.forest_place.specs.Laws.{PlacesAreBeneathRoots, PlacesHaveOneSlot, PositionsAscend};
+
+/// The forest has the roots of its slots and the places beneath them, and no other place.
+pub fn places_are_beneath_roots()
+    ensures beneath { PlacesAreBeneathRoots }
+    ensures one_slot { PlacesHaveOneSlot }
+{}
+
+/// Positions rise with the rows, and in a row with the offsets.
+pub fn positions_ascend()
+    ensures { PositionsAscend }
+{}
