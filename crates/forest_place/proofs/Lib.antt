@@ -1,4 +1,7 @@
 pub mod Parts
 pub mod Slots
-pub mod Positions
 pub mod Differing
+pub mod Listed
+pub mod Ascending
+pub mod Positions
+pub mod Numbered

@@ -8,7 +8,7 @@ use Rattle.std.proofs.lemmas.Bool.{cases_Bool, cases_lt, cases_order, ltb-true, 
 use Rattle.forest_place.specs.declared.place.Place.{Place}
 use Rattle.forest_place.specs.Forest.{InForest, is_slot, root_off}
 use Rattle.forest_place.specs.Position.{rows, rows_within, row_start, position}
-use Rattle.forest_place.specs.Laws.{IsBefore}
+use Rattle.forest_place.specs.Places.{IsBefore}
 use Rattle.forest_place.proofs.Slots.{in_forest_iff}
 
 below_pow : (n : ℕ) → n ≤ 2 ^ n

@@ -1,12 +1,9 @@
--- What holds of places and positions. Each law is the contract of a function of its name.
-use Rattle.std.specs.Prelude.{◌≡◌, ℕ, ◌<◌, ◌⊎◌, ◌↔◌}
+-- What holds of places and positions. The laws are the contracts of functions with no code.
+use Rattle.std.specs.Prelude.{◌≡◌, ℕ, true, ◌<◌, ◌↔◌}
 use Rattle.forest_place.specs.declared.place.Place.{Place}
 use Rattle.forest_place.specs.Forest.{InForest, IsSlotOf}
+use Rattle.forest_place.specs.Places.{has_place, places, IsBefore, IsAscending}
 use Rattle.forest_place.specs.Position.{position}
-
--- p comes before q: in a lower row, or in its row at a lower offset
-abbrev pub IsBefore : Place → Place → Type 0
-IsBefore p q = (p.row < q.row) ⊎ ((p.row ≡ q.row) × (p.off < q.off))
 
 -- the places of the forest are the roots of its slots and what is beneath them
 abbrev pub PlacesAreBeneathRoots : Type 0
@@ -15,6 +12,14 @@ PlacesAreBeneathRoots = (n row off : ℕ) → InForest n row off ↔ ((h : ℕ) 
 -- a place is beneath one root
 abbrev pub PlacesHaveOneSlot : Type 0
 PlacesHaveOneSlot = (n row off h k : ℕ) → IsSlotOf n row off h → IsSlotOf n row off k → h ≡ k
+
+-- `places` lists the places of the forest and no others
+abbrev pub PlacesAreListed : Type 0
+PlacesAreListed = (n row off : ℕ) → (has_place (places n) row off ≡ true) ↔ InForest n row off
+
+-- each once, in their order
+abbrev pub PlacesAscend : Type 0
+PlacesAscend = (n : ℕ) → IsAscending (places n)
 
 -- positions have the order of places
 abbrev pub PositionsAscend : Type 0

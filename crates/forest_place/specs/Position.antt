@@ -1,5 +1,7 @@
 -- The number of a place: rows one after another from the leaves up, each with room for all of its places.
-use Rattle.std.specs.Prelude.{ℕ, zero, suc, ◌+◌, ◌-◌, ◌^◌, if◌then◌else◌, nat_lt}
+use Rattle.std.specs.Prelude.{ℕ, zero, suc, ◌+◌, ◌-◌, ◌^◌, ◌==◌, if◌then◌else◌, nat_lt, Option, find}
+use Rattle.forest_place.specs.declared.place.Place.{Place}
+use Rattle.forest_place.specs.Places.{places}
 
 -- the least R below k with room for n entries in 2^R, or k
 abbrev pub rows_within : ℕ → ℕ → ℕ
@@ -17,3 +19,7 @@ row_start top row = 2 ^ (top + 1) - 2 ^ (top + 1 - row)
 -- the position of a place of the forest over n
 abbrev pub position : ℕ → ℕ → ℕ → ℕ
 position n row off = row_start (rows n) row + off
+
+-- the place of the forest over n that has a position
+abbrev pub place_at : ℕ → ℕ → Option Place
+place_at n number = find (λ p. position n p.row p.off == number) (places n)

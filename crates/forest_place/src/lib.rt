@@ -7,6 +7,6 @@ mod place;
 #[cfg(test)]
 mod tests;
 
-pub use laws::{places_are_beneath_roots, positions_ascend};
+pub use laws::{places_are_beneath_roots, places_are_listed, positions_ascend};
 pub use numbering::{parent_position, place_of, position, rows};
 pub use place::{Place, children, parent, root_place, sibling, slot_of};

@@ -2,7 +2,7 @@
 ghost use Rattle.std.specs.Prelude.{◌≡◌, ◌≢◌, ℕ, ◌+◌, ◌-◌, ◌/◌, ◌^◌, ◌<◌, ◌≤◌, MatchOption, bit_or};
 ghost use Rattle.forest_place.specs.declared.place.Place.{Place as Placed};
 ghost use Rattle.forest_place.specs.Forest.{InForest};
-ghost use Rattle.forest_place.specs.Position.{rows as rows_of, row_start as start_of, position as position_of};
+ghost use Rattle.forest_place.specs.Position.{rows as rows_of, row_start as start_of, position as position_of, place_at};
 
 use crate::Place;
 
@@ -39,7 +39,8 @@ pub fn position(place: Place, n: u64) -> u64
 /// The place that has a position. `None` where no place of the forest over `n` entries has it.
 pub fn place_of(position: u64, n: u64) -> Option<Place>
     requires { n < 2 ^ 40 }
-    ensures { MatchOption result
+    ensures is { result ≡ place_at n position }
+    ensures exact { MatchOption result
         ((q : Placed) → InForest n q.row q.off → position_of n q.row q.off ≢ position)
         (λ p. InForest n p.row p.off × (position_of n p.row p.off ≡ position)) }
 {
