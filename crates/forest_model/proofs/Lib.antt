@@ -1,0 +1,17 @@
+pub mod Lists
+pub mod Climbs
+pub mod Covers
+pub mod Right
+pub mod Unique
+pub mod EntryPlaces
+pub mod Living
+pub mod Literally
+pub mod Deleting
+pub mod Moving
+pub mod Clash
+pub mod Extract
+pub mod Adding
+pub mod Carrying
+pub mod Paths
+pub mod Pairs
+pub mod Examples
