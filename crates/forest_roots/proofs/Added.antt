@@ -2,6 +2,7 @@
 use Rattle.std.proofs.Common.{ne_eqb, ◌≡◌, ℕ, zero, suc, ◌+◌, ◌/◌, ◌%◌, ◌^◌, ◌<◌, ◌≤◌, Bool, true, false, List, [], ◌∷◌, ◌++◌, map, length, get_or, set, cond, is_some, Option, Some, None, refl, sym, ap, ap₂, ◌∙◌, subst, ⊎_elim, arith, length-set}
 use Rattle.std.specs.Prelude.{◌==◌, count_by, count_ones}
 use Rattle.std.specs.List.{range_with_len, sum_by}
+use Rattle.std.proofs.lemmas.List.Sums.{sum_by-cons}
 use Rattle.std.proofs.lemmas.List.FromFn.{map-range_with_len_more, sum_by-map-range_with_len_more}
 use Rattle.std.proofs.lemmas.Bool.{eq-eqb, and_from, true≢false, false≢true, cases_order, cases_lt, cases_eq, false_from_ne_true}
 use Rattle.std.proofs.lemmas.List.{get_or-set_same, get_or-set_other, map-id}
@@ -9,7 +10,7 @@ use Rattle.uo_digest.specs.declared.digest.Digest.{Digest}
 use Rattle.forest_place.specs.Forest.{is_slot}
 use Rattle.forest_model.specs.Content.{pair}
 use Rattle.forest_model.specs.Standing.{root}
-use Rattle.forest_model.specs.Addition.{all_slots, carried_digest, join_root, IsAddition}
+use Rattle.forest_model.specs.Addition.{all_slots, joined_slots, carried_digest, join_root, IsAddition}
 use Rattle.forest_model.proofs.Adding.{all_slots_small, appended, same_length, slot_cleared, slot_made, slot_stays}
 use Rattle.forest_model.proofs.Ones.{all_slots-below, slot_below, joined_slots_are}
 use Rattle.forest_roots.specs.declared.joins.Join.{Join}
@@ -171,7 +172,19 @@ pub record IsAdded (H : List ℕ → Digest) (f : Stump) (d : Digest) (start : �
   pub stands : (es : List (Option Digest)) → StandsFor H es f → StandsFor H (es ++ Some d ∷ []) g
   pub joins_are : joins ≡ joins_of H f d
   pub steps_are : steps ≡ start + addition_steps f
+  pub steps_listed : steps ≡ start + count_by (λ join. is_some join.left) joins
   pub few : steps + count_ones g.leaves ≤ start + 1 + count_ones f.leaves
+
+-- the steps are those of the joins
+steps_of_joins : (H : List ℕ → Digest) (f : Stump) (d : Digest) → addition_steps f ≡ count_by (λ (join : Join). is_some join.left) (joins_of H f d)
+steps_of_joins H f d = of_rows (range_with_len 0 (joined_slots f.leaves))
+  where
+    of_rows : (rows : List ℕ) → count_by (λ row. is_some (root_in f row)) rows ≡ count_by (λ (join : Join). is_some join.left) (map (join_at H f d) rows)
+    of_rows [] = refl
+    of_rows (r ∷ rs) =
+        sum_by-cons (λ row. cond (is_some (root_in f row)) 1 0) r rs
+        ∙ (ap (λ k. cond (is_some (root_in f r)) 1 0 + k) (of_rows rs)
+        ∙ sym (sum_by-cons (λ (join : Join). cond (is_some join.left) 1 0) (join_at H f d r) (map (join_at H f d) rs)))
 
 -- once the first free row was written
 pub addition_ends : (H : List ℕ → Digest) (f : Stump) (n : ℕ) (old : List (Option Digest)) (d : Digest) (start row count : ℕ) (now : List (Option Digest)) (c : Digest) (joins : List Join) (steps : ℕ) →
@@ -192,6 +205,7 @@ addition_ends H f n old d start row count now c joins steps j view was few same 
       stands = λ es stands. stands_added H es d before (g (suc n)) stands refl shape;
       joins_are = joins_are H n old d start row now c joins steps j here;
       steps_are = counted;
+      steps_listed = counted ∙ ap (λ k. start + k) (steps_of_joins H before d ∙ ap (count_by (λ (join : Join). is_some join.left)) (sym (joins_are H n old d start row now c joins steps j here)));
       few = omega (arith, counted, steps_few before);
     } in
     subst (λ x. IsAdded H f d start (g x) joins steps) one_more (subst (λ x. IsAdded H x d start (g (suc n)) joins steps) view whole)

@@ -29,7 +29,11 @@ pub fn pair<D: Digester, L: Ledger>(left: Digest, right: Digest, steps: &mut Ste
 }
 
 // What is carried on from a root: an empty one takes no digest.
-pub(crate) fn join_root<D: Digester, L: Ledger>(root: Option<Digest>, carried: Digest, steps: &mut Steps<L>) -> Digest
+pub(crate) fn join_root<D: Digester, L: Ledger>(
+    root: Option<Digest>,
+    carried: Digest,
+    steps: &mut Steps<L>,
+) -> Digest
     ensures value { result ≡ join_of D.digest_of root carried }
     ensures steps { steps.new ≡ steps.old + (if is_some root then 1 else 0) }
 {

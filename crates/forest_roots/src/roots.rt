@@ -1,5 +1,5 @@
 //! The roots of a forest.
-ghost use Rattle.std.specs.Prelude.{◌≡◌, ℕ, ◌+◌, ◌^◌, ◌<◌, ◌≤◌, List, [], ◌∷◌, ◌++◌, count_ones, IsTrue, Some, Option, MatchOption};
+ghost use Rattle.std.specs.Prelude.{◌≡◌, ℕ, ◌+◌, ◌^◌, ◌<◌, ◌≤◌, List, [], ◌∷◌, ◌++◌, count_by, count_ones, is_some, IsTrue, Some, Option, MatchOption};
 ghost use Rattle.uo_digest.specs.declared.digest.Digest.{Digest as Digested};
 ghost use Rattle.forest_place.specs.Forest.{is_slot};
 ghost use Rattle.forest_model.specs.Addition.{IsAddition};
@@ -111,7 +111,9 @@ impl<D: Digester> Roots<D> {
         ensures stands { (es : List (Option Digested)) → StandsFor D.digest_of es self.old → StandsFor D.digest_of (es ++ Some digest ∷ []) self.new }
         ensures joins { result ≡ joins_of D.digest_of self.old digest }
 
-        ensures steps { steps.new ≡ steps.old + addition_steps self.old }
+        // A step for each root that is joined and is not empty.
+        ensures steps { steps.new ≡ steps.old + count_by (λ join. is_some join.left) result }
+        ensures counted { steps.new ≡ steps.old + addition_steps self.old }
         ensures few { steps.new + count_ones self.new.leaves ≤ steps.old + 1 + count_ones self.old.leaves }
     {
         let mut joins = Joins::new();
