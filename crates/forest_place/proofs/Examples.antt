@@ -1,5 +1,5 @@
 -- The definitions at numbers that were computed by hand.
-use Rattle.std.proofs.Common.{◌≡◌, ℕ, List, [], ◌∷◌, map, Option, Some, None, refl}
+use Rattle.std.proofs.Common.{◌≡◌, [], ◌∷◌, map, Some, None, refl}
 use Rattle.forest_place.specs.declared.place.Place.{Place}
 use Rattle.forest_place.specs.Forest.{root_off}
 use Rattle.forest_place.specs.Places.{places}

@@ -1,5 +1,5 @@
 -- Siblings.
-use Rattle.std.proofs.Common.{◌≡◌, ℕ, suc, ◌+◌, ◌*◌, ◌/◌, ◌%◌, ◌^◌, false, refl, sym, ◌∙◌, ⊎_elim, inl, inr, arith, eq-eqb, ne_eqb, eqb-true}
+use Rattle.std.proofs.Common.{◌≡◌, ℕ, ◌+◌, ◌*◌, ◌/◌, ◌%◌, ◌^◌, false, refl, sym, ◌∙◌, ⊎_elim, inl, inr, arith, eq-eqb, ne_eqb, eqb-true}
 use Rattle.std.specs.Prelude.{◌==◌, ◌⊎◌}
 use Rattle.std.proofs.lemmas.Bool.{cases_eq, and_from, and_parts, true≢false, false_from_ne_true}
 use Rattle.forest_place.specs.Forest.{InForest, is_root, sibling_off}

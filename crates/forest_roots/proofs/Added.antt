@@ -1,6 +1,6 @@
 -- What an addition does to roots.
 use Rattle.std.proofs.Common.{ne_eqb, ◌≡◌, ℕ, zero, suc, ◌+◌, ◌/◌, ◌%◌, ◌^◌, ◌<◌, ◌≤◌, Bool, true, false, List, [], ◌∷◌, ◌++◌, map, length, get_or, set, cond, is_some, Option, Some, None, refl, sym, ap, ap₂, ◌∙◌, subst, ⊎_elim, arith, length-set}
-use Rattle.std.specs.Prelude.{◌==◌, count_by, count_ones}
+use Rattle.std.specs.Prelude.{count_by, count_ones}
 use Rattle.std.specs.List.{range_with_len, sum_by}
 use Rattle.std.proofs.lemmas.List.Sums.{sum_by-cons}
 use Rattle.std.proofs.lemmas.List.FromFn.{map-range_with_len_more, sum_by-map-range_with_len_more}
@@ -8,13 +8,12 @@ use Rattle.std.proofs.lemmas.Bool.{eq-eqb, and_from, true≢false, false≢true,
 use Rattle.std.proofs.lemmas.List.{get_or-set_same, get_or-set_other, map-id}
 use Rattle.uo_digest.specs.declared.digest.Digest.{Digest}
 use Rattle.forest_place.specs.Forest.{is_slot}
-use Rattle.forest_model.specs.Content.{pair}
 use Rattle.forest_model.specs.Standing.{root}
 use Rattle.forest_model.specs.Addition.{all_slots, joined_slots, carried_digest, join_root, IsAddition}
 use Rattle.forest_model.proofs.Adding.{all_slots_small, appended, same_length, slot_cleared, slot_made, slot_stays}
 use Rattle.forest_model.proofs.Ones.{all_slots-below, slot_below, joined_slots_are}
 use Rattle.forest_roots.specs.declared.joins.Join.{Join}
-use Rattle.forest_roots.specs.Joined.{join_at, joins_of, addition_steps}
+use Rattle.forest_roots.specs.Joined.{IsAdded, join_at, joins_of, addition_steps}
 use Rattle.forest_roots.proofs.Few.{steps_few}
 use Rattle.forest_roots.specs.Stump.{Stump, root_in, IsStump, StandsFor}
 
@@ -165,11 +164,10 @@ stands_added H es d f g was more a = record {
         let was_slot : is_slot f.leaves r ≡ true = sym (a.above r some).0 ∙ after in
         (a.above r some).1 was_slot ∙ (was.roots r was_slot ∙ sym ((law.above r some).1 was_slot))
 
--- what an addition to f gives: g, with these joins and after these steps
-pub record IsAdded (H : List ℕ → Digest) (f : Stump) (d : Digest) (start : ℕ) (g : Stump) (joins : List Join) (steps : ℕ) : Type 0 where
+-- what an addition of d to f ends in: g, with these joins and after these steps
+pub record EndsIn (H : List ℕ → Digest) (f : Stump) (d : Digest) (start : ℕ) (g : Stump) (joins : List Join) (steps : ℕ) : Type 0 where
   pub stump : IsStump g
-  pub roots : IsAddition H f.leaves d (root_in f) (root_in g)
-  pub stands : (es : List (Option Digest)) → StandsFor H es f → StandsFor H (es ++ Some d ∷ []) g
+  pub roots : IsAdded H f d g
   pub joins_are : joins ≡ joins_of H f d
   pub steps_are : steps ≡ start + addition_steps f
   pub steps_listed : steps ≡ start + count_by (λ join. is_some join.left) joins
@@ -189,7 +187,7 @@ steps_of_joins H f d = of_rows (range_with_len 0 (joined_slots f.leaves))
 -- once the first free row was written
 pub addition_ends : (H : List ℕ → Digest) (f : Stump) (n : ℕ) (old : List (Option Digest)) (d : Digest) (start row count : ℕ) (now : List (Option Digest)) (c : Digest) (joins : List Join) (steps : ℕ) →
     IsJoining H n old d start row now c joins steps → record { leaves = n; rows = old } ≡ f → IsStump (record { leaves = n; rows = old }) → f.leaves + 1 < 2 ^ 40 → count ≡ n → (count / 2 ^ row % 2 ≡ 1 → ⊥) →
-    IsAdded H f d start (record { leaves = count + 1; rows = set now row (Some c) }) joins steps
+    EndsIn H f d start (record { leaves = count + 1; rows = set now row (Some c) }) joins steps
 addition_ends H f n old d start row count now c joins steps j view was few same free =
     let one_more : suc n ≡ count + 1 = omega (arith, same) in
     let here : is_slot n row ≡ false = ne_eqb _ _ (λ e. free (ap (λ x. x / 2 ^ row % 2) same ∙ e)) in
@@ -198,14 +196,13 @@ addition_ends H f n old d start row count now c joins steps j view was few same 
     let shape = added H n old d start row now c joins steps j here in
     let before : Stump = record { leaves = n; rows = old } in
     let counted = steps_are H n old d start row now c joins steps j here in
-    let whole : IsAdded H before d start (g (suc n)) joins steps =
+    let whole : EndsIn H before d start (g (suc n)) joins steps =
     record {
       stump = added_stump H n old d start row now c joins steps j here enough was;
-      roots = shape;
-      stands = λ es stands. stands_added H es d before (g (suc n)) stands refl shape;
+      roots = record { leaves = omega arith; roots = shape; stands = λ es stands. stands_added H es d before (g (suc n)) stands refl shape };
       joins_are = joins_are H n old d start row now c joins steps j here;
       steps_are = counted;
       steps_listed = counted ∙ ap (λ k. start + k) (steps_of_joins H before d ∙ ap (count_by (λ (join : Join). is_some join.left)) (sym (joins_are H n old d start row now c joins steps j here)));
       few = omega (arith, counted, steps_few before);
     } in
-    subst (λ x. IsAdded H f d start (g x) joins steps) one_more (subst (λ x. IsAdded H x d start (g (suc n)) joins steps) view whole)
+    subst (λ x. EndsIn H f d start (g x) joins steps) one_more (subst (λ x. EndsIn H x d start (g (suc n)) joins steps) view whole)

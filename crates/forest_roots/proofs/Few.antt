@@ -1,6 +1,6 @@
 -- How many steps additions take.
-use Rattle.std.proofs.Common.{◌≡◌, ℕ, zero, suc, ◌+◌, ◌≤◌, List, [], ◌∷◌, length, is_some, sym, ap, ◌∙◌, subst, arith}
-use Rattle.std.specs.Prelude.{count_by, count_ones}
+use Rattle.std.proofs.Common.{◌≡◌, ℕ, suc, ◌+◌, ◌≤◌, List, [], ◌∷◌, length, is_some, ap, subst, arith}
+use Rattle.std.specs.Prelude.{count_ones}
 use Rattle.std.specs.List.{sum_by, range_with_len}
 use Rattle.std.proofs.lemmas.List.Sums.{sum_by-cons, count_by-le-length}
 use Rattle.std.proofs.lemmas.List.FromFn.{length-range_with_len}

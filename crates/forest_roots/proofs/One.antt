@@ -1,5 +1,5 @@
 -- Roots that stand for one list of entries are equal.
-use Rattle.std.proofs.Common.{◌≡◌, ℕ, suc, ◌+◌, ◌<◌, Bool, true, false, List, [], ◌∷◌, length, get_or, Option, Some, None, refl, sym, ap, ap₂, ◌∙◌, arith}
+use Rattle.std.proofs.Common.{◌≡◌, ℕ, suc, Bool, true, false, List, [], ◌∷◌, length, get_or, Option, None, refl, sym, ap, ap₂, ◌∙◌, arith}
 use Rattle.uo_digest.specs.declared.digest.Digest.{Digest}
 use Rattle.forest_place.specs.Forest.{is_slot}
 use Rattle.forest_roots.specs.Stump.{Stump, root_in, IsStump, StandsFor}

@@ -1,5 +1,5 @@
 -- The roots of a forest, by row: what the literature calls a stump.
-use Rattle.std.specs.Prelude.{◌≡◌, ℕ, ◌^◌, ◌<◌, Bool, true, false, List, length, get_or, replicate, slice_set, Option, None}
+use Rattle.std.specs.Prelude.{◌≡◌, ℕ, ◌^◌, ◌<◌, true, false, List, length, get_or, replicate, slice_set, Option, None}
 use Rattle.uo_digest.specs.declared.digest.Digest.{Digest}
 use Rattle.forest_place.specs.Forest.{is_slot}
 use Rattle.forest_model.specs.Standing.{root}

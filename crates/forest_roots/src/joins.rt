@@ -42,13 +42,20 @@ impl Model for Joins {
 }
 
 impl Joins {
-    // No slot yet.
-    pub(crate) fn new() -> Joins
+    /// No slot.
+    pub fn new() -> Joins
         ensures { result ≡ [] }
     {
         Joins {
             joins: ArrayVec::new(),
         }
+    }
+
+    // No slot any more.
+    pub(crate) fn clear(&mut self)
+        ensures { self.new ≡ [] }
+    {
+        self.joins.clear();
     }
 
     // One slot more.

@@ -1,8 +1,6 @@
 //! The roots of a forest.
 ghost use Rattle.std.specs.Prelude.{◌≡◌, ℕ, ◌+◌, ◌^◌, ◌<◌, ◌≤◌, List, [], ◌∷◌, ◌++◌, count_by, count_ones, is_some, IsTrue, Some, Option, MatchOption};
-ghost use Rattle.uo_digest.specs.declared.digest.Digest.{Digest as Digested};
 ghost use Rattle.forest_place.specs.Forest.{is_slot};
-ghost use Rattle.forest_model.specs.Addition.{IsAddition};
 
 use crate::inner::join_root;
 use crate::{Join, Joins};
@@ -40,7 +38,7 @@ impl<D> Drop for Roots<D> {
 
 impl<D: Digester> Roots<D> {
     ghost use Rattle.forest_roots.specs.Stump.{IsStump, StandsFor, root_in, empty_roots, with_root};
-    ghost use Rattle.forest_roots.specs.Joined.{joins_of, addition_steps};
+    ghost use Rattle.forest_roots.specs.Joined.{IsAdded, joins_of, addition_steps};
 
     /// No entry.
     pub fn new() -> Roots<D>
@@ -106,9 +104,7 @@ impl<D: Digester> Roots<D> {
     /// An empty root is joined without a digest.
     pub fn add<L: Ledger>(&mut self, digest: Digest, steps: &mut Steps<L>) -> Joins
         requires { self.old.leaves + 1 < 2 ^ 40 }
-        ensures leaves { self.new.leaves ≡ self.old.leaves + 1 }
-        ensures roots { IsAddition D.digest_of self.old.leaves digest (root_in self.old) (root_in self.new) }
-        ensures stands { (es : List (Option Digested)) → StandsFor D.digest_of es self.old → StandsFor D.digest_of (es ++ Some digest ∷ []) self.new }
+        ensures roots { IsAdded D.digest_of self.old digest self.new }
         ensures joins { result ≡ joins_of D.digest_of self.old digest }
 
         // A step for each root that is joined and is not empty.
@@ -117,6 +113,21 @@ impl<D: Digester> Roots<D> {
         ensures few { steps.new + count_ones self.new.leaves ≤ steps.old + 1 + count_ones self.old.leaves }
     {
         let mut joins = Joins::new();
+        self.add_into(digest, &mut joins, steps);
+        joins
+    }
+
+    /// The same, with the joins in place of what the list had. A list has room for 40 joins, so that many additions are
+    /// faster with one list than with one each.
+    pub fn add_into<L: Ledger>(&mut self, digest: Digest, joins: &mut Joins, steps: &mut Steps<L>)
+        requires { self.old.leaves + 1 < 2 ^ 40 }
+        ensures roots { IsAdded D.digest_of self.old digest self.new }
+        ensures joins { joins.new ≡ joins_of D.digest_of self.old digest }
+        ensures steps { steps.new ≡ steps.old + count_by (λ join. is_some join.left) joins.new }
+        ensures counted { steps.new ≡ steps.old + addition_steps self.old }
+        ensures few { steps.new + count_ones self.new.leaves ≤ steps.old + 1 + count_ones self.old.leaves }
+    {
+        joins.clear();
         let mut carried = digest;
         let mut row: u8 = 0;
         while (self.count >> row) % 2 == 1 {
@@ -132,6 +143,5 @@ impl<D: Digester> Roots<D> {
         }
         self.slots[row as usize] = Some(carried);
         self.count += 1;
-        joins
     }
 }

@@ -1,7 +1,7 @@
 //! Roots that were computed by hand, or by another implementation of SHA-512/256.
 ghost use Rattle.std.specs.Prelude.{◌≡◌, ◌<◌};
 
-use crate::{Join, Roots, pair};
+use crate::{Join, Joins, Roots, pair};
 use std::marker::Brand;
 use std::process::Abort;
 use std::sync::ledger::{Blank, Ledger};
@@ -33,9 +33,10 @@ fn check_nine<L: Ledger>(rt: &impl Abort, blank: Blank)
 {
     let mut steps = Steps::<L>::new(blank);
     let mut roots = Roots::<XorFold>::new();
+    let mut joins = Joins::new();
     for (n, (byte, carried, row, root)) in NINE.iter().enumerate() {
         assert!(rt; roots.leaves() == n as u64);
-        let joins = roots.add(digest(*byte), &mut steps);
+        roots.add_into(digest(*byte), &mut joins, &mut steps);
         let results = joins.list().iter().map(|join| join.result);
         assert!(rt;
             results.eq(carried.iter().map(|byte| digest(*byte))),

@@ -1,4 +1,4 @@
-use Rattle.std.proofs.Common.{ℕ, ◌≡◌, zero, suc, get_or, List, replicate, Option, None, refl}
+use Rattle.std.proofs.Common.{ℕ, ◌≡◌, zero, suc, get_or, replicate, Option, None, refl}
 use Rattle.uo_digest.specs.declared.digest.Digest.{Digest}
 use Rattle.forest_roots.proofs.roots.Roots.of.Goals as goal
 

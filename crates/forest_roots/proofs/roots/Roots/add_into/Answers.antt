@@ -1,8 +1,8 @@
-use Rattle.std.proofs.Common.{◌≡◌, ℕ, suc, ◌+◌, ◌/◌, ◌%◌, ◌^◌, ◌<◌, length, sym, ap, ◌∙◌, arith}
+use Rattle.std.proofs.Common.{◌≡◌, suc, ◌/◌, ◌%◌, ◌^◌, ◌<◌, length, sym, ap, ◌∙◌, arith}
 use Rattle.std.proofs.lemmas.List.FromFn.{length-map-range_with_len}
 use Rattle.forest_roots.specs.Joined.{join_at}
 use Rattle.forest_roots.proofs.Added.{joined_once, addition_ends}
-use Rattle.forest_roots.proofs.roots.Roots.add.Goals as goal
+use Rattle.forest_roots.proofs.roots.Roots.add_into.Goals as goal
 
 pub push-requires : goal.push-requires
 push-requires g c =
@@ -30,5 +30,4 @@ pub returns : goal.returns
 returns g c =
     let whole = addition_ends g.D.Digester.digest_of c.args.self.now c.self.inside.count c.self.inside.slots c.args.digest c.args.steps.now c.loop-self.row c.loop-self.self-inside.count c.loop-self.self-inside.slots c.loop-self.carried c.loop-self.joins c.loop-self.steps
     c.loop-self.invariant.joining c.self.view_is c.self.invariant c.requires c.loop-self.invariant.same_count c.loop-self-test.false in
-    let leaves : c.loop-self.self-inside.count ≡ c.args.self.now.leaves = c.loop-self.invariant.same_count ∙ ap (λ f. f.leaves) c.self.view_is in
-    record { leaves = ap (λ n. n + 1) leaves; roots = whole.roots; stands = whole.stands; joins = whole.joins_are; steps = whole.steps_listed; counted = whole.steps_are; few = whole.few }
+    record { roots = whole.roots; joins = whole.joins_are; steps = whole.steps_listed; counted = whole.steps_are; few = whole.few }

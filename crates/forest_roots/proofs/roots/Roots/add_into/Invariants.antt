@@ -1,6 +1,6 @@
 use Rattle.std.proofs.Common.{◌≡◌, ◌-◌}
 use Rattle.forest_roots.proofs.Added.{IsJoining}
-use Rattle.forest_roots.proofs.roots.Roots.add.Given as goal
+use Rattle.forest_roots.proofs.roots.Roots.add_into.Given as goal
 
 abbrev pub invariant-loop-self : goal.invariant-loop-self
 invariant-loop-self g l = record {
