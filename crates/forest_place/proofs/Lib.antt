@@ -1,0 +1,9 @@
+pub mod Parts
+pub mod Slots
+pub mod Siblings
+pub mod Differing
+pub mod Listed
+pub mod Ascending
+pub mod Positions
+pub mod Numbered
+pub mod Examples

@@ -1,0 +1,26 @@
+-- What holds of places and positions. The laws are the contracts of functions with no code.
+use Rattle.std.specs.Prelude.{◌≡◌, ℕ, true, ◌<◌, ◌↔◌}
+use Rattle.forest_place.specs.declared.place.Place.{Place}
+use Rattle.forest_place.specs.Forest.{InForest, IsSlotOf}
+use Rattle.forest_place.specs.Places.{has_place, places, IsBefore, IsAscending}
+use Rattle.forest_place.specs.Position.{position}
+
+-- the places of the forest are the roots of its slots and what is beneath them
+abbrev pub PlacesAreBeneathRoots : Type 0
+PlacesAreBeneathRoots = (n row off : ℕ) → InForest n row off ↔ ((h : ℕ) × IsSlotOf n row off h)
+
+-- a place is beneath one root
+abbrev pub PlacesHaveOneSlot : Type 0
+PlacesHaveOneSlot = (n row off h k : ℕ) → IsSlotOf n row off h → IsSlotOf n row off k → h ≡ k
+
+-- `places` lists the places of the forest and no others
+abbrev pub PlacesAreListed : Type 0
+PlacesAreListed = (n row off : ℕ) → (has_place (places n) row off ≡ true) ↔ InForest n row off
+
+-- each once, in their order
+abbrev pub PlacesAscend : Type 0
+PlacesAscend = (n : ℕ) → IsAscending (places n)
+
+-- positions have the order of places
+abbrev pub PositionsAscend : Type 0
+PositionsAscend = (n : ℕ) (p q : Place) → InForest n p.row p.off → InForest n q.row q.off → IsBefore p q ↔ (position n p.row p.off < position n q.row q.off)

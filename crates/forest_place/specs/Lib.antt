@@ -1,0 +1,4 @@
+pub mod Forest
+pub mod Places
+pub mod Position
+pub mod Laws

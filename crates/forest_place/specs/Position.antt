@@ -1,0 +1,25 @@
+-- The number of a place: rows one after another from the leaves up, each with room for all of its places.
+use Rattle.std.specs.Prelude.{ℕ, zero, suc, ◌+◌, ◌-◌, ◌^◌, ◌==◌, if◌then◌else◌, nat_lt, Option, find}
+use Rattle.forest_place.specs.declared.place.Place.{Place}
+use Rattle.forest_place.specs.Places.{places}
+
+-- the least R below k with room for n entries in 2^R, or k
+abbrev pub rows_within : ℕ → ℕ → ℕ
+rows_within zero n = 0
+rows_within (suc k) n = if nat_lt (2 ^ k) n then suc k else rows_within k n
+
+-- the least R with room for n entries in 2^R: the rows above row 0
+abbrev pub rows : ℕ → ℕ
+rows n = rows_within n n
+
+-- the position at which a row begins, where there are this many rows above row 0
+abbrev pub row_start : ℕ → ℕ → ℕ
+row_start top row = 2 ^ (top + 1) - 2 ^ (top + 1 - row)
+
+-- the position of a place of the forest over n
+abbrev pub position : ℕ → ℕ → ℕ → ℕ
+position n row off = row_start (rows n) row + off
+
+-- the place of the forest over n that has a position
+abbrev pub place_at : ℕ → ℕ → Option Place
+place_at n number = find (λ p. position n p.row p.off == number) (places n)

@@ -1,0 +1,12 @@
+//! Places of the forest as rows and offsets, and their positions. No call here takes memory.
+#![tactic(auto)]
+
+mod laws;
+mod numbering;
+mod place;
+#[cfg(test)]
+mod tests;
+
+pub use laws::{places_are_beneath_roots, places_are_listed, positions_ascend};
+pub use numbering::{parent_position, place_of, position, rows};
+pub use place::{Place, children, parent, root_place, sibling, slot_of};

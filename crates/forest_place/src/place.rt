@@ -1,0 +1,80 @@
+//! A place, and the places around it.
+ghost use Rattle.std.specs.Prelude.{◌≡◌, ◌+◌, ◌*◌, ◌/◌, ◌%◌, ◌^◌, ◌<◌, IsTrue, MatchOption};
+ghost use Rattle.forest_place.specs.Forest.{InForest, IsSlotOf, is_slot, root_off, sibling_off};
+
+/// A row of the forest, counted from the leaves up, and an offset in it. Places are ordered as their positions are.
+#[derive(Clone, Copy, Debug, PartialEq, Eq, PartialOrd, Ord, Hash)]
+pub struct Place {
+    pub row: u8,
+    pub off: u64,
+}
+
+/// The row of the slot that has the place. `None` where the forest over `n` entries lacks it.
+pub fn slot_of(place: Place, n: u64) -> Option<u8>
+    requires { n < 2 ^ 40 }
+    ensures { MatchOption result (InForest n place.row place.off → ⊥) (λ h. IsSlotOf n place.row place.off h) }
+{
+    if place.row >= 40 || place.off >= n >> place.row {
+        return None;
+    }
+    // Above the slot's row the first entry of the part has the bits of n.
+    let first = place.off << place.row;
+    Some((n ^ first).ilog2() as u8)
+}
+
+/// The root of a slot. Its tree covers the 2^row entries before the last `n % 2^row`.
+pub fn root_place(row: u8, n: u64) -> Place
+    requires small { n < 2 ^ 40 }
+    requires slot { IsTrue (is_slot n row) }
+    ensures row { result.row ≡ row }
+    ensures off { result.off ≡ root_off n row }
+    ensures covers { result.off * 2 ^ row + 2 ^ row + n % 2 ^ row ≡ n }
+{
+    Place {
+        row,
+        off: (n >> row) - 1,
+    }
+}
+
+/// The place above.
+pub fn parent(place: Place) -> Place
+    requires { place.row < 40 }
+    ensures row { result.row ≡ place.row + 1 }
+    ensures off { result.off ≡ place.off / 2 }
+{
+    Place {
+        row: place.row + 1,
+        off: place.off / 2,
+    }
+}
+
+/// The other child of the place above.
+pub fn sibling(place: Place) -> Place
+    ensures row { result.row ≡ place.row }
+    ensures off { result.off ≡ sibling_off place.off }
+{
+    Place {
+        row: place.row,
+        off: place.off ^ 1,
+    }
+}
+
+/// The left and the right place beneath.
+pub fn children(place: Place) -> (Place, Place)
+    requires row { 0 < place.row }
+    requires off { place.off < 2 ^ 40 }
+    ensures rows { (result.0.row + 1 ≡ place.row) × (result.1.row + 1 ≡ place.row) }
+    ensures left { result.0.off ≡ 2 * place.off }
+    ensures right { result.1.off ≡ 2 * place.off + 1 }
+{
+    let row = place.row - 1;
+    let left = Place {
+        row,
+        off: 2 * place.off,
+    };
+    let right = Place {
+        row,
+        off: 2 * place.off + 1,
+    };
+    (left, right)
+}

@@ -1,0 +1,3 @@
+pub mod Stump
+pub mod Joined
+pub mod Laws
