@@ -9,7 +9,8 @@ use Rattle.uo_base.specs.Reading.{◌>>=◌, bytes_at, number_at, OneReading}
 use Rattle.uo_base.specs.Compact.{compact, compact_at, sized}
 use Rattle.uo_base.proofs.Formats.{Lawful, same, led, ended, tested, one_reading, bytes_lawful, number_lawful, wide32, wide64}
 use Rattle.uo_base.proofs.CompactLaws.{compact_lawful, compact_1, compact_2}
-use Rattle.leaf_record.specs.Leaf.{Outpoint, Rest, Leaf, code_of, rest_text, tag, leaf_text, RestFits, LeafFits}
+use Rattle.leaf_record.specs.declared.leaf.TheConstants.{TAG}
+use Rattle.leaf_record.specs.Leaf.{Outpoint, Rest, Leaf, code_of, payload_text, rest_text, tag, leaf_text, RestFits, LeafFits}
 use Rattle.leaf_record.specs.Reading.{short_count_at, script_at, rest_at}
 use Rattle.leaf_record.specs.Laws.{OneLeaf, LeafTextIsLong}
 
@@ -69,7 +70,7 @@ told r = let back = code_back r.height r.coinbase in rw (back.0, back.1) refl
 -- ---- the rest
 
 pub rest_lawful : Lawful RestFits rest_text rest_at
-unfolding rest_at
+unfolding rest_at rest_text payload_text
 rest_lawful =
     same _ RestFits _ rest_text rest_at
     (led Always (λ xs. length xs ≡ 32) (λ xs. xs) (bytes_at 32) (λ r. r.block.0) _ _ _ (bytes_lawful 32) (λ block _.
@@ -83,7 +84,7 @@ rest_lawful =
     (λ r f. (tt, (f.block, (code_small r.height r.coinbase f.height, (f.amount, (f.script, tt))))))
     (λ r _. regrouped r.block.0 (to_le_bytes w32 (code_of r)) (to_le_bytes w64 r.amount) (sized r.script))
   where
-    regrouped : (b c a s : List ℕ) → b ++ (c ++ (a ++ (s ++ []))) ≡ b ++ c ++ a ++ s
+    regrouped : (b c a s : List ℕ) → b ++ (c ++ (a ++ (s ++ []))) ≡ b ++ (c ++ a ++ s)
     regrouped b c a s = simp (append_assoc, append-nil)
 
 -- ---- the leaf
@@ -93,8 +94,9 @@ abbrev body_text : Leaf → List ℕ
 body_text l = l.rest.block.0 ++ (l.point.txid.0 ++ (to_le_bytes w32 l.point.index ++ (to_le_bytes w32 (code_of l.rest) ++ (to_le_bytes w64 l.rest.amount ++ sized l.rest.script))))
 
 leaf_is : (l : Leaf) → leaf_text l ≡ tag ++ (tag ++ body_text l)
+unfolding leaf_text payload_text
 leaf_is l = regrouped tag l.rest.block.0 l.point.txid.0 (to_le_bytes w32 l.point.index) (to_le_bytes w32 (code_of l.rest)) (to_le_bytes w64 l.rest.amount) (sized l.rest.script) where
-  regrouped : (t b x i c a s : List ℕ) → t ++ t ++ b ++ x ++ i ++ c ++ a ++ s ≡ t ++ (t ++ (b ++ (x ++ (i ++ (c ++ (a ++ s))))))
+  regrouped : (t b x i c a s : List ℕ) → t ++ t ++ b ++ x ++ i ++ (c ++ a ++ s) ≡ t ++ (t ++ (b ++ (x ++ (i ++ (c ++ (a ++ s))))))
   regrouped t b x i c a s = simp append_assoc
 
 body_at : List ℕ → Option (Leaf × List ℕ)
@@ -174,9 +176,6 @@ leaf_long l fits =
 
 -- ---- the tag
 
-pub tag_is : 0x5B ∷ 0x83 ∷ 0x2D ∷ 0xB8 ∷ 0xCA ∷ 0x26 ∷ 0xC2 ∷ 0x5B ∷ 0xE1 ∷ 0xC5 ∷ 0x42 ∷ 0xD6 ∷ 0xCC ∷ 0xED ∷ 0xDD ∷ 0xA8 ∷
-    0xC1 ∷ 0x45 ∷ 0x61 ∷ 0x5C ∷ 0xFF ∷ 0x5C ∷ 0x35 ∷ 0x72 ∷ 0x7F ∷ 0xB3 ∷ 0x46 ∷ 0x26 ∷ 0x10 ∷ 0x80 ∷ 0x7E ∷ 0x20 ∷
-    0xAE ∷ 0x53 ∷ 0x4D ∷ 0xC3 ∷ 0xF6 ∷ 0x42 ∷ 0x99 ∷ 0x19 ∷ 0x99 ∷ 0x31 ∷ 0x77 ∷ 0x2E ∷ 0x03 ∷ 0x78 ∷ 0x7D ∷ 0x18 ∷
-    0x15 ∷ 0x6E ∷ 0xB3 ∷ 0x15 ∷ 0x1E ∷ 0x0E ∷ 0xD1 ∷ 0xB3 ∷ 0x09 ∷ 0x8B ∷ 0xDC ∷ 0x84 ∷ 0x45 ∷ 0x86 ∷ 0x18 ∷ 0x85 ∷ [] ≡ tag
+pub tag_is : TAG ≡ tag
 unfolding first_words schedule rounds compress hash_after digest_bytes sha512 tag
 tag_is = refl

@@ -29,22 +29,22 @@ pub record Leaf : Type 0 where
 abbrev pub code_of : Rest → ℕ
 code_of r = 2 * r.height + (if r.coinbase then 1 else 0)
 
--- what a rest begins with, but for its block
-abbrev pub payload_text : Rest → List ℕ
-payload_text r = to_le_bytes w32 (code_of r) ++ to_le_bytes w64 r.amount ++ sized r.script
+-- code, amount and script, with which both texts end
+unfoldable pub payload_text : ℕ → ℕ → List ℕ → List ℕ
+payload_text code amount script = to_le_bytes w32 code ++ to_le_bytes w64 amount ++ sized script
 
-abbrev pub rest_text : Rest → List ℕ
-rest_text r = r.block.0 ++ to_le_bytes w32 (code_of r) ++ to_le_bytes w64 r.amount ++ sized r.script
+unfoldable pub rest_text : Rest → List ℕ
+rest_text r = r.block.0 ++ payload_text (code_of r) r.amount r.script
 
 -- the 64 bytes that set leaf texts apart from all other texts
 unfoldable pub tag : List ℕ
 tag = sha512 (codes "UtreexoV1")
 
 -- the text that a leaf's digest is taken of
-abbrev pub leaf_text : Leaf → List ℕ
+unfoldable pub leaf_text : Leaf → List ℕ
 leaf_text l =
     tag ++ tag ++ l.rest.block.0 ++ l.point.txid.0 ++ to_le_bytes w32 l.point.index
-    ++ to_le_bytes w32 (code_of l.rest) ++ to_le_bytes w64 l.rest.amount ++ sized l.rest.script
+    ++ payload_text (code_of l.rest) l.rest.amount l.rest.script
 
 -- ---- which have a text
 

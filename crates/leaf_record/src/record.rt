@@ -1,6 +1,6 @@
 //! Records of outputs, owned and as they lie in a source.
 ghost use Rattle.std.specs.Prelude.{◌≡◌, IfOk};
-ghost use Rattle.leaf_record.specs.Leaf.{LeafFits, RestFits};
+ghost use Rattle.leaf_record.specs.Leaf.{LeafFits, RestFits, code_of};
 
 use std::alloc::Global;
 use std::marker::Model;
@@ -100,6 +100,14 @@ impl<'a> RestView<'a> {
             amount: self.amount,
             script: self.script,
         }
+    }
+
+    /// Twice the height, and one more for a coinbase output.
+    pub(crate) fn code(&self) -> u32
+        ensures code { result ≡ code_of self.now }
+        ensures fits { RestFits self.now }
+    {
+        self.height * 2 + u32::from(self.coinbase)
     }
 }
 
