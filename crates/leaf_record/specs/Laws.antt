@@ -1,5 +1,5 @@
 -- What holds of the texts of leaves.
-use Rattle.std.specs.Prelude.{◌≡◌, ℕ, ◌≤◌, length}
+use Rattle.std.specs.Prelude.{◌≡◌, ◌≤◌, length}
 use Rattle.leaf_record.specs.Leaf.{Leaf, LeafFits, leaf_text}
 
 -- different leaves have different texts

@@ -30,6 +30,15 @@ fn put_tag(out: &mut Vec<u8>) -> Result<(), NoMemory>
     Ok(())
 }
 
+fn put_tags(out: &mut Vec<u8>) -> Result<(), NoMemory>
+    ensures text { OnOk result (out.new.items ≡ out.old.items ++ tag ++ tag) }
+    ensures full { OnErr result (vec_capacity out.old < vec_len out.old + length (tag ++ tag)) }
+    ensures capacity { vec_capacity out.old ≤ vec_capacity out.new }
+{
+    put_tag(out)?;
+    put_tag(out)
+}
+
 /// Appends a leaf text: the SHA-512 of `UtreexoV1` twice (128 bytes), the hash of the block that made
 /// the output (32), the transaction's id (32), the index (4), twice the height and one more for a
 /// coinbase output (4), the amount (8), and the script behind its length. It fails only where `out`
@@ -42,8 +51,7 @@ pub fn leaf_text(leaf: &RecordView<'_>, out: &mut Vec<u8>) -> Result<(), NoMemor
     ensures fits { LeafFits leaf.now }
 {
     let rest = leaf.rest();
-    put_tag(out)?;
-    put_tag(out)?;
+    put_tags(out)?;
     out.extend_from_slice(&rest.block.0)?;
     out.extend_from_slice(&leaf.txid.0)?;
     out.extend_from_slice(&leaf.index.to_le_bytes())?;
