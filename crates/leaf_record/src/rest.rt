@@ -105,10 +105,12 @@ pub(crate) fn put_payload(
     Ok(())
 }
 
-/// Appends the one text of a rest.
+/// Appends the one text of a rest. It fails only where `out` has no room for it.
 #[tactic(auto, unfolding(crate::specs::Leaf::rest_text))]
 pub fn write_rest(rest: &RestView<'_>, out: &mut Vec<u8>) -> Result<(), NoMemory>
     ensures text { OnOk result (out.new.items ≡ out.old.items ++ rest_text rest.now) }
+    ensures full { OnErr result (vec_capacity out.old < vec_len out.old + length (rest_text rest.now)) }
+    ensures capacity { vec_capacity out.old ≤ vec_capacity out.new }
     ensures fits { RestFits rest.now }
 {
     let code = rest.code();
