@@ -1,0 +1,10 @@
+//! Proof messages: what comes beside a block and shows that the outputs that it spends are in the forest.
+#![tactic(auto)]
+
+mod fault;
+mod reading;
+mod view;
+
+pub use fault::MessageFault;
+pub use reading::read_message;
+pub use view::MessageView;
