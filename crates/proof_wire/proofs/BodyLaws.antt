@@ -1,12 +1,12 @@
 -- The reading of a body, part by part.
-use Rattle.std.proofs.Common.{◌≡◌, ◌≢◌, ℕ, ◌*◌, ◌/◌, ◌^◌, ◌≤◌, cond, eqb, List, [], ◌∷◌, ◌++◌, length, drop, get_or, true, false, Option, Some, None, refl, sym, ap, ◌∙◌, arith}
+use Rattle.std.proofs.Common.{◌≡◌, ◌≢◌, ℕ, ◌-◌, ◌*◌, ◌/◌, ◌^◌, ◌≤◌, cond, eqb, List, [], ◌∷◌, ◌++◌, length, take, drop, get_or, true, false, Option, Some, None, refl, sym, ap, ◌∙◌, arith}
 use Rattle.std.specs.Prelude.{Result, Ok, Err, IfOk, IsErrOf}
 use Rattle.std.specs.Borrow.{Bor}
 use Rattle.std.specs.Global.{Vec}
 use Rattle.std.specs.Int.{w64, from_le_bytes}
 use Rattle.std.specs.List.{AllByRecursion}
 use Rattle.std.proofs.lemmas.Bool.{eqb-true}
-use Rattle.std.proofs.lemmas.List.{nil_from_length}
+use Rattle.std.proofs.lemmas.List.{nil_from_length, take_rest}
 use Rattle.uo_base.specs.Reading.{IsBytes, ◌>>=◌, number_at, times}
 use Rattle.uo_base.specs.Compact.{counted_at}
 use Rattle.uo_base.proofs.Formats.{found}
@@ -90,10 +90,10 @@ full_version (Err NoMemory) bytes gives v is = cc
 full_version (Err (Version u)) bytes gives v is = gives
 
 -- a text that begins with two bytes
-pub front_two : (text : List ℕ) (a b : ℕ) → 2 ≤ length text → get_or text 0 0 ≡ a → get_or text 1 0 ≡ b → text ≡ a ∷ b ∷ drop 2 text
+pub front_two : (text : List ℕ) (a b : ℕ) → 2 ≤ length text → get_or text 0 0 ≡ a → get_or text 1 0 ≡ b → text ≡ a ∷ b ∷ take (length text - 2) (drop 2 text)
 front_two [] a b long ea eb = absurd (omega arith)
 front_two (x ∷ []) a b long ea eb = absurd (omega arith)
-front_two (x ∷ y ∷ rest) a b long ea eb = rw (← ea, ← eb) refl
+front_two (x ∷ y ∷ rest) a b long ea eb = rw (take_rest (x ∷ y ∷ rest) 2, ← ea, ← eb) refl
 
 -- version and kind stand before what was read
 pub behind_front : (r : Result BlockProof MessageFault) (text body : List ℕ) → text ≡ 1 ∷ 0 ∷ body → IfOk r (λ m. ProofFits m × (body ≡ body_text m))
