@@ -2,9 +2,11 @@
 #![tactic(auto)]
 
 mod fault;
+mod message;
 mod reading;
 mod view;
 
 pub use fault::MessageFault;
+pub use message::{Message, one_message};
 pub use reading::read_message;
 pub use view::MessageView;
