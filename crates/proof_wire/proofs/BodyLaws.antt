@@ -1,5 +1,5 @@
 -- The reading of a body, part by part.
-use Rattle.std.proofs.Common.{◌≡◌, ◌≢◌, ℕ, ◌-◌, ◌*◌, ◌/◌, ◌^◌, ◌≤◌, cond, eqb, List, [], ◌∷◌, ◌++◌, length, take, drop, get_or, true, false, Option, Some, None, refl, sym, ap, ◌∙◌, arith}
+use Rattle.std.proofs.Common.{◌≡◌, ℕ, ◌-◌, ◌*◌, ◌/◌, ◌≤◌, eqb, List, [], ◌∷◌, length, take, drop, get_or, true, false, Some, None, refl, sym, ap, ◌∙◌, arith}
 use Rattle.std.specs.Prelude.{Result, Ok, Err, IfOk, IsErrOf}
 use Rattle.std.specs.Borrow.{Bor}
 use Rattle.std.specs.Global.{Vec}
@@ -7,7 +7,7 @@ use Rattle.std.specs.Int.{w64, from_le_bytes}
 use Rattle.std.specs.List.{AllByRecursion}
 use Rattle.std.proofs.lemmas.Bool.{eqb-true}
 use Rattle.std.proofs.lemmas.List.{nil_from_length, take_rest}
-use Rattle.uo_base.specs.Reading.{IsBytes, ◌>>=◌, number_at, times}
+use Rattle.uo_base.specs.Reading.{IsBytes, number_at, times}
 use Rattle.uo_base.specs.Compact.{counted_at}
 use Rattle.uo_base.proofs.Formats.{found}
 use Rattle.uo_base.proofs.Walks.{times-length}
@@ -18,7 +18,7 @@ use Rattle.proof_wire.specs.declared.fault.MessageFault.{MessageFault}
 use Rattle.proof_wire.specs.declared.fault.MessageFault.TheVariants.{NotAMessage, Version, NoMemory}
 use Rattle.proof_wire.specs.BlockProof.{BlockProof, ProofFits, body_text, message_text}
 use Rattle.proof_wire.specs.Reading.{digest_at, spends_of, body_at, whole_at, GivesOrFails}
-use Rattle.proof_wire.specs.Views.{targets_in, hashes_in, rests_in, BeginsWithRest, IsView}
+use Rattle.proof_wire.specs.Views.{targets_in, rests_in, BeginsWithRest, IsView}
 use Rattle.proof_wire.proofs.ProofLaws.{whole_took, no_body}
 use Rattle.proof_wire.proofs.EvenParts.{targets_even}
 use Rattle.proof_wire.proofs.ViewLaws.{length-parts, length-rests}

@@ -1,12 +1,12 @@
 -- What a message says is a lawful format.
-use Rattle.std.proofs.Common.{◌≡◌, ℕ, zero, suc, ◌^◌, ◌<◌, cond, eqb, List, [], ◌∷◌, ◌++◌, length, map, Option, Some, None, refl, sym, ap, subst, ◌∙◌, append_assoc, arith}
+use Rattle.std.proofs.Common.{◌≡◌, ℕ, ◌^◌, ◌<◌, cond, eqb, List, [], ◌∷◌, ◌++◌, length, Some, None, refl, sym, ap, subst, ◌∙◌, append_assoc, arith}
 use Rattle.std.specs.Int.{w64, to_le_bytes}
 use Rattle.std.specs.List.{flat_map, AllByRecursion}
 use Rattle.std.proofs.lemmas.Bool.{eqb-true}
 use Rattle.std.proofs.lemmas.List.{append-nil, nil_from_length, length-map}
 use Rattle.uo_base.specs.Reading.{IsBytes, ◌>>=◌, bytes_at, number_at, times, OneReading}
 use Rattle.uo_base.specs.Compact.{counted, counted_at}
-use Rattle.uo_base.proofs.Formats.{Lawful, same, led, ended, repeated, bytes_lawful, number_lawful, wide64, bind_some, passed, not_both, one_reading, some_is}
+use Rattle.uo_base.proofs.Formats.{Lawful, same, led, ended, repeated, bytes_lawful, number_lawful, wide64, bind_some, passed, not_both, one_reading}
 use Rattle.uo_base.proofs.CompactLaws.{AreCounted, counted_lawful}
 use Rattle.uo_digest.specs.declared.digest.Digest.{Digest}
 use Rattle.leaf_record.specs.Leaf.{Rest, RestFits, rest_text}
@@ -109,8 +109,8 @@ body_lawful =
       hashes = f.1.1.1.0.1;
     })
     (λ p f.
-      let parts = parts_fit p.spends f.spends in
-      (tt, ((rw length-map f.count_of_spends, parts.0), (parts.1, ((f.count_of_hashes, f.hashes), tt)))))
+    let parts = parts_fit p.spends f.spends in
+    (tt, ((rw length-map f.count_of_spends, parts.0), (parts.1, ((f.count_of_hashes, f.hashes), tt)))))
     (λ p _. regrouped (counted (to_le_bytes w64) (targets_of p.spends)) (flat_map rest_text (rests_of p.spends)) (counted digest_text p.hashes))
   where
     regrouped : (t r h : List ℕ) → t ++ (r ++ (h ++ [])) ≡ t ++ r ++ h

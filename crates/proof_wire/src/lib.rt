@@ -4,6 +4,8 @@
 mod fault;
 mod message;
 mod reading;
+#[cfg(test)]
+mod tests;
 mod view;
 
 pub use fault::MessageFault;

@@ -1,4 +1,4 @@
-use Rattle.std.proofs.Common.{List, ℕ, ◌≡◌, ◌<◌, sym, ap, ◌∙◌, arith}
+use Rattle.std.proofs.Common.{List, ℕ, sym, ap, ◌∙◌, arith}
 use Rattle.uo_digest.specs.declared.digest.Digest.{Digest}
 use Rattle.uo_base.proofs.Formats.{found}
 use Rattle.proof_wire.proofs.ViewLaws.{hash_within, hash_index}

@@ -1,7 +1,6 @@
-use Rattle.std.proofs.Common.{rules, ◌≡◌, ◌<◌, length, sym, ap, ◌∙◌, arith}
+use Rattle.std.proofs.Common.{sym, ap, ◌∙◌, arith}
 use Rattle.std.specs.Prelude.{option_map}
 use Rattle.leaf_record.specs.Reading.{rest_at}
-use Rattle.uo_base.proofs.Formats.{not_both}
 use Rattle.proof_wire.proofs.ViewLaws.{index_within, rests_are, rest_index, not_none}
 use Rattle.proof_wire.proofs.view.MessageView.rest.Goals as goal
 

@@ -1,4 +1,4 @@
-use Rattle.std.proofs.Common.{sym, ◌∙◌, arith}
+use Rattle.std.proofs.Common.{arith}
 use Rattle.proof_wire.proofs.ViewLaws.{count_of_spends}
 use Rattle.proof_wire.proofs.view.MessageView.spends.Goals as goal
 

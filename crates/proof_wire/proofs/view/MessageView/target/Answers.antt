@@ -1,4 +1,4 @@
-use Rattle.std.proofs.Common.{◌≡◌, ◌<◌, sym, ap, ◌∙◌, arith}
+use Rattle.std.proofs.Common.{sym, ap, ◌∙◌, arith}
 use Rattle.std.specs.Int.{w64, from_le_bytes}
 use Rattle.uo_base.proofs.Formats.{found}
 use Rattle.proof_wire.proofs.ViewLaws.{index_within, targets_are, target_index}
