@@ -1,5 +1,6 @@
 //! The text that a leaf's digest is taken of.
 ghost use Rattle.std.specs.Prelude.{◌≡◌, ◌+◌, ◌<◌, ◌≤◌, ◌++◌, length, vec_len, vec_capacity, IfOk, OnOk, OnErr};
+ghost use Rattle.uo_base.specs.Moved.{Grew};
 ghost use Rattle.leaf_record.specs.Leaf.{LeafFits, tag, leaf_text};
 
 use crate::record::RecordView;
@@ -22,7 +23,8 @@ const TAG: [u8; 64] = [
 const MAX_LEAF_TEXT: usize = 10_211;
 
 fn put_tag(out: &mut Vec<u8>) -> Result<(), NoMemory>
-    ensures text { OnOk result (out.new.items ≡ out.old.items ++ tag) }
+    ensures ok { OnOk result (out.new.items ≡ out.old.items ++ tag) }
+    ensures err { OnErr result (out.new.items ≡ out.old.items) }
     ensures full { OnErr result (vec_capacity out.old < vec_len out.old + length tag) }
     ensures capacity { vec_capacity out.old ≤ vec_capacity out.new }
 {
@@ -31,7 +33,8 @@ fn put_tag(out: &mut Vec<u8>) -> Result<(), NoMemory>
 }
 
 fn put_tags(out: &mut Vec<u8>) -> Result<(), NoMemory>
-    ensures text { OnOk result (out.new.items ≡ out.old.items ++ tag ++ tag) }
+    ensures ok { OnOk result (out.new.items ≡ out.old.items ++ tag ++ tag) }
+    ensures err { OnErr result (Grew out.old.items out.new.items) }
     ensures full { OnErr result (vec_capacity out.old < vec_len out.old + length (tag ++ tag)) }
     ensures capacity { vec_capacity out.old ≤ vec_capacity out.new }
 {
@@ -39,13 +42,10 @@ fn put_tags(out: &mut Vec<u8>) -> Result<(), NoMemory>
     put_tag(out)
 }
 
-/// Appends a leaf text: the SHA-512 of `UtreexoV1` twice (128 bytes), the hash of the block that made
-/// the output (32), the transaction's id (32), the index (4), twice the height and one more for a
-/// coinbase output (4), the amount (8), and the script behind its length. It fails only where `out`
-/// has no room for it.
 #[tactic(auto, unfolding(crate::specs::Leaf::leaf_text))]
-pub fn leaf_text(leaf: &RecordView<'_>, out: &mut Vec<u8>) -> Result<(), NoMemory>
-    ensures text { OnOk result (out.new.items ≡ out.old.items ++ leaf_text leaf.now) }
+fn put_leaf(leaf: &RecordView<'_>, out: &mut Vec<u8>) -> Result<(), NoMemory>
+    ensures ok { OnOk result (out.new.items ≡ out.old.items ++ leaf_text leaf.now) }
+    ensures err { OnErr result (Grew out.old.items out.new.items) }
     ensures full { OnErr result (vec_capacity out.old < vec_len out.old + length (leaf_text leaf.now)) }
     ensures capacity { vec_capacity out.old ≤ vec_capacity out.new }
     ensures fits { LeafFits leaf.now }
@@ -57,6 +57,28 @@ pub fn leaf_text(leaf: &RecordView<'_>, out: &mut Vec<u8>) -> Result<(), NoMemor
     out.extend_from_slice(&leaf.index.to_le_bytes())?;
     put_payload(rest.code(), rest.amount, rest.script, out)?;
     Ok(())
+}
+
+/// Appends a leaf text: the SHA-512 of `UtreexoV1` twice (128 bytes), the hash of the block that made the output (32), the
+/// transaction's id (32), the index (4), twice the height and one more for a coinbase output (4), the amount (8), and the
+/// script behind its length. Where there is no memory, the text before it stays as it was.
+pub fn leaf_text(leaf: &RecordView<'_>, out: &mut Vec<u8>) -> Result<(), NoMemory>
+    ensures ok { OnOk result (out.new.items ≡ out.old.items ++ leaf_text leaf.now) }
+    ensures err { OnErr result (out.new.items ≡ out.old.items) }
+    // It fails only where room was missing.
+    ensures full { OnErr result (vec_capacity out.old < vec_len out.old + length (leaf_text leaf.now)) }
+    ensures capacity { vec_capacity out.old ≤ vec_capacity out.new }
+    // The text tells the leaf.
+    ensures fits { LeafFits leaf.now }
+{
+    let start = out.len();
+    match put_leaf(leaf, out) {
+        Ok(()) => Ok(()),
+        Err(NoMemory) => {
+            out.truncate(start);
+            Err(NoMemory)
+        }
+    }
 }
 
 /// Room for one leaf text. Contracts see how many bytes it has room for.

@@ -1,5 +1,6 @@
 //! What a message shows of an output: reading and writing it.
 ghost use Rattle.std.specs.Prelude.{◌≡◌, ◌+◌, ◌<◌, ◌≤◌, ◌++◌, length, vec_len, vec_capacity, IfSome, OnOk, OnErr};
+ghost use Rattle.uo_base.specs.Moved.{Grew};
 ghost use Rattle.uo_base.specs.Reading.{Gives, Splits, Finds, Reads};
 ghost use Rattle.uo_base.specs.Compact.{sized};
 ghost use Rattle.leaf_record.specs.Leaf.{RestFits, payload_text, rest_text};
@@ -78,7 +79,8 @@ pub fn read_rest<'a>(at: &mut Cursor<'a>) -> Option<RestView<'a>>
 
 /// Appends a script behind its length.
 fn put_script(script: &[u8], out: &mut Vec<u8>) -> Result<(), NoMemory>
-    ensures text { OnOk result (out.new.items ≡ out.old.items ++ sized script.now) }
+    ensures ok { OnOk result (out.new.items ≡ out.old.items ++ sized script.now) }
+    ensures err { OnErr result (Grew out.old.items out.new.items) }
     ensures full { OnErr result (vec_capacity out.old < vec_len out.old + length (sized script.now)) }
     ensures capacity { vec_capacity out.old ≤ vec_capacity out.new }
 {
@@ -95,7 +97,8 @@ pub(crate) fn put_payload(
     script: &[u8],
     out: &mut Vec<u8>,
 ) -> Result<(), NoMemory>
-    ensures text { OnOk result (out.new.items ≡ out.old.items ++ payload_text code amount script.now) }
+    ensures ok { OnOk result (out.new.items ≡ out.old.items ++ payload_text code amount script.now) }
+    ensures err { OnErr result (Grew out.old.items out.new.items) }
     ensures full { OnErr result (vec_capacity out.old < vec_len out.old + length (payload_text code amount script.now)) }
     ensures capacity { vec_capacity out.old ≤ vec_capacity out.new }
 {
@@ -105,10 +108,10 @@ pub(crate) fn put_payload(
     Ok(())
 }
 
-/// Appends the one text of a rest. It fails only where `out` has no room for it.
 #[tactic(auto, unfolding(crate::specs::Leaf::rest_text))]
-pub fn write_rest(rest: &RestView<'_>, out: &mut Vec<u8>) -> Result<(), NoMemory>
-    ensures text { OnOk result (out.new.items ≡ out.old.items ++ rest_text rest.now) }
+fn put_rest(rest: &RestView<'_>, out: &mut Vec<u8>) -> Result<(), NoMemory>
+    ensures ok { OnOk result (out.new.items ≡ out.old.items ++ rest_text rest.now) }
+    ensures err { OnErr result (Grew out.old.items out.new.items) }
     ensures full { OnErr result (vec_capacity out.old < vec_len out.old + length (rest_text rest.now)) }
     ensures capacity { vec_capacity out.old ≤ vec_capacity out.new }
     ensures fits { RestFits rest.now }
@@ -117,4 +120,24 @@ pub fn write_rest(rest: &RestView<'_>, out: &mut Vec<u8>) -> Result<(), NoMemory
     out.extend_from_slice(&rest.block.0)?;
     put_payload(code, rest.amount, rest.script, out)?;
     Ok(())
+}
+
+/// Appends the one text of a rest. Where there is no memory, the text before it stays as it was.
+pub fn write_rest(rest: &RestView<'_>, out: &mut Vec<u8>) -> Result<(), NoMemory>
+    ensures ok { OnOk result (out.new.items ≡ out.old.items ++ rest_text rest.now) }
+    ensures err { OnErr result (out.new.items ≡ out.old.items) }
+    // It fails only where room was missing.
+    ensures full { OnErr result (vec_capacity out.old < vec_len out.old + length (rest_text rest.now)) }
+    ensures capacity { vec_capacity out.old ≤ vec_capacity out.new }
+    // What was written is a rest, so it is read again.
+    ensures fits { RestFits rest.now }
+{
+    let start = out.len();
+    match put_rest(rest, out) {
+        Ok(()) => Ok(()),
+        Err(NoMemory) => {
+            out.truncate(start);
+            Err(NoMemory)
+        }
+    }
 }

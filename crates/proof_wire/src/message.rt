@@ -2,6 +2,7 @@
 ghost use Rattle.std.specs.Prelude.{◌≡◌, ◌∷◌, ◌++◌, [], map, IfOk, OnOk, OnErr};
 ghost use Rattle.std.specs.Int.{w64, to_le_bytes};
 ghost use Rattle.std.specs.List.{flat_map};
+ghost use Rattle.uo_base.specs.Moved.{Grew};
 ghost use Rattle.uo_base.specs.Reading.{OneReading};
 ghost use Rattle.uo_base.specs.Compact.{counted};
 ghost use Rattle.leaf_record.specs.Leaf.{RestFits, rest_text};
@@ -115,10 +116,10 @@ impl Message {
         Ok(())
     }
 
-    /// Appends the one text of the message.
     #[tactic(auto, unfolding(crate::specs::BlockProof::body_text))]
-    pub fn write(&self, out: &mut Vec<u8>) -> Result<(), NoMemory>
-        ensures text { OnOk result (out.new.items ≡ out.old.items ++ message_text self.now) }
+    fn put(&self, out: &mut Vec<u8>) -> Result<(), NoMemory>
+        ensures ok { OnOk result (out.new.items ≡ out.old.items ++ message_text self.now) }
+        ensures err { OnErr result (Grew out.old.items out.new.items) }
         ensures fits { ProofFits self.now }
     {
         let spends = self.spends.as_slice();
@@ -128,10 +129,28 @@ impl Message {
         put_hashes(&self.hashes, out)?;
         Ok(())
     }
+
+    /// Appends the one text of the message. Where there is no memory, the text before it stays as it was.
+    pub fn write(&self, out: &mut Vec<u8>) -> Result<(), NoMemory>
+        ensures ok { OnOk result (out.new.items ≡ out.old.items ++ message_text self.now) }
+        ensures err { OnErr result (out.new.items ≡ out.old.items) }
+        // What was written is a message, so it is read again.
+        ensures fits { ProofFits self.now }
+    {
+        let start = out.len();
+        match self.put(out) {
+            Ok(()) => Ok(()),
+            Err(NoMemory) => {
+                out.truncate(start);
+                Err(NoMemory)
+            }
+        }
+    }
 }
 
 fn put_targets(spends: &[OwnedSpend], out: &mut Vec<u8>) -> Result<(), NoMemory>
-    ensures { OnOk result (out.new.items ≡ out.old.items ++ counted (to_le_bytes w64) (targets_of spends.now)) }
+    ensures ok { OnOk result (out.new.items ≡ out.old.items ++ counted (to_le_bytes w64) (targets_of spends.now)) }
+    ensures err { OnErr result (Grew out.old.items out.new.items) }
 {
     put_compact(out, spends.len() as u64)?;
     for spend in spends {
@@ -141,7 +160,8 @@ fn put_targets(spends: &[OwnedSpend], out: &mut Vec<u8>) -> Result<(), NoMemory>
 }
 
 fn put_rests(spends: &[OwnedSpend], out: &mut Vec<u8>) -> Result<(), NoMemory>
-    ensures { OnOk result (out.new.items ≡ out.old.items ++ flat_map rest_text (rests_of spends.now)) }
+    ensures ok { OnOk result (out.new.items ≡ out.old.items ++ flat_map rest_text (rests_of spends.now)) }
+    ensures err { OnErr result (Grew out.old.items out.new.items) }
 {
     for spend in spends {
         write_rest(&spend.rest(), out)?;
@@ -150,7 +170,8 @@ fn put_rests(spends: &[OwnedSpend], out: &mut Vec<u8>) -> Result<(), NoMemory>
 }
 
 fn put_hashes(hashes: &[Digest], out: &mut Vec<u8>) -> Result<(), NoMemory>
-    ensures { OnOk result (out.new.items ≡ out.old.items ++ counted digest_text hashes.now) }
+    ensures ok { OnOk result (out.new.items ≡ out.old.items ++ counted digest_text hashes.now) }
+    ensures err { OnErr result (Grew out.old.items out.new.items) }
 {
     put_compact(out, hashes.len() as u64)?;
     for hash in hashes {
