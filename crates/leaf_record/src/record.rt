@@ -7,7 +7,7 @@ use std::marker::Model;
 use uo_base::NoMemory;
 use uo_digest::Digest;
 
-/// The most bytes that the script of a spendable output has.
+/// The most bytes that the script of a record has: an output with a longer one can not be spent.
 pub const MAX_SCRIPT: usize = 10_000;
 
 /// An output that a block made, with a script of its own; contracts see it as a leaf of the forest.
@@ -42,6 +42,8 @@ impl Model for Record {
 }
 
 /// The same where the script lies in a source.
+///
+/// The height is below 2^31, and the script has at most 10,000 bytes.
 #[derive(Debug, Drop)]
 pub struct RecordView<'a> {
     pub block: Digest,
@@ -65,6 +67,8 @@ impl<'a> Model for RecordView<'a> {
 }
 
 /// What a record is without the output's name, as a message shows it.
+///
+/// The height is below 2^31, and the script has at most 10,000 bytes.
 #[derive(Debug, Drop)]
 pub struct RestView<'a> {
     pub block: Digest,
