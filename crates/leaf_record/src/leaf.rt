@@ -1,0 +1,126 @@
+//! The text that a leaf's digest is taken of.
+ghost use Rattle.std.specs.Prelude.{◌≡◌, ◌+◌, ◌<◌, ◌≤◌, ◌++◌, length, vec_len, vec_capacity, IfOk, OnOk, OnErr};
+ghost use Rattle.uo_base.specs.Moved.{Grew};
+ghost use Rattle.leaf_record.specs.Leaf.{LeafFits, tag, leaf_text};
+
+use crate::record::RecordView;
+use crate::rest::put_payload;
+use std::alloc::Global;
+use std::marker::Model;
+use std::sync::ledger::Ledger;
+use uo_base::NoMemory;
+use uo_digest::{Digest, Digester, Steps};
+
+/// SHA-512 of `UtreexoV1`.
+const TAG: [u8; 64] = [
+    0x5b, 0x83, 0x2d, 0xb8, 0xca, 0x26, 0xc2, 0x5b, 0xe1, 0xc5, 0x42, 0xd6, 0xcc, 0xed, 0xdd, 0xa8,
+    0xc1, 0x45, 0x61, 0x5c, 0xff, 0x5c, 0x35, 0x72, 0x7f, 0xb3, 0x46, 0x26, 0x10, 0x80, 0x7e, 0x20,
+    0xae, 0x53, 0x4d, 0xc3, 0xf6, 0x42, 0x99, 0x19, 0x99, 0x31, 0x77, 0x2e, 0x03, 0x78, 0x7d, 0x18,
+    0x15, 0x6e, 0xb3, 0x15, 0x1e, 0x0e, 0xd1, 0xb3, 0x09, 0x8b, 0xdc, 0x84, 0x45, 0x86, 0x18, 0x85,
+];
+
+/// The most bytes that a leaf text has.
+const MAX_LEAF_TEXT: usize = 10_211;
+
+fn put_tag(out: &mut Vec<u8>) -> Result<(), NoMemory>
+    ensures ok { OnOk result (out.new.items ≡ out.old.items ++ tag) }
+    ensures err { OnErr result (out.new.items ≡ out.old.items) }
+    ensures full { OnErr result (vec_capacity out.old < vec_len out.old + length tag) }
+    ensures capacity { vec_capacity out.old ≤ vec_capacity out.new }
+{
+    out.extend_from_slice(&TAG)?;
+    Ok(())
+}
+
+fn put_tags(out: &mut Vec<u8>) -> Result<(), NoMemory>
+    ensures ok { OnOk result (out.new.items ≡ out.old.items ++ tag ++ tag) }
+    ensures err { OnErr result (Grew out.old.items out.new.items) }
+    ensures full { OnErr result (vec_capacity out.old < vec_len out.old + length (tag ++ tag)) }
+    ensures capacity { vec_capacity out.old ≤ vec_capacity out.new }
+{
+    put_tag(out)?;
+    put_tag(out)
+}
+
+#[tactic(auto, unfolding(crate::specs::Leaf::leaf_text))]
+fn put_leaf(leaf: &RecordView<'_>, out: &mut Vec<u8>) -> Result<(), NoMemory>
+    ensures ok { OnOk result (out.new.items ≡ out.old.items ++ leaf_text leaf.now) }
+    ensures err { OnErr result (Grew out.old.items out.new.items) }
+    ensures full { OnErr result (vec_capacity out.old < vec_len out.old + length (leaf_text leaf.now)) }
+    ensures capacity { vec_capacity out.old ≤ vec_capacity out.new }
+    ensures fits { LeafFits leaf.now }
+{
+    let rest = leaf.rest();
+    put_tags(out)?;
+    out.extend_from_slice(&rest.block.0)?;
+    out.extend_from_slice(&leaf.txid.0)?;
+    out.extend_from_slice(&leaf.index.to_le_bytes())?;
+    put_payload(rest.code(), rest.amount, rest.script, out)?;
+    Ok(())
+}
+
+/// Appends a leaf text: the SHA-512 of `UtreexoV1` twice (128 bytes), the hash of the block that made the output (32), the
+/// transaction's id (32), the index (4), twice the height and one more for a coinbase output (4), the amount (8), and the
+/// script behind its length. Where there is no memory, the text before it stays as it was.
+pub fn leaf_text(leaf: &RecordView<'_>, out: &mut Vec<u8>) -> Result<(), NoMemory>
+    ensures ok { OnOk result (out.new.items ≡ out.old.items ++ leaf_text leaf.now) }
+    ensures err { OnErr result (out.new.items ≡ out.old.items) }
+    // It fails only where room was missing.
+    ensures full { OnErr result (vec_capacity out.old < vec_len out.old + length (leaf_text leaf.now)) }
+    ensures capacity { vec_capacity out.old ≤ vec_capacity out.new }
+    // The text tells the leaf.
+    ensures fits { LeafFits leaf.now }
+{
+    let start = out.len();
+    match put_leaf(leaf, out) {
+        Ok(()) => Ok(()),
+        Err(NoMemory) => {
+            out.truncate(start);
+            Err(NoMemory)
+        }
+    }
+}
+
+/// Room for one leaf text. Contracts see how many bytes it has room for.
+#[derive(Drop)]
+pub struct LeafBuf {
+    bytes: Vec<u8>,
+}
+
+impl Model for LeafBuf {
+    ghost use Rattle.std.specs.Prelude.{ℕ, ◌≤◌, vec_capacity};
+
+    ghost Value = { ℕ };
+
+    ghost view = { λ b. vec_capacity b.bytes };
+
+    ghost invariant = { λ b. 10211 ≤ vec_capacity b.bytes };
+}
+
+impl LeafBuf {
+    /// Takes the memory that digesting leaves needs.
+    pub fn new(alloc: Global) -> Result<LeafBuf, NoMemory>
+        ensures { IfOk result (λ room. room ≡ 10211) }
+    {
+        Ok(LeafBuf {
+            bytes: Vec::with_capacity(alloc, MAX_LEAF_TEXT)?,
+        })
+    }
+}
+
+/// The digest of a leaf's text, in one step. It takes no memory.
+pub fn leaf_digest<D: Digester, L: Ledger>(
+    buf: &mut LeafBuf,
+    leaf: &RecordView<'_>,
+    steps: &mut Steps<L>,
+) -> Digest
+    ensures value { result ≡ D.digest_of (leaf_text leaf.now) }
+    ensures step { steps.new ≡ steps.old + 1 }
+    ensures fits { LeafFits leaf.now }
+{
+    buf.bytes.clear();
+    match leaf_text(leaf, &mut buf.bytes) {
+        Ok(()) => D::digest(&buf.bytes, steps),
+        Err(_) => unreachable!(),
+    }
+}

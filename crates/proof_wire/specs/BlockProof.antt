@@ -1,0 +1,54 @@
+-- What a proof message says beside a block, and its one text.
+use Rattle.std.specs.Prelude.{◌≡◌, ℕ, ◌<◌, ◌^◌, List, ◌∷◌, ◌++◌, length, map}
+use Rattle.std.specs.List.{flat_map, AllByRecursion}
+use Rattle.std.specs.Int.{w64, to_le_bytes}
+use Rattle.uo_base.specs.Compact.{counted}
+use Rattle.uo_digest.specs.declared.digest.Digest.{Digest}
+use Rattle.leaf_record.specs.Leaf.{Rest, RestFits, rest_text}
+
+-- where the leaf of a spent output stands, and what the output is beside its name
+pub record Spend : Type 0 where
+  pub target : ℕ
+  pub rest : Rest
+
+-- one spend for each output that the block takes from the forest, in the block's order, and the hashes
+-- that are needed besides, in ascending position
+pub record BlockProof : Type 0 where
+  pub spends : List Spend
+  pub hashes : List Digest
+
+abbrev pub targets_of : List Spend → List ℕ
+targets_of spends = map (λ s. s.target) spends
+
+abbrev pub rests_of : List Spend → List Rest
+rests_of spends = map (λ s. s.rest) spends
+
+-- ---- its text
+
+abbrev pub digest_text : Digest → List ℕ
+digest_text d = d.0
+
+-- what follows version and kind
+unfoldable pub body_text : BlockProof → List ℕ
+body_text p =
+    counted (to_le_bytes w64) (targets_of p.spends) ++ flat_map rest_text (rests_of p.spends)
+    ++ counted digest_text p.hashes
+
+-- the version 1, the kind 0 and the body
+abbrev pub message_text : BlockProof → List ℕ
+message_text p = 1 ∷ 0 ∷ body_text p
+
+-- ---- which have a text
+
+pub record SpendFits (s : Spend) : Type 0 where
+  pub target : s.target < 2 ^ 64
+  pub rest : RestFits s.rest
+
+abbrev pub HashFits : Digest → Type 0
+HashFits d = length d.0 ≡ 32
+
+pub record ProofFits (p : BlockProof) : Type 0 where
+  pub count_of_spends : length p.spends < 2 ^ 64
+  pub spends : AllByRecursion SpendFits p.spends
+  pub count_of_hashes : length p.hashes < 2 ^ 64
+  pub hashes : AllByRecursion HashFits p.hashes

@@ -1,0 +1,109 @@
+//! Reading a message.
+ghost use Rattle.std.specs.Prelude.{◌≡◌, ◌≢◌, ◌↔◌, ◌*◌, ◌/◌, ◌<◌, ℕ, [], Some, length, slice_get, IfSome, IfOk, IsErrOf};
+ghost use Rattle.std.specs.Int.{w64};
+ghost use Rattle.std.specs.List.{AllByRecursion};
+ghost use Rattle.uo_base.specs.Reading.{Gives, number_at, times};
+ghost use Rattle.uo_base.specs.Compact.{counted_at};
+ghost use Rattle.leaf_record.specs.Reading.{rest_at};
+ghost use Rattle.proof_wire.specs.BlockProof.{BlockProof, ProofFits, body_text, message_text};
+ghost use Rattle.proof_wire.specs.Reading.{digest_at, parts_at, whole_at, GivesOrFails};
+ghost use Rattle.proof_wire.specs.Views.{targets_in, rests_in, hashes_in, BeginsWithRest};
+
+use crate::fault::MessageFault;
+use crate::view::MessageView;
+use leaf_record::read_rest;
+use std::alloc::Global;
+use uo_base::Cursor;
+
+/// The parts of this size behind their count.
+#[tactic(auto, unfolding(crate::specs::Reading::parts_at))]
+fn take_parts<'a>(at: &mut Cursor<'a>, size: u64) -> Option<&'a [u8]>
+    requires { 0 < size }
+    ensures { Gives (λ s. s.now) result at.new (parts_at size at.old) }
+{
+    let count = at.compact()?;
+    if count > at.rest().len() as u64 / size {
+        return None;
+    }
+    at.take((count * size) as usize)
+}
+
+fn read_targets<'a>(at: &mut Cursor<'a>) -> Option<&'a [u8]>
+    ensures exact { Gives (λ s. targets_in s.now) result at.new (counted_at (number_at w64) at.old) }
+    ensures even { IfSome result (λ s. 8 * (length s.now / 8) ≡ length s.now) }
+{
+    take_parts(at, 8)
+}
+
+fn read_hashes<'a>(at: &mut Cursor<'a>) -> Option<&'a [u8]>
+    ensures exact { Gives (λ s. hashes_in s.now) result at.new (counted_at digest_at at.old) }
+    ensures even { IfSome result (λ s. 32 * (length s.now / 32) ≡ length s.now) }
+{
+    take_parts(at, 32)
+}
+
+/// Where each of this many rests begins.
+fn read_starts<'a>(
+    alloc: Global,
+    at: &mut Cursor<'a>,
+    count: u64,
+) -> Result<Vec<&'a [u8]>, MessageFault>
+    ensures exact { GivesOrFails (λ starts. rests_in starts.items) result at.new (times rest_at count at.old) }
+    ensures begin { IfOk result (λ starts. AllByRecursion BeginsWithRest starts.items) }
+{
+    let mut starts = Vec::new(alloc);
+    for _ in 0..count {
+        let start = at.rest();
+        match read_rest(at) {
+            None => return Err(MessageFault::NotAMessage),
+            Some(_) => starts.push(start)?,
+        }
+    }
+    Ok(starts)
+}
+
+/// What follows version and kind.
+#[tactic(auto, unfolding(crate::specs::Reading::whole_at, crate::specs::Reading::body_at))]
+fn read_body<'a>(alloc: Global, body: &'a [u8]) -> Result<MessageView<'a>, MessageFault>
+    ensures { GivesOrFails (λ m. m) result [] (whole_at body.now) }
+{
+    let mut at = Cursor::new(body);
+    let Some(targets) = read_targets(&mut at) else {
+        return Err(MessageFault::NotAMessage);
+    };
+    let rests = read_starts(alloc, &mut at, targets.len() as u64 / 8)?;
+    let Some(hashes) = read_hashes(&mut at) else {
+        return Err(MessageFault::NotAMessage);
+    };
+    if !at.rest().is_empty() {
+        return Err(MessageFault::NotAMessage);
+    }
+    Ok(MessageView {
+        targets,
+        rests,
+        hashes,
+    })
+}
+
+/// The same, in terms of texts.
+fn read_full<'a>(alloc: Global, body: &'a [u8]) -> Result<MessageView<'a>, MessageFault>
+    ensures found { IfOk result (λ m. ProofFits m × (body.now ≡ body_text m)) }
+    ensures none { IsErrOf result MessageFault.NotAMessage → (p : BlockProof) → ProofFits p → body.now ≡ body_text p → ⊥ }
+    ensures version { (v : ℕ) → IsErrOf result (MessageFault.Version v) → ⊥ }
+{
+    read_body(alloc, body)
+}
+
+/// The message that the whole text is: the version 1, the kind 0, a count and the targets of the
+/// spends (8 bytes each), their rests, and a count and the hashes (32 bytes each).
+pub fn read_message<'a>(alloc: Global, text: &'a [u8]) -> Result<MessageView<'a>, MessageFault>
+    ensures found { IfOk result (λ m. ProofFits m × (text.now ≡ message_text m)) }
+    ensures none { IsErrOf result MessageFault.NotAMessage → (p : BlockProof) → ProofFits p → text.now ≡ message_text p → ⊥ }
+    ensures version { (v : ℕ) → IsErrOf result (MessageFault.Version v) ↔ ((slice_get text.now 0 ≡ Some v) × (v ≢ 1)) }
+{
+    match text {
+        [1, 0, body @ ..] => read_full(alloc, body),
+        [] | [1, ..] => Err(MessageFault::NotAMessage),
+        [version, ..] => Err(MessageFault::Version(*version)),
+    }
+}

@@ -1,0 +1,93 @@
+//! A message as it lies in its source.
+ghost use Rattle.std.specs.Prelude.{◌≡◌, ◌+◌, ◌*◌, ◌<◌, ◌≤◌, length, take, drop, slice_get, Some};
+ghost use Rattle.std.specs.Int.{w64, from_le_bytes};
+ghost use Rattle.proof_wire.specs.BlockProof.{targets_of, rests_of};
+
+use leaf_record::{RestView, read_rest};
+use std::marker::Model;
+use uo_base::Cursor;
+use uo_digest::Digest;
+
+/// The i-th of parts of one size.
+fn part(parts: &[u8], size: usize, i: usize) -> &[u8]
+    requires { size * i + size ≤ length parts.now }
+    ensures part { result.now ≡ take size (drop (size * i) parts.now) }
+    ensures len { length result.now ≡ size }
+{
+    let from = size * i;
+    &parts[from..from + size]
+}
+
+fn number(bytes: &[u8]) -> u64
+    requires { length bytes.now ≡ 8 }
+    ensures { result ≡ from_le_bytes w64 bytes.now }
+{
+    u64::from_le_bytes([
+        bytes[0], bytes[1], bytes[2], bytes[3], bytes[4], bytes[5], bytes[6], bytes[7],
+    ])
+}
+
+/// A message that holds no copy of its parts, but knows where each rest begins; contracts see what
+/// it says.
+#[derive(Drop)]
+pub struct MessageView<'a> {
+    pub(crate) targets: &'a [u8],
+    pub(crate) rests: Vec<&'a [u8]>,
+    pub(crate) hashes: &'a [u8],
+}
+
+impl<'a> Model for MessageView<'a> {
+    ghost use Rattle.proof_wire.specs.BlockProof.{BlockProof};
+
+    ghost Value = { BlockProof };
+
+    ghost use Rattle.proof_wire.specs.Views.{proof_in, IsView};
+
+    ghost view = { λ s. proof_in s.targets.now s.rests.items s.hashes.now };
+
+    ghost invariant = { λ s. IsView s.targets.now s.rests.items s.hashes.now };
+}
+
+impl<'a> MessageView<'a> {
+    /// How many outputs are spent.
+    pub fn spends(&self) -> u64
+        ensures { result ≡ length self.now.spends }
+    {
+        self.rests.len() as u64
+    }
+
+    /// The position of the leaf of a spent output, in the forest before the block.
+    pub fn target(&self, i: u64) -> u64
+        requires { i < length self.now.spends }
+        ensures { slice_get (targets_of self.now.spends) i ≡ Some result }
+    {
+        number(part(self.targets, 8, i as usize))
+    }
+
+    /// What the message shows of a spent output.
+    pub fn rest(&self, i: u64) -> RestView<'a>
+        requires { i < length self.now.spends }
+        ensures { slice_get (rests_of self.now.spends) i ≡ Some result }
+    {
+        let mut at = Cursor::new(self.rests[i as usize]);
+        match read_rest(&mut at) {
+            Some(rest) => rest,
+            None => unreachable!(),
+        }
+    }
+
+    /// How many hashes there are besides.
+    pub fn hash_count(&self) -> u64
+        ensures { result ≡ length self.now.hashes }
+    {
+        self.hashes.len() as u64 / 32
+    }
+
+    /// A hash, in the order of positions.
+    pub fn hash(&self, i: u64) -> Digest
+        requires { i < length self.now.hashes }
+        ensures { slice_get self.now.hashes i ≡ Some result }
+    {
+        Digest::from_bytes(part(self.hashes, 32, i as usize))
+    }
+}
