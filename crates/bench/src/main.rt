@@ -6,11 +6,13 @@ ghost use Rattle.std.specs.Prelude.{◌≡◌, ◌<◌};
 mod codecs;
 mod digests;
 mod feeds;
+mod messages;
 mod rate;
 
 use crate::codecs::measure_codecs;
 use crate::digests::measure_digests;
 use crate::feeds::{hash_input, write_feed};
+use crate::messages::measure_messages;
 use std::marker::Brand;
 use std::rt::Env;
 use std::sync::ledger::Blank;
@@ -21,6 +23,7 @@ const USAGE: &str =
 bench digests   digests per second, beside bare SHA-512/256
 bench feed      writes a feed of one block of the most bytes that is accepted
 bench hash      megabytes per second of SHA-256 twice over standard input
+bench messages  nanoseconds of reading a proof message, and all of its parts
 ";
 
 fn main(rt: HostRuntime) -> io::Result<()> {
@@ -32,6 +35,7 @@ fn main(rt: HostRuntime) -> io::Result<()> {
         "codecs" => measure_codecs(&rt),
         "digests" => measure_digests::<Brand, HostRuntime>(&rt, Blank::new(1)),
         "feed" => write_feed(&rt),
+        "messages" => measure_messages(&rt),
         "hash" => hash_input(&rt),
         _ => print!(&rt; "{USAGE}"),
     }
