@@ -29,6 +29,8 @@ fn begins_rows(rt: HostRuntime) {
     for (n, starts) in [
         (1, [0].as_slice()),
         (4, [0, 4, 6].as_slice()),
+        (5, [0, 8, 12].as_slice()),
+        (6, [0, 8, 12].as_slice()),
         (8, [0, 8, 12, 14].as_slice()),
         (100, [0, 128, 192, 224, 240, 248, 252].as_slice()),
     ] {
