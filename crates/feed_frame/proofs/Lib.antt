@@ -1,0 +1,6 @@
+pub mod Within
+pub mod FrameLemmas
+pub mod Heads
+pub mod Bodies
+pub mod Stray
+pub mod Steps

@@ -1,0 +1,15 @@
+//! Frames of blocks, proofs and rollbacks: a reader that makes a feed of bytes into events, and writers.
+#![tactic(auto)]
+
+mod came;
+mod fault;
+mod feed;
+mod head;
+mod heading;
+mod next;
+mod reach;
+mod reader;
+mod track;
+
+pub use fault::FeedFault;
+pub use feed::Feed;
