@@ -1,7 +1,7 @@
 //! The lines of the report.
 ghost use Rattle.std.specs.Prelude.{Some};
 
-use crate::hash_text::HashText;
+use crate::hash_text::{HashText, PlainText};
 use crate::verdict::Verdict;
 use std::fmt;
 use uo_digest::Digest;
@@ -19,8 +19,14 @@ pub enum Line {
     },
     /// The words are not accepted, from this index on.
     Words(u64),
-    /// The feed is no list of block frames.
-    FrameUnbuilt,
+    /// No frame begins with these four bytes at this offset.
+    FrameMagic { offset: u64, found: [u8; 4] },
+    /// The feed ends within the frame at this offset, which lacks so many bytes.
+    FrameCut { offset: u64, missing: u64 },
+    /// The block or proof at this offset has more bytes than one may have.
+    FrameLong { offset: u64, length: u32 },
+    /// The rollback at this offset has not four bytes.
+    FrameRollback { offset: u64, length: u32 },
     /// The feed has more than this many bytes.
     LimitFeed(u64),
 }
@@ -44,7 +50,14 @@ impl fmt::Display for Line {
                 leaves,
             } => write!(f, "end {events} - - {leaves}"),
             Line::Words(at) => write!(f, "words {at}"),
-            Line::FrameUnbuilt => f.write_str("frame unbuilt"),
+            Line::FrameMagic { offset, found } => {
+                write!(f, "frame magic {offset} {}", PlainText(found))
+            }
+            Line::FrameCut { offset, missing } => write!(f, "frame cut {offset} {missing}"),
+            Line::FrameLong { offset, length } => write!(f, "frame long {offset} {length}"),
+            Line::FrameRollback { offset, length } => {
+                write!(f, "frame rollback {offset} {length}")
+            }
             Line::LimitFeed(bytes) => write!(f, "limit feed {bytes}"),
         }
     }

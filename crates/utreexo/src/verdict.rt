@@ -68,6 +68,24 @@ pub enum Verdict {
         hash: Option<Digest>,
         why: Refusal,
     },
+    /// The chain went back by so many blocks, to this one.
+    RolledBack {
+        count: u32,
+        /// The height of the newest block that is left, where one is.
+        height: Option<u32>,
+        /// Its hash, or 32 zero bytes.
+        hash: Digest,
+        /// The entries ever added to the chain that is left.
+        leaves: u64,
+    },
+    /// The chain can not go back so far, and stays as it was.
+    TooDeep {
+        asked: u32,
+        /// How many blocks it can go back.
+        kept: u32,
+    },
+    /// A proof that no block follows, which changes nothing.
+    Stray,
 }
 
 impl fmt::Display for Verdict {
@@ -92,6 +110,20 @@ impl fmt::Display for Verdict {
                 hash: None,
                 why,
             } => write!(f, "refused {height} - {why}"),
+            Verdict::RolledBack {
+                count,
+                height: Some(height),
+                hash,
+                leaves,
+            } => write!(f, "rolledback {count} {height} {} {leaves}", HashText(hash)),
+            Verdict::RolledBack {
+                count,
+                height: None,
+                leaves,
+                ..
+            } => write!(f, "rolledback {count} - - {leaves}"),
+            Verdict::TooDeep { asked, kept } => write!(f, "toodeep {asked} {kept}"),
+            Verdict::Stray => f.write_str("stray"),
         }
     }
 }
