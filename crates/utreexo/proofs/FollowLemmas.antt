@@ -1,101 +1,136 @@
--- From what was written to the answer of a command.
-use Rattle.std.proofs.Common.{◌≡◌, ℕ, ◌≤◌, List, [], ◌++◌, length, Option, Result, Ok, Err, IfOk, OnOk, refl, sym, ap, subst, ◌∙◌, append-nil}
-use Rattle.std.specs.List.{list_any}
-use Rattle.std.proofs.lemmas.Bool.{le-ltb, lt-ltb}
+-- From a feed's answers, and from what was written, to the answer of a command.
+use Rattle.std.proofs.Common.{◌≡◌, ℕ, ◌+◌, ◌≤◌, Bool, true, false, List, [], ◌∷◌, ◌++◌, length, Option, Some, None, Result, Ok, Err, IfOk, OnOk, IsErrOf, is_err, refl, sym, ap, subst, ◌∙◌, append-nil}
 use Rattle.std.specs.Io.KnownBytes.{Appends}
 use Rattle.std.proofs.KnownBytes.{Appends-trans}
+use Rattle.uo_base.specs.declared.event.Event.{Event}
 use Rattle.uo_base.specs.declared.event.Limits.{Limits}
+use Rattle.uo_base.specs.declared.event.Net.{Net}
+use Rattle.uo_base.specs.FeedEvent.{FeedEvent, BlockCame, RollbackCame, StrayCame, event_of}
 use Rattle.uo_base.specs.Moved.{AppendsPart}
-use Rattle.uo_base.specs.Told.{Tells, IsLonger}
-use Rattle.uo_base.proofs.PortLemmas.{AppendsPart-after, AppendsPart-front, AppendsPart-none, told_text, Tells-told_text}
+use Rattle.uo_base.proofs.PortLemmas.{AppendsPart-after, AppendsPart-front}
+use Rattle.feed_frame.specs.declared.fault.FeedFault.{FeedFault}
+use Rattle.feed_frame.specs.declared.fault.FeedFault.TheVariants.{ReadFault, Magic, Cut, TooLong, BadRollback, Limit, NoMemory}
+use Rattle.feed_frame.specs.Events.{events_of}
+use Rattle.feed_frame.specs.Machine.{after, written}
+use Rattle.feed_frame.specs.FeedState.{FeedState, Advances, HasShortBlock, answer_of, limit_of}
+use Rattle.feed_frame.specs.Stepping.{Steps, Reads, ReadsNone, Finishes}
+use Rattle.feed_frame.specs.Streamed.{TakesFeed, WritesPart}
 use Rattle.utreexo.specs.declared.follower.Follower.{Follower}
 use Rattle.utreexo.specs.declared.line.Line.{Line}
 use Rattle.utreexo.specs.declared.status.Status.{Status}
-use Rattle.utreexo.specs.declared.status.Status.TheVariants.{InputLimit}
-use Rattle.utreexo.specs.Answers.{Answer, said, Ends, StaysWithin}
-use Rattle.utreexo.specs.Follow.{lines_of, end_line, followed, followed_if, follow_answer}
-use Rattle.utreexo.specs.Frames.{bodies_of}
+use Rattle.utreexo.specs.declared.stop.Stop.{Stop}
+use Rattle.utreexo.specs.declared.stop.Stop.TheVariants as Stop
+use Rattle.utreexo.specs.Answers.{Answer, Ends, StaysWithin}
+use Rattle.utreexo.specs.Follow.{event_line, sends_nothing, closing_line, closing_status, ending_by, answer_over, follow_answer}
 use Rattle.utreexo.specs.Lines.{whole_line}
-use Rattle.utreexo.specs.Machine.{start, is_refused, verdicts, chain_after}
-use Rattle.utreexo.specs.Status.{status_of}
+use Rattle.utreexo.specs.Machine.{fresh, next_follower}
+use Rattle.utreexo.specs.Rules.{IsShort}
 
--- ---- the last line behind others
+-- ---- a feed's answer
 
-pub record IsClosed (answer : Answer) (status : Status) (lines line : List ℕ) : Type 0 where
-  pub status_is : status ≡ answer.status
-  pub report_is : answer.report ≡ lines ++ line
+short-block : (event : FeedEvent) → HasShortBlock (Ok (Some event)) → IsShort event
+short-block (BlockCame bytes message) h = h
+short-block (RollbackCame count) h = tt
+short-block StrayCame h = tt
 
-module _ (limits : Limits) (bodies : List (List ℕ)) (follower : Follower) (events : ℕ) (status : Status) (line : Line) where
-  -- the answer to a list of blocks, by what is kept at the end
-  pub followed-closed : status ≡ status_of follower.refused → line ≡ end_line events follower.chain → events ≡ length bodies
-      → follower.chain ≡ chain_after limits start bodies → follower.refused ≡ list_any is_refused (verdicts limits start bodies)
-      → IsClosed (followed limits bodies) status (lines_of (verdicts limits start bodies)) (whole_line line)
-  unfolding followed
-  followed-closed s l e c r = record {
-    status_is = s ∙ ap status_of r;
-    report_is = ap (λ w. lines_of (verdicts limits start bodies) ++ whole_line w) (sym (l ∙ ap (λ n. end_line n follower.chain) e ∙ ap (end_line (length bodies)) c));
-  }
+module _ (old new : FeedState) (left rest : Option (List ℕ)) (answer : Result (Option Event) FeedFault) (a : Advances old left rest (answer_of answer) new) where
+  pub step-event : (event : Event) → answer ≡ Ok (Some event)
+      → Reads old.reader new.reader left rest (event_of event ∷ []) (new.offset ∷ []) × (old.offset + 8 ≤ new.offset)
+  step-event event e = subst (λ r. Steps old.reader new.reader left rest old.offset new.offset (answer_of r)) e a.step
 
-pub closed-status : {E : Type 0} (answer : Answer) (status : Status) (lines line : List ℕ) → IsClosed answer status lines line → (r : Result Status E)
-    → IfOk r (λ answered. answered ≡ status) → IfOk r (λ answered. answered ≡ answer.status)
-closed-status answer status lines line is (Ok answered) p = p ∙ is.status_is
-closed-status answer status lines line is (Err e) p = tt
+  pub goes-on : (event : Event) → answer ≡ Ok (Some event) → new.failed ≡ false
+  goes-on event e = a.failed ∙ ap (λ r. is_err (answer_of r)) e
 
-module _ (answer : Answer) (status : Status) (lines line : List ℕ) (old mid new : Option (List ℕ)) (is : IsClosed answer status lines line) (before : Appends old mid lines) where
-  pub closed-whole : {E : Type 0} (r : Result Status E) → OnOk r (Appends mid new line) → OnOk r (Appends old new answer.report)
-  closed-whole (Ok answered) p = subst (Appends old new) (sym is.report_is) (Appends-trans old mid new lines line before p)
-  closed-whole (Err e) p = tt
+  pub short-event : (event : Event) → answer ≡ Ok (Some event) → IsShort (event_of event)
+  short-event event e = short-block (event_of event) (subst (λ r. HasShortBlock (answer_of r)) e a.short)
 
-  pub closed-part : AppendsPart mid new line → AppendsPart old new answer.report
-  closed-part p = AppendsPart-after old mid new lines line [] answer.report before p (is.report_is ∙ ap (λ l. lines ++ l) (sym (append-nil line)))
+  pub step-end : answer ≡ Ok None → Finishes old.reader new.reader left rest None
+  step-end e = (subst (λ r. Steps old.reader new.reader left rest old.offset new.offset (answer_of r)) e a.step).0
 
--- the lines were written in part
-pub followed-part : (limits : Limits) (bodies : List (List ℕ)) (old new : Option (List ℕ)) → AppendsPart old new (lines_of (verdicts limits start bodies)) → AppendsPart old new (followed limits bodies).report
-unfolding followed
-followed-part limits bodies old new p = AppendsPart-front old new _ _ _ p refl
+  pub step-failed : answer ≡ Err ReadFault → ReadsNone old.reader left rest
+  step-failed e = (subst (λ r. Steps old.reader new.reader left rest old.offset new.offset (answer_of r)) e a.step).0
 
--- ---- from a text to the feed that tells it
+  pub step-bad : (fault : FeedFault) → answer ≡ Err fault → (fault ≡ ReadFault → ⊥) → (fault ≡ NoMemory → ⊥) → Finishes old.reader new.reader left rest (Some fault)
+  step-bad (Magic offset found) e _ _ = (subst (λ r. Steps old.reader new.reader left rest old.offset new.offset (answer_of r)) e a.step).0
+  step-bad (Cut offset missing) e _ _ = (subst (λ r. Steps old.reader new.reader left rest old.offset new.offset (answer_of r)) e a.step).0
+  step-bad (TooLong offset length) e _ _ = (subst (λ r. Steps old.reader new.reader left rest old.offset new.offset (answer_of r)) e a.step).0
+  step-bad (BadRollback offset length) e _ _ = (subst (λ r. Steps old.reader new.reader left rest old.offset new.offset (answer_of r)) e a.step).0
+  step-bad (Limit bytes) e _ _ = (subst (λ r. Steps old.reader new.reader left rest old.offset new.offset (answer_of r)) e a.step).0
+  step-bad ReadFault e f _ = absurd (f refl)
+  step-bad NoMemory e _ m = absurd (m refl)
 
-module _ (limits : Limits) (feed old new : Option (List ℕ)) where
-  module _ (text : List ℕ) (told : Tells feed text) (answer : Answer) (is : follow_answer limits text ≡ answer) where
-    ends : {E : Type 0} (r : Result Status E) → IfOk r (λ status. status ≡ answer.status) → OnOk r (Appends old new answer.report) → IfOk r (Ends (follow_answer limits) feed old new)
-    ends (Ok status) p q = record {
-      text = text;
-      told = told;
-      answered = p ∙ ap (λ a. a.status) (sym is);
-      report = subst (λ a. Appends old new a.report) (sym is) q;
+  -- what holds at the end of a feed holds where a fault ends it
+  pub bad-ends : (P : Option FeedFault → Type 0) (fault : FeedFault) (r : Result (Option FeedFault) Stop) → r ≡ ending_by fault → answer ≡ Err fault
+      → ((ending : Option FeedFault) → Finishes old.reader new.reader left rest ending → P ending) → IfOk r P
+  bad-ends P fault r is e ends = subst (λ r. IfOk r P) (sym is) (by fault e)
+    where
+      by : (fault : FeedFault) → answer ≡ Err fault → IfOk (ending_by fault) P
+      by (Magic offset found) e = ends _ (step-bad (Magic offset found) e (λ s. cc) (λ s. cc))
+      by (Cut offset missing) e = ends _ (step-bad (Cut offset missing) e (λ s. cc) (λ s. cc))
+      by (TooLong offset length) e = ends _ (step-bad (TooLong offset length) e (λ s. cc) (λ s. cc))
+      by (BadRollback offset length) e = ends _ (step-bad (BadRollback offset length) e (λ s. cc) (λ s. cc))
+      by (Limit bytes) e = ends _ (step-bad (Limit bytes) e (λ s. cc) (λ s. cc))
+      by ReadFault e = tt
+      by NoMemory e = tt
+
+  -- a run that a fault of the source stopped
+  pub bad-failed : (fault : FeedFault) (r : Result (Option FeedFault) Stop) → r ≡ ending_by fault → answer ≡ Err fault → IsErrOf r Stop.ReadFault → ReadsNone old.reader left rest
+  bad-failed fault r is e failed = by fault e (sym is ∙ failed)
+    where
+      by : (fault : FeedFault) → answer ≡ Err fault → ending_by fault ≡ Err Stop.ReadFault → ReadsNone old.reader left rest
+      by ReadFault e f = step-failed e
+      by NoMemory e f = absurd cc
+      by (Magic offset found) e f = absurd cc
+      by (Cut offset missing) e f = absurd cc
+      by (TooLong offset length) e f = absurd cc
+      by (BadRollback offset length) e f = absurd cc
+      by (Limit bytes) e f = absurd cc
+
+-- ---- from what was written to the answer
+
+-- the events were written in part
+pub part-stays : (limits : Limits) (net : Net) (feed old new : Option (List ℕ)) → WritesPart (next_follower limits) (event_line limits) sends_nothing fresh net limits.bytes feed old new None None
+    → StaysWithin (follow_answer limits net) feed old new
+unfolding follow_answer answer_over
+part-stays limits net feed old new w = record { text = w.text; told = w.told; report = AppendsPart-front old new _ _ _ w.reported refl }
+
+module _ (limits : Limits) (net : Net) (feed old mid new : Option (List ℕ)) where
+  module _ (f : Follower) (ending : Option FeedFault) (status : Status) (line : Line)
+      (t : TakesFeed (next_follower limits) (event_line limits) sends_nothing fresh net limits.bytes f feed old mid None None ending)
+      (s : status ≡ closing_status f ending) (l : line ≡ closing_line f ending) where
+    last : Follower
+    last = after (next_follower limits) fresh (events_of net limits.bytes t.text).events
+
+    status_is : status ≡ (follow_answer limits net t.text).status
+    unfolding follow_answer answer_over last
+    status_is = s ∙ ap (λ g. closing_status g ending) t.reached ∙ ap (closing_status last) (sym t.ends)
+
+    lines : List ℕ
+    lines = written (next_follower limits) (event_line limits) fresh (events_of net limits.bytes t.text).events
+
+    report_is : (follow_answer limits net t.text).report ≡ lines ++ whole_line line
+    unfolding follow_answer answer_over lines last
+    report_is = ap (λ w. lines ++ whole_line w) (sym (l ∙ ap (λ g. closing_line g ending) t.reached ∙ ap (closing_line last) (sym t.ends)))
+
+    before : Appends old mid lines
+    unfolding lines
+    before = t.reported
+
+    -- all events were written, and the last line
+    pub took-ends : {E : Type 0} (r : Result Status E) → IfOk r (λ answered. answered ≡ status) → OnOk r (Appends mid new (whole_line line))
+        → IfOk r (Ends (follow_answer limits net) feed old new)
+    took-ends (Ok answered) p q = record {
+      text = t.text;
+      told = t.told;
+      answered = p ∙ status_is;
+      report = subst (Appends old new) (sym report_is) (Appends-trans old mid new lines _ before q);
     }
-    ends (Err e) p q = tt
+    took-ends (Err e) p q = tt
 
-    stays : AppendsPart old new answer.report → StaysWithin (follow_answer limits) feed old new
-    stays q = record { text = text; told = told; report = subst (λ a. AppendsPart old new a.report) (sym is) q }
-
-  -- the feed was read whole
-  module _ (text seen : List ℕ) (told : Tells feed text) (fits : length text ≤ limits.bytes) (same : seen ≡ text) where
-    within : follow_answer limits text ≡ followed_if limits (bodies_of seen)
-    unfolding follow_answer
-    within = rw (same, le-ltb limits.bytes (length text) fits) refl
-
-    pub read-ends : {E : Type 0} (r : Result Status E) → IfOk r (λ status. status ≡ (followed_if limits (bodies_of seen)).status)
-        → OnOk r (Appends old new (followed_if limits (bodies_of seen)).report) → IfOk r (Ends (follow_answer limits) feed old new)
-    read-ends r p q = ends text told _ within r p q
-
-    pub read-stays : AppendsPart old new (followed_if limits (bodies_of seen)).report → StaysWithin (follow_answer limits) feed old new
-    read-stays q = stays text told _ within q
-
-  -- the feed is longer than its limit
-  module _ (input : IsLonger feed limits.bytes) where
-    past : follow_answer limits input.text ≡ said InputLimit (Line.LimitFeed limits.bytes)
-    unfolding follow_answer
-    past = rw (lt-ltb limits.bytes (length input.text) input.longer) refl
-
-    pub past-ends : {E : Type 0} (r : Result Status E) → IfOk r (λ status. status ≡ InputLimit)
-        → OnOk r (Appends old new (whole_line (Line.LimitFeed limits.bytes))) → IfOk r (Ends (follow_answer limits) feed old new)
-    past-ends r p q = ends input.text input.told_text _ past r p q
-
-    pub past-stays : AppendsPart old new (whole_line (Line.LimitFeed limits.bytes)) → StaysWithin (follow_answer limits) feed old new
-    past-stays q = stays input.text input.told_text _ past q
-
--- nothing was written
-pub none-stays : (limits : Limits) (feed now : Option (List ℕ)) → StaysWithin (follow_answer limits) feed now now
-none-stays limits feed now = record { text = told_text feed; told = Tells-told_text feed; report = AppendsPart-none now _ }
+    -- all events were written, and the last line in part
+    pub took-stays : AppendsPart mid new (whole_line line) → StaysWithin (follow_answer limits net) feed old new
+    took-stays q = record {
+      text = t.text;
+      told = t.told;
+      report = AppendsPart-after old mid new lines _ [] _ before q (report_is ∙ ap (λ w. lines ++ w) (sym (append-nil _)));
+    }

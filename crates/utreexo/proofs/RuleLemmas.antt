@@ -1,14 +1,15 @@
 -- What the rules keep of a chain.
-use Rattle.std.proofs.Common.{◌≡◌, ℕ, ◌^◌, ◌<◌, ◌≤◌, Bool, true, false, nat_lt, List, [], ◌∷◌, Option, Some, None, refl, arith, ltb-true}
+use Rattle.std.proofs.Common.{◌≡◌, ℕ, zero, suc, ◌+◌, ◌^◌, ◌<◌, ◌≤◌, Bool, true, false, not, is_some, ◌&&◌, nat_lt, List, [], ◌∷◌, Option, Some, None, refl, arith, ltb-true}
 use Rattle.std.proofs.lemmas.Bool.{and_parts}
 use Rattle.tx_codec.specs.Transaction.{Transaction}
 use Rattle.block_codec.specs.Block.{Block}
 use Rattle.block_codec.specs.Reading.{block_in}
+use Rattle.uo_base.specs.FeedEvent.{FeedEvent, BlockCame, RollbackCame, StrayCame}
 use Rattle.uo_base.specs.declared.event.Limits.{Limits}
 use Rattle.utreexo.specs.declared.chain.Chain.{Chain}
 use Rattle.utreexo.specs.declared.verdict.Refusal.{Refusal}
 use Rattle.utreexo.specs.declared.verdict.Refusal.TheVariants.{Unbuilt}
-use Rattle.utreexo.specs.Rules.{fails_unless, first_of, steps, is_built, has_room, judged, verdict_by, verdict_at, verdict_on}
+use Rattle.utreexo.specs.Rules.{fails_unless, first_of, steps, is_built, has_room, judged, verdict_by, verdict_at, rolled_back, verdict_on}
 use Rattle.utreexo.specs.Machine.{next_chain}
 
 abbrev AllPass : List (Option Refusal) → Type 0
@@ -33,20 +34,31 @@ built_has_height limits chain (tx ∷ []) e =
     ltb-true _ _ height.0
 built_has_height limits chain (tx ∷ u ∷ us) e = absurd cc
 
+both_parts : (a b : Bool) → (a && b) ≡ true → b ≡ true
+both_parts true b e = e
+both_parts false b e = absurd cc
+
 module _ (limits : Limits) (chain : Chain) (few : chain.blocks ≤ 2 ^ 31) where
-  few_by : (block : Block) (r : Option Refusal) → first_of (steps limits chain block) ≡ r → (next_chain chain (verdict_by chain block r)).blocks ≤ 2 ^ 31
-  few_by block (Some why) e = few
-  few_by block None e =
-      let passes = each_passes (steps limits chain block) e in
-      let below = built_has_height limits chain block.txs (passed_test (is_built limits chain block.txs) Unbuilt passes.1.1.1.0) in
+  few_by : (block : Block) (proved : Bool) (r : Option Refusal) → first_of (steps limits chain block proved) ≡ r → (next_chain chain (verdict_by chain block r)).blocks ≤ 2 ^ 31
+  few_by block proved (Some why) e = few
+  few_by block proved None e =
+      let passes = each_passes (steps limits chain block proved) e in
+      let built = both_parts (not proved) _ (passed_test (not proved && is_built limits chain block.txs) Unbuilt passes.1.1.1.0) in
+      let below = built_has_height limits chain block.txs built in
       omega (arith, below)
 
-  few_at : (read : Option Block) → (next_chain chain (verdict_at limits chain read)).blocks ≤ 2 ^ 31
+  few_at : (found : Option Block) (proved : Bool) → (next_chain chain (verdict_at limits chain found proved)).blocks ≤ 2 ^ 31
   unfolding judged
-  few_at None = few
-  few_at (Some block) = few_by block (first_of (steps limits chain block)) refl
+  few_at None proved = few
+  few_at (Some block) proved = few_by block proved (first_of (steps limits chain block proved)) refl
+
+  few_back : (count : ℕ) → (next_chain chain (rolled_back chain count)).blocks ≤ 2 ^ 31
+  few_back zero = few
+  few_back (suc more) = few
 
   -- no verdict makes more blocks than there may be
-  pub next-few : (body : List ℕ) → (next_chain chain (verdict_on limits chain body)).blocks ≤ 2 ^ 31
+  pub next-few : (event : FeedEvent) → (next_chain chain (verdict_on limits chain event)).blocks ≤ 2 ^ 31
   unfolding verdict_on
-  next-few body = few_at (block_in body)
+  next-few (BlockCame bytes message) = few_at (block_in bytes) (is_some message)
+  next-few (RollbackCame count) = few_back count
+  next-few StrayCame = few

@@ -1,44 +1,76 @@
 -- What `follow` answers to a feed.
-use Rattle.std.specs.Prelude.{ℕ, List, [], ◌++◌, length, nat_lt, Option, Some, None, if◌then◌else◌}
-use Rattle.std.specs.List.{flat_map, list_any}
+use Rattle.std.specs.Prelude.{ℕ, Bool, List, [], ◌++◌, Option, Some, None, Result, Ok, Err}
 use Rattle.uo_base.specs.declared.event.Limits.{Limits}
+use Rattle.uo_base.specs.declared.event.Net.{Net}
+use Rattle.uo_base.specs.FeedEvent.{FeedEvent}
+use Rattle.feed_frame.specs.declared.fault.FeedFault.{FeedFault}
+use Rattle.feed_frame.specs.declared.fault.FeedFault.TheVariants as Fault
+use Rattle.feed_frame.specs.Events.{Events, events_of, settled_of}
+use Rattle.feed_frame.specs.Machine.{after, written}
 use Rattle.utreexo.specs.declared.chain.Chain.{Chain}
+use Rattle.utreexo.specs.declared.follower.Follower.{Follower}
 use Rattle.utreexo.specs.declared.line.Line.{Line}
-use Rattle.utreexo.specs.declared.status.Status.TheVariants.{Frame, InputLimit}
-use Rattle.utreexo.specs.declared.verdict.Verdict.{Verdict}
-use Rattle.utreexo.specs.Answers.{Answer, said}
-use Rattle.utreexo.specs.Frames.{bodies_of}
+use Rattle.utreexo.specs.declared.line.Line.TheVariants as Line
+use Rattle.utreexo.specs.declared.status.Status.{Status}
+use Rattle.utreexo.specs.declared.status.Status.TheVariants as Status
+use Rattle.utreexo.specs.declared.stop.Stop.{Stop}
+use Rattle.utreexo.specs.declared.stop.Stop.TheVariants as Stop
+use Rattle.utreexo.specs.Answers.{Answer}
 use Rattle.utreexo.specs.Lines.{whole_line}
-use Rattle.utreexo.specs.Machine.{start, newest, is_refused, verdicts, chain_after}
+use Rattle.utreexo.specs.Machine.{fresh, newest, next_follower}
 use Rattle.utreexo.specs.Rules.{verdict_on}
 use Rattle.utreexo.specs.Status.{status_of}
 
--- a line for each verdict
-abbrev pub lines_of : List Verdict → List ℕ
-lines_of told = flat_map (λ verdict. whole_line (Line.Verdict verdict)) told
+-- the line of an event
+unfoldable pub event_line : Limits → Follower → FeedEvent → List ℕ
+event_line limits f event = whole_line (Line.Verdict (verdict_on limits f.chain event))
 
--- the line of a block
-abbrev pub event_line : Limits → Chain → List ℕ → List ℕ
-event_line limits chain body = whole_line (Line.Verdict (verdict_on limits chain body))
+-- nothing is stored yet
+abbrev pub sends_nothing : Follower → FeedEvent → List ℕ
+sends_nothing f event = []
 
 -- the last line: how many events there were, and the chain
-abbrev pub end_line : ℕ → Chain → Line
-end_line events chain = Line.End events (newest chain) chain.leaves
+abbrev pub end_line : Follower → Line
+end_line f = Line.End f.events (newest f.chain) f.chain.leaves
 
--- a line for each block of a feed, and one for its end
-unfoldable pub followed : Limits → List (List ℕ) → Answer
-followed limits bodies = record {
-  status = status_of (list_any is_refused (verdicts limits start bodies));
-  report = lines_of (verdicts limits start bodies) ++ whole_line (end_line (length bodies) (chain_after limits start bodies));
-  out = [];
-}
+-- a fault of the source or of memory stops the run, and any other one ends the feed
+abbrev pub ending_by : FeedFault → Result (Option FeedFault) Stop
+ending_by Fault.ReadFault = Err Stop.ReadFault
+ending_by Fault.NoMemory = Err Stop.NoMemory
+ending_by fault = Ok (Some fault)
 
--- a feed that is no list of frames is refused as a whole
-abbrev pub followed_if : Limits → Option (List (List ℕ)) → Answer
-followed_if limits (Some bodies) = followed limits bodies
-followed_if limits None = said Frame Line.FrameUnbuilt
+-- a feed that was read to its end, or why it was not
+abbrev pub closing_line : Follower → Option FeedFault → Line
+closing_line f None = end_line f
+closing_line f (Some (Fault.Magic offset found)) = Line.FrameMagic offset found
+closing_line f (Some (Fault.Cut offset missing)) = Line.FrameCut offset missing
+closing_line f (Some (Fault.TooLong offset length)) = Line.FrameLong offset length
+closing_line f (Some (Fault.BadRollback offset length)) = Line.FrameRollback offset length
+closing_line f (Some (Fault.Limit bytes)) = Line.LimitFeed bytes
+closing_line f (Some fault) = end_line f
 
--- and so is one that is longer than its limit
-unfoldable pub follow_answer : Limits → List ℕ → Answer
-follow_answer limits feed =
-    if nat_lt limits.bytes (length feed) then said InputLimit (Line.LimitFeed limits.bytes) else followed_if limits (bodies_of feed)
+abbrev pub closing_status : Follower → Option FeedFault → Status
+closing_status f (Some (Fault.Magic offset found)) = Status.Frame
+closing_status f (Some (Fault.Cut offset missing)) = Status.Frame
+closing_status f (Some (Fault.TooLong offset length)) = Status.Frame
+closing_status f (Some (Fault.BadRollback offset length)) = Status.Frame
+closing_status f (Some (Fault.Limit bytes)) = Status.InputLimit
+closing_status f ending = status_of f.refused
+
+-- a line for each event, and the last one
+unfoldable pub answer_over : Limits → Events → Answer
+answer_over limits events =
+    let f = after (next_follower limits) fresh events.events in
+    record {
+      status = closing_status f events.ending;
+      report = written (next_follower limits) (event_line limits) fresh events.events ++ whole_line (closing_line f events.ending);
+      out = [];
+    }
+
+-- the answer to a feed's bytes
+unfoldable pub follow_answer : Limits → Net → List ℕ → Answer
+follow_answer limits net feed = answer_over limits (events_of net limits.bytes feed)
+
+-- the lines of the events whose frames are whole in these bytes, and of further ones
+abbrev pub lines_of : Limits → List FeedEvent → List ℕ
+lines_of limits events = written (next_follower limits) (event_line limits) fresh events

@@ -1,7 +1,5 @@
 pub mod Answers
 pub mod Follow
-pub mod FrameBody
-pub mod Frames
 pub mod Lines
 pub mod Machine
 pub mod Rules

@@ -1,7 +1,8 @@
 -- The rules that a block is judged by.
-use Rattle.std.specs.Prelude.{ℕ, ◌+◌, ◌/◌, ◌^◌, ◌==◌, ◌&&◌, nat_le, nat_lt, not, Bool, true, false, List, [], ◌∷◌, length, Option, Some, None, count_by, sum_by, replicate, bytes_eq, if◌then◌else◌}
+use Rattle.std.specs.Prelude.{ℕ, zero, suc, is_some, ◌-◌, ◌+◌, ◌/◌, ◌^◌, ◌==◌, ◌&&◌, nat_le, nat_lt, ◌≤◌, not, Bool, true, false, List, [], ◌∷◌, length, Option, Some, None, count_by, sum_by, replicate, bytes_eq, if◌then◌else◌}
 use Rattle.std.specs.List.{flat_map}
 use Rattle.uo_base.specs.declared.event.Limits.{Limits}
+use Rattle.uo_base.specs.FeedEvent.{FeedEvent, BlockCame, RollbackCame, StrayCame}
 use Rattle.uo_digest.specs.declared.digest.Digest.{Digest}
 use Rattle.tx_codec.specs.Transaction.{Transaction, Input, Output}
 use Rattle.block_codec.specs.declared.merkle_tree.MerkleOutcome.{MerkleOutcome}
@@ -13,7 +14,7 @@ use Rattle.utreexo.specs.declared.chain.Chain.{Chain}
 use Rattle.utreexo.specs.declared.verdict.Refusal.{Refusal}
 use Rattle.utreexo.specs.declared.verdict.Refusal.TheVariants as Why
 use Rattle.utreexo.specs.declared.verdict.Verdict.{Verdict}
-use Rattle.utreexo.specs.declared.verdict.Verdict.TheVariants.{Accepted, Refused}
+use Rattle.utreexo.specs.declared.verdict.Verdict.TheVariants.{Accepted, Refused, RolledBack, TooDeep, Stray}
 
 -- ---- what a block adds
 
@@ -75,12 +76,12 @@ merkle_step root (Root computed) = fails_unless (is_same computed root) Why.Merk
 merkle_step root (Repeated level place) = Some (Why.MerkleRepeated level place)
 
 -- the steps in their order, one a line
-abbrev pub steps : Limits → Chain → Block → List (Option Refusal)
-steps limits chain block =
+abbrev pub steps : Limits → Chain → Block → (proved : Bool) → List (Option Refusal)
+steps limits chain block proved =
     fails_unless (is_same block.header.prev chain.tip) Why.Link
     ∷ merkle_step block.header.merkle (merkle_of (txids_of block))
     ∷ fails_unless (nat_le (weight_of block) 4000000) (Why.Weight (weight_of block))
-    ∷ fails_unless (is_built limits chain block.txs) Why.Unbuilt
+    ∷ fails_unless (not proved && is_built limits chain block.txs) Why.Unbuilt
     ∷ []
 
 -- ---- the verdict
@@ -89,15 +90,31 @@ abbrev pub verdict_by : Chain → Block → Option Refusal → Verdict
 verdict_by chain block (Some why) = Refused chain.blocks (Some (block_hash_of block)) why
 verdict_by chain block None = Accepted chain.blocks (block_hash_of block) (chain.leaves + new_count chain.blocks block.txs)
 
--- the verdict on a block that was read
-unfoldable pub judged : Limits → Chain → Block → Verdict
-judged limits chain block = verdict_by chain block (first_of (steps limits chain block))
+-- the verdict on a block that was read, beside a message or none
+unfoldable pub judged : Limits → Chain → Block → (proved : Bool) → Verdict
+judged limits chain block proved = verdict_by chain block (first_of (steps limits chain block proved))
 
 -- the bytes are the text of a block, or of none
-abbrev pub verdict_at : Limits → Chain → Option Block → Verdict
-verdict_at limits chain (Some block) = judged limits chain block
-verdict_at limits chain None = Refused chain.blocks None Why.Block
+abbrev pub verdict_at : Limits → Chain → Option Block → (proved : Bool) → Verdict
+verdict_at limits chain (Some block) proved = judged limits chain block proved
+verdict_at limits chain None proved = Refused chain.blocks None Why.Block
 
--- the verdict on a block's bytes
-unfoldable pub verdict_on : Limits → Chain → List ℕ → Verdict
-verdict_on limits chain body = verdict_at limits chain (block_in body)
+-- the height and the hash of the newest block
+abbrev pub newest_height : Chain → Option ℕ
+newest_height chain = if chain.blocks == 0 then None else Some (chain.blocks - 1)
+
+-- no block can be taken back yet
+abbrev pub rolled_back : Chain → ℕ → Verdict
+rolled_back chain zero = RolledBack 0 (newest_height chain) chain.tip chain.leaves
+rolled_back chain (suc more) = TooDeep (suc more) 0
+
+-- the verdict on an event
+unfoldable pub verdict_on : Limits → Chain → FeedEvent → Verdict
+verdict_on limits chain (BlockCame bytes message) = verdict_at limits chain (block_in bytes) (is_some message)
+verdict_on limits chain (RollbackCame count) = rolled_back chain count
+verdict_on limits chain StrayCame = Stray
+
+-- a block's bytes are no more than a frame may have
+abbrev pub IsShort : FeedEvent → Type 0
+IsShort (BlockCame bytes message) = length bytes ≤ 4000000
+IsShort event = Unit {0}

@@ -1,8 +1,9 @@
 -- The whole answer to the words of a command line, and what a run does with it.
-use Rattle.std.specs.Prelude.{◌≡◌, ℕ, Bool, true, false, List, Result, Ok, Err, IsTrue}
+use Rattle.std.specs.Prelude.{◌≡◌, ℕ, Bool, true, false, List, None, Result, Ok, Err, IsTrue}
 use Rattle.std.specs.declared.option.Option.{Option}
 use Rattle.std.specs.Io.KnownBytes.{Appends}
 use Rattle.uo_base.specs.declared.event.Limits.{Limits}
+use Rattle.uo_base.specs.declared.event.Net.TheVariants.{Main}
 use Rattle.uo_base.specs.Faults.{Rose}
 use Rattle.uo_base.specs.Moved.{AppendsPart}
 use Rattle.uo_base.specs.Told.{Tells}
@@ -13,7 +14,9 @@ use Rattle.utreexo.specs.declared.words.Command.{Command}
 use Rattle.utreexo.specs.declared.words.Command.TheVariants.{Follow}
 use Rattle.utreexo.specs.declared.words.WordFault.{WordFault}
 use Rattle.utreexo.specs.Answers.{Answer, said}
-use Rattle.utreexo.specs.Follow.{follow_answer}
+use Rattle.feed_frame.specs.Streamed.{WritesTaken}
+use Rattle.utreexo.specs.Follow.{event_line, sends_nothing, follow_answer}
+use Rattle.utreexo.specs.Machine.{fresh, next_follower}
 use Rattle.utreexo.specs.Words.{command_of}
 
 -- the bytes of the three inputs
@@ -39,7 +42,7 @@ uses_of words = uses_by (command_of words)
 -- the whole answer to a command, or to words that are refused
 abbrev pub answer_by : Result Command WordFault → Limits → Inputs → Answer
 answer_by (Err fault) limits inputs = said Words (Line.Words fault.at)
-answer_by (Ok Follow) limits inputs = follow_answer limits inputs.feed
+answer_by (Ok Follow) limits inputs = follow_answer limits Main inputs.feed
 
 -- the whole answer to the words of a command line
 unfoldable pub answer_of : List (List ℕ) → Limits → Inputs → Answer
@@ -72,6 +75,11 @@ Obeys answer feed prior watch report report' out out' ReadFault = StaysWithinRun
 Obeys answer feed prior watch report report' out out' WriteFault = StaysWithinRun answer feed prior watch report report' out out'
 Obeys answer feed prior watch report report' out out' NoMemory = StaysWithinRun answer feed prior watch report report' out out'
 Obeys answer feed prior watch report report' out out' status = EndsRun answer feed prior watch report report' out out' status
+
+-- of a feed that failed, the lines of all events whose frames were wholly taken are in the report
+abbrev pub ReportsTaken : Result Command WordFault → Limits → (feed feed' report report' : Option (List ℕ)) → Type 0
+ReportsTaken (Err fault) limits feed feed' report report' = Unit {0}
+ReportsTaken (Ok Follow) limits feed feed' report report' = WritesTaken (next_follower limits) (event_line limits) sends_nothing fresh Main limits.bytes feed feed' report report' None None
 
 -- a port that is used failed
 abbrev pub UsedRose : Bool → ℕ → ℕ → Type 0

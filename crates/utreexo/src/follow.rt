@@ -1,122 +1,136 @@
-//! The command that judges a feed.
-ghost use Rattle.std.specs.Prelude.{◌≡◌, ◌≤◌, ◌^◌, IfOk, OnOk, IsErrOf, length};
-ghost use Rattle.std.specs.List.{list_any};
+//! The command that judges a feed event by event.
+ghost use Rattle.std.specs.Prelude.{◌≡◌, ◌≤◌, ◌<◌, ◌^◌, None, IfOk, OnOk, IsErrOf};
 ghost use Rattle.std.specs.Io.KnownBytes.{Appends};
 ghost use Rattle.uo_base.specs.Faults.{Rose};
+ghost use Rattle.uo_base.specs.FeedEvent.{event_of};
 ghost use Rattle.uo_base.specs.Moved.{AppendsPart};
+ghost use Rattle.feed_frame.specs.Streamed.{TakesFeed, WritesPart, WritesTaken};
 ghost use Rattle.utreexo.specs.Answers.{Ends, StaysWithin};
-ghost use Rattle.utreexo.specs.Follow.{lines_of, event_line, followed, followed_if, follow_answer};
-ghost use Rattle.utreexo.specs.Frames.{bodies_of};
-ghost use Rattle.utreexo.specs.Machine.{start, is_refused, verdicts, chain_after, next_follower};
+ghost use Rattle.utreexo.specs.Follow.{event_line, sends_nothing, closing_line, closing_status, ending_by, follow_answer};
+ghost use Rattle.utreexo.specs.Machine.{fresh, next_follower};
+ghost use Rattle.utreexo.specs.Rules.{IsShort};
 
 use crate::follower::Follower;
-use crate::frames::{Bodies, Body, frame_count};
 use crate::line::Line;
 use crate::report::{put_line, say};
 use crate::status::Status;
 use crate::stop::Stop;
+use feed_frame::{Feed, FeedFault};
 use std::alloc::Global;
-use uo_base::{InputFault, Limits, Sink, Source, read_all};
+use uo_base::{Event, Limits, Net, Sink, Source};
 
-/// Reads the whole feed, and reports a line for each block and one for the end.
+/// Reports a line for each event before the next is read, and one for the end.
 pub fn follow<F: Source, R: Sink>(
     alloc: Global,
     limits: Limits,
+    net: Net,
     feed: &mut F,
     report: &mut R,
 ) -> Result<Status, Stop>
-    ensures ended { IfOk result (Ends (follow_answer limits) (F.left feed.old) (R.held report.old) (R.held report.new)) }
-    ensures part { StaysWithin (follow_answer limits) (F.left feed.old) (R.held report.old) (R.held report.new) }
+    requires { limits.bytes ≤ 2 ^ 48 }
+    ensures ended { IfOk result (Ends (follow_answer limits net) (F.left feed.old) (R.held report.old) (R.held report.new)) }
+    ensures part { StaysWithin (follow_answer limits net) (F.left feed.old) (R.held report.old) (R.held report.new) }
+    ensures taken { IsErrOf result Stop.ReadFault → WritesTaken (next_follower limits) (event_line limits) sends_nothing fresh net limits.bytes
+        (F.left feed.old) (F.left feed.new) (R.held report.old) (R.held report.new) None None }
     ensures read { IsErrOf result Stop.ReadFault → Rose (F.faults feed.old) (F.faults feed.new) }
     ensures write { IsErrOf result Stop.WriteFault → Rose (R.faults report.old) (R.faults report.new) }
 {
-    match read_all(alloc, feed, limits.bytes) {
-        Ok(text) => follow_text(alloc, limits, &text, report),
-        Err(InputFault::Limit) => say(
-            alloc,
-            report,
-            Status::InputLimit,
-            Line::LimitFeed(limits.bytes),
-        ),
-        Err(InputFault::ReadFault) => Err(Stop::ReadFault),
-        Err(InputFault::NoMemory) => Err(Stop::NoMemory),
-    }
+    let mut follower = Follower::new();
+    let ending = put_events(alloc, limits, net, &mut follower, feed, report)?;
+    let (status, line) = closing(&follower, ending);
+    say(alloc, report, status, line)
 }
 
-fn follow_text<R: Sink>(
+// Takes each event, up to the end of the feed, and answers how it ended.
+fn put_events<F: Source, R: Sink>(
     alloc: Global,
     limits: Limits,
-    text: &[u8],
+    net: Net,
+    follower: &mut Follower,
+    feed: &mut F,
     report: &mut R,
-) -> Result<Status, Stop>
-    ensures status { IfOk result (λ status. status ≡ (followed_if limits (bodies_of text.now)).status) }
-    ensures whole { OnOk result (Appends (R.held report.old) (R.held report.new) (followed_if limits (bodies_of text.now)).report) }
-    ensures part { AppendsPart (R.held report.old) (R.held report.new) (followed_if limits (bodies_of text.now)).report }
-    ensures read { IsErrOf result Stop.ReadFault → ⊥ }
-    ensures write { IsErrOf result Stop.WriteFault → Rose (R.faults report.old) (R.faults report.new) }
-{
-    match frame_count(text) {
-        Some(events) => follow_bodies(alloc, limits, Bodies::new(text), events, report),
-        None => say(alloc, report, Status::Frame, Line::FrameUnbuilt),
-    }
-}
-
-fn follow_bodies<R: Sink>(
-    alloc: Global,
-    limits: Limits,
-    bodies: Bodies<'_>,
-    events: u64,
-    report: &mut R,
-) -> Result<Status, Stop>
-    requires { events ≡ length bodies }
-    ensures status { IfOk result (λ status. status ≡ (followed limits bodies.entry).status) }
-    ensures whole { OnOk result (Appends (R.held report.old) (R.held report.new) (followed limits bodies.entry).report) }
-    ensures part { AppendsPart (R.held report.old) (R.held report.new) (followed limits bodies.entry).report }
-    ensures read { IsErrOf result Stop.ReadFault → ⊥ }
-    ensures write { IsErrOf result Stop.WriteFault → Rose (R.faults report.old) (R.faults report.new) }
-{
-    let follower = put_events(alloc, limits, bodies, report)?;
-    say(alloc, report, follower.status(), follower.end(events))
-}
-
-// Reports each block before the next is judged.
-fn put_events<R: Sink>(
-    alloc: Global,
-    limits: Limits,
-    bodies: Bodies<'_>,
-    report: &mut R,
-) -> Result<Follower, Stop>
-    ensures chain { IfOk result (λ follower. follower.chain ≡ chain_after limits start bodies.entry) }
-    ensures refused { IfOk result (λ follower. follower.refused ≡ list_any is_refused (verdicts limits start bodies.entry)) }
-    ensures whole { OnOk result (Appends (R.held report.old) (R.held report.new) (lines_of (verdicts limits start bodies.entry))) }
-    ensures part { AppendsPart (R.held report.old) (R.held report.new) (lines_of (verdicts limits start bodies.entry)) }
-    ensures read { IsErrOf result Stop.ReadFault → ⊥ }
+) -> Result<Option<FeedFault>, Stop>
+    requires fresh { follower.old ≡ fresh }
+    requires bytes { limits.bytes ≤ 2 ^ 48 }
+    ensures ended { IfOk result (TakesFeed (next_follower limits) (event_line limits) sends_nothing fresh net limits.bytes
+        follower.new (F.left feed.old) (R.held report.old) (R.held report.new) None None) }
+    ensures part { WritesPart (next_follower limits) (event_line limits) sends_nothing fresh net limits.bytes
+        (F.left feed.old) (R.held report.old) (R.held report.new) None None }
+    ensures taken { IsErrOf result Stop.ReadFault → WritesTaken (next_follower limits) (event_line limits) sends_nothing fresh net limits.bytes
+        (F.left feed.old) (F.left feed.new) (R.held report.old) (R.held report.new) None None }
+    ensures read { IsErrOf result Stop.ReadFault → Rose (F.faults feed.old) (F.faults feed.new) }
     ensures write { IsErrOf result Stop.WriteFault → Rose (R.faults report.old) (R.faults report.new) }
     ensures later { R.faults report.old ≤ R.faults report.new }
 {
-    let mut follower = Follower::new();
-    for body in bodies {
-        put_event(alloc, limits, &mut follower, body, report)?;
+    let mut frames = Feed::new(alloc, net, limits.bytes);
+    loop {
+        match frames.next(feed) {
+            Ok(Some(event)) => put_event(alloc, limits, follower, event, report)?,
+            Ok(None) => return Ok(None),
+            Err(fault) => return ending_by(fault),
+        }
     }
-    Ok(follower)
 }
 
+// A fault of the source or of memory stops the run, and any other one ends the feed.
+fn ending_by(fault: FeedFault) -> Result<Option<FeedFault>, Stop>
+    ensures { result ≡ ending_by fault }
+{
+    match fault {
+        FeedFault::ReadFault => Err(Stop::ReadFault),
+        FeedFault::NoMemory => Err(Stop::NoMemory),
+        _ => Ok(Some(fault)),
+    }
+}
+
+#[tactic(auto, unfolding(crate::specs::Follow::event_line))]
 fn put_event<R: Sink>(
     alloc: Global,
     limits: Limits,
     follower: &mut Follower,
-    body: Body<'_>,
+    event: Event<'_>,
     report: &mut R,
 ) -> Result<(), Stop>
-    requires { follower.old.chain.blocks ≤ 2 ^ 31 }
-    ensures next { OnOk result (follower.new ≡ next_follower limits follower.old body.entry.bytes.now) }
+    requires short { IsShort (event_of event) }
+    requires few { follower.old.chain.blocks ≤ 2 ^ 31 }
+    requires counted { follower.old.events < 2 ^ 63 }
+    ensures next { OnOk result (follower.new ≡ next_follower limits follower.old (event_of event.entry)) }
     ensures few { follower.new.chain.blocks ≤ 2 ^ 31 }
-    ensures whole { OnOk result (Appends (R.held report.old) (R.held report.new) (event_line limits follower.old.chain body.entry.bytes.now)) }
-    ensures part { AppendsPart (R.held report.old) (R.held report.new) (event_line limits follower.old.chain body.entry.bytes.now) }
+    ensures whole { OnOk result (Appends (R.held report.old) (R.held report.new) (event_line limits follower.old (event_of event.entry))) }
+    ensures part { AppendsPart (R.held report.old) (R.held report.new) (event_line limits follower.old (event_of event.entry)) }
     ensures read { IsErrOf result Stop.ReadFault → ⊥ }
     ensures write { IsErrOf result Stop.WriteFault → Rose (R.faults report.old) (R.faults report.new) }
     ensures later { R.faults report.old ≤ R.faults report.new }
 {
-    let verdict = follower.take(alloc, limits, body.bytes)?;
+    let verdict = follower.take(alloc, limits, event)?;
     put_line(alloc, report, Line::Verdict(verdict))
+}
+
+// The status and the last line of a run over a feed that ended so.
+fn closing(follower: &Follower, ending: Option<FeedFault>) -> (Status, Line)
+    ensures status { result.0 ≡ closing_status follower.now ending }
+    ensures line { result.1 ≡ closing_line follower.now ending }
+{
+    match ending {
+        Some(FeedFault::Magic { offset, found }) => (
+            Status::Frame,
+            Line::FrameMagic { offset, found },
+        ),
+        Some(FeedFault::Cut { offset, missing }) => (
+            Status::Frame,
+            Line::FrameCut { offset, missing },
+        ),
+        Some(FeedFault::TooLong { offset, length }) => (
+            Status::Frame,
+            Line::FrameLong { offset, length },
+        ),
+        Some(FeedFault::BadRollback { offset, length }) => (
+            Status::Frame,
+            Line::FrameRollback { offset, length },
+        ),
+        Some(FeedFault::Limit { bytes }) => (Status::InputLimit, Line::LimitFeed(bytes)),
+        Some(FeedFault::ReadFault) | Some(FeedFault::NoMemory) | None => {
+            (follower.status(), follower.end())
+        }
+    }
 }

@@ -1,6 +1,7 @@
 //! What a node keeps from event to event.
-ghost use Rattle.std.specs.Prelude.{◌≡◌, ◌<◌, ◌≤◌, ◌^◌, IfOk, OnOk, OnErr, length};
-ghost use Rattle.utreexo.specs.Rules.{verdict_on};
+ghost use Rattle.std.specs.Prelude.{◌≡◌, ◌<◌, ◌≤◌, ◌^◌, IfOk, OnOk, OnErr};
+ghost use Rattle.uo_base.specs.FeedEvent.{event_of};
+ghost use Rattle.utreexo.specs.Rules.{IsShort, verdict_on};
 ghost use Rattle.utreexo.specs.Machine.{fresh, next_follower, is_refused};
 
 use crate::chain::Chain;
@@ -9,12 +10,13 @@ use crate::rules::judge;
 use crate::status::Status;
 use crate::verdict::Verdict;
 use std::alloc::Global;
-use uo_base::{Limits, NoMemory};
+use uo_base::{Event, Limits, NoMemory};
 
-/// A node's chain, and whether it has refused an event.
+/// A node's chain, how many events there were, and whether it has refused one.
 #[derive(Clone, Copy, Debug, PartialEq, Eq)]
 pub struct Follower {
     pub chain: Chain,
+    pub events: u64,
     pub refused: bool,
 }
 
@@ -27,22 +29,30 @@ impl Follower {
     {
         Follower {
             chain: Chain::new(),
+            events: 0,
             refused: false,
         }
     }
 
-    /// Judges a block's bytes, and goes on to the chain that the verdict makes.
-    pub fn take(&mut self, alloc: Global, limits: Limits, body: &[u8]) -> Result<Verdict, NoMemory>
-        requires short { length body.now < 2 ^ 32 }
+    /// Judges an event, and goes on to the chain that the verdict makes.
+    pub fn take(
+        &mut self,
+        alloc: Global,
+        limits: Limits,
+        event: Event<'_>,
+    ) -> Result<Verdict, NoMemory>
+        requires short { IsShort (event_of event) }
         requires few { self.old.chain.blocks ≤ 2 ^ 31 }
-        ensures verdict { IfOk result (λ verdict. verdict ≡ verdict_on limits self.old.chain body.now) }
-        ensures next { OnOk result (self.new ≡ next_follower limits self.old body.now) }
+        requires counted { self.old.events < 2 ^ 63 }
+        ensures verdict { IfOk result (λ verdict. verdict ≡ verdict_on limits self.old.chain (event_of event.entry)) }
+        ensures next { OnOk result (self.new ≡ next_follower limits self.old (event_of event.entry)) }
         ensures few { self.new.chain.blocks ≤ 2 ^ 31 }
         ensures stays { OnErr result (self.new ≡ self.old) }
     {
-        let verdict = judge(alloc, limits, &self.chain, body)?;
+        let verdict = judge(alloc, limits, &self.chain, event)?;
         self.refused |= is_refused(&verdict);
         self.chain.apply(&verdict);
+        self.events += 1;
         Ok(verdict)
     }
 
@@ -57,12 +67,12 @@ impl Follower {
         }
     }
 
-    /// The last line of a report, after so many events.
-    pub fn end(&self, events: u64) -> Line
-        ensures { result ≡ end_line events self.now.chain }
+    /// The last line of the report of such a run.
+    pub fn end(&self) -> Line
+        ensures { result ≡ end_line self.now }
     {
         Line::End {
-            events,
+            events: self.events,
             tip: self.chain.newest(),
             leaves: self.chain.leaves,
         }
@@ -72,5 +82,8 @@ impl Follower {
 fn is_refused(verdict: &Verdict) -> bool
     ensures { result ≡ is_refused verdict.now }
 {
-    matches!(verdict, Verdict::Refused { .. })
+    match verdict {
+        Verdict::Refused { .. } | Verdict::TooDeep { .. } | Verdict::Stray => true,
+        Verdict::Accepted { .. } | Verdict::RolledBack { .. } => false,
+    }
 }

@@ -20,13 +20,25 @@ pub enum Line {
     /// The words are not accepted, from this index on.
     Words(u64),
     /// No frame begins with these four bytes at this offset.
-    FrameMagic { offset: u64, found: [u8; 4] },
+    FrameMagic {
+        offset: u64,
+        found: [u8; 4],
+    },
     /// The feed ends within the frame at this offset, which lacks so many bytes.
-    FrameCut { offset: u64, missing: u64 },
+    FrameCut {
+        offset: u64,
+        missing: u64,
+    },
     /// The block or proof at this offset has more bytes than one may have.
-    FrameLong { offset: u64, length: u32 },
+    FrameLong {
+        offset: u64,
+        length: u32,
+    },
     /// The rollback at this offset has not four bytes.
-    FrameRollback { offset: u64, length: u32 },
+    FrameRollback {
+        offset: u64,
+        length: u32,
+    },
     /// The feed has more than this many bytes.
     LimitFeed(u64),
 }

@@ -6,7 +6,6 @@ ghost use Rattle.std.specs.Prelude.{◌≡◌, ◌<◌};
 mod chain;
 mod follow;
 mod follower;
-mod frames;
 mod hash_text;
 mod line;
 mod report;

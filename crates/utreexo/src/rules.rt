@@ -1,14 +1,16 @@
 //! The rules that a block is judged by.
 ghost use Rattle.std.specs.Prelude.{◌≡◌, ◌+◌, ◌<◌, ◌≤◌, ◌^◌, IfOk, IsTrue, MatchOption, Some, sum_by, count_by, length, ◌∷◌, [], true, false};
+ghost use Rattle.uo_base.specs.FeedEvent.{event_of};
+ghost use Rattle.block_codec.specs.Reading.{block_in};
 ghost use Rattle.tx_codec.specs.Views.{input_of, output_of};
-ghost use Rattle.utreexo.specs.Rules.{is_null, is_coinbase_by, is_spendable, is_single, new_count, subsidy_at, is_built, merkle_step, judged, verdict_on};
+ghost use Rattle.utreexo.specs.Rules.{is_null, is_coinbase_by, is_spendable, is_single, new_count, subsidy_at, is_built, merkle_step, judged, verdict_at, rolled_back, verdict_on, IsShort};
 
 use crate::chain::Chain;
 use crate::verdict::{Refusal, Verdict};
 use block_codec::{BlockFault, BlockView, MerkleOutcome, block_hash, merkle, read_block, weight};
 use std::alloc::Global;
 use tx_codec::{InView, OutView, TxView};
-use uo_base::{Limits, NoMemory};
+use uo_base::{Event, Limits, NoMemory};
 use uo_digest::Digest;
 
 const HEAVIEST: u64 = 4_000_000;
@@ -27,14 +29,39 @@ const FIRST_SUBSIDY: u64 = 5_000_000_000;
 
 const HALVING: u32 = 210_000;
 
-/// The verdict on a block's bytes.
+/// The verdict on an event.
 #[tactic(auto, unfolding(crate::specs::Rules::verdict_on))]
-pub fn judge(alloc: Global, limits: Limits, chain: &Chain, body: &[u8]) -> Result<Verdict, NoMemory>
-    requires { length body.now < 2 ^ 32 }
-    ensures { IfOk result (λ verdict. verdict ≡ verdict_on limits chain.now body.now) }
+pub fn judge(
+    alloc: Global,
+    limits: Limits,
+    chain: &Chain,
+    event: Event<'_>,
+) -> Result<Verdict, NoMemory>
+    requires { IsShort (event_of event) }
+    ensures { IfOk result (λ verdict. verdict ≡ verdict_on limits chain.now (event_of event.entry)) }
 {
-    match read_block(alloc, body) {
-        Ok(block) => judge_block(alloc, limits, chain, &block),
+    match event {
+        Event::Block { block, message } => {
+            judge_bytes(alloc, limits, chain, block, message.is_some())
+        }
+        Event::Rollback { count } => Ok(roll_back(chain, count)),
+        Event::Stray => Ok(Verdict::Stray),
+    }
+}
+
+// The verdict on a block's bytes, beside a message or none.
+fn judge_bytes(
+    alloc: Global,
+    limits: Limits,
+    chain: &Chain,
+    bytes: &[u8],
+    proved: bool,
+) -> Result<Verdict, NoMemory>
+    requires { length bytes.now ≤ 4000000 }
+    ensures { IfOk result (λ verdict. verdict ≡ verdict_at limits chain.now (block_in bytes.now) proved) }
+{
+    match read_block(alloc, bytes) {
+        Ok(block) => judge_block(alloc, limits, chain, &block, proved),
         Err(BlockFault::NotABlock) => Ok(Verdict::Refused {
             height: chain.blocks,
             hash: None,
@@ -44,14 +71,34 @@ pub fn judge(alloc: Global, limits: Limits, chain: &Chain, body: &[u8]) -> Resul
     }
 }
 
+// No block can be taken back yet.
+fn roll_back(chain: &Chain, count: u32) -> Verdict
+    ensures { result ≡ rolled_back chain.now count }
+{
+    if count == 0 {
+        Verdict::RolledBack {
+            count,
+            height: chain.blocks.checked_sub(1),
+            hash: chain.tip,
+            leaves: chain.leaves,
+        }
+    } else {
+        Verdict::TooDeep {
+            asked: count,
+            kept: 0,
+        }
+    }
+}
+
 #[tactic(auto, unfolding(crate::specs::Rules::judged))]
 fn judge_block(
     alloc: Global,
     limits: Limits,
     chain: &Chain,
     block: &BlockView<'_>,
+    proved: bool,
 ) -> Result<Verdict, NoMemory>
-    ensures { IfOk result (λ verdict. verdict ≡ judged limits chain.now block.now) }
+    ensures { IfOk result (λ verdict. verdict ≡ judged limits chain.now block.now proved) }
 {
     let height = chain.blocks;
     let hash = block_hash(block);
@@ -64,6 +111,9 @@ fn judge_block(
     let weight = weight(block);
     if weight > HEAVIEST {
         return Ok(refused(height, hash, Refusal::Weight { weight }));
+    }
+    if proved {
+        return Ok(refused(height, hash, Refusal::Unbuilt));
     }
     match leaves_after(limits, chain, block) {
         Some(leaves) => Ok(Verdict::Accepted {

@@ -3,7 +3,8 @@ ghost use Rattle.std.specs.Prelude.{◌≡◌, ◌≤◌, ◌<◌, ◌^◌, ◌�
 ghost use Rattle.std.specs.Bool.{OnFalse};
 ghost use Rattle.std.specs.String.{string_bytes};
 ghost use Rattle.uo_base.specs.Faults.{Rose};
-ghost use Rattle.utreexo.specs.Runs.{uses_of, answer_of, EndsRun, StaysWithinRun, Obeys, UsedRose};
+ghost use Rattle.utreexo.specs.Runs.{uses_of, answer_of, EndsRun, StaysWithinRun, Obeys, ReportsTaken, UsedRose};
+ghost use Rattle.utreexo.specs.Words.{command_of};
 
 use crate::follow::follow;
 use crate::line::Line;
@@ -13,7 +14,7 @@ use crate::stop::Stop;
 use crate::words::{Command, read_words};
 use std::alloc::Global;
 use std::sync::ledger::Ledger;
-use uo_base::{Limits, Sink, Source};
+use uo_base::{Limits, Net, Sink, Source};
 use uo_digest::{Digester, Steps};
 
 /// Does all that the words ask for.
@@ -39,6 +40,10 @@ pub fn run<D: Digester, F: Source, P: Source, W: Source, O: Sink, R: Sink, L: Le
     ensures outcome { Obeys (answer_of (map string_bytes words.now) limits)
         (F.left feed.old) (P.left prior.old) (W.left watch.old)
         (R.held report.old) (R.held report.new) (O.held out.old) (O.held out.new) result }
+
+    // Where the feed fails, the lines of all events that were wholly taken are there.
+    ensures taken { result ≡ Status.ReadFault → ReportsTaken (command_of (map string_bytes words.now)) limits
+        (F.left feed.old) (F.left feed.new) (R.held report.old) (R.held report.new) }
 
     // A fault is answered only where a port failed that the words use.
     ensures read { result ≡ Status.ReadFault
@@ -74,12 +79,15 @@ fn run_command<F: Source, P: Source, W: Source, O: Sink, R: Sink>(
     out: &mut O,
     report: &mut R,
 ) -> Result<Status, Stop>
+    requires { limits.bytes ≤ 2 ^ 48 }
     ensures ended { IfOk result (EndsRun (answer_of (map string_bytes words.now) limits)
         (F.left feed.old) (P.left prior.old) (W.left watch.old)
         (R.held report.old) (R.held report.new) (O.held out.old) (O.held out.new)) }
     ensures part { StaysWithinRun (answer_of (map string_bytes words.now) limits)
         (F.left feed.old) (P.left prior.old) (W.left watch.old)
         (R.held report.old) (R.held report.new) (O.held out.old) (O.held out.new) }
+    ensures taken { IsErrOf result Stop.ReadFault → ReportsTaken (command_of (map string_bytes words.now)) limits
+        (F.left feed.old) (F.left feed.new) (R.held report.old) (R.held report.new) }
     ensures read { IsErrOf result Stop.ReadFault
         → UsedRose (uses_of (map string_bytes words.now)).feed (F.faults feed.old) (F.faults feed.new) }
     ensures write { IsErrOf result Stop.WriteFault → Rose (R.faults report.old) (R.faults report.new) }
@@ -90,6 +98,6 @@ fn run_command<F: Source, P: Source, W: Source, O: Sink, R: Sink>(
 {
     match read_words(words) {
         Err(fault) => say(alloc, report, Status::Words, Line::Words(fault.at)),
-        Ok(Command::Follow) => follow(alloc, limits, feed, report),
+        Ok(Command::Follow) => follow(alloc, limits, Net::Main, feed, report),
     }
 }

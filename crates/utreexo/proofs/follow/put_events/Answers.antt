@@ -1,36 +1,67 @@
-use Rattle.std.proofs.Common.{arith}
-use Rattle.uo_base.proofs.PortLemmas.{AppendsPart-whole}
-use Rattle.utreexo.proofs.Progress.{Progress-start, Progress-event, Progress-part, Progress-lines, Progress-chain, Progress-refused}
+use Rattle.std.proofs.Common.{◌≡◌, ◌≤◌, Ok, Err, ap, sym, ◌∙◌, refl, arith, None}
+use Rattle.std.proofs.KnownBytes.{Appends-nil}
+use Rattle.uo_base.proofs.PortLemmas.{AppendsPart-none}
+use Rattle.feed_frame.proofs.Progress.{Progress-start, Progress-event, Progress-event_part, Progress-part, Progress-taken, Progress-ended}
+use Rattle.utreexo.specs.Machine.{next_follower}
+use Rattle.utreexo.proofs.FollowLemmas.{step-event, goes-on, short-event, step-end, bad-ends, bad-failed}
 use Rattle.utreexo.proofs.follow.put_events.Goals as goal
 
-pub loop-body-init : goal.loop-body-init
-loop-body-init g c = record {
-  progress = rw (c.into_iter-body-iterator.ensures.into_iter_gives, c.new-follower.ensures) (Progress-start _ _ _);
-  few = rw c.new-follower.ensures (omega arith);
-  later = omega arith;
+pub loop-event-init : goal.loop-event-init
+loop-event-init g c = record {
+  progress = rw c.requires.fresh (Progress-start _ _ _ _ _ _ _ _ _ _ c.new-frames.ensures);
+  going = c.new-frames.ensures.failed;
+  limit = c.new-frames.ensures.limit_is;
+  within = rw c.new-frames.ensures.offset (omega arith);
+  counted = rw c.requires.fresh (omega arith);
+  few = rw c.requires.fresh (omega arith);
+  later_feed = omega arith;
+  later_report = omega arith;
 }
 
-pub loop-body-preserved : goal.loop-body-preserved
-loop-body-preserved g c =
-    let w = c.loop-body.invariant in
+pub loop-event-preserved : goal.loop-event-preserved
+unfolding next_follower
+loop-event-preserved g c =
+    let w = c.loop-event.invariant in
+    let a = c.next.follows.holds-at-none in
+    let is = c.in-Ok-Some.is ∙ ap (λ o. Ok o) c.in-Ok-Some.field-0-is in
+    let s = step-event _ _ _ _ _ a _ is in
+    let on = c.in_ok-put_event-in-Ok-Some.ensures in
     record {
-      progress = rw c.in_ok-put_event.ensures.next (Progress-event _ _ _ _ _ _ _ _ _ c.in-Some.ensures.steps w.progress c.in_ok-put_event.ensures.whole);
-      few = c.put_event.ensures.few;
-      later = omega (arith, w.later, c.put_event.ensures.later);
+      progress = Progress-event _ _ _ _ _ _ _ _ _ _ _ _ _ _ w.progress _ _ _ _ _ _ _ s.0 on.next on.whole (Appends-nil None);
+      going = goes-on _ _ _ _ _ a _ is;
+      limit = a.limit ∙ w.limit;
+      within = omega (arith, a.within, a.limit, w.limit);
+      counted = rw on.next (omega (arith, s.1, w.counted));
+      few = on.few;
+      later_feed = omega (arith, w.later_feed, c.next.ensures.later);
+      later_report = omega (arith, w.later_report, c.put_event.ensures.later);
     }
 
-pub returns-in_err-put_event-clause-part : goal.returns-in_err-put_event-clause-part
-returns-in_err-put_event-clause-part g c =
-    Progress-part _ _ _ _ _ _ _ _ _ c.in-Some.ensures.steps c.loop-body.invariant.progress c.put_event.ensures.part
+pub put_event-requires-clause-short : goal.put_event-requires-clause-short
+put_event-requires-clause-short g c =
+    short-event _ _ _ _ _ c.next.follows.holds-at-none _ (c.in-Ok-Some.is ∙ ap (λ o. Ok o) c.in-Ok-Some.field-0-is)
 
-pub returns-clause-chain : goal.returns-clause-chain
-returns-clause-chain g c = Progress-chain _ _ _ _ _ _ c.in-None.ensures.steps.0 c.loop-body.invariant.progress
+pub returns-in_err-put_event-in-Ok-Some-clause-part : goal.returns-in_err-put_event-in-Ok-Some-clause-part
+returns-in_err-put_event-in-Ok-Some-clause-part g c =
+    let s = step-event _ _ _ _ _ c.next.follows.holds-at-none _ (c.in-Ok-Some.is ∙ ap (λ o. Ok o) c.in-Ok-Some.field-0-is) in
+    Progress-event_part _ _ _ _ _ _ _ _ _ _ _ _ _ _ c.loop-event.invariant.progress c.next.follows.lender-at-none _ _ _ _ _ s.0 c.put_event.ensures.part (AppendsPart-none _ _)
 
-pub returns-clause-refused : goal.returns-clause-refused
-returns-clause-refused g c = Progress-refused _ _ _ _ _ _ c.in-None.ensures.steps.0 c.loop-body.invariant.progress
+pub returns-in-Ok-None-clause-ended : goal.returns-in-Ok-None-clause-ended
+returns-in-Ok-None-clause-ended g c =
+    Progress-ended _ _ _ _ _ _ _ _ _ _ _ _ _ _ c.loop-event.invariant.progress c.next.follows.lender-at-none _ _ (step-end _ _ _ _ _ c.next.follows.holds-at-none (c.in-Ok-None.is ∙ ap (λ o. Ok o) c.in-Ok-None.field-0-is))
 
-pub returns-clause-whole : goal.returns-clause-whole
-returns-clause-whole g c = Progress-lines _ _ _ _ _ _ c.in-None.ensures.steps.0 c.loop-body.invariant.progress
+pub returns-in-Ok-None-clause-part : goal.returns-in-Ok-None-clause-part
+returns-in-Ok-None-clause-part g c = Progress-part _ _ _ _ _ _ _ _ _ _ _ _ _ _ c.loop-event.invariant.progress
 
-pub returns-clause-part : goal.returns-clause-part
-returns-clause-part g c = AppendsPart-whole _ _ _ (Progress-lines _ _ _ _ _ _ c.in-None.ensures.steps.0 c.loop-body.invariant.progress)
+pub returns-in-Err-clause-ended : goal.returns-in-Err-clause-ended
+returns-in-Err-clause-ended g c =
+    bad-ends _ _ _ _ _ c.next.follows.holds-at-none _ c.in-Err.fault c.ending_by.result c.ending_by.ensures c.in-Err.is
+    (λ ending f. Progress-ended _ _ _ _ _ _ _ _ _ _ _ _ _ _ c.loop-event.invariant.progress c.next.follows.lender-at-none _ ending f)
+
+pub returns-in-Err-clause-part : goal.returns-in-Err-clause-part
+returns-in-Err-clause-part g c = Progress-part _ _ _ _ _ _ _ _ _ _ _ _ _ _ c.loop-event.invariant.progress
+
+pub returns-in-Err-clause-taken : goal.returns-in-Err-clause-taken
+returns-in-Err-clause-taken g c failed =
+    Progress-taken _ _ _ _ _ _ _ _ _ _ _ _ _ _ c.loop-event.invariant.progress _
+    (bad-failed _ _ _ _ _ c.next.follows.holds-at-none c.in-Err.fault c.ending_by.result c.ending_by.ensures c.in-Err.is failed)

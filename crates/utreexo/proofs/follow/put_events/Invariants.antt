@@ -1,10 +1,22 @@
-use Rattle.std.proofs.Common.{◌≤◌, ◌^◌}
-use Rattle.utreexo.proofs.Progress.{Progress}
+use Rattle.std.proofs.Common.{◌≡◌, ◌≤◌, ◌*◌, ◌-◌, ◌^◌, false, None}
+use Rattle.feed_frame.specs.FeedState.{limit_of}
+use Rattle.feed_frame.proofs.Progress.{Progress}
+use Rattle.utreexo.specs.Follow.{event_line, sends_nothing}
+use Rattle.utreexo.specs.Machine.{fresh, next_follower}
 use Rattle.utreexo.proofs.follow.put_events.Given as goal
 
-abbrev pub invariant-loop-body : goal.invariant-loop-body
-invariant-loop-body g l = record {
-  progress : Progress l.fn.limits l.fn.bodies l.body-iterator l.follower (g.R.Sink.held l.initial.report) (g.R.Sink.held l.report);
+abbrev pub invariant-loop-event : goal.invariant-loop-event
+invariant-loop-event g l = record {
+  progress : Progress (next_follower l.fn.limits) (event_line l.fn.limits) sends_nothing fresh l.fn.net l.fn.limits.bytes
+      l.frames l.follower (g.F.Source.left l.initial.feed) (g.F.Source.left l.feed) (g.R.Sink.held l.initial.report) (g.R.Sink.held l.report) None None;
+  going : l.frames.failed ≡ false;
+  limit : limit_of l.frames ≡ l.fn.limits.bytes;
+  within : l.frames.offset ≤ l.fn.limits.bytes;
+  counted : 8 * l.follower.events ≤ l.frames.offset;
   few : l.follower.chain.blocks ≤ 2 ^ 31;
-  later : g.R.Sink.faults l.initial.report ≤ g.R.Sink.faults l.report;
+  later_feed : g.F.Source.faults l.initial.feed ≤ g.F.Source.faults l.feed;
+  later_report : g.R.Sink.faults l.initial.report ≤ g.R.Sink.faults l.report;
 }
+
+abbrev pub decreases-loop-event : goal.decreases-loop-event
+decreases-loop-event g l = l.fn.limits.bytes - l.frames.offset

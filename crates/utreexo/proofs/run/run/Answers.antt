@@ -1,14 +1,21 @@
 use Rattle.std.proofs.Common.{◌≡◌, ℕ, Bool, true, false, cond, nat_lt, length, List, Option, Some, None, Result, Ok, Err, refl, sym, ap, ◌∙◌}
 use Rattle.std.proofs.lemmas.Bool.{false≢true}
 use Rattle.uo_base.specs.declared.event.Limits.{Limits}
+use Rattle.uo_base.specs.declared.event.Net.TheVariants.{Main}
+use Rattle.feed_frame.specs.Events.{events_of}
+use Rattle.feed_frame.specs.Machine.{after}
+use Rattle.feed_frame.specs.declared.fault.FeedFault.{FeedFault}
+use Rattle.feed_frame.specs.declared.fault.FeedFault.TheVariants as Fault
+use Rattle.feed_frame.specs.declared.fault.FeedFault.TheVariants.{Magic, Cut, TooLong, BadRollback, Limit}
+use Rattle.utreexo.specs.declared.follower.Follower.{Follower}
 use Rattle.utreexo.specs.declared.words.Command.{Command}
 use Rattle.utreexo.specs.declared.words.Command.TheVariants.{Follow}
 use Rattle.utreexo.specs.declared.words.WordFault.{WordFault}
 use Rattle.utreexo.specs.declared.status.Status.{Status}
 use Rattle.utreexo.specs.declared.status.Status.TheVariants.{ReadFault, WriteFault, NoMemory}
 use Rattle.utreexo.specs.Answers.{Answer}
-use Rattle.utreexo.specs.Follow.{follow_answer, followed, followed_if}
-use Rattle.utreexo.specs.Frames.{bodies_of}
+use Rattle.utreexo.specs.Follow.{closing_status, answer_over, follow_answer}
+use Rattle.utreexo.specs.Machine.{fresh, next_follower}
 use Rattle.utreexo.specs.Runs.{Inputs, answer_by, answer_of}
 use Rattle.utreexo.specs.Status.{status_of}
 use Rattle.utreexo.specs.Words.{command_of}
@@ -25,19 +32,23 @@ unfolding is_stop
 end_goes_on true = refl
 end_goes_on false = refl
 
-choice_goes_on : (b : Bool) (x y : Answer) → is_stop x.status ≡ false → is_stop y.status ≡ false → is_stop (cond b x y).status ≡ false
-choice_goes_on true x y p q = p
-choice_goes_on false x y p q = q
-
-followed_goes_on : (limits : Limits) (bodies : Option (List (List ℕ))) → is_stop (followed_if limits bodies).status ≡ false
-unfolding is_stop followed
-followed_goes_on limits (Some bodies) = end_goes_on _
-followed_goes_on limits None = refl
+ended_goes_on : (f : Follower) (ending : Option FeedFault) → is_stop (closing_status f ending) ≡ false
+unfolding is_stop
+ended_goes_on f None = end_goes_on f.refused
+ended_goes_on f (Some (Magic offset found)) = refl
+ended_goes_on f (Some (Cut offset missing)) = refl
+ended_goes_on f (Some (TooLong offset length)) = refl
+ended_goes_on f (Some (BadRollback offset length)) = refl
+ended_goes_on f (Some (Limit bytes)) = refl
+ended_goes_on f (Some Fault.ReadFault) = end_goes_on f.refused
+ended_goes_on f (Some Fault.NoMemory) = end_goes_on f.refused
 
 answer_goes_on : (r : Result Command WordFault) (limits : Limits) (inputs : Inputs) → is_stop (answer_by r limits inputs).status ≡ false
-unfolding is_stop follow_answer
+unfolding is_stop follow_answer answer_over
 answer_goes_on (Err fault) limits inputs = refl
-answer_goes_on (Ok Follow) limits inputs = choice_goes_on (nat_lt limits.bytes (length inputs.feed)) _ _ refl (followed_goes_on limits (bodies_of inputs.feed))
+answer_goes_on (Ok Follow) limits inputs =
+    let events = events_of Main limits.bytes inputs.feed in
+    ended_goes_on (after (next_follower limits) fresh events.events) events.ending
 
 -- no whole answer is that of a run that was stopped
 not_stopped : (words : List (List ℕ)) (limits : Limits) (inputs : Inputs) (status stop : Status) → status ≡ (answer_of words limits inputs).status → is_stop stop ≡ true
@@ -60,3 +71,6 @@ returns-in-Ok-clause-read g c = λ h. absurd (not_read_fault _ _ _ _ c.in-Ok.ens
 
 pub returns-in-Ok-clause-write : goal.returns-in-Ok-clause-write
 returns-in-Ok-clause-write g c = λ h. absurd (not_write_fault _ _ _ _ c.in-Ok.ensures.ended.answered h)
+
+pub returns-in-Ok-clause-taken : goal.returns-in-Ok-clause-taken
+returns-in-Ok-clause-taken g c = λ h. absurd (not_read_fault _ _ _ _ c.in-Ok.ensures.ended.answered h)

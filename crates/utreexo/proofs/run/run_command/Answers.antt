@@ -1,30 +1,22 @@
-use Rattle.std.proofs.Common.{◌≡◌, ℕ, Bool, true, false, cond, nat_lt, length, List, [], Option, Some, None, Ok, Err, refl, sym, ap, ◌∙◌}
+use Rattle.std.proofs.Common.{◌≡◌, ℕ, Bool, true, false, cond, nat_lt, length, List, [], Option, Some, None, Ok, Err, refl, sym, ap, subst, ◌∙◌}
 use Rattle.uo_base.specs.declared.event.Limits.{Limits}
+use Rattle.uo_base.specs.declared.event.Net.{Net}
+use Rattle.uo_base.specs.declared.event.Net.TheVariants.{Main}
 use Rattle.utreexo.specs.declared.line.Line.TheVariants as Line
 use Rattle.utreexo.specs.declared.status.Status.TheVariants.{Words}
 use Rattle.utreexo.specs.declared.words.Command.{Command}
 use Rattle.utreexo.specs.declared.words.Command.TheVariants.{Follow}
 use Rattle.utreexo.specs.declared.words.WordFault.{WordFault}
 use Rattle.utreexo.specs.Answers.{Answer, said}
-use Rattle.utreexo.specs.Follow.{follow_answer, followed, followed_if}
-use Rattle.utreexo.specs.Frames.{bodies_of}
-use Rattle.utreexo.specs.Runs.{Inputs, answer_by, answer_of}
+use Rattle.utreexo.specs.Follow.{answer_over, follow_answer}
+use Rattle.utreexo.specs.Runs.{Inputs, answer_by, answer_of, ReportsTaken}
 use Rattle.utreexo.specs.Words.{command_of}
 use Rattle.utreexo.proofs.RunLemmas.{EndsRun-report, StaysWithinRun-report, Ends-fixed, StaysWithin-fixed}
 use Rattle.utreexo.proofs.run.run_command.Goals as goal
 
-choose_out : (b : Bool) (x y : Answer) → x.out ≡ [] → y.out ≡ [] → (cond b x y).out ≡ []
-choose_out true x y p q = p
-choose_out false x y p q = q
-
-followed_sends_none : (limits : Limits) (bodies : Option (List (List ℕ))) → (followed_if limits bodies).out ≡ []
-unfolding followed
-followed_sends_none limits (Some bodies) = refl
-followed_sends_none limits None = refl
-
-follow_sends_none : (limits : Limits) (feed : List ℕ) → (follow_answer limits feed).out ≡ []
-unfolding follow_answer
-follow_sends_none limits feed = choose_out (nat_lt limits.bytes (length feed)) _ _ refl (followed_sends_none limits (bodies_of feed))
+follow_sends_none : (limits : Limits) (net : Net) (feed : List ℕ) → (follow_answer limits net feed).out ≡ []
+unfolding follow_answer answer_over
+follow_sends_none limits net feed = refl
 
 is_follow : (command : Command) → command ≡ Follow
 is_follow Follow = refl
@@ -51,9 +43,14 @@ returns-in-Err-clause-part g c =
 pub returns-in-Ok-Follow-clause-ended : goal.returns-in-Ok-Follow-clause-ended
 returns-in-Ok-Follow-clause-ended g c =
     let is = is_answer _ c.args.limits _ Follow (is_follow _) c.in-Ok-Follow.ensures in
-    EndsRun-report _ (follow_answer c.args.limits) is _ _ _ _ _ _ c.follow.result (follow_sends_none _) c.follow.ensures.ended
+    EndsRun-report _ (follow_answer c.args.limits Main) is _ _ _ _ _ _ c.follow.result (follow_sends_none _ _) c.follow.ensures.ended
 
 pub returns-in-Ok-Follow-clause-part : goal.returns-in-Ok-Follow-clause-part
 returns-in-Ok-Follow-clause-part g c =
     let is = is_answer _ c.args.limits _ Follow (is_follow _) c.in-Ok-Follow.ensures in
-    StaysWithinRun-report _ (follow_answer c.args.limits) is _ _ _ _ _ _ c.follow.ensures.part
+    StaysWithinRun-report _ (follow_answer c.args.limits Main) is _ _ _ _ _ _ c.follow.ensures.part
+
+pub returns-in-Ok-Follow-clause-taken : goal.returns-in-Ok-Follow-clause-taken
+returns-in-Ok-Follow-clause-taken g c = λ failed.
+    let is = ap (λ k. Ok k) (sym (is_follow c.in-Ok-Follow.field-0)) ∙ c.in-Ok-Follow.ensures in
+    subst (λ r. ReportsTaken r c.args.limits (g.F.Source.left c.args.feed.now) (g.F.Source.left c.follow.new.feed) (g.R.Sink.held c.args.report.now) (g.R.Sink.held c.follow.new.report)) is (c.follow.ensures.taken failed)
