@@ -17,19 +17,21 @@ enum Failing {
     Report,
 }
 
-/// A port, the status of a run in which it fails, and what the report holds where its call 0, 1 and so on fails.
+/// A port, the status of a run in which it fails, how much of the report there is where its call 0, 1 and so on fails,
+/// and so how many calls of it a whole run makes.
 struct Row {
     failing: Failing,
     status: Status,
     written: &'static [usize],
 }
 
-// 293 bytes in pieces of 64 and the end of the feed; two lines of 78 and 75 bytes in pieces of 20.
+// A first byte, the rest of the magic, the length, a body of 285 bytes in pieces of 64, and the end of the feed behind the line of the block; two
+// lines of 78 and 75 bytes in pieces of 20.
 const ROWS: [Row; 2] = [
     Row {
         failing: Failing::Feed,
         status: Status::ReadFault,
-        written: &[0, 0, 0, 0, 0, 0],
+        written: &[0, 0, 0, 0, 0, 0, 0, 0, 78],
     },
     Row {
         failing: Failing::Report,
@@ -84,7 +86,7 @@ fn check_call<L: Ledger>(
 #[test]
 fn each_call(rt: HostRuntime) -> Result<(), Fail> {
     for row in &ROWS {
-        for call in 0..9 {
+        for call in 0..10 {
             check_call::<Brand>(&rt, rt.alloc(), row, call, Blank::new(1))?;
         }
     }

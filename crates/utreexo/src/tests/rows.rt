@@ -23,7 +23,7 @@ const FOLLOW: &[&str] = &["follow"];
 
 const ANY: u64 = 281_474_976_710_656;
 
-const ROWS: [Row; 18] = [
+const ROWS: [Row; 22] = [
     // nothing
     Row {
         words: FOLLOW,
@@ -149,13 +149,46 @@ const ROWS: [Row; 18] = [
         status: Status::SomeRefused,
         report: "refused 0 000000000019d6689c085ae165831e934ff763ae46a2a6c172b3f1b60a8ce26f merkle repeated 0 0\nend 1 - - 0\n",
     },
-    // feeds that are no list of frames
+    // behind a proof, and proofs that no block follows
+    Row {
+        words: FOLLOW,
+        feed: &[
+            "5554585000000000",
+            "f9beb4d91d010000",
+            GENESIS_HEADER,
+            "010100000001",
+            GENESIS_CORE,
+            "00000000",
+            "55545850000000005554585000000000",
+        ],
+        bytes: ANY,
+        status: Status::SomeRefused,
+        report: "refused 0 000000000019d6689c085ae165831e934ff763ae46a2a6c172b3f1b60a8ce26f unbuilt\nstray\nstray\nend 3 - - 0\n",
+    },
+    // rollbacks
+    Row {
+        words: FOLLOW,
+        feed: &[
+            "555458520400000000000000",
+            "f9beb4d91d010000",
+            GENESIS_HEADER,
+            "010100000001",
+            GENESIS_CORE,
+            "00000000",
+            "555458520400000000000000",
+            "555458520400000002000000",
+        ],
+        bytes: ANY,
+        status: Status::SomeRefused,
+        report: "rolledback 0 - - 0\naccepted 0 000000000019d6689c085ae165831e934ff763ae46a2a6c172b3f1b60a8ce26f 0\nrolledback 0 0 000000000019d6689c085ae165831e934ff763ae46a2a6c172b3f1b60a8ce26f 0\ntoodeep 2 0\nend 4 0 000000000019d6689c085ae165831e934ff763ae46a2a6c172b3f1b60a8ce26f 0\n",
+    },
+    // bad frames
     Row {
         words: FOLLOW,
         feed: &["f9be"],
         bytes: ANY,
         status: Status::Frame,
-        report: "frame unbuilt\n",
+        report: "frame cut 0 6\n",
     },
     Row {
         words: FOLLOW,
@@ -168,14 +201,29 @@ const ROWS: [Row; 18] = [
         ],
         bytes: ANY,
         status: Status::Frame,
-        report: "frame unbuilt\n",
+        report: "frame cut 0 1\n",
+    },
+    Row {
+        words: FOLLOW,
+        feed: &[
+            "f9beb4d91d010000",
+            GENESIS_HEADER,
+            "010100000001",
+            GENESIS_CORE,
+            "00000000",
+            "5554585040000000",
+            "00000000000000000000",
+        ],
+        bytes: ANY,
+        status: Status::Frame,
+        report: "accepted 0 000000000019d6689c085ae165831e934ff763ae46a2a6c172b3f1b60a8ce26f 0\nframe cut 293 54\n",
     },
     Row {
         words: FOLLOW,
         feed: &["f9beb4d901093d00"],
         bytes: ANY,
         status: Status::Frame,
-        report: "frame unbuilt\n",
+        report: "frame long 0 4000001\n",
     },
     Row {
         words: FOLLOW,
@@ -188,7 +236,14 @@ const ROWS: [Row; 18] = [
         ],
         bytes: ANY,
         status: Status::Frame,
-        report: "frame unbuilt\n",
+        report: "frame magic 0 fabfb5da\n",
+    },
+    Row {
+        words: FOLLOW,
+        feed: &["005554585205000000"],
+        bytes: ANY,
+        status: Status::Frame,
+        report: "frame rollback 1 5\n",
     },
     // nine bytes and eight, where eight may be read
     Row {
