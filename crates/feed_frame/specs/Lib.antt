@@ -1,0 +1,5 @@
+pub mod Ahead
+pub mod Events
+pub mod Fetching
+pub mod Finding
+pub mod Frames

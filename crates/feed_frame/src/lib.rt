@@ -1,0 +1,16 @@
+//! Frames of blocks, proofs and rollbacks: a reader that makes a feed of bytes into events, and writers.
+#![tactic(auto)]
+
+ghost use Rattle.feed_frame.specs.Events.{events_of};
+ghost use Rattle.feed_frame.specs.Ahead.{MayCome};
+mod fault;
+mod head;
+mod heading;
+mod next;
+mod reach;
+
+pub use fault::FeedFault;
+pub use head::{Head, Kind};
+pub use heading::read_head;
+pub use next::Next;
+pub use reach::{Reach,Fetched};
