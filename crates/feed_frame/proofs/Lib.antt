@@ -1,3 +1,4 @@
 pub mod Within
 pub mod FrameLemmas
 pub mod Heads
+pub mod Bodies

@@ -3,3 +3,4 @@ pub mod Events
 pub mod Fetching
 pub mod Finding
 pub mod Frames
+pub mod Reading

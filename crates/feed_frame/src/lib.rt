@@ -8,9 +8,11 @@ mod head;
 mod heading;
 mod next;
 mod reach;
+mod reader;
 
 pub use fault::FeedFault;
 pub use head::{Head, Kind};
 pub use heading::read_head;
+pub use reader::Reader;
 pub use next::Next;
 pub use reach::{Reach,Fetched};
