@@ -13,7 +13,7 @@ use Rattle.feed_frame.specs.declared.head.Head.{Head}
 use Rattle.feed_frame.specs.declared.next.Next.{Next}
 use Rattle.feed_frame.specs.declared.next.Next.TheVariants.{Frame as Framed, End, Bad}
 use Rattle.feed_frame.specs.declared.reach.Reach.{Reach}
-use Rattle.feed_frame.specs.Ahead.{frames_ahead, frames_behind, MetEnd, MayCome}
+use Rattle.feed_frame.specs.Ahead.{frames_ahead, frames_behind, is_ending, MetEnd, MayCome}
 use Rattle.feed_frame.specs.Fetching.{FetchesAll, FetchesLast, FetchesPart, PassesLimit, Lacks}
 use Rattle.feed_frame.specs.Finding.{BeginsFrame, FindsHead, FindsNoHead, frames_after}
 use Rattle.feed_frame.specs.Frames.{Frames, no_frames, kind_at, length_fault, frames_from, within, past_limit}
@@ -53,16 +53,25 @@ lacks-ends old f left rest part offset missing (Magic o m) inside are lack = abs
 lacks-ends old f left rest part offset missing (TooLong o m) inside are lack = absurd lack
 lacks-ends old f left rest part offset missing (BadRollback o m) inside are lack = absurd lack
 
+pub lacks-ending : (old : Reach) (left rest : Option (List ℕ)) (part offset missing : ℕ) (fault : FeedFault) → Lacks old left rest part offset missing fault → is_ending fault ≡ true
+lacks-ending old left rest part offset missing ReadFault lack = absurd lack
+lacks-ending old left rest part offset missing NoMemory lack = absurd lack
+lacks-ending old left rest part offset missing (Cut o m) lack = refl
+lacks-ending old left rest part offset missing (Limit o) lack = refl
+lacks-ending old left rest part offset missing (Magic o m) lack = refl
+lacks-ending old left rest part offset missing (TooLong o m) lack = refl
+lacks-ending old left rest part offset missing (BadRollback o m) lack = refl
+
 -- a bad frame, or the limit
-pub finds-bad : (net : Net) (offset : ℕ) (front : List ℕ) (old new : Reach) (left rest : Option (List ℕ)) (fault : FeedFault) → offset ≤ new.at
+pub finds-bad : (net : Net) (offset : ℕ) (front : List ℕ) (old new : Reach) (left rest : Option (List ℕ)) (fault : FeedFault) → offset ≤ new.at → is_ending fault ≡ true
     → EndsFrames old.limit old.at (frames_after net offset front) left rest fault → FindsHead net offset front old new left rest (Bad fault)
-finds-bad net offset front old new left rest fault on e = record {
+finds-bad net offset front old new left rest fault on ends e = record {
   taken = e.taken;
   lost = e.lost;
   ended = e.ended;
   framed = e.framed;
   on = omega arith;
-  fit = refl;
+  fit = ends;
 }
 
 -- a part of a head, of n bytes, did not come whole
@@ -71,7 +80,7 @@ pub finds-lack : (net : Net) (offset : ℕ) (front : List ℕ) (old new : Reach)
     → FindsHead net offset front old new left rest (Bad fault)
 finds-lack net offset front old new left rest n part more fault inside on are is lack =
     let lack' = subst (λ k. Lacks old left rest k offset (k + more) fault) is lack in
-    finds-bad net offset front old new left rest fault on (lacks-ends old (frames_after net offset front) left rest n offset (n + more) fault inside are lack')
+    finds-bad net offset front old new left rest fault on (lacks-ending old left rest n offset (n + more) fault lack') (lacks-ends old (frames_after net offset front) left rest n offset (n + more) fault inside are lack')
 
 -- a fault of a head that was read
 abbrev pub IsOfHead : FeedFault → Type 0
@@ -88,6 +97,15 @@ head-no_end ReadFault h e = h
 head-no_end NoMemory h e = h
 head-no_end (Cut o f) h e = h
 head-no_end (Limit o) h e = h
+
+head-ending : (fault : FeedFault) → IsOfHead fault → is_ending fault ≡ true
+head-ending (Magic o f) h = refl
+head-ending (TooLong o f) h = refl
+head-ending (BadRollback o f) h = refl
+head-ending (Cut o f) h = refl
+head-ending (Limit o) h = refl
+head-ending ReadFault h = absurd h
+head-ending NoMemory h = absurd h
 
 head-stays : (limit : ℕ) (fault : FeedFault) → IsOfHead fault → past_limit limit (Some fault) ≡ Some fault
 head-stays limit (Magic o f) h = refl
@@ -146,7 +164,7 @@ module _ (net : Net) (offset : ℕ) (front : List ℕ) (old mid : Reach) (left b
     ended = λ e. absurd (head-no_end fault of e);
     framed = λ text may. more_framed text ∙ within-fault old.limit mid.at _ fault text is (head-stays old.limit fault of);
     on = omega arith;
-    fit = refl;
+    fit = head-ending fault of;
   }
 
 -- the source failed within a part

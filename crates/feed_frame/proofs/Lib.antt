@@ -2,3 +2,5 @@ pub mod Within
 pub mod FrameLemmas
 pub mod Heads
 pub mod Bodies
+pub mod Stray
+pub mod Steps

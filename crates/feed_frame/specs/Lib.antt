@@ -4,3 +4,4 @@ pub mod Fetching
 pub mod Finding
 pub mod Frames
 pub mod Reading
+pub mod Stepping

@@ -3,16 +3,19 @@
 
 ghost use Rattle.feed_frame.specs.Events.{events_of};
 ghost use Rattle.feed_frame.specs.Ahead.{MayCome};
+mod came;
 mod fault;
 mod head;
 mod heading;
 mod next;
 mod reach;
 mod reader;
+mod track;
 
 pub use fault::FeedFault;
 pub use head::{Head, Kind};
 pub use heading::read_head;
-pub use reader::Reader;
+pub use track::Track;
+pub use came::Came;
 pub use next::Next;
 pub use reach::{Reach,Fetched};
