@@ -1,5 +1,6 @@
 pub mod Ahead
 pub mod Events
+pub mod FeedState
 pub mod Fetching
 pub mod Finding
 pub mod Frames
