@@ -4,3 +4,4 @@ pub mod Heads
 pub mod Bodies
 pub mod Stray
 pub mod Steps
+pub mod Progress

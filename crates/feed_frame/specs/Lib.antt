@@ -4,5 +4,7 @@ pub mod FeedState
 pub mod Fetching
 pub mod Finding
 pub mod Frames
+pub mod Machine
 pub mod Reading
 pub mod Stepping
+pub mod Streamed
