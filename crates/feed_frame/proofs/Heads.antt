@@ -221,7 +221,7 @@ front_long net offset (suc b ∷ others) begins four kind known size size_is fau
 abbrev pub head_read : Kind → ℕ → List ℕ → Head
 head_read kind offset size = record { kind = kind; offset = offset; length = from_le_bytes w32 size }
 
-front_good : (net : Net) (offset : ℕ) (front : List ℕ) → BeginsFrame front → length front ≡ 4 → (kind : Kind) → kind_at net front ≡ Some kind
+pub front_good : (net : Net) (offset : ℕ) (front : List ℕ) → BeginsFrame front → length front ≡ 4 → (kind : Kind) → kind_at net front ≡ Some kind
     → (size : List ℕ) → length size ≡ 4 → length_fault kind offset (from_le_bytes w32 size) ≡ None
     → (t : List ℕ) → frames_after net offset (front ++ size) t ≡ frames_behind net (head_read kind offset size) (offset + 8) t
 front_good net offset [] begins four kind known size size_is none t = absurd begins

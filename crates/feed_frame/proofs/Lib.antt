@@ -5,3 +5,4 @@ pub mod Bodies
 pub mod Stray
 pub mod Steps
 pub mod Progress
+pub mod WrittenLaws

@@ -29,9 +29,13 @@ with_frame frame others = record { frames = frame ∷ others.frames; ending = ot
 
 -- ---- one frame
 
+abbrev pub block_magic : Net → List ℕ
+block_magic Main = 249 ∷ 190 ∷ 180 ∷ 217 ∷ []
+block_magic Regtest = 250 ∷ 191 ∷ 181 ∷ 218 ∷ []
+
+-- the first four bytes of a frame
 abbrev pub magic_of : Net → Kind → List ℕ
-magic_of Main Block = 249 ∷ 190 ∷ 180 ∷ 217 ∷ []
-magic_of Regtest Block = 250 ∷ 191 ∷ 181 ∷ 218 ∷ []
+magic_of net Block = block_magic net
 magic_of net Proof = codes "UTXP"
 magic_of net Rollback = codes "UTXR"
 

@@ -8,3 +8,4 @@ pub mod Machine
 pub mod Reading
 pub mod Stepping
 pub mod Streamed
+pub mod Written

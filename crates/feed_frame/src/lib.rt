@@ -7,9 +7,11 @@ mod feed;
 mod head;
 mod heading;
 mod next;
+mod put;
 mod reach;
 mod reader;
 mod track;
 
 pub use fault::FeedFault;
 pub use feed::Feed;
+pub use put::{one_frame, put_block, put_proof, put_rollback};
