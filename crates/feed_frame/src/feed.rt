@@ -28,11 +28,11 @@ impl Model for Feed {
     ghost Value = { FeedState };
 
     ghost view = { λ f. record {
-        reader = f.track.reader;
-        offset = f.track.offset;
-        failed = f.failed;
-        block = f.track.block.items;
-        message = f.track.message.items;
+      reader = f.track.reader;
+      offset = f.track.offset;
+      failed = f.failed;
+      block = f.track.block.items;
+      message = f.track.message.items;
     } };
 }
 
@@ -72,10 +72,7 @@ impl Feed {
     ///
     /// A proof belongs to the block right behind it; another proof is a stray, which is answered once the eight bytes
     /// that begin the next frame were read, or what stands in their place.
-    pub fn next<'f, S: Source>(
-        &'f mut self,
-        source: &mut S,
-    ) -> Result<Option<Event<'f>>, FeedFault>
+    pub fn next<'f, S: Source>(&'f mut self, source: &mut S) -> Result<Option<Event<'f>>, FeedFault>
         requires { self.old.failed ≡ false }
         ensures* after { sem 𝓛 (Rests the_row self.entry
             (Advances self.old (S.left source.old) (S.left source.new) (answer_of result))) }
