@@ -1,6 +1,6 @@
 -- A run that takes a feed event by event, from one event to the next. A loop over `Feed::next` keeps `Progress`, and
 -- each way on is one of the laws below.
-use Rattle.std.proofs.Common.{◌≡◌, ◌⊎◌, inl, inr, ℕ, List, [], ◌∷◌, ◌++◌, Option, Some, None, Result, Ok, Err, refl, sym, ap, subst, ◌∙◌, append_assoc, append-nil}
+use Rattle.std.proofs.Common.{◌≡◌, ◌⊎◌, inl, inr, ℕ, true, List, [], ◌∷◌, ◌++◌, Option, Some, None, Result, Ok, Err, refl, sym, ap, subst, ◌∙◌, append_assoc, append-nil}
 use Rattle.std.specs.Io.KnownBytes.{Appends, Consumes, IsAtEnd}
 use Rattle.std.proofs.KnownBytes.{Appends-nil, Appends-trans, Consumes-nil, Consumes-trans}
 use Rattle.uo_base.specs.declared.event.Net.{Net}
@@ -13,12 +13,12 @@ use Rattle.feed_frame.specs.declared.fault.FeedFault.TheVariants.{ReadFault, Mag
 use Rattle.feed_frame.specs.declared.next.Next.{Next}
 use Rattle.feed_frame.specs.declared.next.Next.TheVariants.{Frame as Framed, End, Bad}
 use Rattle.feed_frame.specs.declared.reader.Reader.{Reader}
-use Rattle.feed_frame.specs.Ahead.{frames_ahead, MetEnd, MayCome}
+use Rattle.feed_frame.specs.Ahead.{frames_ahead, is_ending, MetEnd, MayCome}
 use Rattle.feed_frame.specs.Events.{Events, ends_at, events_in, settled_in, events_of, settled_of}
 use Rattle.feed_frame.specs.FeedState.{FeedState, IsFresh, limit_of}
 use Rattle.feed_frame.specs.Machine.{after, written}
 use Rattle.feed_frame.specs.Reading.{frames_next}
-use Rattle.feed_frame.specs.Stepping.{BeginsWith, Reads, ReadsNone, Finishes, events_next, settled_next, led_by_all}
+use Rattle.feed_frame.specs.Stepping.{BeginsWith, Reads, ReadsNone, Finishes, Steps, events_next, settled_next, led_by_all}
 use Rattle.feed_frame.specs.Streamed.{TakesFeed, WritesPart, WritesTaken, SendsFirst}
 
 -- ---- what may still come
@@ -95,21 +95,22 @@ module _ (net : Net) (limit : ℕ) (feed : FeedState) (fresh : IsFresh net limit
 
 module _ {S : Type 0} (next : S → FeedEvent → S) (report_of out_of : S → FeedEvent → List ℕ) (start : S) (net : Net) (limit : ℕ) where
   -- these events were taken, with what they write
-  pub record Progress (feed : FeedState) (state : S) (source source' report report' out out' : Option (List ℕ)) : Type 0 where
+  pub record Progress (reader : Reader) (state : S) (source source' report report' out out' : Option (List ℕ)) : Type 0 where
     pub events : List FeedEvent
     pub ends : List ℕ
     pub taken : List ℕ
     pub lost : Consumes source source' taken
-    pub ended : MetEnd feed.reader.ahead → IsAtEnd source'
-    pub framed : (text : List ℕ) → MayCome feed.reader.ahead text → events_of net limit (taken ++ text) ≡ led_by_all events ends (events_next feed.reader text)
-    pub settled : (text : List ℕ) → MayCome feed.reader.ahead text → BeginsWith (events ++ settled_next feed.reader text) (settled_of net limit (taken ++ text))
+    pub ended : MetEnd reader.ahead → IsAtEnd source'
+    pub framed : (text : List ℕ) → MayCome reader.ahead text → events_of net limit (taken ++ text) ≡ led_by_all events ends (events_next reader text)
+    pub settled : (text : List ℕ) → MayCome reader.ahead text → BeginsWith (events ++ settled_next reader text) (settled_of net limit (taken ++ text))
     pub reached : state ≡ after next start events
     pub reported : Appends report report' (written next report_of start events)
     pub sent : Appends out out' (written next out_of start events)
 
+module _ {S : Type 0} {next : S → FeedEvent → S} {report_of out_of : S → FeedEvent → List ℕ} {start : S} {net : Net} {limit : ℕ} where
   -- nothing was taken yet
-  pub Progress-start : (feed : FeedState) (source report out : Option (List ℕ)) → IsFresh net limit feed → Progress feed start source source report report out out
-  Progress-start feed source report out fresh = record {
+  pub Progress-start : {feed : FeedState} {source report out : Option (List ℕ)} → IsFresh net limit feed → Progress next report_of out_of start net limit feed.reader start source source report report out out
+  Progress-start {feed = feed} {source = source} {report = report} {out = out} fresh = record {
     events = [];
     ends = [];
     taken = [];
@@ -122,22 +123,22 @@ module _ {S : Type 0} (next : S → FeedEvent → S) (report_of out_of : S → F
     sent = Appends-nil out;
   }
 
-  module _ (feed : FeedState) (state : S) (source source' report report' out out' : Option (List ℕ)) (p : Progress feed state source source' report report' out out') where
-    module _ (feed' : FeedState) (source'' : Option (List ℕ)) (es : List FeedEvent) (ns : List ℕ) (r : Reads feed.reader feed'.reader source' source'' es ns) where
+  module _ {reader : Reader} {state : S} {source source' report report' out out' : Option (List ℕ)} (p : Progress next report_of out_of start net limit reader state source source' report report' out out') where
+    module _ (reader' : Reader) (source'' : Option (List ℕ)) (es : List FeedEvent) (ns : List ℕ) (r : Reads reader reader' source' source'' es ns) where
       lost_on : Consumes source source'' (p.taken ++ r.taken)
       lost_on = Consumes-trans _ _ _ _ _ p.lost r.moves.lost
 
-      framed_on : (text : List ℕ) → MayCome feed'.reader.ahead text
-          → events_of net limit ((p.taken ++ r.taken) ++ text) ≡ led_by_all (p.events ++ es) (p.ends ++ ns) (events_next feed'.reader text)
+      framed_on : (text : List ℕ) → MayCome reader'.ahead text
+          → events_of net limit ((p.taken ++ r.taken) ++ text) ≡ led_by_all (p.events ++ es) (p.ends ++ ns) (events_next reader' text)
       framed_on text may =
-          let others = events_next feed'.reader text in
+          let others = events_next reader' text in
           ap (events_of net limit) (append_assoc p.taken r.taken text) ∙ p.framed (r.taken ++ text) (r.moves.may text may)
           ∙ ap (led_by_all p.events p.ends) (r.framed text may)
           ∙ ap (λ l. let e : Events = record { events = l; ends = p.ends ++ (ns ++ others.ends); ending = others.ending } in e) (sym (append_assoc p.events es others.events))
           ∙ ap (λ l. let e : Events = record { events = (p.events ++ es) ++ others.events; ends = l; ending = others.ending } in e) (sym (append_assoc p.ends ns others.ends))
 
-      settled_on : (text : List ℕ) → MayCome feed'.reader.ahead text
-          → BeginsWith ((p.events ++ es) ++ settled_next feed'.reader text) (settled_of net limit ((p.taken ++ r.taken) ++ text))
+      settled_on : (text : List ℕ) → MayCome reader'.ahead text
+          → BeginsWith ((p.events ++ es) ++ settled_next reader' text) (settled_of net limit ((p.taken ++ r.taken) ++ text))
       settled_on text may =
           let first = p.settled (r.taken ++ text) (r.moves.may text may) in
           let second = r.settled text may in
@@ -150,35 +151,35 @@ module _ {S : Type 0} (next : S → FeedEvent → S) (report_of out_of : S → F
           }
 
     -- one more event
-    pub Progress-event : (feed' : FeedState) (state' : S) (source'' report'' out'' : Option (List ℕ)) (event : FeedEvent) (end : ℕ)
-        → Reads feed.reader feed'.reader source' source'' (event ∷ []) (end ∷ []) → state' ≡ next state event
-        → Appends report' report'' (report_of state event) → Appends out' out'' (out_of state event) → Progress feed' state' source source'' report report'' out out''
-    Progress-event feed' state' source'' report'' out'' event end r s a b = record {
+    pub Progress-event : {reader' : Reader} {state' : S} {source'' report'' out'' : Option (List ℕ)} {event : FeedEvent} {end : ℕ}
+        → Reads reader reader' source' source'' (event ∷ []) (end ∷ []) → state' ≡ next state event
+        → Appends report' report'' (report_of state event) → Appends out' out'' (out_of state event) → Progress next report_of out_of start net limit reader' state' source source'' report report'' out out''
+    Progress-event {reader' = reader'} {state' = state'} {source'' = source''} {report'' = report''} {out'' = out''} {event = event} {end = end} r s a b = record {
       events = p.events ++ event ∷ [];
       ends = p.ends ++ end ∷ [];
       taken = p.taken ++ r.taken;
-      lost = lost_on feed' source'' _ _ r;
+      lost = lost_on reader' source'' _ _ r;
       ended = r.moves.ended p.ended;
-      framed = framed_on feed' source'' _ _ r;
-      settled = settled_on feed' source'' _ _ r;
+      framed = framed_on reader' source'' _ _ r;
+      settled = settled_on reader' source'' _ _ r;
       reached = s ∙ ap (λ t. next t event) p.reached ∙ sym (after-append next start p.events (event ∷ []));
       reported = written-grown next report_of start state p.events event _ _ _ p.reported p.reached a;
       sent = written-grown next out_of start state p.events event _ _ _ p.sent p.reached b;
     }
 
     -- the run stopped at an event, which may be written in part
-    pub Progress-event_part : (feed' : FeedState) (source'' report'' out'' : Option (List ℕ)) (event : FeedEvent) (end : ℕ)
-        → Reads feed.reader feed'.reader source' source'' (event ∷ []) (end ∷ [])
+    pub Progress-event_part : {reader' : Reader} {source'' report'' out'' : Option (List ℕ)} {event : FeedEvent} {end : ℕ}
+        → Reads reader reader' source' source'' (event ∷ []) (end ∷ [])
         → AppendsPart report' report'' (report_of state event) → AppendsPart out' out'' (out_of state event)
         → WritesPart next report_of out_of start net limit source report report'' out out''
-    Progress-event_part feed' source'' report'' out'' event end r a b =
-        let rest = rest_text feed'.reader.ahead source'' (r.moves.ended p.ended) in
-        let more = (events_next feed'.reader rest.0).events in
+    Progress-event_part {reader' = reader'} {source'' = source''} {report'' = report''} {out'' = out''} {event = event} {end = end} r a b =
+        let rest = rest_text reader'.ahead source'' (r.moves.ended p.ended) in
+        let more = (events_next reader' rest.0).events in
         let all : (events_of net limit ((p.taken ++ r.taken) ++ rest.0)).events ≡ p.events ++ (event ∷ more) =
-        ap (λ e. e.events) (framed_on feed' source'' _ _ r rest.0 rest.2) ∙ append_assoc p.events (event ∷ []) more in
+        ap (λ e. e.events) (framed_on reader' source'' _ _ r rest.0 rest.2) ∙ append_assoc p.events (event ∷ []) more in
         record {
           text = (p.taken ++ r.taken) ++ rest.0;
-          told = Tells-before _ _ _ _ (lost_on feed' source'' _ _ r) rest.1;
+          told = Tells-before _ _ _ _ (lost_on reader' source'' _ _ r) rest.1;
           reported = subst (λ l. AppendsPart report report'' (written next report_of start l)) (sym all) (written-part next report_of start state p.events event more _ _ _ p.reported p.reached a);
           sent = subst (λ l. AppendsPart out out'' (written next out_of start l)) (sym all) (written-part next out_of start state p.events event more _ _ _ p.sent p.reached b);
         }
@@ -186,8 +187,8 @@ module _ {S : Type 0} (next : S → FeedEvent → S) (report_of out_of : S → F
     -- the run stopped between two events, or at a fault of the source or of memory
     pub Progress-part : WritesPart next report_of out_of start net limit source report report' out out'
     Progress-part =
-        let rest = rest_text feed.reader.ahead source' p.ended in
-        let more = (events_next feed.reader rest.0).events in
+        let rest = rest_text reader.ahead source' p.ended in
+        let more = (events_next reader rest.0).events in
         let all : (events_of net limit (p.taken ++ rest.0)).events ≡ p.events ++ more = ap (λ e. e.events) (p.framed rest.0 rest.2) in
         record {
           text = p.taken ++ rest.0;
@@ -197,8 +198,8 @@ module _ {S : Type 0} (next : S → FeedEvent → S) (report_of out_of : S → F
         }
 
     -- the source failed
-    pub Progress-taken : (source'' : Option (List ℕ)) → ReadsNone feed.reader source' source'' → WritesTaken next report_of out_of start net limit source source'' report report' out out'
-    Progress-taken source'' r =
+    pub Progress-taken : {source'' : Option (List ℕ)} → ReadsNone reader source' source'' → WritesTaken next report_of out_of start net limit source source'' report report' out out'
+    Progress-taken {source'' = source''} r =
         let s = p.settled r.taken r.may in
         let all : p.events ≡ settled_of net limit (p.taken ++ r.taken) ++ s.others = sym (append-nil p.events) ∙ ap (λ l. p.events ++ l) (sym r.settled) ∙ s.split in
         record {
@@ -210,17 +211,17 @@ module _ {S : Type 0} (next : S → FeedEvent → S) (report_of out_of : S → F
         }
 
     -- the feed ended, in this way
-    pub Progress-ended : (feed' : FeedState) (source'' : Option (List ℕ)) (ending : Option FeedFault) → Finishes feed.reader feed'.reader source' source'' ending
+    pub Progress-ended : {reader' : Reader} {source'' : Option (List ℕ)} {ending : Option FeedFault} → Finishes reader reader' source' source'' ending
         → TakesFeed next report_of out_of start net limit state source report report' out out' ending
-    Progress-ended feed' source'' ending f =
-        let rest = rest_text feed'.reader.ahead source'' (f.reads.moves.ended p.ended) in
+    Progress-ended {reader' = reader'} {source'' = source''} {ending = ending} f =
+        let rest = rest_text reader'.ahead source'' (f.reads.moves.ended p.ended) in
         let all : events_of net limit ((p.taken ++ f.reads.taken) ++ rest.0) ≡ led_by_all (p.events ++ []) (p.ends ++ []) (ends_at ending) =
-        framed_on feed' source'' _ _ f.reads rest.0 rest.2 ∙ ap (led_by_all (p.events ++ []) (p.ends ++ [])) (f.over rest.0) in
+        framed_on reader' source'' _ _ f.reads rest.0 rest.2 ∙ ap (led_by_all (p.events ++ []) (p.ends ++ [])) (f.over rest.0) in
         let same : p.events ≡ (events_of net limit ((p.taken ++ f.reads.taken) ++ rest.0)).events =
         sym (append-nil p.events) ∙ sym (append-nil (p.events ++ [])) ∙ sym (ap (λ e. e.events) all) in
         record {
           text = (p.taken ++ f.reads.taken) ++ rest.0;
-          told = Tells-before _ _ _ _ (lost_on feed' source'' _ _ f.reads) rest.1;
+          told = Tells-before _ _ _ _ (lost_on reader' source'' _ _ f.reads) rest.1;
           ends = ap (λ e. e.ending) all;
           reached = p.reached ∙ ap (after next start) same;
           reported = subst (λ l. Appends report report' (written next report_of start l)) same p.reported;
@@ -230,12 +231,12 @@ module _ {S : Type 0} (next : S → FeedEvent → S) (report_of out_of : S → F
     -- the order of the two sinks, where the run stopped between two events or ended
     pub Progress-first : SendsFirst next report_of out_of start net limit source report report' out out'
     Progress-first =
-        let rest = rest_text feed.reader.ahead source' p.ended in
+        let rest = rest_text reader.ahead source' p.ended in
         record {
           text = p.taken ++ rest.0;
           told = Tells-before _ _ _ _ p.lost rest.1;
           begun = p.events;
-          more = (events_next feed.reader rest.0).events;
+          more = (events_next reader rest.0).events;
           extra = [];
           split = ap (λ e. e.events) (p.framed rest.0 rest.2);
           reported = inl (AppendsPart-whole _ _ _ p.reported);
@@ -243,32 +244,32 @@ module _ {S : Type 0} (next : S → FeedEvent → S) (report_of out_of : S → F
         }
 
     -- the order of the two sinks, where it stopped at an event
-    pub Progress-event_first : (feed' : FeedState) (source'' report'' out'' : Option (List ℕ)) (event : FeedEvent) (end : ℕ)
-        → Reads feed.reader feed'.reader source' source'' (event ∷ []) (end ∷ [])
+    pub Progress-event_first : {reader' : Reader} {source'' report'' out'' : Option (List ℕ)} {event : FeedEvent} {end : ℕ}
+        → Reads reader reader' source' source'' (event ∷ []) (end ∷ [])
         → AppendsPart report' report'' (report_of state event) → AppendsPart out' out'' (out_of state event)
         → Appends report' report'' [] ⊎ Appends out' out'' (out_of state event) → SendsFirst next report_of out_of start net limit source report report'' out out''
-    Progress-event_first feed' source'' report'' out'' event end r a b (inl none) =
-        let rest = rest_text feed'.reader.ahead source'' (r.moves.ended p.ended) in
-        let more = (events_next feed'.reader rest.0).events in
+    Progress-event_first {reader' = reader'} {source'' = source''} {report'' = report''} {out'' = out''} {event = event} {end = end} r a b (inl none) =
+        let rest = rest_text reader'.ahead source'' (r.moves.ended p.ended) in
+        let more = (events_next reader' rest.0).events in
         record {
           text = (p.taken ++ r.taken) ++ rest.0;
-          told = Tells-before _ _ _ _ (lost_on feed' source'' _ _ r) rest.1;
+          told = Tells-before _ _ _ _ (lost_on reader' source'' _ _ r) rest.1;
           begun = p.events;
           more = event ∷ more;
           extra = b.done;
-          split = ap (λ e. e.events) (framed_on feed' source'' _ _ r rest.0 rest.2) ∙ append_assoc p.events (event ∷ []) more;
+          split = ap (λ e. e.events) (framed_on reader' source'' _ _ r rest.0 rest.2) ∙ append_assoc p.events (event ∷ []) more;
           reported = inl (AppendsPart-whole _ _ _ (subst (Appends report report'') (append-nil _) (Appends-trans _ _ _ _ _ p.reported none)));
           sent = Appends-trans _ _ _ _ _ p.sent b.grew;
         }
-    Progress-event_first feed' source'' report'' out'' event end r a b (inr sent) =
-        let rest = rest_text feed'.reader.ahead source'' (r.moves.ended p.ended) in
+    Progress-event_first {reader' = reader'} {source'' = source''} {report'' = report''} {out'' = out''} {event = event} {end = end} r a b (inr sent) =
+        let rest = rest_text reader'.ahead source'' (r.moves.ended p.ended) in
         record {
           text = (p.taken ++ r.taken) ++ rest.0;
-          told = Tells-before _ _ _ _ (lost_on feed' source'' _ _ r) rest.1;
+          told = Tells-before _ _ _ _ (lost_on reader' source'' _ _ r) rest.1;
           begun = p.events ++ event ∷ [];
-          more = (events_next feed'.reader rest.0).events;
+          more = (events_next reader' rest.0).events;
           extra = [];
-          split = ap (λ e. e.events) (framed_on feed' source'' _ _ r rest.0 rest.2);
+          split = ap (λ e. e.events) (framed_on reader' source'' _ _ r rest.0 rest.2);
           reported = inl (written-part next report_of start state p.events event [] _ _ _ p.reported p.reached a);
           sent = subst (Appends out out'') (sym (append-nil _)) (written-grown next out_of start state p.events event _ _ _ p.sent p.reached sent);
         }

@@ -189,6 +189,7 @@ other_next : (c : Reader) (next : Next) (text : List ℕ) → c.ahead ≡ Some n
 other_next c (Framed head) text ahead none = of_kind head.kind refl none where
   first : FirstIs head.kind (frames_next c text).frames
   first = subst (λ a. FirstIs head.kind (frames_ahead c.net c.reach.limit c.reach.at a text).frames) (sym ahead) (within-first c.net c.reach.limit c.reach.at head text)
+
   of_kind : (kind : Kind) → head.kind ≡ kind → if_block head kind ≡ None → (k : Kind) × IsOther k × FirstIs k (frames_next c text).frames
   of_kind Block e n = absurd cc
   of_kind Proof e n = (Proof, tt, subst (λ k. FirstIs k (frames_next c text).frames) e first)

@@ -1,5 +1,5 @@
 //! A feed of frames, read event by event.
-ghost use Rattle.std.specs.Prelude.{◌≡◌, ◌≤◌, ◌^◌, length, false, is_err, option_map, IsErrOf};
+ghost use Rattle.std.specs.Prelude.{◌≡◌, ◌≤◌, ◌^◌, false, is_err, option_map, IsErrOf};
 ghost use Rattle.std.specs.Borrow.{sem};
 ghost use Rattle.uo_base.specs.Faults.{Rose};
 ghost use Rattle.uo_base.specs.FeedEvent.{event_of};
@@ -28,11 +28,11 @@ impl Model for Feed {
     ghost Value = { FeedState };
 
     ghost view = { λ f. record {
-        reader = f.track.reader;
-        offset = f.track.offset;
-        failed = f.failed;
-        block = f.track.block.items;
-        message = f.track.message.items;
+      reader = f.track.reader;
+      offset = f.track.offset;
+      failed = f.failed;
+      block = f.track.block.items;
+      message = f.track.message.items;
     } };
 }
 
@@ -72,10 +72,7 @@ impl Feed {
     ///
     /// A proof belongs to the block right behind it; another proof is a stray, which is answered once the eight bytes
     /// that begin the next frame were read, or what stands in their place.
-    pub fn next<'f, S: Source>(
-        &'f mut self,
-        source: &mut S,
-    ) -> Result<Option<Event<'f>>, FeedFault>
+    pub fn next<'f, S: Source>(&'f mut self, source: &mut S) -> Result<Option<Event<'f>>, FeedFault>
         requires { self.old.failed ≡ false }
         ensures* after { sem 𝓛 (Rests the_row self.entry
             (Advances self.old (S.left source.old) (S.left source.new) (answer_of result))) }
@@ -93,7 +90,6 @@ impl Feed {
         ensures failed { self.new.failed ≡ is_err result }
         ensures limit { limit_of self.new ≡ limit_of self.old }
         ensures within { self.new.offset ≤ limit_of self.new }
-        ensures short { length self.new.block ≤ 4000000 }
         ensures later { S.faults source.old ≤ S.faults source.new }
         ensures cause { IsErrOf result FeedFault.ReadFault → Rose (S.faults source.old) (S.faults source.new) }
     {

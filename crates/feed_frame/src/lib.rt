@@ -10,6 +10,8 @@ mod next;
 mod put;
 mod reach;
 mod reader;
+#[cfg(test)]
+mod tests;
 mod track;
 
 pub use fault::FeedFault;
