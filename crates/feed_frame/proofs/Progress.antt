@@ -1,6 +1,6 @@
 -- A run that takes a feed event by event, from one event to the next. A loop over `Feed::next` keeps `Progress`, and
 -- each way on is one of the laws below.
-use Rattle.std.proofs.Common.{◌≡◌, ◌⊎◌, inl, inr, ℕ, true, List, [], ◌∷◌, ◌++◌, Option, Some, None, Result, Ok, Err, refl, sym, ap, subst, ◌∙◌, append_assoc, append-nil}
+use Rattle.std.proofs.Common.{◌≡◌, ◌⊎◌, inl, inr, ℕ, List, [], ◌∷◌, ◌++◌, Option, Some, None, refl, sym, ap, subst, ◌∙◌, append_assoc, append-nil}
 use Rattle.std.specs.Io.KnownBytes.{Appends, Consumes, IsAtEnd}
 use Rattle.std.proofs.KnownBytes.{Appends-nil, Appends-trans, Consumes-nil, Consumes-trans}
 use Rattle.uo_base.specs.declared.event.Net.{Net}
@@ -13,12 +13,12 @@ use Rattle.feed_frame.specs.declared.fault.FeedFault.TheVariants.{ReadFault, Mag
 use Rattle.feed_frame.specs.declared.next.Next.{Next}
 use Rattle.feed_frame.specs.declared.next.Next.TheVariants.{Frame as Framed, End, Bad}
 use Rattle.feed_frame.specs.declared.reader.Reader.{Reader}
-use Rattle.feed_frame.specs.Ahead.{frames_ahead, is_ending, MetEnd, MayCome}
+use Rattle.feed_frame.specs.Ahead.{frames_ahead, MetEnd, MayCome}
 use Rattle.feed_frame.specs.Events.{Events, ends_at, events_in, settled_in, events_of, settled_of}
-use Rattle.feed_frame.specs.FeedState.{FeedState, IsFresh, limit_of}
+use Rattle.feed_frame.specs.FeedState.{FeedState, IsFresh}
 use Rattle.feed_frame.specs.Machine.{after, written}
 use Rattle.feed_frame.specs.Reading.{frames_next}
-use Rattle.feed_frame.specs.Stepping.{BeginsWith, Reads, ReadsNone, Finishes, Steps, events_next, settled_next, led_by_all}
+use Rattle.feed_frame.specs.Stepping.{BeginsWith, Reads, ReadsNone, Finishes, events_next, settled_next, led_by_all}
 use Rattle.feed_frame.specs.Streamed.{TakesFeed, WritesPart, WritesTaken, SendsFirst}
 
 -- ---- what may still come

@@ -1,5 +1,5 @@
 //! A feed of frames, read event by event.
-ghost use Rattle.std.specs.Prelude.{◌≡◌, ◌≤◌, ◌^◌, false, is_err, option_map, IsErrOf};
+ghost use Rattle.std.specs.Prelude.{◌≡◌, ◌≤◌, ◌^◌, length, false, is_err, option_map, IsErrOf};
 ghost use Rattle.std.specs.Borrow.{sem};
 ghost use Rattle.uo_base.specs.Faults.{Rose};
 ghost use Rattle.uo_base.specs.FeedEvent.{event_of};
@@ -90,6 +90,7 @@ impl Feed {
         ensures failed { self.new.failed ≡ is_err result }
         ensures limit { limit_of self.new ≡ limit_of self.old }
         ensures within { self.new.offset ≤ limit_of self.new }
+        ensures short { length self.new.block ≤ 4000000 }
         ensures later { S.faults source.old ≤ S.faults source.new }
         ensures cause { IsErrOf result FeedFault.ReadFault → Rose (S.faults source.old) (S.faults source.new) }
     {

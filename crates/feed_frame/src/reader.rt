@@ -1,5 +1,5 @@
 //! A reader of frames.
-ghost use Rattle.std.specs.Prelude.{◌≡◌, ◌≤◌, ◌+◌, ◌^◌, ◌⊎◌, None, Some, IsTrue, IfOk, IfErr, OnErr, IsErrOf, MatchOption};
+ghost use Rattle.std.specs.Prelude.{◌≡◌, ◌≤◌, ◌+◌, ◌^◌, ◌⊎◌, length, None, Some, IsTrue, IfOk, IfErr, OnErr, IsErrOf, MatchOption};
 ghost use Rattle.uo_base.specs.Faults.{Rose};
 ghost use Rattle.uo_base.specs.Moved.{LosesFront};
 ghost use Rattle.feed_frame.specs.Ahead.{held, is_fit};
@@ -75,6 +75,7 @@ impl Reader {
         ensures part { IsErrOf result FeedFault.ReadFault → FindsNone self.old (S.left source.old) (S.left source.new) }
         ensures stop { IfErr result (λ fault. (fault ≡ FeedFault.ReadFault) ⊎ (fault ≡ FeedFault.NoMemory)) }
         ensures front { LosesFront (S.left source.old) (S.left source.new) }
+        ensures size { length body.new.items ≤ head.length }
         ensures on { self.old.reach.at ≤ self.new.reach.at }
         ensures net { self.new.net ≡ self.old.net }
         ensures limit { self.new.reach.limit ≡ self.old.reach.limit }

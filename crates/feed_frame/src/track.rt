@@ -20,6 +20,7 @@ pub struct Track {
     pub block: Vec<u8>,
     pub message: Vec<u8>,
     ghost behind: { offset + held reader.ahead ≤ reader.reach.at },
+    ghost short: { length block.items ≤ 4000000 },
 }
 
 impl Track {

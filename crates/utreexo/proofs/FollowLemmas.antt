@@ -1,5 +1,5 @@
 -- From a feed's answers, and from what was written, to the answer of a command.
-use Rattle.std.proofs.Common.{◌≡◌, ℕ, ◌+◌, ◌≤◌, Bool, true, false, List, [], ◌∷◌, ◌++◌, length, Option, Some, None, Result, Ok, Err, IfOk, OnOk, IsErrOf, is_err, refl, sym, ap, subst, ◌∙◌, append-nil}
+use Rattle.std.proofs.Common.{◌≡◌, ℕ, ◌+◌, ◌≤◌, false, List, [], ◌∷◌, ◌++◌, length, Option, Some, None, Result, Ok, Err, IfOk, OnOk, IsErrOf, is_err, refl, sym, ap, subst, ◌∙◌, append-nil}
 use Rattle.std.specs.Io.KnownBytes.{Appends}
 use Rattle.std.proofs.KnownBytes.{Appends-trans}
 use Rattle.uo_base.specs.declared.event.Event.{Event}
@@ -12,15 +12,14 @@ use Rattle.feed_frame.specs.declared.fault.FeedFault.{FeedFault}
 use Rattle.feed_frame.specs.declared.fault.FeedFault.TheVariants.{ReadFault, Magic, Cut, TooLong, BadRollback, Limit, NoMemory}
 use Rattle.feed_frame.specs.Events.{events_of}
 use Rattle.feed_frame.specs.Machine.{after, written}
-use Rattle.feed_frame.specs.FeedState.{FeedState, Advances, HasShortBlock, answer_of, limit_of}
+use Rattle.feed_frame.specs.FeedState.{FeedState, Advances, HasShortBlock, answer_of}
 use Rattle.feed_frame.specs.Stepping.{Steps, Reads, ReadsNone, Finishes}
 use Rattle.feed_frame.specs.Streamed.{TakesFeed, WritesPart}
 use Rattle.utreexo.specs.declared.follower.Follower.{Follower}
 use Rattle.utreexo.specs.declared.line.Line.{Line}
 use Rattle.utreexo.specs.declared.status.Status.{Status}
 use Rattle.utreexo.specs.declared.stop.Stop.{Stop}
-use Rattle.utreexo.specs.declared.stop.Stop.TheVariants as Stop
-use Rattle.utreexo.specs.Answers.{Answer, Ends, StaysWithin}
+use Rattle.utreexo.specs.Answers.{Ends, StaysWithin}
 use Rattle.utreexo.specs.Follow.{event_line, sends_nothing, closing_line, closing_status, ending_by, answer_over, follow_answer}
 use Rattle.utreexo.specs.Lines.{whole_line}
 use Rattle.utreexo.specs.Machine.{fresh, next_follower}

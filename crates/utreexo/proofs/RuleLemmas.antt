@@ -1,5 +1,5 @@
 -- What the rules keep of a chain.
-use Rattle.std.proofs.Common.{◌≡◌, ℕ, zero, suc, ◌+◌, ◌^◌, ◌<◌, ◌≤◌, Bool, true, false, not, is_some, ◌&&◌, nat_lt, List, [], ◌∷◌, Option, Some, None, refl, arith, ltb-true}
+use Rattle.std.proofs.Common.{◌≡◌, ℕ, zero, suc, ◌^◌, ◌<◌, ◌≤◌, Bool, true, false, not, is_some, ◌&&◌, nat_lt, List, [], ◌∷◌, Option, Some, None, refl, arith, ltb-true}
 use Rattle.std.proofs.lemmas.Bool.{and_parts}
 use Rattle.tx_codec.specs.Transaction.{Transaction}
 use Rattle.block_codec.specs.Block.{Block}

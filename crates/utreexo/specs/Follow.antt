@@ -1,20 +1,16 @@
 -- What `follow` answers to a feed.
-use Rattle.std.specs.Prelude.{ℕ, Bool, List, [], ◌++◌, Option, Some, None, Result, Ok, Err}
+use Rattle.std.specs.Prelude.{ℕ, List, [], ◌++◌, Option, Some, None, Result, Ok, Err}
 use Rattle.uo_base.specs.declared.event.Limits.{Limits}
 use Rattle.uo_base.specs.declared.event.Net.{Net}
 use Rattle.uo_base.specs.FeedEvent.{FeedEvent}
 use Rattle.feed_frame.specs.declared.fault.FeedFault.{FeedFault}
 use Rattle.feed_frame.specs.declared.fault.FeedFault.TheVariants as Fault
-use Rattle.feed_frame.specs.Events.{Events, events_of, settled_of}
+use Rattle.feed_frame.specs.Events.{Events, events_of}
 use Rattle.feed_frame.specs.Machine.{after, written}
-use Rattle.utreexo.specs.declared.chain.Chain.{Chain}
 use Rattle.utreexo.specs.declared.follower.Follower.{Follower}
 use Rattle.utreexo.specs.declared.line.Line.{Line}
-use Rattle.utreexo.specs.declared.line.Line.TheVariants as Line
 use Rattle.utreexo.specs.declared.status.Status.{Status}
-use Rattle.utreexo.specs.declared.status.Status.TheVariants as Status
 use Rattle.utreexo.specs.declared.stop.Stop.{Stop}
-use Rattle.utreexo.specs.declared.stop.Stop.TheVariants as Stop
 use Rattle.utreexo.specs.Answers.{Answer}
 use Rattle.utreexo.specs.Lines.{whole_line}
 use Rattle.utreexo.specs.Machine.{fresh, newest, next_follower}

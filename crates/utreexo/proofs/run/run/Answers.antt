@@ -1,4 +1,4 @@
-use Rattle.std.proofs.Common.{◌≡◌, ℕ, Bool, true, false, cond, nat_lt, length, List, Option, Some, None, Result, Ok, Err, refl, sym, ap, ◌∙◌}
+use Rattle.std.proofs.Common.{◌≡◌, ℕ, Bool, true, false, length, List, Option, Some, None, Result, Ok, Err, refl, sym, ap, ◌∙◌}
 use Rattle.std.proofs.lemmas.Bool.{false≢true}
 use Rattle.uo_base.specs.declared.event.Limits.{Limits}
 use Rattle.uo_base.specs.declared.event.Net.TheVariants.{Main}
@@ -13,7 +13,6 @@ use Rattle.utreexo.specs.declared.words.Command.TheVariants.{Follow}
 use Rattle.utreexo.specs.declared.words.WordFault.{WordFault}
 use Rattle.utreexo.specs.declared.status.Status.{Status}
 use Rattle.utreexo.specs.declared.status.Status.TheVariants.{ReadFault, WriteFault, NoMemory}
-use Rattle.utreexo.specs.Answers.{Answer}
 use Rattle.utreexo.specs.Follow.{closing_status, answer_over, follow_answer}
 use Rattle.utreexo.specs.Machine.{fresh, next_follower}
 use Rattle.utreexo.specs.Runs.{Inputs, answer_by, answer_of}

@@ -1,4 +1,4 @@
-use Rattle.std.proofs.Common.{◌≡◌, ℕ, Bool, true, false, cond, nat_lt, length, List, [], Option, Some, None, Ok, Err, refl, sym, ap, subst, ◌∙◌}
+use Rattle.std.proofs.Common.{◌≡◌, ℕ, List, [], Ok, Err, refl, sym, ap, subst, ◌∙◌}
 use Rattle.uo_base.specs.declared.event.Limits.{Limits}
 use Rattle.uo_base.specs.declared.event.Net.{Net}
 use Rattle.uo_base.specs.declared.event.Net.TheVariants.{Main}
@@ -7,7 +7,7 @@ use Rattle.utreexo.specs.declared.status.Status.TheVariants.{Words}
 use Rattle.utreexo.specs.declared.words.Command.{Command}
 use Rattle.utreexo.specs.declared.words.Command.TheVariants.{Follow}
 use Rattle.utreexo.specs.declared.words.WordFault.{WordFault}
-use Rattle.utreexo.specs.Answers.{Answer, said}
+use Rattle.utreexo.specs.Answers.{said}
 use Rattle.utreexo.specs.Follow.{answer_over, follow_answer}
 use Rattle.utreexo.specs.Runs.{Inputs, answer_by, answer_of, ReportsTaken}
 use Rattle.utreexo.specs.Words.{command_of}
