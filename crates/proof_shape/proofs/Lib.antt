@@ -1,0 +1,5 @@
+pub mod Ordered
+pub mod Climbing
+pub mod Shapes
+pub mod Longer
+pub mod Faulty

@@ -1,0 +1,3 @@
+pub mod Shape
+pub mod Found
+pub mod Targeted

@@ -1,0 +1,14 @@
+//! The geometry of a deletion: which lists of targets are well formed, which digests a proof of them needs, and where the
+//! nodes that stay go.
+#![tactic(auto)]
+
+mod above;
+mod fault;
+mod locate;
+mod order;
+mod shape;
+mod targets;
+mod wrong;
+
+pub use fault::ShapeFault;
+pub use targets::Targets;
