@@ -26,7 +26,7 @@ take_of_take [] (suc i) (suc k) h = refl
 take_of_take (x ∷ xs) (suc i) zero h = absurd (omega arith)
 take_of_take (x ∷ xs) (suc i) (suc k) h = ap (λ l. x ∷ l) (take_of_take xs i k (omega arith))
 
-position_at : (n : ℕ) (ps : List Place) (k : ℕ) → k < length ps → get_or (positions_of n ps) k 0 ≡ position n (place_in ps k).row (place_in ps k).off
+pub position_at : (n : ℕ) (ps : List Place) (k : ℕ) → k < length ps → get_or (positions_of n ps) k 0 ≡ position n (place_in ps k).row (place_in ps k).off
 position_at n [] k h = absurd (omega arith)
 position_at n (p ∷ ps) zero h = refl
 position_at n (p ∷ ps) (suc k) h = position_at n ps k (omega arith)

@@ -3,3 +3,5 @@ pub mod Climbing
 pub mod Shapes
 pub mod Longer
 pub mod Faulty
+pub mod Sweeping
+pub mod Needing

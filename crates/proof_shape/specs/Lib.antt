@@ -1,3 +1,5 @@
 pub mod Shape
 pub mod Found
 pub mod Targeted
+pub mod Swept
+pub mod Survey

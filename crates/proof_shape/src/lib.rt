@@ -3,10 +3,13 @@
 #![tactic(auto)]
 
 mod above;
+mod cover;
 mod fault;
 mod locate;
+mod need;
 mod order;
 mod shape;
+mod survey;
 mod targets;
 mod wrong;
 

@@ -30,7 +30,7 @@ pub(crate) fn rises(sorted: &[u64]) -> bool
 }
 
 // The positions of places.
-fn positions_of(alloc: Global, n: u64, places: &[Place]) -> Result<Vec<u64>, AllocError>
+pub(crate) fn positions_of(alloc: Global, n: u64, places: &[Place]) -> Result<Vec<u64>, AllocError>
     requires small { n < 2 ^ 40 }
     requires within { AreWithin n places.now }
     ensures { IfOk result (λ v. v.items ≡ numbers_of n places.now) }

@@ -3,6 +3,7 @@ ghost use Rattle.std.specs.Prelude.{◌≡◌, ◌^◌, ◌<◌, MatchResult, le
 
 use crate::ShapeFault;
 use crate::locate::locate;
+use crate::survey::needed_places;
 use crate::wrong::{fault_at, sound_length};
 use forest_place::Place;
 use std::alloc::Global;
@@ -13,19 +14,23 @@ use std::marker::Model;
 pub struct Targets {
     count: u64,
     list: Vec<Place>,
+    needed: Vec<Place>,
 }
 
 impl Model for Targets {
+    ghost use Rattle.std.specs.Prelude.{◌≡◌};
+    ghost use Rattle.forest_model.specs.Cover.{need};
     ghost use Rattle.proof_shape.specs.Targeted.{Targeted, IsTargeted};
 
     ghost Value = { Targeted };
 
     ghost view = { λ t. record { leaves = t.count; targets = t.list.items } };
 
-    ghost invariant = { λ t. IsTargeted (record { leaves = t.count; targets = t.list.items }) };
+    ghost invariant = { λ t. IsTargeted (record { leaves = t.count; targets = t.list.items }) × (t.needed.items ≡ need t.count t.list.items) };
 }
 
 impl Targets {
+    ghost use Rattle.forest_model.specs.Cover.{need};
     ghost use Rattle.proof_shape.specs.Shape.{AreTargets, IsFault};
     ghost use Rattle.proof_shape.specs.Targeted.{IsTargeted};
     ghost use Rattle.proof_shape.specs.Found.{place_in};
@@ -46,9 +51,11 @@ impl Targets {
         if sound < positions.len() {
             return Err(ShapeFault::Outside(sound as u32));
         }
+        let needed = needed_places(alloc, n, &places)?;
         Ok(Targets {
             count: n,
             list: places,
+            needed,
         })
     }
 
@@ -73,5 +80,12 @@ impl Targets {
         ensures { result ≡ place_in self.now.targets i }
     {
         self.list[i as usize]
+    }
+
+    /// The places whose digests a proof of the targets has to give, in ascending position.
+    pub fn needed(&self) -> &[Place]
+        ensures { result.now ≡ need self.now.leaves self.now.targets }
+    {
+        &self.needed
     }
 }
