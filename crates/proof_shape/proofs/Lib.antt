@@ -5,3 +5,4 @@ pub mod Longer
 pub mod Faulty
 pub mod Sweeping
 pub mod Needing
+pub mod Gone

@@ -3,3 +3,4 @@ pub mod Found
 pub mod Targeted
 pub mod Swept
 pub mod Survey
+pub mod Moves

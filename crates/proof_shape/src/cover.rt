@@ -23,7 +23,7 @@ fn push_new(places: &mut Vec<Place>, place: Place) -> Result<(), AllocError>
 }
 
 // The place above one, unless that is a slot's root.
-fn above(n: u64, place: Place) -> Option<Place>
+pub(crate) fn above(n: u64, place: Place) -> Option<Place>
     requires small { n < 2 ^ 40 }
     requires within { InForest n place.row place.off }
     ensures { MatchOption result (is_top n place ≡ true) (λ q. (is_top n place ≡ false) × (q ≡ up place) × InForest n q.row q.off) }

@@ -6,6 +6,7 @@ mod above;
 mod cover;
 mod fault;
 mod locate;
+mod moves;
 mod need;
 mod order;
 mod shape;

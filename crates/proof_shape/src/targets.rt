@@ -1,9 +1,10 @@
 //! The targets of a deletion.
-ghost use Rattle.std.specs.Prelude.{◌≡◌, ◌^◌, ◌<◌, MatchResult, length};
+ghost use Rattle.std.specs.Prelude.{◌≡◌, ◌↔◌, ◌⊎◌, ◌^◌, ◌<◌, MatchResult, length, true};
 
 use crate::ShapeFault;
 use crate::locate::locate;
-use crate::survey::needed_places;
+use crate::moves::moved_from;
+use crate::survey::{covered_positions, needed_places};
 use crate::wrong::{fault_at, sound_length};
 use forest_place::Place;
 use std::alloc::Global;
@@ -15,22 +16,28 @@ pub struct Targets {
     count: u64,
     list: Vec<Place>,
     needed: Vec<Place>,
+
+    // The positions of the targets and of the places above them, and of the needed places and of those above them.
+    covered: Vec<u64>,
+    kept: Vec<u64>,
 }
 
 impl Model for Targets {
-    ghost use Rattle.std.specs.Prelude.{◌≡◌};
-    ghost use Rattle.forest_model.specs.Cover.{need};
     ghost use Rattle.proof_shape.specs.Targeted.{Targeted, IsTargeted};
+    ghost use Rattle.proof_shape.specs.Moves.{IsSurveyed};
 
     ghost Value = { Targeted };
 
     ghost view = { λ t. record { leaves = t.count; targets = t.list.items } };
 
-    ghost invariant = { λ t. IsTargeted (record { leaves = t.count; targets = t.list.items }) × (t.needed.items ≡ need t.count t.list.items) };
+    ghost invariant = { λ t. IsTargeted (record { leaves = t.count; targets = t.list.items }) × IsSurveyed t.count t.list.items t.needed.items t.covered.items t.kept.items };
 }
 
 impl Targets {
+    ghost use Rattle.forest_place.specs.Forest.{InForest};
     ghost use Rattle.forest_model.specs.Cover.{need};
+    ghost use Rattle.forest_model.specs.Deletion.{moved, is_gone};
+    ghost use Rattle.proof_shape.specs.Moves.{IsBeneathTarget};
     ghost use Rattle.proof_shape.specs.Shape.{AreTargets, IsFault};
     ghost use Rattle.proof_shape.specs.Targeted.{IsTargeted};
     ghost use Rattle.proof_shape.specs.Found.{place_in};
@@ -52,10 +59,14 @@ impl Targets {
             return Err(ShapeFault::Outside(sound as u32));
         }
         let needed = needed_places(alloc, n, &places)?;
+        let covered = covered_positions(alloc, n, &places)?;
+        let kept = covered_positions(alloc, n, &needed)?;
         Ok(Targets {
             count: n,
             list: places,
             needed,
+            covered,
+            kept,
         })
     }
 
@@ -87,5 +98,15 @@ impl Targets {
         ensures { result.now ≡ need self.now.leaves self.now.targets }
     {
         &self.needed
+    }
+
+    /// Where what stays of a place goes once the targets are gone: a root that stays keeps its place, and a child goes to
+    /// the child at its side of the place to which its parent goes, or to that place itself where its sibling is gone.
+    pub fn moved(&self, place: Place) -> Option<Place>
+        requires { InForest self.now.leaves place.row place.off }
+        ensures is { result ≡ moved self.now.leaves self.now.targets place.row place.off }
+        ensures none { (result ≡ None) ↔ ((is_gone self.now.targets place.row place.off ≡ true) ⊎ IsBeneathTarget self.now.targets place) }
+    {
+        moved_from(self.count, &self.covered, &self.kept, place)
     }
 }
