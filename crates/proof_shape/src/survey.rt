@@ -12,7 +12,11 @@ use forest_place::Place;
 use std::alloc::{AllocError, Global};
 
 // The places at and above these.
-pub(crate) fn covered_places(alloc: Global, n: u64, places: &[Place]) -> Result<Vec<Place>, AllocError>
+pub(crate) fn covered_places(
+    alloc: Global,
+    n: u64,
+    places: &[Place],
+) -> Result<Vec<Place>, AllocError>
     requires small { n < 2 ^ 40 }
     requires within { AreWithin n places.now }
     ensures { IfOk result (λ v. IsCoverOf n places.now v.items) }
@@ -22,7 +26,11 @@ pub(crate) fn covered_places(alloc: Global, n: u64, places: &[Place]) -> Result<
 }
 
 // The positions of the places at and above these.
-pub(crate) fn covered_positions(alloc: Global, n: u64, places: &[Place]) -> Result<Vec<u64>, AllocError>
+pub(crate) fn covered_positions(
+    alloc: Global,
+    n: u64,
+    places: &[Place],
+) -> Result<Vec<u64>, AllocError>
     requires small { n < 2 ^ 40 }
     requires within { AreWithin n places.now }
     ensures sorted { IfOk result (λ v. IsNonDecreasing v.items) }
@@ -33,7 +41,11 @@ pub(crate) fn covered_positions(alloc: Global, n: u64, places: &[Place]) -> Resu
 }
 
 // The places that are needed beside these and the places above them.
-pub(crate) fn needed_places(alloc: Global, n: u64, places: &[Place]) -> Result<Vec<Place>, AllocError>
+pub(crate) fn needed_places(
+    alloc: Global,
+    n: u64,
+    places: &[Place],
+) -> Result<Vec<Place>, AllocError>
     requires small { n < 2 ^ 40 }
     requires within { AreWithin n places.now }
     ensures { IfOk result (λ v. v.items ≡ need n places.now) }
