@@ -1,0 +1,9 @@
+use Rattle.std.proofs.Common.{◌+◌, ◌-◌, ◌^◌, length}
+use Rattle.proof_shape.specs.Swept.{IsSweep}
+use Rattle.proof_shape.proofs.cover.cover_of.Given as goal
+
+abbrev pub invariant-loop-k : goal.invariant-loop-k
+invariant-loop-k l = IsSweep l.n l.sorted l.covered.items l.k l.j
+
+abbrev pub decreases-loop-k : goal.decreases-loop-k
+decreases-loop-k l = (2 ^ 41 - l.k) + (length l.sorted - l.j)

@@ -1,0 +1,6 @@
+use Rattle.std.proofs.Common.{◌≡◌, take, length}
+use Rattle.proof_shape.specs.Shape.{positions_of, AreWithin}
+use Rattle.proof_shape.proofs.locate.locate.Given as goal
+
+abbrev pub invariant-loop-number : goal.invariant-loop-number
+invariant-loop-number l = (length l.places.items ≡ l.number-index) × (positions_of l.n l.places.items ≡ take l.number-index l.positions) × AreWithin l.n l.places.items

@@ -1,0 +1,17 @@
+use Rattle.std.proofs.Common.{◌≡◌, None, sym, ap, ap₂, ◌∙◌, subst}
+use Rattle.forest_place.specs.Forest.{InForest}
+use Rattle.forest_model.specs.Deletion.{moved}
+use Rattle.proof_shape.specs.Moves.{gone_by}
+use Rattle.proof_shape.specs.Targeted.{Targeted, IsTargeted}
+use Rattle.proof_shape.proofs.Gone.{none_exactly}
+use Rattle.proof_shape.proofs.targets.Targets.moved.Goals as goal
+
+pub returns-clause-none : goal.returns-clause-none
+returns-clause-none c =
+    let t = c.args.self.now in
+    let p = c.args.place in
+    let is : c.moved_from.result ≡ moved t.leaves t.targets p.row p.off =
+    c.moved_from.ensures.is c.self.inside.list.items (λ r o h. ap₂ (λ x y. gone_by c.self.inside.count x y r o) c.deref.ensures.value c.deref-2.ensures.value ∙ c.self.invariant.1.tell r o h) ∙ ap (λ (f : Targeted). moved f.leaves f.targets p.row p.off) c.self.view_is in
+    let shape = (subst IsTargeted c.self.view_is c.self.invariant.0).shape in
+    let w = none_exactly t.leaves t.targets shape p c.requires in
+    (λ none. w.0 (sym is ∙ none), λ h. is ∙ w.1 h)

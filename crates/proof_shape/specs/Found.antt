@@ -1,0 +1,49 @@
+-- What is found of a list of places.
+use Rattle.std.specs.Prelude.{◌≡◌, ◌≢◌, ℕ, ◌+◌, ◌<◌, ◌≤◌, Bool, true, false, ◌||◌, List, take, length, get_or, Option, None}
+use Rattle.forest_place.specs.declared.place.Place.{Place}
+use Rattle.forest_place.specs.Places.{has_place}
+use Rattle.forest_place.specs.Position.{place_at}
+use Rattle.forest_model.specs.Cover.{is_above, HasShape}
+use Rattle.proof_shape.specs.Shape.{AreWithin, positions_of}
+use Rattle.proof_shape.specs.declared.fault.ShapeFault.{ShapeFault}
+use Rattle.proof_shape.specs.declared.fault.ShapeFault.TheVariants.{Outside, Repeated, Beneath, NoMemory}
+
+abbrev pub place_in : List Place → ℕ → Place
+place_in ps k = get_or ps k (record { row = 0; off = 0 })
+
+-- no place stands in row 40 or above it
+abbrev pub AreLow : List Place → Type 0
+AreLow ps = (k : ℕ) → k < length ps → (place_in ps k).row < 40
+
+-- the places of the positions before the first that is outside the forest
+pub record IsFront (n : ℕ) (numbers : List ℕ) (ps : List Place) : Type 0 where
+  pub fits : length ps ≤ length numbers
+  pub numbered : positions_of n ps ≡ take (length ps) numbers
+  pub within : AreWithin n ps
+  pub ends : length ps < length numbers → place_at n (get_or numbers (length ps) 0) ≡ None
+
+-- k places from the front have shape, and not one more
+pub record IsSoundLength (n : ℕ) (ps : List Place) (k : ℕ) : Type 0 where
+  pub fits : k ≤ length ps
+  pub sound : HasShape n (take k ps)
+  pub most : k < length ps → HasShape n (take (k + 1) ps) → ⊥
+
+abbrev pub crosses : Place → Place → Bool
+crosses p q = is_above p q || is_above q p
+
+pub record IsFirstEqual (ps : List Place) (i j : ℕ) : Type 0 where
+  pub earlier : j < i
+  pub same : place_in ps j ≡ place_in ps i
+  pub least : (k : ℕ) → k < j → place_in ps k ≢ place_in ps i
+
+pub record IsFirstCrossing (ps : List Place) (i j : ℕ) : Type 0 where
+  pub earlier : j < i
+  pub crossed : crosses (place_in ps i) (place_in ps j) ≡ true
+  pub least : (k : ℕ) → k < j → crosses (place_in ps i) (place_in ps k) ≡ false
+
+-- what is wrong with the place at index i
+abbrev pub IsFaultAt : List Place → ℕ → ShapeFault → Type 0
+IsFaultAt ps i (Outside k) = ⊥
+IsFaultAt ps i (Repeated k j) = (k ≡ i) × IsFirstEqual ps i j
+IsFaultAt ps i (Beneath k j) = (k ≡ i) × ((k : ℕ) → k < i → place_in ps k ≢ place_in ps i) × IsFirstCrossing ps i j
+IsFaultAt ps i NoMemory = ⊥

@@ -1,0 +1,28 @@
+-- How the places at and above the targets, and those above needed places, tell what is gone.
+use Rattle.std.specs.Prelude.{◌≡◌, ℕ, Bool, true, not, ◌&&◌, List}
+use Rattle.std.specs.List.Sorted.{IsNonDecreasing}
+use Rattle.forest_place.specs.declared.place.Place.{Place}
+use Rattle.forest_place.specs.Forest.{InForest}
+use Rattle.forest_place.specs.Places.{has_place}
+use Rattle.forest_place.specs.Position.{position}
+use Rattle.forest_model.specs.Cover.{is_above, need}
+use Rattle.forest_model.specs.Deletion.{is_gone}
+use Rattle.proof_shape.specs.Shape.{has_number}
+
+-- a covered place is gone where no needed place is beneath it
+abbrev pub gone_by : ℕ → List ℕ → List ℕ → ℕ → ℕ → Bool
+gone_by n covered kept row off = has_number covered (position n row off) && not (has_number kept (position n row off))
+
+abbrev pub GoneTell : ℕ → List Place → List ℕ → List ℕ → Type 0
+GoneTell n ts covered kept = (row off : ℕ) → InForest n row off → gone_by n covered kept row off ≡ is_gone ts row off
+
+-- a target stands above the place
+abbrev pub IsBeneathTarget : List Place → Place → Type 0
+IsBeneathTarget ts p = (t : Place) × (has_place ts t.row t.off ≡ true) × (is_above t p ≡ true)
+
+-- what is kept beside the targets
+pub record IsSurveyed (n : ℕ) (ts needed : List Place) (covered kept : List ℕ) : Type 0 where
+  pub needed_is : needed ≡ need n ts
+  pub covered_up : IsNonDecreasing covered
+  pub kept_up : IsNonDecreasing kept
+  pub tell : GoneTell n ts covered kept

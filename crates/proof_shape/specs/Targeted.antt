@@ -1,0 +1,14 @@
+-- What contracts see of `Targets`.
+use Rattle.std.specs.Prelude.{ℕ, ◌^◌, ◌<◌, List, length}
+use Rattle.forest_place.specs.declared.place.Place.{Place}
+use Rattle.forest_model.specs.Cover.{HasShape}
+
+-- how many entries the forest has, and its places that are targets
+pub record Targeted : Type 0 where
+  pub leaves : ℕ
+  pub targets : List Place
+
+pub record IsTargeted (t : Targeted) : Type 0 where
+  pub few : t.leaves < 2 ^ 40
+  pub counted : length t.targets < 2 ^ 32
+  pub shape : HasShape t.leaves t.targets

@@ -1,0 +1,50 @@
+//! Whether places stand above others.
+ghost use Rattle.std.specs.Prelude.{◌≡◌, ℕ, ◌↔◌, ◌^◌, ◌<◌, IsTrue, false, true, MatchBool};
+ghost use Rattle.std.specs.List.Sorted.{IsNonDecreasing};
+ghost use Rattle.forest_place.specs.Forest.{InForest, is_root as is_root_at};
+ghost use Rattle.forest_place.specs.Places.{has_place};
+ghost use Rattle.proof_shape.specs.Shape.{has_number, AreWithin, HasOneAbove, HasNoneAbove};
+
+use crate::order::contains;
+use forest_place::{Place, parent, position};
+
+// Whether a place of the forest is a slot's root.
+pub(crate) fn is_root(n: u64, place: Place) -> bool
+    requires small { n < 2 ^ 40 }
+    requires within { InForest n place.row place.off }
+    ensures { result ≡ is_root_at n place.row place.off }
+{
+    place.off % 2 == 0 && place.off + 1 == n >> place.row
+}
+
+// Whether a place above this one has a position of the list.
+fn is_beneath_one(n: u64, place: Place, sorted: &[u64]) -> bool
+    requires small { n < 2 ^ 40 }
+    requires within { InForest n place.row place.off }
+    requires sorted { IsNonDecreasing sorted.now }
+    ensures { MatchBool result (HasOneAbove n sorted.now place) (HasNoneAbove n sorted.now place) }
+{
+    let mut above = place;
+    while !is_root(n, above) {
+        above = parent(above);
+        if contains(sorted, position(above, n)) {
+            return true;
+        }
+    }
+    false
+}
+
+// Whether none of the places is beneath one that has a position of the list.
+pub(crate) fn are_apart(n: u64, places: &[Place], sorted: &[u64]) -> bool
+    requires small { n < 2 ^ 40 }
+    requires within { AreWithin n places.now }
+    requires sorted { IsNonDecreasing sorted.now }
+    ensures { IsTrue result ↔ ((r o : ℕ) → has_place places.now r o ≡ true → HasNoneAbove n sorted.now (record { row = r; off = o })) }
+{
+    for place in places {
+        if is_beneath_one(n, *place, sorted) {
+            return false;
+        }
+    }
+    true
+}

@@ -1,0 +1,100 @@
+//! The covered places: the targets and all places above them, in ascending order.
+ghost use Rattle.std.specs.Prelude.{◌≡◌, ◌^◌, ◌<◌, true, false, IfOk, MatchBool, MatchOption, length};
+ghost use Rattle.std.specs.List.Sorted.{IsNonDecreasing};
+ghost use Rattle.forest_place.specs.declared.place.Place.{Place as Placed};
+ghost use Rattle.forest_place.specs.Forest.{InForest};
+ghost use Rattle.proof_shape.specs.Shape.{AreWithin};
+ghost use Rattle.proof_shape.specs.Swept.{pos, up, is_top, ArePositions, IsPushed, IsClimbed, ClimbsNext, NumberNext, IsSweep, IsSwept};
+
+use crate::above::is_root;
+use forest_place::{Place, parent, place_of, position};
+use std::alloc::{AllocError, Global};
+
+// Puts a place at the end, unless it stands there already.
+fn push_new(places: &mut Vec<Place>, place: Place) -> Result<(), AllocError>
+    ensures { IfOk result (λ u. IsPushed places.old.items place places.new.items) }
+{
+    let len = places.len();
+    if len > 0 && places[len - 1] == place {
+        return Ok(());
+    }
+    places.push(place)?;
+    Ok(())
+}
+
+// The place above one, unless that is a slot's root.
+pub(crate) fn above(n: u64, place: Place) -> Option<Place>
+    requires small { n < 2 ^ 40 }
+    requires within { InForest n place.row place.off }
+    ensures { MatchOption result (is_top n place ≡ true) (λ q. (is_top n place ≡ false) × (q ≡ up place) × InForest n q.row q.off) }
+{
+    if is_root(n, place) {
+        None
+    } else {
+        Some(parent(place))
+    }
+}
+
+// Puts the place above the one at an index at the end.
+fn push_parent(n: u64, places: &mut Vec<Place>, k: usize) -> Result<(), AllocError>
+    requires small { n < 2 ^ 40 }
+    requires within { AreWithin n places.old.items }
+    requires index { k < length places.old.items }
+    ensures { IfOk result (λ u. IsClimbed n places.old.items k places.new.items) }
+{
+    let place = places[k];
+    match above(n, place) {
+        Some(next) => push_new(places, next),
+        None => Ok(()),
+    }
+}
+
+// The place that has a position.
+fn place_at(n: u64, number: u64) -> Place
+    requires small { n < 2 ^ 40 }
+    requires some { (q : Placed) × InForest n q.row q.off × (pos n q ≡ number) }
+    ensures within { InForest n result.row result.off }
+    ensures is { pos n result ≡ number }
+{
+    match place_of(number, n) {
+        Some(place) => place,
+        None => Place { row: 0, off: 0 },
+    }
+}
+
+// Whether the place above the one at an index comes next, and not the target at another.
+fn climbs_next(n: u64, places: &[Place], k: usize, sorted: &[u64], j: usize) -> bool
+    requires small { n < 2 ^ 40 }
+    requires within { AreWithin n places.now }
+    ensures { MatchBool result (ClimbsNext n places.now k sorted.now j) (NumberNext n places.now k sorted.now j) }
+{
+    if k >= places.len() {
+        return false;
+    }
+    match above(n, places[k]) {
+        Some(next) => j >= sorted.len() || position(next, n) <= sorted[j],
+        None => true,
+    }
+}
+
+// All places at these positions and above them.
+pub(crate) fn cover_of(alloc: Global, n: u64, sorted: &[u64]) -> Result<Vec<Place>, AllocError>
+    requires small { n < 2 ^ 40 }
+    requires sorted { IsNonDecreasing sorted.now }
+    requires places { ArePositions n sorted.now }
+    ensures { IfOk result (λ v. IsSwept n sorted.now v.items) }
+{
+    let mut covered = Vec::new(alloc);
+    let mut k = 0;
+    let mut j = 0;
+    while k < covered.len() || j < sorted.len() {
+        if climbs_next(n, &covered, k, sorted, j) {
+            push_parent(n, &mut covered, k)?;
+            k += 1;
+        } else {
+            push_new(&mut covered, place_at(n, sorted[j]))?;
+            j += 1;
+        }
+    }
+    Ok(covered)
+}

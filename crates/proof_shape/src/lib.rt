@@ -1,0 +1,20 @@
+//! The geometry of a deletion: which lists of targets are well formed, which digests a proof of them needs, and where the
+//! nodes that stay go.
+#![tactic(auto)]
+
+mod above;
+mod cover;
+mod fault;
+mod locate;
+mod moves;
+mod need;
+mod order;
+mod shape;
+mod survey;
+mod targets;
+#[cfg(test)]
+mod tests;
+mod wrong;
+
+pub use fault::ShapeFault;
+pub use targets::Targets;

@@ -1,0 +1,56 @@
+//! The places whose digests a proof has to give.
+ghost use Rattle.std.specs.Prelude.{◌≡◌, ◌↔◌, ◌^◌, ◌<◌, IfOk, IsTrue, length};
+ghost use Rattle.proof_shape.specs.Shape.{AreWithin};
+ghost use Rattle.proof_shape.specs.Found.{place_in};
+ghost use Rattle.proof_shape.specs.Swept.{IsNear, Rises, needed_beside as needed_near, needed_of as needed_in};
+
+use crate::above::is_root;
+use forest_place::{Place, sibling};
+use std::alloc::{AllocError, Global};
+
+// Whether a place stands right before or right after an index.
+fn is_near(covered: &[Place], m: usize, place: Place) -> bool
+    requires { m < length covered.now }
+    ensures { IsTrue result ↔ IsNear covered.now m place }
+{
+    if m > 0 && covered[m - 1] == place {
+        return true;
+    }
+    m + 1 < covered.len() && covered[m + 1] == place
+}
+
+// The sibling of the covered place at an index, where it is needed.
+fn needed_beside(n: u64, covered: &[Place], m: usize) -> Option<Place>
+    requires small { n < 2 ^ 40 }
+    requires within { AreWithin n covered.now }
+    requires rises { Rises n covered.now }
+    requires index { m < length covered.now }
+    ensures { result ≡ needed_near n covered.now (place_in covered.now m) }
+{
+    let place = covered[m];
+    if is_root(n, place) {
+        return None;
+    }
+    let beside = sibling(place);
+    if is_near(covered, m, beside) {
+        None
+    } else {
+        Some(beside)
+    }
+}
+
+// The siblings that are needed beside all covered places.
+pub(crate) fn needed_of(alloc: Global, n: u64, covered: &[Place]) -> Result<Vec<Place>, AllocError>
+    requires small { n < 2 ^ 40 }
+    requires within { AreWithin n covered.now }
+    requires rises { Rises n covered.now }
+    ensures { IfOk result (λ v. v.items ≡ needed_in n covered.now) }
+{
+    let mut needed = Vec::new(alloc);
+    for m in 0..covered.len() {
+        if let Some(place) = needed_beside(n, covered, m) {
+            needed.push(place)?;
+        }
+    }
+    Ok(needed)
+}

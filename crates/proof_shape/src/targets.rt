@@ -1,0 +1,112 @@
+//! The targets of a deletion.
+ghost use Rattle.std.specs.Prelude.{◌≡◌, ◌↔◌, ◌⊎◌, ◌^◌, ◌<◌, MatchResult, length, true};
+
+use crate::ShapeFault;
+use crate::locate::locate;
+use crate::moves::moved_from;
+use crate::survey::{covered_positions, needed_places};
+use crate::wrong::{fault_at, sound_length};
+use forest_place::Place;
+use std::alloc::Global;
+use std::marker::Model;
+
+/// Targets of a deletion: different places of a forest, of which none stands above another.
+#[derive(Drop)]
+pub struct Targets {
+    count: u64,
+    list: Vec<Place>,
+    needed: Vec<Place>,
+
+    // The positions of the targets and of the places above them, and of the needed places and of those above them.
+    covered: Vec<u64>,
+    kept: Vec<u64>,
+}
+
+impl Model for Targets {
+    ghost use Rattle.proof_shape.specs.Targeted.{Targeted, IsTargeted};
+    ghost use Rattle.proof_shape.specs.Moves.{IsSurveyed};
+
+    ghost Value = { Targeted };
+
+    ghost view = { λ t. record { leaves = t.count; targets = t.list.items } };
+
+    ghost invariant = { λ t. IsTargeted (record { leaves = t.count; targets = t.list.items }) × IsSurveyed t.count t.list.items t.needed.items t.covered.items t.kept.items };
+}
+
+impl Targets {
+    ghost use Rattle.forest_place.specs.Forest.{InForest};
+    ghost use Rattle.forest_model.specs.Cover.{need};
+    ghost use Rattle.forest_model.specs.Deletion.{moved, is_gone};
+    ghost use Rattle.proof_shape.specs.Moves.{IsBeneathTarget};
+    ghost use Rattle.proof_shape.specs.Shape.{AreTargets, IsFault};
+    ghost use Rattle.proof_shape.specs.Targeted.{IsTargeted};
+    ghost use Rattle.proof_shape.specs.Found.{place_in};
+
+    /// The targets at these positions of the forest over `n` entries.
+    pub fn new(alloc: Global, n: u64, positions: &[u64]) -> Result<Targets, ShapeFault>
+        requires { n < 2 ^ 40 }
+        ensures { MatchResult result (λ t. (t.leaves ≡ n) × AreTargets n positions.now t.targets) (λ e. IsFault n positions.now e) }
+    {
+        if positions.len() > u32::MAX as usize {
+            return Err(ShapeFault::NoMemory);
+        }
+        let places = locate(alloc, n, positions)?;
+        let sound = sound_length(alloc, n, &places)?;
+        if sound < places.len() {
+            return Err(fault_at(n, &places, sound));
+        }
+        if sound < positions.len() {
+            return Err(ShapeFault::Outside(sound as u32));
+        }
+        let needed = needed_places(alloc, n, &places)?;
+        let covered = covered_positions(alloc, n, &places)?;
+        let kept = covered_positions(alloc, n, &needed)?;
+        Ok(Targets {
+            count: n,
+            list: places,
+            needed,
+            covered,
+            kept,
+        })
+    }
+
+    /// How many entries the forest has.
+    pub fn leaves(&self) -> u64
+        ensures is { result ≡ self.now.leaves }
+        ensures targets { IsTargeted self.now }
+    {
+        self.count
+    }
+
+    /// How many targets there are.
+    pub fn len(&self) -> u32
+        ensures { result ≡ length self.now.targets }
+    {
+        self.list.len() as u32
+    }
+
+    /// The target at an index, in the order in which the positions were given.
+    pub fn place(&self, i: u32) -> Place
+        requires { i < length self.now.targets }
+        ensures { result ≡ place_in self.now.targets i }
+    {
+        self.list[i as usize]
+    }
+
+    /// The places whose digests a proof of the targets has to give, in ascending position.
+    pub fn needed(&self) -> &[Place]
+        ensures { result.now ≡ need self.now.leaves self.now.targets }
+    {
+        &self.needed
+    }
+
+    /// Where what stays of a place goes once the targets are gone: a root that stays keeps its place, and a child goes to
+    /// the child at its side of the place to which its parent goes, or to that place itself where its sibling is gone.
+    pub fn moved(&self, place: Place) -> Option<Place>
+        requires { InForest self.now.leaves place.row place.off }
+        ensures is { result ≡ moved self.now.leaves self.now.targets place.row place.off }
+        ensures none { (result ≡ None) ↔ ((is_gone self.now.targets place.row place.off ≡ true) ⊎ IsBeneathTarget self.now.targets place) }
+    {
+        moved_from(self.count, &self.covered, &self.kept, place)
+    }
+}
