@@ -70,14 +70,18 @@ impl Feed {
 
     /// Reads the next event; None at the end of the feed, where it stays. The event is a part of the feed's buffers.
     ///
-    /// A proof belongs to the block right behind it; another proof is a stray, which is answered once the eight bytes
-    /// that begin the next frame were read, or what stands in their place.
+    /// A proof belongs to the block right behind it. Any other proof is a stray, which is answered once the eight
+    /// bytes that begin the next frame were read, or what stands in their place.
+    ///
+    /// After a fault the feed has failed, and `next` must not be called again. A source that failed, or a want of
+    /// memory, right behind a proof makes no event of it.
     pub fn next<'f, S: Source>(&'f mut self, source: &mut S) -> Result<Option<Event<'f>>, FeedFault>
         requires { self.old.failed ≡ false }
         ensures* after { sem 𝓛 (Rests the_row self.entry
             (Advances self.old (S.left source.old) (S.left source.new) (answer_of result))) }
         ensures later { S.faults source.old ≤ S.faults source.new }
-        ensures cause { IsErrOf result FeedFault.ReadFault → Rose (S.faults source.old) (S.faults source.new) }
+        ensures cause { IsErrOf result FeedFault.ReadFault
+            → Rose (S.faults source.old) (S.faults source.new) }
     {
         let came = self.advance(source)?;
         Ok(self.event(came))
@@ -85,13 +89,14 @@ impl Feed {
 
     // Reads what makes the next event.
     fn advance<S: Source>(&mut self, source: &mut S) -> Result<Came, FeedFault>
-        ensures step { Steps self.old.reader self.new.reader (S.left source.old) (S.left source.new) self.old.offset self.new.offset
-            (seen self.new.block self.new.message result) }
+        ensures step { Steps self.old.reader self.new.reader (S.left source.old) (S.left source.new)
+            self.old.offset self.new.offset (seen self.new.block self.new.message result) }
         ensures failed { self.new.failed ≡ is_err result }
         ensures limit { limit_of self.new ≡ limit_of self.old }
         ensures within { self.new.offset ≤ limit_of self.new }
         ensures later { S.faults source.old ≤ S.faults source.new }
-        ensures cause { IsErrOf result FeedFault.ReadFault → Rose (S.faults source.old) (S.faults source.new) }
+        ensures cause { IsErrOf result FeedFault.ReadFault
+            → Rose (S.faults source.old) (S.faults source.new) }
     {
         let came = self.track.step(source);
         self.failed = came.is_err();

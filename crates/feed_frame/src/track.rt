@@ -43,12 +43,13 @@ impl Track {
 
     /// Reads the next event.
     pub fn step<S: Source>(&mut self, source: &mut S) -> Result<Came, FeedFault>
-        ensures step { Steps self.old.reader self.new.reader (S.left source.old) (S.left source.new) self.old.offset self.new.offset
+        ensures step { Steps self.old.reader self.new.reader (S.left source.old) (S.left source.new)
+            self.old.offset self.new.offset
             (seen self.new.block.items self.new.message.items result) }
-        ensures net { self.new.reader.net ≡ self.old.reader.net }
         ensures limit { self.new.reader.reach.limit ≡ self.old.reader.reach.limit }
         ensures later { S.faults source.old ≤ S.faults source.new }
-        ensures cause { IsErrOf result FeedFault.ReadFault → Rose (S.faults source.old) (S.faults source.new) }
+        ensures cause { IsErrOf result FeedFault.ReadFault
+            → Rose (S.faults source.old) (S.faults source.new) }
     {
         match self.reader.upcoming(source)? {
             Next::Frame(head) => match head.kind {
@@ -65,12 +66,13 @@ impl Track {
     fn block<S: Source>(&mut self, source: &mut S, head: Head) -> Result<Came, FeedFault>
         requires ahead { self.old.reader.ahead ≡ Some (Next.Frame head) }
         requires kind { head.kind ≡ Kind.Block }
-        ensures step { Steps self.old.reader self.new.reader (S.left source.old) (S.left source.new) self.old.offset self.new.offset
+        ensures step { Steps self.old.reader self.new.reader (S.left source.old) (S.left source.new)
+            self.old.offset self.new.offset
             (seen self.new.block.items self.new.message.items result) }
-        ensures net { self.new.reader.net ≡ self.old.reader.net }
         ensures limit { self.new.reader.reach.limit ≡ self.old.reader.reach.limit }
         ensures later { S.faults source.old ≤ S.faults source.new }
-        ensures cause { IsErrOf result FeedFault.ReadFault → Rose (S.faults source.old) (S.faults source.new) }
+        ensures cause { IsErrOf result FeedFault.ReadFault
+            → Rose (S.faults source.old) (S.faults source.new) }
     {
         if let Some(fault) = self.reader.body(source, head, &mut self.block)? {
             return Err(fault);
@@ -84,12 +86,13 @@ impl Track {
         requires ahead { self.old.reader.ahead ≡ Some (Next.Frame head) }
         requires kind { head.kind ≡ Kind.Rollback }
         requires four { head.length ≡ 4 }
-        ensures step { Steps self.old.reader self.new.reader (S.left source.old) (S.left source.new) self.old.offset self.new.offset
+        ensures step { Steps self.old.reader self.new.reader (S.left source.old) (S.left source.new)
+            self.old.offset self.new.offset
             (seen self.new.block.items self.new.message.items result) }
-        ensures net { self.new.reader.net ≡ self.old.reader.net }
         ensures limit { self.new.reader.reach.limit ≡ self.old.reader.reach.limit }
         ensures later { S.faults source.old ≤ S.faults source.new }
-        ensures cause { IsErrOf result FeedFault.ReadFault → Rose (S.faults source.old) (S.faults source.new) }
+        ensures cause { IsErrOf result FeedFault.ReadFault
+            → Rose (S.faults source.old) (S.faults source.new) }
     {
         if let Some(fault) = self.reader.body(source, head, &mut self.block)? {
             return Err(fault);
@@ -103,27 +106,32 @@ impl Track {
     fn proof<S: Source>(&mut self, source: &mut S, head: Head) -> Result<Came, FeedFault>
         requires ahead { self.old.reader.ahead ≡ Some (Next.Frame head) }
         requires kind { head.kind ≡ Kind.Proof }
-        ensures step { Steps self.old.reader self.new.reader (S.left source.old) (S.left source.new) self.old.offset self.new.offset
+        ensures step { Steps self.old.reader self.new.reader (S.left source.old) (S.left source.new)
+            self.old.offset self.new.offset
             (seen self.new.block.items self.new.message.items result) }
-        ensures net { self.new.reader.net ≡ self.old.reader.net }
         ensures limit { self.new.reader.reach.limit ≡ self.old.reader.reach.limit }
         ensures later { S.faults source.old ≤ S.faults source.new }
-        ensures cause { IsErrOf result FeedFault.ReadFault → Rose (S.faults source.old) (S.faults source.new) }
+        ensures cause { IsErrOf result FeedFault.ReadFault
+            → Rose (S.faults source.old) (S.faults source.new) }
     {
         if let Some(fault) = self.reader.body(source, head, &mut self.message)? {
             return Err(fault);
         }
         let end = self.reader.reach.at;
-        let Some(head) = self.reader.upcoming(source)?.block() else {
+        let Some(head) = self.reader.upcoming(source)?.block_head() else {
             self.offset = end;
             return Ok(Came::Stray);
         };
-        if let Some(_) = self.reader.body(source, head, &mut self.block)? {
-            self.offset = end;
-            return Ok(Came::Stray);
+        match self.reader.body(source, head, &mut self.block)? {
+            None => {
+                self.offset = self.reader.reach.at;
+                Ok(Came::Block { proved: true })
+            }
+            Some(_) => {
+                self.offset = end;
+                Ok(Came::Stray)
+            }
         }
-        self.offset = self.reader.reach.at;
-        Ok(Came::Block { proved: true })
     }
 }
 
