@@ -16,6 +16,7 @@ use Rattle.feed_frame.specs.declared.reader.Reader.{Reader}
 use Rattle.feed_frame.specs.Ahead.{frames_ahead, MetEnd, MayCome}
 use Rattle.feed_frame.specs.Events.{Events, ends_at, events_in, settled_in, events_of, settled_of}
 use Rattle.feed_frame.specs.FeedState.{FeedState, IsFresh}
+use Rattle.feed_frame.specs.InOrder.{AreAllEvents, AreFirstEvents, AreTakenEvents}
 use Rattle.feed_frame.specs.Machine.{after, written}
 use Rattle.feed_frame.specs.Reading.{frames_next}
 use Rattle.feed_frame.specs.Stepping.{BeginsWith, Reads, ReadsNone, Finishes, events_next, settled_next, led_by_all}
@@ -184,48 +185,75 @@ module _ {S : Type 0} {next : S → FeedEvent → S} {report_of out_of : S → F
           sent = subst (λ l. AppendsPart out out'' (written next out_of start l)) (sym all) (written-part next out_of start state p.events event more _ _ _ p.sent p.reached b);
         }
 
-    -- the run stopped between two events, or at a fault of the source or of memory
-    pub Progress-part : WritesPart next report_of out_of start net limit source report report' out out'
-    Progress-part =
+    -- these events are the first
+    pub Progress-begins : AreFirstEvents net limit source p.events
+    Progress-begins =
         let rest = rest_text reader.ahead source' p.ended in
-        let more = (events_next reader rest.0).events in
-        let all : (events_of net limit (p.taken ++ rest.0)).events ≡ p.events ++ more = ap (λ e. e.events) (p.framed rest.0 rest.2) in
         record {
           text = p.taken ++ rest.0;
           told = Tells-before _ _ _ _ p.lost rest.1;
-          reported = subst (λ l. AppendsPart report report' (written next report_of start l)) (sym all) (written-front next report_of start p.events more _ _ p.reported);
-          sent = subst (λ l. AppendsPart out out' (written next out_of start l)) (sym all) (written-front next out_of start p.events more _ _ p.sent);
+          first = record { others = (events_next reader rest.0).events; split = ap (λ e. e.events) (p.framed rest.0 rest.2) };
+        }
+
+    -- and all that were settled where the source failed
+    pub Progress-settles : {source'' : Option (List ℕ)} → ReadsNone reader source' source'' → AreTakenEvents net limit source source'' p.events
+    Progress-settles {source'' = source''} r =
+        let s = p.settled r.taken r.may in
+        record {
+          taken = p.taken ++ r.taken;
+          lost = Consumes-trans _ _ _ _ _ p.lost r.lost;
+          settled = record { others = s.others; split = sym (append-nil p.events) ∙ ap (λ l. p.events ++ l) (sym r.settled) ∙ s.split };
+        }
+
+    -- and all where the feed ended
+    pub Progress-finishes : {reader' : Reader} {source'' : Option (List ℕ)} {ending : Option FeedFault} → Finishes reader reader' source' source'' ending
+        → AreAllEvents net limit source p.events ending
+    Progress-finishes {reader' = reader'} {source'' = source''} {ending = ending} f =
+        let rest = rest_text reader'.ahead source'' (f.reads.moves.ended p.ended) in
+        let all : events_of net limit ((p.taken ++ f.reads.taken) ++ rest.0) ≡ led_by_all (p.events ++ []) (p.ends ++ []) (ends_at ending) =
+        framed_on reader' source'' _ _ f.reads rest.0 rest.2 ∙ ap (led_by_all (p.events ++ []) (p.ends ++ [])) (f.over rest.0) in
+        record {
+          text = (p.taken ++ f.reads.taken) ++ rest.0;
+          told = Tells-before _ _ _ _ (lost_on reader' source'' _ _ f.reads) rest.1;
+          all = ap (λ e. e.events) all ∙ append-nil (p.events ++ []) ∙ append-nil p.events;
+          ends = ap (λ e. e.ending) all;
+        }
+
+    -- the run stopped between two events, or at a fault of the source or of memory
+    pub Progress-part : WritesPart next report_of out_of start net limit source report report' out out'
+    Progress-part =
+        let b = Progress-begins in
+        record {
+          text = b.text;
+          told = b.told;
+          reported = subst (λ l. AppendsPart report report' (written next report_of start l)) (sym b.first.split) (written-front next report_of start p.events b.first.others _ _ p.reported);
+          sent = subst (λ l. AppendsPart out out' (written next out_of start l)) (sym b.first.split) (written-front next out_of start p.events b.first.others _ _ p.sent);
         }
 
     -- the source failed
     pub Progress-taken : {source'' : Option (List ℕ)} → ReadsNone reader source' source'' → WritesTaken next report_of out_of start net limit source source'' report report' out out'
-    Progress-taken {source'' = source''} r =
-        let s = p.settled r.taken r.may in
-        let all : p.events ≡ settled_of net limit (p.taken ++ r.taken) ++ s.others = sym (append-nil p.events) ∙ ap (λ l. p.events ++ l) (sym r.settled) ∙ s.split in
+    Progress-taken r =
+        let t = Progress-settles r in
         record {
-          taken = p.taken ++ r.taken;
-          lost = Consumes-trans _ _ _ _ _ p.lost r.lost;
-          further = s.others;
-          reported = subst (λ l. Appends report report' (written next report_of start l)) all p.reported;
-          sent = subst (λ l. Appends out out' (written next out_of start l)) all p.sent;
+          taken = t.taken;
+          lost = t.lost;
+          further = t.settled.others;
+          reported = subst (λ l. Appends report report' (written next report_of start l)) t.settled.split p.reported;
+          sent = subst (λ l. Appends out out' (written next out_of start l)) t.settled.split p.sent;
         }
 
     -- the feed ended, in this way
     pub Progress-ended : {reader' : Reader} {source'' : Option (List ℕ)} {ending : Option FeedFault} → Finishes reader reader' source' source'' ending
         → TakesFeed next report_of out_of start net limit state source report report' out out' ending
-    Progress-ended {reader' = reader'} {source'' = source''} {ending = ending} f =
-        let rest = rest_text reader'.ahead source'' (f.reads.moves.ended p.ended) in
-        let all : events_of net limit ((p.taken ++ f.reads.taken) ++ rest.0) ≡ led_by_all (p.events ++ []) (p.ends ++ []) (ends_at ending) =
-        framed_on reader' source'' _ _ f.reads rest.0 rest.2 ∙ ap (led_by_all (p.events ++ []) (p.ends ++ [])) (f.over rest.0) in
-        let same : p.events ≡ (events_of net limit ((p.taken ++ f.reads.taken) ++ rest.0)).events =
-        sym (append-nil p.events) ∙ sym (append-nil (p.events ++ [])) ∙ sym (ap (λ e. e.events) all) in
+    Progress-ended f =
+        let a = Progress-finishes f in
         record {
-          text = (p.taken ++ f.reads.taken) ++ rest.0;
-          told = Tells-before _ _ _ _ (lost_on reader' source'' _ _ f.reads) rest.1;
-          ends = ap (λ e. e.ending) all;
-          reached = p.reached ∙ ap (after next start) same;
-          reported = subst (λ l. Appends report report' (written next report_of start l)) same p.reported;
-          sent = subst (λ l. Appends out out' (written next out_of start l)) same p.sent;
+          text = a.text;
+          told = a.told;
+          ends = a.ends;
+          reached = p.reached ∙ ap (after next start) (sym a.all);
+          reported = subst (λ l. Appends report report' (written next report_of start l)) (sym a.all) p.reported;
+          sent = subst (λ l. Appends out out' (written next out_of start l)) (sym a.all) p.sent;
         }
 
     -- the order of the two sinks, where the run stopped between two events or ended

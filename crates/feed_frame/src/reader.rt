@@ -45,7 +45,6 @@ impl Reader {
         ensures came { IfOk result (FindsNext self.old self.new (S.left source.old) (S.left source.new)) }
         ensures part { OnErr result (FindsNone self.old (S.left source.old) (S.left source.new)) }
         ensures on { self.old.reach.at + held self.new.ahead ≤ self.new.reach.at + held self.old.ahead }
-        ensures net { self.new.net ≡ self.old.net }
         ensures limit { self.new.reach.limit ≡ self.old.reach.limit }
         ensures later { S.faults source.old ≤ S.faults source.new }
         ensures cause { OnErr result (Rose (S.faults source.old) (S.faults source.new)) }
@@ -71,16 +70,19 @@ impl Reader {
         requires { self.old.ahead ≡ Some (Next.Frame head) }
         ensures came { IfOk result (λ lack. MatchOption lack
             (TakesFrame self.old self.new (S.left source.old) (S.left source.new) head body.new.items)
-            (λ fault. FindsNext self.old self.new (S.left source.old) (S.left source.new) (Next.Bad fault))) }
-        ensures part { IsErrOf result FeedFault.ReadFault → FindsNone self.old (S.left source.old) (S.left source.new) }
-        ensures stop { IfErr result (λ fault. (fault ≡ FeedFault.ReadFault) ⊎ (fault ≡ FeedFault.NoMemory)) }
+            (λ fault. FindsNext self.old self.new (S.left source.old) (S.left source.new)
+            (Next.Bad fault))) }
+        ensures part { IsErrOf result FeedFault.ReadFault
+            → FindsNone self.old (S.left source.old) (S.left source.new) }
+        ensures stop { IfErr result
+            (λ fault. (fault ≡ FeedFault.ReadFault) ⊎ (fault ≡ FeedFault.NoMemory)) }
         ensures front { LosesFront (S.left source.old) (S.left source.new) }
         ensures size { length body.new.items ≤ head.length }
         ensures on { self.old.reach.at ≤ self.new.reach.at }
-        ensures net { self.new.net ≡ self.old.net }
         ensures limit { self.new.reach.limit ≡ self.old.reach.limit }
         ensures later { S.faults source.old ≤ S.faults source.new }
-        ensures cause { IsErrOf result FeedFault.ReadFault → Rose (S.faults source.old) (S.faults source.new) }
+        ensures cause { IsErrOf result FeedFault.ReadFault
+            → Rose (S.faults source.old) (S.faults source.new) }
     {
         let length = head.length as usize;
         let mut piece = [0u8; PIECE];
