@@ -1,6 +1,5 @@
 -- What a move means for the entries.
-use Rattle.std.proofs.Common.{◌≡◌, ℕ, List, length, Option, Some, sym, ap, ◌∙◌, subst}
-use Rattle.uo_digest.specs.declared.digest.Digest.{Digest}
+use Rattle.std.proofs.Common.{◌≡◌, length, Option, sym, ap, ◌∙◌, subst}
 use Rattle.forest_place.specs.declared.place.Place.{Place}
 use Rattle.forest_model.specs.Content.{content}
 use Rattle.forest_model.specs.Deletion.{entries_without, GoesTo, moved}
