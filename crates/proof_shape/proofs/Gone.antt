@@ -1,23 +1,22 @@
 -- What is gone, by what is covered and by what is needed.
-use Rattle.std.proofs.Common.{◌≡◌, ℕ, zero, suc, ◌+◌, ◌-◌, ◌*◌, ◌/◌, ◌%◌, ◌^◌, ◌<◌, ◌≤◌, Bool, true, false, not, ◌&&◌, ◌||◌, List, Option, Some, None, is_some, refl, sym, ap, ◌∙◌, subst, ap₂, ⊎_elim, inl, inr, arith, eq-eqb, eqb-true}
+use Rattle.std.proofs.Common.{◌≡◌, ℕ, zero, suc, ◌+◌, ◌-◌, ◌*◌, ◌/◌, ◌%◌, ◌^◌, ◌<◌, Bool, true, false, not, ◌&&◌, ◌||◌, List, Option, Some, None, is_some, refl, sym, ap, ◌∙◌, subst, ap₂, ⊎_elim, inl, inr, arith, eq-eqb, eqb-true}
 use Rattle.std.specs.Prelude.{◌⊎◌, ◌==◌, nat_lt}
-use Rattle.std.proofs.lemmas.Bool.{cases_Bool, cases_eq, false≢true, true≢false, false_from_ne_true, or_cases, or_left, or_right, or_from, and_from, and_parts, lt-ltb, ltb-true}
-use Rattle.std.proofs.lemmas.Option.{none-some, same_Some}
+use Rattle.std.proofs.lemmas.Bool.{cases_Bool, cases_eq, false≢true, false_from_ne_true, or_cases, or_left, or_right, or_from, and_from, and_parts, lt-ltb, ltb-true}
+use Rattle.std.proofs.lemmas.Option.{none-some}
 use Rattle.forest_place.specs.declared.place.Place.{Place}
 use Rattle.forest_place.specs.Forest.{InForest, is_root, sibling_off}
 use Rattle.forest_place.specs.Places.{has_place}
 use Rattle.forest_place.proofs.Parts.{parts-suc, half_pow, InForest-up, InForest-left, InForest-right, not_root-left, not_root-right, row_below}
 use Rattle.forest_place.proofs.Siblings.{sibling_off-left, sibling_off-right}
 use Rattle.forest_place.proofs.Listed.{place}
-use Rattle.forest_model.specs.Cover.{Cover, cover, is_needed, need, HasShape, is_above}
+use Rattle.forest_model.specs.Cover.{cover, is_needed, need, HasShape, is_above}
 use Rattle.forest_model.specs.Deletion.{is_gone, moved, child_place}
 use Rattle.forest_model.proofs.Covers.{needed_parts}
 use Rattle.forest_model.proofs.Lists.{need_has, need_had}
 use Rattle.forest_model.proofs.Moving.{moved-step, moved-is_gone}
-use Rattle.proof_shape.specs.Shape.{has_number}
 use Rattle.proof_shape.specs.Survey.{CoversTell}
 use Rattle.proof_shape.specs.Moves.{GoneTell, IsBeneathTarget}
-use Rattle.proof_shape.proofs.Needing.{covered_up, covered_target, same_Bools}
+use Rattle.proof_shape.proofs.Needing.{covered_up, covered_target}
 use Rattle.proof_shape.proofs.Climbing.{nothing_above}
 
 -- a target stands at or beneath what is covered

@@ -6,3 +6,4 @@ pub mod Faulty
 pub mod Sweeping
 pub mod Needing
 pub mod Gone
+pub mod Goes

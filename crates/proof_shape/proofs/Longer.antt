@@ -1,7 +1,7 @@
 -- Targets with one place more.
-use Rattle.std.proofs.Common.{◌≡◌, ℕ, zero, suc, ◌+◌, ◌-◌, ◌/◌, ◌^◌, ◌<◌, ◌≤◌, true, false, ◌&&◌, ◌||◌, List, [], ◌∷◌, ◌++◌, length, get_or, take, refl, sym, ap, ◌∙◌, subst, ⊎_elim, inl, inr, arith}
+use Rattle.std.proofs.Common.{◌≡◌, ℕ, zero, suc, ◌+◌, ◌-◌, ◌/◌, ◌^◌, ◌<◌, true, false, List, [], ◌∷◌, ◌++◌, length, take, refl, sym, ap, ◌∙◌, subst, ⊎_elim, inl, inr, arith}
 use Rattle.std.specs.Prelude.{◌==◌, ◌⊎◌, nat_lt}
-use Rattle.std.proofs.lemmas.Bool.{and_parts, false≢true, true≢false, ltb-true, false_from_ne_true, or_cases, or_left, or_right, or_from, or_parts}
+use Rattle.std.proofs.lemmas.Bool.{and_parts, false≢true, ltb-true, false_from_ne_true, or_cases, or_left, or_right, or_from, or_parts}
 use Rattle.std.proofs.lemmas.List.{take_more, get_or-take, length-take-le}
 use Rattle.std.proofs.lemmas.List.Folds.{list_any-append}
 use Rattle.forest_place.specs.declared.place.Place.{Place}
@@ -11,7 +11,7 @@ use Rattle.forest_place.proofs.Listed.{place, is_at-same, same_from_is_at}
 use Rattle.forest_model.specs.Cover.{is_above, HasShape}
 use Rattle.proof_shape.specs.Shape.{AreWithin}
 use Rattle.proof_shape.specs.Found.{place_in, crosses}
-use Rattle.proof_shape.proofs.Ordered.{has_at, has_first}
+use Rattle.proof_shape.proofs.Ordered.{has_at}
 
 pub has_left : (xs ys : List Place) (r o : ℕ) → has_place xs r o ≡ true → has_place (xs ++ ys) r o ≡ true
 has_left xs ys r o h = list_any-append (is_at r o) xs ys ∙ or_left (has_place xs r o) (has_place ys r o) h

@@ -1,24 +1,22 @@
 -- One step of a sweep.
-use Rattle.std.proofs.Common.{◌≡◌, ℕ, zero, suc, ◌+◌, ◌-◌, ◌*◌, ◌/◌, ◌^◌, ◌<◌, ◌≤◌, true, false, List, [], ◌∷◌, ◌++◌, length, get_or, refl, sym, ap, ◌∙◌, subst, ap₂, ⊎_elim, inl, inr, arith, eq-eqb}
+use Rattle.std.proofs.Common.{◌≡◌, ℕ, zero, suc, ◌+◌, ◌-◌, ◌/◌, ◌^◌, ◌<◌, ◌≤◌, true, false, List, [], ◌∷◌, ◌++◌, length, get_or, refl, sym, ap, ◌∙◌, subst, ap₂, ⊎_elim, inl, inr, arith, eq-eqb}
 use Rattle.std.specs.Prelude.{◌⊎◌, ◌==◌}
 use Rattle.std.specs.List.Sorted.{IsNonDecreasing}
 use Rattle.std.proofs.lemmas.Bool.{cases_lt, cases_eq, cases_order, cases_Bool, false≢true, true≢false}
-use Rattle.std.proofs.lemmas.List.Folds.{list_any_at, list_any-append}
+use Rattle.std.proofs.lemmas.List.Folds.{list_any_at}
 use Rattle.std.proofs.Math.ListN.{get_or-append, length-append}
 use Rattle.std.proofs.Math.Seq.{get_or-append_seam}
 use Rattle.forest_place.specs.declared.place.Place.{Place}
-use Rattle.forest_place.specs.Forest.{InForest, is_root}
-use Rattle.forest_place.specs.Places.{is_at, has_place, IsBefore}
+use Rattle.forest_place.specs.Forest.{InForest}
 use Rattle.forest_place.specs.Position.{position, rows}
 use Rattle.forest_place.proofs.Parts.{InForest-up}
-use Rattle.forest_place.proofs.Listed.{place, is_at-same}
 use Rattle.forest_place.proofs.Positions.{position_rises, position_order, one_position, position_small, rows_least}
 use Rattle.std.proofs.Math.Pow.{pow_mono}
 use Rattle.proof_shape.specs.Shape.{has_number, AreWithin}
 use Rattle.proof_shape.specs.Found.{place_in}
 use Rattle.proof_shape.specs.Swept.{pos, up, is_top, has, IsPushed, IsClimbed, ClimbsNext, NumberNext, IsSweep}
-use Rattle.proof_shape.proofs.Ordered.{has_at, has_first}
-use Rattle.proof_shape.proofs.Longer.{has_left, has_cases, place_where}
+use Rattle.proof_shape.proofs.Ordered.{has_at}
+use Rattle.proof_shape.proofs.Longer.{has_left, has_cases}
 
 -- the place above comes later
 pub self_up : (n : ℕ) (p : Place) → InForest n p.row p.off → is_top n p ≡ false → pos n p < pos n (up p)

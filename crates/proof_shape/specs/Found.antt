@@ -1,7 +1,6 @@
 -- What is found of a list of places.
-use Rattle.std.specs.Prelude.{◌≡◌, ◌≢◌, ℕ, ◌+◌, ◌<◌, ◌≤◌, Bool, true, false, ◌||◌, List, take, length, get_or, Option, None}
+use Rattle.std.specs.Prelude.{◌≡◌, ◌≢◌, ℕ, ◌+◌, ◌<◌, ◌≤◌, Bool, true, false, ◌||◌, List, take, length, get_or, None}
 use Rattle.forest_place.specs.declared.place.Place.{Place}
-use Rattle.forest_place.specs.Places.{has_place}
 use Rattle.forest_place.specs.Position.{place_at}
 use Rattle.forest_model.specs.Cover.{is_above, HasShape}
 use Rattle.proof_shape.specs.Shape.{AreWithin, positions_of}

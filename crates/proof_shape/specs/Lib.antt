@@ -4,3 +4,4 @@ pub mod Targeted
 pub mod Swept
 pub mod Survey
 pub mod Moves
+pub mod Laws

@@ -38,6 +38,7 @@ impl Targets {
     ghost use Rattle.forest_model.specs.Cover.{need};
     ghost use Rattle.forest_model.specs.Deletion.{moved, is_gone};
     ghost use Rattle.proof_shape.specs.Moves.{IsBeneathTarget};
+    ghost use Rattle.proof_shape.specs.Laws.{WhatStaysGoes, EntryGoes};
     ghost use Rattle.proof_shape.specs.Shape.{AreTargets, IsFault};
     ghost use Rattle.proof_shape.specs.Targeted.{IsTargeted};
     ghost use Rattle.proof_shape.specs.Found.{place_in};
@@ -106,6 +107,10 @@ impl Targets {
         requires { InForest self.now.leaves place.row place.off }
         ensures is { result ≡ moved self.now.leaves self.now.targets place.row place.off }
         ensures none { (result ≡ None) ↔ ((is_gone self.now.targets place.row place.off ≡ true) ⊎ IsBeneathTarget self.now.targets place) }
+
+        // Where the targets are places of live entries, and these are spent.
+        ensures stays { WhatStaysGoes self.now place result }
+        ensures entries { EntryGoes self.now place result }
     {
         moved_from(self.count, &self.covered, &self.kept, place)
     }

@@ -1,5 +1,4 @@
 use Rattle.std.proofs.Common.{◌≡◌, ◌<◌, true, false, sym, ap, ◌∙◌, arith}
-use Rattle.forest_place.specs.Forest.{is_root}
 use Rattle.forest_place.specs.Position.{position}
 use Rattle.forest_place.proofs.Positions.{row_small}
 use Rattle.proof_shape.specs.Shape.{has_number}

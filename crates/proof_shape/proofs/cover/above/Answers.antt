@@ -1,4 +1,4 @@
-use Rattle.std.proofs.Common.{◌≡◌, ℕ, suc, ◌+◌, sym, ap₂, ◌∙◌, subst, arith, false}
+use Rattle.std.proofs.Common.{◌≡◌, ℕ, suc, sym, ap₂, ◌∙◌, subst, arith, false}
 use Rattle.forest_place.specs.declared.place.Place.{Place}
 use Rattle.forest_place.specs.Forest.{InForest}
 use Rattle.forest_place.proofs.Parts.{InForest-up}

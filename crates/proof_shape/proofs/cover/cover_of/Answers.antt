@@ -1,7 +1,6 @@
-use Rattle.std.proofs.Common.{◌≡◌, ◌<◌, ◌-◌, ◌^◌, length, get_or, sym, subst, arith}
+use Rattle.std.proofs.Common.{◌<◌, ◌^◌, length, sym, subst, arith}
 use Rattle.proof_shape.specs.Found.{place_in}
-use Rattle.proof_shape.specs.Swept.{IsSweep, ClimbsNext, NumberNext, pos}
-use Rattle.proof_shape.proofs.Ordered.{has_at}
+use Rattle.proof_shape.specs.Swept.{IsSweep, ClimbsNext, NumberNext}
 use Rattle.proof_shape.proofs.Sweeping.{index_low, small_position, in_forest, climbed, numbered, sweep_begins}
 use Rattle.proof_shape.proofs.cover.cover_of.Goals as goal
 use Rattle.proof_shape.proofs.cover.cover_of.Goals.{then-k-len, else-k-len+then-j-sorted}

@@ -1,4 +1,4 @@
-use Rattle.std.proofs.Common.{◌≡◌, sym, subst, get_or, true}
+use Rattle.std.proofs.Common.{◌≡◌, sym, subst, true}
 use Rattle.forest_place.specs.declared.place.Place.{Place}
 use Rattle.proof_shape.specs.Swept.{has}
 use Rattle.proof_shape.proofs.Ordered.{has_at}

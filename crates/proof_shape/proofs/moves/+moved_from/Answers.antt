@@ -1,10 +1,10 @@
-use Rattle.std.proofs.Common.{◌≡◌, ◌<◌, ◌-◌, ◌/◌, ◌%◌, suc, true, false, Some, None, sym, ap, ap₂, ◌∙◌, arith, List}
+use Rattle.std.proofs.Common.{◌≡◌, ◌/◌, ◌%◌, suc, false, Some, None, sym, ap, ap₂, ◌∙◌, arith}
 use Rattle.forest_place.specs.declared.place.Place.{Place}
-use Rattle.forest_place.specs.Forest.{is_root, sibling_off}
+use Rattle.forest_place.specs.Forest.{sibling_off}
 use Rattle.forest_place.proofs.Siblings.{sibling_within}
 use Rattle.forest_place.proofs.Positions.{row_small}
 use Rattle.forest_model.specs.Deletion.{is_gone, moved, child_place}
-use Rattle.proof_shape.specs.Moves.{gone_by, GoneTell}
+use Rattle.proof_shape.specs.Moves.{gone_by}
 use Rattle.proof_shape.proofs.Gone.{moved_top, moved_up}
 use Rattle.proof_shape.proofs.moves.+moved_from.Goals as goal
 

@@ -1,5 +1,5 @@
 use Rattle.proof_shape.proofs.need.needed_beside.Goals as goal
-use Rattle.std.proofs.Common.{◌≡◌, ℕ, Some, true, false, refl, sym, ap, ap₂, ◌∙◌, subst, get_or}
+use Rattle.std.proofs.Common.{◌≡◌, ℕ, Some, false, refl, sym, ap, ap₂, ◌∙◌, subst}
 use Rattle.std.proofs.lemmas.Bool.{false≢true, false_from_ne_true}
 use Rattle.forest_place.specs.declared.place.Place.{Place}
 use Rattle.proof_shape.specs.Swept.{is_top, has, IsNear, needed_beside}

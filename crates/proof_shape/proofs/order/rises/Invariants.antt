@@ -1,4 +1,4 @@
-use Rattle.std.proofs.Common.{◌≡◌, ℕ, ◌+◌, ◌<◌, ◌-◌, ◌≤◌, get_or, length}
+use Rattle.std.proofs.Common.{ℕ, ◌+◌, ◌<◌, ◌-◌, ◌≤◌, get_or, length}
 use Rattle.proof_shape.proofs.order.rises.Given as goal
 
 abbrev pub invariant-loop-i : goal.invariant-loop-i

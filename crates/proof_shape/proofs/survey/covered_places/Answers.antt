@@ -1,4 +1,4 @@
-use Rattle.std.proofs.Common.{sym, subst, ◌≡◌, List, ℕ}
+use Rattle.std.proofs.Common.{sym, subst}
 use Rattle.std.specs.List.Sorted.{IsPermutation}
 use Rattle.std.proofs.lemmas.Result.{IfOk-weaker}
 use Rattle.proof_shape.specs.Shape.{positions_of}

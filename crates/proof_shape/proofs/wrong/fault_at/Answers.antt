@@ -1,4 +1,3 @@
-use Rattle.std.proofs.Common.{◌≡◌}
 use Rattle.forest_place.proofs.Positions.{row_small}
 use Rattle.proof_shape.specs.Found.{place_in}
 use Rattle.proof_shape.proofs.Ordered.{has_at}

@@ -1,4 +1,4 @@
-use Rattle.std.proofs.Common.{◌≡◌, ◌∙◌, sym, below_more}
+use Rattle.std.proofs.Common.{◌∙◌, sym, below_more}
 use Rattle.proof_shape.proofs.wrong.first_crossing.Goals as goal
 
 pub loop-j-preserved : goal.loop-j-preserved
