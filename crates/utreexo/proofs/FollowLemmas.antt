@@ -88,24 +88,24 @@ module _ (old new : FeedState) (left rest : Option (List ℕ)) (answer : Result 
 -- ---- from what was written to the answer
 
 -- the events were written in part
-pub part-stays : (limits : Limits) (net : Net) (feed old new : Option (List ℕ)) → WritesPart (next_follower limits) (event_line limits) sends_nothing fresh net limits.bytes feed old new None None
+pub part-stays : (limits : Limits) (net : Net) (feed old new : Option (List ℕ)) → WritesPart (next_follower limits net) (event_line limits net) sends_nothing fresh net limits.bytes feed old new None None
     → StaysWithin (follow_answer limits net) feed old new
 unfolding follow_answer answer_over
 part-stays limits net feed old new w = record { text = w.text; told = w.told; report = AppendsPart-front old new _ _ _ w.reported refl }
 
 module _ (limits : Limits) (net : Net) (feed old mid new : Option (List ℕ)) where
   module _ (f : Follower) (ending : Option FeedFault) (status : Status) (line : Line)
-      (t : TakesFeed (next_follower limits) (event_line limits) sends_nothing fresh net limits.bytes f feed old mid None None ending)
+      (t : TakesFeed (next_follower limits net) (event_line limits net) sends_nothing fresh net limits.bytes f feed old mid None None ending)
       (s : status ≡ closing_status f ending) (l : line ≡ closing_line f ending) where
     last : Follower
-    last = after (next_follower limits) fresh (events_of net limits.bytes t.text).events
+    last = after (next_follower limits net) fresh (events_of net limits.bytes t.text).events
 
     status_is : status ≡ (follow_answer limits net t.text).status
     unfolding follow_answer answer_over last
     status_is = s ∙ ap (λ g. closing_status g ending) t.reached ∙ ap (closing_status last) (sym t.ends)
 
     lines : List ℕ
-    lines = written (next_follower limits) (event_line limits) fresh (events_of net limits.bytes t.text).events
+    lines = written (next_follower limits net) (event_line limits net) fresh (events_of net limits.bytes t.text).events
 
     report_is : (follow_answer limits net t.text).report ≡ lines ++ whole_line line
     unfolding follow_answer answer_over lines last

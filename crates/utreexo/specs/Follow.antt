@@ -18,8 +18,8 @@ use Rattle.utreexo.specs.Rules.{verdict_on}
 use Rattle.utreexo.specs.Status.{status_of}
 
 -- the line of an event
-unfoldable pub event_line : Limits → Follower → FeedEvent → List ℕ
-event_line limits f event = whole_line (Line.Verdict (verdict_on limits f.chain event))
+unfoldable pub event_line : Limits → Net → Follower → FeedEvent → List ℕ
+event_line limits net f event = whole_line (Line.Verdict (verdict_on limits net f.chain event))
 
 -- nothing is stored yet
 abbrev pub sends_nothing : Follower → FeedEvent → List ℕ
@@ -54,19 +54,19 @@ closing_status f (Some (Fault.Limit bytes)) = Status.InputLimit
 closing_status f ending = status_of f.refused
 
 -- a line for each event, and the last one
-unfoldable pub answer_over : Limits → Events → Answer
-answer_over limits events =
-    let f = after (next_follower limits) fresh events.events in
+unfoldable pub answer_over : Limits → Net → Events → Answer
+answer_over limits net events =
+    let f = after (next_follower limits net) fresh events.events in
     record {
       status = closing_status f events.ending;
-      report = written (next_follower limits) (event_line limits) fresh events.events ++ whole_line (closing_line f events.ending);
+      report = written (next_follower limits net) (event_line limits net) fresh events.events ++ whole_line (closing_line f events.ending);
       out = [];
     }
 
 -- the answer to a feed's bytes
 unfoldable pub follow_answer : Limits → Net → List ℕ → Answer
-follow_answer limits net feed = answer_over limits (events_of net limits.bytes feed)
+follow_answer limits net feed = answer_over limits net (events_of net limits.bytes feed)
 
 -- the lines of the events whose frames are whole in these bytes, and of further ones
-abbrev pub lines_of : Limits → List FeedEvent → List ℕ
-lines_of limits events = written (next_follower limits) (event_line limits) fresh events
+abbrev pub lines_of : Limits → Net → List FeedEvent → List ℕ
+lines_of limits net events = written (next_follower limits net) (event_line limits net) fresh events

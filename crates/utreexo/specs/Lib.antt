@@ -2,6 +2,7 @@ pub mod Answers
 pub mod Follow
 pub mod Lines
 pub mod Machine
+pub mod Options
 pub mod Rules
 pub mod Runs
 pub mod Status

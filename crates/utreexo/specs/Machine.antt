@@ -1,6 +1,7 @@
 -- The machine of a node: its chain, the verdicts over a list of blocks, and what they make of the chain.
 use Rattle.std.specs.Prelude.{ℕ, ◌+◌, ◌-◌, ◌==◌, ◌||◌, Bool, true, false, Option, Some, None, replicate, if◌then◌else◌}
 use Rattle.uo_base.specs.declared.event.Limits.{Limits}
+use Rattle.uo_base.specs.declared.event.Net.{Net}
 use Rattle.uo_base.specs.FeedEvent.{FeedEvent}
 use Rattle.uo_digest.specs.declared.digest.Digest.{Digest}
 use Rattle.utreexo.specs.declared.chain.Chain.{Chain}
@@ -37,9 +38,9 @@ is_refused verdict = false
 abbrev pub fresh : Follower
 fresh = record { chain = start; events = 0; refused = false }
 
-unfoldable pub next_follower : Limits → Follower → FeedEvent → Follower
-next_follower limits f event = record {
-  chain = next_chain f.chain (verdict_on limits f.chain event);
+unfoldable pub next_follower : Limits → Net → Follower → FeedEvent → Follower
+next_follower limits net f event = record {
+  chain = next_chain f.chain (verdict_on limits net f.chain event);
   events = f.events + 1;
-  refused = f.refused || is_refused (verdict_on limits f.chain event);
+  refused = f.refused || is_refused (verdict_on limits net f.chain event);
 }

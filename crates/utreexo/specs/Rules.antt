@@ -2,6 +2,8 @@
 use Rattle.std.specs.Prelude.{ℕ, zero, suc, is_some, ◌-◌, ◌+◌, ◌/◌, ◌^◌, ◌==◌, ◌&&◌, nat_le, nat_lt, ◌≤◌, not, Bool, true, false, List, [], ◌∷◌, length, Option, Some, None, count_by, sum_by, replicate, bytes_eq, if◌then◌else◌}
 use Rattle.std.specs.List.{flat_map}
 use Rattle.uo_base.specs.declared.event.Limits.{Limits}
+use Rattle.uo_base.specs.declared.event.Net.{Net}
+use Rattle.uo_base.specs.declared.event.Net.TheVariants.{Main, Regtest}
 use Rattle.uo_base.specs.FeedEvent.{FeedEvent, BlockCame, RollbackCame, StrayCame}
 use Rattle.uo_digest.specs.declared.digest.Digest.{Digest}
 use Rattle.tx_codec.specs.Transaction.{Transaction, Input, Output}
@@ -32,9 +34,14 @@ new_count height txs = if height == 0 then 0 else count_by is_spendable (flat_ma
 
 -- ---- the steps, in their order
 
--- what a coinbase may claim at a height: 50 coins, halved every 210,000 blocks, in satoshi
-abbrev pub subsidy_at : ℕ → ℕ
-subsidy_at height = if nat_lt (height / 210000) 64 then 5000000000 / 2 ^ (height / 210000) else 0
+-- how many blocks there are between two halvings
+abbrev pub halving_of : Net → ℕ
+halving_of Main = 210000
+halving_of Regtest = 150
+
+-- what a coinbase may claim at a height: 50 coins, halved again and again, in satoshi
+abbrev pub subsidy_at : Net → ℕ → ℕ
+subsidy_at net height = if nat_lt (height / halving_of net) 64 then 5000000000 / 2 ^ (height / halving_of net) else 0
 
 -- the outpoint of no output
 abbrev pub is_null : Input → Bool
@@ -46,17 +53,17 @@ is_coinbase_by (input ∷ []) = is_null input && nat_le 2 (length input.script) 
 is_coinbase_by inputs = false
 
 -- its outputs sum to no more than the subsidy
-abbrev pub claims_no_more : ℕ → Transaction → Bool
-claims_no_more height tx = nat_le (sum_by (λ output. output.amount) tx.outputs) (subsidy_at height)
+abbrev pub claims_no_more : Net → ℕ → Transaction → Bool
+claims_no_more net height tx = nat_le (sum_by (λ output. output.amount) tx.outputs) (subsidy_at net height)
 
 -- there is a next height, and room for the entries
 abbrev pub has_room : Limits → Chain → List Transaction → Bool
 has_room limits chain txs = nat_lt chain.blocks 2147483648 && nat_le (chain.leaves + new_count chain.blocks txs) limits.leaves
 
 -- a block of the kind whose rules are built: its one transaction is a coinbase
-abbrev pub is_built : Limits → Chain → List Transaction → Bool
-is_built limits chain (tx ∷ []) = is_coinbase_by tx.inputs && claims_no_more chain.blocks tx && has_room limits chain (tx ∷ [])
-is_built limits chain txs = false
+abbrev pub is_built : Limits → Net → Chain → List Transaction → Bool
+is_built limits net chain (tx ∷ []) = is_coinbase_by tx.inputs && claims_no_more net chain.blocks tx && has_room limits chain (tx ∷ [])
+is_built limits net chain txs = false
 
 abbrev pub is_single : List Transaction → Bool
 is_single txs = length txs == 1
@@ -76,12 +83,12 @@ merkle_step root (Root computed) = fails_unless (is_same computed root) Why.Merk
 merkle_step root (Repeated level place) = Some (Why.MerkleRepeated level place)
 
 -- the steps in their order, one a line
-abbrev pub steps : Limits → Chain → Block → (proved : Bool) → List (Option Refusal)
-steps limits chain block proved =
+abbrev pub steps : Limits → Net → Chain → Block → (proved : Bool) → List (Option Refusal)
+steps limits net chain block proved =
     fails_unless (is_same block.header.prev chain.tip) Why.Link
     ∷ merkle_step block.header.merkle (merkle_of (txids_of block))
     ∷ fails_unless (nat_le (weight_of block) 4000000) (Why.Weight (weight_of block))
-    ∷ fails_unless (not proved && is_built limits chain block.txs) Why.Unbuilt
+    ∷ fails_unless (not proved && is_built limits net chain block.txs) Why.Unbuilt
     ∷ []
 
 -- ---- the verdict
@@ -91,13 +98,13 @@ verdict_by chain block (Some why) = Refused chain.blocks (Some (block_hash_of bl
 verdict_by chain block None = Accepted chain.blocks (block_hash_of block) (chain.leaves + new_count chain.blocks block.txs)
 
 -- the verdict on a block that was read, beside a message or none
-unfoldable pub judged : Limits → Chain → Block → (proved : Bool) → Verdict
-judged limits chain block proved = verdict_by chain block (first_of (steps limits chain block proved))
+unfoldable pub judged : Limits → Net → Chain → Block → (proved : Bool) → Verdict
+judged limits net chain block proved = verdict_by chain block (first_of (steps limits net chain block proved))
 
 -- the bytes are the text of a block, or of none
-abbrev pub verdict_at : Limits → Chain → Option Block → (proved : Bool) → Verdict
-verdict_at limits chain (Some block) proved = judged limits chain block proved
-verdict_at limits chain None proved = Refused chain.blocks None Why.Block
+abbrev pub verdict_at : Limits → Net → Chain → Option Block → (proved : Bool) → Verdict
+verdict_at limits net chain (Some block) proved = judged limits net chain block proved
+verdict_at limits net chain None proved = Refused chain.blocks None Why.Block
 
 -- the height and the hash of the newest block
 abbrev pub newest_height : Chain → Option ℕ
@@ -109,10 +116,10 @@ rolled_back chain zero = RolledBack 0 (newest_height chain) chain.tip chain.leav
 rolled_back chain (suc more) = TooDeep (suc more) 0
 
 -- the verdict on an event
-unfoldable pub verdict_on : Limits → Chain → FeedEvent → Verdict
-verdict_on limits chain (BlockCame bytes message) = verdict_at limits chain (block_in bytes) (is_some message)
-verdict_on limits chain (RollbackCame count) = rolled_back chain count
-verdict_on limits chain StrayCame = Stray
+unfoldable pub verdict_on : Limits → Net → Chain → FeedEvent → Verdict
+verdict_on limits net chain (BlockCame bytes message) = verdict_at limits net chain (block_in bytes) (is_some message)
+verdict_on limits net chain (RollbackCame count) = rolled_back chain count
+verdict_on limits net chain StrayCame = Stray
 
 -- a block's bytes are no more than a frame may have
 abbrev pub IsShort : FeedEvent → Type 0

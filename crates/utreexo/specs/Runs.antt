@@ -3,21 +3,18 @@ use Rattle.std.specs.Prelude.{◌≡◌, ℕ, Bool, true, false, List, None, Res
 use Rattle.std.specs.declared.option.Option.{Option}
 use Rattle.std.specs.Io.KnownBytes.{Appends}
 use Rattle.uo_base.specs.declared.event.Limits.{Limits}
-use Rattle.uo_base.specs.declared.event.Net.TheVariants.{Main}
 use Rattle.uo_base.specs.Faults.{Rose}
 use Rattle.uo_base.specs.Moved.{AppendsPart}
 use Rattle.uo_base.specs.Told.{Tells}
 use Rattle.utreexo.specs.declared.line.Line.TheVariants as Line
 use Rattle.utreexo.specs.declared.status.Status.{Status}
 use Rattle.utreexo.specs.declared.status.Status.TheVariants.{ReadFault, WriteFault, NoMemory, Words}
-use Rattle.utreexo.specs.declared.words.Command.{Command}
-use Rattle.utreexo.specs.declared.words.Command.TheVariants.{Follow}
 use Rattle.utreexo.specs.declared.words.WordFault.{WordFault}
 use Rattle.utreexo.specs.Answers.{Answer, said}
 use Rattle.feed_frame.specs.Streamed.{WritesTaken}
 use Rattle.utreexo.specs.Follow.{event_line, sends_nothing, follow_answer}
 use Rattle.utreexo.specs.Machine.{fresh, next_follower}
-use Rattle.utreexo.specs.Words.{command_of}
+use Rattle.utreexo.specs.Words.{Asked, AskedFollow, net_for, command_of}
 
 -- the bytes of the three inputs
 pub record Inputs : Type 0 where
@@ -32,17 +29,17 @@ pub record Uses : Type 0 where
   pub watch : Bool
   pub out : Bool
 
-abbrev pub uses_by : Result Command WordFault → Uses
+abbrev pub uses_by : Result Asked WordFault → Uses
 uses_by (Err fault) = record { feed = false; prior = false; watch = false; out = false }
-uses_by (Ok Follow) = record { feed = true; prior = false; watch = false; out = false }
+uses_by (Ok (AskedFollow net feed)) = record { feed = true; prior = false; watch = false; out = false }
 
 abbrev pub uses_of : List (List ℕ) → Uses
 uses_of words = uses_by (command_of words)
 
 -- the whole answer to a command, or to words that are refused
-abbrev pub answer_by : Result Command WordFault → Limits → Inputs → Answer
+abbrev pub answer_by : Result Asked WordFault → Limits → Inputs → Answer
 answer_by (Err fault) limits inputs = said Words (Line.Words fault.at)
-answer_by (Ok Follow) limits inputs = follow_answer limits Main inputs.feed
+answer_by (Ok (AskedFollow net feed)) limits inputs = follow_answer limits (net_for (AskedFollow net feed)) inputs.feed
 
 -- the whole answer to the words of a command line
 unfoldable pub answer_of : List (List ℕ) → Limits → Inputs → Answer
@@ -77,9 +74,11 @@ Obeys answer feed prior watch report report' out out' NoMemory = StaysWithinRun 
 Obeys answer feed prior watch report report' out out' status = EndsRun answer feed prior watch report report' out out' status
 
 -- of a feed that failed, the lines of all events whose frames were wholly taken are in the report
-abbrev pub ReportsTaken : Result Command WordFault → Limits → (feed feed' report report' : Option (List ℕ)) → Type 0
+abbrev pub ReportsTaken : Result Asked WordFault → Limits → (feed feed' report report' : Option (List ℕ)) → Type 0
 ReportsTaken (Err fault) limits feed feed' report report' = Unit {0}
-ReportsTaken (Ok Follow) limits feed feed' report report' = WritesTaken (next_follower limits) (event_line limits) sends_nothing fresh Main limits.bytes feed feed' report report' None None
+ReportsTaken (Ok (AskedFollow net file)) limits feed feed' report report' =
+    let net = net_for (AskedFollow net file) in
+    WritesTaken (next_follower limits net) (event_line limits net) sends_nothing fresh net limits.bytes feed feed' report report' None None
 
 -- a port that is used failed
 abbrev pub UsedRose : Bool → ℕ → ℕ → Type 0

@@ -30,7 +30,7 @@ pub fn follow<F: Source, R: Sink>(
     requires { limits.bytes ≤ 2 ^ 48 }
     ensures ended { IfOk result (Ends (follow_answer limits net) (F.left feed.old) (R.held report.old) (R.held report.new)) }
     ensures part { StaysWithin (follow_answer limits net) (F.left feed.old) (R.held report.old) (R.held report.new) }
-    ensures taken { IsErrOf result Stop.ReadFault → WritesTaken (next_follower limits) (event_line limits) sends_nothing fresh net limits.bytes
+    ensures taken { IsErrOf result Stop.ReadFault → WritesTaken (next_follower limits net) (event_line limits net) sends_nothing fresh net limits.bytes
         (F.left feed.old) (F.left feed.new) (R.held report.old) (R.held report.new) None None }
     ensures read { IsErrOf result Stop.ReadFault → Rose (F.faults feed.old) (F.faults feed.new) }
     ensures write { IsErrOf result Stop.WriteFault → Rose (R.faults report.old) (R.faults report.new) }
@@ -52,11 +52,11 @@ fn put_events<F: Source, R: Sink>(
 ) -> Result<Option<FeedFault>, Stop>
     requires fresh { follower.old ≡ fresh }
     requires bytes { limits.bytes ≤ 2 ^ 48 }
-    ensures ended { IfOk result (TakesFeed (next_follower limits) (event_line limits) sends_nothing fresh net limits.bytes
+    ensures ended { IfOk result (TakesFeed (next_follower limits net) (event_line limits net) sends_nothing fresh net limits.bytes
         follower.new (F.left feed.old) (R.held report.old) (R.held report.new) None None) }
-    ensures part { WritesPart (next_follower limits) (event_line limits) sends_nothing fresh net limits.bytes
+    ensures part { WritesPart (next_follower limits net) (event_line limits net) sends_nothing fresh net limits.bytes
         (F.left feed.old) (R.held report.old) (R.held report.new) None None }
-    ensures taken { IsErrOf result Stop.ReadFault → WritesTaken (next_follower limits) (event_line limits) sends_nothing fresh net limits.bytes
+    ensures taken { IsErrOf result Stop.ReadFault → WritesTaken (next_follower limits net) (event_line limits net) sends_nothing fresh net limits.bytes
         (F.left feed.old) (F.left feed.new) (R.held report.old) (R.held report.new) None None }
     ensures read { IsErrOf result Stop.ReadFault → Rose (F.faults feed.old) (F.faults feed.new) }
     ensures write { IsErrOf result Stop.WriteFault → Rose (R.faults report.old) (R.faults report.new) }
@@ -65,7 +65,7 @@ fn put_events<F: Source, R: Sink>(
     let mut frames = Feed::new(alloc, net, limits.bytes);
     loop {
         match frames.next(feed) {
-            Ok(Some(event)) => put_event(alloc, limits, follower, event, report)?,
+            Ok(Some(event)) => put_event(alloc, limits, net, follower, event, report)?,
             Ok(None) => return Ok(None),
             Err(fault) => return ending_by(fault),
         }
@@ -87,6 +87,7 @@ fn ending_by(fault: FeedFault) -> Result<Option<FeedFault>, Stop>
 fn put_event<R: Sink>(
     alloc: Global,
     limits: Limits,
+    net: Net,
     follower: &mut Follower,
     event: Event<'_>,
     report: &mut R,
@@ -94,15 +95,15 @@ fn put_event<R: Sink>(
     requires short { IsShort (event_of event) }
     requires few { follower.old.chain.blocks ≤ 2 ^ 31 }
     requires counted { follower.old.events < 2 ^ 63 }
-    ensures next { OnOk result (follower.new ≡ next_follower limits follower.old (event_of event.entry)) }
+    ensures next { OnOk result (follower.new ≡ next_follower limits net follower.old (event_of event.entry)) }
     ensures few { follower.new.chain.blocks ≤ 2 ^ 31 }
-    ensures whole { OnOk result (Appends (R.held report.old) (R.held report.new) (event_line limits follower.old (event_of event.entry))) }
-    ensures part { AppendsPart (R.held report.old) (R.held report.new) (event_line limits follower.old (event_of event.entry)) }
+    ensures whole { OnOk result (Appends (R.held report.old) (R.held report.new) (event_line limits net follower.old (event_of event.entry))) }
+    ensures part { AppendsPart (R.held report.old) (R.held report.new) (event_line limits net follower.old (event_of event.entry)) }
     ensures read { IsErrOf result Stop.ReadFault → ⊥ }
     ensures write { IsErrOf result Stop.WriteFault → Rose (R.faults report.old) (R.faults report.new) }
     ensures later { R.faults report.old ≤ R.faults report.new }
 {
-    let verdict = follower.take(alloc, limits, event)?;
+    let verdict = follower.take(alloc, limits, net, event)?;
     put_line(alloc, report, Line::Verdict(verdict))
 }
 

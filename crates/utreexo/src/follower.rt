@@ -10,7 +10,7 @@ use crate::rules::judge;
 use crate::status::Status;
 use crate::verdict::Verdict;
 use std::alloc::Global;
-use uo_base::{Event, Limits, NoMemory};
+use uo_base::{Event, Limits, Net, NoMemory};
 
 /// A node's chain, how many events there were, and whether it has refused one.
 #[derive(Clone, Copy, Debug, PartialEq, Eq)]
@@ -39,17 +39,18 @@ impl Follower {
         &mut self,
         alloc: Global,
         limits: Limits,
+        net: Net,
         event: Event<'_>,
     ) -> Result<Verdict, NoMemory>
         requires short { IsShort (event_of event) }
         requires few { self.old.chain.blocks ≤ 2 ^ 31 }
         requires counted { self.old.events < 2 ^ 63 }
-        ensures verdict { IfOk result (λ verdict. verdict ≡ verdict_on limits self.old.chain (event_of event.entry)) }
-        ensures next { OnOk result (self.new ≡ next_follower limits self.old (event_of event.entry)) }
+        ensures verdict { IfOk result (λ verdict. verdict ≡ verdict_on limits net self.old.chain (event_of event.entry)) }
+        ensures next { OnOk result (self.new ≡ next_follower limits net self.old (event_of event.entry)) }
         ensures few { self.new.chain.blocks ≤ 2 ^ 31 }
         ensures stays { OnErr result (self.new ≡ self.old) }
     {
-        let verdict = judge(alloc, limits, &self.chain, event)?;
+        let verdict = judge(alloc, limits, net, &self.chain, event)?;
         self.refused |= is_refused(&verdict);
         self.chain.apply(&verdict);
         self.events += 1;

@@ -8,6 +8,7 @@ mod follow;
 mod follower;
 mod hash_text;
 mod line;
+mod options;
 mod report;
 mod rules;
 mod run;

@@ -3,14 +3,14 @@ ghost use Rattle.std.specs.Prelude.{◌≡◌, ◌+◌, ◌<◌, ◌≤◌, ◌^
 ghost use Rattle.uo_base.specs.FeedEvent.{event_of};
 ghost use Rattle.block_codec.specs.Reading.{block_in};
 ghost use Rattle.tx_codec.specs.Views.{input_of, output_of};
-ghost use Rattle.utreexo.specs.Rules.{is_null, is_coinbase_by, is_spendable, is_single, new_count, subsidy_at, is_built, merkle_step, judged, verdict_at, rolled_back, verdict_on, IsShort};
+ghost use Rattle.utreexo.specs.Rules.{is_null, is_coinbase_by, is_spendable, is_single, new_count, halving_of, subsidy_at, is_built, merkle_step, judged, verdict_at, rolled_back, verdict_on, IsShort};
 
 use crate::chain::Chain;
 use crate::verdict::{Refusal, Verdict};
 use block_codec::{BlockFault, BlockView, MerkleOutcome, block_hash, merkle, read_block, weight};
 use std::alloc::Global;
 use tx_codec::{InView, OutView, TxView};
-use uo_base::{Event, Limits, NoMemory};
+use uo_base::{Event, Limits, Net, NoMemory};
 use uo_digest::Digest;
 
 const HEAVIEST: u64 = 4_000_000;
@@ -27,22 +27,21 @@ const MOST_BLOCKS: u32 = 2_147_483_648;
 
 const FIRST_SUBSIDY: u64 = 5_000_000_000;
 
-const HALVING: u32 = 210_000;
-
 /// The verdict on an event.
 #[tactic(auto, unfolding(crate::specs::Rules::verdict_on))]
 pub fn judge(
     alloc: Global,
     limits: Limits,
+    net: Net,
     chain: &Chain,
     event: Event<'_>,
 ) -> Result<Verdict, NoMemory>
     requires { IsShort (event_of event) }
-    ensures { IfOk result (λ verdict. verdict ≡ verdict_on limits chain.now (event_of event.entry)) }
+    ensures { IfOk result (λ verdict. verdict ≡ verdict_on limits net chain.now (event_of event.entry)) }
 {
     match event {
         Event::Block { block, message } => {
-            judge_bytes(alloc, limits, chain, block, message.is_some())
+            judge_bytes(alloc, limits, net, chain, block, message.is_some())
         }
         Event::Rollback { count } => Ok(roll_back(chain, count)),
         Event::Stray => Ok(Verdict::Stray),
@@ -53,15 +52,16 @@ pub fn judge(
 fn judge_bytes(
     alloc: Global,
     limits: Limits,
+    net: Net,
     chain: &Chain,
     bytes: &[u8],
     proved: bool,
 ) -> Result<Verdict, NoMemory>
     requires { length bytes.now ≤ 4000000 }
-    ensures { IfOk result (λ verdict. verdict ≡ verdict_at limits chain.now (block_in bytes.now) proved) }
+    ensures { IfOk result (λ verdict. verdict ≡ verdict_at limits net chain.now (block_in bytes.now) proved) }
 {
     match read_block(alloc, bytes) {
-        Ok(block) => judge_block(alloc, limits, chain, &block, proved),
+        Ok(block) => judge_block(alloc, limits, net, chain, &block, proved),
         Err(BlockFault::NotABlock) => Ok(Verdict::Refused {
             height: chain.blocks,
             hash: None,
@@ -94,11 +94,12 @@ fn roll_back(chain: &Chain, count: u32) -> Verdict
 fn judge_block(
     alloc: Global,
     limits: Limits,
+    net: Net,
     chain: &Chain,
     block: &BlockView<'_>,
     proved: bool,
 ) -> Result<Verdict, NoMemory>
-    ensures { IfOk result (λ verdict. verdict ≡ judged limits chain.now block.now proved) }
+    ensures { IfOk result (λ verdict. verdict ≡ judged limits net chain.now block.now proved) }
 {
     let height = chain.blocks;
     let hash = block_hash(block);
@@ -115,7 +116,7 @@ fn judge_block(
     if proved {
         return Ok(refused(height, hash, Refusal::Unbuilt));
     }
-    match leaves_after(limits, chain, block) {
+    match leaves_after(limits, net, chain, block) {
         Some(leaves) => Ok(Verdict::Accepted {
             height,
             hash,
@@ -156,12 +157,12 @@ fn only_tx<'a, 'b>(block: &'b BlockView<'a>) -> Option<&'b TxView<'a>>
 }
 
 // The entries ever added, once the block is; only for a block of the kind whose rules are built.
-fn leaves_after(limits: Limits, chain: &Chain, block: &BlockView<'_>) -> Option<u64>
-    ensures { MatchOption result (is_built limits chain.now block.now.txs ≡ false)
-        (λ leaves. (is_built limits chain.now block.now.txs ≡ true) × (leaves ≡ chain.now.leaves + new_count chain.now.blocks block.now.txs)) }
+fn leaves_after(limits: Limits, net: Net, chain: &Chain, block: &BlockView<'_>) -> Option<u64>
+    ensures { MatchOption result (is_built limits net chain.now block.now.txs ≡ false)
+        (λ leaves. (is_built limits net chain.now block.now.txs ≡ true) × (leaves ≡ chain.now.leaves + new_count chain.now.blocks block.now.txs)) }
 {
     let tx = only_tx(block)?;
-    if !is_coinbase(tx) || total_output(tx) > u128::from(subsidy(chain.blocks)) {
+    if !is_coinbase(tx) || total_output(tx) > u128::from(subsidy(chain.blocks, net)) {
         return None;
     }
     let leaves = u128::from(chain.leaves) + u128::from(new_entries(chain.blocks, tx));
@@ -201,14 +202,23 @@ fn total_output(tx: &TxView<'_>) -> u128
 }
 
 // What a coinbase may claim at a height, in satoshi.
-fn subsidy(height: u32) -> u64
-    ensures { result ≡ subsidy_at height }
+fn subsidy(height: u32, net: Net) -> u64
+    ensures { result ≡ subsidy_at net height }
 {
-    let halvings = height / HALVING;
+    let halvings = height / blocks_between_halvings(net);
     if halvings < 64 {
         FIRST_SUBSIDY >> halvings
     } else {
         0
+    }
+}
+
+fn blocks_between_halvings(net: Net) -> u32
+    ensures { result ≡ halving_of net }
+{
+    match net {
+        Net::Main => 210_000,
+        Net::Regtest => 150,
     }
 }
 

@@ -98,6 +98,6 @@ fn run_command<F: Source, P: Source, W: Source, O: Sink, R: Sink>(
 {
     match read_words(words) {
         Err(fault) => say(alloc, report, Status::Words, Line::Words(fault.at)),
-        Ok(Command::Follow) => follow(alloc, limits, Net::Main, feed, report),
+        Ok(command) => follow(alloc, limits, command.net(), feed, report),
     }
 }

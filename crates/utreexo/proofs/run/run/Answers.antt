@@ -1,15 +1,12 @@
 use Rattle.std.proofs.Common.{◌≡◌, ℕ, Bool, true, false, length, List, Option, Some, None, Result, Ok, Err, refl, sym, ap, ◌∙◌}
 use Rattle.std.proofs.lemmas.Bool.{false≢true}
 use Rattle.uo_base.specs.declared.event.Limits.{Limits}
-use Rattle.uo_base.specs.declared.event.Net.TheVariants.{Main}
 use Rattle.feed_frame.specs.Events.{events_of}
 use Rattle.feed_frame.specs.Machine.{after}
 use Rattle.feed_frame.specs.declared.fault.FeedFault.{FeedFault}
 use Rattle.feed_frame.specs.declared.fault.FeedFault.TheVariants as Fault
 use Rattle.feed_frame.specs.declared.fault.FeedFault.TheVariants.{Magic, Cut, TooLong, BadRollback, Limit}
 use Rattle.utreexo.specs.declared.follower.Follower.{Follower}
-use Rattle.utreexo.specs.declared.words.Command.{Command}
-use Rattle.utreexo.specs.declared.words.Command.TheVariants.{Follow}
 use Rattle.utreexo.specs.declared.words.WordFault.{WordFault}
 use Rattle.utreexo.specs.declared.status.Status.{Status}
 use Rattle.utreexo.specs.declared.status.Status.TheVariants.{ReadFault, WriteFault, NoMemory}
@@ -17,7 +14,7 @@ use Rattle.utreexo.specs.Follow.{closing_status, answer_over, follow_answer}
 use Rattle.utreexo.specs.Machine.{fresh, next_follower}
 use Rattle.utreexo.specs.Runs.{Inputs, answer_by, answer_of}
 use Rattle.utreexo.specs.Status.{status_of}
-use Rattle.utreexo.specs.Words.{command_of}
+use Rattle.utreexo.specs.Words.{Asked, AskedFollow, net_for, command_of}
 use Rattle.utreexo.proofs.run.run.Goals as goal
 
 is_stop : Status → Bool
@@ -42,12 +39,13 @@ ended_goes_on f (Some (Limit bytes)) = refl
 ended_goes_on f (Some Fault.ReadFault) = end_goes_on f.refused
 ended_goes_on f (Some Fault.NoMemory) = end_goes_on f.refused
 
-answer_goes_on : (r : Result Command WordFault) (limits : Limits) (inputs : Inputs) → is_stop (answer_by r limits inputs).status ≡ false
+answer_goes_on : (r : Result Asked WordFault) (limits : Limits) (inputs : Inputs) → is_stop (answer_by r limits inputs).status ≡ false
 unfolding is_stop follow_answer answer_over
 answer_goes_on (Err fault) limits inputs = refl
-answer_goes_on (Ok Follow) limits inputs =
-    let events = events_of Main limits.bytes inputs.feed in
-    ended_goes_on (after (next_follower limits) fresh events.events) events.ending
+answer_goes_on (Ok (AskedFollow named file)) limits inputs =
+    let net = net_for (AskedFollow named file) in
+    let events = events_of net limits.bytes inputs.feed in
+    ended_goes_on (after (next_follower limits net) fresh events.events) events.ending
 
 -- no whole answer is that of a run that was stopped
 not_stopped : (words : List (List ℕ)) (limits : Limits) (inputs : Inputs) (status stop : Status) → status ≡ (answer_of words limits inputs).status → is_stop stop ≡ true

@@ -8,4 +8,4 @@ unfolding next_follower
 returns-clause-next c = rw (c.apply.ensures, c.is_refused.ensures, c.in_ok-verdict.ensures) refl
 
 pub returns-clause-few : goal.returns-clause-few
-returns-clause-few c = rw (c.apply.ensures, c.in_ok-verdict.ensures) (next-few c.args.limits c.args.self.now.chain c.requires.few _)
+returns-clause-few c = rw (c.apply.ensures, c.in_ok-verdict.ensures) (next-few c.args.limits c.args.net c.args.self.now.chain c.requires.few _)
