@@ -201,8 +201,8 @@ fn total_output(tx: &TxView<'_>) -> u128
     total
 }
 
-// What a coinbase may claim at a height, in satoshi.
-fn subsidy(height: u32, net: Net) -> u64
+/// What a coinbase may claim at a height beside fees, in satoshi.
+pub fn subsidy(height: u32, net: Net) -> u64
     ensures { result ≡ subsidy_at net height }
 {
     let halvings = height / blocks_between_halvings(net);
