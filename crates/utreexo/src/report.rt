@@ -12,11 +12,16 @@ use crate::stop::Stop;
 use std::alloc::{AllocError, Global};
 use uo_base::{Sink, put_all};
 
+/// As long as most lines are.
+const ROOM: usize = 128;
+
 // A line with its end.
 fn line_of(alloc: Global, line: Line) -> Result<String, AllocError>
     ensures { IfOk result (λ text. string_bytes text ≡ whole_line line) }
 {
-    format!(in alloc; "{line}\n")
+    let mut text = String::with_capacity(alloc, ROOM)?;
+    writeln!(text, "{line}")?;
+    Ok(text)
 }
 
 /// Writes one line, or a part of it where the run has to stop.
