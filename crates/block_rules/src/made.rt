@@ -80,17 +80,17 @@ impl<'a> Made<'a> {
         Ok(())
     }
 
-    fn push(&mut self, record: RecordView<'a>) -> Result<(), NoMemory>
+    fn push(&mut self, leaf: RecordView<'a>) -> Result<(), NoMemory>
         requires { IsIndex self.old.newest self.old.records.items }
-        ensures pushed { OnOk result (self.new.records.items ≡ self.old.records.items ++ Some record ∷ []) }
+        ensures pushed { OnOk result (self.new.records.items ≡ self.old.records.items ++ Some leaf ∷ []) }
         ensures index { OnOk result (IsIndex self.new.newest self.new.records.items) }
     {
         let own = Own {
             number: self.records.len(),
-            found: found_of(&record),
+            found: found_of(&leaf),
         };
-        self.newest.insert(key_of_record(&record), own)?;
-        self.records.push(Some(record))?;
+        self.newest.insert(key_of_record(&leaf), own)?;
+        self.records.push(Some(leaf))?;
         Ok(())
     }
 }
@@ -120,12 +120,12 @@ fn record_of<'a>(maker: &Maker, index: u32, output: &OutView<'a>) -> RecordView<
     }
 }
 
-fn found_of(record: &RecordView<'_>) -> Found
-    ensures { result ≡ found_of record.now.rest }
+fn found_of(leaf: &RecordView<'_>) -> Found
+    ensures { result ≡ found_of leaf.now.rest }
 {
     Found {
-        amount: record.amount,
-        height: record.height,
-        coinbase: record.coinbase,
+        amount: leaf.amount,
+        height: leaf.height,
+        coinbase: leaf.coinbase,
     }
 }

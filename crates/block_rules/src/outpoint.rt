@@ -24,11 +24,11 @@ pub(crate) fn key_of_input(input: &InView<'_>) -> OutpointKey
     }
 }
 
-pub(crate) fn key_of_record(record: &RecordView<'_>) -> OutpointKey
-    ensures { point_of result ≡ record.now.point }
+pub(crate) fn key_of_record(leaf: &RecordView<'_>) -> OutpointKey
+    ensures { point_of result ≡ leaf.now.point }
 {
     OutpointKey {
-        txid: record.txid.0,
-        index: record.index,
+        txid: leaf.txid.0,
+        index: leaf.index,
     }
 }

@@ -4,14 +4,16 @@ ghost use Rattle.block_rules.specs.Judged.{ShapeJudged};
 
 use crate::chain::Chain;
 use crate::fault::RuleFault;
+use crate::made::Made;
 use crate::refusal::Refusal;
 use crate::spends::Spends;
 use crate::steps::{
     coinbase_step, double_step, link_step, merkle_step, value_step, weight_step,
 };
 use crate::sums::output_sum;
-use crate::walk::{unspent, walk_over};
+use crate::walk::{Walk, unspent, walk_over};
 use block_codec::BlockView;
+use leaf_record::RecordView;
 use std::alloc::Global;
 use uo_base::{Limits, Net, NoMemory};
 
@@ -72,18 +74,32 @@ fn spends_at<'a>(
     height: u32,
     net: Net,
 ) -> Result<Spends<'a>, NoMemory> {
-    let walk = walk_over(alloc, block, height)?;
-    let new = if height == 0 {
-        Vec::new(alloc)
-    } else {
-        unspent(alloc, walk.made.records, &walk.spent)?
-    };
+    let Walk {
+        made,
+        spent,
+        external,
+        bills,
+    } = walk_over(alloc, block, height)?;
     Ok(Spends {
         net,
         height,
-        external: walk.external,
-        new,
+        external,
+        new: new_records(alloc, height, made, &spent)?,
         claimed: output_sum(block.tx(0)) as u64,
-        bills: walk.bills,
+        bills,
     })
+}
+
+// None at height 0.
+fn new_records<'a>(
+    alloc: Global,
+    height: u32,
+    made: Made<'a>,
+    spent: &[usize],
+) -> Result<Vec<RecordView<'a>>, NoMemory> {
+    if height == 0 {
+        Ok(Vec::new(alloc))
+    } else {
+        unspent(alloc, made.records, spent)
+    }
 }
