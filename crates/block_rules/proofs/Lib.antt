@@ -8,3 +8,4 @@ pub mod Numbered
 pub mod Doubles
 pub mod Walking
 pub mod Spending
+pub mod Paid

@@ -41,7 +41,8 @@ pub(crate) fn walk_over<'a>(
 ) -> Result<Walk<'a>, NoMemory>
     requires some { 0 < length block.now.txs }
     requires height { height < 2 ^ 31 }
-    ensures { IfOk result (λ walk. seen walk ≡ walked (block_hash_of block.now) height block.now.txs) }
+    ensures walked { IfOk result (λ walk. seen walk ≡ walked (block_hash_of block.now) height block.now.txs) }
+    ensures few { OnOk result (length block.now.txs < 2 ^ 32) }
 {
     let hash = block_hash(block);
     let mut walk = begin(alloc, block, hash, height)?;
@@ -115,7 +116,8 @@ fn owns_of(
     tx: &TxView<'_>,
 ) -> Result<Vec<Option<Own>>, NoMemory>
     requires { IsIndex made.now.newest made.now.records.items }
-    ensures { IfOk result (λ owns. owns.items ≡ owns_in tx.now.inputs made.now.records.items) }
+    ensures owns { IfOk result (λ owns. owns.items ≡ owns_in tx.now.inputs made.now.records.items) }
+    ensures few { length tx.now.inputs < 2 ^ 32 }
 {
     let mut owns = Vec::new(alloc);
     for input in tx.inputs() {

@@ -9,5 +9,5 @@ loop-t-preserved c = record {
   index = c.in_ok-pass.ensures.index;
 }
 
-pub returns : goal.returns
-returns c = rw (← c.block_hash-hash.ensures) (walk_ends c.block_hash-hash.result c.args.height c.loop-t.t c.args.block.now.txs (seen c.loop-t.walk) _ (omega (arith, c.tx_count-t-end.ensures, c.loop-t-test.false)) c.loop-t.invariant.walks)
+pub returns-clause-walked : goal.returns-clause-walked
+returns-clause-walked c = rw (← c.block_hash-hash.ensures) (walk_ends c.block_hash-hash.result c.args.height c.loop-t.t c.args.block.now.txs (seen c.loop-t.walk) _ (omega (arith, c.tx_count-t-end.ensures, c.loop-t-test.false)) c.loop-t.invariant.walks)
