@@ -1,0 +1,4 @@
+//! The rules on messages.
+#![tactic(auto)]
+
+mod laws;
