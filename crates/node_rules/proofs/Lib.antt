@@ -1,0 +1,13 @@
+pub mod Tests
+pub mod Firsts
+pub mod Shapes
+pub mod Faults
+pub mod Righting
+pub mod Outpoints
+pub mod Judging
+pub mod Newest
+pub mod Hashes
+pub mod Spending
+pub mod Knowing
+pub mod Levels
+pub mod Running

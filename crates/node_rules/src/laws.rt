@@ -1,8 +1,53 @@
 //! Laws.
-ghost use Rattle.node_rules.specs.Laws.{NoFaultIsAccepted, RightIsTested};
+ghost use Rattle.node_rules.specs.Laws.{NoFaultIsAccepted, RightIsTested, RightIsTaken, ViewJudgesAsFullSet, ViewRunsAsFullSet, LevelsAreFew, VerdictIsByView, HistoryIsSpentAndAppended, RightLeavesRoots, BlockAppends, KnownIsThere};
 
 /// The tests.
 pub fn verdicts_are_tested()
     ensures accepted { NoFaultIsAccepted }
     ensures right { RightIsTested }
+{}
+
+/// Before a block that passes by itself, a right message is accepted.
+pub fn right_is_taken()
+    ensures { RightIsTaken }
+{}
+
+/// x
+pub fn view_judges_as_full_set()
+    ensures { ViewJudgesAsFullSet }
+{}
+
+/// x
+pub fn view_runs_as_full_set()
+    ensures { ViewRunsAsFullSet }
+{}
+
+/// x
+pub fn levels_are_few()
+    ensures { LevelsAreFew }
+{}
+
+/// x
+pub fn verdict_is_by_view()
+    ensures { VerdictIsByView }
+{}
+
+/// x
+pub fn history_is_spent_and_appended()
+    ensures { HistoryIsSpentAndAppended }
+{}
+
+/// x
+pub fn right_leaves_roots()
+    ensures { RightLeavesRoots }
+{}
+
+/// x
+pub fn block_appends()
+    ensures { BlockAppends }
+{}
+
+/// x
+pub fn known_is_there()
+    ensures { KnownIsThere }
 {}
