@@ -11,3 +11,6 @@ pub mod Spending
 pub mod Knowing
 pub mod Levels
 pub mod Running
+pub mod Writing
+pub mod Following
+pub mod Forging

@@ -1,5 +1,5 @@
 //! Laws.
-ghost use Rattle.node_rules.specs.Laws.{NoFaultIsAccepted, RightIsTested, RightIsTaken, ViewJudgesAsFullSet, ViewRunsAsFullSet, LevelsAreFew, VerdictIsByView, HistoryIsSpentAndAppended, RightLeavesRoots, BlockAppends, KnownIsThere};
+ghost use Rattle.node_rules.specs.Laws.{NoFaultIsAccepted, RightIsTested, RightIsTaken, ViewJudgesAsFullSet, ViewRunsAsFullSet, LevelsAreFew, VerdictIsByView, HistoryIsSpentAndAppended, RightLeavesRoots, BlockAppends, KnownIsThere, WrittenIsTaken, WrittenIsFollowed, WrittenIsFollowedByViews, ForgedShowsClash};
 
 /// The tests.
 pub fn verdicts_are_tested()
@@ -50,4 +50,24 @@ pub fn block_appends()
 /// x
 pub fn known_is_there()
     ensures { KnownIsThere }
+{}
+
+/// x
+pub fn written_is_taken()
+    ensures { WrittenIsTaken }
+{}
+
+/// x
+pub fn written_is_followed()
+    ensures { WrittenIsFollowed }
+{}
+
+/// x
+pub fn written_is_followed_by_views()
+    ensures { WrittenIsFollowedByViews }
+{}
+
+/// x
+pub fn forged_shows_clash()
+    ensures { ForgedShowsClash }
 {}
