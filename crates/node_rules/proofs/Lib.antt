@@ -14,3 +14,5 @@ pub mod Running
 pub mod Writing
 pub mod Following
 pub mod Forging
+pub mod Paid
+pub mod Value

@@ -1,5 +1,5 @@
 //! Laws.
-ghost use Rattle.node_rules.specs.Laws.{NoFaultIsAccepted, RightIsTested, RightIsTaken, ViewJudgesAsFullSet, ViewRunsAsFullSet, LevelsAreFew, VerdictIsByView, HistoryIsSpentAndAppended, RightLeavesRoots, BlockAppends, KnownIsThere, WrittenIsTaken, WrittenIsFollowed, WrittenIsFollowedByViews, ForgedShowsClash};
+ghost use Rattle.node_rules.specs.Laws.{NoFaultIsAccepted, RightIsTested, RightIsTaken, ViewJudgesAsFullSet, ViewRunsAsFullSet, LevelsAreFew, VerdictIsByView, HistoryIsSpentAndAppended, RightLeavesRoots, BlockAppends, KnownIsThere, WrittenIsTaken, WrittenIsFollowed, WrittenIsFollowedByViews, ForgedShowsClash, SupplyIsIssued, EachIsSpentOnce};
 
 /// The tests.
 pub fn verdicts_are_tested()
@@ -70,4 +70,14 @@ pub fn written_is_followed_by_views()
 /// x
 pub fn forged_shows_clash()
     ensures { ForgedShowsClash }
+{}
+
+/// x
+pub fn supply_is_issued()
+    ensures { SupplyIsIssued }
+{}
+
+/// x
+pub fn each_is_spent_once()
+    ensures { EachIsSpentOnce }
 {}
