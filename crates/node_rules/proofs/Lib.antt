@@ -16,3 +16,6 @@ pub mod Following
 pub mod Forging
 pub mod Paid
 pub mod Value
+pub mod Placing
+pub mod MessageLaws
+pub mod Told

@@ -1,19 +1,29 @@
 -- What the calls on messages answer.
 use Rattle.std.specs.Prelude.{◌≡◌, ℕ, List, [], ◌∷◌, map, Option, Some, None, Result, Ok, Err}
-use Rattle.uo_digest.specs.declared.digest.Digest.{Digest}
 use Rattle.proof_wire.specs.BlockProof.{BlockProof}
+use Rattle.proof_wire.specs.declared.fault.MessageFault.{MessageFault}
+use Rattle.proof_wire.specs.declared.fault.MessageFault.TheVariants.{NotAMessage, Version}
+use Rattle.proof_wire.specs.declared.fault.MessageFault.TheVariants as Unread
 use Rattle.proof_shape.specs.Targeted.{Targeted}
+use Rattle.proof_shape.specs.declared.fault.ShapeFault.{ShapeFault}
+use Rattle.proof_shape.specs.declared.fault.ShapeFault.TheVariants as Shape
 use Rattle.block_rules.specs.declared.chain.Outside.{Outside}
 use Rattle.block_rules.specs.declared.fault.RuleFault.{RuleFault}
 use Rattle.block_rules.specs.declared.fault.RuleFault.TheVariants.{Refused, NoMemory}
 use Rattle.block_rules.specs.declared.refusal.Refusal.{Refusal}
 use Rattle.block_rules.specs.declared.refusal.Refusal.TheVariants as Why
-use Rattle.block_rules.specs.declared.refusal.ProofRefusal.{ProofRefusal}
+use Rattle.block_rules.specs.declared.refusal.ProofRefusal.TheVariants as Target
 use Rattle.block_rules.specs.Steps.{first_of}
 use Rattle.node_rules.specs.Messages.{in_full, named}
 use Rattle.node_rules.specs.Accepting.{shape_fault}
-use Rattle.node_rules.specs.Reading.{Handed, nothing, read, handed_in}
+use Rattle.node_rules.specs.Reading.{Handed, nothing, unread, read, message_in, handed_in}
 use Rattle.node_rules.specs.Judging.{message_steps}
+
+-- the message that bytes are, or why they are none
+abbrev pub IsReadAs : List ℕ → Result BlockProof RuleFault → Type 0
+IsReadAs bytes (Ok p) = message_in bytes ≡ read (in_full p)
+IsReadAs bytes (Err (Refused why)) = message_in bytes ≡ unread why
+IsReadAs bytes (Err NoMemory) = Unit {0}
 
 -- what was read of what was handed in
 abbrev pub handed_as : Option BlockProof → Handed
@@ -43,3 +53,16 @@ TargetsJudged n p (Ok t) = AreNamed n p t
 TargetsJudged n p (Err (Refused (Why.Proof fault))) = shape_fault n [] 0 (named n p) ≡ Some fault
 TargetsJudged n p (Err (Refused why)) = ⊥
 TargetsJudged n p (Err NoMemory) = Unit {0}
+
+-- ---- how faults of reading and of targets are told
+
+abbrev pub IsUnreadAs : MessageFault → RuleFault → Type 0
+IsUnreadAs NotAMessage fault = fault ≡ Refused Why.MessageForm
+IsUnreadAs (Version v) fault = fault ≡ Refused (Why.MessageVersion v)
+IsUnreadAs Unread.NoMemory fault = fault ≡ NoMemory
+
+abbrev pub IsRefusedAs : ShapeFault → RuleFault → Type 0
+IsRefusedAs (Shape.Outside i) fault = fault ≡ Refused (Why.Proof (Target.Outside i))
+IsRefusedAs (Shape.Repeated i j) fault = fault ≡ Refused (Why.Proof (Target.Repeated i j))
+IsRefusedAs (Shape.Beneath i j) fault = fault ≡ Refused (Why.Proof (Target.Beneath i j))
+IsRefusedAs Shape.NoMemory fault = fault ≡ NoMemory
