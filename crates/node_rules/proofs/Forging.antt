@@ -24,8 +24,8 @@ use Rattle.node_rules.specs.Right.{is_right}
 use Rattle.node_rules.specs.Known.{known_at, view_of}
 use Rattle.node_rules.specs.Reading.{read}
 use Rattle.node_rules.specs.Judging.{Rules, message_steps, is_forged}
-use Rattle.node_rules.proofs.Tests.{unless-passed}
-use Rattle.node_rules.proofs.Firsts.{append_passes, each_passes}
+use Rattle.block_rules.proofs.Firsts.{unless-passed}
+use Rattle.block_rules.proofs.Firsts.{append_passes, each_passes}
 use Rattle.node_rules.proofs.Faults.{accepted}
 use Rattle.node_rules.proofs.Righting.{right_is_tested, got_entry}
 use Rattle.node_rules.proofs.Judging.{view_known}

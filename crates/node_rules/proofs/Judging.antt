@@ -26,7 +26,8 @@ use Rattle.node_rules.specs.Right.{is_right}
 use Rattle.node_rules.specs.Known.{kept_places, known_at, is_known, view_of}
 use Rattle.node_rules.specs.Reading.{Handed, nothing, unread, read}
 use Rattle.node_rules.specs.Judging.{Rules, message_steps, found_by, view_step, full_step, wrong_unless, untold, compact, full, refusal, is_forged}
-use Rattle.node_rules.proofs.Firsts.{one_step, append_passes}
+use Rattle.block_rules.proofs.Firsts.{append_passes}
+use Rattle.node_rules.proofs.OneStep.{one_step}
 use Rattle.node_rules.proofs.Faults.{passes}
 use Rattle.node_rules.proofs.Righting.{right_is_tested}
 use Rattle.node_rules.proofs.Outpoints.{Apart, external_apart, claimed_apart, pairs_from}
@@ -56,7 +57,7 @@ module _ (H : List ℕ → Digest) (text : Leaf → List ℕ) (scripts : List (L
     ext = external b chain.blocks
 
     pub right_is_taken : (m : Message) → first_of (block_steps rules.limits chain b) ≡ None → is_right H text us (known_at H text scripts us) (points_of ext) m ≡ true → proof_fault H text (view_of H text scripts us) (points_of ext) m ≡ None
-    right_is_taken m steps = right_passes (points_of ext) m (external_apart rules chain b chain.blocks steps)
+    right_is_taken m steps = right_passes (points_of ext) m (external_apart rules chain b steps)
 
     forged_from : (before : Option Refusal) (fault : Option ProofRefusal) (right : Bool) → before ≡ None → fault ≡ None → right ≡ false → (is_none before && (is_none fault && not right)) ≡ true
     forged_from before fault right e f g = rw (e, f, g) refl

@@ -21,7 +21,7 @@ use Rattle.block_rules.specs.Steps.{unless, first_of, first_from}
 use Rattle.block_rules.specs.declared.refusal.ProofRefusal.{ProofRefusal}
 use Rattle.block_rules.specs.declared.refusal.ProofRefusal.TheVariants.{Outside, Repeated, Beneath}
 use Rattle.node_rules.specs.Accepting.{repeats, crosses, target_fault, shape_fault}
-use Rattle.node_rules.proofs.Tests.{option_or-none, option_or-both}
+use Rattle.block_rules.proofs.Firsts.{option_or-none, option_or-both}
 use Rattle.node_rules.proofs.Shapes.{shape_passes}
 
 abbrev pub places_at : ℕ → List ℕ → List (Option Place)

@@ -4,7 +4,7 @@ use Rattle.std.specs.Prelude.{slice_get, nat_le, unwrap_or, take, sum_by}
 use Rattle.std.specs.List.{AllByRecursion, AllZip}
 use Rattle.std.proofs.lemmas.Bool.{cases_Bool}
 use Rattle.std.proofs.lemmas.List.{length-map}
-use Rattle.std.proofs.lemmas.List.Sums.{sum_by-cons, sum_by-append}
+use Rattle.std.proofs.lemmas.List.Sums.{sum_by-cons}
 use Rattle.std.proofs.lemmas.Option.{none-some, same_Some}
 use Rattle.uo_digest.specs.declared.digest.Digest.{Digest}
 use Rattle.forest_place.specs.declared.place.Place.{Place}
@@ -23,6 +23,9 @@ use Rattle.block_rules.specs.Steps.{first_of}
 use Rattle.block_rules.specs.Blocks.{external, new_records}
 use Rattle.block_rules.specs.Money.{found_of, subsidy_at, spends_of, money_steps}
 use Rattle.block_rules.specs.Rules.{block_steps}
+use Rattle.leaf_record.proofs.HistoryLaws.{newest_is, supply-append, supply-live, supply-set, get-spent}
+use Rattle.block_rules.proofs.Firsts.{unless-passed, append_passes, each_passes}
+use Rattle.block_rules.proofs.Supplied.{new_is_paid}
 use Rattle.node_rules.specs.Messages.{targets, point_of, points_of, claimed}
 use Rattle.node_rules.specs.Accepting.{proof_fault}
 use Rattle.node_rules.specs.Right.{leaf_number, number_at, is_right}
@@ -31,60 +34,10 @@ use Rattle.node_rules.specs.Reading.{Handed, nothing, unread, read}
 use Rattle.node_rules.specs.Judging.{Rules, Evidence, refusal, full, own, newest_of, is_forged, history_after, untold}
 use Rattle.node_rules.specs.Machine.{goes_on, ChainEvent, BlockCame, RollbackCame, StrayCame, Level, State, Judge, chain_of, full_judge, own_judge, by_refusal, by_evidence, back, step, start, state_after, SpendEach}
 use Rattle.node_rules.specs.Laws.{IsSound, IsSoundState, SpendsDiffer}
-use Rattle.node_rules.proofs.Tests.{unless-passed}
-use Rattle.node_rules.proofs.Firsts.{append_passes, each_passes}
 use Rattle.node_rules.proofs.Righting.{right_is_tested}
 use Rattle.node_rules.proofs.Faults.{length-rests}
 use Rattle.node_rules.proofs.Outpoints.{external_apart}
-use Rattle.node_rules.proofs.Newest.{newest_is, all_found, found_each, AllDiffer, spends_differ, differ_pairs}
-use Rattle.node_rules.proofs.Paid.{new_is_paid}
-
--- ---- sums of amounts
-
-abbrev pub value_of : Option Leaf → ℕ
-value_of None = 0
-value_of (Some r) = amount_of r
-
-supply-cons : (u : Option Leaf) (us : History) → supply (u ∷ us) ≡ value_of u + supply us
-supply-cons None us = omega arith
-supply-cons (Some r) us = sum_by-cons amount_of r (somes us)
-
-somes_append : (us vs : History) → somes (us ++ vs) ≡ somes us ++ somes vs
-somes_append [] vs = refl
-somes_append (None ∷ us) vs = somes_append us vs
-somes_append (Some r ∷ us) vs = ap (λ rs. r ∷ rs) (somes_append us vs)
-
-supply-append : (us vs : History) → supply (us ++ vs) ≡ supply us + supply vs
-supply-append us vs = ap (sum_by amount_of) (somes_append us vs) ∙ sum_by-append amount_of (somes us) (somes vs)
-
-somes_live : (rs : List Leaf) → somes (map Some rs) ≡ rs
-somes_live [] = refl
-somes_live (r ∷ rs) = ap (λ xs. r ∷ xs) (somes_live rs)
-
--- a live entry that is spent leaves the rest
-supply-set : (us : History) (i : ℕ) (r : Leaf) → slice_get us i ≡ Some (Some r) → supply (set us i None) + amount_of r ≡ supply us
-supply-set [] i r e = absurd (none-some _ e)
-supply-set (u ∷ us) zero r e =
-    let a = supply-cons u us in
-    let c : value_of u ≡ amount_of r = ap value_of (same_Some _ _ e) in
-    let d = supply-cons None us in
-    omega (arith, a, c, d)
-supply-set (u ∷ us) (suc i) r e =
-    let a = supply-cons u us in
-    let b = supply-cons u (set us i None) in
-    let c = supply-set us i r e in
-    omega (arith, a, b, c)
-
-get-set_other : {X : Type 0} (us : List X) (i j : ℕ) (x : X) → i ≢ j → slice_get (set us i x) j ≡ slice_get us j
-get-set_other [] i j x h = refl
-get-set_other (u ∷ us) zero zero x h = absurd (h refl)
-get-set_other (u ∷ us) zero (suc j) x h = refl
-get-set_other (u ∷ us) (suc i) zero x h = refl
-get-set_other (u ∷ us) (suc i) (suc j) x h = get-set_other us i j x (λ e. h (ap suc e))
-
-get-spent : (us : History) (ns : List ℕ) (j : ℕ) → AllByRecursion (λ m. j ≢ m) ns → slice_get (spent ns us) j ≡ slice_get us j
-get-spent us [] j h = refl
-get-spent us (n ∷ ns) j h = get-set_other (spent ns us) n j None (λ e. h.0 (sym e)) ∙ get-spent us ns j h.1
+use Rattle.node_rules.proofs.Newest.{all_found, found_each, AllDiffer, spends_differ, differ_pairs}
 
 -- these entries are live, and this is found of them
 abbrev pub Pays : History → List ℕ → List Found → Type 0
@@ -172,18 +125,18 @@ module _ (us : History) where
 
   -- each entry is spent once
   pub once : (rules : Rules) (chain : Chain) (b : Block) (e : Evidence) → refusal rules chain b e ≡ None → IsPaid us (external b chain.blocks) e → SpendsDiffer us (external b chain.blocks) e.numbers
-  once rules chain b e h p = (p.each, differ_pairs e.numbers (spends_differ us (external b chain.blocks) e.numbers (external_apart rules chain b chain.blocks (middle rules chain b e h).0) p.each))
+  once rules chain b e h p = (p.each, differ_pairs e.numbers (spends_differ us (external b chain.blocks) e.numbers (external_apart rules chain b (middle rules chain b e h).0) p.each))
 
   -- what is live grows by the subsidy at most
   pub supply_grows : (rules : Rules) (chain : Chain) (b : Block) (e : Evidence) → refusal rules chain b e ≡ None → IsPaid us (external b chain.blocks) e → supply (history_after us e.numbers (new_records b chain.blocks)) ≤ supply us + subsidy_at rules.net chain.blocks
   supply_grows rules chain b e h p =
       let new = new_records b chain.blocks in
       let m = middle rules chain b e h in
-      let d = spends_differ us (external b chain.blocks) e.numbers (external_apart rules chain b chain.blocks m.0) p.each in
+      let d = spends_differ us (external b chain.blocks) e.numbers (external_apart rules chain b m.0) p.each in
       let a = supply_spent us e.numbers e.found d p.pays in
       let n = new_is_paid rules.net b chain.blocks e.found m.2 in
       let s = supply-append (spent e.numbers us) (map Some new) in
-      let l : supply (map Some new) ≡ sum_by amount_of new = ap (sum_by amount_of) (somes_live new) in
+      let l = supply-live new in
       omega (arith, a, n, s, l)
 
 -- a way to judge in which accepted blocks pay

@@ -37,11 +37,12 @@ use Rattle.node_rules.specs.Known.{known_at, view_of}
 use Rattle.node_rules.specs.Reading.{Handed, nothing, read, wrong_count}
 use Rattle.node_rules.specs.Judging.{Rules, Evidence, full, own, refusal, message_steps, full_step, wrong_unless, is_forged, newest_of, missing, known_for, number_for, shown_by, proof_of, message_of, written}
 use Rattle.node_rules.specs.Laws.{Serves, IsTaken}
-use Rattle.node_rules.proofs.Tests.{unless-passed, option_or-both}
-use Rattle.node_rules.proofs.Firsts.{first_of-append, append_passes, each_passes}
+use Rattle.block_rules.proofs.Firsts.{unless-passed, option_or-both}
+use Rattle.block_rules.proofs.Firsts.{first_of-append, append_passes, each_passes}
 use Rattle.node_rules.proofs.Righting.{AllStand, no_none, right_is_tested, got_back, got_entry}
 use Rattle.node_rules.proofs.Hashes.{hashes_there}
-use Rattle.node_rules.proofs.Newest.{newest_is, all_found, none_missing}
+use Rattle.leaf_record.proofs.HistoryLaws.{newest_is}
+use Rattle.node_rules.proofs.Newest.{all_found, none_missing}
 use Rattle.node_rules.proofs.Judging.{view_judges}
 
 module _ (H : List ℕ → Digest) (text : Leaf → List ℕ) (us : History) where
