@@ -18,3 +18,4 @@ pub mod Value
 pub mod Placing
 pub mod MessageLaws
 pub mod Told
+pub mod Telling

@@ -14,7 +14,7 @@ use Rattle.proof_wire.specs.declared.fault.MessageFault.TheVariants as Unread
 use Rattle.block_rules.specs.declared.fault.RuleFault.{RuleFault}
 use Rattle.block_rules.specs.declared.refusal.Refusal.TheVariants as Why
 use Rattle.node_rules.specs.Judged.{IsUnreadAs, IsReadAs}
-use Rattle.node_rules.specs.Messages.{in_full}
+use Rattle.node_rules.specs.Messages.{Message, in_full}
 use Rattle.node_rules.specs.Reading.{Handed, unread, read, body_in, kind_in, message_in}
 
 -- the text of what fits is read as it
@@ -77,3 +77,37 @@ read_refused bytes (Version v) told is_bytes how none version =
     let w = (version v).0 refl in
     subst (λ t. IsReadAs bytes (Err t)) (sym how) (message_version bytes v w.0 w.1)
 read_refused bytes Unread.NoMemory told is_bytes how none version = subst (λ t. IsReadAs bytes (Err t)) (sym how) tt
+
+-- what is read is the text of what fits
+pub read_is_text : (bytes : List ℕ) (m : Message) → IsBytes bytes → message_in bytes ≡ read m → ProofFits m.proof × (m.lean ≡ false) × (bytes ≡ message_text m.proof)
+read_is_text [] m is_bytes e = absurd (let h : unread Why.MessageForm ≡ read m = e in cc)
+read_is_text (v ∷ behind) m is_bytes e =
+    ⊎_elim
+    (λ t. by_kind (eqb-true v 1 t) behind (bytes_behind v behind is_bytes) (rw t at e))
+    (λ f. absurd (let h : unread (Why.MessageVersion v) ≡ read m = rw f at e in cc))
+    (cases_Bool (v == 1))
+  where
+    by_body : (body : List ℕ) → IsBytes body → (x : Option (BlockProof × List ℕ)) → whole_at body ≡ x → body_in x ≡ read m → ProofFits m.proof × (m.lean ≡ false) × (body ≡ body_text m.proof)
+    by_body body is_bytes None w e = absurd (let h : unread Why.MessageForm ≡ read m = e in cc)
+    by_body body is_bytes (Some x) w e =
+        let b = whole_took body x.0 x.1 is_bytes w in
+        let same : in_full x.0 ≡ m = (let h : read (in_full x.0) ≡ read m = e in cc) in
+        subst (λ (y : Message). ProofFits y.proof × (y.lean ≡ false) × (body ≡ body_text y.proof)) same (b.fits, refl, b.text)
+
+    by_kind : v ≡ 1 → (behind : List ℕ) → IsBytes behind → kind_in behind ≡ read m → ProofFits m.proof × (m.lean ≡ false) × (v ∷ behind ≡ message_text m.proof)
+    by_kind one [] is_bytes e = absurd (let h : unread Why.MessageForm ≡ read m = e in cc)
+    by_kind one (k ∷ body) is_bytes e =
+        ⊎_elim
+        (λ t.
+        let w = by_body body (bytes_behind k body is_bytes) (whole_at body) refl (rw t at e) in
+        (w.0, w.1, ap₂ (λ x y. x ∷ y ∷ body) one (eqb-true k 0 t) ∙ ap (λ xs. 1 ∷ 0 ∷ xs) w.2))
+        (λ f. absurd (let h : unread Why.MessageForm ≡ read m = rw f at e in cc))
+        (cases_Bool (k == 0))
+
+pub message_is_read : (bytes : List ℕ) (m : Message) → IsBytes bytes → (message_in bytes ≡ read m) ↔ (ProofFits m.proof × (m.lean ≡ false) × (bytes ≡ message_text m.proof))
+message_is_read bytes m is_bytes = (
+  read_is_text bytes m is_bytes,
+  λ (fits, lean, text).
+      let same : in_full m.proof ≡ m = ap (λ l. let x : Message = record { lean = l; proof = m.proof } in x) (sym lean) in
+      message_read bytes m.proof fits text ∙ ap read same,
+)

@@ -21,7 +21,7 @@ module _ (H : List ℕ → Digest) (text : Leaf → List ℕ) (scripts : List (L
   same_by_refusal s b m e f (Some why) n = refl
   same_by_refusal s b m e f None n = ap (λ ns. by_refusal s b (record { steps = []; found = []; numbers = ns }) None) n
 
-  same_step : (s : State) (e : ChainEvent) → is_some (step rules (full_judge H text scripts rules) s e).verdict ≡ true → step rules (view_judge H text scripts) s e ≡ step rules (full_judge H text scripts rules) s e
+  pub same_step : (s : State) (e : ChainEvent) → is_some (step rules (full_judge H text scripts rules) s e).verdict ≡ true → step rules (view_judge H text scripts) s e ≡ step rules (full_judge H text scripts rules) s e
   same_step s (BlockCame None m) h = refl
   same_step s (BlockCame (Some b) m) h =
       let ext = external b s.now.blocks in
