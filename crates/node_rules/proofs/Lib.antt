@@ -19,3 +19,4 @@ pub mod Placing
 pub mod MessageLaws
 pub mod Told
 pub mod Telling
+pub mod Rows
