@@ -20,7 +20,7 @@ use Rattle.block_rules.specs.declared.refusal.ProofRefusal.TheVariants.{Outside,
 use Rattle.block_rules.specs.declared.verdict.Verdict.{Verdict}
 use Rattle.block_rules.specs.declared.verdict.Verdict.TheVariants.{Accepted, Refused, RolledBack, TooDeep, Stray}
 use Rattle.block_rules.specs.Blocks.{external, new_records}
-use Rattle.node_rules.specs.Messages.{in_full, named}
+use Rattle.node_rules.specs.Messages.{in_full, named, point_of}
 use Rattle.node_rules.specs.Accepting.{shape_fault}
 use Rattle.node_rules.specs.Known.{kept, known_at, view_of}
 use Rattle.node_rules.specs.Reading.{Handed, nothing, unread, read, handed_in}
@@ -121,13 +121,17 @@ abbrev told_of : List Verdict
 told_of = Accepted 102 first_hash 6 ∷ Accepted 103 second_hash 7 ∷ RolledBack 1 (Some 102) first_hash 6 ∷ Accepted 103 third_hash 7 ∷ []
 
 -- one input spends from outside, and of the block's four outputs three are left
-external_one : map (λ at. (at.tx, at.input)) (external first 102) ≡ (1, 0) ∷ []
+external_one : map point_of (external first 102) ≡ point 11 ∷ []
 unfolding first_words schedule rounds compress hash_after digest_bytes sha256 legacy_text tx_text paired level_above repeats_from compact
 external_one = refl
 
-new_three : map (λ leaf. (leaf.point.index, leaf.rest.amount)) (new_records first 102) ≡ (0, full_coin) ∷ (1, half_coin) ∷ (0, half_coin) ∷ []
+new_three : map (λ leaf. leaf.rest.amount) (new_records first 102) ≡ full_coin ∷ half_coin ∷ half_coin ∷ []
 unfolding first_words schedule rounds compress hash_after digest_bytes sha256 legacy_text tx_text paired level_above repeats_from compact
 new_three = refl
+
+new_indices : map (λ leaf. leaf.point.index) (new_records first 102) ≡ 0 ∷ 1 ∷ 0 ∷ []
+unfolding first_words schedule rounds compress hash_after digest_bytes sha256 legacy_text tx_text paired level_above repeats_from compact
+new_indices = refl
 
 -- the newer of the two is spent
 newest_spent : (own late.now.history (external first 102)).numbers ≡ 1 ∷ []
@@ -138,12 +142,12 @@ ran : verdicts rules own_judge late events ≡ told_of
 unfolding first_words schedule rounds compress hash_after digest_bytes sha256 legacy_text tx_text paired level_above repeats_from compact
 ran = refl
 
--- two levels are left: with the third block, and with the first
-levels : (length (state_after rules own_judge late events).older, length (state_after rules own_judge late events).now.history) ≡ (2, 7)
+-- three levels are left: with the third block, with the first, and the one that was there
+levels : map (λ l. length l.history) ((state_after rules own_judge late events).now ∷ (state_after rules own_judge late events).older) ≡ 7 ∷ 6 ∷ 3 ∷ []
 unfolding first_words schedule rounds compress hash_after digest_bytes sha256 legacy_text tx_text paired level_above repeats_from compact
 levels = refl
 
--- of 15 coins one old one of 50 is gone and two blocks add 150: the first 100, of which half is what it spent
+-- 150 coins were live; the first block spends 50 and adds 100, the third adds 50
 supplied : supply (state_after rules own_judge late events).now.history ≡ 25000000000
 unfolding first_words schedule rounds compress hash_after digest_bytes sha256 legacy_text tx_text paired level_above repeats_from compact
 supplied = refl
@@ -183,8 +187,11 @@ followed_lean = refl
 
 -- ---- what a view is: three entries, the roots of rows 1 and 0, and nothing known
 
-view_is : ((view_of Xor text [] late.now.history).n, (view_of Xor text [] late.now.history).roots 1, (view_of Xor text [] late.now.history).roots 0, (view_of Xor text [] late.now.history).known 0 0) ≡ (3, Some (digest (3 ∷ [])), Some (digest (5000000082 ∷ [])), None)
-view_is = refl
+view_roots : map (view_of Xor text [] late.now.history).roots (1 ∷ 0 ∷ []) ≡ Some (digest (3 ∷ [])) ∷ Some (digest (5000000082 ∷ [])) ∷ []
+view_roots = refl
+
+nothing_is_known : map (known_at Xor text [] late.now.history 0) (0 ∷ 1 ∷ 2 ∷ []) ≡ None ∷ None ∷ None ∷ []
+nothing_is_known = refl
 
 known_is : map (known_at Xor text watch late.now.history 0) (0 ∷ 1 ∷ 2 ∷ []) ≡ Some (digest (5000000080 ∷ [])) ∷ Some (digest (5000000083 ∷ [])) ∷ Some (digest (5000000082 ∷ [])) ∷ []
 known_is = refl
@@ -243,9 +250,13 @@ unfolding first_words schedule rounds compress hash_after digest_bytes sha256 le
 is_forged_there = refl
 
 -- also where a later rule refuses the block
-forged_and_refused : (view_says (forged (coin 11 3 full_coin)), full_says (forged (coin 11 3 full_coin))) ≡ (refused (Why.Immature 1 0), [])
+forged_and_refused : view_says (forged (coin 11 3 full_coin)) ≡ refused (Why.Immature 1 0)
 unfolding first_words schedule rounds compress hash_after digest_bytes sha256 legacy_text tx_text paired level_above repeats_from compact
 forged_and_refused = refl
+
+stops_there_too : full_says (forged (coin 11 3 full_coin)) ≡ []
+unfolding first_words schedule rounds compress hash_after digest_bytes sha256 legacy_text tx_text paired level_above repeats_from compact
+stops_there_too = refl
 
 -- ---- from the start: the first block adds nothing, and what the second makes is spent too early
 
