@@ -6,5 +6,7 @@
 
 mod laws;
 mod messages;
+#[cfg(test)]
+mod tests;
 
 pub use messages::{message_rules, targets_of};
