@@ -25,8 +25,8 @@ use Rattle.node_rules.specs.Accepting.{proof_fault}
 use Rattle.node_rules.specs.Right.{is_right}
 use Rattle.node_rules.specs.Known.{kept_places, known_at, is_known, view_of}
 use Rattle.node_rules.specs.Reading.{Handed, nothing, unread, read}
-use Rattle.node_rules.specs.Judging.{Rules, message_steps, found_by, view_step, full_step, wrong_unless, untold, compact, full, refusal, is_forged}
-use Rattle.block_rules.proofs.Firsts.{append_passes}
+use Rattle.node_rules.specs.Judging.{Rules, message_steps, found_by, view_step, full_step, wrong_unless, untold, compact, full, refusal, is_right_message, is_forged}
+use Rattle.block_rules.proofs.Firsts.{unless-passed, append_passes, each_passes}
 use Rattle.node_rules.proofs.OneStep.{one_step}
 use Rattle.node_rules.proofs.Faults.{passes}
 use Rattle.node_rules.proofs.Righting.{right_is_tested}
@@ -83,3 +83,14 @@ module _ (H : List ℕ → Digest) (text : Leaf → List ℕ) (scripts : List (L
     -- by the view of a history the refusal is that by the history
     pub view_judges : (m : Handed) → is_forged H text scripts rules chain us b m ≡ false → refusal rules chain b (full H text scripts us ext m) ≡ refusal rules chain b (compact H text (view_of H text scripts us) ext m)
     view_judges m f = one_step (block_steps rules.limits chain b) (message_steps ext m) (full_step H text scripts us ext m) (view_step H text (view_of H text scripts us) ext m) (money_steps (spends_of rules.net chain.blocks b) (found_by m)) (same_step m f)
+
+    -- what a view accepts and is not forged is right
+    pub accepted_is_right : (m : Handed) → is_forged H text scripts rules chain us b m ≡ false → refusal rules chain b (compact H text (view_of H text scripts us) ext m) ≡ None → is_right_message H text scripts us ext m ≡ true
+    accepted_is_right nothing f e = refl
+    accepted_is_right (unread why) f e = refl
+    accepted_is_right (read m) f e =
+        let steps = (full H text scripts us ext (read m)).steps in
+        let money = money_steps (spends_of rules.net chain.blocks b) (found_by (read m)) in
+        let passes : refusal rules chain b (full H text scripts us ext (read m)) ≡ None = view_judges (read m) f ∙ e in
+        let middle = (append_passes steps money (append_passes (block_steps rules.limits chain b) (steps ++ money) passes).1).0 in
+        unless-passed (is_right H text us (known_at H text scripts us) (points_of ext) m) _ (each_passes steps 3 middle)

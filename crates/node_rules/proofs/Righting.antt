@@ -15,7 +15,7 @@ use Rattle.leaf_record.specs.History.{somes, History}
 use Rattle.proof_wire.specs.BlockProof.{rests_of}
 use Rattle.node_rules.specs.Messages.{Message, named, targets, claimed, known_to}
 use Rattle.node_rules.specs.Right.{leaf_number, is_leaf, is_live, stands_for, all_stand, is_digest, same_digests, is_right}
-use Rattle.node_rules.proofs.Tests.{same_leaf-true, same_leaf-same, is_same-true, is_same-same}
+use Rattle.node_rules.proofs.Same.{same_leaf-true, same_leaf-same, is_same-true, is_same-same}
 
 pub got : {X : Type 0} (us : List (Option X)) (i : ℕ) (s : X) → get_or us i None ≡ Some s → slice_get us i ≡ Some (Some s)
 got [] i s e = absurd (none-some s e)

@@ -17,7 +17,7 @@ use Rattle.block_rules.specs.Steps.{unless, first_from}
 use Rattle.node_rules.specs.Messages.{Message, named}
 use Rattle.node_rules.specs.Accepting.{View, shape_fault, target_fault, repeats, crosses, at_cover, first_slot, empty_root, root_differs, proof_fault, IsGreatest}
 use Rattle.node_rules.specs.Judging.{untold}
-use Rattle.node_rules.proofs.Tests.{is_same-true, is_same-same}
+use Rattle.node_rules.proofs.Same.{is_same-true, is_same-same}
 use Rattle.node_rules.proofs.Faults.{ts, known, wanted, leaves, slots_rows, first_slot-at}
 
 module _ {X : Type 0} (f : ℕ → Cover → Option X) (n : ℕ) (targets : List Place) where

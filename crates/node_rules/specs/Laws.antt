@@ -27,7 +27,7 @@ use Rattle.node_rules.specs.Accepting.{View, leaves_of, shape_fault, proof_fault
 use Rattle.node_rules.specs.Right.{is_right}
 use Rattle.node_rules.specs.Known.{is_known, kept_places, known_at, view_of}
 use Rattle.node_rules.specs.Reading.{Handed, read, message_in}
-use Rattle.node_rules.specs.Judging.{Rules, compact, full, own, refusal, is_forged, message_of, written, entries_shown, untold, history_after}
+use Rattle.node_rules.specs.Judging.{Rules, compact, full, own, refusal, is_right_message, is_forged, message_of, written, entries_shown, untold, history_after}
 use Rattle.node_rules.specs.Machine.{ChainEvent, BlockCame, Level, State, Judge, start, chain_of, full_judge, view_judge, own_judge, step, issued, verdict_over, verdicts, state_after, never_stops, proof_feed, kept_verdicts, SpendEach}
 
 -- ---- the tests of a verdict say what the forest's laws speak of
@@ -100,6 +100,13 @@ ViewRunsAsFullSet = (H : List ℕ → Digest) (text : Leaf → List ℕ) (script
     never_stops rules (full_judge H text scripts rules) s events ≡ true →
     (verdicts rules (view_judge H text scripts) s events ≡ verdicts rules (full_judge H text scripts rules) s events)
     × (state_after rules (view_judge H text scripts) s events ≡ state_after rules (full_judge H text scripts rules) s events)
+
+-- unless the event is forged, the message of a block that a view accepts is right
+abbrev pub AcceptedIsRight : Type 0
+AcceptedIsRight = (H : List ℕ → Digest) (text : Leaf → List ℕ) (scripts : List (List ℕ)) (us : History) (rules : Rules) (chain : Chain) (b : Block) (handed : Handed) →
+    is_forged H text scripts rules chain us b handed ≡ false →
+    refusal rules chain b (compact H text (view_of H text scripts us) (external b chain.blocks) handed) ≡ None →
+    is_right_message H text scripts us (external b chain.blocks) handed ≡ true
 
 -- ---- what the proving node writes
 
@@ -179,6 +186,22 @@ LevelsAreFew = (rules : Rules) (judge : Judge) (s : State) (events : List ChainE
 abbrev pub VerdictIsByView : Type 0
 VerdictIsByView = (H : List ℕ → Digest) (text : Leaf → List ℕ) (scripts : List (List ℕ)) (rules : Rules) (s : State) (b : Block) (handed : Handed) →
     (step rules (view_judge H text scripts) s (BlockCame (Some b) handed)).verdict ≡ Some (verdict_over H text rules (chain_of s.now) (view_of H text scripts s.now.history) b handed)
+
+-- the views have as many entries, know the same, and have the same roots at the slots
+pub record IsSameView (v w : View) : Type 0 where
+  pub n : v.n ≡ w.n
+  pub roots : (row : ℕ) → is_slot v.n row ≡ true → v.roots row ≡ w.roots row
+  pub known : (row off : ℕ) → v.known row off ≡ w.known row off
+
+-- then the verdict is the same
+abbrev pub AgreeingViewsJudgeAlike : Type 0
+AgreeingViewsJudgeAlike = (H : List ℕ → Digest) (text : Leaf → List ℕ) (v w : View) → IsSameView v w →
+    ((points : List Outpoint) (m : Message) → proof_fault H text v points m ≡ proof_fault H text w points m)
+    × ((rules : Rules) (chain : Chain) (b : Block) (handed : Handed) → verdict_over H text rules chain v b handed ≡ verdict_over H text rules chain w b handed)
+
+-- nothing is known where nothing is watched
+abbrev pub NothingIsKnown : Type 0
+NothingIsKnown = (H : List ℕ → Digest) (text : Leaf → List ℕ) (us : History) (row off : ℕ) → known_at H text [] us row off ≡ None
 
 -- the targets of a right message are the places of the entries that are spent; after a block these are spent in the forest,
 -- and the new ones are appended

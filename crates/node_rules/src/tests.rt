@@ -2,7 +2,7 @@
 use crate::{message_rules, targets_of};
 use block_codec::read_block;
 use block_rules::{Chain, ProofRefusal, Refusal, RuleFault, shape_rules};
-use forest_place::position;
+use forest_place::Place;
 use leaf_record::RestView;
 use proof_wire::{Message, MessageView, read_message};
 use std::alloc::Global;
@@ -139,8 +139,9 @@ fn first_of_a_hundred(rt: HostRuntime) -> Result<(), Fail> {
     assert_eq!(rt; targets.len(), 1);
     let needed = targets.needed();
     assert_eq!(rt; needed.len(), 6);
-    for (place, at) in needed.iter().zip([1, 129, 193, 225, 241, 249]) {
-        assert_eq!(rt; position(*place, 100), at);
+    // Beside the oldest, and beside each place above it: positions 1, 129, 193, 225, 241 and 249.
+    for (row, place) in needed.iter().enumerate() {
+        assert!(rt; *place == Place { row: row as u8, off: 1 });
     }
     Ok(())
 }
