@@ -1,5 +1,5 @@
 -- Views that agree judge alike.
-use Rattle.std.proofs.Common.{◌≡◌, ℕ, zero, suc, true, List, [], ◌∷◌, ◌++◌, length, map, Option, Some, None, cond, refl, ap, ap₂, ◌∙◌, subst, ⊎_elim}
+use Rattle.std.proofs.Common.{◌≡◌, ℕ, zero, suc, true, List, [], ◌∷◌, ◌++◌, length, Option, Some, None, cond, refl, ap, ap₂, ◌∙◌, ⊎_elim}
 use Rattle.std.specs.Prelude.{◌==◌, ◌⊎◌, option_map, false}
 use Rattle.std.specs.Option.{option_or}
 use Rattle.std.proofs.lemmas.Bool.{cases_Bool}
@@ -15,12 +15,12 @@ use Rattle.block_rules.specs.declared.chain.Chain.{Chain}
 use Rattle.block_rules.specs.declared.refusal.Refusal.{Refusal}
 use Rattle.block_rules.specs.declared.refusal.Refusal.TheVariants as Why
 use Rattle.block_rules.specs.declared.refusal.ProofRefusal.TheVariants.{HashCount}
-use Rattle.block_rules.specs.Steps.{unless, first_of}
+use Rattle.block_rules.specs.Steps.{unless}
 use Rattle.block_rules.specs.Blocks.{external, new_records}
 use Rattle.node_rules.specs.Messages.{Message, named, targets, points_of, known_to}
 use Rattle.node_rules.specs.Accepting.{View, leaves_of, shape_fault, at_cover, first_slot, empty_root, root_differs, proof_fault}
 use Rattle.node_rules.specs.Reading.{Handed, nothing, unread, read}
-use Rattle.node_rules.specs.Judging.{Rules, Evidence, message_steps, found_by, view_step, compact, refusal}
+use Rattle.node_rules.specs.Judging.{Rules, Evidence, message_steps, found_by, view_step, refusal}
 use Rattle.node_rules.specs.Machine.{verdict_by, verdict_over}
 use Rattle.node_rules.specs.Laws.{IsSameView}
 

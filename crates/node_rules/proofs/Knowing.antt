@@ -1,7 +1,7 @@
 -- Each known place of the forest has a digest, and the roots after a right message.
-use Rattle.std.proofs.Common.{◌≡◌, ℕ, zero, suc, ◌+◌, ◌*◌, ◌≤◌, cond, ap₂, Bool, true, false, List, [], ◌∷◌, map, length, get_or, Option, Some, None, refl, sym, ap, ◌∙◌, subst, ⊎_elim, arith}
+use Rattle.std.proofs.Common.{◌≡◌, ℕ, zero, suc, ◌+◌, ◌*◌, cond, ap₂, Bool, true, false, List, [], ◌∷◌, map, length, get_or, Option, Some, None, refl, sym, ap, ◌∙◌, subst, ⊎_elim, arith}
 use Rattle.std.specs.Prelude.{is_some, not, ◌&&◌, option_map}
-use Rattle.std.proofs.lemmas.Bool.{cases_Bool, false≢true, or_cases, and_right}
+use Rattle.std.proofs.lemmas.Bool.{false≢true, or_cases, and_right}
 use Rattle.std.proofs.lemmas.List.{length-map}
 use Rattle.uo_digest.specs.declared.digest.Digest.{Digest}
 use Rattle.forest_place.specs.declared.place.Place.{Place}
@@ -24,7 +24,7 @@ use Rattle.leaf_record.specs.Leaf.{Outpoint, Leaf}
 use Rattle.leaf_record.specs.History.{somes, History, spent}
 use Rattle.node_rules.specs.Messages.{Message, targets, known_to}
 use Rattle.node_rules.specs.Right.{is_right}
-use Rattle.node_rules.specs.Known.{is_watched, kept_from, kept, kept_places, is_known, known_at}
+use Rattle.node_rules.specs.Known.{is_watched, kept_from, kept_places, is_known, known_at}
 use Rattle.node_rules.specs.Reading.{read}
 use Rattle.node_rules.specs.Judging.{entries_shown}
 use Rattle.node_rules.proofs.Righting.{got_entry, right_is_tested}

@@ -1,5 +1,5 @@
 -- What holds of the machines, whatever the digest function and the leaf text. Each law is the contract of a function of its name.
-use Rattle.std.specs.Prelude.{◌≡◌, ◌≢◌, ◌≤◌, ◌+◌, All, AllPairs, ℕ, suc, Bool, true, false, List, [], ◌∷◌, ◌++◌, length, map, Option, Some, None, is_some, ◌↔◌}
+use Rattle.std.specs.Prelude.{◌≡◌, ◌≢◌, ◌≤◌, All, AllPairs, ℕ, Bool, true, false, List, [], ◌∷◌, ◌++◌, length, map, Option, Some, None, is_some, ◌↔◌}
 use Rattle.std.specs.List.{AllByRecursion}
 use Rattle.uo_base.specs.Reading.{IsBytes}
 use Rattle.uo_digest.specs.declared.digest.Digest.{Digest}
@@ -19,8 +19,7 @@ use Rattle.block_rules.specs.declared.chain.Chain.{Chain}
 use Rattle.block_rules.specs.declared.chain.Outside.{Outside}
 use Rattle.block_rules.specs.declared.refusal.ProofRefusal.TheVariants.{HashCount, EmptyRoot, RootDiffers}
 use Rattle.block_rules.specs.Steps.{first_of}
-use Rattle.block_rules.specs.Blocks.{external, new_records}
-use Rattle.block_rules.specs.Money.{subsidy_at}
+use Rattle.block_rules.specs.Blocks.{external}
 use Rattle.block_rules.specs.Rules.{block_steps}
 use Rattle.node_rules.specs.Messages.{Message, named, targets, points_of, claimed, known_to}
 use Rattle.node_rules.specs.Accepting.{View, leaves_of, shape_fault, proof_fault, IsGreatest}
@@ -68,8 +67,8 @@ abbrev pub RightIsTested : Type 0
 RightIsTested = (H : List ℕ → Digest) (text : Leaf → List ℕ) (us : History) (known : ℕ → ℕ → Option Digest) (points : List Outpoint) (m : Message) →
     (is_right H text us known points m ≡ true)
     ↔ (IsRight H text us (targets (length us) m.proof) (known_to m.lean known) (claimed points (rests_of m.proof.spends)) m.proof.hashes
-        × (named (length us) m.proof ≡ map Some (targets (length us) m.proof))
-        × (length m.proof.spends ≡ length points))
+    × (named (length us) m.proof ≡ map Some (targets (length us) m.proof))
+    × (length m.proof.spends ≡ length points))
 
 -- ---- a view in place of the whole history
 
@@ -208,7 +207,7 @@ NothingIsKnown = (H : List ℕ → Digest) (text : Leaf → List ℕ) (us : Hist
 abbrev pub HistoryIsSpentAndAppended : Type 0
 HistoryIsSpentAndAppended = (H : List ℕ → Digest) (text : Leaf → List ℕ) (us : History) →
     ((scripts : List (List ℕ)) (points : List Outpoint) (m : Message) → is_right H text us (known_at H text scripts us) points m ≡ true →
-        StandAt (entries H text us) (targets (length us) m.proof) (entries_shown H text us (read m)))
+    StandAt (entries H text us) (targets (length us) m.proof) (entries_shown H text us (read m)))
     × ((numbers : List ℕ) (new : List Leaf) → entries H text (history_after us numbers new) ≡ entries_without numbers (entries H text us) ++ map (λ leaf. Some (H (text leaf))) new)
 
 -- the roots after a right message's entries are spent are those that the message gives
