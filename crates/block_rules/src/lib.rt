@@ -23,6 +23,8 @@ mod shape;
 mod spends;
 mod steps;
 mod sums;
+#[cfg(test)]
+mod tests;
 mod verdict;
 mod walk;
 

@@ -121,7 +121,7 @@ fn record_of<'a>(maker: &Maker, index: u32, output: &OutView<'a>) -> RecordView<
     requires script { length output.now.script.now ≤ 10000 }
     ensures { result ≡ record {
       point = record { txid = maker.now.txid; index = index };
-      rest = record { block = maker.now.block; height = maker.now.height; coinbase = maker.now.coinbase; amount = output.now.amount; script = output.now.script.now }
+      rest = record { block = maker.now.block; height = maker.now.height; coinbase = maker.now.coinbase; amount = output.now.amount; script = output.now.script.now };
     } }
 {
     RecordView {

@@ -38,10 +38,7 @@ pub(crate) fn link_step(block: &BlockView<'_>, chain: &Chain) -> Option<Refusal>
 }
 
 /// The header has its merkle root, and no hash is paired with itself at another place.
-pub(crate) fn merkle_step(
-    alloc: Global,
-    block: &BlockView<'_>,
-) -> Result<Option<Refusal>, NoMemory>
+pub(crate) fn merkle_step(alloc: Global, block: &BlockView<'_>) -> Result<Option<Refusal>, NoMemory>
     ensures { IfOk result (λ step. step ≡ merkle_step block.now.header.merkle (merkle_of (txids_of block.now))) }
 {
     Ok(merkle_refusal(block.header().merkle, merkle(alloc, block)?))
@@ -145,10 +142,7 @@ fn has_too_much(tx: &TxView<'_>) -> bool
 }
 
 /// No input has the outpoint of an earlier one.
-pub(crate) fn double_step(
-    alloc: Global,
-    block: &BlockView<'_>,
-) -> Result<Option<Refusal>, NoMemory>
+pub(crate) fn double_step(alloc: Global, block: &BlockView<'_>) -> Result<Option<Refusal>, NoMemory>
     ensures { IfOk result (λ step. step ≡ double [] (placed_of 0 block.now.txs)) }
 {
     let mut seen = BTreeSet::new(alloc);

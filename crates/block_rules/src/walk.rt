@@ -110,11 +110,7 @@ fn pass<'a>(
 }
 
 // What each input spends of what was made.
-fn owns_of(
-    alloc: Global,
-    made: &Made<'_>,
-    tx: &TxView<'_>,
-) -> Result<Vec<Option<Own>>, NoMemory>
+fn owns_of(alloc: Global, made: &Made<'_>, tx: &TxView<'_>) -> Result<Vec<Option<Own>>, NoMemory>
     requires { IsIndex made.now.newest made.now.records.items }
     ensures owns { IfOk result (λ owns. owns.items ≡ owns_in tx.now.inputs made.now.records.items) }
     ensures few { length tx.now.inputs < 2 ^ 32 }
@@ -129,10 +125,11 @@ fn owns_of(
 fn found_in(alloc: Global, owns: &[Option<Own>]) -> Result<Vec<Option<Found>>, NoMemory>
     ensures { IfOk result (λ found. found.items ≡ map (option_map (λ own. own.found)) owns.now) }
 {
-    Ok(owns
-        .iter()
-        .map(|own| own.map(|own| own.found))
-        .collect(alloc)?)
+    Ok(
+        owns.iter()
+            .map(|own| own.map(|own| own.found))
+            .collect(alloc)?,
+    )
 }
 
 fn put_spent(spent: &mut Vec<usize>, owns: &[Option<Own>]) -> Result<(), NoMemory>
@@ -218,10 +215,7 @@ fn live<'a>(
     Ok(new)
 }
 
-fn put_live<'a>(
-    new: &mut Vec<RecordView<'a>>,
-    live: Option<RecordView<'a>>,
-) -> Result<(), NoMemory>
+fn put_live<'a>(new: &mut Vec<RecordView<'a>>, live: Option<RecordView<'a>>) -> Result<(), NoMemory>
     ensures { OnOk result (new.new.items ≡ new.old.items ++ somes (live.entry ∷ [])) }
 {
     if let Some(leaf) = live {
