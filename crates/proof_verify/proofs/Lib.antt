@@ -4,3 +4,5 @@ pub mod Sends
 pub mod Settled
 pub mod Arrivals
 pub mod Puts
+pub mod Planned
+pub mod Whereto
