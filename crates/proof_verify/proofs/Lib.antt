@@ -6,3 +6,8 @@ pub mod Arrivals
 pub mod Puts
 pub mod Planned
 pub mod Whereto
+pub mod Values
+pub mod Verdicts
+pub mod Counts
+pub mod Remains
+pub mod Paired

@@ -55,6 +55,7 @@ impl Model for Scratch {
 
 impl Scratch {
     ghost use Rattle.proof_verify.specs.Checked.{IsChecked, IsRefused};
+    ghost use Rattle.forest_roots.specs.Stump.{IsStump};
     ghost use Rattle.proof_verify.specs.Verified.{above_targets};
 
     /// Reserved for no targets.
@@ -126,6 +127,7 @@ impl Scratch {
         steps: &mut Steps<L>,
     ) -> Result<(), ProofFault>
         requires entries { self.old.reserved.leaves ≡ roots.old.leaves }
+        requires stump { IsStump roots.old }
         requires needed { needed ≡ length (need self.old.reserved.leaves self.old.reserved.targets) }
         requires leaves { length leaves.now ≡ length self.old.reserved.targets }
         ensures answer { MatchResult result
