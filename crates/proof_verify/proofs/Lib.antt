@@ -11,3 +11,4 @@ pub mod Verdicts
 pub mod Counts
 pub mod Remains
 pub mod Paired
+pub mod Lawful
