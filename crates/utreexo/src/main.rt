@@ -3,14 +3,12 @@
 
 ghost use Rattle.std.specs.Prelude.{◌≡◌, ◌<◌};
 
-mod chain;
 mod follow;
 mod follower;
 mod hash_text;
 mod line;
 mod options;
 mod report;
-mod rules;
 mod run;
 mod status;
 mod stop;
