@@ -1,6 +1,8 @@
+pub mod Ahead
 pub mod Compact
 pub mod Faults
 pub mod FeedEvent
+pub mod Files
 pub mod MemPorts
 pub mod Moved
 pub mod Plans

@@ -14,6 +14,7 @@ mod system;
 #[cfg(test)]
 mod tests;
 mod transfer;
+mod window;
 
 pub use cursor::Cursor;
 pub use event::{Event, Limits, Net};

@@ -5,5 +5,6 @@ pub mod Lines
 pub mod Machine
 pub mod Options
 pub mod Runs
+pub mod Sources
 pub mod Status
 pub mod Words

@@ -4,6 +4,8 @@ ghost use Rattle.std.specs.Prelude.{◌≡◌, ◌<◌, ◌≤◌, ◌^◌};
 mod chains;
 mod faults;
 mod rows;
+mod subsidies;
+mod word_lists;
 
 use crate::run::run;
 use crate::status::Status;

@@ -23,7 +23,7 @@ const FOLLOW: &[&str] = &["follow"];
 
 const ANY: u64 = 281_474_976_710_656;
 
-const ROWS: [Row; 22] = [
+const ROWS: [Row; 25] = [
     // nothing
     Row {
         words: FOLLOW,
@@ -260,6 +260,35 @@ const ROWS: [Row; 22] = [
         status: Status::AllAccepted,
         report: "end 0 - - 0\n",
     },
+    // regtest
+    Row {
+        words: &["follow", "--net", "regtest"],
+        feed: &GENESIS_FRAME,
+        bytes: ANY,
+        status: Status::Frame,
+        report: "frame magic 0 f9beb4d9\n",
+    },
+    Row {
+        words: &["follow", "--net", "regtest"],
+        feed: &[
+            "fabfb5da1d010000",
+            GENESIS_HEADER,
+            "010100000001",
+            GENESIS_CORE,
+            "00000000",
+        ],
+        bytes: ANY,
+        status: Status::AllAccepted,
+        report: "accepted 0 000000000019d6689c085ae165831e934ff763ae46a2a6c172b3f1b60a8ce26f 0\nend 1 0 000000000019d6689c085ae165831e934ff763ae46a2a6c172b3f1b60a8ce26f 0\n",
+    },
+    // mainnet by name, and a file whose name no port here opens
+    Row {
+        words: &["follow", "--feed", "--net", "--net", "main"],
+        feed: &GENESIS_FRAME,
+        bytes: ANY,
+        status: Status::AllAccepted,
+        report: "accepted 0 000000000019d6689c085ae165831e934ff763ae46a2a6c172b3f1b60a8ce26f 0\nend 1 0 000000000019d6689c085ae165831e934ff763ae46a2a6c172b3f1b60a8ce26f 0\n",
+    },
     // words
     Row {
         words: &[],
@@ -273,7 +302,7 @@ const ROWS: [Row; 22] = [
         feed: &[],
         bytes: ANY,
         status: Status::Words,
-        report: "words 1\n",
+        report: "words 2\n",
     },
     Row {
         words: &["fallow"],

@@ -1,0 +1,81 @@
+//! Bytes that were read ahead.
+ghost use Rattle.std.specs.Prelude.{◌≡◌, ◌<◌, ◌≤◌, ◌++◌, [], length, take, min, IfOk, OnErr};
+ghost use Rattle.std.specs.Io.{ReadsAtMost};
+ghost use Rattle.uo_base.specs.Faults.{Rose};
+
+use crate::Failed;
+use std::io::Read;
+
+const SIZE: usize = 65_536;
+
+/// Bytes of a reader that are read ahead, so that many small reads make one call of the system.
+#[derive(Drop)]
+pub struct Window {
+    bytes: [u8; SIZE],
+    start: usize,
+    end: usize,
+    ghost ordered: { start ≤ end },
+    ghost within: { end ≤ 65536 },
+}
+
+impl Window {
+    ghost use Rattle.uo_base.specs.Ahead.{ahead};
+
+    pub fn new() -> Self
+        ensures { ahead result ≡ [] }
+    {
+        Window {
+            bytes: [0; SIZE],
+            start: 0,
+            end: 0,
+        }
+    }
+
+    /// Gives the next bytes of a reader, of those that were read ahead where there are any. An error is counted.
+    pub fn read<T: Read>(
+        &mut self,
+        reader: &mut T,
+        faults: &mut u64,
+        into: &mut [u8],
+    ) -> Result<usize, Failed>
+        ensures bound { ReadsAtMost result into.new }
+        ensures kept { IfOk result (λ n. 0 < length (ahead self.old) → ahead self.old ≡ take n into.new ++ ahead self.new) }
+        ensures empty { OnErr result (ahead self.old ≡ []) }
+        ensures later { faults.old ≤ faults.new }
+        ensures cause { OnErr result (Rose faults.old faults.new) }
+    {
+        if self.start == self.end {
+            self.start = 0;
+            self.end = 0;
+            self.end = counted_read(reader, faults, &mut self.bytes)?;
+        }
+        Ok(self.give(into))
+    }
+
+    // Gives bytes that were read ahead, as many as there is room for.
+    fn give(&mut self, into: &mut [u8]) -> usize
+        ensures bound { result ≤ length into.new }
+        ensures bytes { ahead self.old ≡ take result into.new ++ ahead self.new }
+        ensures count { result ≡ min (length into.old) (length (ahead self.old)) }
+    {
+        let count = into.len().min(self.end - self.start);
+        into[..count].copy_from_slice(&self.bytes[self.start..self.start + count]);
+        self.start += count;
+        count
+    }
+}
+
+// One read of a reader, whose error is counted.
+fn counted_read<T: Read>(reader: &mut T, faults: &mut u64, into: &mut [u8]) -> Result<usize, Failed>
+    ensures bound { ReadsAtMost result into.new }
+    ensures later { faults.old ≤ faults.new }
+    ensures cause { OnErr result (Rose faults.old faults.new) }
+{
+    match reader.read(into) {
+        Ok(count) => Ok(count),
+        Err(_) => {
+            *faults = faults.saturating_add(1);
+            Err(Failed)
+        }
+    }
+}
