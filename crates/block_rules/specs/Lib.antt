@@ -1,0 +1,10 @@
+pub mod Steps
+pub mod Blocks
+pub mod Money
+pub mod Rules
+pub mod Judged
+pub mod Laws
+pub mod Keys
+pub mod Walk
+pub mod Seen
+pub mod Paying
