@@ -1,17 +1,26 @@
--- What a compact node keeps, and what it says of an event.
-use Rattle.std.specs.Prelude.{◌≡◌, ℕ, ◌+◌, ◌<◌, ◌≤◌, ◌^◌, ◌==◌, List, [], Option, None, if◌then◌else◌}
+-- What a compact node keeps, what it says of an event, and what it keeps then.
+use Rattle.std.specs.Prelude.{◌≡◌, ℕ, suc, ◌+◌, ◌<◌, ◌≤◌, ◌^◌, ◌==◌, List, [], ◌∷◌, length, map, Option, Some, None, if◌then◌else◌}
+use Rattle.std.specs.List.{range_with_len}
 use Rattle.uo_base.specs.declared.event.Limits.{Limits}
 use Rattle.uo_base.specs.declared.event.Net.{Net}
 use Rattle.uo_digest.specs.declared.digest.Digest.{Digest}
-use Rattle.forest_roots.specs.Stump.{Stump, IsStump, root_in, empty_roots}
-use Rattle.forest_model.specs.Evaluation.{nothing_known}
+use Rattle.forest_place.specs.Forest.{root_off}
+use Rattle.forest_model.specs.Cover.{cover}
+use Rattle.forest_model.specs.Evaluation.{nothing_known, hash_of}
+use Rattle.forest_model.specs.Deletion.{root_after}
+use Rattle.forest_roots.specs.Stump.{Stump, root_in, empty_roots}
+use Rattle.block_codec.specs.Block.{Block, block_hash_of}
 use Rattle.leaf_record.specs.Leaf.{Leaf}
 use Rattle.block_rules.specs.declared.chain.Chain.{Chain}
+use Rattle.block_rules.specs.declared.refusal.Refusal.{Refusal}
 use Rattle.block_rules.specs.declared.refusal.Refusal.TheVariants as Why
 use Rattle.block_rules.specs.declared.verdict.Verdict.{Verdict}
 use Rattle.block_rules.specs.declared.verdict.Verdict.TheVariants.{Refused, RolledBack, TooDeep, Stray}
+use Rattle.block_rules.specs.Blocks.{external, new_records}
+use Rattle.node_rules.specs.Messages.{targets}
 use Rattle.node_rules.specs.Accepting.{View}
-use Rattle.node_rules.specs.Judging.{Rules}
+use Rattle.node_rules.specs.Reading.{Handed, nothing, unread, read}
+use Rattle.node_rules.specs.Judging.{Rules, compact, refusal}
 use Rattle.node_rules.specs.Machine.{ChainEvent, BlockCame, RollbackCame, StrayCame, no_tip, height_of, verdict_over}
 
 -- what contracts see of `Node`: what it was told at the start, its chain, and the roots
@@ -42,6 +51,6 @@ own_view s = record { n = s.roots.leaves; roots = root_in s.roots; known = nothi
 -- no level is kept yet, so that only a rollback by no block is made
 abbrev pub verdict_on : (List ℕ → Digest) → (Leaf → List ℕ) → NodeState → ChainEvent → Verdict
 verdict_on H text s (BlockCame None handed) = Refused s.chain.blocks None Why.Block
-verdict_on H text s (BlockCame (Option.Some b) handed) = verdict_over H text s.rules s.chain (own_view s) b handed
+verdict_on H text s (BlockCame (Some b) handed) = verdict_over H text s.rules s.chain (own_view s) b handed
 verdict_on H text s (RollbackCame k) = if k == 0 then RolledBack 0 (height_of s.chain.blocks) s.chain.tip s.chain.leaves else TooDeep k 0
 verdict_on H text s StrayCame = Stray
