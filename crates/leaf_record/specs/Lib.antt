@@ -1,3 +1,4 @@
 pub mod Leaf
+pub mod History
 pub mod Reading
 pub mod Laws

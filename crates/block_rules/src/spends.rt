@@ -1,0 +1,77 @@
+//! What a block leaves to later rules.
+ghost use Rattle.std.specs.Prelude.{◌≡◌, ◌<◌, length, slice_get, Some};
+
+use crate::chain::{Found, Outside};
+use leaf_record::RecordView;
+use std::marker::Model;
+use uo_base::Net;
+
+/// What the rules on money ask of a transaction behind the coinbase; contracts see it as a bill.
+#[derive(Drop)]
+pub(crate) struct TxMoney {
+    /// What each of its inputs spends, where the block itself made it.
+    pub own: Vec<Option<Found>>,
+    /// The sum of its outputs.
+    pub makes: u128,
+}
+
+impl Model for TxMoney {
+    ghost use Rattle.block_rules.specs.Money.{Bill};
+
+    ghost Value = { Bill };
+
+    ghost view = { λ t. record { own = t.own.items; makes = t.makes } };
+}
+
+/// What a block that passes by itself leaves to later rules.
+#[derive(Drop)]
+pub struct Spends<'a> {
+    pub(crate) net: Net,
+    pub(crate) height: u32,
+    pub(crate) external: Vec<Outside>,
+    pub(crate) new: Vec<RecordView<'a>>,
+    // The sum of the coinbase's outputs.
+    pub(crate) claimed: u64,
+    // Of each transaction behind the coinbase.
+    pub(crate) bills: Vec<TxMoney>,
+}
+
+impl<'a> Model for Spends<'a> {
+    ghost use Rattle.block_rules.specs.Money.{BlockSpends};
+
+    ghost Value = { BlockSpends };
+
+    ghost view = { λ s. record {
+      net = s.net;
+      height = s.height;
+      external = s.external.items;
+      new = s.new.items;
+      claimed = s.claimed;
+      bills = s.bills.items;
+    } };
+}
+
+impl<'a> Spends<'a> {
+    /// The inputs that spend outputs of other blocks, in the order in which the block has them.
+    pub fn external(&self) -> &[Outside]
+        ensures { result.now ≡ self.now.external }
+    {
+        &self.external
+    }
+
+    /// How many records the block adds.
+    pub fn new_count(&self) -> u64
+        ensures { result ≡ length self.now.new }
+    {
+        self.new.len() as u64
+    }
+
+    /// The record that the block adds at a place, from 0, in the order of its transactions and outputs.
+    pub fn new_output(&self, i: u64) -> RecordView<'a>
+        requires { i < length self.now.new }
+        ensures { slice_get self.now.new i ≡ Some result }
+    {
+        let record = &self.new[i as usize];
+        record.rest().with_outpoint(record.txid, record.index)
+    }
+}
