@@ -1,5 +1,5 @@
 -- What holds of every block: the letter of the rules on internal inputs and on new records, and where value comes from.
-use Rattle.std.specs.Prelude.{◌≡◌, ◌≤◌, ◌+◌, ℕ, suc, List, [], ◌∷◌, ◌++◌, map, set, Option, Some, None, option_map, sum_by, if◌then◌else◌}
+use Rattle.std.specs.Prelude.{◌≡◌, ◌≤◌, ◌+◌, ℕ, suc, false, List, [], ◌∷◌, ◌++◌, map, set, Option, Some, None, option_map, sum_by, if◌then◌else◌}
 use Rattle.std.specs.Option.{option_or}
 use Rattle.uo_base.specs.declared.event.Net.{Net}
 use Rattle.uo_digest.specs.declared.digest.Digest.{Digest}

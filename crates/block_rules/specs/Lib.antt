@@ -4,3 +4,6 @@ pub mod Money
 pub mod Rules
 pub mod Judged
 pub mod Laws
+pub mod Keys
+pub mod Walk
+pub mod Seen

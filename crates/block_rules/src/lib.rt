@@ -15,11 +15,16 @@ mod chain;
 mod fault;
 mod issue;
 mod laws;
+mod made;
 mod money;
+mod outpoint;
 mod refusal;
 mod shape;
 mod spends;
+mod steps;
+mod sums;
 mod verdict;
+mod walk;
 
 pub use chain::{Chain, Found, Outside};
 pub use fault::RuleFault;

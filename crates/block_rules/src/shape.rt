@@ -4,10 +4,20 @@ ghost use Rattle.block_rules.specs.Judged.{ShapeJudged};
 
 use crate::chain::Chain;
 use crate::fault::RuleFault;
+use crate::made::Made;
+use crate::refusal::Refusal;
 use crate::spends::Spends;
+use crate::steps::{
+    coinbase_step, double_step, link_step, merkle_step, value_step, weight_step,
+};
+use crate::sums::output_sum;
+use crate::walk::{Walk, unspent, walk_over};
 use block_codec::BlockView;
+use leaf_record::RecordView;
 use std::alloc::Global;
-use uo_base::{Limits, Net};
+use uo_base::{Limits, Net, NoMemory};
+
+const MOST_BLOCKS: u32 = 2_147_483_648;
 
 /// Judges a block by itself, beside the chain that it is to extend. The rules are asked in this order, and the first that
 /// is broken is the answer: that it extends the tip, its merkle root, its weight, its coinbase, the values of its outputs,
@@ -23,5 +33,73 @@ pub fn shape_rules<'a>(
     requires blocks { chain.now.blocks ≤ 2 ^ 31 }
     ensures { ShapeJudged net limits chain.now block.now result }
 {
-    Err(RuleFault::NoMemory)
+    refuse(link_step(block, chain))?;
+    refuse(merkle_step(alloc, block)?)?;
+    refuse(weight_step(block))?;
+    refuse(coinbase_step(block))?;
+    refuse(value_step(block))?;
+    refuse(double_step(alloc, block)?)?;
+    full_step(alloc, block, chain, net, limits)
+}
+
+fn refuse(step: Option<Refusal>) -> Result<(), RuleFault> {
+    match step {
+        None => Ok(()),
+        Some(why) => Err(RuleFault::Refused(why)),
+    }
+}
+
+// There is a next height, and room for what the block adds.
+fn full_step<'a>(
+    alloc: Global,
+    block: &BlockView<'a>,
+    chain: &Chain,
+    net: Net,
+    limits: Limits,
+) -> Result<Spends<'a>, RuleFault> {
+    if chain.blocks >= MOST_BLOCKS {
+        return Err(RuleFault::Refused(Refusal::Full));
+    }
+    let spends = spends_at(alloc, block, chain.blocks, net)?;
+    if spends.new_count() > limits.leaves - chain.leaves {
+        return Err(RuleFault::Refused(Refusal::Full));
+    }
+    Ok(spends)
+}
+
+// What the block leaves to later rules.
+fn spends_at<'a>(
+    alloc: Global,
+    block: &BlockView<'a>,
+    height: u32,
+    net: Net,
+) -> Result<Spends<'a>, NoMemory> {
+    let Walk {
+        made,
+        spent,
+        external,
+        bills,
+    } = walk_over(alloc, block, height)?;
+    Ok(Spends {
+        net,
+        height,
+        external,
+        new: new_records(alloc, height, made, &spent)?,
+        claimed: output_sum(block.tx(0)) as u64,
+        bills,
+    })
+}
+
+// None at height 0.
+fn new_records<'a>(
+    alloc: Global,
+    height: u32,
+    made: Made<'a>,
+    spent: &[usize],
+) -> Result<Vec<RecordView<'a>>, NoMemory> {
+    if height == 0 {
+        Ok(Vec::new(alloc))
+    } else {
+        unspent(alloc, made.records, spent)
+    }
 }

@@ -1,0 +1,33 @@
+-- Sets and maps by outpoint.
+use Rattle.std.specs.Prelude.{◌≡◌, ℕ, List, Option, option_map}
+use Rattle.std.specs.List.{list_any}
+use Rattle.std.specs.declared.cmp.Ordering.{Ordering}
+use Rattle.std.specs.Ordering.{nat_cmp, ordering_then}
+use Rattle.std.specs.Cmp.Lexicographic.{slice_cmp}
+use Rattle.std.specs.BTreeMap as tree
+use Rattle.std.specs.BTreeMap.{BTreeMap}
+use Rattle.std.specs.BTreeSet as set
+use Rattle.std.specs.BTreeSet.{BTreeSet}
+use Rattle.leaf_record.specs.Leaf.{Outpoint}
+use Rattle.leaf_record.specs.History.{same_point, History, Entry, newest}
+use Rattle.block_rules.specs.declared.outpoint.OutpointKey.{OutpointKey}
+use Rattle.block_rules.specs.declared.made.Own.{Own}
+use Rattle.block_rules.specs.Money.{found_of}
+
+abbrev pub point_of : OutpointKey → Outpoint
+point_of key = record { txid = record { 0 = key.txid }; index = key.index }
+
+-- by id and then by index
+abbrev pub key_cmp : OutpointKey → OutpointKey → Ordering
+key_cmp a b = ordering_then (slice_cmp nat_cmp a.txid b.txid) (nat_cmp a.index b.index)
+
+-- the set has the keys of these outpoints, and no other
+abbrev pub HasPoints : BTreeSet OutpointKey → List Outpoint → Type 0
+HasPoints seen points = (key : OutpointKey) → set.contains key_cmp seen key ≡ list_any (same_point (point_of key)) points
+
+abbrev pub own_of : Entry → Own
+own_of e = record { number = e.number; found = found_of e.leaf.rest }
+
+-- the map tells the newest output of each outpoint
+abbrev pub IsIndex : BTreeMap OutpointKey Own → History → Type 0
+IsIndex index made = (key : OutpointKey) → tree.get key_cmp index key ≡ option_map own_of (newest (point_of key) made)
