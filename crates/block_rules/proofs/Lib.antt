@@ -3,3 +3,9 @@ pub mod Apart
 pub mod Latest
 pub mod Unspent
 pub mod Supplied
+pub mod Keyed
+pub mod Numbered
+pub mod Doubles
+pub mod Walking
+pub mod Spending
+pub mod Paid

@@ -10,7 +10,7 @@ use Rattle.block_rules.specs.declared.fault.RuleFault.{RuleFault}
 use Rattle.block_rules.specs.declared.fault.RuleFault.TheVariants.{Refused, NoMemory}
 use Rattle.block_rules.specs.Steps.{first_of}
 use Rattle.block_rules.specs.Money.{BlockSpends, spends_of, paid_by, fees, money_steps}
-use Rattle.block_rules.specs.Rules.{block_steps}
+use Rattle.block_rules.specs.Rules.{full_step, block_steps}
 
 -- no step fails, and this is what the block leaves to later rules
 pub record IsShaped (net : Net) (limits : Limits) (chain : Chain) (b : Block) (s : BlockSpends) : Type 0 where
@@ -22,6 +22,12 @@ abbrev pub ShapeJudged : Net → Limits → Chain → Block → Result BlockSpen
 ShapeJudged net limits chain b (Ok s) = IsShaped net limits chain b s
 ShapeJudged net limits chain b (Err (Refused why)) = first_of (block_steps limits chain b) ≡ Some why
 ShapeJudged net limits chain b (Err NoMemory) = Unit {0}
+
+-- of the last of these steps alone
+abbrev pub FullJudged : Net → Limits → Chain → Block → Result BlockSpends RuleFault → Type 0
+FullJudged net limits chain b (Ok s) = (full_step limits chain b ≡ None) × (s ≡ spends_of net chain.blocks b)
+FullJudged net limits chain b (Err (Refused why)) = full_step limits chain b ≡ Some why
+FullJudged net limits chain b (Err NoMemory) = Unit {0}
 
 -- no step fails, and this is the sum of the fees
 pub record IsPaidFor (s : BlockSpends) (found : List Found) (sum : ℕ) : Type 0 where

@@ -7,3 +7,4 @@ pub mod Laws
 pub mod Keys
 pub mod Walk
 pub mod Seen
+pub mod Paying

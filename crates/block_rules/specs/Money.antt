@@ -99,8 +99,12 @@ paid_by (bill ∷ bills) found = record { inputs = paid_from bill.own found; mak
 abbrev pub is_ripe : ℕ → Found → Bool
 is_ripe height found = not found.coinbase || nat_le (found.height + 100) height
 
+-- of the i-th input of transaction t
+abbrev pub unripe : ℕ → ℕ → ℕ → Found → Option Refusal
+unripe height t i found = unless (is_ripe height found) (Why.Immature t i)
+
 abbrev pub immature : ℕ → ℕ → Paid → Option Refusal
-immature height t paid = first_from 0 (λ i found. unless (is_ripe height found) (Why.Immature t i)) paid.inputs
+immature height t paid = first_from 0 (unripe height t) paid.inputs
 
 abbrev pub pays : Paid → ℕ
 pays paid = sum_by (λ found. found.amount) paid.inputs

@@ -4,7 +4,7 @@ use Rattle.std.specs.List.{list_any}
 use Rattle.std.specs.Option.{option_or}
 use Rattle.uo_base.specs.declared.event.Limits.{Limits}
 use Rattle.uo_digest.specs.declared.digest.Digest.{Digest}
-use Rattle.tx_codec.specs.Transaction.{Input, Transaction}
+use Rattle.tx_codec.specs.Transaction.{Input, Output, Transaction}
 use Rattle.block_codec.specs.declared.merkle_tree.MerkleOutcome.{MerkleOutcome}
 use Rattle.block_codec.specs.declared.merkle_tree.MerkleOutcome.TheVariants.{Root, Repeated}
 use Rattle.block_codec.specs.Block.{Block, txids_of, weight_of}
@@ -35,9 +35,12 @@ abbrev pub coinbase_fault : List Transaction → Option ℕ
 coinbase_fault [] = None
 coinbase_fault (coinbase ∷ txs) = option_or (unless (is_coinbase coinbase.inputs) 0) (first_from 1 (λ t tx. unless (has_no_null tx) t) txs)
 
+abbrev pub has_too_much : Output → Bool
+has_too_much output = nat_lt most_money output.amount
+
 -- no output, and no sum of a transaction's outputs, is more than all money
 abbrev pub has_value : Transaction → Bool
-has_value tx = not (list_any (λ output. nat_lt most_money output.amount) tx.outputs) && nat_le (output_sum tx) most_money
+has_value tx = not (list_any has_too_much tx.outputs) && nat_le (output_sum tx) most_money
 
 abbrev pub value_fault : List Transaction → Option ℕ
 value_fault txs = first_from 0 (λ t tx. unless (has_value tx) t) txs
@@ -56,6 +59,9 @@ merkle_step root (Repeated level place) = Some (Why.MerkleRepeated level place)
 abbrev pub has_room : Limits → Chain → ℕ → Bool
 has_room limits chain count = nat_lt chain.blocks (2 ^ 31) && nat_le (chain.leaves + count) limits.leaves
 
+abbrev pub full_step : Limits → Chain → Block → Option Refusal
+full_step limits chain b = unless (has_room limits chain (length (new_records b chain.blocks))) Why.Full
+
 -- the steps that look at the block alone, in their order, one a line
 abbrev pub block_steps : Limits → Chain → Block → List (Option Refusal)
 block_steps limits chain b =
@@ -65,5 +71,5 @@ block_steps limits chain b =
     ∷ option_map Why.Coinbase (coinbase_fault b.txs)
     ∷ option_map Why.Value (value_fault b.txs)
     ∷ double [] (placed_of 0 b.txs)
-    ∷ unless (has_room limits chain (length (new_records b chain.blocks))) Why.Full
+    ∷ full_step limits chain b
     ∷ []

@@ -9,16 +9,16 @@ use Rattle.block_rules.specs.Blocks.{Placed, placed_from}
 use Rattle.block_rules.specs.Rules.{double}
 use Rattle.block_rules.specs.Keys.{HasPoints}
 
--- behind these inputs, those that follow are judged over what the set has then
-pub record GoesOn (before : List Outpoint) (placed more : List Placed) (seen : BTreeSet OutpointKey) : Type 0 where
+-- the first double of these inputs is that of the rest, over what the set has then
+pub record Reaches (before : List Outpoint) (whole rest : List Placed) (seen : BTreeSet OutpointKey) : Type 0 where
   pub points : List Outpoint
   pub has : HasPoints seen points
-  pub same : double before (placed ++ more) ≡ double points more
+  pub same : double before whole ≡ double points rest
 
--- the first input that was seen before, or none
+-- the first input that was seen before; where there is none, those that follow are judged over what the set has then
 abbrev pub SeesAt : ℕ → List Outpoint → List Placed → List Placed → Option ℕ → BTreeSet OutpointKey → Type 0
-SeesAt t before placed more (Some i) seen = double before (placed ++ more) ≡ Some (Why.Double t i)
-SeesAt t before placed more None seen = GoesOn before placed more seen
+SeesAt t before whole more (Some i) seen = double before whole ≡ Some (Why.Double t i)
+SeesAt t before whole more None seen = Reaches before whole more seen
 
 abbrev pub Sees : BTreeSet OutpointKey → List Input → Option ℕ → BTreeSet OutpointKey → Type 0
-Sees old inputs found new = (t : ℕ) (before : List Outpoint) (more : List Placed) → HasPoints old before → SeesAt t before (placed_from t 0 inputs) more found new
+Sees old inputs found new = (t : ℕ) (before : List Outpoint) (more : List Placed) → HasPoints old before → SeesAt t before (placed_from t 0 inputs ++ more) more found new

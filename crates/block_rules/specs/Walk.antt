@@ -1,5 +1,5 @@
 -- One walk over a block in which no outpoint is spent twice: nothing is taken away on the way, and what is spent is noted.
-use Rattle.std.specs.Prelude.{ℕ, suc, false, List, [], ◌∷◌, ◌++◌, map, Option, Some, None, option_map}
+use Rattle.std.specs.Prelude.{ℕ, zero, suc, false, List, [], ◌∷◌, ◌++◌, map, Option, Some, None, option_map}
 use Rattle.uo_digest.specs.declared.digest.Digest.{Digest}
 use Rattle.tx_codec.specs.Transaction.{Input, Transaction}
 use Rattle.leaf_record.specs.Leaf.{Leaf}
@@ -10,6 +10,7 @@ use Rattle.block_rules.specs.declared.made.Maker.{Maker}
 use Rattle.block_rules.specs.declared.walk.Walk.{Walk}
 use Rattle.block_rules.specs.Blocks.{outpoint_of, Origin, made_by, made_first, others}
 use Rattle.block_rules.specs.Money.{Bill, output_sum}
+use Rattle.block_rules.specs.Laws.{spent_in_order}
 use Rattle.block_rules.specs.Keys.{own_of}
 
 abbrev pub origin_at : Maker → Origin
@@ -66,3 +67,8 @@ walked hash height txs = walked_from hash height 1 (others txs) (walked_first ha
 
 abbrev pub seen : Walk → Walked
 seen w = record { made = w.made.records.items; spent = w.spent.items; outsides = w.external.items; bills = w.bills.items }
+
+-- what is new at a height: nothing at height 0, else what is left once those of these numbers are spent
+abbrev pub new_at : ℕ → List ℕ → History → List Leaf
+new_at zero spent made = []
+new_at (suc h) spent made = somes (spent_in_order spent made)

@@ -72,17 +72,32 @@ impl<'a> Made<'a> {
     {
         let mut index = 0;
         for output in tx.outputs() {
-            if is_spendable(&output) {
-                self.push(record_of(maker, index, &output))?;
-            }
+            self.add_output(maker, index, &output)?;
             index += 1;
+        }
+        Ok(())
+    }
+
+    fn add_output(
+        &mut self,
+        maker: &Maker,
+        index: u32,
+        output: &OutView<'a>,
+    ) -> Result<(), NoMemory>
+        requires height { maker.now.height < 2 ^ 31 }
+        requires index { IsIndex self.old.newest self.old.records.items }
+        ensures added { OnOk result (self.new.records.items ≡ self.old.records.items ++ map Some (made_from (origin_at maker.now) index (output_of output.now ∷ []))) }
+        ensures index { OnOk result (IsIndex self.new.newest self.new.records.items) }
+    {
+        if is_spendable(output) {
+            self.push(record_of(maker, index, output))?;
         }
         Ok(())
     }
 
     fn push(&mut self, leaf: RecordView<'a>) -> Result<(), NoMemory>
         requires { IsIndex self.old.newest self.old.records.items }
-        ensures pushed { OnOk result (self.new.records.items ≡ self.old.records.items ++ Some leaf ∷ []) }
+        ensures pushed { OnOk result (self.new.records.items ≡ self.old.records.items ++ Some leaf.entry ∷ []) }
         ensures index { OnOk result (IsIndex self.new.newest self.new.records.items) }
     {
         let own = Own {

@@ -1,6 +1,11 @@
 //! The rules that look at a block by itself.
-ghost use Rattle.std.specs.Prelude.{◌≡◌, ◌≤◌, ◌^◌};
-ghost use Rattle.block_rules.specs.Judged.{ShapeJudged};
+ghost use Rattle.std.specs.Prelude.{◌≡◌, ◌<◌, ◌≤◌, ◌^◌, [], length, None, Some, IfOk, IfErr, OnOk};
+ghost use Rattle.std.specs.List.{AllByRecursion};
+ghost use Rattle.block_rules.specs.Blocks.{placed_of};
+ghost use Rattle.block_rules.specs.Judged.{ShapeJudged, FullJudged};
+ghost use Rattle.block_rules.specs.Money.{spends_of};
+ghost use Rattle.block_rules.specs.Rules.{value_fault, double};
+ghost use Rattle.block_rules.specs.Walk.{new_at};
 
 use crate::chain::Chain;
 use crate::fault::RuleFault;
@@ -33,6 +38,8 @@ pub fn shape_rules<'a>(
     requires blocks { chain.now.blocks ≤ 2 ^ 31 }
     ensures { ShapeJudged net limits chain.now block.now result }
 {
+    // A block has a transaction.
+    let _text = block.bytes();
     refuse(link_step(block, chain))?;
     refuse(merkle_step(alloc, block)?)?;
     refuse(weight_step(block))?;
@@ -42,7 +49,10 @@ pub fn shape_rules<'a>(
     full_step(alloc, block, chain, net, limits)
 }
 
-fn refuse(step: Option<Refusal>) -> Result<(), RuleFault> {
+fn refuse(step: Option<Refusal>) -> Result<(), RuleFault>
+    ensures ok { OnOk result (step ≡ None) }
+    ensures err { IfErr result (λ fault. (why : Refusal) × (step ≡ Some why) × (fault ≡ RuleFault.Refused why)) }
+{
     match step {
         None => Ok(()),
         Some(why) => Err(RuleFault::Refused(why)),
@@ -56,7 +66,14 @@ fn full_step<'a>(
     chain: &Chain,
     net: Net,
     limits: Limits,
-) -> Result<Spends<'a>, RuleFault> {
+) -> Result<Spends<'a>, RuleFault>
+    requires leaves { chain.now.leaves ≤ limits.leaves }
+    requires blocks { chain.now.blocks ≤ 2 ^ 31 }
+    requires some { 0 < length block.now.txs }
+    requires value { value_fault block.now.txs ≡ None }
+    requires single { double [] (placed_of 0 block.now.txs) ≡ None }
+    ensures { FullJudged net limits chain.now block.now result }
+{
     if chain.blocks >= MOST_BLOCKS {
         return Err(RuleFault::Refused(Refusal::Full));
     }
@@ -73,7 +90,13 @@ fn spends_at<'a>(
     block: &BlockView<'a>,
     height: u32,
     net: Net,
-) -> Result<Spends<'a>, NoMemory> {
+) -> Result<Spends<'a>, NoMemory>
+    requires height { height < 2 ^ 31 }
+    requires some { 0 < length block.now.txs }
+    requires value { value_fault block.now.txs ≡ None }
+    requires single { double [] (placed_of 0 block.now.txs) ≡ None }
+    ensures { IfOk result (λ spends. spends ≡ spends_of net height block.now) }
+{
     let Walk {
         made,
         spent,
@@ -96,7 +119,10 @@ fn new_records<'a>(
     height: u32,
     made: Made<'a>,
     spent: &[usize],
-) -> Result<Vec<RecordView<'a>>, NoMemory> {
+) -> Result<Vec<RecordView<'a>>, NoMemory>
+    requires { AllByRecursion (λ n. n < length made.records.items) spent.now }
+    ensures { IfOk result (λ new. new.items ≡ new_at height spent.now made.entry.records.items) }
+{
     if height == 0 {
         Ok(Vec::new(alloc))
     } else {

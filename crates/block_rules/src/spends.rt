@@ -20,7 +20,11 @@ impl Model for TxMoney {
 
     ghost Value = { Bill };
 
+    ghost use Rattle.std.specs.Prelude.{◌<◌, ◌^◌, length};
+
     ghost view = { λ t. record { own = t.own.items; makes = t.makes } };
+
+    ghost invariant = { λ t. length t.own.items < 2 ^ 32 };
 }
 
 /// What a block that passes by itself leaves to later rules.
@@ -49,6 +53,10 @@ impl<'a> Model for Spends<'a> {
       claimed = s.claimed;
       bills = s.bills.items;
     } };
+
+    ghost use Rattle.block_rules.specs.Paying.{IsCounted};
+
+    ghost invariant = { λ s. IsCounted s.bills.items s.external.items };
 }
 
 impl<'a> Spends<'a> {

@@ -6,7 +6,7 @@ ghost use Rattle.block_codec.specs.Block.{txids_of, weight_of};
 ghost use Rattle.block_codec.specs.Merkle.{is_same, merkle_of};
 ghost use Rattle.block_rules.specs.Blocks.{placed_of};
 ghost use Rattle.block_rules.specs.Steps.{unless};
-ghost use Rattle.block_rules.specs.Rules.{merkle_step, is_null, is_coinbase, has_value, coinbase_fault, value_fault, double};
+ghost use Rattle.block_rules.specs.Rules.{merkle_step, is_null, is_coinbase, has_too_much, has_value, coinbase_fault, value_fault, double};
 ghost use Rattle.block_rules.specs.Seen.{Sees};
 
 use crate::chain::Chain;
@@ -100,7 +100,12 @@ fn is_coinbase(tx: &TxView<'_>) -> bool
 fn has_null(tx: &TxView<'_>) -> bool
     ensures { result ≡ list_any is_null tx.now.inputs }
 {
-    tx.inputs().any(|input| is_null(&input))
+    for input in tx.inputs() {
+        if is_null(&input) {
+            return true;
+        }
+    }
+    false
 }
 
 fn is_null(input: &InView<'_>) -> bool
@@ -124,8 +129,19 @@ pub(crate) fn value_step(block: &BlockView<'_>) -> Option<Refusal>
 fn has_value(tx: &TxView<'_>) -> bool
     ensures { result ≡ has_value tx.now }
 {
-    !tx.outputs().any(|output| output.amount > MOST_MONEY)
-        && output_sum(tx) <= u128::from(MOST_MONEY)
+    !has_too_much(tx) && output_sum(tx) <= u128::from(MOST_MONEY)
+}
+
+// An output is more than all money.
+fn has_too_much(tx: &TxView<'_>) -> bool
+    ensures { result ≡ list_any has_too_much tx.now.outputs }
+{
+    for output in tx.outputs() {
+        if output.amount > MOST_MONEY {
+            return true;
+        }
+    }
+    false
 }
 
 /// No input has the outpoint of an earlier one.

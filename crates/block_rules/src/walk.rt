@@ -6,7 +6,7 @@ ghost use Rattle.leaf_record.specs.History.{somes};
 ghost use Rattle.block_rules.specs.Blocks.{made_from};
 ghost use Rattle.block_rules.specs.Keys.{IsIndex};
 ghost use Rattle.block_rules.specs.Laws.{spent_in_order};
-ghost use Rattle.block_rules.specs.Walk.{owns_in, numbers_in, outsides_from, origin_at, walked_on, walked_first, walked, seen};
+ghost use Rattle.block_rules.specs.Walk.{owns_in, numbers_in, outside_if, outsides_from, origin_at, walked_on, walked_first, walked, seen};
 
 use crate::chain::{Found, Outside};
 use crate::made::{Made, Maker, Own};
@@ -41,7 +41,8 @@ pub(crate) fn walk_over<'a>(
 ) -> Result<Walk<'a>, NoMemory>
     requires some { 0 < length block.now.txs }
     requires height { height < 2 ^ 31 }
-    ensures { IfOk result (λ walk. seen walk ≡ walked (block_hash_of block.now) height block.now.txs) }
+    ensures walked { IfOk result (λ walk. seen walk ≡ walked (block_hash_of block.now) height block.now.txs) }
+    ensures few { OnOk result (length block.now.txs < 2 ^ 32) }
 {
     let hash = block_hash(block);
     let mut walk = begin(alloc, block, hash, height)?;
@@ -115,12 +116,14 @@ fn owns_of(
     tx: &TxView<'_>,
 ) -> Result<Vec<Option<Own>>, NoMemory>
     requires { IsIndex made.now.newest made.now.records.items }
-    ensures { IfOk result (λ owns. owns.items ≡ owns_in tx.now.inputs made.now.records.items) }
+    ensures owns { IfOk result (λ owns. owns.items ≡ owns_in tx.now.inputs made.now.records.items) }
+    ensures few { length tx.now.inputs < 2 ^ 32 }
 {
-    Ok(tx
-        .inputs()
-        .map(|input| made.find(key_of_input(&input)))
-        .collect(alloc)?)
+    let mut owns = Vec::new(alloc);
+    for input in tx.inputs() {
+        owns.push(made.find(key_of_input(&input)))?;
+    }
+    Ok(owns)
 }
 
 fn found_in(alloc: Global, owns: &[Option<Own>]) -> Result<Vec<Option<Found>>, NoMemory>
@@ -136,9 +139,16 @@ fn put_spent(spent: &mut Vec<usize>, owns: &[Option<Own>]) -> Result<(), NoMemor
     ensures { OnOk result (spent.new.items ≡ spent.old.items ++ numbers_in owns.now) }
 {
     for own in owns {
-        if let Some(own) = own {
-            spent.push(own.number)?;
-        }
+        put_number(spent, own)?;
+    }
+    Ok(())
+}
+
+fn put_number(spent: &mut Vec<usize>, own: &Option<Own>) -> Result<(), NoMemory>
+    ensures { OnOk result (spent.new.items ≡ spent.old.items ++ numbers_in (own.now ∷ [])) }
+{
+    if let Some(own) = own {
+        spent.push(own.number)?;
     }
     Ok(())
 }
@@ -155,15 +165,27 @@ fn put_external(
 {
     let mut i = 0;
     for input in tx.inputs() {
-        if owns[i as usize].is_none() {
-            external.push(Outside {
-                tx: t,
-                input: i,
-                txid: input.txid,
-                index: input.index,
-            })?;
-        }
+        let outside = Outside {
+            tx: t,
+            input: i,
+            txid: input.txid,
+            index: input.index,
+        };
+        put_outside(external, outside, &owns[i as usize])?;
         i += 1;
+    }
+    Ok(())
+}
+
+fn put_outside(
+    external: &mut Vec<Outside>,
+    outside: Outside,
+    own: &Option<Own>,
+) -> Result<(), NoMemory>
+    ensures { OnOk result (external.new.items ≡ external.old.items ++ outside_if outside own.now []) }
+{
+    if own.is_none() {
+        external.push(outside)?;
     }
     Ok(())
 }
@@ -175,7 +197,7 @@ pub(crate) fn unspent<'a>(
     spent: &[usize],
 ) -> Result<Vec<RecordView<'a>>, NoMemory>
     requires { AllByRecursion (λ n. n < length records.items) spent.now }
-    ensures { IfOk result (λ new. new.items ≡ somes (spent_in_order spent.now records.items)) }
+    ensures { IfOk result (λ new. new.items ≡ somes (spent_in_order spent.now records.entry.items)) }
 {
     for number in spent {
         records[*number] = None;
@@ -187,13 +209,23 @@ fn live<'a>(
     alloc: Global,
     records: Vec<Option<RecordView<'a>>>,
 ) -> Result<Vec<RecordView<'a>>, NoMemory>
-    ensures { IfOk result (λ new. new.items ≡ somes records.items) }
+    ensures { IfOk result (λ new. new.items ≡ somes records.entry.items) }
 {
     let mut new = Vec::new(alloc);
     for record in records {
-        if let Some(record) = record {
-            new.push(record)?;
-        }
+        put_live(&mut new, record)?;
     }
     Ok(new)
+}
+
+fn put_live<'a>(
+    new: &mut Vec<RecordView<'a>>,
+    live: Option<RecordView<'a>>,
+) -> Result<(), NoMemory>
+    ensures { OnOk result (new.new.items ≡ new.old.items ++ somes (live.entry ∷ [])) }
+{
+    if let Some(leaf) = live {
+        new.push(leaf)?;
+    }
+    Ok(())
 }
