@@ -8,8 +8,8 @@ ghost use Rattle.proof_shape.specs.Shape.{has_number, AreWithin, HasOneAbove, Ha
 use crate::order::contains;
 use forest_place::{Place, parent, position};
 
-// Whether a place of the forest is a slot's root.
-pub(crate) fn is_root(n: u64, place: Place) -> bool
+/// Whether a place of the forest is a slot's root.
+pub fn is_root(n: u64, place: Place) -> bool
     requires small { n < 2 ^ 40 }
     requires within { InForest n place.row place.off }
     ensures { result ≡ is_root_at n place.row place.off }

@@ -16,5 +16,7 @@ mod targets;
 mod tests;
 mod wrong;
 
+pub use above::is_root;
 pub use fault::ShapeFault;
+pub use order::positions_of;
 pub use targets::Targets;

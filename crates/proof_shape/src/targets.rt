@@ -1,13 +1,13 @@
 //! The targets of a deletion.
-ghost use Rattle.std.specs.Prelude.{◌≡◌, ◌↔◌, ◌⊎◌, ◌^◌, ◌<◌, MatchResult, length, true};
+ghost use Rattle.std.specs.Prelude.{◌≡◌, ◌↔◌, ◌⊎◌, ◌^◌, ◌<◌, IfOk, MatchResult, length, true};
 
 use crate::ShapeFault;
 use crate::locate::locate;
 use crate::moves::moved_from;
-use crate::survey::{covered_positions, needed_places};
+use crate::survey::{covered_places, covered_positions, needed_places};
 use crate::wrong::{fault_at, sound_length};
 use forest_place::Place;
-use std::alloc::Global;
+use std::alloc::{AllocError, Global};
 use std::marker::Model;
 
 /// Targets of a deletion: different places of a forest, of which none stands above another.
@@ -40,6 +40,7 @@ impl Targets {
     ghost use Rattle.proof_shape.specs.Moves.{IsBeneathTarget};
     ghost use Rattle.proof_shape.specs.Laws.{WhatStaysGoes, EntryGoes};
     ghost use Rattle.proof_shape.specs.Shape.{AreTargets, IsFault};
+    ghost use Rattle.proof_shape.specs.Survey.{IsCoverOf};
     ghost use Rattle.proof_shape.specs.Targeted.{IsTargeted};
     ghost use Rattle.proof_shape.specs.Found.{place_in};
 
@@ -92,6 +93,20 @@ impl Targets {
         ensures { result ≡ place_in self.now.targets i }
     {
         self.list[i as usize]
+    }
+
+    /// All targets, in that order.
+    pub fn places(&self) -> &[Place]
+        ensures { result.now ≡ self.now.targets }
+    {
+        &self.list
+    }
+
+    /// The covered places, which are the targets and all places above them, in ascending position.
+    pub fn covered(&self, alloc: Global) -> Result<Vec<Place>, AllocError>
+        ensures { IfOk result (λ v. IsCoverOf self.now.leaves self.now.targets v.items) }
+    {
+        covered_places(alloc, self.count, &self.list)
     }
 
     /// The places whose digests a proof of the targets has to give, in ascending position.

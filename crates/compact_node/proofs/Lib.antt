@@ -1,0 +1,4 @@
+pub mod Additions
+pub mod Deletions
+pub mod Views
+pub mod Refining

@@ -1,0 +1,48 @@
+use Rattle.std.proofs.Common.{◌≡◌, ℕ, suc, ◌-◌, ◌<◌, ◌≤◌, false, length, Some, sym, ap, ◌∙◌, subst, arith}
+use Rattle.forest_place.specs.declared.place.Place.{Place}
+use Rattle.forest_place.specs.Forest.{InForest}
+use Rattle.proof_shape.specs.Found.{place_in}
+use Rattle.proof_shape.specs.Swept.{is_top}
+use Rattle.proof_verify.specs.Going.{goes_at, IsSent}
+use Rattle.proof_verify.specs.Origins.{number_at}
+use Rattle.proof_verify.proofs.Sends.{IfSome-from, inside, parent_later, sent_gone, sent_top, sent_child}
+use Rattle.proof_verify.proofs.going.send.Goals as goal
+use Rattle.proof_verify.proofs.going.send.Goals.{then-gone-i, else-gone-i+then-is_root, else-gone-i+else-is_root}
+
+pub is_root-requires-clause-within : goal.is_root-requires-clause-within
+is_root-requires-clause-within c =
+    inside c.args.n c.args.covered.now c.requires.within c.requires.rises c.args.origins.now c.args.parents.now c.requires.linked (c.loop-i.i - 1) (omega (arith, c.loop-i.invariant.0, c.loop-i-test.true))
+
+pub child_of-requires-clause-within : goal.child_of-requires-clause-within
+child_of-requires-clause-within c =
+    let n = c.args.n in
+    let cs = c.args.covered.now in
+    let i = c.loop-i.i - 1 in
+    let lt : i < length cs = omega (arith, c.loop-i.invariant.0, c.loop-i-test.true) in
+    let other : is_top n (place_in cs i) ≡ false = sym c.is_root.ensures ∙ c.if-is_root.false in
+    let a = number_at c.args.parents.now i in
+    let later : i < a = parent_later n cs c.requires.within c.requires.rises c.args.origins.now c.args.parents.now c.requires.linked i lt other in
+    let k = c.requires.linked i lt other in
+    IfSome-from (λ (q : Place). InForest n q.row q.off × (0 < q.row)) (goes_at c.loop-i.goes a) (λ q e.
+    let w = c.loop-i.invariant.1.within a (omega (arith, later, c.loop-i-test.true)) k.there q e in
+    let row : (place_in cs a).row ≡ suc (place_in cs i).row = ap (λ (x : Place). x.row) k.above in
+    (w.0, omega (arith, w.1, row)))
+
+pub loop-i-preserved : goal.loop-i-preserved
+loop-i-preserved c =
+    let n = c.args.n in
+    let cs = c.args.covered.now in
+    let os = c.args.origins.now in
+    let ps = c.args.parents.now in
+    let gone = c.args.gone.now in
+    let j = c.loop-i.i - 1 in
+    let lt : j < length cs = omega (arith, c.loop-i.invariant.0, c.loop-i-test.true) in
+    let e : c.loop-i.i ≡ suc j = omega (arith, c.loop-i-test.true) in
+    let s = subst (λ k. IsSent n cs os ps gone k c.loop-i.goes) e c.loop-i.invariant.1 in
+    (omega (arith, lt), elim c.if-gone-i.branch [
+      | then-gone-i w ↦ sent_gone n cs c.requires.within c.requires.rises os ps c.requires.linked gone c.loop-i.goes j c.if-gone-i.goes lt s w.if-gone-i.true w.goes-is
+      | else-gone-i+then-is_root w ↦ sent_top n cs c.requires.within c.requires.rises os ps c.requires.linked gone c.loop-i.goes j c.if-gone-i.goes lt s w.if-gone-i.false (sym w.is_root.ensures ∙ w.if-is_root.true) w.goes-is
+      | else-gone-i+else-is_root w ↦
+          sent_child n cs c.requires.within c.requires.rises os ps c.requires.linked gone c.loop-i.goes j c.if-gone-i.goes lt w.is_other_gone-alone.result s w.if-gone-i.false (sym w.is_root.ensures ∙ w.if-is_root.false)
+          w.is_other_gone-alone.ensures (w.goes-is ∙ w.child_of.ensures.is) (rw w.goes-is w.child_of.ensures.within)
+    ])

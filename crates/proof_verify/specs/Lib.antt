@@ -1,0 +1,8 @@
+pub mod Verified
+pub mod Origins
+pub mod Going
+pub mod Landings
+pub mod Nodes
+pub mod Judged
+pub mod Checked
+pub mod Room
