@@ -47,7 +47,7 @@ after-append : {S E : Type 0} (next : S → E → S) (s : S) (es fs : List E) �
 after-append next s [] fs = refl
 after-append next s (e ∷ es) fs = after-append next (next s e) es fs
 
-written-append : {S E : Type 0} (next : S → E → S) (piece : S → E → List ℕ) (s : S) (es fs : List E)
+pub written-append : {S E : Type 0} (next : S → E → S) (piece : S → E → List ℕ) (s : S) (es fs : List E)
     → written next piece s (es ++ fs) ≡ written next piece s es ++ written next piece (after next s es) fs
 written-append next piece s [] fs = refl
 written-append next piece s (e ∷ es) fs =

@@ -1,4 +1,5 @@
 pub mod FollowLemmas
+pub mod FullSetLaws
 pub mod OptionLaws
 pub mod RunLemmas
 pub mod Singles
