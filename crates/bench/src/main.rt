@@ -5,16 +5,16 @@ ghost use Rattle.std.specs.Prelude.{◌≡◌, ◌<◌};
 
 mod codecs;
 mod digests;
-mod feeds;
 mod forest;
+mod hash;
 mod messages;
 mod rate;
 mod targets;
 
 use crate::codecs::measure_codecs;
 use crate::digests::measure_digests;
-use crate::feeds::{hash_input, write_feed};
 use crate::forest::measure_forest;
+use crate::hash::hash_input;
 use crate::messages::measure_messages;
 use crate::targets::measure_targets;
 use std::marker::Brand;
@@ -25,7 +25,6 @@ use std::{env, io};
 const USAGE: &str =
     "bench codecs    megabytes per second of reading transactions, of their ids and of merkle trees
 bench digests   digests per second, beside bare SHA-512/256
-bench feed      writes a feed of one block of the most bytes that is accepted
 bench forest    microseconds of a million additions and of a million positions
 bench hash      megabytes per second of SHA-256 twice over standard input
 bench messages  nanoseconds of reading a proof message, and all of its parts
@@ -40,7 +39,6 @@ fn main(rt: HostRuntime) -> io::Result<()> {
     match word.as_str() {
         "codecs" => measure_codecs(&rt),
         "digests" => measure_digests::<Brand, HostRuntime>(&rt, Blank::new(1)),
-        "feed" => write_feed(&rt),
         "messages" => measure_messages(&rt),
         "forest" => measure_forest::<HostRuntime, Brand>(&rt, Blank::new(1)),
         "targets" => measure_targets(&rt),

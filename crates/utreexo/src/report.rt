@@ -13,11 +13,16 @@ use std::alloc::{AllocError, Global};
 use block_rules::Verdict;
 use uo_base::{NoMemory, Sink, put_all};
 
+/// As long as most lines are.
+const ROOM: usize = 128;
+
 // A line with its end.
 fn text_of(alloc: Global, line: Line) -> Result<String, AllocError>
     ensures { IfOk result (λ text. string_bytes text ≡ whole_line line) }
 {
-    format!(in alloc; "{line}\n")
+    let mut text = String::with_capacity(alloc, ROOM)?;
+    writeln!(text, "{line}")?;
+    Ok(text)
 }
 
 /// Appends the line of a verdict, with the byte that ends it. Where there is no memory, the text stays as it was.
