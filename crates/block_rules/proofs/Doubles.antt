@@ -1,5 +1,5 @@
 -- Doubles are found by a set of the outpoints so far.
-use Rattle.std.proofs.Common.{◌≡◌, ℕ, suc, ◌+◌, Bool, true, false, List, [], ◌∷◌, ◌++◌, drop, Option, Some, None, refl, sym, ap, ◌∙◌, subst, add-one}
+use Rattle.std.proofs.Common.{◌≡◌, ℕ, suc, ◌+◌, true, false, List, [], ◌∷◌, ◌++◌, drop, Some, None, sym, ap, ◌∙◌, subst, add-one}
 use Rattle.std.specs.Prelude.{not, slice_get}
 use Rattle.std.specs.List.{list_any}
 use Rattle.std.specs.Option.{option_or}
@@ -14,7 +14,7 @@ use Rattle.block_rules.specs.Steps.{unless}
 use Rattle.block_rules.specs.Blocks.{outpoint_of, Placed, placed_from, placed_of}
 use Rattle.block_rules.specs.Rules.{double}
 use Rattle.block_rules.specs.Keys.{point_of, key_cmp, HasPoints}
-use Rattle.block_rules.specs.Seen.{Reaches, SeesAt, Sees}
+use Rattle.block_rules.specs.Seen.{Reaches, Sees}
 use Rattle.block_rules.proofs.Keyed.{points_put}
 use Rattle.block_rules.proofs.Numbered.{drop-get}
 

@@ -1,6 +1,6 @@
 -- Sets and maps by outpoint: what an insertion does.
-use Rattle.std.proofs.Common.{◌≡◌, ℕ, Bool, true, false, cond, eqb, List, [], ◌∷◌, ◌++◌, length, Option, Some, None, refl, sym, ap, ◌∙◌, ap₂, ⊎_elim, arith}
-use Rattle.std.specs.Prelude.{◌&&◌, ◌||◌, ◌==◌, not, nat_lt, option_map, bytes_eq, if◌then◌else◌}
+use Rattle.std.proofs.Common.{◌≡◌, ℕ, Bool, true, false, cond, List, [], ◌∷◌, ◌++◌, length, Some, refl, sym, ap, ◌∙◌, ap₂, ⊎_elim, arith}
+use Rattle.std.specs.Prelude.{◌&&◌, ◌||◌, ◌==◌, not, nat_lt, option_map, if◌then◌else◌}
 use Rattle.std.specs.List.{list_any}
 use Rattle.std.specs.declared.cmp.Ordering.{Ordering}
 use Rattle.std.specs.declared.cmp.Ordering.TheVariants.{Less, Equal, Greater}
@@ -13,7 +13,7 @@ use Rattle.std.specs.BTreeSet.{BTreeSet}
 use Rattle.std.proofs.lemmas.Bool.{cases_Bool, eqb-true, ltb-true}
 use Rattle.std.proofs.lemmas.Map.Text.{is_eq-slice_cmp}
 use Rattle.leaf_record.specs.Leaf.{Outpoint, Leaf}
-use Rattle.leaf_record.specs.History.{same_point, History, Entry, newest}
+use Rattle.leaf_record.specs.History.{same_point, History, newest}
 use Rattle.leaf_record.proofs.HistoryLaws.{same_point-true, same_point-same, newest-pushed}
 use Rattle.block_rules.specs.declared.outpoint.OutpointKey.{OutpointKey}
 use Rattle.block_rules.specs.declared.made.Own.{Own}

@@ -1,9 +1,9 @@
 -- Input by input, and what is counted of a block.
-use Rattle.std.proofs.Common.{◌≡◌, ℕ, zero, suc, ◌+◌, ◌<◌, ◌≤◌, ◌^◌, Bool, true, false, cond, List, [], ◌∷◌, ◌++◌, map, drop, filter, length, Option, Some, None, refl, sym, ap, ◌∙◌, subst, ap₂, ⊎_elim, arith, add-one, sum_by, count_by}
-use Rattle.std.specs.Prelude.{slice_get, is_none, option_map, not, ◌&&◌, nat_le}
+use Rattle.std.proofs.Common.{◌≡◌, ℕ, zero, suc, ◌+◌, ◌<◌, ◌≤◌, ◌^◌, false, cond, List, [], ◌∷◌, ◌++◌, map, drop, length, Option, Some, None, refl, sym, ap, ◌∙◌, subst, arith, add-one}
+use Rattle.std.specs.Prelude.{slice_get, is_none, option_map, not, nat_le}
 use Rattle.std.specs.List.{flat_map, AllByRecursion, list_any}
 use Rattle.std.specs.Option.{option_or}
-use Rattle.std.proofs.lemmas.Bool.{cases_Bool, and_parts, leb-true}
+use Rattle.std.proofs.lemmas.Bool.{and_parts, leb-true}
 use Rattle.std.proofs.lemmas.List.{length-append, length-map}
 use Rattle.std.proofs.lemmas.List.Sums.{sum_by-cons, sum_by-append}
 use Rattle.std.proofs.lemmas.Option.{none-some, same_Some}
@@ -17,7 +17,7 @@ use Rattle.block_rules.specs.declared.chain.Found.{Found}
 use Rattle.block_rules.specs.declared.chain.Outside.{Outside}
 use Rattle.block_rules.specs.declared.refusal.Refusal.{Refusal}
 use Rattle.block_rules.specs.Steps.{unless, first_from}
-use Rattle.block_rules.specs.Blocks.{placed_from, placed_of, made_by, made_first, Spend, spends_from, left_from, groups_from, groups, others, is_external, external_in, external, new_records}
+use Rattle.block_rules.specs.Blocks.{placed_from, placed_of, made_by, made_first, Spend, spends_from, left_from, groups_from, groups, others, external_in, external, new_records}
 use Rattle.block_rules.specs.Money.{most_money, output_sum, found_of, Bill, own_found, bills_of, claimed_by, BlockSpends, spends_of, paid_from}
 use Rattle.block_rules.specs.Rules.{has_too_much, has_value, value_fault, double}
 use Rattle.block_rules.specs.Laws.{all_made, all_numbers}

@@ -1,5 +1,5 @@
 -- Outputs of these numbers are spent one after the other.
-use Rattle.std.proofs.Common.{◌≡◌, ℕ, zero, suc, ◌+◌, ◌<◌, List, [], ◌∷◌, drop, set, length, Option, None, refl, sym, ap, ◌∙◌, subst, arith, add-one, slice_set, slice_index_or, drop-cons}
+use Rattle.std.proofs.Common.{◌≡◌, ℕ, ◌+◌, ◌<◌, List, drop, length, None, sym, ap, ◌∙◌, subst, add-one, slice_set, slice_index_or, drop-cons}
 use Rattle.std.specs.List.{AllByRecursion}
 use Rattle.std.proofs.lemmas.List.{length-set}
 use Rattle.leaf_record.specs.History.{History}

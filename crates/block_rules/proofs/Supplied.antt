@@ -1,6 +1,6 @@
 -- Sums of amounts over a block: where the rules on money pass, what it adds is paid.
-use Rattle.std.proofs.Common.{◌≡◌, ℕ, zero, suc, ◌+◌, ◌-◌, ◌≤◌, Bool, true, false, List, [], ◌∷◌, ◌++◌, map, set, Option, Some, None, refl, sym, ap, ◌∙◌, ⊎_elim, arith, sum_by}
-use Rattle.std.specs.Prelude.{slice_get, nat_le, ◌&&◌, option_map}
+use Rattle.std.proofs.Common.{◌≡◌, ℕ, zero, suc, ◌+◌, ◌-◌, ◌≤◌, Bool, true, false, List, [], ◌∷◌, ◌++◌, map, Option, Some, None, refl, sym, ap, ◌∙◌, ⊎_elim, arith, sum_by}
+use Rattle.std.specs.Prelude.{nat_le, ◌&&◌, option_map}
 use Rattle.std.proofs.lemmas.Bool.{cases_Bool, and_parts, leb-true}
 use Rattle.std.proofs.lemmas.List.Sums.{sum_by-cons}
 use Rattle.uo_base.specs.declared.event.Net.{Net}

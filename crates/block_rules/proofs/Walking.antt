@@ -1,5 +1,5 @@
 -- Where no outpoint is spent twice, one walk over a block finds what its definitions say.
-use Rattle.std.proofs.Common.{◌≡◌, ℕ, zero, suc, ◌+◌, ◌<◌, ◌≤◌, true, false, List, [], ◌∷◌, ◌++◌, map, drop, length, Option, Some, None, refl, sym, ap, ◌∙◌, subst, ap₂, arith, add-one, append_assoc}
+use Rattle.std.proofs.Common.{◌≡◌, ℕ, zero, suc, ◌+◌, ◌<◌, ◌≤◌, true, false, List, [], ◌∷◌, ◌++◌, map, drop, length, Option, Some, None, refl, sym, ap, ◌∙◌, ap₂, arith, add-one, append_assoc}
 use Rattle.std.specs.Prelude.{slice_get, option_map}
 use Rattle.std.specs.List.{flat_map, AllByRecursion}
 use Rattle.std.proofs.lemmas.List.{length-append, append-nil}
@@ -9,11 +9,9 @@ use Rattle.tx_codec.specs.Transaction.{Input, Transaction}
 use Rattle.tx_codec.specs.Ids.{txid_of}
 use Rattle.block_codec.specs.Block.{Block, block_hash_of}
 use Rattle.leaf_record.specs.Leaf.{Outpoint, Leaf}
-use Rattle.leaf_record.specs.History.{somes, Entry, History, newest}
+use Rattle.leaf_record.specs.History.{somes, Entry, newest}
 use Rattle.block_rules.specs.declared.made.Maker.{Maker}
-use Rattle.block_rules.specs.declared.made.Own.{Own}
-use Rattle.block_rules.specs.declared.chain.Outside.{Outside}
-use Rattle.block_rules.specs.Blocks.{outpoint_of, Placed, placed_from, placed_of, made_from, made_by, made_first, Spend, external_in, external, groups, others, new_records}
+use Rattle.block_rules.specs.Blocks.{outpoint_of, placed_from, placed_of, made_from, made_by, made_first, external_in, external, groups, others, new_records}
 use Rattle.block_rules.specs.Money.{Bill, output_sum, own_found, bills_of, found_of}
 use Rattle.block_rules.specs.Rules.{double}
 use Rattle.block_rules.specs.Laws.{latest, literal_spends, literal_groups, literal_numbers, all_made, all_numbers, spent_in_order}

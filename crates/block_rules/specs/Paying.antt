@@ -1,5 +1,5 @@
 -- What is paid, input by input, and that there is enough of what was found.
-use Rattle.std.specs.Prelude.{◌≡◌, ℕ, ◌+◌, ◌<◌, ◌≤◌, ◌^◌, List, [], ◌∷◌, length, Option, is_none, sum_by, count_by}
+use Rattle.std.specs.Prelude.{◌≡◌, ℕ, ◌+◌, ◌<◌, ◌^◌, List, [], ◌∷◌, length, Option, is_none, sum_by, count_by}
 use Rattle.block_rules.specs.declared.chain.Outside.{Outside}
 use Rattle.block_rules.specs.declared.chain.Found.{Found}
 use Rattle.block_rules.specs.Money.{Bill, paid_from, found_after}

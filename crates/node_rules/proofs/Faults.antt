@@ -18,7 +18,7 @@ use Rattle.block_rules.specs.Steps.{unless}
 use Rattle.node_rules.specs.Messages.{Message, named, targets, claimed, known_to}
 use Rattle.node_rules.specs.Accepting.{View, leaves_of, shape_fault, at_cover, first_slot, empty_root, root_differs, proof_fault}
 use Rattle.block_rules.proofs.Firsts.{unless-passed, option_or-none, option_or-both}
-use Rattle.node_rules.proofs.Tests.{is_same-true, is_same-same}
+use Rattle.node_rules.proofs.Same.{is_same-true, is_same-same}
 use Rattle.node_rules.proofs.Shapes.{shape_passes, shape_from, shape_none}
 
 -- no answer over the slots is no answer at each

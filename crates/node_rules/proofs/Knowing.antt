@@ -1,16 +1,16 @@
 -- Each known place of the forest has a digest, and the roots after a right message.
-use Rattle.std.proofs.Common.{◌≡◌, ℕ, zero, suc, ◌+◌, ◌≤◌, Bool, true, false, List, [], ◌∷◌, map, length, get_or, Option, Some, None, refl, sym, ap, ◌∙◌, subst, ⊎_elim, arith}
-use Rattle.std.specs.Prelude.{is_some, option_map}
-use Rattle.std.proofs.lemmas.Bool.{cases_Bool, false≢true, or_cases}
+use Rattle.std.proofs.Common.{◌≡◌, ℕ, zero, suc, ◌+◌, ◌*◌, cond, ap₂, Bool, true, false, List, [], ◌∷◌, map, length, get_or, Option, Some, None, refl, sym, ap, ◌∙◌, subst, ⊎_elim, arith}
+use Rattle.std.specs.Prelude.{is_some, not, ◌&&◌, option_map}
+use Rattle.std.proofs.lemmas.Bool.{false≢true, or_cases, and_right}
 use Rattle.std.proofs.lemmas.List.{length-map}
 use Rattle.uo_digest.specs.declared.digest.Digest.{Digest}
 use Rattle.forest_place.specs.declared.place.Place.{Place}
-use Rattle.forest_place.specs.Forest.{InForest, is_slot, root_off}
+use Rattle.forest_place.specs.Forest.{InForest, is_slot, root_off, is_root, sibling_off}
 use Rattle.forest_place.specs.Places.{is_at, has_place}
 use Rattle.forest_place.proofs.Listed.{same_from_is_at}
 use Rattle.forest_model.specs.Content.{Tree, leaf, digest_of}
 use Rattle.forest_model.specs.Standing.{tree_at, digest_at, root}
-use Rattle.forest_model.specs.Cover.{cover, is_needed}
+use Rattle.forest_model.specs.Cover.{both_of, cover, is_needed}
 use Rattle.forest_model.specs.EntryPlace.{entry_place}
 use Rattle.forest_model.specs.Evaluation.{asked, hash_of}
 use Rattle.forest_model.specs.Right.{entries}
@@ -24,7 +24,7 @@ use Rattle.leaf_record.specs.Leaf.{Outpoint, Leaf}
 use Rattle.leaf_record.specs.History.{somes, History, spent}
 use Rattle.node_rules.specs.Messages.{Message, targets, known_to}
 use Rattle.node_rules.specs.Right.{is_right}
-use Rattle.node_rules.specs.Known.{is_watched, kept_from, kept, kept_places, is_known, known_at}
+use Rattle.node_rules.specs.Known.{is_watched, kept_from, kept_places, is_known, known_at}
 use Rattle.node_rules.specs.Reading.{read}
 use Rattle.node_rules.specs.Judging.{entries_shown}
 use Rattle.node_rules.proofs.Righting.{got_entry, right_is_tested}
@@ -34,6 +34,23 @@ use Rattle.node_rules.proofs.Spending.{right_stands, entries-spent}
 some_from : {X : Type 0} (x : Option X) → is_some x ≡ true → (y : X) × (x ≡ Some y)
 some_from None h = absurd (false≢true h)
 some_from (Some y) h = (y, refl)
+
+-- nothing is watched by an empty list
+none_kept : (i : ℕ) (us : History) → kept_from i [] us ≡ []
+none_kept i [] = refl
+none_kept i (None ∷ us) = none_kept (suc i) us
+none_kept i (Some u ∷ us) = none_kept (suc i) us
+
+none_covered : (row off : ℕ) → cover [] row off ≡ None
+none_covered zero off = refl
+none_covered (suc row) off = ap₂ (both_of row off) (none_covered row (2 * off)) (none_covered row (2 * off + 1))
+
+pub nothing_known : (H : List ℕ → Digest) (text : Leaf → List ℕ) (us : History) (row off : ℕ) → known_at H text [] us row off ≡ None
+nothing_known H text us row off =
+    let p : Place = record { row = row; off = off } in
+    let none : is_known (length us) [] p ≡ false = rw (none_covered row off, none_covered row (sibling_off off)) (and_right (not (is_root (length us) row off) && true) false refl) in
+    let same : kept_places H text [] us ≡ [] = ap (λ ns. somes (map (entry_place (entries H text us)) ns)) (none_kept 0 us) in
+    ap (λ ts. cond (is_known (length us) ts p) (digest_at H (entries H text us) row off) None) same ∙ ap (λ b. cond b (digest_at H (entries H text us) row off) None) none
 
 module _ (H : List ℕ → Digest) (text : Leaf → List ℕ) (us : History) where
   -- what is kept stands at its place

@@ -1,4 +1,4 @@
-pub mod Tests
+pub mod Same
 pub mod OneStep
 pub mod Shapes
 pub mod Faults
@@ -20,3 +20,4 @@ pub mod MessageLaws
 pub mod Told
 pub mod Telling
 pub mod Rows
+pub mod Agreeing

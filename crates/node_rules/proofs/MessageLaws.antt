@@ -1,5 +1,5 @@
 -- What the bytes that are handed in are.
-use Rattle.std.proofs.Common.{◌≡◌, ◌≢◌, ℕ, suc, Bool, true, false, List, [], ◌∷◌, Option, Some, None, Err, refl, sym, subst, ap, ap₂, ◌∙◌, ⊎_elim, eq-eqb}
+use Rattle.std.proofs.Common.{◌≡◌, ◌≢◌, ℕ, suc, false, List, [], ◌∷◌, Option, Some, None, Err, refl, sym, subst, ap, ap₂, ◌∙◌, ⊎_elim, eq-eqb}
 use Rattle.std.specs.Prelude.{◌==◌, ◌↔◌, slice_get}
 use Rattle.std.proofs.lemmas.Bool.{eqb-true, false≢true, cases_Bool}
 use Rattle.std.proofs.lemmas.List.{append-nil}
@@ -7,7 +7,7 @@ use Rattle.std.proofs.lemmas.Option.{none-some, same_Some}
 use Rattle.uo_base.specs.Reading.{IsBytes}
 use Rattle.proof_wire.specs.BlockProof.{BlockProof, body_text, message_text, ProofFits}
 use Rattle.proof_wire.specs.Reading.{body_at, whole_at}
-use Rattle.proof_wire.proofs.ProofLaws.{IsBody, body_lawful, whole_took}
+use Rattle.proof_wire.proofs.ProofLaws.{body_lawful, whole_took}
 use Rattle.proof_wire.specs.declared.fault.MessageFault.{MessageFault}
 use Rattle.proof_wire.specs.declared.fault.MessageFault.TheVariants.{NotAMessage, Version}
 use Rattle.proof_wire.specs.declared.fault.MessageFault.TheVariants as Unread
@@ -15,7 +15,7 @@ use Rattle.block_rules.specs.declared.fault.RuleFault.{RuleFault}
 use Rattle.block_rules.specs.declared.refusal.Refusal.TheVariants as Why
 use Rattle.node_rules.specs.Judged.{IsUnreadAs, IsReadAs}
 use Rattle.node_rules.specs.Messages.{Message, in_full}
-use Rattle.node_rules.specs.Reading.{Handed, unread, read, body_in, kind_in, message_in}
+use Rattle.node_rules.specs.Reading.{unread, read, body_in, kind_in, message_in}
 
 -- the text of what fits is read as it
 whole_again : (p : BlockProof) → ProofFits p → whole_at (body_text p) ≡ Some (p, [])

@@ -17,7 +17,7 @@ use Rattle.block_rules.specs.Steps.{unless, first_from}
 use Rattle.node_rules.specs.Messages.{Message, named}
 use Rattle.node_rules.specs.Accepting.{View, shape_fault, target_fault, repeats, crosses, at_cover, first_slot, empty_root, root_differs, proof_fault, IsGreatest}
 use Rattle.node_rules.specs.Judging.{untold}
-use Rattle.node_rules.proofs.Tests.{is_same-true, is_same-same}
+use Rattle.node_rules.proofs.Same.{is_same-true, is_same-same}
 use Rattle.node_rules.proofs.Faults.{ts, known, wanted, leaves, slots_rows, first_slot-at}
 
 module _ {X : Type 0} (f : ℕ → Cover → Option X) (n : ℕ) (targets : List Place) where
@@ -81,7 +81,12 @@ module _ {X : Type 0} (f : ℕ → Cover → Option X) (n : ℕ) (targets : List
       by_here None h e rest =
           let w = rest e in
           record {
-            row = w.row; below = (let b = w.below in omega arith); slot = w.slot; beneath = w.beneath; covered = w.covered; gives = w.gives;
+            row = w.row;
+            below = (let b = w.below in omega arith);
+            slot = w.slot;
+            beneath = w.beneath;
+            covered = w.covered;
+            gives = w.gives;
             above = λ h' c l m s' e'. ⊎_elim
                 (λ (same : h' ≡ k). top_none h (subst (λ r. is_slot n r ≡ true) same s') c (subst (λ r. cover targets r (root_off n r) ≡ Some c) same e') h' same)
                 (λ other. w.above h' c l (omega (arith, other)) s' e')
@@ -157,7 +162,10 @@ module _ (H : List ℕ → Digest) (text : Leaf → List ℕ) (v : View) (points
       by_case (Some y) e =
           let w = first_slot-found (λ row c. empty_root (v.roots row) row) v.n places v.n y e in
           absurd (never w.row (record {
-            slot = w.slot; beneath = w.beneath; covered = w.covered; holds = was_empty w.row (v.roots w.row) y w.gives;
+            slot = w.slot;
+            beneath = w.beneath;
+            covered = w.covered;
+            holds = was_empty w.row (v.roots w.row) y w.gives;
             greatest = λ h c l s k none. none-some (EmptyRoot h) (sym (w.above h c l (slots_rows H text v points m h s) s k) ∙ empty_at h (v.roots h) none);
           }))
 

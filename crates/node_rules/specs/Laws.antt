@@ -1,5 +1,5 @@
 -- What holds of the machines, whatever the digest function and the leaf text. Each law is the contract of a function of its name.
-use Rattle.std.specs.Prelude.{◌≡◌, ◌≢◌, ◌≤◌, ◌+◌, All, AllPairs, ℕ, suc, Bool, true, false, List, [], ◌∷◌, ◌++◌, length, map, Option, Some, None, is_some, ◌↔◌}
+use Rattle.std.specs.Prelude.{◌≡◌, ◌≢◌, ◌≤◌, All, AllPairs, ℕ, Bool, true, false, List, [], ◌∷◌, ◌++◌, length, map, Option, Some, None, is_some, ◌↔◌}
 use Rattle.std.specs.List.{AllByRecursion}
 use Rattle.uo_base.specs.Reading.{IsBytes}
 use Rattle.uo_digest.specs.declared.digest.Digest.{Digest}
@@ -19,15 +19,14 @@ use Rattle.block_rules.specs.declared.chain.Chain.{Chain}
 use Rattle.block_rules.specs.declared.chain.Outside.{Outside}
 use Rattle.block_rules.specs.declared.refusal.ProofRefusal.TheVariants.{HashCount, EmptyRoot, RootDiffers}
 use Rattle.block_rules.specs.Steps.{first_of}
-use Rattle.block_rules.specs.Blocks.{external, new_records}
-use Rattle.block_rules.specs.Money.{subsidy_at}
+use Rattle.block_rules.specs.Blocks.{external}
 use Rattle.block_rules.specs.Rules.{block_steps}
 use Rattle.node_rules.specs.Messages.{Message, named, targets, points_of, claimed, known_to}
 use Rattle.node_rules.specs.Accepting.{View, leaves_of, shape_fault, proof_fault, IsGreatest}
 use Rattle.node_rules.specs.Right.{is_right}
 use Rattle.node_rules.specs.Known.{is_known, kept_places, known_at, view_of}
 use Rattle.node_rules.specs.Reading.{Handed, read, message_in}
-use Rattle.node_rules.specs.Judging.{Rules, compact, full, own, refusal, is_forged, message_of, written, entries_shown, untold, history_after}
+use Rattle.node_rules.specs.Judging.{Rules, compact, full, own, refusal, is_right_message, is_forged, message_of, written, entries_shown, untold, history_after}
 use Rattle.node_rules.specs.Machine.{ChainEvent, BlockCame, Level, State, Judge, start, chain_of, full_judge, view_judge, own_judge, step, issued, verdict_over, verdicts, state_after, never_stops, proof_feed, kept_verdicts, SpendEach}
 
 -- ---- the tests of a verdict say what the forest's laws speak of
@@ -68,8 +67,8 @@ abbrev pub RightIsTested : Type 0
 RightIsTested = (H : List ℕ → Digest) (text : Leaf → List ℕ) (us : History) (known : ℕ → ℕ → Option Digest) (points : List Outpoint) (m : Message) →
     (is_right H text us known points m ≡ true)
     ↔ (IsRight H text us (targets (length us) m.proof) (known_to m.lean known) (claimed points (rests_of m.proof.spends)) m.proof.hashes
-        × (named (length us) m.proof ≡ map Some (targets (length us) m.proof))
-        × (length m.proof.spends ≡ length points))
+    × (named (length us) m.proof ≡ map Some (targets (length us) m.proof))
+    × (length m.proof.spends ≡ length points))
 
 -- ---- a view in place of the whole history
 
@@ -100,6 +99,13 @@ ViewRunsAsFullSet = (H : List ℕ → Digest) (text : Leaf → List ℕ) (script
     never_stops rules (full_judge H text scripts rules) s events ≡ true →
     (verdicts rules (view_judge H text scripts) s events ≡ verdicts rules (full_judge H text scripts rules) s events)
     × (state_after rules (view_judge H text scripts) s events ≡ state_after rules (full_judge H text scripts rules) s events)
+
+-- unless the event is forged, the message of a block that a view accepts is right
+abbrev pub AcceptedIsRight : Type 0
+AcceptedIsRight = (H : List ℕ → Digest) (text : Leaf → List ℕ) (scripts : List (List ℕ)) (us : History) (rules : Rules) (chain : Chain) (b : Block) (handed : Handed) →
+    is_forged H text scripts rules chain us b handed ≡ false →
+    refusal rules chain b (compact H text (view_of H text scripts us) (external b chain.blocks) handed) ≡ None →
+    is_right_message H text scripts us (external b chain.blocks) handed ≡ true
 
 -- ---- what the proving node writes
 
@@ -180,12 +186,28 @@ abbrev pub VerdictIsByView : Type 0
 VerdictIsByView = (H : List ℕ → Digest) (text : Leaf → List ℕ) (scripts : List (List ℕ)) (rules : Rules) (s : State) (b : Block) (handed : Handed) →
     (step rules (view_judge H text scripts) s (BlockCame (Some b) handed)).verdict ≡ Some (verdict_over H text rules (chain_of s.now) (view_of H text scripts s.now.history) b handed)
 
+-- the views have as many entries, know the same, and have the same roots at the slots
+pub record IsSameView (v w : View) : Type 0 where
+  pub n : v.n ≡ w.n
+  pub roots : (row : ℕ) → is_slot v.n row ≡ true → v.roots row ≡ w.roots row
+  pub known : (row off : ℕ) → v.known row off ≡ w.known row off
+
+-- then the verdict is the same
+abbrev pub AgreeingViewsJudgeAlike : Type 0
+AgreeingViewsJudgeAlike = (H : List ℕ → Digest) (text : Leaf → List ℕ) (v w : View) → IsSameView v w →
+    ((points : List Outpoint) (m : Message) → proof_fault H text v points m ≡ proof_fault H text w points m)
+    × ((rules : Rules) (chain : Chain) (b : Block) (handed : Handed) → verdict_over H text rules chain v b handed ≡ verdict_over H text rules chain w b handed)
+
+-- nothing is known where nothing is watched
+abbrev pub NothingIsKnown : Type 0
+NothingIsKnown = (H : List ℕ → Digest) (text : Leaf → List ℕ) (us : History) (row off : ℕ) → known_at H text [] us row off ≡ None
+
 -- the targets of a right message are the places of the entries that are spent; after a block these are spent in the forest,
 -- and the new ones are appended
 abbrev pub HistoryIsSpentAndAppended : Type 0
 HistoryIsSpentAndAppended = (H : List ℕ → Digest) (text : Leaf → List ℕ) (us : History) →
     ((scripts : List (List ℕ)) (points : List Outpoint) (m : Message) → is_right H text us (known_at H text scripts us) points m ≡ true →
-        StandAt (entries H text us) (targets (length us) m.proof) (entries_shown H text us (read m)))
+    StandAt (entries H text us) (targets (length us) m.proof) (entries_shown H text us (read m)))
     × ((numbers : List ℕ) (new : List Leaf) → entries H text (history_after us numbers new) ≡ entries_without numbers (entries H text us) ++ map (λ leaf. Some (H (text leaf))) new)
 
 -- the roots after a right message's entries are spent are those that the message gives

@@ -9,4 +9,10 @@ mod messages;
 #[cfg(test)]
 mod tests;
 
+pub use laws::{
+    accepted_is_right, block_is_deleted_and_added, each_is_spent_once, forged_shows_clash,
+    known_is_there, levels_are_few, message_is_read, right_is_taken, supply_is_issued,
+    verdict_is_by_view, verdicts_are_tested, views_judge_as_full_sets, written_is_followed,
+    written_is_taken,
+};
 pub use messages::{message_rules, targets_of};

@@ -1,6 +1,5 @@
 //! The rules on messages.
-ghost use Rattle.std.specs.Prelude.{◌≡◌, ◌<◌, ◌^◌, take, option_copied};
-ghost use Rattle.proof_wire.specs.BlockProof.{targets_of as target_numbers};
+ghost use Rattle.std.specs.Prelude.{◌<◌, ◌^◌, option_copied};
 ghost use Rattle.node_rules.specs.Judged.{MessageJudged, TargetsJudged, IsReadAs, IsUnreadAs, IsRefusedAs};
 
 use block_rules::{ProofRefusal, Refusal, RuleFault, Spends};

@@ -1,4 +1,4 @@
-use Rattle.std.proofs.Common.{sym, ◌∙◌, ap, arith, None, drop-cons}
+use Rattle.std.proofs.Common.{sym, ◌∙◌, arith, drop-cons}
 use Rattle.block_rules.specs.Money.{unripe}
 use Rattle.block_rules.proofs.Numbered.{unless-true}
 use Rattle.block_rules.proofs.Paid.{ripe_on, counts_on}

@@ -1,8 +1,7 @@
-use Rattle.std.proofs.Common.{sym, ◌∙◌, ap, subst, arith, ◌≤◌}
-use Rattle.block_rules.specs.Money.{most_money}
+use Rattle.std.proofs.Common.{sym, ◌∙◌, ap, subst}
 use Rattle.block_rules.specs.Walk.{new_at, seen}
 use Rattle.block_rules.proofs.Walking.{Gives, walk_gives}
-use Rattle.block_rules.proofs.Paid.{counted, spent_below, new_is, claimed_is, claimed_most, spends_are}
+use Rattle.block_rules.proofs.Paid.{counted, spent_below, new_is, claimed_is, spends_are}
 use Rattle.block_rules.proofs.shape.spends_at.Goals as goal
 
 pub new_records-requires : goal.new_records-requires

@@ -1,7 +1,7 @@
 use Rattle.std.proofs.Common.{sym, ap, ◌∙◌}
 use Rattle.std.specs.Prelude.{option_map, not}
 use Rattle.block_rules.specs.declared.refusal.Refusal.TheVariants as Why
-use Rattle.block_rules.proofs.Numbered.{null_fault, stops-here, goes-on, unless-true, unless-false, coinbase_fault-first}
+use Rattle.block_rules.proofs.Numbered.{null_fault, stops-here, goes-on, unless-true, unless-false}
 use Rattle.block_rules.proofs.steps.coinbase_step.Goals as goal
 
 pub returns-then-has_null : goal.returns-then-has_null

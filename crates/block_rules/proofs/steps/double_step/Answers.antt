@@ -1,5 +1,4 @@
-use Rattle.std.proofs.Common.{sym, ap, ◌∙◌, subst}
-use Rattle.block_rules.specs.Seen.{Sees}
+use Rattle.std.proofs.Common.{sym}
 use Rattle.block_rules.proofs.Doubles.{double_here, double_on}
 use Rattle.block_rules.proofs.steps.double_step.Goals as goal
 

@@ -1,4 +1,4 @@
-use Rattle.std.proofs.Common.{◌≡◌, ◌+◌, ◌<◌, ◌^◌, ◌++◌, length, map, Some}
+use Rattle.std.proofs.Common.{◌≡◌, ◌+◌, ◌++◌, length, map, Some}
 use Rattle.block_rules.specs.Blocks.{made_from}
 use Rattle.block_rules.specs.Keys.{IsIndex}
 use Rattle.block_rules.specs.Walk.{origin_at}

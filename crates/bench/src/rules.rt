@@ -1,0 +1,171 @@
+//! Judging blocks.
+ghost use Rattle.std.specs.Prelude.{◌<◌, ◌^◌, length};
+
+use block_codec::{BlockView, MerkleOutcome, merkle, read_block};
+use block_rules::{Chain, Found, Spends, money_rules, shape_rules};
+use std::alloc::{AllocError, Global};
+use std::io;
+use std::rt::Clock;
+use std::time::Instant;
+use uo_base::{Limits, Net, put_compact};
+use uo_digest::{Digest, sha256d};
+
+const TIP: [u8; 32] = [7; 32];
+
+/// A coinbase with one output.
+const COINBASE: [u8; 63] = [
+    1, 0, 0, 0, 1, 0, 0, 0, 0, 0, 0, 0, 0, 0, 0, 0, 0, 0, 0, 0, 0, 0, 0, 0, 0, 0, 0, 0, 0, 0, 0, 0,
+    0, 0, 0, 0, 0, 255, 255, 255, 255, 2, 0, 0, 255, 255, 255, 255, 1, 0, 0, 0, 0, 0, 0, 0, 0, 1,
+    0x51, 0, 0, 0, 0,
+];
+
+/// Nanoseconds an input of judging blocks of a thousand inputs, of ten thousand, and of as many as a block has room for:
+/// first where all of them spend outputs of other blocks, then where all spend outputs of the block.
+pub fn measure_rules<R: Clock + Print + AllocGlobal>(rt: &R) -> io::Result<()> {
+    let alloc = rt.alloc();
+    for (count, rounds) in [(1_000, 200), (10_000, 20), (24_386, 10)] {
+        measure(rt, "external", count, rounds, external_block(alloc, count)?)?;
+    }
+    for (count, rounds) in [(1_000, 200), (10_000, 20), (19_990, 10)] {
+        measure(rt, "internal", count, rounds, internal_block(alloc, count)?)?;
+    }
+    Ok(())
+}
+
+fn measure<R: Clock + Print + AllocGlobal>(
+    rt: &R,
+    what: &str,
+    count: u32,
+    rounds: u32,
+    mut text: Vec<u8>,
+) -> io::Result<()> {
+    if text.len() >= 4_294_967_296 {
+        return Ok(());
+    }
+    put_root(rt.alloc(), &mut text);
+    let Ok(block) = read_block(rt.alloc(), &text) else {
+        return println!(rt; "the text is no block");
+    };
+    let start = Instant::now(rt)?;
+    let mut passed = 0u32;
+    for _ in 0..rounds {
+        if judge(rt.alloc(), &block).is_some() {
+            passed = passed.wrapping_add(1);
+        }
+    }
+    let shape = start.elapsed(rt)?.as_nanos() / (u128::from(count) * u128::from(rounds)).max(1);
+    let Some(spends) = judge(rt.alloc(), &block) else {
+        return println!(rt; "the block is refused");
+    };
+    let found = nothing(rt.alloc(), spends.external().len())?;
+    let start = Instant::now(rt)?;
+    for _ in 0..rounds {
+        if is_paid(&spends, &found) {
+            passed = passed.wrapping_add(1);
+        }
+    }
+    let money = start.elapsed(rt)?.as_nanos() / (u128::from(count) * u128::from(rounds)).max(1);
+    println!(rt;
+        "nanoseconds an input of {count} {what}: shape_rules {shape}, money_rules {money} ({passed} passed)"
+    )
+}
+
+fn judge<'a>(alloc: Global, block: &BlockView<'a>) -> Option<Spends<'a>> {
+    let chain = Chain {
+        blocks: 1,
+        tip: Digest(TIP),
+        leaves: 0,
+    };
+    shape_rules(alloc, block, &chain, Net::Main, Limits::standard()).ok()
+}
+
+fn is_paid(spends: &Spends<'_>, found: &[Found]) -> bool {
+    found.len() == spends.external().len() && money_rules(spends, found).is_ok()
+}
+
+fn nothing(alloc: Global, count: usize) -> Result<Vec<Found>, AllocError> {
+    let mut found = Vec::new(alloc);
+    for _ in 0..count {
+        found.push(Found {
+            amount: 0,
+            height: 0,
+            coinbase: false,
+        })?;
+    }
+    Ok(found)
+}
+
+// Writes the merkle root of its transactions into a block's header.
+fn put_root(alloc: Global, text: &mut [u8])
+    requires { length text.old < 2 ^ 32 }
+{
+    let mut root = [0; 32];
+    if let Ok(block) = read_block(alloc, text) {
+        if let Ok(MerkleOutcome::Root(digest)) = merkle(alloc, &block) {
+            root = digest.0;
+        }
+    }
+    if text.len() >= 68 {
+        text[36..68].copy_from_slice(&root);
+    }
+}
+
+// The header and the coinbase of a block of so many transactions.
+fn begin(alloc: Global, txs: u8) -> Result<Vec<u8>, AllocError> {
+    let mut text = Vec::new(alloc);
+    text.extend_from_slice(&[1, 0, 0, 0])?;
+    text.extend_from_slice(&TIP)?;
+    text.extend_from_slice(&[0; 44])?;
+    text.push(txs)?;
+    text.extend_from_slice(&COINBASE)?;
+    Ok(text)
+}
+
+fn put_input(text: &mut Vec<u8>, txid: &Digest, index: u32) -> Result<(), AllocError> {
+    text.extend_from_slice(&txid.0)?;
+    text.extend_from_slice(&index.to_le_bytes())?;
+    text.extend_from_slice(&[0, 255, 255, 255, 255])
+}
+
+// One transaction, whose inputs spend outputs of as many others.
+fn external_block(alloc: Global, count: u32) -> io::Result<Vec<u8>> {
+    let mut text = begin(alloc, 2)?;
+    text.extend_from_slice(&[1, 0, 0, 0])?;
+    put_count(&mut text, count)?;
+    for i in 0..count {
+        put_input(&mut text, &sha256d(&i.to_le_bytes()), i)?;
+    }
+    text.push(1)?;
+    text.extend_from_slice(&[0; 13])?;
+    Ok(text)
+}
+
+// One transaction that makes so many outputs, and one that spends them all.
+fn internal_block(alloc: Global, count: u32) -> io::Result<Vec<u8>> {
+    let mut first = Vec::new(alloc);
+    first.extend_from_slice(&[1, 0, 0, 0, 1])?;
+    put_input(&mut first, &Digest(TIP), 0)?;
+    put_count(&mut first, count)?;
+    for _ in 0..count {
+        first.extend_from_slice(&[0; 9])?;
+    }
+    first.extend_from_slice(&[0; 4])?;
+    let txid = sha256d(&first);
+    let mut text = begin(alloc, 3)?;
+    text.extend_from_slice(&first)?;
+    text.extend_from_slice(&[1, 0, 0, 0])?;
+    put_count(&mut text, count)?;
+    for i in 0..count {
+        put_input(&mut text, &txid, i)?;
+    }
+    text.push(1)?;
+    text.extend_from_slice(&[0; 13])?;
+    Ok(text)
+}
+
+fn put_count(text: &mut Vec<u8>, count: u32) -> Result<(), AllocError> {
+    match put_compact(text, u64::from(count)) {
+        Ok(()) => Ok(()),
+        Err(_) => Err(AllocError),
+    }
+}
