@@ -17,11 +17,12 @@ use Rattle.proof_wire.specs.BlockProof.{Spend, targets_of, rests_of}
 use Rattle.block_rules.specs.Steps.{unless}
 use Rattle.node_rules.specs.Messages.{Message, named, targets, claimed, known_to}
 use Rattle.node_rules.specs.Accepting.{View, leaves_of, shape_fault, at_cover, first_slot, empty_root, root_differs, proof_fault}
-use Rattle.node_rules.proofs.Tests.{unless-passed, option_or-none, option_or-both, is_same-true, is_same-same}
+use Rattle.block_rules.proofs.Firsts.{unless-passed, option_or-none, option_or-both}
+use Rattle.node_rules.proofs.Tests.{is_same-true, is_same-same}
 use Rattle.node_rules.proofs.Shapes.{shape_passes, shape_from, shape_none}
 
 -- no answer over the slots is no answer at each
-first_slot-none : {X : Type 0} (f : ℕ → Cover → Option X) (n : ℕ) (ts : List Place) (k : ℕ) → ((row : ℕ) (c : Cover) → is_slot n row ≡ true → cover ts row (root_off n row) ≡ Some c → f row c ≡ None) → first_slot f n ts k ≡ None
+pub first_slot-none : {X : Type 0} (f : ℕ → Cover → Option X) (n : ℕ) (ts : List Place) (k : ℕ) → ((row : ℕ) (c : Cover) → is_slot n row ≡ true → cover ts row (root_off n row) ≡ Some c → f row c ≡ None) → first_slot f n ts k ≡ None
 first_slot-none f n ts zero h = refl
 first_slot-none {X} f n ts (suc row) h =
     option_or-both (cond (is_slot n row) (at_cover f row (cover ts row (root_off n row))) None) (first_slot f n ts row)
@@ -32,7 +33,7 @@ first_slot-none {X} f n ts (suc row) h =
     by_cover s None e = refl
     by_cover s (Some c) e = h row c s e
 
-first_slot-at : {X : Type 0} (f : ℕ → Cover → Option X) (n : ℕ) (ts : List Place) (k : ℕ) → first_slot f n ts k ≡ None → (row : ℕ) (c : Cover) → row < k → is_slot n row ≡ true → cover ts row (root_off n row) ≡ Some c → f row c ≡ None
+pub first_slot-at : {X : Type 0} (f : ℕ → Cover → Option X) (n : ℕ) (ts : List Place) (k : ℕ) → first_slot f n ts k ≡ None → (row : ℕ) (c : Cover) → row < k → is_slot n row ≡ true → cover ts row (root_off n row) ≡ Some c → f row c ≡ None
 first_slot-at f n ts zero h row c lt s e = absurd (omega arith)
 first_slot-at f n ts (suc k) h row c lt s e =
     let w = option_or-none (cond (is_slot n k) (at_cover f k (cover ts k (root_off n k))) None) (first_slot f n ts k) h in
@@ -93,7 +94,7 @@ module _ (H : List ℕ → Digest) (text : Leaf → List ℕ) (v : View) (points
       (first_slot-none (λ row c. root_differs (v.roots row) (evaluation H v.n ts known leaves m.proof.hashes c) row) v.n ts v.n (λ row c s e. (root_passes (v.roots row) _ row (a.agrees row c s e)).1))
       refl)))
 
-  slots_rows : (row : ℕ) → is_slot v.n row ≡ true → row < v.n
+  pub slots_rows : (row : ℕ) → is_slot v.n row ≡ true → row < v.n
   slots_rows row s = row_below v.n row (root_off v.n row) (InForest-root v.n row (root_off v.n row) (is_root-root_off v.n row s))
 
   pub accepted : length m.proof.spends ≡ length points → proof_fault H text v points m ≡ None → Accepts × (named v.n m.proof ≡ map Some ts)

@@ -1,5 +1,5 @@
 pub mod Tests
-pub mod Firsts
+pub mod OneStep
 pub mod Shapes
 pub mod Faults
 pub mod Righting
@@ -14,5 +14,9 @@ pub mod Running
 pub mod Writing
 pub mod Following
 pub mod Forging
-pub mod Paid
 pub mod Value
+pub mod Placing
+pub mod MessageLaws
+pub mod Told
+pub mod Telling
+pub mod Rows

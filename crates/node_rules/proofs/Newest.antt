@@ -5,37 +5,16 @@ use Rattle.std.specs.List.{AllByRecursion}
 use Rattle.std.proofs.lemmas.Bool.{cases_Bool, false≢true}
 use Rattle.std.proofs.lemmas.Option.{none-some, same_Some}
 use Rattle.leaf_record.specs.Leaf.{Outpoint, Leaf}
-use Rattle.leaf_record.specs.History.{somes, same_point, History, Entry, entry_if, newer, later, newest}
+use Rattle.leaf_record.specs.History.{somes, History, Entry, newest}
+use Rattle.leaf_record.proofs.HistoryLaws.{newest_is}
 use Rattle.block_rules.specs.declared.chain.Outside.{Outside}
 use Rattle.block_rules.specs.declared.refusal.Refusal.TheVariants as Why
 use Rattle.block_rules.specs.Steps.{first_of}
 use Rattle.node_rules.specs.Messages.{point_of, points_of}
 use Rattle.node_rules.specs.Judging.{newest_of, missing}
 use Rattle.node_rules.specs.Machine.{IsEntryOf, SpendEach}
-use Rattle.node_rules.proofs.Tests.{unless-passed, option_or-none, same_point-true}
+use Rattle.block_rules.proofs.Firsts.{unless-passed, option_or-none}
 use Rattle.node_rules.proofs.Outpoints.{Apart}
-
-entry_if-some : (p : Outpoint) (r : Leaf) (e : Entry) → entry_if p r ≡ Some e → (e.number ≡ 0) × (e.leaf ≡ r) × (r.point ≡ p)
-entry_if-some p r e h =
-    ⊎_elim
-    (λ t. let s = same_Some _ e (rw t at h) in (sym (ap (λ x. x.number) s), sym (ap (λ x. x.leaf) s), same_point-true r.point p t))
-    (λ f. absurd (none-some e (rw f at h)))
-    (cases_Bool (same_point r.point p))
-
--- the newest live entry is a live entry of this outpoint
-pub newest_is : (p : Outpoint) (us : History) (e : Entry) → newest p us ≡ Some e → (slice_get us e.number ≡ Some (Some e.leaf)) × (e.leaf.point ≡ p)
-newest_is p [] e h = absurd (none-some e h)
-newest_is p (u ∷ us) e h = by_case u (newest p us) refl (newest_is p us) h
-  where
-    by_case : (u : Option Leaf) (n : Option Entry) → newest p us ≡ n → ((e : Entry) → newest p us ≡ Some e → (slice_get us e.number ≡ Some (Some e.leaf)) × (e.leaf.point ≡ p)) → newer p u n ≡ Some e → (slice_get (u ∷ us) e.number ≡ Some (Some e.leaf)) × (e.leaf.point ≡ p)
-    by_case u (Some f) q rest h =
-        let s : later f ≡ e = same_Some _ e h in
-        let w = rest f q in
-        subst (λ x. (slice_get (u ∷ us) x.number ≡ Some (Some x.leaf)) × (x.leaf.point ≡ p)) s w
-    by_case None None q rest h = absurd (none-some e h)
-    by_case (Some r) None q rest h =
-        let w = entry_if-some p r e h in
-        (ap (slice_get (Some r ∷ us)) w.0 ∙ ap (λ x. Some (Some x)) (sym w.1), ap (λ x. x.point) w.1 ∙ w.2)
 
 from_is_some : {X : Type 0} (x : Option X) → is_some x ≡ true → (y : X) × (x ≡ Some y)
 from_is_some None h = absurd (false≢true h)

@@ -15,7 +15,7 @@ use Rattle.leaf_record.specs.History.{somes}
 use Rattle.block_rules.specs.Steps.{unless}
 use Rattle.block_rules.specs.declared.refusal.ProofRefusal.TheVariants.{Outside}
 use Rattle.node_rules.specs.Accepting.{repeats, crosses, target_fault, shape_fault}
-use Rattle.node_rules.proofs.Tests.{unless-passed, option_or-none, option_or-both}
+use Rattle.block_rules.proofs.Firsts.{unless-passed, option_or-none, option_or-both}
 
 -- no answer over a list of places is no answer at each
 pub first_from-none : {Y : Type 0} (f : ℕ → Place → Option Y) (k : ℕ) (qs : List Place) → ((j : ℕ) (q : Place) → has_place qs q.row q.off ≡ true → f j q ≡ None) → first_from k f qs ≡ None

@@ -1,15 +1,13 @@
 -- What the tests mean.
 use Rattle.std.proofs.Common.{◌≡◌, ℕ, Bool, true, false, List, [], ◌∷◌, Option, Some, None, refl, sym, ap, ◌∙◌, ap₂, ⊎_elim, eq-eqb}
 use Rattle.std.specs.Prelude.{◌==◌, ◌&&◌, bytes_eq}
-use Rattle.std.specs.Option.{option_or}
 use Rattle.std.specs.Cmp.Lexicographic.{same_text, other_text}
 use Rattle.std.proofs.lemmas.Bool.{and_from, and_parts, cases_Bool, false≢true, eqb-true}
-use Rattle.std.proofs.lemmas.Option.{none-some}
 use Rattle.uo_digest.specs.declared.digest.Digest.{Digest}
 use Rattle.block_codec.specs.Merkle.{is_same}
 use Rattle.leaf_record.specs.Leaf.{Outpoint, Rest, Leaf}
 use Rattle.leaf_record.specs.History.{same_point}
-use Rattle.block_rules.specs.Steps.{unless}
+use Rattle.leaf_record.proofs.HistoryLaws.{same_point-true, same_point-same}
 use Rattle.node_rules.specs.Right.{same_mark, same_rest, same_leaf}
 
 pub bytes_eq-true : (xs ys : List ℕ) → bytes_eq xs ys ≡ true → xs ≡ ys
@@ -23,14 +21,6 @@ is_same-true a b h = ap (λ x. let d : Digest = record { 0 = x } in d) (bytes_eq
 
 pub is_same-same : (a : Digest) → is_same a a ≡ true
 is_same-same a = bytes_eq-same a.0
-
-pub same_point-true : (p q : Outpoint) → same_point p q ≡ true → p ≡ q
-same_point-true p q h =
-    let k = and_parts (bytes_eq p.txid.0 q.txid.0) (p.index == q.index) h in
-    ap₂ (λ (x : Digest) (y : ℕ). let r : Outpoint = record { txid = x; index = y } in r) (is_same-true p.txid q.txid k.0) (eqb-true _ _ k.1)
-
-pub same_point-same : (p : Outpoint) → same_point p p ≡ true
-same_point-same p = and_from (bytes_eq p.txid.0 p.txid.0) (p.index == p.index) (bytes_eq-same p.txid.0) (eq-eqb p.index p.index refl)
 
 same_mark-true : (a b : Bool) → same_mark a b ≡ true → a ≡ b
 same_mark-true true b h = sym h
@@ -73,19 +63,3 @@ same_leaf-true a b h =
 
 pub same_leaf-same : (a : Leaf) → same_leaf a a ≡ true
 same_leaf-same a = and_from (same_point a.point a.point) (same_rest a.rest a.rest) (same_point-same a.point) (same_rest-same a.rest)
-
--- a test that refuses nothing passed
-pub unless-passed : {X : Type 0} (b : Bool) (x : X) → unless b x ≡ None → b ≡ true
-unless-passed true x h = refl
-unless-passed false x h = absurd (none-some x (sym h))
-
-pub option_or-none : {X : Type 0} (x y : Option X) → option_or x y ≡ None → (x ≡ None) × (y ≡ None)
-option_or-none None y h = (refl, h)
-option_or-none (Some x) y h = absurd (none-some x (sym h))
-
-pub option_or-both : {X : Type 0} (x y : Option X) → x ≡ None → y ≡ None → option_or x y ≡ None
-option_or-both x y e f = ap (λ z. option_or z y) e ∙ f
-
-pub option_or-assoc : {X : Type 0} (x y z : Option X) → option_or (option_or x y) z ≡ option_or x (option_or y z)
-option_or-assoc None y z = refl
-option_or-assoc (Some x) y z = refl

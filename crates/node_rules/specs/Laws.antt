@@ -1,31 +1,33 @@
 -- What holds of the machines, whatever the digest function and the leaf text. Each law is the contract of a function of its name.
-use Rattle.std.specs.Prelude.{◌≡◌, ◌≢◌, ◌≤◌, ◌+◌, All, AllPairs, ℕ, suc, Bool, true, false, List, [], ◌∷◌, ◌++◌, length, map, Option, Some, None, ◌↔◌}
+use Rattle.std.specs.Prelude.{◌≡◌, ◌≢◌, ◌≤◌, ◌+◌, All, AllPairs, ℕ, suc, Bool, true, false, List, [], ◌∷◌, ◌++◌, length, map, Option, Some, None, is_some, ◌↔◌}
 use Rattle.std.specs.List.{AllByRecursion}
+use Rattle.uo_base.specs.Reading.{IsBytes}
 use Rattle.uo_digest.specs.declared.digest.Digest.{Digest}
 use Rattle.forest_place.specs.Forest.{InForest, is_slot, root_off}
 use Rattle.forest_model.specs.Content.{IsDigest}
 use Rattle.forest_model.specs.Standing.{root}
-use Rattle.forest_model.specs.Cover.{cover}
-use Rattle.forest_model.specs.Evaluation.{hash_of, IsAccepted}
+use Rattle.forest_model.specs.Cover.{Cover, cover}
+use Rattle.forest_model.specs.Evaluation.{asked, evaluation, hash_of, IsAccepted}
 use Rattle.forest_model.specs.Right.{entries, IsRight, IsLeafText, LiveFit, HasClash}
 use Rattle.forest_model.specs.Deletion.{entries_without, root_after, StandAt}
 use Rattle.forest_model.specs.Addition.{IsAddition}
 use Rattle.block_codec.specs.Block.{Block}
 use Rattle.leaf_record.specs.Leaf.{Outpoint, Leaf}
 use Rattle.leaf_record.specs.History.{History, spent, added, supply}
-use Rattle.proof_wire.specs.BlockProof.{BlockProof, rests_of}
+use Rattle.proof_wire.specs.BlockProof.{rests_of, message_text, ProofFits}
 use Rattle.block_rules.specs.declared.chain.Chain.{Chain}
 use Rattle.block_rules.specs.declared.chain.Outside.{Outside}
+use Rattle.block_rules.specs.declared.refusal.ProofRefusal.TheVariants.{HashCount, EmptyRoot, RootDiffers}
 use Rattle.block_rules.specs.Steps.{first_of}
 use Rattle.block_rules.specs.Blocks.{external, new_records}
 use Rattle.block_rules.specs.Money.{subsidy_at}
 use Rattle.block_rules.specs.Rules.{block_steps}
 use Rattle.node_rules.specs.Messages.{Message, named, targets, points_of, claimed, known_to}
-use Rattle.node_rules.specs.Accepting.{View, leaves_of, proof_fault}
+use Rattle.node_rules.specs.Accepting.{View, leaves_of, shape_fault, proof_fault, IsGreatest}
 use Rattle.node_rules.specs.Right.{is_right}
 use Rattle.node_rules.specs.Known.{is_known, kept_places, known_at, view_of}
-use Rattle.node_rules.specs.Reading.{Handed, read}
-use Rattle.node_rules.specs.Judging.{Rules, compact, full, own, refusal, is_forged, message_of, written, entries_shown, history_after}
+use Rattle.node_rules.specs.Reading.{Handed, read, message_in}
+use Rattle.node_rules.specs.Judging.{Rules, compact, full, own, refusal, is_forged, message_of, written, entries_shown, untold, history_after}
 use Rattle.node_rules.specs.Machine.{ChainEvent, BlockCame, Level, State, Judge, start, chain_of, full_judge, view_judge, own_judge, step, issued, verdict_over, verdicts, state_after, never_stops, proof_feed, kept_verdicts, SpendEach}
 
 -- ---- the tests of a verdict say what the forest's laws speak of
@@ -35,6 +37,31 @@ abbrev pub NoFaultIsAccepted : Type 0
 NoFaultIsAccepted = (H : List ℕ → Digest) (text : Leaf → List ℕ) (v : View) (points : List Outpoint) (m : Message) → length m.proof.spends ≡ length points →
     (proof_fault H text v points m ≡ None)
     ↔ (IsAccepted H v.n v.roots (targets v.n m.proof) (known_to m.lean v.known) (leaves_of H text points m) m.proof.hashes × (named v.n m.proof ≡ map Some (targets v.n m.proof)))
+
+-- where the targets have shape, the fault is the count of hashes, or else the greatest slot with an empty root, or else the
+-- greatest whose root is not the one computed
+abbrev pub FaultIsTold : Type 0
+FaultIsTold = (H : List ℕ → Digest) (text : Leaf → List ℕ) (v : View) (points : List Outpoint) (m : Message) →
+    let ts = targets v.n m.proof in
+    let known = known_to m.lean v.known in
+    let wanted = length (asked v.n ts known) in
+    let got = length m.proof.hashes in
+    let fault = proof_fault H text v points m in
+    let IsEmpty = λ (row : ℕ) (c : Cover). v.roots row ≡ None in
+    let IsOther = λ (row : ℕ) (c : Cover). v.roots row ≢ Some (evaluation H v.n ts known (leaves_of H text points m) m.proof.hashes c) in
+    shape_fault v.n [] 0 (named v.n m.proof) ≡ None →
+    (got ≢ wanted → fault ≡ Some (HashCount wanted got))
+    × ((row : ℕ) → got ≡ wanted → IsGreatest v.n ts IsEmpty row → fault ≡ Some (EmptyRoot row))
+    × ((row : ℕ) → got ≡ wanted → ((h : ℕ) → IsGreatest v.n ts IsEmpty h → ⊥) → IsGreatest v.n ts IsOther row → fault ≡ Some (RootDiffers row))
+
+-- and it is never the detail that stands for a message that is not right and is accepted all the same
+abbrev pub UntoldIsNoFault : Type 0
+UntoldIsNoFault = (H : List ℕ → Digest) (text : Leaf → List ℕ) (v : View) (points : List Outpoint) (m : Message) → proof_fault H text v points m ≢ Some untold
+
+-- bytes are a message exactly where they are its text
+abbrev pub MessageIsRead : Type 0
+MessageIsRead = (bytes : List ℕ) (m : Message) → IsBytes bytes →
+    (message_in bytes ≡ read m) ↔ (ProofFits m.proof × (m.lean ≡ false) × (bytes ≡ message_text m.proof))
 
 -- the test of a right message, likewise
 abbrev pub RightIsTested : Type 0
@@ -58,6 +85,13 @@ abbrev pub ViewJudgesAsFullSet : Type 0
 ViewJudgesAsFullSet = (H : List ℕ → Digest) (text : Leaf → List ℕ) (scripts : List (List ℕ)) (us : History) (rules : Rules) (chain : Chain) (b : Block) (handed : Handed) →
     is_forged H text scripts rules chain us b handed ≡ false →
     refusal rules chain b (full H text scripts us (external b chain.blocks) handed) ≡ refusal rules chain b (compact H text (view_of H text scripts us) (external b chain.blocks) handed)
+
+-- and the machine that judges by the view of each level does the same at an event as the machine with the whole history, where
+-- that one has a verdict
+abbrev pub ViewStepsAsFullSet : Type 0
+ViewStepsAsFullSet = (H : List ℕ → Digest) (text : Leaf → List ℕ) (scripts : List (List ℕ)) (rules : Rules) (s : State) (e : ChainEvent) →
+    is_some (step rules (full_judge H text scripts rules) s e).verdict ≡ true →
+    step rules (view_judge H text scripts) s e ≡ step rules (full_judge H text scripts rules) s e
 
 -- over a list of events, a machine that judges by the view of each level tells what the machine with the whole history
 -- tells, and is left with the same levels, as long as that one has a verdict

@@ -1,10 +1,22 @@
 //! Laws.
-ghost use Rattle.node_rules.specs.Laws.{NoFaultIsAccepted, RightIsTested, RightIsTaken, ViewJudgesAsFullSet, ViewRunsAsFullSet, LevelsAreFew, VerdictIsByView, HistoryIsSpentAndAppended, RightLeavesRoots, BlockAppends, KnownIsThere, WrittenIsTaken, WrittenIsFollowed, WrittenIsFollowedByViews, ForgedShowsClash, SupplyIsIssued, EachIsSpentOnce};
+ghost use Rattle.node_rules.specs.Laws.{NoFaultIsAccepted, FaultIsTold, UntoldIsNoFault, RightIsTested, MessageIsRead, ViewStepsAsFullSet, RightIsTaken, ViewJudgesAsFullSet, ViewRunsAsFullSet, LevelsAreFew, VerdictIsByView, HistoryIsSpentAndAppended, RightLeavesRoots, BlockAppends, KnownIsThere, WrittenIsTaken, WrittenIsFollowed, WrittenIsFollowedByViews, ForgedShowsClash, SupplyIsIssued, EachIsSpentOnce};
 
 /// The tests.
 pub fn verdicts_are_tested()
     ensures accepted { NoFaultIsAccepted }
+    ensures fault { FaultIsTold }
+    ensures untold { UntoldIsNoFault }
     ensures right { RightIsTested }
+{}
+
+/// x
+pub fn message_is_read()
+    ensures { MessageIsRead }
+{}
+
+/// x
+pub fn view_steps_as_full_set()
+    ensures { ViewStepsAsFullSet }
 {}
 
 /// Before a block that passes by itself, a right message is accepted.
