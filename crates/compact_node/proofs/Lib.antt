@@ -2,3 +2,4 @@ pub mod Additions
 pub mod Deletions
 pub mod Views
 pub mod Refining
+pub mod Told
