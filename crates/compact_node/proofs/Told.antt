@@ -5,7 +5,7 @@ use Rattle.std.proofs.lemmas.List.{length-map}
 use Rattle.uo_digest.specs.declared.digest.Digest.{Digest}
 use Rattle.forest_place.specs.declared.place.Place.{Place}
 use Rattle.forest_place.specs.Forest.{is_slot, root_off}
-use Rattle.forest_place.specs.Position.{place_at}
+use Rattle.forest_place.specs.Position.{place_at, rows}
 use Rattle.forest_model.specs.Cover.{Cover, cover, need}
 use Rattle.forest_model.specs.Evaluation.{IsAccepted, asked, nothing_known}
 use Rattle.forest_roots.specs.Stump.{Stump, IsStump, root_in}
@@ -33,6 +33,7 @@ use Rattle.compact_node.specs.After.{without}
 use Rattle.compact_node.specs.Node.{view_over}
 use Rattle.compact_node.specs.Judged.{IsFirst, told, fault_over, IsSpent}
 use Rattle.compact_node.proofs.Deletions.{is_without}
+use Rattle.compact_node.proofs.Taking.{leaves-long}
 
 somes-map : {X : Type 0} (xs : List X) → somes (map Some xs) ≡ xs
 somes-map [] = refl
@@ -70,12 +71,26 @@ module _ (H : List ℕ → Digest) (text : Leaf → List ℕ) (f : Stump) (ext :
       other_told H text (view_over f) (points_of ext) (in_full p) shaped row (count ∙ sym all_asked)
       (λ h g. never h (other_greatest f.leaves ts _ h g)) (same_greatest f.leaves ts _ row greatest)
 
-  module _ (t : Targeted) (n : AreNamed f.leaves p t) where
+  module _ (k : ℕ) (t : Targeted) (same : k ≡ f.leaves) (judged : AreNamed k p t) where
+    n : AreNamed f.leaves p t
+    n = subst (λ m. AreNamed m p t) same judged
+
     targets_are : t.targets ≡ ts
     targets_are = sym (somes-map t.targets) ∙ ap somes (sym n.places)
 
     pub as_many : length t.targets ≡ length p.spends
     as_many = sym (length-map t.targets Some) ∙ (ap length (sym n.places) ∙ (length-map (targets_of p.spends) (place_at f.leaves) ∙ length-map p.spends (λ s. s.target)))
+
+    -- there is a leaf for each target
+    pub leaf_each : (leaves' : List Digest) → leaves' ≡ leaves → length p.spends ≡ length ext → length leaves' ≡ length t.targets
+    leaf_each leaves' e count = ap length e ∙ (leaves-long H text ext p count ∙ (sym count ∙ sym as_many))
+
+    -- a step for each leaf, and two a row
+    pub few_steps : (start before after : ℕ) → length p.spends ≡ length ext → before ≤ start + length ext → after ≤ before + 2 * (length t.targets * rows t.leaves) →
+        after ≤ start + length ext + 2 * (length ext * rows f.leaves)
+    few_steps start before after count le more =
+        let same : length t.targets * rows t.leaves ≡ length ext * rows f.leaves = ap₂ (λ a b. a * rows b) (as_many ∙ count) n.leaves in
+        omega (arith, le, more, same)
 
     pub fault_told : (fault : ProofFault) (leaves' hashes : List Digest) → leaves' ≡ leaves → hashes ≡ p.hashes → IsFault H f t.targets leaves' hashes fault →
         option_map Why.Proof (fault_over H text f ext p) ≡ Some (Why.Proof (told fault))

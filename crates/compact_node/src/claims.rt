@@ -7,11 +7,22 @@ ghost use Rattle.node_rules.specs.Messages.{in_full, points_of};
 ghost use Rattle.node_rules.specs.Accepting.{leaves_of as claimed_leaves};
 
 use block_rules::{Found, Outside};
-use leaf_record::{LeafBuf, leaf_digest};
+use leaf_record::{LeafBuf, RestView, leaf_digest};
 use proof_wire::MessageView;
 use std::alloc::{AllocError, Global};
 use std::sync::ledger::Ledger;
 use uo_digest::{Digest, Digester, Steps};
+
+// What the rules on money ask of an output.
+fn found_in(rest: &RestView<'_>) -> Found
+    ensures { result ≡ found_of rest.now }
+{
+    Found {
+        amount: rest.amount,
+        height: rest.height,
+        coinbase: rest.coinbase,
+    }
+}
 
 // What each external input spends.
 pub(crate) fn found_by(alloc: Global, message: &MessageView<'_>) -> Result<Vec<Found>, AllocError>
@@ -20,11 +31,7 @@ pub(crate) fn found_by(alloc: Global, message: &MessageView<'_>) -> Result<Vec<F
     let mut found = Vec::new(alloc);
     for i in 0..message.spends() {
         let rest = message.rest(i);
-        found.push(Found {
-            amount: rest.amount,
-            height: rest.height,
-            coinbase: rest.coinbase,
-        })?;
+        found.push(found_in(&rest))?;
     }
     Ok(found)
 }

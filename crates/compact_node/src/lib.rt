@@ -8,7 +8,9 @@
 mod append;
 mod claims;
 mod laws;
+mod node;
 mod spend;
 
 pub use laws::{compact_is_full, fresh_stands, next_is_node};
+pub use node::Node;
 
