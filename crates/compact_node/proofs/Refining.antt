@@ -33,7 +33,7 @@ use Rattle.node_rules.specs.Known.{known_at, view_of}
 use Rattle.node_rules.specs.Reading.{Handed, nothing, unread, read}
 use Rattle.node_rules.specs.Judging.{Rules, Evidence, message_steps, full_step, untold, found_by, compact, full, refusal, is_forged, entries_shown, history_after}
 use Rattle.node_rules.specs.Machine.{verdict_by, ChainEvent, BlockCame, RollbackCame, StrayCame, Level, State, Outcome, chain_of, full_judge, level_after, pushed, by_refusal, by_evidence, step}
-use Rattle.block_rules.proofs.Firsts.{unless-passed, option_or-none, each_passes, append_passes}
+use Rattle.block_rules.proofs.Firsts.{unless-passed, option_or-none, append_passes, each_passes}
 use Rattle.node_rules.proofs.Judging.{view_judges}
 use Rattle.node_rules.proofs.Spending.{entries-spent, entries-after}
 use Rattle.node_rules.proofs.Knowing.{roots_right}
