@@ -5,7 +5,6 @@ mod chains;
 mod faults;
 mod proved;
 mod rows;
-mod subsidies;
 mod word_lists;
 
 use crate::run::run;

@@ -17,12 +17,16 @@ use uo_digest::{Digest, Sha512t256, hex_reversed, sha256d};
 
 const MOST: u64 = 2_100_000_000_000_000;
 
-/// The one output of a coinbase.
+const HALF: u64 = 2_500_000_000;
+
+/// An output to the script 51.
 #[derive(Clone, Copy)]
 struct Coin {
     txid: Digest,
+    index: u32,
     block: Digest,
-    height: u32,
+    /// Twice the height, and one more for an output of a coinbase.
+    code: u32,
     amount: u64,
 }
 
@@ -64,7 +68,7 @@ const BESIDE_FIRST: [(u32, usize); 6] = [(0, 1), (1, 1), (2, 1), (3, 1), (4, 1),
 fn accepted() -> Row {
     Row {
         spends: &[0],
-        pays: &[2_500_000_000, 2_500_000_000],
+        pays: &[HALF, HALF],
         again: true,
         claim: SUBSIDY,
         targets: Some(&[0]),
@@ -118,10 +122,10 @@ fn rows() -> [Row; 24] {
             ..refused(" immature 1 0")
         },
         // money
-        Row { pays: &[2_500_000_000, 2_500_000_001], ..refused(" overspend 1") },
+        Row { pays: &[HALF, HALF + 1], ..refused(" overspend 1") },
         Row { claim: SUBSIDY + 1, ..refused(" subsidy 5000000001 5000000000") },
-        Row { pays: &[2_500_000_000], again: false, claim: 7_500_000_000, back: " 102", ..accepted() },
-        Row { pays: &[2_500_000_000], again: false, claim: 7_500_000_001, ..refused(" subsidy 7500000001 7500000000") },
+        Row { pays: &[HALF], again: false, claim: 7_500_000_000, back: " 102", ..accepted() },
+        Row { pays: &[HALF], again: false, claim: 7_500_000_001, ..refused(" subsidy 7500000001 7500000000") },
         Row { pays: &[MOST + 1], ..refused(" value 1") },
         // room for 103 entries, and for 102
         Row { room: 103, ..accepted() },
@@ -135,15 +139,14 @@ fn leaf_digest(alloc: Global, coin: &Coin) -> Result<Digest, Fail> {
     text.extend_from_slice(&tag)?;
     text.extend_from_slice(&coin.block.0)?;
     text.extend_from_slice(&coin.txid.0)?;
-    text.extend_from_slice(&0u32.to_le_bytes())?;
+    text.extend_from_slice(&coin.index.to_le_bytes())?;
     put_rest_end(coin, 0, &mut text)?;
     Ok(Digest(<Sha512_256 as sha2::Digest>::digest(&text)))
 }
 
-// The code of a coinbase's height, the amount, and the script 51.
+// What a rest is behind the hash of the block, with so much more of an amount.
 fn put_rest_end(coin: &Coin, more: u64, text: &mut Vec<u8>) -> Result<(), Fail> {
-    let code = coin.height.wrapping_mul(2).wrapping_add(1);
-    text.extend_from_slice(&code.to_le_bytes())?;
+    text.extend_from_slice(&coin.code.to_le_bytes())?;
     text.extend_from_slice(&coin.amount.wrapping_add(more).to_le_bytes())?;
     text.extend_from_slice(&[1, 0x51])?;
     Ok(())
@@ -264,7 +267,13 @@ fn make_chain(alloc: Global) -> Result<Chain, Fail> {
         let tip = chain.tip;
         let block = put_block(alloc, &mut chain.feed, &tip, &[tx])?;
         chain.tip = block;
-        let coin = Coin { txid, block, height, amount: SUBSIDY };
+        let coin = Coin {
+            txid,
+            index: 0,
+            block,
+            code: 2 * height + 1,
+            amount: SUBSIDY,
+        };
         if height > 0 {
             chain.leaves.push(leaf_digest(alloc, &coin)?)?;
             chain.coins.push(coin)?;
@@ -276,35 +285,50 @@ fn make_chain(alloc: Global) -> Result<Chain, Fail> {
     Ok(chain)
 }
 
-// The message that a row asks for.
-fn message(alloc: Global, chain: &Chain, row: &Row, targets: &[u64]) -> Result<Vec<u8>, Fail> {
+// A message that shows coins at these targets, whose amounts are raised, and hashes.
+fn message_of(alloc: Global, targets: &[u64], coins: &[Coin], more: u64, hashes: &[Digest]) -> Result<Vec<u8>, Fail> {
     let mut text = Vec::from_slice(alloc, &[1, 0])?;
     put_count(targets.len(), &mut text)?;
     for target in targets {
         text.extend_from_slice(&target.to_le_bytes())?;
     }
-    for index in row.shows {
-        if let Some(coin) = chain.coins.get(*index) {
-            text.extend_from_slice(&coin.block.0)?;
-            put_rest_end(coin, row.more, &mut text)?;
-        }
+    for coin in coins {
+        text.extend_from_slice(&coin.block.0)?;
+        put_rest_end(coin, more, &mut text)?;
     }
-    put_count(row.hashes.len(), &mut text)?;
-    for (height, off) in row.hashes {
-        if *height < 20 && *off < 1000 {
-            text.extend_from_slice(&node(alloc, &chain.leaves, *height, *off)?.0)?;
-        }
+    put_count(hashes.len(), &mut text)?;
+    for hash in hashes {
+        text.extend_from_slice(&hash.0)?;
     }
     Ok(text)
+}
+
+// The message that a row asks for.
+fn message(alloc: Global, chain: &Chain, row: &Row, targets: &[u64]) -> Result<Vec<u8>, Fail> {
+    let mut coins = Vec::new(alloc);
+    for index in row.shows {
+        coins.extend_from_slice(chain.coins.get(*index..).unwrap_or(&[]).get(..1).unwrap_or(&[]))?;
+    }
+    let mut hashes = Vec::new(alloc);
+    for (height, off) in row.hashes {
+        if *height < 20 && *off < 1000 {
+            hashes.push(node(alloc, &chain.leaves, *height, *off)?)?;
+        }
+    }
+    message_of(alloc, targets, &coins, row.more, &hashes)
+}
+
+fn put_proof(feed: &mut Vec<u8>, body: &[u8]) -> Result<(), Fail> {
+    feed.extend_from_slice(b"UTXP")?;
+    feed.extend_from_slice(&u32::try_from(body.len()).unwrap_or(0).to_le_bytes())?;
+    feed.extend_from_slice(body)?;
+    Ok(())
 }
 
 // Appends the frames of a row's message and block, and answers the block's hash.
 fn put_row(alloc: Global, chain: &Chain, row: &Row, feed: &mut Vec<u8>) -> Result<Digest, Fail> {
     if let Some(targets) = row.targets {
-        let body = message(alloc, chain, row, targets)?;
-        feed.extend_from_slice(b"UTXP")?;
-        feed.extend_from_slice(&u32::try_from(body.len()).unwrap_or(0).to_le_bytes())?;
-        feed.extend_from_slice(&body)?;
+        put_proof(feed, &message(alloc, chain, row, targets)?)?;
     }
     let mut spent = Vec::new(alloc);
     for index in row.spends {
@@ -313,7 +337,7 @@ fn put_row(alloc: Global, chain: &Chain, row: &Row, feed: &mut Vec<u8>) -> Resul
         }
     }
     let second = payment(alloc, &spent, row.pays)?;
-    let third = payment(alloc, &[(sha256d(&second), 0)], &[2_500_000_000])?;
+    let third = payment(alloc, &[(sha256d(&second), 0)], &[HALF])?;
     let mut txs = Vec::new(alloc);
     txs.push(coinbase(alloc, 101, row.claim)?)?;
     txs.push(second)?;
@@ -321,6 +345,25 @@ fn put_row(alloc: Global, chain: &Chain, row: &Row, feed: &mut Vec<u8>) -> Resul
         txs.push(third)?;
     }
     put_block(alloc, feed, &chain.tip, &txs)
+}
+
+fn follow<'a>(feed: &'a [u8], room: u64) -> Ports<'a>
+    requires { room < 2 ^ 40 }
+    ensures leaves { result.limits.leaves < 2 ^ 40 }
+    ensures bytes { result.limits.bytes ≤ 2 ^ 48 }
+{
+    Ports {
+        words: &["follow"],
+        limits: Limits {
+            leaves: room,
+            bytes: 4_000_000,
+        },
+        feed,
+        read_piece: 1000,
+        failing_reads: &[],
+        write_piece: 50,
+        failing_writes: &[],
+    }
 }
 
 fn check_row<L: Ledger>(
@@ -340,24 +383,11 @@ fn check_row<L: Ledger>(
     let front = format!(in alloc; "{} 101 ", row.front)?;
     put_line(&mut report, front.as_str(), &hash, row.back)?;
     if row.status == Status::AllAccepted {
-        let back = format!(in alloc; "{}", row.back)?;
-        put_line(&mut report, "end 102 101 ", &hash, back.as_str())?;
+        put_line(&mut report, "end 102 101 ", &hash, row.back)?;
     } else {
         put_line(&mut report, "end 102 100 ", &chain.tip, " 100")?;
     }
-    let ports = Ports {
-        words: &["follow"],
-        limits: Limits {
-            leaves: row.room.min(1000),
-            bytes: 1_000_000,
-        },
-        feed: &feed,
-        read_piece: 1000,
-        failing_reads: &[],
-        write_piece: 1000,
-        failing_writes: &[],
-    };
-    let outcome = run_over::<Sha512t256, L>(alloc, &ports, blank)?;
+    let outcome = run_over::<Sha512t256, L>(alloc, &follow(&feed, row.room.min(1000)), blank)?;
     assert!(rt; outcome.report.as_slice() == report.as_slice(), "{}", row.back);
     assert_eq!(rt; outcome.status, row.status);
     Ok(())
@@ -372,4 +402,179 @@ fn blocks_with_proofs(rt: HostRuntime) -> Result<(), Fail> {
         check_row::<Brand>(&rt, rt.alloc(), &chain, row, Blank::new(1))?;
     }
     Ok(())
+}
+
+// The last entry, which is a tree of its own, is spent at height 102, where no entry is added, and once more at height 103.
+fn spend_tree(alloc: Global, chain: &Chain) -> Result<Chain, Fail> {
+    let mut feed = Vec::from_slice(alloc, &chain.feed)?;
+    let mut report = Vec::from_slice(alloc, &chain.report)?;
+    let block = put_row(alloc, chain, &accepted(), &mut feed)?;
+    put_line(&mut report, "accepted 101 ", &block, " 103")?;
+    let first = chain.coins.first().map_or(chain.tip, |coin| coin.txid);
+    let second = payment(alloc, &[(first, 0)], &[HALF, HALF])?;
+    let third = payment(alloc, &[(sha256d(&second), 0)], &[HALF])?;
+    let coin = Coin {
+        txid: sha256d(&third),
+        index: 0,
+        block,
+        code: 202,
+        amount: HALF,
+    };
+    let mut tip = block;
+    for (height, front, back) in [(102, "accepted 102 ", " 103"), (103, "refused 103 ", " proof empty 0")] {
+        let mut claim = coinbase(alloc, height, SUBSIDY)?;
+        let end = claim.len().saturating_sub(5);
+        claim.truncate(end);
+        claim.extend_from_slice(&[0x6a, 0, 0, 0, 0])?;
+        put_proof(&mut feed, &message_of(alloc, &[102], &[coin], 0, &[])?)?;
+        let next = put_block(alloc, &mut feed, &tip, &[claim, payment(alloc, &[(coin.txid, 0)], &[])?])?;
+        put_line(&mut report, front, &next, back)?;
+        if height == 102 {
+            tip = next;
+        }
+    }
+    put_line(&mut report, "end 104 102 ", &tip, " 103")?;
+    Ok(Chain {
+        feed,
+        report,
+        tip,
+        coins: Vec::new(alloc),
+        leaves: Vec::new(alloc),
+    })
+}
+
+fn check_tree<L: Ledger>(rt: &impl Abort, alloc: Global, blank: Blank) -> Result<(), Fail>
+    requires name { blank.name ≡ L.name }
+    requires parts { blank.parts ≡ L.parts }
+    requires some { 0 < blank.parts }
+{
+    let chain = spend_tree(alloc, &make_chain(alloc)?)?;
+    let outcome = run_over::<Sha512t256, L>(alloc, &follow(&chain.feed, 1000), blank)?;
+    assert!(rt; outcome.report.as_slice() == chain.report.as_slice());
+    assert_eq!(rt; outcome.status, Status::SomeRefused);
+    Ok(())
+}
+
+#[test]
+fn a_tree_is_spent(rt: HostRuntime) -> Result<(), Fail> {
+    check_tree::<Brand>(&rt, rt.alloc(), Blank::new(1))
+}
+
+// A run over the chain and a block with its proof, whose call of the feed or of the report fails: the report is a front of the whole.
+fn check_call<L: Ledger>(
+    rt: &impl Abort,
+    alloc: Global,
+    chain: &Chain,
+    call: u64,
+    reads: bool,
+    blank: Blank,
+) -> Result<(), Fail>
+    requires name { blank.name ≡ L.name }
+    requires parts { blank.parts ≡ L.parts }
+    requires some { 0 < blank.parts }
+{
+    let mut feed = Vec::from_slice(alloc, &chain.feed)?;
+    let mut report = Vec::from_slice(alloc, &chain.report)?;
+    let hash = put_row(alloc, chain, &accepted(), &mut feed)?;
+    put_line(&mut report, "accepted 101 ", &hash, " 103")?;
+    put_line(&mut report, "end 102 101 ", &hash, " 103")?;
+    let failing = [call];
+    let mut ports = follow(&feed, 1000);
+    let (stopped, calls) = if reads {
+        ports.failing_reads = &failing;
+        (Status::ReadFault, 400)
+    } else {
+        ports.failing_writes = &failing;
+        (Status::WriteFault, 200)
+    };
+    let outcome = run_over::<Sha512t256, L>(alloc, &ports, blank)?;
+    let fails = outcome.status == stopped;
+    assert!(rt; fails || call > calls, "call {call}");
+    assert!(rt; report.starts_with(&outcome.report));
+    assert!(rt; fails || outcome.report.len() == report.len());
+    Ok(())
+}
+
+#[test]
+fn each_port_fails(rt: HostRuntime) -> Result<(), Fail> {
+    let chain = make_chain(rt.alloc())?;
+    for step in 0..20 {
+        check_call::<Brand>(&rt, rt.alloc(), &chain, 21 * step, true, Blank::new(1))?;
+        check_call::<Brand>(&rt, rt.alloc(), &chain, 11 * step, false, Blank::new(1))?;
+    }
+    Ok(())
+}
+
+/// As many spends as a block can have, but for a few: 381 times 64.
+const MANY: u32 = 24_384;
+
+// A coinbase with many outputs, which ripens, and a block that spends them all. What is left of the tree of 128 entries that holds the last of them
+// is one node.
+fn make_many(alloc: Global) -> Result<Chain, Fail> {
+    let amount = SUBSIDY / u64::from(MANY);
+    let mut chain = Chain {
+        feed: Vec::new(alloc),
+        report: Vec::new(alloc),
+        tip: Digest([0; 32]),
+        coins: Vec::new(alloc),
+        leaves: Vec::new(alloc),
+    };
+    let mut spent = Vec::new(alloc);
+    let mut targets = Vec::new(alloc);
+    for height in 0..101 {
+        let mut tx = coinbase(alloc, height, SUBSIDY)?;
+        if height == 1 {
+            tx.truncate(50);
+            put_count(MANY as usize, &mut tx)?;
+            for _ in 0..MANY {
+                tx.extend_from_slice(&amount.to_le_bytes())?;
+                tx.extend_from_slice(&[1, 0x51])?;
+            }
+            tx.extend_from_slice(&[0; 4])?;
+        }
+        let txid = sha256d(&tx);
+        let tip = chain.tip;
+        let block = put_block(alloc, &mut chain.feed, &tip, &[tx])?;
+        chain.tip = block;
+        let count = if height == 0 { 0 } else if height == 1 { MANY } else { 1 };
+        for index in 0..count {
+            let coin = Coin {
+                txid,
+                index,
+                block,
+                code: 2 * height + 1,
+                amount: if height == 1 { amount } else { SUBSIDY },
+            };
+            chain.leaves.push(leaf_digest(alloc, &coin)?)?;
+            if height == 1 {
+                targets.push(u64::from(index))?;
+                spent.push((txid, index))?;
+                chain.coins.push(coin)?;
+            }
+        }
+    }
+    let rest = node(alloc, &chain.leaves, 6, 381)?;
+    put_proof(&mut chain.feed, &message_of(alloc, &targets, &chain.coins, 0, &[rest])?)?;
+    let tip = chain.tip;
+    let last = put_block(alloc, &mut chain.feed, &tip, &[coinbase(alloc, 101, SUBSIDY)?, payment(alloc, &spent, &[])?])?;
+    put_line(&mut chain.report, "accepted 101 ", &last, " 24484")?;
+    put_line(&mut chain.report, "end 102 101 ", &last, " 24484")?;
+    Ok(chain)
+}
+
+fn check_many<L: Ledger>(rt: &impl Abort, alloc: Global, blank: Blank) -> Result<(), Fail>
+    requires name { blank.name ≡ L.name }
+    requires parts { blank.parts ≡ L.parts }
+    requires some { 0 < blank.parts }
+{
+    let chain = make_many(alloc)?;
+    let outcome = run_over::<Sha512t256, L>(alloc, &follow(&chain.feed, 30_000), blank)?;
+    assert!(rt; outcome.report.ends_with(&chain.report));
+    assert_eq!(rt; outcome.status, Status::AllAccepted);
+    Ok(())
+}
+
+#[test]
+fn many_spends(rt: HostRuntime) -> Result<(), Fail> {
+    check_many::<Brand>(&rt, rt.alloc(), Blank::new(1))
 }
