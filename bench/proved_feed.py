@@ -1,9 +1,11 @@
 #!/usr/bin/env python3
-"""Writes a feed of blocks with proofs: proved_feed.py ENTRIES BLOCKS SPENDS > FEED
+"""Writes a feed of mainnet blocks with proofs: proved_feed.py ENTRIES BLOCKS SPENDS
 
 First come blocks whose coinbases make ENTRIES outputs, then a hundred blocks so that these ripen, then BLOCKS blocks that each
 spend SPENDS of them (drawn by a fixed rule) and make as many. What a node has to digest for the last ones goes to standard
-error, as numbers: the digests of the forest, and the bytes of block hashes and ids.
+error, as two numbers: 128-byte blocks of SHA-512 for the forest, and bytes that are hashed twice by SHA-256.
+
+The forest is kept as explicit trees, by a program of its own that knows nothing of the node.
 """
 import hashlib
 import struct
@@ -14,6 +16,7 @@ PROOF = b"UTXP"
 TAG = hashlib.sha512(b"UtreexoV1").digest()
 SUBSIDY = 5_000_000_000
 SCRIPT = b"\x51"
+LEAF_BLOCKS = 2  # a pair has one
 
 
 def sha256d(text):
@@ -210,7 +213,7 @@ class Chain:
                     made.append(entry)
         self.height += 1
         self.hashed += sum(map(len, txs)) + 80 + 64 * (len(txs) - 1)
-        return made, self.forest.made - before + len(spent) + len(made)
+        return made, self.forest.made - before + LEAF_BLOCKS * (len(spent) + len(made))
 
 
 def main():
