@@ -3,7 +3,7 @@
 
 First come blocks whose coinbases make ENTRIES outputs, then a hundred blocks so that these ripen, then BLOCKS blocks that each
 spend SPENDS of them (drawn by a fixed rule) and make as many. What a node has to digest for the last ones goes to standard
-error, as two numbers: 128-byte blocks of SHA-512 for the forest, and bytes that are hashed twice by SHA-256.
+error, as two numbers: 128-byte blocks of SHA-512 for the forest, and bytes of SHA-256 for hashes and ids.
 
 The forest is kept as explicit trees, by a program of its own that knows nothing of the node.
 """
@@ -212,7 +212,7 @@ class Chain:
                     self.forest.add(entry.leaf)
                     made.append(entry)
         self.height += 1
-        self.hashed += sum(map(len, txs)) + 80 + 64 * (len(txs) - 1)
+        self.hashed += sum(len(tx) + 64 for tx in txs) + 144 + 128 * (len(txs) - 1)
         return made, self.forest.made - before + LEAF_BLOCKS * (len(spent) + len(made))
 
 
