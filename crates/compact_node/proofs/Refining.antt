@@ -56,14 +56,17 @@ spent-stump H f nothing s = s
 spent-stump H f (unread why) s = s
 spent-stump H f (read m) s = without-stump H f (targets f.leaves m.proof) m.proof.hashes s
 
--- an accepted block has a next height and room
-pub room : (s : NodeState) (b : Block) (e : Evidence) → refusal s.rules s.chain b e ≡ None →
+-- a block that passes by itself has a next height and room
+pub room_before : (s : NodeState) (b : Block) → first_of (block_steps s.rules.limits s.chain b) ≡ None →
     (s.chain.blocks < 2 ^ 31) × (s.chain.leaves + length (new_records b s.chain.blocks) ≤ s.rules.limits.leaves)
-room s b e h =
-    let passed = (append_passes (block_steps s.rules.limits s.chain b) (e.steps ++ money_steps (spends_of s.rules.net s.chain.blocks b) e.found) h).0 in
+room_before s b passed =
     let sixth : unless (has_room s.rules.limits s.chain (length (new_records b s.chain.blocks))) Why.Full ≡ None = each_passes (block_steps s.rules.limits s.chain b) 6 passed in
     let both = and_parts (nat_lt s.chain.blocks (2 ^ 31)) (nat_le (s.chain.leaves + length (new_records b s.chain.blocks)) s.rules.limits.leaves) (unless-passed _ _ sixth) in
     (ltb-true _ _ both.0, leb-true _ _ both.1)
+
+pub room : (s : NodeState) (b : Block) (e : Evidence) → refusal s.rules s.chain b e ≡ None →
+    (s.chain.blocks < 2 ^ 31) × (s.chain.leaves + length (new_records b s.chain.blocks) ≤ s.rules.limits.leaves)
+room s b e h = room_before s b (append_passes (block_steps s.rules.limits s.chain b) (e.steps ++ money_steps (spends_of s.rules.net s.chain.blocks b) e.found) h).0
 
 module _ (H : List ℕ → Digest) (text : Leaf → List ℕ) (s : NodeState) (is : IsNode s) (b : Block) (handed : Handed) (passes : refusal_on H text s b handed ≡ None) where
   abbrev new : List Leaf
