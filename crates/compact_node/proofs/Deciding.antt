@@ -1,7 +1,9 @@
 -- The first rule that a block breaks, from what each call answered.
-use Rattle.std.proofs.Common.{◌≡◌, ℕ, suc, ◌+◌, ◌<◌, ◌≤◌, ◌^◌, true, List, [], ◌∷◌, ◌++◌, map, length, Option, Some, None, is_some, refl, sym, ap, ap₂, ◌∙◌, subst, arith}
-use Rattle.std.specs.Prelude.{option_map, Result, Ok, Err, IfErr, IsErrAnd}
+use Rattle.std.proofs.Common.{◌≡◌, ℕ, suc, ◌+◌, ◌<◌, ◌≤◌, ◌^◌, true, List, [], ◌∷◌, ◌++◌, map, length, Option, Some, None, refl, sym, ap, ap₂, ◌∙◌, subst, arith}
+use Rattle.std.specs.Prelude.{option_map, Result, Ok, Err, IfOk, IfErr, OnOk, IsErrAnd}
 use Rattle.std.specs.Option.{option_or}
+use Rattle.uo_base.specs.declared.event.Event.{Event}
+use Rattle.uo_base.specs.FeedEvent.{event_of}
 use Rattle.uo_digest.specs.declared.digest.Digest.{Digest}
 use Rattle.forest_roots.specs.Stump.{Stump}
 use Rattle.block_codec.specs.Block.{Block, block_hash_of}
@@ -25,11 +27,11 @@ use Rattle.block_rules.proofs.Firsts.{first_of-append}
 use Rattle.node_rules.specs.Messages.{in_full, points_of}
 use Rattle.node_rules.specs.Reading.{Handed, read}
 use Rattle.node_rules.specs.Judging.{Evidence, message_steps, view_step, found_by, compact}
-use Rattle.node_rules.specs.Machine.{ChainEvent, BlockCame, State, verdict_by}
+use Rattle.node_rules.specs.Machine.{ChainEvent, BlockCame, event_in, verdict_by}
 use Rattle.compact_node.specs.After.{with_leaves}
-use Rattle.compact_node.specs.Node.{NodeState, IsNode, Stands, is_forward, view_over, refusal_on, verdict_on, roots_spent, roots_after, node_with, node_by, next_node}
+use Rattle.compact_node.specs.Node.{NodeState, IsNode, view_over, refusal_on, verdict_on, roots_spent, roots_after, node_with, node_by, next_node}
 use Rattle.compact_node.specs.Judged.{IsFirst, fault_over, IsTakenOut, IsAccepted}
-use Rattle.compact_node.specs.Laws.{full_step}
+use Rattle.compact_node.specs.Laws.{SaysAsFull}
 use Rattle.compact_node.proofs.Refining.{spent-leaves, room_before, room, after-leaves, compact_is_full}
 
 -- ---- the first of two lists of steps
@@ -136,12 +138,13 @@ module _ (H : List ℕ → Digest) (text : Leaf → List ℕ) (s : NodeState) (b
       ∙ ap (λ x. node_by x (node_with H text s b handed) s) (sym a.passes))
 
 -- what is said and kept is so beside the node that holds every output
-pub refines : (H : List ℕ → Digest) (text : Leaf → List ℕ) (s s' : NodeState) (e : ChainEvent) (v : Verdict) → IsNode s → v ≡ verdict_on H text s e → s' ≡ next_node H text s e →
-    (t : State) → Stands H text t s → is_forward e ≡ true → is_some (full_step H text s.rules t e).verdict ≡ true →
-    ((full_step H text s.rules t e).verdict ≡ Some v) × Stands H text (full_step H text s.rules t e).state s'
-refines H text s s' e v is said next t stands forward told =
-    let a = compact_is_full H text s t e is stands forward told in
-    (a.verdict ∙ ap Some (sym said), subst (Stands H text (full_step H text s.rules t e).state) (sym next) a.stands)
+pub refined : {E : Type 0} (H : List ℕ → Digest) (text : Leaf → List ℕ) (s s' : NodeState) (event : Event) (e : ChainEvent) (result : Result Verdict E) → IsNode s → event_in (event_of event) ≡ e →
+    IfOk result (λ v. v ≡ verdict_on H text s e) → OnOk result (s' ≡ next_node H text s e) → IfOk result (λ v. SaysAsFull H text s (event_in (event_of event)) v s')
+refined H text s s' event e (Ok v) is same said next =
+    subst (λ x. SaysAsFull H text s x v s') (sym same)
+    (subst (λ x. SaysAsFull H text s e x s') (sym said)
+    (subst (λ x. SaysAsFull H text s e (verdict_on H text s e) x) (sym next) (compact_is_full H text s e is)))
+refined H text s s' event e (Err fault) is same said next = tt
 
 -- ---- what an exit by `?` hands on
 
