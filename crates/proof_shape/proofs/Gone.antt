@@ -20,7 +20,7 @@ use Rattle.proof_shape.proofs.Needing.{covered_up, covered_target}
 use Rattle.proof_shape.proofs.Climbing.{nothing_above}
 
 -- a target stands at or beneath what is covered
-target_beneath : (ts : List Place) (r o : ℕ) → is_some (cover ts r o) ≡ true → (q : Place) × (k : ℕ) × (has_place ts q.row q.off ≡ true) × (q.row + k ≡ r) × (q.off / 2 ^ k ≡ o)
+pub target_beneath : (ts : List Place) (r o : ℕ) → is_some (cover ts r o) ≡ true → (q : Place) × (k : ℕ) × (has_place ts q.row q.off ≡ true) × (q.row + k ≡ r) × (q.off / 2 ^ k ≡ o)
 target_beneath ts zero o c = by_target (cases_Bool (has_place ts zero o))
   where
     by_target : (has_place ts zero o ≡ true) ⊎ (has_place ts zero o ≡ false) → (q : Place) × (k : ℕ) × (has_place ts q.row q.off ≡ true) × (q.row + k ≡ 0) × (q.off / 2 ^ k ≡ o)
@@ -40,7 +40,7 @@ target_beneath ts (suc r) o c =
 
 module _ (n : ℕ) (ts : List Place) (shape : HasShape n ts) where
   -- a target has no target beneath
-  target_bare : (r o : ℕ) → has_place ts (suc r) (o / 2) ≡ true → is_some (cover ts r o) ≡ false
+  pub target_bare : (r o : ℕ) → has_place ts (suc r) (o / 2) ≡ true → is_some (cover ts r o) ≡ false
   target_bare r o it =
       false_from_ne_true _ (λ c.
       let w = target_beneath ts r o c in
@@ -164,7 +164,7 @@ module _ (n : ℕ) (ts : List Place) (p : Place) (h : InForest n p.row p.off) (s
   moved_up other = moved-step n ts p.row p.off h ∙ rw (stays, other) refl
 
 -- where a place moves to nothing: it is gone, or beneath a target
-up_in : (n r o : ℕ) (ts : List Place) → is_gone ts r o ≡ false → is_gone ts (suc r) (o / 2) ≡ true → has_place ts (suc r) (o / 2) ≡ true
+pub up_in : (n r o : ℕ) (ts : List Place) → is_gone ts r o ≡ false → is_gone ts (suc r) (o / 2) ≡ true → has_place ts (suc r) (o / 2) ≡ true
 up_in n r o ts stays gone =
     ⊎_elim (λ it. it)
     (λ both.
@@ -175,7 +175,7 @@ up_in n r o ts stays gone =
     (cases_eq (o % 2) 0)))
     (or_cases (has_place ts (suc r) (o / 2)) (is_gone ts r (2 * (o / 2)) && is_gone ts r (2 * (o / 2) + 1)) gone)
 
-target_gone : (ts : List Place) (r o : ℕ) → has_place ts r o ≡ true → is_gone ts r o ≡ true
+pub target_gone : (ts : List Place) (r o : ℕ) → has_place ts r o ≡ true → is_gone ts r o ≡ true
 target_gone ts zero o it = it
 target_gone ts (suc r) o it = or_left (has_place ts (suc r) o) (is_gone ts r (2 * o) && is_gone ts r (2 * o + 1)) it
 

@@ -79,7 +79,7 @@ pub kept_none : (f : Place → Option Place) (xs : List Place) (i : ℕ) (d : Pl
 kept_none f xs i d old h e g = e ∙ (sym (append-nil (filter_map f (take i xs))) ∙ (ap (λ o. filter_map f (take i xs) ++ cons_option o []) (sym g) ∙ sym (kept_more f xs i d h)))
 
 -- places whose positions rise ascend
-ascending_from_rises : (n : ℕ) (cs : List Place) → AreWithin n cs → Rises n cs → IsAscending cs
+pub ascending_from_rises : (n : ℕ) (cs : List Place) → AreWithin n cs → Rises n cs → IsAscending cs
 ascending_from_rises n [] h rises = tt
 ascending_from_rises n (p ∷ ps) h rises = (
   (λ q i.

@@ -1,3 +1,14 @@
 pub mod Evaluated
 pub mod Links
 pub mod Sends
+pub mod Settled
+pub mod Arrivals
+pub mod Puts
+pub mod Planned
+pub mod Whereto
+pub mod Values
+pub mod Verdicts
+pub mod Counts
+pub mod Remains
+pub mod Paired
+pub mod Lawful

@@ -4,7 +4,8 @@ use Rattle.std.specs.Prelude.{◌⊎◌, Result, Ok, Err, MatchResult, MatchOpti
 use Rattle.std.specs.Result.{result_ok}
 use Rattle.std.specs.List.{cons_option}
 use Rattle.std.proofs.lemmas.Bool.{cases_lt, cases_eq, or_right, false_from_ne_true}
-use Rattle.std.proofs.lemmas.List.{length-set, get_or-set_same, get_or-set_other, take-append-drop, drop_more, length-append, length-take-le}
+use Rattle.std.proofs.lemmas.List.{length-set, get_or-set_same, get_or-set_other, take-append-drop, drop_more, length-append, length-take-le, append-nil, drop_all}
+use Rattle.std.proofs.Math.Seq.{take-length}
 use Rattle.std.proofs.lemmas.List.Elements.{filter_map-append}
 use Rattle.std.proofs.Math.Seq.{get_or-append_seam}
 use Rattle.forest_place.specs.declared.place.Place.{Place}
@@ -22,6 +23,12 @@ use Rattle.proof_shape.proofs.Sweeping.{ups_rise, index_low, small_position}
 use Rattle.forest_place.proofs.Parts.{InForest-up}
 use Rattle.proof_verify.specs.Origins.{origin_at, number_at, child, IsHalf, AreHalves, rank_of, IsLinked, IsLinking}
 use Rattle.proof_verify.specs.declared.origin.Origin.{Origin}
+
+-- a list whose elements were written over
+pub refilled : {X : Type 0} (n : ℕ) (xs ys : List X) → length xs ≡ length ys → length ys ≡ n → take n (xs ++ drop (length xs) ys) ≡ xs
+refilled n xs ys e f =
+    let none : drop (length xs) ys ≡ [] = drop_all (length xs) ys (omega (arith, e)) in
+    ap (λ l. take n (xs ++ l)) none ∙ (ap (take n) (append-nil xs) ∙ (ap (λ k. take k xs) (sym (e ∙ f)) ∙ take-length xs))
 
 -- what a search answers, as an option
 pub found_at : (xs : List ℕ) (x : ℕ) (r : Result ℕ ℕ) (o : Option ℕ) → o ≡ result_ok r → MatchResult r (λ i. (i < length xs) × (get_or xs i 0 ≡ x)) (λ i. (i ≤ length xs) × ((k : ℕ) → k < i → get_or xs k 0 < x) × ((k : ℕ) → i ≤ k → k < length xs → x < get_or xs k 0)) → MatchOption o (has_number xs x ≡ false) (λ k. (k < length xs) × (number_at xs k ≡ x))

@@ -1,5 +1,5 @@
 -- The new places of what stays above targets.
-use Rattle.std.specs.Prelude.{◌≡◌, ℕ, ◌-◌, ◌<◌, true, List, length, get_or, Option, Some, None, All, Contains}
+use Rattle.std.specs.Prelude.{◌≡◌, ℕ, ◌-◌, ◌<◌, ◌≤◌, true, List, length, get_or, Option, Some, None, All, Contains}
 use Rattle.std.specs.List.Sorted.{IsNonDecreasingBy}
 use Rattle.uo_digest.specs.declared.digest.Digest.{Digest}
 use Rattle.forest_place.specs.declared.place.Place.{Place}
@@ -35,6 +35,7 @@ landing_at ls k = get_or ls k (record { number = 0; place = record { row = 0; of
 
 -- of the first i landings in order, one for each position
 pub record AreFirst (ls : List Landing) (i : ℕ) (firsts : List Landing) : Type 0 where
+  pub short : length firsts ≤ i
   pub among : All (Contains ls) firsts
   pub rises : (a b : ℕ) → a < b → b < length firsts → (landing_at firsts a).number < (landing_at firsts b).number
   pub last : 0 < i → (0 < length firsts) × ((landing_at firsts (length firsts - 1)).number ≡ (landing_at ls (i - 1)).number)

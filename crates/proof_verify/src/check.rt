@@ -31,6 +31,8 @@ pub fn check_and_delete<'s, D: Digester, L: Ledger>(
     ensures fewer { steps.new ≤ steps.old + 2 * length (above_targets targets.now.leaves targets.now.targets) }
     ensures few { steps.new ≤ steps.old + 2 * (length targets.now.targets * rows targets.now.leaves) }
 {
+    let agree = targets.leaves() == roots.leaves();
+    prove!(agree);
     scratch.check::<D, L>(roots, targets.needed().len(), leaves, hashes, steps)?;
     Ok(scratch.changes())
 }

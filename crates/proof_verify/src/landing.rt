@@ -1,10 +1,10 @@
 //! The new places of what stays above the targets.
-ghost use Rattle.std.specs.Prelude.{◌≡◌, ℕ, ◌^◌, ◌<◌, length, Some, IfOk};
+ghost use Rattle.std.specs.Prelude.{◌≡◌, ℕ, ◌^◌, ◌<◌, length, Some, IfSome, IfOk, MatchOption};
 ghost use Rattle.std.specs.List.Sorted.{IsNonDecreasingBy};
 ghost use Rattle.forest_place.specs.declared.place.Place.{Place as Placed};
 ghost use Rattle.forest_place.specs.Forest.{InForest};
 ghost use Rattle.proof_verify.specs.Going.{goes_at};
-ghost use Rattle.proof_verify.specs.Landings.{AreLandings, AreFirst, AreNew};
+ghost use Rattle.proof_verify.specs.Landings.{landing_of as landed, IsInner, AreLandings, AreFirst, AreNew};
 ghost use Rattle.proof_verify.specs.declared.landing.Landing.{Landing as Landed};
 
 use crate::origin::Origin;
@@ -17,6 +17,25 @@ pub(crate) struct Landing {
     pub number: u64,
     pub place: Place,
     pub from: usize,
+}
+
+// Where a covered place goes, unless it is a target or gone.
+fn landing_of(n: u64, origin: Origin, goes: Option<Place>, from: usize) -> Option<Landing>
+    requires small { n < 2 ^ 40 }
+    requires within { IfSome goes (λ q. InForest n q.row q.off) }
+    ensures { MatchOption result ((q : Placed) → IsInner origin → goes ≡ Some q → ⊥) (λ l. IsInner origin × (goes ≡ Some l.place) × (l ≡ landed n l.place from)) }
+{
+    match origin {
+        Origin::Target(_) => None,
+        Origin::Halves(_, _) => match goes {
+            Some(place) => Some(Landing {
+                number: position(place, n),
+                place,
+                from,
+            }),
+            None => None,
+        },
+    }
 }
 
 // Where the covered places go that are no targets.
@@ -33,12 +52,8 @@ fn all_landings(
 {
     let mut landings = Vec::new(alloc);
     for from in 0..origins.len() {
-        if let (Origin::Halves(_, _), Some(place)) = (origins[from], goes[from]) {
-            landings.push(Landing {
-                number: position(place, n),
-                place,
-                from,
-            })?;
+        if let Some(landing) = landing_of(n, origins[from], goes[from], from) {
+            landings.push(landing)?;
         }
     }
     Ok(landings)

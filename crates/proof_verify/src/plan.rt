@@ -5,6 +5,8 @@ ghost use Rattle.forest_place.specs.declared.place.Place.{Place as Placed};
 ghost use Rattle.proof_shape.specs.Found.{place_in};
 ghost use Rattle.proof_shape.specs.Shape.{AreWithin, has_number, positions_of as numbers_of};
 ghost use Rattle.proof_shape.specs.Swept.{up, is_top, has, IsNear, Rises};
+ghost use Rattle.proof_shape.specs.Survey.{IsCoverOf};
+ghost use Rattle.proof_verify.specs.Room.{IsPlan};
 ghost use Rattle.proof_verify.specs.Origins.{number_at, AreHalves, rank_of, AreLinked, ArePut, IsTop, AreTops};
 
 use crate::origin::{Half, Origin};
@@ -69,7 +71,7 @@ fn origin_above(n: u64, covered: &[Place], i: usize, rank: usize) -> Option<(Ori
 }
 
 // What each covered place is made of that is no target, and the index of the place above each that is no root.
-pub(crate) fn link(n: u64, covered: &[Place], origins: &mut [Origin], parents: &mut [usize])
+fn link(n: u64, covered: &[Place], origins: &mut [Origin], parents: &mut [usize])
     requires small { n < 2 ^ 40 }
     requires within { AreWithin n covered.now }
     requires rises { Rises n covered.now }
@@ -91,7 +93,7 @@ pub(crate) fn link(n: u64, covered: &[Place], origins: &mut [Origin], parents: &
 }
 
 // Puts each target at its place.
-pub(crate) fn put_targets(targets: &Targets, positions: &[u64], origins: &mut [Origin])
+fn put_targets(targets: &Targets, positions: &[u64], origins: &mut [Origin])
     requires sorted { IsNonDecreasing positions.now }
     requires long { length origins.old ≡ length positions.now }
     ensures { (cs : List Placed) → AreWithin targets.now.leaves cs → positions.now ≡ numbers_of targets.now.leaves cs → Rises targets.now.leaves cs →
@@ -103,6 +105,36 @@ pub(crate) fn put_targets(targets: &Targets, positions: &[u64], origins: &mut [O
             origins[at] = Origin::Target(i as usize);
         }
     }
+}
+
+// What each covered place is made of that is no target, and the index of the place above each that is no root.
+fn links_of(alloc: Global, n: u64, covered: &[Place]) -> Result<(Vec<Origin>, Vec<usize>), AllocError>
+    requires small { n < 2 ^ 40 }
+    requires within { AreWithin n covered.now }
+    requires rises { Rises n covered.now }
+    requires closed { (i : ℕ) → i < length covered.now → is_top n (place_in covered.now i) ≡ false → has covered.now (up (place_in covered.now i)) ≡ true }
+    ensures { IfOk result (λ v. (length v.0.items ≡ length covered.now) × (length v.1.items ≡ length covered.now) × AreLinked n covered.now v.0.items v.1.items) }
+{
+    let mut origins = vec![in alloc; Origin::Target(0); covered.len()]?;
+    let mut parents = vec![in alloc; 0usize; covered.len()]?;
+    link(n, covered, &mut origins, &mut parents);
+    Ok((origins, parents))
+}
+
+// What each covered place is made of, and the index of the place above each that is no root.
+pub(crate) fn plan_of(
+    alloc: Global,
+    targets: &Targets,
+    covered: &[Place],
+    positions: &[u64],
+) -> Result<(Vec<Origin>, Vec<usize>), AllocError>
+    requires covered { IsCoverOf targets.now.leaves targets.now.targets covered.now }
+    requires positions { positions.now ≡ numbers_of targets.now.leaves covered.now }
+    ensures { IfOk result (λ v. IsPlan targets.now.leaves targets.now.targets covered.now v.0.items × (length v.1.items ≡ length covered.now) × AreLinked targets.now.leaves covered.now v.0.items v.1.items) }
+{
+    let (mut origins, parents) = links_of(alloc, targets.leaves(), covered)?;
+    put_targets(targets, positions, &mut origins);
+    Ok((origins, parents))
 }
 
 // The index of the root in a row, where it is covered.

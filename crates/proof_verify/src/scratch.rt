@@ -6,12 +6,12 @@ ghost use Rattle.forest_model.specs.Cover.{need};
 use crate::changes::Changes;
 use crate::evaluate::evaluate;
 use crate::fault::ProofFault;
-use crate::going::{mark_gone, send};
+use crate::going::goes_of;
 use crate::judge::{fill, judge_empty, judge_roots, put_roots};
 use crate::landing::{Landing, new_places};
 use crate::node::Node;
 use crate::origin::Origin;
-use crate::plan::{link, put_targets, tops_of};
+use crate::plan::{plan_of, tops_of};
 use forest_place::Place;
 use forest_roots::Roots;
 use proof_shape::{Targets, positions_of};
@@ -55,6 +55,7 @@ impl Model for Scratch {
 
 impl Scratch {
     ghost use Rattle.proof_verify.specs.Checked.{IsChecked, IsRefused};
+    ghost use Rattle.forest_roots.specs.Stump.{IsStump};
     ghost use Rattle.proof_verify.specs.Verified.{above_targets};
 
     /// Reserved for no targets.
@@ -90,16 +91,9 @@ impl Scratch {
     {
         let n = targets.leaves();
         let covered = targets.covered(alloc)?;
-        let len = covered.len();
         let positions = positions_of(alloc, n, &covered)?;
-        let mut origins = vec![in alloc; Origin::Target(0); len]?;
-        let mut parents = vec![in alloc; 0usize; len]?;
-        link(n, &covered, &mut origins, &mut parents);
-        put_targets(targets, &positions, &mut origins);
-        let mut gone = vec![in alloc; false; len]?;
-        mark_gone(&origins, &mut gone);
-        let mut goes = vec![in alloc; None; len]?;
-        send(n, &covered, &origins, &parents, &gone, &mut goes);
+        let (origins, parents) = plan_of(alloc, targets, &covered, &positions)?;
+        let goes = goes_of(alloc, n, &covered, &origins, &parents)?;
         let tops = tops_of(alloc, n, &positions)?;
         let landings = new_places(alloc, n, &origins, &goes)?;
         let blank = Digest([0; 32]);
@@ -107,7 +101,7 @@ impl Scratch {
             digest: blank,
             left: None,
         };
-        let nodes = vec![in alloc; nothing; len]?;
+        let nodes = vec![in alloc; nothing; origins.len()]?;
         let pairs = vec![in alloc; (Place { row: 0, off: 0 }, blank); landings.len()]?;
         let list = Vec::from_slice(alloc, targets.places())?;
         Ok(Scratch {
@@ -133,6 +127,7 @@ impl Scratch {
         steps: &mut Steps<L>,
     ) -> Result<(), ProofFault>
         requires entries { self.old.reserved.leaves ≡ roots.old.leaves }
+        requires stump { IsStump roots.old }
         requires needed { needed ≡ length (need self.old.reserved.leaves self.old.reserved.targets) }
         requires leaves { length leaves.now ≡ length self.old.reserved.targets }
         ensures answer { MatchResult result
