@@ -39,7 +39,7 @@ use Rattle.node_rules.proofs.Spending.{entries-spent, entries-after}
 use Rattle.node_rules.proofs.Knowing.{roots_right}
 use Rattle.compact_node.specs.After.{without, with_leaves}
 use Rattle.compact_node.specs.Node.{NodeState, IsNode, Stands, is_forward, view_over, refusal_on, verdict_on, roots_spent, roots_after, node_with, node_by, next_node}
-use Rattle.compact_node.specs.Laws.{full_step as full_outcome, Agrees}
+use Rattle.compact_node.specs.Laws.{full_step as full_outcome, SaysAsFull}
 use Rattle.compact_node.proofs.Additions.{with_leaves-leaves, with_leaves-stump, with_leaves-stand}
 use Rattle.compact_node.proofs.Deletions.{without-leaves, without-slot, without-stump}
 use Rattle.compact_node.proofs.Views.{nothing-known, same_refusal}
@@ -56,14 +56,17 @@ spent-stump H f nothing s = s
 spent-stump H f (unread why) s = s
 spent-stump H f (read m) s = without-stump H f (targets f.leaves m.proof) m.proof.hashes s
 
--- an accepted block has a next height and room
-pub room : (s : NodeState) (b : Block) (e : Evidence) → refusal s.rules s.chain b e ≡ None →
+-- a block that passes by itself has a next height and room
+pub room_before : (s : NodeState) (b : Block) → first_of (block_steps s.rules.limits s.chain b) ≡ None →
     (s.chain.blocks < 2 ^ 31) × (s.chain.leaves + length (new_records b s.chain.blocks) ≤ s.rules.limits.leaves)
-room s b e h =
-    let passed = (append_passes (block_steps s.rules.limits s.chain b) (e.steps ++ money_steps (spends_of s.rules.net s.chain.blocks b) e.found) h).0 in
+room_before s b passed =
     let sixth : unless (has_room s.rules.limits s.chain (length (new_records b s.chain.blocks))) Why.Full ≡ None = each_passes (block_steps s.rules.limits s.chain b) 6 passed in
     let both = and_parts (nat_lt s.chain.blocks (2 ^ 31)) (nat_le (s.chain.leaves + length (new_records b s.chain.blocks)) s.rules.limits.leaves) (unless-passed _ _ sixth) in
     (ltb-true _ _ both.0, leb-true _ _ both.1)
+
+pub room : (s : NodeState) (b : Block) (e : Evidence) → refusal s.rules s.chain b e ≡ None →
+    (s.chain.blocks < 2 ^ 31) × (s.chain.leaves + length (new_records b s.chain.blocks) ≤ s.rules.limits.leaves)
+room s b e h = room_before s b (append_passes (block_steps s.rules.limits s.chain b) (e.steps ++ money_steps (spends_of s.rules.net s.chain.blocks b) e.found) h).0
 
 module _ (H : List ℕ → Digest) (text : Leaf → List ℕ) (s : NodeState) (is : IsNode s) (b : Block) (handed : Handed) (passes : refusal_on H text s b handed ≡ None) where
   abbrev new : List Leaf
@@ -168,6 +171,11 @@ module _ (H : List ℕ → Digest) (text : Leaf → List ℕ) (us : History) (f 
 
 -- ---- one event
 
+-- the same is said, and the next roots stand for what is held then
+record Agrees (H : List ℕ → Digest) (text : Leaf → List ℕ) (s : NodeState) (e : ChainEvent) (o : Outcome) : Type 0 where
+  pub verdict : o.verdict ≡ Some (verdict_on H text s e)
+  pub stands : Stands H text o.state (next_node H text s e)
+
 module _ (H : List ℕ → Digest) (text : Leaf → List ℕ) (rules : Rules) (f : Stump) (t : State) (is : IsNode (record { rules = rules; chain = chain_of t.now; roots = f })) (stands : StandsFor H (entries H text t.now.history) f) where
   abbrev node : NodeState
   node = record { rules = rules; chain = chain_of t.now; roots = f }
@@ -229,9 +237,9 @@ module _ (H : List ℕ → Digest) (text : Leaf → List ℕ) (rules : Rules) (f
       subst (λ n. Agrees H text node (RollbackCame n) (full_outcome H text rules t (RollbackCame n))) (sym none) zero_back
   agrees StrayCame forward h = record { verdict = refl; stands = record { chain = refl; roots = stands } }
 
-pub compact_is_full : (H : List ℕ → Digest) (text : Leaf → List ℕ) (s : NodeState) (t : State) (e : ChainEvent) → IsNode s → Stands H text t s → is_forward e ≡ true →
-    is_some (full_outcome H text s.rules t e).verdict ≡ true → Agrees H text s e (full_outcome H text s.rules t e)
-compact_is_full H text s t e is stands forward told =
+pub compact_is_full : (H : List ℕ → Digest) (text : Leaf → List ℕ) (s : NodeState) (e : ChainEvent) → IsNode s → SaysAsFull H text s e (verdict_on H text s e) (next_node H text s e)
+compact_is_full H text s e is t stands forward told =
     let with_chain = λ (c : Chain). let n : NodeState = record { rules = s.rules; chain = c; roots = s.roots } in n in
     let is' : IsNode (with_chain (chain_of t.now)) = subst (λ c. IsNode (with_chain c)) stands.chain is in
-    subst (λ c. Agrees H text (with_chain c) e (full_outcome H text s.rules t e)) (sym stands.chain) (agrees H text s.rules s.roots t is' stands.roots e forward told)
+    let a = subst (λ c. Agrees H text (with_chain c) e (full_outcome H text s.rules t e)) (sym stands.chain) (agrees H text s.rules s.roots t is' stands.roots e forward told) in
+    (a.verdict, a.stands)

@@ -1,5 +1,5 @@
 //! The node.
-ghost use Rattle.std.specs.Prelude.{◌≡◌, ◌+◌, ◌<◌, ◌≤◌, ◌^◌, suc, true, length, is_some, option_copied, Some, IfOk, IfErr, OnOk, OnErr};
+ghost use Rattle.std.specs.Prelude.{◌≡◌, ◌+◌, ◌<◌, ◌≤◌, ◌^◌, suc, length, option_copied, Some, IfOk, IfErr, OnOk, OnErr};
 ghost use Rattle.block_codec.specs.Reading.{block_in};
 ghost use Rattle.node_rules.specs.Machine.{height_of};
 ghost use Rattle.uo_base.specs.FeedEvent.{event_of};
@@ -57,10 +57,10 @@ impl<D> Drop for Node<D> {
 impl<D: Digester> Node<D> {
     ghost use Rattle.node_rules.specs.Reading.{handed_in};
     ghost use Rattle.block_rules.specs.declared.verdict.Verdict.TheVariants as Said;
-    ghost use Rattle.node_rules.specs.Machine.{State, BlockCame, RollbackCame, event_in};
-    ghost use Rattle.compact_node.specs.Node.{IsNode, IsShort, Stands, fresh, most_steps, is_forward, next_node, refusal_on, verdict_on};
+    ghost use Rattle.node_rules.specs.Machine.{BlockCame, RollbackCame, event_in};
+    ghost use Rattle.compact_node.specs.Node.{IsNode, IsShort, fresh, most_steps, next_node, refusal_on, verdict_on};
     ghost use Rattle.compact_node.specs.Judged.{IsFirst, IsAccepted};
-    ghost use Rattle.compact_node.specs.Laws.{full_step};
+    ghost use Rattle.compact_node.specs.Laws.{SaysAsFull};
 
     /// A node with no block, and room for digesting leaves.
     pub fn new(alloc: Global, net: Net, limits: Limits) -> Result<Node<D>, NoMemory>
@@ -125,9 +125,7 @@ impl<D: Digester> Node<D> {
 
         // Where it stands for what a node holds that holds every output, and the event is not forged, it says what that node
         // says, and stands for what that node holds then.
-        ensures refines { IfOk result (λ v. (t : State) → Stands D.digest_of leaf_text t self.old → is_forward (event_in (event_of event.entry)) ≡ true →
-            let o = full_step D.digest_of leaf_text self.old.rules t (event_in (event_of event.entry)) in
-            is_some o.verdict ≡ true → (o.verdict ≡ Some v) × Stands D.digest_of leaf_text o.state self.new) }
+        ensures refines { IfOk result (λ v. SaysAsFull D.digest_of leaf_text self.old (event_in (event_of event.entry)) v self.new) }
         ensures steps { steps.new ≤ steps.old + most_steps self.old (event_in (event_of event.entry)) }
     {
         // What a node keeps is known.
