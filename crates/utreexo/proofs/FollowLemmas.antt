@@ -7,7 +7,8 @@ use Rattle.uo_base.specs.declared.event.Limits.{Limits}
 use Rattle.uo_base.specs.declared.event.Net.{Net}
 use Rattle.uo_base.specs.FeedEvent.{FeedEvent, BlockCame, RollbackCame, StrayCame, event_of}
 use Rattle.uo_base.specs.Moved.{AppendsPart}
-use Rattle.uo_base.proofs.PortLemmas.{AppendsPart-after, AppendsPart-front}
+use Rattle.uo_base.proofs.PortLemmas.{told_text, Tells-told_text, AppendsPart-none, AppendsPart-after, AppendsPart-front}
+use Rattle.uo_digest.specs.declared.digest.Digest.{Digest}
 use Rattle.feed_frame.specs.declared.fault.FeedFault.{FeedFault}
 use Rattle.feed_frame.specs.declared.fault.FeedFault.TheVariants.{ReadFault, Magic, Cut, TooLong, BadRollback, Limit, NoMemory}
 use Rattle.feed_frame.specs.Events.{events_of}
@@ -15,15 +16,14 @@ use Rattle.feed_frame.specs.Machine.{after, written}
 use Rattle.feed_frame.specs.FeedState.{FeedState, Advances, HasShortBlock, answer_of}
 use Rattle.feed_frame.specs.Stepping.{Steps, Reads, ReadsNone, Finishes}
 use Rattle.feed_frame.specs.Streamed.{TakesFeed, WritesPart}
-use Rattle.utreexo.specs.declared.follower.Follower.{Follower}
 use Rattle.utreexo.specs.declared.line.Line.{Line}
 use Rattle.utreexo.specs.declared.status.Status.{Status}
 use Rattle.utreexo.specs.declared.stop.Stop.{Stop}
 use Rattle.utreexo.specs.Answers.{Ends, StaysWithin}
-use Rattle.utreexo.specs.Follow.{event_line, sends_nothing, closing_line, closing_status, ending_by, answer_over, follow_answer}
+use Rattle.utreexo.specs.Follow.{event_line, sends_nothing, end_line, closing_line, closing_status, ending_by, answer_over, follow_answer}
 use Rattle.utreexo.specs.Lines.{whole_line}
-use Rattle.utreexo.specs.Machine.{fresh, next_follower}
-use Rattle.utreexo.specs.Rules.{IsShort}
+use Rattle.utreexo.specs.Machine.{Following, fresh, next_follower}
+use Rattle.compact_node.specs.Node.{IsShort}
 
 -- ---- a feed's answer
 
@@ -87,29 +87,35 @@ module _ (old new : FeedState) (left rest : Option (List ℕ)) (answer : Result 
 
 -- ---- from what was written to the answer
 
--- the events were written in part
-pub part-stays : (limits : Limits) (net : Net) (feed old new : Option (List ℕ)) → WritesPart (next_follower limits net) (event_line limits net) sends_nothing fresh net limits.bytes feed old new None None
-    → StaysWithin (follow_answer limits net) feed old new
-unfolding follow_answer answer_over
-part-stays limits net feed old new w = record { text = w.text; told = w.told; report = AppendsPart-front old new _ _ _ w.reported refl }
+module _ (H : List ℕ → Digest) (limits : Limits) (net : Net) where
+  -- the events were written in part
+  pub part-stays : (feed old new : Option (List ℕ)) → WritesPart (next_follower H) (event_line H) sends_nothing (fresh net limits) net limits.bytes feed old new None None
+      → StaysWithin (follow_answer H limits net) feed old new
+  unfolding follow_answer answer_over
+  part-stays feed old new w = record { text = w.text; told = w.told; report = AppendsPart-front old new _ _ _ w.reported refl }
 
-module _ (limits : Limits) (net : Net) (feed old mid new : Option (List ℕ)) where
-  module _ (f : Follower) (ending : Option FeedFault) (status : Status) (line : Line)
-      (t : TakesFeed (next_follower limits net) (event_line limits net) sends_nothing fresh net limits.bytes f feed old mid None None ending)
-      (s : status ≡ closing_status f ending) (l : line ≡ closing_line f ending) where
-    last : Follower
-    last = after (next_follower limits net) fresh (events_of net limits.bytes t.text).events
+  -- nothing was written
+  pub nothing-stays : (feed old : Option (List ℕ)) → StaysWithin (follow_answer H limits net) feed old old
+  nothing-stays feed old = record { text = told_text feed; told = Tells-told_text feed; report = AppendsPart-none _ _ }
 
-    status_is : status ≡ (follow_answer limits net t.text).status
+module _ (H : List ℕ → Digest) (limits : Limits) (net : Net) (feed old mid new : Option (List ℕ)) where
+  module _ (f : Following) (ending : Option FeedFault) (status : Status) (line : Line)
+      (t : TakesFeed (next_follower H) (event_line H) sends_nothing (fresh net limits) net limits.bytes f feed old mid None None ending)
+      (s : status ≡ closing_status f.refused ending) (l : line ≡ closing_line (end_line f.events f.node.chain) ending) where
+    last : Following
+    last = after (next_follower H) (fresh net limits) (events_of net limits.bytes t.text).events
+
+    status_is : status ≡ (follow_answer H limits net t.text).status
     unfolding follow_answer answer_over last
-    status_is = s ∙ ap (λ g. closing_status g ending) t.reached ∙ ap (closing_status last) (sym t.ends)
+    status_is = s ∙ ap (λ g. closing_status g.refused ending) t.reached ∙ ap (closing_status last.refused) (sym t.ends)
 
     lines : List ℕ
-    lines = written (next_follower limits net) (event_line limits net) fresh (events_of net limits.bytes t.text).events
+    lines = written (next_follower H) (event_line H) (fresh net limits) (events_of net limits.bytes t.text).events
 
-    report_is : (follow_answer limits net t.text).report ≡ lines ++ whole_line line
+    report_is : (follow_answer H limits net t.text).report ≡ lines ++ whole_line line
     unfolding follow_answer answer_over lines last
-    report_is = ap (λ w. lines ++ whole_line w) (sym (l ∙ ap (λ g. closing_line g ending) t.reached ∙ ap (closing_line last) (sym t.ends)))
+    report_is =
+        ap (λ w. lines ++ whole_line w) (sym (l ∙ ap (λ g. closing_line (end_line g.events g.node.chain) ending) t.reached ∙ ap (closing_line (end_line last.events last.node.chain)) (sym t.ends)))
 
     before : Appends old mid lines
     unfolding lines
@@ -117,7 +123,7 @@ module _ (limits : Limits) (net : Net) (feed old mid new : Option (List ℕ)) wh
 
     -- all events were written, and the last line
     pub took-ends : {E : Type 0} (r : Result Status E) → IfOk r (λ answered. answered ≡ status) → OnOk r (Appends mid new (whole_line line))
-        → IfOk r (Ends (follow_answer limits net) feed old new)
+        → IfOk r (Ends (follow_answer H limits net) feed old new)
     took-ends (Ok answered) p q = record {
       text = t.text;
       told = t.told;
@@ -127,7 +133,7 @@ module _ (limits : Limits) (net : Net) (feed old mid new : Option (List ℕ)) wh
     took-ends (Err e) p q = tt
 
     -- all events were written, and the last line in part
-    pub took-stays : AppendsPart mid new (whole_line line) → StaysWithin (follow_answer limits net) feed old new
+    pub took-stays : AppendsPart mid new (whole_line line) → StaysWithin (follow_answer H limits net) feed old new
     took-stays q = record {
       text = t.text;
       told = t.told;

@@ -1,6 +1,6 @@
 pub mod FollowLemmas
+pub mod FullSetLaws
 pub mod OptionLaws
-pub mod RuleLemmas
 pub mod RunLemmas
 pub mod Singles
 pub mod WordLaws

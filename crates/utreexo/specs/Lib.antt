@@ -1,9 +1,9 @@
 pub mod Answers
 pub mod Follow
+pub mod FullSet
 pub mod Lines
 pub mod Machine
 pub mod Options
-pub mod Rules
 pub mod Runs
 pub mod Sources
 pub mod Status

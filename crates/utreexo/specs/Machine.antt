@@ -1,26 +1,16 @@
--- The machine of a node: its chain, the verdicts over a list of blocks, and what they make of the chain.
-use Rattle.std.specs.Prelude.{ℕ, ◌+◌, ◌-◌, ◌==◌, ◌||◌, Bool, true, false, Option, Some, None, replicate, if◌then◌else◌}
+-- The machine of `follow`: a node, how many events it was told, and whether it refused one.
+use Rattle.std.specs.Prelude.{ℕ, ◌+◌, ◌-◌, ◌==◌, ◌||◌, Bool, true, false, List, Option, Some, None, if◌then◌else◌}
 use Rattle.uo_base.specs.declared.event.Limits.{Limits}
 use Rattle.uo_base.specs.declared.event.Net.{Net}
 use Rattle.uo_base.specs.FeedEvent.{FeedEvent}
 use Rattle.uo_digest.specs.declared.digest.Digest.{Digest}
-use Rattle.utreexo.specs.declared.chain.Chain.{Chain}
-use Rattle.utreexo.specs.declared.follower.Follower.{Follower}
-use Rattle.utreexo.specs.declared.verdict.Verdict.{Verdict}
-use Rattle.utreexo.specs.declared.verdict.Verdict.TheVariants.{Accepted, Refused, TooDeep, Stray}
-use Rattle.utreexo.specs.Rules.{verdict_on}
-
-abbrev pub no_tip : Digest
-no_tip = record { 0 = replicate 32 0 }
-
--- no block yet
-abbrev pub start : Chain
-start = record { blocks = 0; tip = no_tip; leaves = 0 }
-
--- an accepted block is the chain's newest, and nothing else changes it
-abbrev pub next_chain : Chain → Verdict → Chain
-next_chain chain (Accepted height hash leaves) = record { blocks = chain.blocks + 1; tip = hash; leaves = leaves }
-next_chain chain verdict = chain
+use Rattle.leaf_record.specs.Leaf.{leaf_text}
+use Rattle.block_rules.specs.declared.chain.Chain.{Chain}
+use Rattle.block_rules.specs.declared.verdict.Verdict.{Verdict}
+use Rattle.block_rules.specs.declared.verdict.Verdict.TheVariants.{Refused, TooDeep, Stray}
+use Rattle.node_rules.specs.Machine.{event_in}
+use Rattle.compact_node.specs.Node.{NodeState, verdict_on, next_node}
+use Rattle.compact_node.specs.Node as Node
 
 -- the height and the hash of the newest block
 abbrev pub newest : Chain → Option (ℕ × Digest)
@@ -33,14 +23,22 @@ is_refused (TooDeep asked kept) = true
 is_refused Stray = true
 is_refused verdict = false
 
--- ---- what the program keeps: the chain, how many events there were, and whether one was refused
+-- what contracts see of `Follower`
+pub record Following : Type 0 where
+  pub node : NodeState
+  pub events : ℕ
+  pub refused : Bool
 
-abbrev pub fresh : Follower
-fresh = record { chain = start; events = 0; refused = false }
+abbrev pub fresh : Net → Limits → Following
+fresh net limits = record { node = Node.fresh net limits; events = 0; refused = false }
 
-unfoldable pub next_follower : Limits → Net → Follower → FeedEvent → Follower
-next_follower limits net f event = record {
-  chain = next_chain f.chain (verdict_on limits net f.chain event);
+-- what the node says of an event
+unfoldable pub told_of : (List ℕ → Digest) → Following → FeedEvent → Verdict
+told_of H f event = verdict_on H leaf_text f.node (event_in event)
+
+unfoldable pub next_follower : (List ℕ → Digest) → Following → FeedEvent → Following
+next_follower H f event = record {
+  node = next_node H leaf_text f.node (event_in event);
   events = f.events + 1;
-  refused = f.refused || is_refused (verdict_on limits net f.chain event);
+  refused = f.refused || is_refused (told_of H f event);
 }

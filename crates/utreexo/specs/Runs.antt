@@ -4,6 +4,7 @@ use Rattle.std.specs.declared.option.Option.{Option}
 use Rattle.std.specs.Io.KnownBytes.{Appends}
 use Rattle.uo_base.specs.declared.event.Limits.{Limits}
 use Rattle.uo_base.specs.Faults.{Rose}
+use Rattle.uo_digest.specs.declared.digest.Digest.{Digest}
 use Rattle.uo_base.specs.Moved.{AppendsPart}
 use Rattle.uo_base.specs.Told.{Tells}
 use Rattle.utreexo.specs.declared.line.Line.TheVariants as Line
@@ -37,13 +38,13 @@ abbrev pub uses_of : List (List ℕ) → Uses
 uses_of words = uses_by (command_of words)
 
 -- the whole answer to a command, or to words that are refused
-abbrev pub answer_by : Result Asked WordFault → Limits → Inputs → Answer
-answer_by (Err fault) limits inputs = said Words (Line.Words fault.at)
-answer_by (Ok (AskedFollow net feed)) limits inputs = follow_answer limits (net_for (AskedFollow net feed)) inputs.feed
+abbrev pub answer_by : (List ℕ → Digest) → Result Asked WordFault → Limits → Inputs → Answer
+answer_by H (Err fault) limits inputs = said Words (Line.Words fault.at)
+answer_by H (Ok (AskedFollow net feed)) limits inputs = follow_answer H limits (net_for (AskedFollow net feed)) inputs.feed
 
 -- the whole answer to the words of a command line
-unfoldable pub answer_of : List (List ℕ) → Limits → Inputs → Answer
-answer_of words limits inputs = answer_by (command_of words) limits inputs
+unfoldable pub answer_of : (List ℕ → Digest) → List (List ℕ) → Limits → Inputs → Answer
+answer_of H words limits inputs = answer_by H (command_of words) limits inputs
 
 -- the inputs are these, where their sources tell them
 pub record Agrees (feed prior watch : Option (List ℕ)) (inputs : Inputs) : Type 0 where
@@ -74,11 +75,11 @@ Obeys answer feed prior watch report report' out out' NoMemory = StaysWithinRun 
 Obeys answer feed prior watch report report' out out' status = EndsRun answer feed prior watch report report' out out' status
 
 -- of a feed that failed, the lines of all events whose frames were wholly taken are in the report
-abbrev pub ReportsTaken : Result Asked WordFault → Limits → (feed feed' report report' : Option (List ℕ)) → Type 0
-ReportsTaken (Err fault) limits feed feed' report report' = Unit {0}
-ReportsTaken (Ok (AskedFollow net file)) limits feed feed' report report' =
+abbrev pub ReportsTaken : (List ℕ → Digest) → Result Asked WordFault → Limits → (feed feed' report report' : Option (List ℕ)) → Type 0
+ReportsTaken H (Err fault) limits feed feed' report report' = Unit {0}
+ReportsTaken H (Ok (AskedFollow net file)) limits feed feed' report report' =
     let net = net_for (AskedFollow net file) in
-    WritesTaken (next_follower limits net) (event_line limits net) sends_nothing fresh net limits.bytes feed feed' report report' None None
+    WritesTaken (next_follower H) (event_line H) sends_nothing (fresh net limits) net limits.bytes feed feed' report report' None None
 
 -- a port that is used failed
 abbrev pub UsedRose : Bool → ℕ → ℕ → Type 0

@@ -1,58 +1,66 @@
-//! What a node keeps from event to event.
+//! What a run of `follow` keeps from event to event.
 ghost use Rattle.std.specs.Prelude.{◌≡◌, ◌<◌, ◌≤◌, ◌^◌, IfOk, OnOk, OnErr};
 ghost use Rattle.uo_base.specs.FeedEvent.{event_of};
-ghost use Rattle.utreexo.specs.Rules.{IsShort, verdict_on};
-ghost use Rattle.utreexo.specs.Machine.{fresh, next_follower, is_refused};
+ghost use Rattle.compact_node.specs.Node.{IsShort};
+ghost use Rattle.utreexo.specs.Machine.{fresh, newest, told_of, next_follower, is_refused};
 
-use crate::chain::Chain;
 use crate::line::Line;
-use crate::rules::judge;
 use crate::status::Status;
-use crate::verdict::Verdict;
+use block_rules::{Chain, Verdict};
+use compact_node::Node;
 use std::alloc::Global;
+use std::marker::Model;
+use std::sync::ledger::Ledger;
 use uo_base::{Event, Limits, Net, NoMemory};
+use uo_digest::{Digest, Digester, Steps};
 
-/// A node's chain, how many events there were, and whether it has refused one.
-#[derive(Clone, Copy, Debug, PartialEq, Eq)]
-pub struct Follower {
-    pub chain: Chain,
-    pub events: u64,
-    pub refused: bool,
+/// A node, how many events it was told, and whether it has refused one.
+#[derive(Drop)]
+pub struct Follower<D> {
+    node: Node<D>,
+    events: u64,
+    refused: bool,
 }
 
-impl Follower {
+impl<D> Model for Follower<D> {
+    ghost use Rattle.utreexo.specs.Machine.{Following};
+
+    ghost Value = { Following };
+
+    ghost view = { λ f. record { node = f.node; events = f.events; refused = f.refused } };
+}
+
+impl<D: Digester> Follower<D> {
     ghost use Rattle.utreexo.specs.Follow.{end_line};
     ghost use Rattle.utreexo.specs.Status.{status_of};
 
-    pub fn new() -> Self
-        ensures { result ≡ fresh }
+    /// A node that was told nothing yet.
+    pub fn new(alloc: Global, net: Net, limits: Limits) -> Result<Follower<D>, NoMemory>
+        requires leaves { limits.leaves < 2 ^ 40 }
+        requires bytes { limits.bytes ≤ 2 ^ 48 }
+        ensures { IfOk result (λ f. f ≡ fresh net limits) }
     {
-        Follower {
-            chain: Chain::new(),
+        Ok(Follower {
+            node: Node::new(alloc, net, limits)?,
             events: 0,
             refused: false,
-        }
+        })
     }
 
-    /// Judges an event, and goes on to the chain that the verdict makes.
-    pub fn take(
+    /// Tells the node an event, and answers what it says.
+    pub fn take<L: Ledger>(
         &mut self,
-        alloc: Global,
-        limits: Limits,
-        net: Net,
         event: Event<'_>,
+        steps: &mut Steps<L>,
     ) -> Result<Verdict, NoMemory>
         requires short { IsShort (event_of event) }
-        requires few { self.old.chain.blocks ≤ 2 ^ 31 }
         requires counted { self.old.events < 2 ^ 63 }
-        ensures verdict { IfOk result (λ verdict. verdict ≡ verdict_on limits net self.old.chain (event_of event.entry)) }
-        ensures next { OnOk result (self.new ≡ next_follower limits net self.old (event_of event.entry)) }
-        ensures few { self.new.chain.blocks ≤ 2 ^ 31 }
+        ensures verdict { IfOk result (λ verdict. verdict ≡ told_of D.digest_of self.old (event_of event.entry)) }
+        ensures next { OnOk result (self.new ≡ next_follower D.digest_of self.old (event_of event.entry)) }
         ensures stays { OnErr result (self.new ≡ self.old) }
     {
-        let verdict = judge(alloc, limits, net, &self.chain, event)?;
+        let verdict = self.node.step(event, steps)?;
         self.refused |= is_refused(&verdict);
-        self.chain.apply(&verdict);
         self.events += 1;
         Ok(verdict)
     }
@@ -70,13 +78,25 @@ impl Follower {
 
     /// The last line of the report of such a run.
     pub fn end(&self) -> Line
-        ensures { result ≡ end_line self.now }
+        ensures { result ≡ end_line self.now.events self.now.node.chain }
     {
+        let chain = self.node.chain();
         Line::End {
             events: self.events,
-            tip: self.chain.newest(),
-            leaves: self.chain.leaves,
+            tip: newest(&chain),
+            leaves: chain.leaves,
         }
+    }
+}
+
+// The height and the hash of the newest block.
+fn newest(chain: &Chain) -> Option<(u32, Digest)>
+    ensures { result ≡ newest chain.now }
+{
+    if chain.blocks == 0 {
+        None
+    } else {
+        Some((chain.blocks - 1, chain.tip))
     }
 }
 

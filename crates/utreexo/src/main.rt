@@ -7,14 +7,12 @@ ghost use Rattle.utreexo.specs.Sources.{IsFeedOf};
 ghost use Rattle.utreexo.specs.Words.{command_of};
 
 mod any_source;
-mod chain;
 mod follow;
 mod follower;
 mod hash_text;
 mod line;
 mod options;
 mod report;
-mod rules;
 mod run;
 mod status;
 mod stop;

@@ -1,5 +1,5 @@
 //! Writing lines to the report.
-ghost use Rattle.std.specs.Prelude.{◌≡◌, ◌≤◌, IfOk, OnOk, IsErrOf};
+ghost use Rattle.std.specs.Prelude.{◌≡◌, ◌≤◌, ◌++◌, IfOk, OnOk, OnErr, IsErrOf};
 ghost use Rattle.std.specs.String.{string_bytes};
 ghost use Rattle.std.specs.Io.KnownBytes.{Appends};
 ghost use Rattle.uo_base.specs.Faults.{Rose};
@@ -10,18 +10,43 @@ use crate::line::Line;
 use crate::status::Status;
 use crate::stop::Stop;
 use std::alloc::{AllocError, Global};
-use uo_base::{Sink, put_all};
+use block_rules::Verdict;
+use uo_base::{NoMemory, Sink, put_all};
 
 /// As long as most lines are.
 const ROOM: usize = 128;
 
 // A line with its end.
-fn line_of(alloc: Global, line: Line) -> Result<String, AllocError>
+fn text_of(alloc: Global, line: Line) -> Result<String, AllocError>
     ensures { IfOk result (λ text. string_bytes text ≡ whole_line line) }
 {
     let mut text = String::with_capacity(alloc, ROOM)?;
     writeln!(text, "{line}")?;
     Ok(text)
+}
+
+/// Appends the line of a verdict, with the byte that ends it. Where there is no memory, the text stays as it was.
+pub fn line_of(alloc: Global, verdict: &Verdict, out: &mut Vec<u8>) -> Result<(), NoMemory>
+    ensures ok { OnOk result (out.new.items ≡ out.old.items ++ whole_line (Line.Verdict verdict.now)) }
+    ensures err { OnErr result (out.new.items ≡ out.old.items) }
+{
+    let text = text_of(alloc, Line::Verdict(*verdict))?;
+    out.extend_from_slice(text.as_bytes())?;
+    Ok(())
+}
+
+/// Writes the line of a verdict, or a part of it where the run has to stop.
+pub fn put_verdict<R: Sink>(alloc: Global, report: &mut R, verdict: &Verdict) -> Result<(), Stop>
+    ensures whole { OnOk result (Appends (R.held report.old) (R.held report.new) (whole_line (Line.Verdict verdict.now))) }
+    ensures part { AppendsPart (R.held report.old) (R.held report.new) (whole_line (Line.Verdict verdict.now)) }
+    ensures read { IsErrOf result Stop.ReadFault → ⊥ }
+    ensures write { IsErrOf result Stop.WriteFault → Rose (R.faults report.old) (R.faults report.new) }
+    ensures later { R.faults report.old ≤ R.faults report.new }
+{
+    let mut text = Vec::new(alloc);
+    line_of(alloc, verdict, &mut text)?;
+    put_all(report, &text)?;
+    Ok(())
 }
 
 /// Writes one line, or a part of it where the run has to stop.
@@ -32,7 +57,7 @@ pub fn put_line<R: Sink>(alloc: Global, report: &mut R, line: Line) -> Result<()
     ensures write { IsErrOf result Stop.WriteFault → Rose (R.faults report.old) (R.faults report.new) }
     ensures later { R.faults report.old ≤ R.faults report.new }
 {
-    let text = line_of(alloc, line)?;
+    let text = text_of(alloc, line)?;
     put_all(report, text.as_bytes())?;
     Ok(())
 }

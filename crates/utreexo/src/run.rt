@@ -4,6 +4,7 @@ ghost use Rattle.std.specs.Bool.{OnFalse};
 ghost use Rattle.std.specs.String.{string_bytes};
 ghost use Rattle.uo_base.specs.Faults.{Rose};
 ghost use Rattle.utreexo.specs.Runs.{uses_of, answer_of, EndsRun, StaysWithinRun, Obeys, ReportsTaken, UsedRose};
+ghost use Rattle.utreexo.specs.FullSet.{IsHonestRun, full_answer_by, ObeysWhere, FrontIsPrinted};
 ghost use Rattle.utreexo.specs.Words.{command_of};
 
 use crate::follow::follow;
@@ -37,12 +38,20 @@ pub fn run<D: Digester, F: Source, P: Source, W: Source, O: Sink, R: Sink, L: Le
 
     // The report and the output grow by the whole answer to the words and the told inputs, or where a fault or want
     // of memory stops the run by a part of it.
-    ensures outcome { Obeys (answer_of (map string_bytes words.now) limits)
+    ensures outcome { Obeys (answer_of D.digest_of (map string_bytes words.now) limits)
         (F.left feed.old) (P.left prior.old) (W.left watch.old)
         (R.held report.old) (R.held report.new) (O.held out.old) (O.held out.new) result }
 
+    // Where no proof in the feed is forged and no block is taken back, that answer is the one of a node that holds every
+    // output; and of the events before the first of these it prints the same lines.
+    ensures headline { ObeysWhere (IsHonestRun D.digest_of (command_of (map string_bytes words.now)) limits)
+        (full_answer_by D.digest_of (command_of (map string_bytes words.now)) limits)
+        (F.left feed.old) (P.left prior.old) (W.left watch.old)
+        (R.held report.old) (R.held report.new) (O.held out.old) (O.held out.new) result }
+    ensures front { FrontIsPrinted D.digest_of }
+
     // Where the feed fails, the lines of all events that were wholly taken are there.
-    ensures taken { result ≡ Status.ReadFault → ReportsTaken (command_of (map string_bytes words.now)) limits
+    ensures taken { result ≡ Status.ReadFault → ReportsTaken D.digest_of (command_of (map string_bytes words.now)) limits
         (F.left feed.old) (F.left feed.new) (R.held report.old) (R.held report.new) }
 
     // A fault is answered only where a port failed that the words use.
@@ -59,9 +68,9 @@ pub fn run<D: Digester, F: Source, P: Source, W: Source, O: Sink, R: Sink, L: Le
     ensures prior { OnFalse (uses_of (map string_bytes words.now)).prior (prior.new ≡ prior.old) }
     ensures watch { OnFalse (uses_of (map string_bytes words.now)).watch (watch.new ≡ watch.old) }
     ensures out { OnFalse (uses_of (map string_bytes words.now)).out (out.new ≡ out.old) }
-    ensures steps { steps.new ≡ steps.old }
+    ensures steps { OnFalse (uses_of (map string_bytes words.now)).feed (steps.new ≡ steps.old) }
 {
-    match run_command(alloc, words, limits, feed, prior, watch, out, report) {
+    match run_command::<D, F, P, W, O, R, L>(alloc, words, limits, feed, prior, watch, out, report, steps) {
         Ok(status) => status,
         Err(Stop::ReadFault) => Status::ReadFault,
         Err(Stop::WriteFault) => Status::WriteFault,
@@ -69,7 +78,7 @@ pub fn run<D: Digester, F: Source, P: Source, W: Source, O: Sink, R: Sink, L: Le
     }
 }
 
-fn run_command<F: Source, P: Source, W: Source, O: Sink, R: Sink>(
+fn run_command<D: Digester, F: Source, P: Source, W: Source, O: Sink, R: Sink, L: Ledger>(
     alloc: Global,
     words: &[String],
     limits: Limits,
@@ -78,15 +87,17 @@ fn run_command<F: Source, P: Source, W: Source, O: Sink, R: Sink>(
     watch: &mut W,
     out: &mut O,
     report: &mut R,
+    steps: &mut Steps<L>,
 ) -> Result<Status, Stop>
-    requires { limits.bytes ≤ 2 ^ 48 }
-    ensures ended { IfOk result (EndsRun (answer_of (map string_bytes words.now) limits)
+    requires leaves { limits.leaves < 2 ^ 40 }
+    requires bytes { limits.bytes ≤ 2 ^ 48 }
+    ensures ended { IfOk result (EndsRun (answer_of D.digest_of (map string_bytes words.now) limits)
         (F.left feed.old) (P.left prior.old) (W.left watch.old)
         (R.held report.old) (R.held report.new) (O.held out.old) (O.held out.new)) }
-    ensures part { StaysWithinRun (answer_of (map string_bytes words.now) limits)
+    ensures part { StaysWithinRun (answer_of D.digest_of (map string_bytes words.now) limits)
         (F.left feed.old) (P.left prior.old) (W.left watch.old)
         (R.held report.old) (R.held report.new) (O.held out.old) (O.held out.new) }
-    ensures taken { IsErrOf result Stop.ReadFault → ReportsTaken (command_of (map string_bytes words.now)) limits
+    ensures taken { IsErrOf result Stop.ReadFault → ReportsTaken D.digest_of (command_of (map string_bytes words.now)) limits
         (F.left feed.old) (F.left feed.new) (R.held report.old) (R.held report.new) }
     ensures read { IsErrOf result Stop.ReadFault
         → UsedRose (uses_of (map string_bytes words.now)).feed (F.faults feed.old) (F.faults feed.new) }
@@ -95,9 +106,10 @@ fn run_command<F: Source, P: Source, W: Source, O: Sink, R: Sink>(
     ensures prior { prior.new ≡ prior.old }
     ensures watch { watch.new ≡ watch.old }
     ensures out { out.new ≡ out.old }
+    ensures steps { OnFalse (uses_of (map string_bytes words.now)).feed (steps.new ≡ steps.old) }
 {
     match read_words(words) {
         Err(fault) => say(alloc, report, Status::Words, Line::Words(fault.at)),
-        Ok(command) => follow(alloc, limits, command.net(), feed, report),
+        Ok(command) => follow::<D, F, R, L>(alloc, limits, command.net(), feed, report, steps),
     }
 }

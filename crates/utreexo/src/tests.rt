@@ -3,8 +3,8 @@ ghost use Rattle.std.specs.Prelude.{◌≡◌, ◌<◌, ◌≤◌, ◌^◌};
 
 mod chains;
 mod faults;
+mod proved;
 mod rows;
-mod subsidies;
 mod word_lists;
 
 use crate::run::run;
@@ -13,7 +13,7 @@ use std::alloc::Global;
 use std::sync::ledger::{Blank, Ledger};
 use std::test::Fail;
 use uo_base::{Limits, MemSink, MemSource, QuietSource, Source};
-use uo_digest::{Steps, XorFold};
+use uo_digest::{Digester, Steps};
 
 /// The header of the mainnet genesis block, in hexadecimal.
 const GENESIS_HEADER: &str =
@@ -60,7 +60,7 @@ struct Outcome {
     out: Vec<u8>,
 }
 
-fn run_over<L: Ledger>(alloc: Global, ports: &Ports<'_>, blank: Blank) -> Result<Outcome, Fail>
+fn run_over<D: Digester, L: Ledger>(alloc: Global, ports: &Ports<'_>, blank: Blank) -> Result<Outcome, Fail>
     requires name { blank.name ≡ L.name }
     requires parts { blank.parts ≡ L.parts }
     requires some { 0 < blank.parts }
@@ -85,7 +85,7 @@ fn run_over<L: Ledger>(alloc: Global, ports: &Ports<'_>, blank: Blank) -> Result
         ports.write_piece.max(1),
         Vec::from_slice(alloc, ports.failing_writes)?,
     );
-    let status = run::<XorFold, MemSource, QuietSource, QuietSource, MemSink, MemSink, L>(
+    let status = run::<D, MemSource, QuietSource, QuietSource, MemSink, MemSink, L>(
         alloc,
         &words,
         ports.limits,

@@ -1,41 +1,42 @@
-//! What a node says of an event.
+//! Verdicts as they are printed.
 ghost use Rattle.std.specs.Prelude.{Some};
 
 use crate::hash_text::HashText;
+use block_rules::{ProofRefusal, Refusal, Verdict};
 use std::fmt;
-use uo_digest::Digest;
 
-/// Why a block is refused: the first rule that it breaks.
-#[derive(Clone, Copy, Debug, PartialEq, Eq)]
-pub enum Refusal {
-    /// The bytes are no block.
-    Block,
-    /// The block does not extend the tip.
-    Link,
-    /// The header's merkle root is not that of the transactions.
-    MerkleRoot,
-    /// Two hashes at different places of a level of the merkle tree are paired and equal.
-    MerkleRepeated {
-        /// The level, from 0 for the ids.
-        level: u8,
-        /// The place of the left one.
-        place: u32,
-    },
-    /// The block weighs more than 4,000,000.
-    Weight {
-        weight: u64,
-    },
-    /// The rules for such a block are not built yet.
-    Unbuilt,
-}
+/// Why a proof is refused.
+#[derive(Clone, Copy)]
+struct ProofText<'a>(&'a ProofRefusal);
 
-impl fmt::Display for Refusal {
-    ghost use Rattle.utreexo.specs.Lines.{refusal_text};
+impl fmt::Display for ProofText<'_> {
+    ghost use Rattle.utreexo.specs.Lines.{proof_text};
 
-    ghost output = { λ why. Some (refusal_text why) };
+    ghost output = { λ why. Some (proof_text why.0.now) };
 
     fn fmt<W: fmt::Write>(&self, f: &mut fmt::Formatter<W>) -> fmt::Result {
-        match self {
+        match self.0 {
+            ProofRefusal::Outside(i) => write!(f, "outside {i}"),
+            ProofRefusal::Repeated(i, j) => write!(f, "repeated {i} {j}"),
+            ProofRefusal::Beneath(i, j) => write!(f, "beneath {i} {j}"),
+            ProofRefusal::HashCount { want, got } => write!(f, "hashes {want} {got}"),
+            ProofRefusal::EmptyRoot { row } => write!(f, "empty {row}"),
+            ProofRefusal::RootDiffers { row } => write!(f, "root {row}"),
+        }
+    }
+}
+
+/// Why a block is refused.
+#[derive(Clone, Copy)]
+struct RefusalText<'a>(&'a Refusal);
+
+impl fmt::Display for RefusalText<'_> {
+    ghost use Rattle.utreexo.specs.Lines.{refusal_text};
+
+    ghost output = { λ why. Some (refusal_text why.0.now) };
+
+    fn fmt<W: fmt::Write>(&self, f: &mut fmt::Formatter<W>) -> fmt::Result {
+        match self.0 {
             Refusal::Block => f.write_str("block"),
             Refusal::Link => f.write_str("link"),
             Refusal::MerkleRoot => f.write_str("merkle root"),
@@ -43,58 +44,34 @@ impl fmt::Display for Refusal {
                 write!(f, "merkle repeated {level} {place}")
             }
             Refusal::Weight { weight } => write!(f, "weight {weight}"),
-            Refusal::Unbuilt => f.write_str("unbuilt"),
+            Refusal::Coinbase { tx } => write!(f, "coinbase {tx}"),
+            Refusal::Value { tx } => write!(f, "value {tx}"),
+            Refusal::Double { tx, input } => write!(f, "double {tx} {input}"),
+            Refusal::Full => f.write_str("full"),
+            Refusal::NoProof => f.write_str("noproof"),
+            Refusal::MessageForm => f.write_str("message form"),
+            Refusal::MessageVersion { version } => write!(f, "message version {version}"),
+            Refusal::Spends { got, want } => write!(f, "spends {got} {want}"),
+            Refusal::Proof(why) => write!(f, "proof {}", ProofText(why)),
+            Refusal::Missing { tx, input } => write!(f, "missing {tx} {input}"),
+            Refusal::Immature { tx, input } => write!(f, "immature {tx} {input}"),
+            Refusal::Overspend { tx } => write!(f, "overspend {tx}"),
+            Refusal::Subsidy { claimed, allowed } => write!(f, "subsidy {claimed} {allowed}"),
         }
     }
 }
 
 /// What a node says of an event.
-#[derive(Clone, Copy, Debug, PartialEq, Eq)]
-pub enum Verdict {
-    /// The block is the chain's newest now.
-    Accepted {
-        /// Its height.
-        height: u32,
-        /// Its hash.
-        hash: Digest,
-        /// The entries ever added, its own among them.
-        leaves: u64,
-    },
-    /// The chain stays as it was.
-    Refused {
-        /// The height that the block would have had.
-        height: u32,
-        /// Its hash, where the bytes are a block.
-        hash: Option<Digest>,
-        why: Refusal,
-    },
-    /// The chain went back by so many blocks, to this one.
-    RolledBack {
-        count: u32,
-        /// The height of the newest block that is left, where one is.
-        height: Option<u32>,
-        /// Its hash, or 32 zero bytes.
-        hash: Digest,
-        /// The entries ever added to the chain that is left.
-        leaves: u64,
-    },
-    /// The chain can not go back so far, and stays as it was.
-    TooDeep {
-        asked: u32,
-        /// How many blocks it can go back.
-        kept: u32,
-    },
-    /// A proof that no block follows, which changes nothing.
-    Stray,
-}
+#[derive(Clone, Copy)]
+pub struct VerdictText<'a>(pub &'a Verdict);
 
-impl fmt::Display for Verdict {
+impl fmt::Display for VerdictText<'_> {
     ghost use Rattle.utreexo.specs.Lines.{verdict_text};
 
-    ghost output = { λ verdict. Some (verdict_text verdict) };
+    ghost output = { λ verdict. Some (verdict_text verdict.0.now) };
 
     fn fmt<W: fmt::Write>(&self, f: &mut fmt::Formatter<W>) -> fmt::Result {
-        match self {
+        match self.0 {
             Verdict::Accepted {
                 height,
                 hash,
@@ -104,12 +81,12 @@ impl fmt::Display for Verdict {
                 height,
                 hash: Some(hash),
                 why,
-            } => write!(f, "refused {height} {} {why}", HashText(hash)),
+            } => write!(f, "refused {height} {} {}", HashText(hash), RefusalText(why)),
             Verdict::Refused {
                 height,
                 hash: None,
                 why,
-            } => write!(f, "refused {height} - {why}"),
+            } => write!(f, "refused {height} - {}", RefusalText(why)),
             Verdict::RolledBack {
                 count,
                 height: Some(height),

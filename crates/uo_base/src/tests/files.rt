@@ -1,4 +1,6 @@
 //! Files that are written and read again.
+ghost use Rattle.std.specs.Prelude.{◌<◌};
+
 use crate::{Failed, FileSink, FileSource, Source, fill, put_all};
 use std::alloc::Global;
 use std::process::Abort;

@@ -9,13 +9,13 @@ use std::process::Abort;
 use std::sync::ledger::{Blank, Ledger};
 use std::test::Fail;
 use uo_base::Limits;
-use uo_digest::{Digest, hex_reversed, sha256d};
+use uo_digest::{Digest, XorFold, hex_reversed, sha256d};
 
 const MAIN: [u8; 4] = [0xf9, 0xbe, 0xb4, 0xd9];
 
 const REGTEST: [u8; 4] = [0xfa, 0xbf, 0xb5, 0xda];
 
-const SUBSIDY: u64 = 5_000_000_000;
+pub const SUBSIDY: u64 = 5_000_000_000;
 
 const BLOCKS: u32 = 120;
 
@@ -29,7 +29,7 @@ struct Chain {
 }
 
 // A transaction whose one input has the null outpoint and the height as its script, and which pays to the script 51.
-fn coinbase(alloc: Global, height: u32, amount: u64) -> Result<Vec<u8>, Fail> {
+pub fn coinbase(alloc: Global, height: u32, amount: u64) -> Result<Vec<u8>, Fail> {
     let mut tx = Vec::new(alloc);
     tx.extend_from_slice(&1u32.to_le_bytes())?;
     tx.push(1)?;
@@ -87,7 +87,13 @@ fn put_height(alloc: Global, chain: &mut Chain, height: u32) -> Result<(), Fail>
     put_line(alloc, chain, front.as_str(), &tip, back.as_str())?;
     let front = format!(in alloc; "refused {} ", height + 1)?;
     let rich = put_frame(alloc, chain, &tip, &coinbase(alloc, height, SUBSIDY + 1)?)?;
-    put_line(alloc, chain, front.as_str(), &rich, " unbuilt")?;
+    put_line(
+        alloc,
+        chain,
+        front.as_str(),
+        &rich,
+        " subsidy 5000000001 5000000000",
+    )?;
     let beside = put_frame(alloc, chain, &before, &coinbase(alloc, height, SUBSIDY)?)?;
     put_line(alloc, chain, front.as_str(), &beside, " link")
 }
@@ -142,7 +148,8 @@ fn put_paying(
         put_line(alloc, chain, front.as_str(), &hash, back.as_str())
     } else {
         let front = format!(in alloc; "refused {height} ")?;
-        put_line(alloc, chain, front.as_str(), &hash, " unbuilt")
+        let back = format!(in alloc; " subsidy {amount} 2500000000")?;
+        put_line(alloc, chain, front.as_str(), &hash, back.as_str())
     }
 }
 
@@ -184,7 +191,7 @@ fn check_pieces<L: Ledger>(
         write_piece: piece,
         failing_writes: &[],
     };
-    let outcome = run_over::<L>(alloc, &ports, blank)?;
+    let outcome = run_over::<XorFold, L>(alloc, &ports, blank)?;
     assert_eq!(rt; outcome.status, Status::SomeRefused);
     assert!(rt; outcome.report.as_slice() == chain.report.as_slice());
     Ok(())

@@ -9,6 +9,7 @@ use std::process::Abort;
 use std::sync::ledger::{Blank, Ledger};
 use std::test::Fail;
 use uo_base::Limits;
+use uo_digest::XorFold;
 
 /// The port that fails.
 #[derive(Clone, Copy, PartialEq, Eq)]
@@ -69,7 +70,7 @@ fn check_call<L: Ledger>(
         write_piece: 20,
         failing_writes: &failing[reads..],
     };
-    let outcome = run_over::<L>(alloc, &ports, blank)?;
+    let outcome = run_over::<XorFold, L>(alloc, &ports, blank)?;
     match row.written.get(call as usize) {
         Some(written) => {
             assert_eq!(rt; outcome.status, row.status);

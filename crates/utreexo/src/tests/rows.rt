@@ -9,6 +9,7 @@ use std::process::Abort;
 use std::sync::ledger::{Blank, Ledger};
 use std::test::Fail;
 use uo_base::Limits;
+use uo_digest::XorFold;
 
 /// The words, a feed in pieces of hexadecimal, the bytes that may be read of it, and what is printed.
 struct Row {
@@ -23,7 +24,7 @@ const FOLLOW: &[&str] = &["follow"];
 
 const ANY: u64 = 281_474_976_710_656;
 
-const ROWS: [Row; 25] = [
+const ROWS: [Row; 26] = [
     // nothing
     Row {
         words: FOLLOW,
@@ -163,7 +164,28 @@ const ROWS: [Row; 25] = [
         ],
         bytes: ANY,
         status: Status::SomeRefused,
-        report: "refused 0 000000000019d6689c085ae165831e934ff763ae46a2a6c172b3f1b60a8ce26f unbuilt\nstray\nstray\nend 3 - - 0\n",
+        report: "refused 0 000000000019d6689c085ae165831e934ff763ae46a2a6c172b3f1b60a8ce26f message form\nstray\nstray\nend 3 - - 0\n",
+    },
+    // behind messages of another version and of no spend
+    Row {
+        words: FOLLOW,
+        feed: &[
+            "555458500100000009",
+            "f9beb4d91d010000",
+            GENESIS_HEADER,
+            "010100000001",
+            GENESIS_CORE,
+            "00000000",
+            "555458500400000001000000",
+            "f9beb4d91d010000",
+            GENESIS_HEADER,
+            "010100000001",
+            GENESIS_CORE,
+            "00000000",
+        ],
+        bytes: ANY,
+        status: Status::SomeRefused,
+        report: "refused 0 000000000019d6689c085ae165831e934ff763ae46a2a6c172b3f1b60a8ce26f message version 9\naccepted 0 000000000019d6689c085ae165831e934ff763ae46a2a6c172b3f1b60a8ce26f 0\nend 2 0 000000000019d6689c085ae165831e934ff763ae46a2a6c172b3f1b60a8ce26f 0\n",
     },
     // rollbacks
     Row {
@@ -331,7 +353,7 @@ fn check_row<L: Ledger>(rt: &impl Abort, alloc: Global, row: &Row, blank: Blank)
         write_piece: 7,
         failing_writes: &[],
     };
-    let outcome = run_over::<L>(alloc, &ports, blank)?;
+    let outcome = run_over::<XorFold, L>(alloc, &ports, blank)?;
     assert_eq!(rt; outcome.status, row.status);
     assert!(rt; outcome.report.as_slice() == row.report.as_bytes());
     assert!(rt; outcome.out.is_empty());

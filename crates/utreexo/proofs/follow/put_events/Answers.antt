@@ -13,7 +13,6 @@ loop-event-init g c = record {
   limit = c.new-frames.ensures.limit_is;
   within = rw c.new-frames.ensures.offset (omega arith);
   counted = rw c.requires.fresh (omega arith);
-  few = rw c.requires.fresh (omega arith);
   later_feed = omega arith;
   later_report = omega arith;
 }
@@ -32,7 +31,6 @@ loop-event-preserved g c =
       limit = a.limit ∙ w.limit;
       within = omega (arith, a.within, a.limit, w.limit);
       counted = rw on.next (omega (arith, s.1, w.counted));
-      few = on.few;
       later_feed = omega (arith, w.later_feed, c.next.ensures.later);
       later_report = omega (arith, w.later_report, c.put_event.ensures.later);
     }

@@ -7,13 +7,12 @@ use Rattle.utreexo.proofs.follow.put_events.Given as goal
 
 abbrev pub invariant-loop-event : goal.invariant-loop-event
 invariant-loop-event g l = record {
-  progress : Progress (next_follower l.fn.limits l.fn.net) (event_line l.fn.limits l.fn.net) sends_nothing fresh l.fn.net l.fn.limits.bytes
+  progress : Progress (next_follower g.D.Digester.digest_of) (event_line g.D.Digester.digest_of) sends_nothing (fresh l.fn.net l.fn.limits) l.fn.net l.fn.limits.bytes
       l.frames.reader l.follower (g.F.Source.left l.initial.feed) (g.F.Source.left l.feed) (g.R.Sink.held l.initial.report) (g.R.Sink.held l.report) None None;
   going : l.frames.failed ≡ false;
   limit : limit_of l.frames ≡ l.fn.limits.bytes;
   within : l.frames.offset ≤ l.fn.limits.bytes;
   counted : 8 * l.follower.events ≤ l.frames.offset;
-  few : l.follower.chain.blocks ≤ 2 ^ 31;
   later_feed : g.F.Source.faults l.initial.feed ≤ g.F.Source.faults l.feed;
   later_report : g.R.Sink.faults l.initial.report ≤ g.R.Sink.faults l.report;
 }
