@@ -9,3 +9,4 @@ pub mod Doubles
 pub mod Walking
 pub mod Spending
 pub mod Paid
+pub mod Marks

@@ -1,5 +1,6 @@
--- What one transaction does to the set of the outpoints that were spent before.
-use Rattle.std.specs.Prelude.{◌≡◌, ℕ, List, ◌++◌, Option, Some, None}
+-- How double spends are found: by a set of the outpoints before, and by numbers that stand for outpoints.
+use Rattle.std.specs.Prelude.{◌≡◌, ℕ, ◌+◌, ◌%◌, ◌^◌, List, [], ◌∷◌, ◌++◌, map, slice_index, Option, Some, None}
+use Rattle.std.specs.Int.{w64, from_le_bytes}
 use Rattle.std.specs.BTreeSet.{BTreeSet}
 use Rattle.leaf_record.specs.Leaf.{Outpoint}
 use Rattle.tx_codec.specs.Transaction.{Input}
@@ -22,3 +23,12 @@ SeesAt t before whole more None seen = Reaches before whole more seen
 
 abbrev pub Sees : BTreeSet OutpointKey → List Input → Option ℕ → BTreeSet OutpointKey → Type 0
 Sees old inputs found new = (t : ℕ) (before : List Outpoint) (more : List Placed) → HasPoints old before → SeesAt t before (placed_from t 0 inputs ++ more) more found new
+
+-- a number that stands for an outpoint: the first eight bytes of the id, and the index
+abbrev pub mark_of : Outpoint → ℕ
+mark_of p =
+    let id = p.txid.0 in
+    (from_le_bytes w64 (slice_index id 0 ∷ slice_index id 1 ∷ slice_index id 2 ∷ slice_index id 3 ∷ slice_index id 4 ∷ slice_index id 5 ∷ slice_index id 6 ∷ slice_index id 7 ∷ []) + p.index) % 2 ^ 64
+
+abbrev pub marks_of : List Placed → List ℕ
+marks_of ats = map (λ at. mark_of at.point) ats

@@ -12,6 +12,7 @@
 #![tactic(auto)]
 
 mod chain;
+mod double;
 mod fault;
 mod issue;
 mod laws;

@@ -8,11 +8,12 @@ ghost use Rattle.block_rules.specs.Rules.{value_fault, double};
 ghost use Rattle.block_rules.specs.Walk.{new_at};
 
 use crate::chain::Chain;
+use crate::double::double_step;
 use crate::fault::RuleFault;
 use crate::made::Made;
 use crate::refusal::Refusal;
 use crate::spends::Spends;
-use crate::steps::{coinbase_step, double_step, link_step, merkle_step, value_step, weight_step};
+use crate::steps::{coinbase_step, link_step, merkle_step, value_step, weight_step};
 use crate::sums::output_sum;
 use crate::walk::{Walk, unspent, walk_over};
 use block_codec::BlockView;

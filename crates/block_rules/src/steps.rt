@@ -4,18 +4,14 @@ ghost use Rattle.std.specs.List.{list_any};
 ghost use Rattle.tx_codec.specs.Views.{input_of};
 ghost use Rattle.block_codec.specs.Block.{txids_of, weight_of};
 ghost use Rattle.block_codec.specs.Merkle.{is_same, merkle_of};
-ghost use Rattle.block_rules.specs.Blocks.{placed_of};
 ghost use Rattle.block_rules.specs.Steps.{unless};
-ghost use Rattle.block_rules.specs.Rules.{merkle_step, is_null, is_coinbase, has_too_much, has_value, coinbase_fault, value_fault, double};
-ghost use Rattle.block_rules.specs.Seen.{Sees};
+ghost use Rattle.block_rules.specs.Rules.{merkle_step, is_null, is_coinbase, has_too_much, has_value, coinbase_fault, value_fault};
 
 use crate::chain::Chain;
-use crate::outpoint::{OutpointKey, key_of_input};
 use crate::refusal::Refusal;
 use crate::sums::{MOST_MONEY, output_sum};
 use block_codec::{BlockView, MerkleOutcome, merkle, weight};
 use std::alloc::Global;
-use std::collections::BTreeSet;
 use tx_codec::{InView, TxView};
 use uo_base::NoMemory;
 use uo_digest::Digest;
@@ -139,31 +135,4 @@ fn has_too_much(tx: &TxView<'_>) -> bool
         }
     }
     false
-}
-
-/// No input has the outpoint of an earlier one.
-pub(crate) fn double_step(alloc: Global, block: &BlockView<'_>) -> Result<Option<Refusal>, NoMemory>
-    ensures { IfOk result (λ step. step ≡ double [] (placed_of 0 block.now.txs)) }
-{
-    let mut seen = BTreeSet::new(alloc);
-    for t in 0..block.tx_count() {
-        if let Some(input) = first_seen(&mut seen, block.tx(t))? {
-            return Ok(Some(Refusal::Double { tx: t, input }));
-        }
-    }
-    Ok(None)
-}
-
-// The first input whose outpoint was seen before; those of the others are put to the ones seen.
-fn first_seen(seen: &mut BTreeSet<OutpointKey>, tx: &TxView<'_>) -> Result<Option<u32>, NoMemory>
-    ensures { IfOk result (λ found. Sees seen.old tx.now.inputs found seen.new) }
-{
-    let mut i = 0;
-    for input in tx.inputs() {
-        if !seen.insert(key_of_input(&input))? {
-            return Ok(Some(i));
-        }
-        i += 1;
-    }
-    Ok(None)
 }

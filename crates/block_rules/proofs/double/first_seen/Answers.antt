@@ -6,7 +6,7 @@ use Rattle.block_rules.specs.Rules.{double}
 use Rattle.block_rules.specs.Keys.{key_cmp}
 use Rattle.block_rules.proofs.Keyed.{was_there, was_absent}
 use Rattle.block_rules.proofs.Doubles.{seen_here, seen_on}
-use Rattle.block_rules.proofs.steps.first_seen.Goals as goal
+use Rattle.block_rules.proofs.double.first_seen.Goals as goal
 
 pub loop-input-init : goal.loop-input-init
 loop-input-init c =

@@ -3,7 +3,7 @@ use Rattle.leaf_record.specs.Leaf.{Outpoint}
 use Rattle.block_rules.specs.Blocks.{Placed, placed_from}
 use Rattle.block_rules.specs.Keys.{HasPoints}
 use Rattle.block_rules.specs.Seen.{Reaches}
-use Rattle.block_rules.proofs.steps.first_seen.Given as goal
+use Rattle.block_rules.proofs.double.first_seen.Given as goal
 
 abbrev pub invariant-loop-input : goal.invariant-loop-input
 invariant-loop-input l = record {

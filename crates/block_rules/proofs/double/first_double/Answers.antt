@@ -1,6 +1,6 @@
 use Rattle.std.proofs.Common.{sym}
 use Rattle.block_rules.proofs.Doubles.{double_here, double_on}
-use Rattle.block_rules.proofs.steps.double_step.Goals as goal
+use Rattle.block_rules.proofs.double.first_double.Goals as goal
 
 pub returns-in-Some : goal.returns-in-Some
 returns-in-Some c =
