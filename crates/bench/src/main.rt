@@ -10,6 +10,7 @@ mod forest;
 mod messages;
 mod rate;
 mod targets;
+mod verify;
 
 use crate::codecs::measure_codecs;
 use crate::digests::measure_digests;
@@ -17,6 +18,7 @@ use crate::feeds::{hash_input, write_feed};
 use crate::forest::measure_forest;
 use crate::messages::measure_messages;
 use crate::targets::measure_targets;
+use crate::verify::measure_verify;
 use std::marker::Brand;
 use std::rt::Env;
 use std::sync::ledger::Blank;
@@ -30,6 +32,7 @@ bench forest    microseconds of a million additions and of a million positions
 bench hash      megabytes per second of SHA-256 twice over standard input
 bench messages  nanoseconds of reading a proof message, and all of its parts
 bench targets   microseconds of reading one target, a hundred, and as many as a block can have
+bench verify    microseconds of checking a proof of one target, and of up to as many as a block can have
 ";
 
 fn main(rt: HostRuntime) -> io::Result<()> {
@@ -44,6 +47,7 @@ fn main(rt: HostRuntime) -> io::Result<()> {
         "messages" => measure_messages(&rt),
         "forest" => measure_forest::<HostRuntime, Brand>(&rt, Blank::new(1)),
         "targets" => measure_targets(&rt),
+        "verify" => measure_verify::<HostRuntime, Brand>(&rt, Blank::new(1)),
         "hash" => hash_input(&rt),
         _ => print!(&rt; "{USAGE}"),
     }

@@ -219,10 +219,10 @@ fn check_changed<D: Digester, L: Ledger>(
     alloc: Global,
     case: &Case,
     shown: &Shown,
+    old: &Roots<D>,
     k: usize,
     steps: &mut Steps<L>,
 ) -> Result<(), AllocError> {
-    let old = roots_of::<D, L>(rt, &case.before, steps);
     let mut roots = old.copy();
     let digests = changed(alloc, shown, k)?;
     let count = shown.leaves.len();
@@ -233,9 +233,9 @@ fn check_changed<D: Digester, L: Ledger>(
     for (at, digest) in shown.places.iter().zip(digests.iter()) {
         pairs.push((*at, *digest))?;
     }
-    let want = plain_fault(rt, case, &old, &pairs, steps);
+    let want = plain_fault(rt, case, old, &pairs, steps);
     assert!(rt; fault == want && want.is_some(), "digest {k}: {fault:?} for {want:?}");
-    assert!(rt; same_roots(&roots, &old));
+    assert!(rt; same_roots(&roots, old));
     Ok(())
 }
 
@@ -248,14 +248,15 @@ fn check_case<D: Digester, L: Ledger>(
 ) -> Result<(), AllocError> {
     let case = case_of(alloc, n, number)?;
     let shown = shown_of::<D, L>(rt, alloc, &case, steps)?;
-    let mut roots = roots_of::<D, L>(rt, &case.before, steps);
+    let old = roots_of::<D, L>(rt, &case.before, steps);
+    let mut roots = old.copy();
     match check(rt, alloc, &mut roots, &shown.positions, &shown.leaves, &shown.hashes, steps) {
         Ok(pairs) => check_pairs::<D, L>(rt, alloc, &case, &shown, &pairs, steps),
         Err(fault) => panic!(rt; "case {number} of {n}: {fault:?}"),
     }
     assert!(rt; same_roots(&roots, &roots_of::<D, L>(rt, &case.after, steps)), "case {number} of {n}");
     for k in 0..shown.places.len() {
-        check_changed::<D, L>(rt, alloc, &case, &shown, k, steps)?;
+        check_changed::<D, L>(rt, alloc, &case, &shown, &old, k, steps)?;
     }
     Ok(())
 }
@@ -267,7 +268,7 @@ fn check_all<D: Digester, L: Ledger>(rt: &impl Abort, alloc: Global, blank: Blan
 {
     let mut steps = Steps::<L>::new(blank);
     let mut cases = 1;
-    for n in 0..7 {
+    for n in 0..10 {
         for number in 0..cases {
             assert!(rt; check_case::<D, L>(rt, alloc, n, number, &mut steps).is_ok(), "no memory");
         }
