@@ -4,5 +4,4 @@ pub mod Going
 pub mod Landings
 pub mod Nodes
 pub mod Judged
-pub mod Checked
 pub mod Room

@@ -13,6 +13,8 @@ mod node;
 mod origin;
 mod plan;
 mod scratch;
+#[cfg(test)]
+mod tests;
 
 pub use changes::Changes;
 pub use check::check_and_delete;

@@ -54,9 +54,8 @@ impl Model for Scratch {
 }
 
 impl Scratch {
-    ghost use Rattle.proof_verify.specs.Checked.{IsChecked, IsRefused};
     ghost use Rattle.forest_roots.specs.Stump.{IsStump};
-    ghost use Rattle.proof_verify.specs.Verified.{above_targets};
+    ghost use Rattle.proof_verify.specs.Verified.{IsDeleted, IsFault, above_targets};
 
     /// Reserved for no targets.
     pub fn new(alloc: Global) -> Scratch
@@ -131,8 +130,8 @@ impl Scratch {
         requires needed { needed ≡ length (need self.old.reserved.leaves self.old.reserved.targets) }
         requires leaves { length leaves.now ≡ length self.old.reserved.targets }
         ensures answer { MatchResult result
-            (λ u. IsChecked D.digest_of roots.old self.old.reserved.targets leaves.now hashes.now self.new.pairs roots.new)
-            (λ fault. IsRefused D.digest_of roots.old self.old.reserved.targets leaves.now hashes.now fault roots.new) }
+            (λ u. IsDeleted D.digest_of roots.old self.old.reserved.targets leaves.now hashes.now self.new.pairs roots.new)
+            (λ fault. IsFault D.digest_of roots.old self.old.reserved.targets leaves.now hashes.now fault × (roots.new ≡ roots.old)) }
         ensures fewer { steps.new ≤ steps.old + 2 * length (above_targets self.old.reserved.leaves self.old.reserved.targets) }
     {
         if hashes.len() != needed {
