@@ -12,3 +12,4 @@ pub mod Counts
 pub mod Remains
 pub mod Paired
 pub mod Lawful
+pub mod Examples

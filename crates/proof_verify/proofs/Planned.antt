@@ -105,15 +105,17 @@ module _ (n : ℕ) (ts cs : List Place) (k : IsCoverOf n ts cs) where
 
       by_row : (m : ℕ) → m < length cs → (r o : ℕ) → place_in cs m ≡ place r o → has_place ts r o ≡ false → is_some (cover ts r o) ≡ true → InForest n r o → (0 < r) × AreHalves n cs (place_in cs m) (origin_at os m)
       by_row m lt zero o e none c h = absurd (false≢true (rw none at c))
-      by_row m lt (suc r) o e none c h = (omega arith,
-          ⊎_elim
-          (λ it. absurd (false≢true (sym none ∙ it)))
-          (λ below.
-          ⊎_elim
-          (λ left. by_child m lt (place r (2 * o)) (InForest-left n r o h) (not_root-left n r o h) (ap (place (suc r)) (double_half o) ∙ sym e) left)
-          (λ right. by_child m lt (place r (2 * o + 1)) (InForest-right n r o h) (not_root-right n r o h) (ap (place (suc r)) (double_half_odd o) ∙ sym e) right)
-          (or_cases (is_some (cover ts r (2 * o))) (is_some (cover ts r (2 * o + 1))) below))
-          (or_cases (has_place ts (suc r) o) (is_some (cover ts r (2 * o)) || is_some (cover ts r (2 * o + 1))) (sym (covered_up ts r o) ∙ c)))
+      by_row m lt (suc r) o e none c h = (
+        omega arith,
+        ⊎_elim
+            (λ it. absurd (false≢true (sym none ∙ it)))
+            (λ below.
+            ⊎_elim
+            (λ left. by_child m lt (place r (2 * o)) (InForest-left n r o h) (not_root-left n r o h) (ap (place (suc r)) (double_half o) ∙ sym e) left)
+            (λ right. by_child m lt (place r (2 * o + 1)) (InForest-right n r o h) (not_root-right n r o h) (ap (place (suc r)) (double_half_odd o) ∙ sym e) right)
+            (or_cases (is_some (cover ts r (2 * o))) (is_some (cover ts r (2 * o + 1))) below))
+            (or_cases (has_place ts (suc r) o) (is_some (cover ts r (2 * o)) || is_some (cover ts r (2 * o + 1))) (sym (covered_up ts r o) ∙ c)),
+      )
 
       pub plan_is : length os ≡ length cs → IsPlan n ts cs os
       plan_is long = record {

@@ -35,7 +35,6 @@ use Rattle.proof_verify.specs.declared.origin.Origin.TheVariants.{Target, Halves
 use Rattle.proof_verify.proofs.Links.{same_place, even_beside, odd_beside}
 use Rattle.proof_verify.proofs.Puts.{one_index}
 use Rattle.proof_verify.proofs.Sends.{parent_later}
-
 use Rattle.proof_verify.proofs.Planned.{inside, needed_bare, uncovered_stays, before}
 
 gone_halves : (ts : List Place) (r o : ℕ) → has_place ts (suc r) o ≡ false → is_gone ts (suc r) o ≡ (is_gone ts r (2 * o) && is_gone ts r (2 * o + 1))

@@ -8,10 +8,15 @@ use uo_digest::Digest;
 pub enum ProofFault {
     /// There have to be `want` hashes, and there are `got`.
     #[error("{got} hashes in place of {want}")]
-    HashCount { want: u64, got: u64 },
+    HashCount {
+        want: u64,
+        got: u64,
+    },
     /// The slot of this row has a target, and its root is empty. It is the greatest such slot.
     #[error("the root in row {row} is empty")]
-    EmptyRoot { row: u8 },
+    EmptyRoot {
+        row: u8,
+    },
     /// The targets of this row's slot do not evaluate to its root. It is the greatest such slot.
     #[error("the root in row {row} differs")]
     RootDiffers {

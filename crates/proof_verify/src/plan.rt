@@ -64,9 +64,15 @@ fn origin_above(n: u64, covered: &[Place], i: usize, rank: usize) -> Option<(Ori
     }
     match (place.off % 2 == 0, is_near(covered, i, sibling(place))) {
         (true, true) => Some((Origin::Halves(Half::Covered(i), Half::Covered(i + 1)), rank)),
-        (true, false) => Some((Origin::Halves(Half::Covered(i), Half::Needed(rank)), rank + 1)),
+        (true, false) => Some((
+            Origin::Halves(Half::Covered(i), Half::Needed(rank)),
+            rank + 1,
+        )),
         (false, true) => Some((Origin::Halves(Half::Covered(i - 1), Half::Covered(i)), rank)),
-        (false, false) => Some((Origin::Halves(Half::Needed(rank), Half::Covered(i)), rank + 1)),
+        (false, false) => Some((
+            Origin::Halves(Half::Needed(rank), Half::Covered(i)),
+            rank + 1,
+        )),
     }
 }
 
@@ -108,7 +114,11 @@ fn put_targets(targets: &Targets, positions: &[u64], origins: &mut [Origin])
 }
 
 // What each covered place is made of that is no target, and the index of the place above each that is no root.
-fn links_of(alloc: Global, n: u64, covered: &[Place]) -> Result<(Vec<Origin>, Vec<usize>), AllocError>
+fn links_of(
+    alloc: Global,
+    n: u64,
+    covered: &[Place],
+) -> Result<(Vec<Origin>, Vec<usize>), AllocError>
     requires small { n < 2 ^ 40 }
     requires within { AreWithin n covered.now }
     requires rises { Rises n covered.now }

@@ -69,7 +69,16 @@ fn check_four<L: Ledger>(rt: &impl Abort, alloc: Global, blank: Blank)
     };
     assert_eq!(rt; fault, Some(want));
 
-    let fault = check(rt, alloc, &mut roots, &[1], &leaves, &[digest(1)], &mut steps).err();
+    let fault = check(
+        rt,
+        alloc,
+        &mut roots,
+        &[1],
+        &leaves,
+        &[digest(1)],
+        &mut steps,
+    )
+    .err();
     assert_eq!(rt; fault, Some(ProofFault::HashCount { want: 2, got: 1 }));
     assert_eq!(rt; roots.root(2), Some(Some(digest(15))));
 
@@ -99,7 +108,10 @@ fn check_edges<L: Ledger>(rt: &impl Abort, alloc: Global, blank: Blank)
         Ok(pairs) => assert!(rt; pairs.is_empty()),
         Err(fault) => panic!(rt; "{fault}"),
     }
-    assert_eq!(rt; [roots.root(2), roots.root(0)], [Some(Some(digest(9))), Some(None)]);
+    assert_eq!(rt;
+        [roots.root(2), roots.root(0)],
+        [Some(Some(digest(9))), Some(None)]
+    );
     assert!(rt; roots.leaves() == 5);
     let _ = roots.add(digest(7), &mut steps);
     assert_eq!(rt; roots.leaves(), 6);
@@ -108,7 +120,16 @@ fn check_edges<L: Ledger>(rt: &impl Abort, alloc: Global, blank: Blank)
     // No entry is left to spend.
     let mut roots = Roots::<XorFold>::of(4);
     let hashes = [digest(1), digest(2)];
-    let fault = check(rt, alloc, &mut roots, &[0], &[digest(3)], &hashes, &mut steps).err();
+    let fault = check(
+        rt,
+        alloc,
+        &mut roots,
+        &[0],
+        &[digest(3)],
+        &hashes,
+        &mut steps,
+    )
+    .err();
     assert_eq!(rt; fault, Some(ProofFault::EmptyRoot { row: 2 }));
     assert_eq!(rt; roots.root(2), Some(None));
 
@@ -118,10 +139,28 @@ fn check_edges<L: Ledger>(rt: &impl Abort, alloc: Global, blank: Blank)
     roots.put_root(1, Some(digest(1)));
     let leaves = [digest(8), digest(4), digest(2)];
     let hashes = [digest(16), digest(32), digest(64)];
-    let fault = check(rt, alloc, &mut roots, &[6, 4, 0], &leaves, &hashes, &mut steps).err();
+    let fault = check(
+        rt,
+        alloc,
+        &mut roots,
+        &[6, 4, 0],
+        &leaves,
+        &hashes,
+        &mut steps,
+    )
+    .err();
     assert_eq!(rt; fault, Some(ProofFault::EmptyRoot { row: 0 }));
     roots.put_root(0, Some(digest(1)));
-    let fault = check(rt, alloc, &mut roots, &[6, 4, 0], &leaves, &hashes, &mut steps).err();
+    let fault = check(
+        rt,
+        alloc,
+        &mut roots,
+        &[6, 4, 0],
+        &leaves,
+        &hashes,
+        &mut steps,
+    )
+    .err();
     let want = ProofFault::RootDiffers {
         row: 2,
         had: digest(1),

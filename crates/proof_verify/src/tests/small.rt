@@ -121,7 +121,10 @@ fn roots_of<D: Digester, L: Ledger>(
     for row in 0..4 {
         if roots.root(row).is_some() {
             assert!(rt; 0 < n >> row);
-            roots.put_root(row, content::<D, L>(rt, entries, row, (n >> row) - 1, steps));
+            roots.put_root(
+                row,
+                content::<D, L>(rt, entries, row, (n >> row) - 1, steps),
+            );
         }
     }
     roots
@@ -149,7 +152,10 @@ fn check_pairs<D: Digester, L: Ledger>(
     assert!(rt; n < 16);
     assert!(rt; pairs.is_sorted_by(|p, q| p.0 < q.0));
     for (at, digest) in pairs {
-        assert!(rt; digest_at::<D, L>(rt, &case.after, *at, steps) == Some(*digest), "{at:?}");
+        assert!(rt;
+            digest_at::<D, L>(rt, &case.after, *at, steps) == Some(*digest),
+            "{at:?}"
+        );
     }
     let Ok(targets) = Targets::new(alloc, n, &shown.positions) else {
         panic!(rt; "no targets")
@@ -159,7 +165,12 @@ fn check_pairs<D: Digester, L: Ledger>(
         for off in 0..n >> row {
             let above = place(row, off);
             let count = shown.leaves.len();
-            if shown.places.iter().take(count).any(|target| stands_above(above, *target)) {
+            if shown
+                .places
+                .iter()
+                .take(count)
+                .any(|target| stands_above(above, *target))
+            {
                 if let Some(goes) = targets.moved(above) {
                     let Some(k) = pairs.iter().position(|pair| pair.0 == goes) else {
                         panic!(rt; "no pair of {goes:?}")
@@ -228,13 +239,25 @@ fn check_changed<D: Digester, L: Ledger>(
     let count = shown.leaves.len();
     assert!(rt; count <= digests.len());
     let (leaves, hashes) = digests.split_at(count);
-    let fault = check(rt, alloc, &mut roots, &shown.positions, leaves, hashes, steps).err();
+    let fault = check(
+        rt,
+        alloc,
+        &mut roots,
+        &shown.positions,
+        leaves,
+        hashes,
+        steps,
+    )
+    .err();
     let mut pairs = Vec::new(alloc);
     for (at, digest) in shown.places.iter().zip(digests.iter()) {
         pairs.push((*at, *digest))?;
     }
     let want = plain_fault(rt, case, old, &pairs, steps);
-    assert!(rt; fault == want && want.is_some(), "digest {k}: {fault:?} for {want:?}");
+    assert!(rt;
+        fault == want && want.is_some(),
+        "digest {k}: {fault:?} for {want:?}"
+    );
     assert!(rt; same_roots(&roots, old));
     Ok(())
 }
@@ -250,11 +273,22 @@ fn check_case<D: Digester, L: Ledger>(
     let shown = shown_of::<D, L>(rt, alloc, &case, steps)?;
     let old = roots_of::<D, L>(rt, &case.before, steps);
     let mut roots = old.copy();
-    match check(rt, alloc, &mut roots, &shown.positions, &shown.leaves, &shown.hashes, steps) {
+    match check(
+        rt,
+        alloc,
+        &mut roots,
+        &shown.positions,
+        &shown.leaves,
+        &shown.hashes,
+        steps,
+    ) {
         Ok(pairs) => check_pairs::<D, L>(rt, alloc, &case, &shown, &pairs, steps),
         Err(fault) => panic!(rt; "case {number} of {n}: {fault:?}"),
     }
-    assert!(rt; same_roots(&roots, &roots_of::<D, L>(rt, &case.after, steps)), "case {number} of {n}");
+    assert!(rt;
+        same_roots(&roots, &roots_of::<D, L>(rt, &case.after, steps)),
+        "case {number} of {n}"
+    );
     for k in 0..shown.places.len() {
         check_changed::<D, L>(rt, alloc, &case, &shown, &old, k, steps)?;
     }
@@ -270,7 +304,10 @@ fn check_all<D: Digester, L: Ledger>(rt: &impl Abort, alloc: Global, blank: Blan
     let mut cases = 1;
     for n in 0..10 {
         for number in 0..cases {
-            assert!(rt; check_case::<D, L>(rt, alloc, n, number, &mut steps).is_ok(), "no memory");
+            assert!(rt;
+                check_case::<D, L>(rt, alloc, n, number, &mut steps).is_ok(),
+                "no memory"
+            );
         }
         assert!(rt; cases < 1 << 20);
         cases *= 3;

@@ -38,11 +38,13 @@ loop-i-preserved c =
     let j = c.loop-i.i - 1 in
     let lt : j < length cs = omega (arith, c.loop-i.invariant.0, c.loop-i-test.true) in
     let e : c.loop-i.i ≡ suc j = omega (arith, c.loop-i-test.true) in
-    let s = subst (λ k. IsSent n cs os ps gone k c.loop-i.goes) e c.loop-i.invariant.1 in
-    (omega (arith, lt), elim c.if-gone-i.branch [
-      | then-gone-i w ↦ sent_gone n cs c.requires.within c.requires.rises os ps c.requires.linked gone c.loop-i.goes j c.if-gone-i.goes lt s w.if-gone-i.true w.goes-is
-      | else-gone-i+then-is_root w ↦ sent_top n cs c.requires.within c.requires.rises os ps c.requires.linked gone c.loop-i.goes j c.if-gone-i.goes lt s w.if-gone-i.false (sym w.is_root.ensures ∙ w.if-is_root.true) w.goes-is
-      | else-gone-i+else-is_root w ↦
-          sent_child n cs c.requires.within c.requires.rises os ps c.requires.linked gone c.loop-i.goes j c.if-gone-i.goes lt w.is_other_gone-alone.result s w.if-gone-i.false (sym w.is_root.ensures ∙ w.if-is_root.false)
-          w.is_other_gone-alone.ensures (w.goes-is ∙ w.child_of.ensures.is) (rw w.goes-is w.child_of.ensures.within)
-    ])
+    let s = subst (λ k. IsSent n cs os ps gone k c.loop-i.goes) e c.loop-i.invariant.1 in (
+      omega (arith, lt),
+      elim c.if-gone-i.branch [
+        | then-gone-i w ↦ sent_gone n cs c.requires.within c.requires.rises os ps c.requires.linked gone c.loop-i.goes j c.if-gone-i.goes lt s w.if-gone-i.true w.goes-is
+        | else-gone-i+then-is_root w ↦ sent_top n cs c.requires.within c.requires.rises os ps c.requires.linked gone c.loop-i.goes j c.if-gone-i.goes lt s w.if-gone-i.false (sym w.is_root.ensures ∙ w.if-is_root.true) w.goes-is
+        | else-gone-i+else-is_root w ↦
+            sent_child n cs c.requires.within c.requires.rises os ps c.requires.linked gone c.loop-i.goes j c.if-gone-i.goes lt w.is_other_gone-alone.result s w.if-gone-i.false (sym w.is_root.ensures ∙ w.if-is_root.false)
+            w.is_other_gone-alone.ensures (w.goes-is ∙ w.child_of.ensures.is) (rw w.goes-is w.child_of.ensures.within)
+      ],
+    )

@@ -26,14 +26,14 @@ loop-i-preserved c =
     c.position.ensures.is ∙ (ap (λ m. position m c.place.result.row c.place.result.off) c.leaves-n.ensures.is ∙ ap (pos n) c.place.ensures) in
     elim c.match-index_of.branch [
       | in-Some w ↦ record {
-            long = ap length w.origins-is ∙ (length-set new w.in-Some.at _ ∙ inv.long);
-            put = λ cs within is rises.
-                rw w.origins-is (put_here n ts cs xs within is rises targets i lt old new c.requires.long (inv.put cs within is rises) w.in-Some.at w.in-Some.ensures.0 (w.in-Some.ensures.1 ∙ number));
-          }
+        long = ap length w.origins-is ∙ (length-set new w.in-Some.at _ ∙ inv.long);
+        put = λ cs within is rises.
+            rw w.origins-is (put_here n ts cs xs within is rises targets i lt old new c.requires.long (inv.put cs within is rises) w.in-Some.at w.in-Some.ensures.0 (w.in-Some.ensures.1 ∙ number));
+      }
       | in_default w ↦ record {
-            long = ap length w.origins-is ∙ inv.long;
-            put = λ cs within is rises.
-                let none = subst (λ o. MatchOption o (has_number xs c.position.result ≡ false) (λ k. (k < length xs) × (number_at xs k ≡ c.position.result))) w.in_default.is c.index_of.ensures in
-                rw w.origins-is (put_nowhere n ts cs xs within is rises targets i lt old new c.requires.long (inv.put cs within is rises) (ap (has_number xs) (sym number) ∙ none));
-          }
+        long = ap length w.origins-is ∙ inv.long;
+        put = λ cs within is rises.
+            let none = subst (λ o. MatchOption o (has_number xs c.position.result ≡ false) (λ k. (k < length xs) × (number_at xs k ≡ c.position.result))) w.in_default.is c.index_of.ensures in
+            rw w.origins-is (put_nowhere n ts cs xs within is rises targets i lt old new c.requires.long (inv.put cs within is rises) (ap (has_number xs) (sym number) ∙ none));
+      }
     ]
