@@ -1,6 +1,4 @@
 //! Judging blocks.
-ghost use Rattle.std.specs.Prelude.{◌<◌, ◌^◌, length};
-
 use block_codec::{BlockView, MerkleOutcome, merkle, read_block};
 use block_rules::{Chain, Found, Spends, money_rules, shape_rules};
 use std::alloc::{AllocError, Global};
@@ -19,55 +17,85 @@ const COINBASE: [u8; 63] = [
     0x51, 0, 0, 0, 0,
 ];
 
+/// Blocks are measured until about so many inputs were judged.
+const INPUTS: u32 = 25_000;
+
+const ROUNDS: u32 = 20;
+
 /// Nanoseconds an input of judging blocks of a thousand inputs, of ten thousand, and of as many as a block has room for:
-/// first where all of them spend outputs of other blocks, then where all spend outputs of the block.
+/// first where all of them spend outputs of other blocks, then where all spend outputs of the block. Blocks of fewer
+/// inputs are measured over more of them, all different, so that what is met is not met again. It is the best of some rounds.
 pub fn measure_rules<R: Clock + Print + AllocGlobal>(rt: &R) -> io::Result<()> {
-    let alloc = rt.alloc();
-    for (count, rounds) in [(1_000, 200), (10_000, 20), (24_386, 10)] {
-        measure(rt, "external", count, rounds, external_block(alloc, count)?)?;
+    for count in [1_000, 10_000, 24_386] {
+        let texts = texts(rt.alloc(), count, false)?;
+        measure(rt, "external", count, &texts)?;
     }
-    for (count, rounds) in [(1_000, 200), (10_000, 20), (19_990, 10)] {
-        measure(rt, "internal", count, rounds, internal_block(alloc, count)?)?;
+    for count in [1_000, 10_000, 19_990] {
+        let texts = texts(rt.alloc(), count, true)?;
+        measure(rt, "internal", count, &texts)?;
     }
     Ok(())
+}
+
+// Different blocks.
+fn texts(alloc: Global, count: u32, internal: bool) -> io::Result<Vec<Vec<u8>>> {
+    let mut texts = Vec::new(alloc);
+    for seed in 0..(INPUTS / count.max(1)).max(1) {
+        let mut text = if internal {
+            internal_block(alloc, count, seed)?
+        } else {
+            external_block(alloc, count, seed)?
+        };
+        put_root(alloc, &mut text);
+        texts.push(text)?;
+    }
+    Ok(texts)
 }
 
 fn measure<R: Clock + Print + AllocGlobal>(
     rt: &R,
     what: &str,
     count: u32,
-    rounds: u32,
-    mut text: Vec<u8>,
+    texts: &[Vec<u8>],
 ) -> io::Result<()> {
-    if text.len() >= 4_294_967_296 {
-        return Ok(());
+    let inputs = u128::from(count) * texts.len() as u128;
+    let mut shape = u128::MAX;
+    let mut money = u128::MAX;
+    for _ in 0..ROUNDS {
+        let mut round = (0u128, 0u128);
+        for text in texts {
+            let (a, b) = time(rt, text)?;
+            round = (round.0.saturating_add(a), round.1.saturating_add(b));
+        }
+        shape = shape.min(round.0);
+        money = money.min(round.1);
     }
-    put_root(rt.alloc(), &mut text);
-    let Ok(block) = read_block(rt.alloc(), &text) else {
-        return println!(rt; "the text is no block");
+    println!(rt;
+        "nanoseconds an input of {count} {what}: shape_rules {}, money_rules {}",
+        shape / inputs.max(1),
+        money / inputs.max(1)
+    )
+}
+
+// Nanoseconds of judging a block by itself, and of judging its money.
+fn time<R: Clock + AllocGlobal>(rt: &R, text: &[u8]) -> io::Result<(u128, u128)> {
+    if text.len() >= 4_294_967_296 {
+        return Ok((0, 0));
+    }
+    let Ok(block) = read_block(rt.alloc(), text) else {
+        return Ok((0, 0));
     };
     let start = Instant::now(rt)?;
-    let mut passed = 0u32;
-    for _ in 0..rounds {
-        if judge(rt.alloc(), &block).is_some() {
-            passed = passed.wrapping_add(1);
-        }
-    }
-    let shape = start.elapsed(rt)?.as_nanos() / (u128::from(count) * u128::from(rounds)).max(1);
-    let Some(spends) = judge(rt.alloc(), &block) else {
-        return println!(rt; "the block is refused");
+    let judged = judge(rt.alloc(), &block);
+    let shape = start.elapsed(rt)?.as_nanos();
+    let Some(spends) = judged else {
+        return Ok((0, 0));
     };
     let found = nothing(rt.alloc(), spends.external().len())?;
     let start = Instant::now(rt)?;
-    for _ in 0..rounds {
-        if is_paid(&spends, &found) {
-            passed = passed.wrapping_add(1);
-        }
-    }
-    let money = start.elapsed(rt)?.as_nanos() / (u128::from(count) * u128::from(rounds)).max(1);
-    println!(rt;
-        "nanoseconds an input of {count} {what}: shape_rules {shape}, money_rules {money} ({passed} passed)"
-    )
+    let paid = is_paid(&spends, &found);
+    let money = start.elapsed(rt)?.as_nanos();
+    Ok(if paid { (shape, money) } else { (0, 0) })
 }
 
 fn judge<'a>(alloc: Global, block: &BlockView<'a>) -> Option<Spends<'a>> {
@@ -96,18 +124,17 @@ fn nothing(alloc: Global, count: usize) -> Result<Vec<Found>, AllocError> {
 }
 
 // Writes the merkle root of its transactions into a block's header.
-fn put_root(alloc: Global, text: &mut [u8])
-    requires { length text.old < 2 ^ 32 }
-{
+fn put_root(alloc: Global, text: &mut [u8]) {
+    if text.len() < 68 || text.len() >= 4_294_967_296 {
+        return;
+    }
     let mut root = [0; 32];
     if let Ok(block) = read_block(alloc, text) {
         if let Ok(MerkleOutcome::Root(digest)) = merkle(alloc, &block) {
             root = digest.0;
         }
     }
-    if text.len() >= 68 {
-        text[36..68].copy_from_slice(&root);
-    }
+    text[36..68].copy_from_slice(&root);
 }
 
 // The header and the coinbase of a block of so many transactions.
@@ -128,12 +155,16 @@ fn put_input(text: &mut Vec<u8>, txid: &Digest, index: u32) -> Result<(), AllocE
 }
 
 // One transaction, whose inputs spend outputs of as many others.
-fn external_block(alloc: Global, count: u32) -> io::Result<Vec<u8>> {
+fn external_block(alloc: Global, count: u32, seed: u32) -> io::Result<Vec<u8>> {
     let mut text = begin(alloc, 2)?;
     text.extend_from_slice(&[1, 0, 0, 0])?;
     put_count(&mut text, count)?;
     for i in 0..count {
-        put_input(&mut text, &sha256d(&i.to_le_bytes()), i)?;
+        put_input(
+            &mut text,
+            &sha256d(&(u64::from(seed) << 32 | u64::from(i)).to_le_bytes()),
+            i,
+        )?;
     }
     text.push(1)?;
     text.extend_from_slice(&[0; 13])?;
@@ -141,10 +172,10 @@ fn external_block(alloc: Global, count: u32) -> io::Result<Vec<u8>> {
 }
 
 // One transaction that makes so many outputs, and one that spends them all.
-fn internal_block(alloc: Global, count: u32) -> io::Result<Vec<u8>> {
+fn internal_block(alloc: Global, count: u32, seed: u32) -> io::Result<Vec<u8>> {
     let mut first = Vec::new(alloc);
     first.extend_from_slice(&[1, 0, 0, 0, 1])?;
-    put_input(&mut first, &Digest(TIP), 0)?;
+    put_input(&mut first, &Digest(TIP), seed)?;
     put_count(&mut first, count)?;
     for _ in 0..count {
         first.extend_from_slice(&[0; 9])?;
