@@ -20,7 +20,7 @@ use Rattle.block_rules.specs.Blocks.{external, new_records}
 use Rattle.node_rules.specs.Messages.{Message, named, targets, points_of, known_to}
 use Rattle.node_rules.specs.Accepting.{View, leaves_of, shape_fault, at_cover, first_slot, empty_root, root_differs, proof_fault}
 use Rattle.node_rules.specs.Reading.{Handed, nothing, unread, read}
-use Rattle.node_rules.specs.Judging.{Rules, Evidence, message_steps, found_by, view_step, refusal}
+use Rattle.node_rules.specs.Judging.{Rules, Evidence, message_steps, found_by, view_step, compact, refusal}
 use Rattle.node_rules.specs.Machine.{verdict_by, verdict_over}
 use Rattle.node_rules.specs.Laws.{IsSameView}
 
@@ -54,9 +54,8 @@ module _ (H : List ℕ → Digest) (text : Leaf → List ℕ) where
       ∙ (ap (λ k. let x : View = record { n = v.n; roots = w.roots; known = k } in proof_fault H text x points m) (fun_ext (λ row. fun_ext (λ off. same.known row off)))
       ∙ ap (λ n. let x : View = record { n = n; roots = w.roots; known = w.known } in proof_fault H text x points m) same.n)
 
-  pub verdict_alike : (v w : View) → IsSameView v w → (rules : Rules) (chain : Chain) (b : Block) (handed : Handed) → verdict_over H text rules chain v b handed ≡ verdict_over H text rules chain w b handed
-  verdict_alike v w same rules chain b handed =
-      ap (λ (s : Option Refusal). verdict_by chain b (length (new_records b chain.blocks)) (refusal rules chain b (judged s))) (step_alike handed)
+  pub refusal_alike : (v w : View) → IsSameView v w → (rules : Rules) (chain : Chain) (b : Block) (handed : Handed) → refusal rules chain b (compact H text v (external b chain.blocks) handed) ≡ refusal rules chain b (compact H text w (external b chain.blocks) handed)
+  refusal_alike v w same rules chain b handed = ap (λ (s : Option Refusal). refusal rules chain b (judged s)) (step_alike handed)
     where
       judged : Option Refusal → Evidence
       judged s = record { steps = message_steps (external b chain.blocks) handed ++ (s ∷ []); found = found_by handed; numbers = [] }
@@ -65,3 +64,6 @@ module _ (H : List ℕ → Digest) (text : Leaf → List ℕ) where
       step_alike nothing = refl
       step_alike (unread why) = refl
       step_alike (read m) = ap (option_map Why.Proof) (fault_alike v w same (points_of (external b chain.blocks)) m)
+
+  pub verdict_alike : (v w : View) → IsSameView v w → (rules : Rules) (chain : Chain) (b : Block) (handed : Handed) → verdict_over H text rules chain v b handed ≡ verdict_over H text rules chain w b handed
+  verdict_alike v w same rules chain b handed = ap (verdict_by chain b (length (new_records b chain.blocks))) (refusal_alike v w same rules chain b handed)

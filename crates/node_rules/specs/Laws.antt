@@ -1,5 +1,5 @@
 -- What holds of the machines, whatever the digest function and the leaf text. Each law is the contract of a function of its name.
-use Rattle.std.specs.Prelude.{◌≡◌, ◌≢◌, ◌≤◌, All, AllPairs, ℕ, Bool, true, false, List, [], ◌∷◌, ◌++◌, length, map, Option, Some, None, is_some, ◌↔◌}
+use Rattle.std.specs.Prelude.{◌≡◌, ◌≢◌, ◌≤◌, All, AllPairs, ℕ, suc, Bool, true, false, List, [], ◌∷◌, ◌++◌, length, map, Option, Some, None, is_some, ◌↔◌}
 use Rattle.std.specs.List.{AllByRecursion}
 use Rattle.uo_base.specs.Reading.{IsBytes}
 use Rattle.uo_digest.specs.declared.digest.Digest.{Digest}
@@ -11,7 +11,7 @@ use Rattle.forest_model.specs.Evaluation.{asked, evaluation, hash_of, IsAccepted
 use Rattle.forest_model.specs.Right.{entries, IsRight, IsLeafText, LiveFit, HasClash}
 use Rattle.forest_model.specs.Deletion.{entries_without, root_after, StandAt}
 use Rattle.forest_model.specs.Addition.{IsAddition}
-use Rattle.block_codec.specs.Block.{Block}
+use Rattle.block_codec.specs.Block.{Block, block_hash_of}
 use Rattle.leaf_record.specs.Leaf.{Outpoint, Leaf}
 use Rattle.leaf_record.specs.History.{History, spent, added, supply}
 use Rattle.proof_wire.specs.BlockProof.{rests_of, message_text, ProofFits}
@@ -19,7 +19,7 @@ use Rattle.block_rules.specs.declared.chain.Chain.{Chain}
 use Rattle.block_rules.specs.declared.chain.Outside.{Outside}
 use Rattle.block_rules.specs.declared.refusal.ProofRefusal.TheVariants.{HashCount, EmptyRoot, RootDiffers}
 use Rattle.block_rules.specs.Steps.{first_of}
-use Rattle.block_rules.specs.Blocks.{external}
+use Rattle.block_rules.specs.Blocks.{external, new_records}
 use Rattle.block_rules.specs.Rules.{block_steps}
 use Rattle.node_rules.specs.Messages.{Message, named, targets, points_of, claimed, known_to}
 use Rattle.node_rules.specs.Accepting.{View, leaves_of, shape_fault, proof_fault, IsGreatest}
@@ -27,7 +27,7 @@ use Rattle.node_rules.specs.Right.{is_right}
 use Rattle.node_rules.specs.Known.{is_known, kept_places, known_at, view_of}
 use Rattle.node_rules.specs.Reading.{Handed, read, message_in}
 use Rattle.node_rules.specs.Judging.{Rules, compact, full, own, refusal, is_right_message, is_forged, message_of, written, entries_shown, untold, history_after}
-use Rattle.node_rules.specs.Machine.{ChainEvent, BlockCame, Level, State, Judge, start, chain_of, full_judge, view_judge, own_judge, step, issued, verdict_over, verdicts, state_after, never_stops, proof_feed, kept_verdicts, SpendEach}
+use Rattle.node_rules.specs.Machine.{ChainEvent, BlockCame, Level, State, Judge, start, chain_of, full_judge, view_judge, own_judge, pushed, step, issued, verdict_over, verdicts, state_after, never_stops, proof_feed, kept_verdicts, SpendEach}
 
 -- ---- the tests of a verdict say what the forest's laws speak of
 
@@ -197,6 +197,27 @@ abbrev pub AgreeingViewsJudgeAlike : Type 0
 AgreeingViewsJudgeAlike = (H : List ℕ → Digest) (text : Leaf → List ℕ) (v w : View) → IsSameView v w →
     ((points : List Outpoint) (m : Message) → proof_fault H text v points m ≡ proof_fault H text w points m)
     × ((rules : Rules) (chain : Chain) (b : Block) (handed : Handed) → verdict_over H text rules chain v b handed ≡ verdict_over H text rules chain w b handed)
+
+-- so where a view agrees with that of the newest level, the verdict over it is that of the machine with the whole history, where
+-- that one has a verdict
+abbrev pub StandingViewTells : Type 0
+StandingViewTells = (H : List ℕ → Digest) (text : Leaf → List ℕ) (scripts : List (List ℕ)) (rules : Rules) (s : State) (v : View) (b : Block) (handed : Handed) →
+    let outcome = step rules (full_judge H text scripts rules) s (BlockCame (Some b) handed) in
+    IsSameView v (view_of H text scripts s.now.history) → is_some outcome.verdict ≡ true →
+    outcome.verdict ≡ Some (verdict_over H text rules (chain_of s.now) v b handed)
+
+-- and where it accepts the block, the entries at the targets are spent and the new ones appended; else nothing changes
+abbrev pub StandingViewChanges : Type 0
+StandingViewChanges = (H : List ℕ → Digest) (text : Leaf → List ℕ) (scripts : List (List ℕ)) (rules : Rules) (s : State) (v : View) (b : Block) (handed : Handed) →
+    let outcome = step rules (full_judge H text scripts rules) s (BlockCame (Some b) handed) in
+    let us = s.now.history in
+    let ext = external b s.now.blocks in
+    let refused = refusal rules (chain_of s.now) b (compact H text v ext handed) in
+    IsSameView v (view_of H text scripts us) → is_some outcome.verdict ≡ true →
+    (refused ≡ None →
+    (outcome.state ≡ pushed (record { blocks = suc s.now.blocks; tip = block_hash_of b; history = history_after us (entries_shown H text us handed) (new_records b s.now.blocks) }) s)
+    × (is_right_message H text scripts us ext handed ≡ true))
+    × (is_some refused ≡ true → outcome.state ≡ s)
 
 -- nothing is known where nothing is watched
 abbrev pub NothingIsKnown : Type 0

@@ -1,6 +1,6 @@
 //! What holds of messages, verdicts and machines, whatever the digest function and the leaf text. There is no code here:
 //! each law is the contract of a function that does nothing.
-ghost use Rattle.node_rules.specs.Laws.{MessageIsRead, NoFaultIsAccepted, FaultIsTold, UntoldIsNoFault, RightIsTested, RightIsTaken, ViewJudgesAsFullSet, ViewStepsAsFullSet, ViewRunsAsFullSet, AcceptedIsRight, WrittenIsTaken, WrittenIsFollowed, WrittenIsFollowedByViews, SupplyIsIssued, EachIsSpentOnce, LevelsAreFew, VerdictIsByView, AgreeingViewsJudgeAlike, NothingIsKnown, KnownIsThere, HistoryIsSpentAndAppended, RightLeavesRoots, BlockAppends, ForgedShowsClash};
+ghost use Rattle.node_rules.specs.Laws.{MessageIsRead, NoFaultIsAccepted, FaultIsTold, UntoldIsNoFault, RightIsTested, RightIsTaken, ViewJudgesAsFullSet, ViewStepsAsFullSet, ViewRunsAsFullSet, AcceptedIsRight, WrittenIsTaken, WrittenIsFollowed, WrittenIsFollowedByViews, SupplyIsIssued, EachIsSpentOnce, LevelsAreFew, VerdictIsByView, AgreeingViewsJudgeAlike, StandingViewTells, StandingViewChanges, NothingIsKnown, KnownIsThere, HistoryIsSpentAndAppended, RightLeavesRoots, BlockAppends, ForgedShowsClash};
 
 /// Bytes are read as a message exactly where they are its text.
 pub fn message_is_read()
@@ -61,10 +61,13 @@ pub fn levels_are_few()
     ensures { LevelsAreFew }
 {}
 
-/// A verdict by views needs no more than the chain and a view of its newest level, of which the roots count at slots alone.
+/// A verdict by views needs no more than the chain and a view of its newest level, of which the roots count at slots alone. A
+/// view that agrees with it there tells what the whole history tells, unless the event is forged, and what is changed.
 pub fn verdict_is_by_view()
     ensures view { VerdictIsByView }
     ensures agreeing { AgreeingViewsJudgeAlike }
+    ensures standing { StandingViewTells }
+    ensures changes { StandingViewChanges }
 {}
 
 /// What a view knows beside the roots: nothing where nothing is watched, and else the digest of each place that is known.
