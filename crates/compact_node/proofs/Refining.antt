@@ -94,6 +94,7 @@ module _ (H : List ℕ → Digest) (text : Leaf → List ℕ) (s : NodeState) (i
     counted = after-leaves;
     within = (room s b evidence passes).1;
     few = is.few;
+    short = is.short;
   }
 
   -- roots that stand for entries without those that are spent

@@ -37,6 +37,7 @@ pub record IsNode (s : NodeState) : Type 0 where
   pub counted : s.roots.leaves ≡ s.chain.leaves
   pub within : s.chain.leaves ≤ s.rules.limits.leaves
   pub few : s.rules.limits.leaves < 2 ^ 40
+  pub short : s.rules.limits.bytes ≤ 2 ^ 48
 
 -- no block, and no entry
 abbrev pub fresh : Net → Limits → NodeState
