@@ -21,7 +21,6 @@ use Rattle.node_rules.specs.Judging.{Rules}
 use Rattle.node_rules.specs.Machine.{ChainEvent, BlockCame, RollbackCame, StrayCame, Outcome, State, start, chain_of, step, event_in, verdicts, state_after, never_stops, told, goes_on, full_judge}
 use Rattle.compact_node.specs.Node.{NodeState, IsNode, Stands, is_forward, verdict_on, next_node, refusal_on, node_with, node_by}
 use Rattle.compact_node.specs.Node as Node
-use Rattle.compact_node.specs.Laws.{Agrees}
 use Rattle.compact_node.proofs.Refining.{compact_is_full, next_is_node}
 use Rattle.std.specs.Io.KnownBytes.{Appends}
 use Rattle.uo_base.specs.Moved.{AppendsPart}
@@ -63,6 +62,10 @@ module _ (H : List ℕ → Digest) (limits : Limits) (net : Net) where
 
   -- ---- one event
 
+  -- the machine that holds every output says the same, and the next node stands for what it holds then
+  abbrev Agrees : NodeState → ChainEvent → Outcome → Type 0
+  Agrees s e o = (o.verdict ≡ Some (verdict_on H leaf_text s e)) × Stands H leaf_text o.state (next_node H leaf_text s e)
+
   kept_rules : (s : NodeState) (e : ChainEvent) → (next_node H leaf_text s e).rules ≡ s.rules
   kept_rules s (BlockCame None handed) = refl
   kept_rules s (BlockCame (Some b) handed) = by (refusal_on H leaf_text s b handed)
@@ -74,18 +77,18 @@ module _ (H : List ℕ → Digest) (limits : Limits) (net : Net) where
   kept_rules s StrayCame = refl
 
   agree : (t : State) (f : Following) (e : ChainEvent) → Beside t f → is_forward e ≡ true → is_some (step rules (full H limits net) t e).verdict ≡ true
-      → Agrees H leaf_text f.node e (step rules (full H limits net) t e)
+      → Agrees f.node e (step rules (full H limits net) t e)
   agree t f e b forward h =
       let at = λ (r : Rules). step r (full_judge H leaf_text [] r) t e in
       let h' : is_some (at f.node.rules).verdict ≡ true = subst (λ r. is_some (at r).verdict ≡ true) (sym b.rules_are) h in
-      subst (λ r. Agrees H leaf_text f.node e (at r)) b.rules_are (compact_is_full H leaf_text f.node t e b.is_node b.stands forward h')
+      subst (λ r. Agrees f.node e (at r)) b.rules_are (compact_is_full H leaf_text f.node e b.is_node t b.stands forward h')
 
-  next_beside : (t : State) (f : Following) (event : FeedEvent) (o : Outcome) → Beside t f → Agrees H leaf_text f.node (event_in event) o → Beside o.state (next_follower H f event)
+  next_beside : (t : State) (f : Following) (event : FeedEvent) (o : Outcome) → Beside t f → Agrees f.node (event_in event) o → Beside o.state (next_follower H f event)
   unfolding next_follower
   next_beside t f event o b a = record {
     rules_are = kept_rules f.node (event_in event) ∙ b.rules_are;
     is_node = next_is_node H leaf_text f.node (event_in event) b.is_node;
-    stands = a.stands;
+    stands = a.1;
   }
 
   -- ---- all events
@@ -95,7 +98,7 @@ module _ (H : List ℕ → Digest) (limits : Limits) (net : Net) where
   or_again false b c = refl
 
   alike_more : (t : State) (f : Following) (event : FeedEvent) (events : List FeedEvent) → let o = step rules (full H limits net) t (event_in event) in
-      Agrees H leaf_text f.node (event_in event) o → Alike o.state (next_follower H f event) events → Alike t f (event ∷ events)
+      Agrees f.node (event_in event) o → Alike o.state (next_follower H f event) events → Alike t f (event ∷ events)
   unfolding event_line told_of next_follower
   alike_more t f event events a later =
       let o = step rules (full H limits net) t (event_in event) in
@@ -103,10 +106,10 @@ module _ (H : List ℕ → Digest) (limits : Limits) (net : Net) where
       let told_later = lines_after o.state events in
       let last = after (next_follower H) (next_follower H f event) events in
       record {
-        lines = subst (λ w. (event_line H f event ++ written (next_follower H) (event_line H) (next_follower H f event) events) ≡ flat_map line_of (told w told_later)) (sym a.verdict) (ap (λ w. event_line H f event ++ w) later.lines);
-        ends = subst (λ w. Beside (goes_on w t (left_after o.state events)) last) (sym a.verdict) later.ends;
+        lines = subst (λ w. (event_line H f event ++ written (next_follower H) (event_line H) (next_follower H f event) events) ≡ flat_map line_of (told w told_later)) (sym a.0) (ap (λ w. event_line H f event ++ w) later.lines);
+        ends = subst (λ w. Beside (goes_on w t (left_after o.state events)) last) (sym a.0) later.ends;
         counted = later.counted ∙ (let z : f.events + 1 + length events ≡ f.events + suc (length events) = omega arith in z);
-        refused = subst (λ w. last.refused ≡ (f.refused || list_any is_refused (told w told_later))) (sym a.verdict) (later.refused ∙ or_again f.refused (is_refused v) (list_any is_refused told_later));
+        refused = subst (λ w. last.refused ≡ (f.refused || list_any is_refused (told w told_later))) (sym a.0) (later.refused ∙ or_again f.refused (is_refused v) (list_any is_refused told_later));
       }
 
   or_none : (b : Bool) → b ≡ (b || false)
