@@ -1,5 +1,5 @@
 -- A node that keeps roots alone prints what a node that holds every output prints, as long as no proof is forged.
-use Rattle.std.proofs.Common.{◌≡◌, ℕ, zero, suc, ◌+◌, ◌<◌, ◌^◌, Bool, true, false, ◌&&◌, ◌||◌, List, [], ◌∷◌, ◌++◌, length, map, get_or, replicate, Option, Some, None, is_some, Result, Ok, Err, refl, sym, ap, subst, ◌∙◌, arith, rules as std_rules}
+use Rattle.std.proofs.Common.{◌≡◌, ℕ, zero, suc, ◌+◌, ◌<◌, ◌≤◌, ◌^◌, Bool, true, false, ◌&&◌, ◌||◌, List, [], ◌∷◌, ◌++◌, length, map, get_or, replicate, Option, Some, None, is_some, Result, Ok, Err, refl, sym, ap, subst, ◌∙◌, arith, rules as std_rules}
 use Rattle.std.specs.List.{flat_map, list_any}
 use Rattle.std.proofs.lemmas.Bool.{and_parts}
 use Rattle.std.proofs.lemmas.List.{append_assoc}
@@ -135,9 +135,9 @@ module _ (H : List ℕ → Digest) (limits : Limits) (net : Net) where
   fresh-stands : Stands H leaf_text start (Node.fresh net limits)
   fresh-stands = record { chain = refl; roots = record { leaves = refl; roots = λ row slot. search std_rules } }
 
-  module _ (few : limits.leaves < 2 ^ 40) where
+  module _ (few : limits.leaves < 2 ^ 40) (short : limits.bytes ≤ 2 ^ 48) where
     fresh-node : IsNode (Node.fresh net limits)
-    fresh-node = record { low = omega arith; stump = record { few = omega arith; forty = refl; bare = λ row bare. empty-at 40 row }; counted = refl; within = omega arith; few = few }
+    fresh-node = record { low = omega arith; stump = record { few = omega arith; forty = refl; bare = λ row bare. empty-at 40 row }; counted = refl; within = omega arith; few = few; short = short }
 
     at_start : Beside start (fresh net limits)
     at_start = record { rules_are = refl; is_node = fresh-node; stands = fresh-stands }
@@ -196,10 +196,10 @@ ends-obeys answer feed prior watch report report' out out' status e = by status 
     by WatchList e = e
     by InputLimit e = e
 
-module _ (H : List ℕ → Digest) (words : List (List ℕ)) (limits : Limits) (few : limits.leaves < 2 ^ 40) where
+module _ (H : List ℕ → Digest) (words : List (List ℕ)) (limits : Limits) (few : limits.leaves < 2 ^ 40) (short : limits.bytes ≤ 2 ^ 48) where
   same_answer : (r : Result Asked WordFault) (inputs : Inputs) → IsHonestRun H r limits inputs → answer_by H r limits inputs ≡ full_answer_by H r limits inputs
   same_answer (Err fault) inputs p = refl
-  same_answer (Ok (AskedFollow net file)) inputs p = follows-full_set H limits (net_for (AskedFollow net file)) few inputs.feed p
+  same_answer (Ok (AskedFollow net file)) inputs p = follows-full_set H limits (net_for (AskedFollow net file)) few short inputs.feed p
 
   is_full : (inputs : Inputs) → IsHonestRun H (command_of words) limits inputs → answer_of H words limits inputs ≡ full_answer_by H (command_of words) limits inputs
   unfolding answer_of

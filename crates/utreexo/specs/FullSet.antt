@@ -1,5 +1,5 @@
 -- What a node that holds every output prints of a feed, and the feeds of which `follow` prints the same.
-use Rattle.std.specs.Prelude.{◌≡◌, ℕ, ◌<◌, ◌^◌, Bool, true, ◌&&◌, List, [], ◌∷◌, ◌++◌, length, map, Result, Ok, Err}
+use Rattle.std.specs.Prelude.{◌≡◌, ℕ, ◌<◌, ◌≤◌, ◌^◌, Bool, true, ◌&&◌, List, [], ◌∷◌, ◌++◌, length, map, Result, Ok, Err}
 use Rattle.std.specs.List.{flat_map, list_any}
 use Rattle.std.specs.declared.option.Option.{Option}
 use Rattle.uo_base.specs.declared.event.Limits.{Limits}
@@ -78,5 +78,5 @@ pub record ObeysWhere (P : Inputs → Type 0) (answer : Inputs → Answer) (feed
 -- whatever comes behind them, of events of which none is forged and none takes a block back `follow` prints first what a node prints that
 -- holds every output
 abbrev pub FrontIsPrinted : (List ℕ → Digest) → Type 0
-FrontIsPrinted H = (limits : Limits) → limits.leaves < 2 ^ 40 → (net : Net) (feed : List ℕ) (front later : List FeedEvent) → (events_of net limits.bytes feed).events ≡ front ++ later → AreHonest H limits net front →
+FrontIsPrinted H = (limits : Limits) → limits.leaves < 2 ^ 40 → limits.bytes ≤ 2 ^ 48 → (net : Net) (feed : List ℕ) (front later : List FeedEvent) → (events_of net limits.bytes feed).events ≡ front ++ later → AreHonest H limits net front →
     (rest : List ℕ) × ((follow_answer H limits net feed).report ≡ flat_map line_of (full_verdicts H limits net front) ++ rest)

@@ -20,7 +20,7 @@ use Rattle.utreexo.specs.FullSet.{FrontIsPrinted}
 use Rattle.utreexo.proofs.run.run.Goals as goal
 
 front_is_printed : (H : List ℕ → Digest) → FrontIsPrinted H
-front_is_printed H limits few net = front-full_set H limits net few
+front_is_printed H limits few short net = front-full_set H limits net few short
 
 is_stop : Status → Bool
 is_stop ReadFault = true
@@ -78,25 +78,25 @@ pub returns-in-Ok-clause-taken : goal.returns-in-Ok-clause-taken
 returns-in-Ok-clause-taken g c = λ h. absurd (not_read_fault _ _ _ _ _ c.in-Ok.ensures.ended.answered h)
 
 pub returns-in-Ok-clause-headline : goal.returns-in-Ok-clause-headline
-returns-in-Ok-clause-headline g c = ended-where _ _ _ c.requires.leaves _ _ _ _ _ _ _ _ c.in-Ok.ensures.ended
+returns-in-Ok-clause-headline g c = ended-where _ _ _ c.requires.leaves c.requires.bytes _ _ _ _ _ _ _ _ c.in-Ok.ensures.ended
 
 pub returns-in-Ok-clause-front : goal.returns-in-Ok-clause-front
 returns-in-Ok-clause-front g c = front_is_printed _
 
 pub returns-in-Err-ReadFault-clause-headline : goal.returns-in-Err-ReadFault-clause-headline
-returns-in-Err-ReadFault-clause-headline g c = let w = stays-where _ _ _ c.requires.leaves _ _ _ _ _ _ _ c.run_command.ensures.part in record { inputs = w.0; told = w.1; obeys = w.2 }
+returns-in-Err-ReadFault-clause-headline g c = let w = stays-where _ _ _ c.requires.leaves c.requires.bytes _ _ _ _ _ _ _ c.run_command.ensures.part in record { inputs = w.0; told = w.1; obeys = w.2 }
 
 pub returns-in-Err-ReadFault-clause-front : goal.returns-in-Err-ReadFault-clause-front
 returns-in-Err-ReadFault-clause-front g c = front_is_printed _
 
 pub returns-in-Err-WriteFault-clause-headline : goal.returns-in-Err-WriteFault-clause-headline
-returns-in-Err-WriteFault-clause-headline g c = let w = stays-where _ _ _ c.requires.leaves _ _ _ _ _ _ _ c.run_command.ensures.part in record { inputs = w.0; told = w.1; obeys = w.2 }
+returns-in-Err-WriteFault-clause-headline g c = let w = stays-where _ _ _ c.requires.leaves c.requires.bytes _ _ _ _ _ _ _ c.run_command.ensures.part in record { inputs = w.0; told = w.1; obeys = w.2 }
 
 pub returns-in-Err-WriteFault-clause-front : goal.returns-in-Err-WriteFault-clause-front
 returns-in-Err-WriteFault-clause-front g c = front_is_printed _
 
 pub returns-in-Err-NoMemory-clause-headline : goal.returns-in-Err-NoMemory-clause-headline
-returns-in-Err-NoMemory-clause-headline g c = let w = stays-where _ _ _ c.requires.leaves _ _ _ _ _ _ _ c.run_command.ensures.part in record { inputs = w.0; told = w.1; obeys = w.2 }
+returns-in-Err-NoMemory-clause-headline g c = let w = stays-where _ _ _ c.requires.leaves c.requires.bytes _ _ _ _ _ _ _ c.run_command.ensures.part in record { inputs = w.0; told = w.1; obeys = w.2 }
 
 pub returns-in-Err-NoMemory-clause-front : goal.returns-in-Err-NoMemory-clause-front
 returns-in-Err-NoMemory-clause-front g c = front_is_printed _
