@@ -77,6 +77,14 @@ pub(crate) fn take_out<D: Digester, L: Ledger>(
         return Ok(Vec::new(alloc));
     };
     let found = found_by(alloc, &message)?;
-    spend(alloc, roots, room, scratch, spends.external(), &message, steps)?;
+    spend(
+        alloc,
+        roots,
+        room,
+        scratch,
+        spends.external(),
+        &message,
+        steps,
+    )?;
     Ok(found)
 }

@@ -204,7 +204,7 @@ fn put_count(count: usize, text: &mut Vec<u8>) -> Result<(), Fail> {
         text.push(count as u8)?;
     } else {
         text.push(0xfd)?;
-        text.extend_from_slice(&(count as u16).to_le_bytes())?;
+        text.extend_from_slice(&u16::try_from(count).unwrap_or(0).to_le_bytes())?;
     }
     Ok(())
 }
@@ -235,7 +235,7 @@ fn put_block(alloc: Global, feed: &mut Vec<u8>, prev: &Digest, txs: &[Vec<u8>]) 
     header.extend_from_slice(&prev.0)?;
     header.extend_from_slice(&merkle(alloc, &ids)?.0)?;
     header.extend_from_slice(&[0; 12])?;
-    header.push(txs.len() as u8)?;
+    header.push(u8::try_from(txs.len()).unwrap_or(0))?;
     feed.extend_from_slice(&[0xf9, 0xbe, 0xb4, 0xd9])?;
     let size = u32::try_from(header.len()).unwrap_or(0).saturating_add(u32::try_from(body.len()).unwrap_or(0));
     feed.extend_from_slice(&size.to_le_bytes())?;
