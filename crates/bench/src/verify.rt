@@ -14,7 +14,10 @@ use uo_digest::{Digest, Sha512t256, Steps};
 const ENTRIES: u64 = 1 << 27;
 
 /// Microseconds of checking and deleting one target to as many as a block can have, beside the bare digests.
-pub fn measure_verify<R: Clock + Print + AllocGlobal, L: Ledger>(rt: &R, blank: Blank) -> io::Result<()>
+pub fn measure_verify<R: Clock + Print + AllocGlobal, L: Ledger>(
+    rt: &R,
+    blank: Blank,
+) -> io::Result<()>
     requires name { blank.name ≡ L.name }
     requires parts { blank.parts ≡ L.parts }
     requires some { 0 < blank.parts }
@@ -62,19 +65,29 @@ fn accept<R: Clock, L: Ledger>(
     let mut root = Digest([3; 32]);
     let mut reserving = Duration::ZERO;
     let mut checking = Duration::ZERO;
-    let mut accepted = 0;
+    let mut accepted: u64 = 0;
     for _ in 0..=rounds {
         let mut roots = Roots::<Sha512t256>::of(ENTRIES);
         roots.put_root(27, Some(root));
         let start = Instant::now(rt)?;
         let reserved = scratch.reserve(targets).is_ok();
         reserving = reserving.saturating_add(start.elapsed(rt)?);
-        if reserved && targets.leaves() == roots.leaves() && leaves.len() == targets.len() as usize {
+        if reserved
+            && targets.leaves() == roots.leaves()
+            && leaves.len() == targets.len() as usize
+        {
             let start = Instant::now(rt)?;
-            let answer = check_and_delete(&mut roots, targets, &leaves, &hashes, &mut scratch, steps);
+            let answer = check_and_delete(
+                &mut roots,
+                targets,
+                &leaves,
+                &hashes,
+                &mut scratch,
+                steps,
+            );
             checking = checking.saturating_add(start.elapsed(rt)?);
             match answer {
-                Ok(_) => accepted += 1,
+                Ok(_) => accepted = accepted.saturating_add(1),
                 Err(ProofFault::RootDiffers { computed, .. }) => root = computed,
                 Err(_) => {}
             }
@@ -101,12 +114,12 @@ fn measure<R: Clock + Print, L: Ledger>(
         return println!(rt; "{count} targets: no memory");
     };
     let (reserving, checking, accepted) = accept(rt, alloc, &targets, rounds, steps)?;
-    let above = covered.len() as u64 - count.min(covered.len() as u64);
+    let above = (covered.len() as u64).saturating_sub(count);
 
     // Each place above targets takes a digest, and one more where both its halves stay.
-    let bare = (2 * above).saturating_sub(count);
+    let bare = above.saturating_mul(2).saturating_sub(count);
     let start = Instant::now(rt)?;
-    let last = digests(bare * (rounds + 1), steps);
+    let last = digests(bare.saturating_mul(rounds + 1), steps);
     let time = start.elapsed(rt)?;
     println!(rt;
         "{count} targets, {accepted} times: reserve {} us, check {} us, {bare} digests alone {} us; {}",
