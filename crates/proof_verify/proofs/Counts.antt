@@ -1,5 +1,5 @@
 -- How many places are above targets.
-use Rattle.std.proofs.Common.{◌≡◌, ℕ, zero, suc, ◌+◌, ◌*◌, ◌/◌, ◌^◌, ◌<◌, ◌≤◌, Bool, true, false, not, ◌&&◌, ◌||◌, List, [], ◌∷◌, ◌++◌, length, get_or, take, filter, is_some, refl, sym, ap, ◌∙◌, subst, ap₂, ⊎_elim, inl, inr, arith}
+use Rattle.std.proofs.Common.{◌≡◌, ℕ, zero, suc, ◌+◌, ◌*◌, ◌/◌, ◌^◌, ◌<◌, ◌≤◌, Bool, true, false, not, ◌&&◌, List, [], ◌∷◌, ◌++◌, length, get_or, take, filter, is_some, refl, sym, ap, ◌∙◌, subst, ap₂, ⊎_elim, inl, inr, arith}
 use Rattle.std.specs.Prelude.{◌⊎◌, count_by}
 use Rattle.std.specs.List.{AllByRecursion, IsDistinct}
 use Rattle.std.specs.Cmp.{IsEquivalence}
@@ -11,7 +11,6 @@ use Rattle.std.proofs.lemmas.Map.Keys.{IsDistinct-cons}
 use Rattle.std.proofs.lemmas.Map.Made.{length-le_from_is_member}
 use Rattle.std.proofs.Math.Seq.{take-length}
 use Rattle.forest_place.specs.declared.place.Place.{Place}
-use Rattle.forest_place.specs.Forest.{InForest}
 use Rattle.forest_place.specs.Places.{has_place, is_at, places, IsDistinct as HasNoRepeat}
 use Rattle.forest_place.specs.Position.{rows}
 use Rattle.forest_place.proofs.Positions.{within_rows}

@@ -1,5 +1,5 @@
 -- One deletion at numbers that were computed by hand: four entries of the digests 1, 2, 4 and 8, of which the second is spent.
-use Rattle.std.proofs.Common.{◌≡◌, ℕ, List, [], ◌∷◌, Option, Some, None, fold, bit_xor, refl}
+use Rattle.std.proofs.Common.{◌≡◌, ℕ, List, [], ◌∷◌, Some, fold, bit_xor, refl}
 use Rattle.uo_digest.specs.declared.digest.Digest.{Digest}
 use Rattle.forest_place.specs.declared.place.Place.{Place}
 use Rattle.forest_model.specs.Cover.{Cover, target, given, both, need}

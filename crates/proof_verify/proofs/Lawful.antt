@@ -1,28 +1,27 @@
 -- What an answer means, where the roots stand for entries.
-use Rattle.std.proofs.Common.{◌≡◌, ℕ, ◌+◌, ◌*◌, ◌<◌, true, false, List, [], length, map, Option, Some, None, Result, Ok, Err, refl, sym, ap, ◌∙◌, subst, ap₂, arith}
-use Rattle.std.specs.Prelude.{Contains, option_map, MatchResult, IsOkAnd, IsErrAnd}
-use Rattle.std.proofs.lemmas.Bool.{true≢false, false_from_ne_true}
+use Rattle.std.proofs.Common.{◌≡◌, ℕ, true, false, List, [], length, map, Option, Some, Result, sym, ap, ◌∙◌, subst, ap₂}
+use Rattle.std.specs.Prelude.{option_map, IsOkAnd, IsErrAnd}
+use Rattle.std.proofs.lemmas.Bool.{false_from_ne_true}
 use Rattle.std.proofs.lemmas.Option.{none-some, same_Some}
 use Rattle.std.proofs.lemmas.List.{length-map}
 use Rattle.uo_digest.specs.declared.digest.Digest.{Digest}
 use Rattle.forest_place.specs.declared.place.Place.{Place}
 use Rattle.forest_place.specs.Forest.{InForest, is_slot, root_off}
-use Rattle.forest_place.specs.Places.{has_place}
 use Rattle.forest_place.proofs.Listed.{place}
 use Rattle.forest_place.proofs.Parts.{InForest-root, is_root-root_off}
-use Rattle.forest_model.specs.Content.{Tree, digest_of, content}
-use Rattle.forest_model.specs.Standing.{tree_at, digest_at, root}
-use Rattle.forest_model.specs.Cover.{Cover, cover, need, is_needed, HasShape}
-use Rattle.forest_model.specs.Evaluation.{beside, evaluation, hash_of, nothing_known, IsAccepted}
+use Rattle.forest_model.specs.Content.{Tree, digest_of}
+use Rattle.forest_model.specs.Standing.{digest_at, root}
+use Rattle.forest_model.specs.Cover.{Cover, need, is_needed}
+use Rattle.forest_model.specs.Evaluation.{beside, evaluation, hash_of, nothing_known}
 use Rattle.forest_model.specs.Deletion.{entries_without, digest_without, root_after, is_gone, moved, StandAt}
 use Rattle.forest_model.proofs.Climbs.{tree_at-root}
 use Rattle.forest_model.proofs.Covers.{Beside-weaker, StandsAsTarget, StandsAsNeeded, laid, value-laid}
 use Rattle.forest_model.proofs.Deleting.{target_stands, roots_after, length-entries_without}
 use Rattle.forest_model.proofs.Lists.{need_has, beside_at}
 use Rattle.forest_model.proofs.Moving.{moved-is_gone}
-use Rattle.forest_model.proofs.Pairs.{IsPair, pair_right}
-use Rattle.forest_roots.specs.Stump.{Stump, root_in, StandsFor}
-use Rattle.proof_verify.specs.Verified.{slot_cover, IsGreatest, IsFault, IsChange, IsDeleted, IsRightProof, IsRightDeletion}
+use Rattle.forest_model.proofs.Pairs.{pair_right}
+use Rattle.forest_roots.specs.Stump.{Stump, root_in}
+use Rattle.proof_verify.specs.Verified.{slot_cover, IsFault, IsChange, IsDeleted, IsRightProof, IsRightDeletion}
 use Rattle.proof_verify.specs.declared.fault.ProofFault.{ProofFault}
 use Rattle.proof_verify.specs.declared.fault.ProofFault.TheVariants.{HashCount, EmptyRoot, RootDiffers}
 use Rattle.proof_verify.proofs.Values.{asked_all}

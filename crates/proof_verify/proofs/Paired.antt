@@ -1,13 +1,11 @@
 -- The pairs that are filled are the changes.
-use Rattle.std.proofs.Common.{◌≡◌, ℕ, ◌+◌, ◌<◌, true, false, List, [], length, map, get_or, Option, Some, None, is_some, refl, sym, ap, ◌∙◌, subst, ap₂, arith}
-use Rattle.std.specs.Prelude.{Contains}
+use Rattle.std.proofs.Common.{◌≡◌, ℕ, ◌<◌, true, false, List, [], length, map, Option, Some, None, is_some, refl, sym, ap, ◌∙◌, subst, ap₂, arith}
 use Rattle.std.proofs.lemmas.Bool.{false≢true}
 use Rattle.std.proofs.lemmas.Option.{same_Some}
 use Rattle.std.proofs.lemmas.List.{length-map, get_or-map, get_or_default}
 use Rattle.uo_digest.specs.declared.digest.Digest.{Digest}
 use Rattle.forest_place.specs.declared.place.Place.{Place}
 use Rattle.forest_place.specs.Forest.{InForest}
-use Rattle.forest_place.specs.Places.{has_place, IsAscending}
 use Rattle.forest_place.proofs.Listed.{place}
 use Rattle.forest_model.specs.Cover.{Cover, cover, HasShape}
 use Rattle.forest_model.specs.Evaluation.{beside, hash_of, nothing_known}
@@ -15,14 +13,14 @@ use Rattle.forest_model.specs.Deletion.{digest_without, moved}
 use Rattle.proof_shape.specs.Found.{place_in}
 use Rattle.proof_shape.specs.Shape.{AreWithin}
 use Rattle.proof_shape.specs.Survey.{IsCoverOf}
-use Rattle.proof_shape.specs.Swept.{pos, has, Rises}
+use Rattle.proof_shape.specs.Swept.{has, Rises}
 use Rattle.proof_shape.proofs.Longer.{place_where}
 use Rattle.proof_shape.proofs.Needing.{ascending_from_rises}
 use Rattle.proof_verify.specs.Nodes.{node_at, node_of_cover}
 use Rattle.proof_verify.specs.Landings.{landing_at}
 use Rattle.proof_verify.specs.Judged.{pair_at, AreFilled}
 use Rattle.proof_verify.specs.Room.{AreNewPlaces}
-use Rattle.proof_verify.specs.Verified.{IsChange, AreChanges}
+use Rattle.proof_verify.specs.Verified.{AreChanges}
 use Rattle.proof_verify.specs.declared.landing.Landing.{Landing}
 use Rattle.proof_verify.specs.declared.node.Node.{Node}
 use Rattle.proof_verify.proofs.Planned.{inside, is_covered}

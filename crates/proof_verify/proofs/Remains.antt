@@ -1,19 +1,18 @@
 -- What remains of a cover stands at its new place, and nowhere does something else.
-use Rattle.std.proofs.Common.{◌≡◌, ℕ, zero, suc, ◌+◌, ◌-◌, ◌*◌, ◌/◌, ◌%◌, ◌<◌, ◌≤◌, Bool, true, false, ◌&&◌, ◌||◌, List, Option, Some, None, is_none, is_some, refl, sym, ap, ◌∙◌, subst, ap₂, ⊎_elim, inl, inr, arith, cond}
-use Rattle.std.specs.Prelude.{◌⊎◌, option_and_then, unwrap_or}
-use Rattle.std.proofs.lemmas.Bool.{cases_Bool, cases_eq, false≢true, true≢false, false_from_ne_true, and_parts}
+use Rattle.std.proofs.Common.{◌≡◌, ℕ, zero, suc, ◌+◌, ◌-◌, ◌*◌, ◌/◌, ◌%◌, ◌<◌, ◌≤◌, Bool, true, false, ◌&&◌, List, Option, Some, None, is_none, is_some, refl, sym, ap, ◌∙◌, subst, ap₂, ⊎_elim, arith, cond}
+use Rattle.std.specs.Prelude.{option_and_then, unwrap_or}
+use Rattle.std.proofs.lemmas.Bool.{cases_Bool, cases_eq, false≢true, true≢false, false_from_ne_true}
 use Rattle.std.proofs.lemmas.Option.{none-some, same_Some}
 use Rattle.uo_digest.specs.declared.digest.Digest.{Digest}
 use Rattle.forest_place.specs.declared.place.Place.{Place}
-use Rattle.forest_place.specs.Forest.{InForest, is_root, sibling_off}
+use Rattle.forest_place.specs.Forest.{InForest, is_root}
 use Rattle.forest_place.specs.Places.{has_place}
 use Rattle.forest_place.proofs.Parts.{row_below, InForest-up, InForest-left, InForest-right, not_root-left, not_root-right, double_even, double_odd, double_half, double_half_odd}
-use Rattle.forest_place.proofs.Siblings.{sibling_off-left, sibling_off-right}
 use Rattle.forest_place.proofs.Listed.{place}
 use Rattle.forest_model.specs.Content.{join_digests}
-use Rattle.forest_model.specs.Cover.{Cover, target, given, both, both_of, cover, HasShape}
+use Rattle.forest_model.specs.Cover.{Cover, target, given, both, cover, HasShape}
 use Rattle.forest_model.specs.Deletion.{digest_without, is_gone, child_place, moved}
-use Rattle.forest_model.proofs.Moving.{moved-step, moved-is_gone, moved-root, moved-left, moved-right}
+use Rattle.forest_model.proofs.Moving.{moved-is_gone, moved-root, moved-left, moved-right}
 use Rattle.proof_shape.proofs.Gone.{target_bare}
 use Rattle.proof_verify.proofs.Planned.{uncovered_stays, covered_above}
 use Rattle.proof_verify.proofs.Values.{half_cover, both_halves}

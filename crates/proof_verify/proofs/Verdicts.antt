@@ -1,13 +1,12 @@
 -- From what was computed to the answer: faults, and the roots.
-use Rattle.std.proofs.Common.{◌≡◌, ℕ, suc, ◌+◌, ◌^◌, ◌<◌, ◌≤◌, true, false, List, [], length, get_or, Option, Some, None, is_some, Result, Ok, Err, refl, sym, ap, ◌∙◌, subst, arith}
+use Rattle.std.proofs.Common.{◌≡◌, ℕ, ◌^◌, ◌<◌, true, false, List, [], length, Option, Some, None, is_some, Result, Ok, Err, refl, sym, ap, ◌∙◌, subst, arith}
 use Rattle.std.specs.Prelude.{MatchResult, IsErrAnd}
-use Rattle.std.proofs.lemmas.Bool.{false≢true, true≢false}
+use Rattle.std.proofs.lemmas.Bool.{false≢true}
 use Rattle.std.proofs.lemmas.Option.{none-some, same_Some}
 use Rattle.std.proofs.lemmas.List.{length-map}
 use Rattle.uo_digest.specs.declared.digest.Digest.{Digest}
 use Rattle.forest_place.specs.declared.place.Place.{Place}
 use Rattle.forest_place.specs.Forest.{InForest, is_slot, root_off}
-use Rattle.forest_place.specs.Places.{has_place}
 use Rattle.forest_place.specs.Position.{position}
 use Rattle.forest_place.proofs.Parts.{InForest-root, is_root-root_off}
 use Rattle.forest_place.proofs.Positions.{one_position, slot_small}
@@ -20,12 +19,12 @@ use Rattle.proof_shape.specs.Found.{place_in}
 use Rattle.proof_shape.specs.Shape.{has_number, positions_of}
 use Rattle.proof_shape.specs.Survey.{IsCoverOf}
 use Rattle.proof_shape.specs.Swept.{pos}
-use Rattle.proof_shape.proofs.Ordered.{has_at, number_is}
+use Rattle.proof_shape.proofs.Ordered.{number_is}
 use Rattle.proof_shape.proofs.Faulty.{position_at}
-use Rattle.proof_verify.specs.Origins.{number_at, IsTop, top_at}
+use Rattle.proof_verify.specs.Origins.{IsTop, top_at}
 use Rattle.proof_verify.specs.Nodes.{node_at, node_of_cover}
 use Rattle.proof_verify.specs.Judged.{IsNoneEmpty, IsFirstEmpty, IsNoneOther, IsFirstOther, ArePutRoots}
-use Rattle.proof_verify.specs.Verified.{slot_cover, IsGreatest, IsEmptyAt, IsOtherAt, IsFault, AreRootsAfter}
+use Rattle.proof_verify.specs.Verified.{slot_cover, IsGreatest, IsEmptyAt, IsFault, AreRootsAfter}
 use Rattle.proof_verify.specs.declared.fault.ProofFault.{ProofFault}
 use Rattle.proof_verify.specs.declared.fault.ProofFault.TheVariants.{HashCount, EmptyRoot, RootDiffers}
 use Rattle.proof_verify.specs.declared.node.Node.{Node}

@@ -1,6 +1,5 @@
-use Rattle.std.proofs.Common.{◌≡◌, ℕ, ◌+◌, ◌*◌, ◌≤◌, ◌<◌, ◌^◌, length, refl, sym, ap, ◌∙◌, subst, arith}
+use Rattle.std.proofs.Common.{◌≡◌, length, refl, sym, ap, ◌∙◌, subst, arith}
 use Rattle.std.specs.Prelude.{count_by}
-use Rattle.uo_digest.specs.declared.digest.Digest.{Digest}
 use Rattle.forest_model.specs.Cover.{need}
 use Rattle.proof_shape.specs.Targeted.{Targeted}
 use Rattle.proof_verify.specs.Judged.{IsNoneEmpty, IsFirstEmpty, IsNoneOther, IsFirstOther, ArePutRoots, AreFilled}
