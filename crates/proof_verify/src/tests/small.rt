@@ -302,7 +302,7 @@ fn check_all<D: Digester, L: Ledger>(rt: &impl Abort, alloc: Global, blank: Blan
 {
     let mut steps = Steps::<L>::new(blank);
     let mut cases = 1;
-    for n in 0..10 {
+    for n in 0..8 {
         for number in 0..cases {
             assert!(rt;
                 check_case::<D, L>(rt, alloc, n, number, &mut steps).is_ok(),
