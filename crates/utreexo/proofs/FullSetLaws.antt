@@ -167,12 +167,13 @@ module _ (H : List ℕ → Digest) (limits : Limits) (net : Net) where
     front-full_set feed front later is a =
         let s = honest front a in
         let end = whole_line (closing_line (end_line (after (next_follower H) (fresh net limits) (events_of net limits.bytes feed).events).events (after (next_follower H) (fresh net limits) (events_of net limits.bytes feed).events).node.chain) (events_of net limits.bytes feed).ending) in
-        let behind = written (next_follower H) (event_line H) (after (next_follower H) (fresh net limits) front) later in
-        (behind ++ end,
-            ap (λ w. written (next_follower H) (event_line H) (fresh net limits) w ++ end) is
-            ∙ ap (λ w. w ++ end) (written-append (next_follower H) (event_line H) (fresh net limits) front later)
-            ∙ append_assoc _ behind end
-            ∙ ap (λ w. w ++ (behind ++ end)) s.lines)
+        let behind = written (next_follower H) (event_line H) (after (next_follower H) (fresh net limits) front) later in (
+          behind ++ end,
+          ap (λ w. written (next_follower H) (event_line H) (fresh net limits) w ++ end) is
+              ∙ ap (λ w. w ++ end) (written-append (next_follower H) (event_line H) (fresh net limits) front later)
+              ∙ append_assoc _ behind end
+              ∙ ap (λ w. w ++ (behind ++ end)) s.lines,
+        )
 
 -- ---- the run
 
@@ -224,10 +225,13 @@ module _ (H : List ℕ → Digest) (words : List (List ℕ)) (limits : Limits) (
     -- a run that was stopped
     pub stays-where : StaysWithinRun (answer_of H words limits) feed prior watch report report' out out'
         → (inputs : Inputs) × Told feed prior watch inputs × (IsHonestRun H (command_of words) limits inputs → StaysWithinRun (λ i. full_answer_by H (command_of words) limits inputs) feed prior watch report report' out out')
-    stays-where w =
-        (w.inputs, w.told, λ p. let same = is_full w.inputs p in record {
-          inputs = w.inputs;
-          told = w.told;
-          reported = subst (λ a. AppendsPart report report' a.report) same w.reported;
-          sent = subst (λ a. AppendsPart out out' a.out) same w.sent;
-        })
+    stays-where w = (
+      w.inputs,
+      w.told,
+      λ p. let same = is_full w.inputs p in record {
+        inputs = w.inputs;
+        told = w.told;
+        reported = subst (λ a. AppendsPart report report' a.report) same w.reported;
+        sent = subst (λ a. AppendsPart out out' a.out) same w.sent;
+      },
+    )

@@ -9,8 +9,8 @@ ghost use Rattle.utreexo.specs.Lines.{whole_line};
 use crate::line::Line;
 use crate::status::Status;
 use crate::stop::Stop;
-use std::alloc::{AllocError, Global};
 use block_rules::Verdict;
+use std::alloc::{AllocError, Global};
 use uo_base::{NoMemory, Sink, put_all};
 
 /// As long as most lines are.

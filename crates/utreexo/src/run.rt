@@ -70,7 +70,9 @@ pub fn run<D: Digester, F: Source, P: Source, W: Source, O: Sink, R: Sink, L: Le
     ensures out { OnFalse (uses_of (map string_bytes words.now)).out (out.new ≡ out.old) }
     ensures steps { OnFalse (uses_of (map string_bytes words.now)).feed (steps.new ≡ steps.old) }
 {
-    match run_command::<D, F, P, W, O, R, L>(alloc, words, limits, feed, prior, watch, out, report, steps) {
+    match run_command::<D, F, P, W, O, R, L>(
+        alloc, words, limits, feed, prior, watch, out, report, steps,
+    ) {
         Ok(status) => status,
         Err(Stop::ReadFault) => Status::ReadFault,
         Err(Stop::WriteFault) => Status::WriteFault,

@@ -60,7 +60,11 @@ struct Outcome {
     out: Vec<u8>,
 }
 
-fn run_over<D: Digester, L: Ledger>(alloc: Global, ports: &Ports<'_>, blank: Blank) -> Result<Outcome, Fail>
+fn run_over<D: Digester, L: Ledger>(
+    alloc: Global,
+    ports: &Ports<'_>,
+    blank: Blank,
+) -> Result<Outcome, Fail>
     requires name { blank.name ≡ L.name }
     requires parts { blank.parts ≡ L.parts }
     requires some { 0 < blank.parts }

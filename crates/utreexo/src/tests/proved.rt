@@ -43,7 +43,7 @@ struct Chain {
 /// A block of height 101 whose second transaction spends coins, and what is said of it.
 #[derive(Clone, Copy)]
 struct Row {
-    /// The indices of the coins that are spent, and what is paid.
+    /// The indices of the coins that are spent, the null outpoint where there is none, and what is paid.
     spends: &'static [usize],
     pays: &'static [u64],
     /// Whether a third transaction spends the first of these outputs.
@@ -91,28 +91,79 @@ fn refused(back: &'static str) -> Row {
     }
 }
 
-fn rows() -> [Row; 24] {
+fn rows() -> [Row; 25] {
     [
         accepted(),
-        Row { targets: None, ..refused(" noproof") },
-        Row { targets: Some(&[0, 0]), shows: &[0, 0], ..refused(" spends 2 1") },
+        Row {
+            targets: None,
+            ..refused(" noproof")
+        },
+        Row {
+            targets: Some(&[0, 0]),
+            shows: &[0, 0],
+            ..refused(" spends 2 1")
+        },
         // another target
-        Row { targets: Some(&[1]), ..refused(" proof root 6") },
-        Row { targets: Some(&[64]), ..refused(" proof hashes 5 6") },
-        Row { targets: Some(&[96]), ..refused(" proof hashes 2 6") },
-        Row { targets: Some(&[100]), ..refused(" proof outside 0") },
-        Row { targets: Some(&[255]), ..refused(" proof outside 0") },
-        Row { targets: Some(&[252]), hashes: &[], ..refused(" proof root 6") },
+        Row {
+            targets: Some(&[1]),
+            ..refused(" proof root 6")
+        },
+        Row {
+            targets: Some(&[64]),
+            ..refused(" proof hashes 5 6")
+        },
+        Row {
+            targets: Some(&[96]),
+            ..refused(" proof hashes 2 6")
+        },
+        Row {
+            targets: Some(&[100]),
+            ..refused(" proof outside 0")
+        },
+        Row {
+            targets: Some(&[255]),
+            ..refused(" proof outside 0")
+        },
+        Row {
+            targets: Some(&[252]),
+            hashes: &[],
+            ..refused(" proof root 6")
+        },
         // other hashes
-        Row { hashes: &[(0, 1), (1, 1), (2, 1), (3, 1), (4, 1)], ..refused(" proof hashes 6 5") },
-        Row { hashes: &[(1, 1), (0, 1), (2, 1), (3, 1), (4, 1), (5, 1)], ..refused(" proof root 6") },
+        Row {
+            hashes: &[(0, 1), (1, 1), (2, 1), (3, 1), (4, 1)],
+            ..refused(" proof hashes 6 5")
+        },
+        Row {
+            hashes: &[(1, 1), (0, 1), (2, 1), (3, 1), (4, 1), (5, 1)],
+            ..refused(" proof root 6")
+        },
         // another record
-        Row { more: 1, ..refused(" proof root 6") },
-        Row { shows: &[1], ..refused(" proof root 6") },
+        Row {
+            more: 1,
+            ..refused(" proof root 6")
+        },
+        Row {
+            shows: &[1],
+            ..refused(" proof root 6")
+        },
         // two coins
-        Row { spends: &[0, 1], targets: Some(&[0, 0]), shows: &[0, 1], ..refused(" proof repeated 1 0") },
-        Row { spends: &[0, 1], targets: Some(&[0, 128]), shows: &[0, 1], ..refused(" proof beneath 1 0") },
-        Row { spends: &[0, 0], ..refused(" double 1 1") },
+        Row {
+            spends: &[0, 1],
+            targets: Some(&[0, 0]),
+            shows: &[0, 1],
+            ..refused(" proof repeated 1 0")
+        },
+        Row {
+            spends: &[0, 1],
+            targets: Some(&[0, 128]),
+            shows: &[0, 1],
+            ..refused(" proof beneath 1 0")
+        },
+        Row {
+            spends: &[0, 0],
+            ..refused(" double 1 1")
+        },
         // a coin that has not ripened
         Row {
             spends: &[1],
@@ -122,14 +173,44 @@ fn rows() -> [Row; 24] {
             ..refused(" immature 1 0")
         },
         // money
-        Row { pays: &[HALF, HALF + 1], ..refused(" overspend 1") },
-        Row { claim: SUBSIDY + 1, ..refused(" subsidy 5000000001 5000000000") },
-        Row { pays: &[HALF], again: false, claim: 7_500_000_000, back: " 102", ..accepted() },
-        Row { pays: &[HALF], again: false, claim: 7_500_000_001, ..refused(" subsidy 7500000001 7500000000") },
-        Row { pays: &[MOST + 1], ..refused(" value 1") },
+        Row {
+            pays: &[HALF, HALF + 1],
+            ..refused(" overspend 1")
+        },
+        Row {
+            claim: SUBSIDY + 1,
+            ..refused(" subsidy 5000000001 5000000000")
+        },
+        Row {
+            pays: &[HALF],
+            again: false,
+            claim: 7_500_000_000,
+            back: " 102",
+            ..accepted()
+        },
+        Row {
+            pays: &[HALF],
+            again: false,
+            claim: 7_500_000_001,
+            ..refused(" subsidy 7500000001 7500000000")
+        },
+        Row {
+            pays: &[MOST + 1],
+            ..refused(" value 1")
+        },
+        Row {
+            spends: &[100],
+            ..refused(" coinbase 1")
+        },
         // room for 103 entries, and for 102
-        Row { room: 103, ..accepted() },
-        Row { room: 102, ..refused(" full") },
+        Row {
+            room: 103,
+            ..accepted()
+        },
+        Row {
+            room: 102,
+            ..refused(" full")
+        },
     ]
 }
 
@@ -164,7 +245,10 @@ fn node(alloc: Global, leaves: &[Digest], row: u32, off: usize) -> Result<Digest
     requires beside { off < 1000000 }
 {
     let size = 1usize << row;
-    let mut level = Vec::from_slice(alloc, leaves.get(off * size..off * size + size).unwrap_or(&[]))?;
+    let mut level = Vec::from_slice(
+        alloc,
+        leaves.get(off * size..off * size + size).unwrap_or(&[]),
+    )?;
     for _ in 0..row {
         let mut above = Vec::new(alloc);
         for halves in level.chunks(2) {
@@ -223,7 +307,12 @@ fn merkle(alloc: Global, ids: &[Digest]) -> Result<Digest, Fail> {
 }
 
 // Appends a block's frame, and answers its hash.
-fn put_block(alloc: Global, feed: &mut Vec<u8>, prev: &Digest, txs: &[Vec<u8>]) -> Result<Digest, Fail> {
+fn put_block(
+    alloc: Global,
+    feed: &mut Vec<u8>,
+    prev: &Digest,
+    txs: &[Vec<u8>],
+) -> Result<Digest, Fail> {
     let mut ids = Vec::new(alloc);
     let mut body = Vec::new(alloc);
     for tx in txs {
@@ -237,7 +326,9 @@ fn put_block(alloc: Global, feed: &mut Vec<u8>, prev: &Digest, txs: &[Vec<u8>]) 
     header.extend_from_slice(&[0; 12])?;
     header.push(u8::try_from(txs.len()).unwrap_or(0))?;
     feed.extend_from_slice(&[0xf9, 0xbe, 0xb4, 0xd9])?;
-    let size = u32::try_from(header.len()).unwrap_or(0).saturating_add(u32::try_from(body.len()).unwrap_or(0));
+    let size = u32::try_from(header.len())
+        .unwrap_or(0)
+        .saturating_add(u32::try_from(body.len()).unwrap_or(0));
     feed.extend_from_slice(&size.to_le_bytes())?;
     feed.extend_from_slice(&header)?;
     feed.extend_from_slice(&body)?;
@@ -286,7 +377,13 @@ fn make_chain(alloc: Global) -> Result<Chain, Fail> {
 }
 
 // A message that shows coins at these targets, whose amounts are raised, and hashes.
-fn message_of(alloc: Global, targets: &[u64], coins: &[Coin], more: u64, hashes: &[Digest]) -> Result<Vec<u8>, Fail> {
+fn message_of(
+    alloc: Global,
+    targets: &[u64],
+    coins: &[Coin],
+    more: u64,
+    hashes: &[Digest],
+) -> Result<Vec<u8>, Fail> {
     let mut text = Vec::from_slice(alloc, &[1, 0])?;
     put_count(targets.len(), &mut text)?;
     for target in targets {
@@ -307,7 +404,14 @@ fn message_of(alloc: Global, targets: &[u64], coins: &[Coin], more: u64, hashes:
 fn message(alloc: Global, chain: &Chain, row: &Row, targets: &[u64]) -> Result<Vec<u8>, Fail> {
     let mut coins = Vec::new(alloc);
     for index in row.shows {
-        coins.extend_from_slice(chain.coins.get(*index..).unwrap_or(&[]).get(..1).unwrap_or(&[]))?;
+        coins.extend_from_slice(
+            chain
+                .coins
+                .get(*index..)
+                .unwrap_or(&[])
+                .get(..1)
+                .unwrap_or(&[]),
+        )?;
     }
     let mut hashes = Vec::new(alloc);
     for (height, off) in row.hashes {
@@ -332,8 +436,9 @@ fn put_row(alloc: Global, chain: &Chain, row: &Row, feed: &mut Vec<u8>) -> Resul
     }
     let mut spent = Vec::new(alloc);
     for index in row.spends {
-        if let Some(coin) = chain.coins.get(*index) {
-            spent.push((coin.txid, 0))?;
+        match chain.coins.get(*index) {
+            Some(coin) => spent.push((coin.txid, 0))?,
+            None => spent.push((Digest([0; 32]), u32::MAX))?,
         }
     }
     let second = payment(alloc, &spent, row.pays)?;
@@ -388,7 +493,11 @@ fn check_row<L: Ledger>(
         put_line(&mut report, "end 102 100 ", &chain.tip, " 100")?;
     }
     let outcome = run_over::<Sha512t256, L>(alloc, &follow(&feed, row.room.min(1000)), blank)?;
-    assert!(rt; outcome.report.as_slice() == report.as_slice(), "{}", row.back);
+    assert!(rt;
+        outcome.report.as_slice() == report.as_slice(),
+        "{}",
+        row.back
+    );
     assert_eq!(rt; outcome.status, row.status);
     Ok(())
 }
@@ -421,13 +530,21 @@ fn spend_tree(alloc: Global, chain: &Chain) -> Result<Chain, Fail> {
         amount: HALF,
     };
     let mut tip = block;
-    for (height, front, back) in [(102, "accepted 102 ", " 103"), (103, "refused 103 ", " proof empty 0")] {
+    for (height, front, back) in [
+        (102, "accepted 102 ", " 103"),
+        (103, "refused 103 ", " proof empty 0"),
+    ] {
         let mut claim = coinbase(alloc, height, SUBSIDY)?;
         let end = claim.len().saturating_sub(5);
         claim.truncate(end);
         claim.extend_from_slice(&[0x6a, 0, 0, 0, 0])?;
         put_proof(&mut feed, &message_of(alloc, &[102], &[coin], 0, &[])?)?;
-        let next = put_block(alloc, &mut feed, &tip, &[claim, payment(alloc, &[(coin.txid, 0)], &[])?])?;
+        let next = put_block(
+            alloc,
+            &mut feed,
+            &tip,
+            &[claim, payment(alloc, &[(coin.txid, 0)], &[])?],
+        )?;
         put_line(&mut report, front, &next, back)?;
         if height == 102 {
             tip = next;
@@ -536,7 +653,13 @@ fn make_many(alloc: Global) -> Result<Chain, Fail> {
         let tip = chain.tip;
         let block = put_block(alloc, &mut chain.feed, &tip, &[tx])?;
         chain.tip = block;
-        let count = if height == 0 { 0 } else if height == 1 { MANY } else { 1 };
+        let count = if height == 0 {
+            0
+        } else if height == 1 {
+            MANY
+        } else {
+            1
+        };
         for index in 0..count {
             let coin = Coin {
                 txid,
@@ -554,9 +677,17 @@ fn make_many(alloc: Global) -> Result<Chain, Fail> {
         }
     }
     let rest = node(alloc, &chain.leaves, 6, 381)?;
-    put_proof(&mut chain.feed, &message_of(alloc, &targets, &chain.coins, 0, &[rest])?)?;
+    put_proof(
+        &mut chain.feed,
+        &message_of(alloc, &targets, &chain.coins, 0, &[rest])?,
+    )?;
     let tip = chain.tip;
-    let last = put_block(alloc, &mut chain.feed, &tip, &[coinbase(alloc, 101, SUBSIDY)?, payment(alloc, &spent, &[])?])?;
+    let last = put_block(
+        alloc,
+        &mut chain.feed,
+        &tip,
+        &[coinbase(alloc, 101, SUBSIDY)?, payment(alloc, &spent, &[])?],
+    )?;
     put_line(&mut chain.report, "accepted 101 ", &last, " 24484")?;
     put_line(&mut chain.report, "end 102 101 ", &last, " 24484")?;
     Ok(chain)
