@@ -1,8 +1,5 @@
-//! Proofs that were evaluated by hand, and all deletions from small forests beside a plain recursion.
+//! Proofs that were evaluated by hand.
 ghost use Rattle.std.specs.Prelude.{◌≡◌, ◌<◌};
-
-mod plain;
-mod small;
 
 use crate::{ProofFault, Scratch, check_and_delete};
 use forest_place::Place;
@@ -150,6 +147,9 @@ fn check_edges<L: Ledger>(rt: &impl Abort, alloc: Global, blank: Blank)
     )
     .err();
     assert_eq!(rt; fault, Some(ProofFault::EmptyRoot { row: 0 }));
+    let mut roots = Roots::<XorFold>::of(7);
+    roots.put_root(2, Some(digest(1)));
+    roots.put_root(1, Some(digest(1)));
     roots.put_root(0, Some(digest(1)));
     let fault = check(
         rt,
