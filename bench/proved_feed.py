@@ -222,7 +222,7 @@ def main():
     chain.extend([], [SUBSIDY])
     purse = []
     while len(purse) < entries:
-        count = min(entries - len(purse), 80_000)
+        count = min(entries - len(purse), 10_000)
         purse += chain.extend([], [SUBSIDY // count] * count)[0]
     for _ in range(100):
         chain.extend([], [SUBSIDY])
