@@ -3,7 +3,6 @@ ghost use Rattle.std.specs.Prelude.{◌≡◌, ◌<◌, ◌≤◌, ◌^◌};
 
 mod chains;
 mod faults;
-mod proved;
 mod rows;
 mod word_lists;
 
