@@ -5,7 +5,9 @@ ghost use Rattle.forest_place.specs.Forest.{InForest, IsSlotOf, is_slot, root_of
 /// A row of the forest, counted from the leaves up, and an offset in it. Places are ordered as their positions are.
 #[derive(Clone, Copy, Debug, PartialEq, Eq, PartialOrd, Ord, Hash)]
 pub struct Place {
+    /// The row above the leaves, which are row 0.
     pub row: u8,
+    /// How many places of its row stand before it.
     pub off: u64,
 }
 

@@ -27,6 +27,7 @@ pub struct Record {
     pub coinbase: bool,
     /// The amount in satoshis.
     pub amount: u64,
+    /// The locking script, of at most 10,000 bytes.
     pub script: Vec<u8>,
 }
 
@@ -46,12 +47,19 @@ impl Model for Record {
 /// The height is below 2^31, and the script has at most 10,000 bytes.
 #[derive(Debug, Drop)]
 pub struct RecordView<'a> {
+    /// The hash of the block that made the output, its bytes in the order in which they are hashed and sent.
     pub block: Digest,
+    /// The id of the transaction that made it, its bytes in the same order.
     pub txid: Digest,
+    /// The output's index in that transaction, from 0.
     pub index: u32,
+    /// The height of the block, below 2^31.
     pub height: u32,
+    /// Whether the block's coinbase made it.
     pub coinbase: bool,
+    /// The amount in satoshi. Each 64-bit number can stand here.
     pub amount: u64,
+    /// The locking script, of at most 10,000 bytes, a slice of the source.
     pub script: &'a [u8],
 }
 
@@ -71,10 +79,15 @@ impl<'a> Model for RecordView<'a> {
 /// The height is below 2^31, and the script has at most 10,000 bytes.
 #[derive(Debug, Drop)]
 pub struct RestView<'a> {
+    /// The hash of the block that made the output, its bytes in the order in which they are hashed and sent.
     pub block: Digest,
+    /// The height of the block, below 2^31.
     pub height: u32,
+    /// Whether the block's coinbase made it.
     pub coinbase: bool,
+    /// The amount in satoshi. Each 64-bit number can stand here.
     pub amount: u64,
+    /// The locking script, of at most 10,000 bytes, a slice of the source.
     pub script: &'a [u8],
 }
 

@@ -133,7 +133,7 @@ whole_took bytes p left is_bytes e =
     let text : bytes ≡ body_text s.0.0 = t.parts ∙ ap (λ (r : List ℕ). body_text s.0.0 ++ r) none ∙ append-nil (body_text s.0.0) in
     subst (λ (q : BlockProof × List ℕ). IsBody bytes q.0) g.1 (record { fits = t.fits; text = text })
 
-whole_again : (p : BlockProof) → ProofFits p → whole_at (body_text p) ≡ Some (p, [])
+pub whole_again : (p : BlockProof) → ProofFits p → whole_at (body_text p) ≡ Some (p, [])
 unfolding whole_at
 whole_again p fits =
     let e : body_at (body_text p) ≡ Some (p, []) = ap body_at (sym (append-nil (body_text p))) ∙ body_lawful.again p [] fits in
