@@ -1,14 +1,15 @@
 -- A climb over all places above one.
-use Rattle.std.proofs.Common.{◌≡◌, ℕ, suc, ◌+◌, ◌-◌, ◌/◌, ◌^◌, ◌<◌, ◌≤◌, true, false, List, sym, ap, ◌∙◌, subst, ⊎_elim, arith, eq-eqb, eqb-true}
+use Rattle.std.proofs.Common.{◌≡◌, ℕ, suc, ◌+◌, ◌-◌, ◌/◌, ◌^◌, ◌<◌, ◌≤◌, true, false, List, sym, ap, ap₂, ◌∙◌, subst, ⊎_elim, inl, arith, eq-eqb, eqb-true}
 use Rattle.std.specs.Prelude.{◌==◌, nat_lt}
-use Rattle.std.proofs.lemmas.Bool.{cases_lt, cases_eq, and_from, and_parts, true≢false, lt-ltb, ltb-true}
+use Rattle.std.proofs.lemmas.Bool.{cases_lt, cases_eq, and_from, and_parts, true≢false, false_from_ne_true, lt-ltb, ltb-true}
 use Rattle.std.proofs.lemmas.Nat.{shr-shr}
 use Rattle.forest_place.specs.declared.place.Place.{Place}
 use Rattle.forest_place.specs.Forest.{InForest, is_root}
 use Rattle.forest_place.specs.Position.{position}
 use Rattle.forest_place.proofs.Parts.{InForest-up, InForest-beneath, not_root-down, half_pow}
+use Rattle.forest_place.proofs.Positions.{position_rises}
 use Rattle.forest_model.specs.Cover.{is_above}
-use Rattle.proof_shape.specs.Shape.{has_number, HasOneAbove, HasNoneAbove}
+use Rattle.proof_shape.specs.Shape.{has_number, HasOneAbove, HasNoneAbove, IsPast}
 
 -- no place of the forest stands above a root
 pub nothing_above : (n r o k : ℕ) → is_root n r o ≡ true → InForest n (r + suc k) (o / 2 ^ suc k) → ⊥
@@ -74,6 +75,23 @@ module _ (n : ℕ) (xs : List ℕ) (p a b : Place) (c : IsClimbing n xs p a) (ot
             (λ differ. c.clear q i ab (omega (arith, row, le, differ)))
             (cases_eq q.row b.row);
       }
+
+  -- positions rise on the way up
+  pub climb_passes : IsPast xs (position n b.row b.off) → HasNoneAbove n xs p
+  climb_passes past q i ab = ⊎_elim (λ gt. false_from_ne_true _ (λ h. beyond (past (position n q.row q.off) h) (higher gt))) (λ le. c.clear q i ab le) (cases_lt a.row q.row)
+    where
+      same_off : q.row ≡ b.row → q.off ≡ b.off
+      same_off same = sym (above_parts q p ab).1 ∙ (ap (λ k. p.off / 2 ^ (k - p.row)) same ∙ sym next_off)
+
+      higher : a.row < q.row → position n b.row b.off ≤ position n q.row q.off
+      higher gt =
+          ⊎_elim
+          (λ same. let e : position n b.row b.off ≡ position n q.row q.off = ap₂ (position n) (sym same) (sym (same_off same)) in omega (arith, e))
+          (λ differ. let lt : b.row < q.row = omega (arith, row, gt, differ) in let up = position_rises n b q next_within i (inl lt) in omega (arith, up))
+          (cases_eq q.row b.row)
+
+      beyond : position n q.row q.off < position n b.row b.off → position n b.row b.off ≤ position n q.row q.off → ⊥
+      beyond lt le = omega (arith, lt, le)
 
 pub climb_ends : (n : ℕ) (xs : List ℕ) (p a : Place) → IsClimbing n xs p a → is_root n a.row a.off ≡ true → HasNoneAbove n xs p
 climb_ends n xs p a c top q i ab =

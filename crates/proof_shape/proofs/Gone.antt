@@ -18,6 +18,7 @@ use Rattle.proof_shape.specs.Survey.{CoversTell}
 use Rattle.proof_shape.specs.Moves.{GoneTell, IsBeneathTarget}
 use Rattle.proof_shape.proofs.Needing.{covered_up, covered_target}
 use Rattle.proof_shape.proofs.Climbing.{nothing_above}
+use Rattle.proof_shape.proofs.Parents.{ups, cover_above}
 
 -- a target stands at or beneath what is covered
 pub target_beneath : (ts : List Place) (r o : ℕ) → is_some (cover ts r o) ≡ true → (q : Place) × (k : ℕ) × (has_place ts q.row q.off ≡ true) × (q.row + k ≡ r) × (q.off / 2 ^ k ≡ o)
@@ -143,8 +144,14 @@ module _ (n : ℕ) (ts : List Place) (shape : HasShape n ts) where
           (by_halves e (cases_Bool (is_some (cover ts r (2 * o)))) (cases_Bool (is_some (cover ts r (2 * o + 1)))) ∙
           (ap₂ (λ x y. x && y) left right ∙ sym (ap (λ x. x || (is_gone ts r (2 * o) && is_gone ts r (2 * o + 1))) e)))
 
-  pub gone_tell : (cs ks : List ℕ) → CoversTell n ts cs → CoversTell n (need n ts) ks → GoneTell n ts cs ks
-  gone_tell cs ks c k r o h = ap₂ (λ x y. x && not y) (c (place r o) h) (k (place r o) h) ∙ gone_is r o h
+  pub gone_tell : (cs ks : List ℕ) → CoversTell n ts cs → CoversTell n (ups (need n ts)) ks → GoneTell n ts cs ks
+  gone_tell cs ks c k r o h =
+      ap₂ (λ x y. x && not y) (c (place r o) h) (k (place r o) h) ∙
+      (where_covered (is_some (cover ts r o)) _ _ (λ it. cover_above (need n ts) r o (covered_unneeded n ts r o it)) ∙ gone_is r o h)
+    where
+      where_covered : (a x y : Bool) → (a ≡ true → x ≡ y) → (a && not x) ≡ (a && not y)
+      where_covered true x y f = ap not (f refl)
+      where_covered false x y f = refl
 
 -- a child of a place of the forest
 pub child_within : (n r o side : ℕ) → InForest n r o → 0 < r → side < 2 → InForest n (r - 1) (2 * o + side)

@@ -1,4 +1,5 @@
 pub mod Ordered
+pub mod Parents
 pub mod Climbing
 pub mod Shapes
 pub mod Longer

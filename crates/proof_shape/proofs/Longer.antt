@@ -40,7 +40,7 @@ has_taken (p ∷ ps) (suc k) r o h =
 pub within_taken : (n : ℕ) (ps : List Place) (k : ℕ) → AreWithin n ps → AreWithin n (take k ps)
 within_taken n ps k h r o i = h r o (has_taken ps k r o i)
 
-not_above_itself : (p : Place) → is_above p p ≡ false
+pub not_above_itself : (p : Place) → is_above p p ≡ false
 not_above_itself p = false_from_ne_true (is_above p p) (λ h.
     let a = and_parts (nat_lt p.row p.row) (p.off / 2 ^ (p.row - p.row) == p.off) h in
     let lt : p.row < p.row = ltb-true _ _ a.0 in omega arith)

@@ -1,11 +1,11 @@
 -- The siblings that are needed.
-use Rattle.std.proofs.Common.{◌≡◌, ℕ, zero, suc, ◌+◌, ◌-◌, ◌*◌, ◌/◌, ◌%◌, ◌<◌, Bool, true, false, ◌||◌, List, [], ◌∷◌, ◌++◌, length, get_or, take, filter_map, Option, Some, None, is_some, refl, sym, ap, ◌∙◌, subst, ap₂, ⊎_elim, inl, inr, arith, eq-eqb, eqb-true}
+use Rattle.std.proofs.Common.{◌≡◌, ℕ, zero, suc, ◌+◌, ◌-◌, ◌*◌, ◌/◌, ◌%◌, ◌<◌, true, false, ◌||◌, List, [], ◌∷◌, ◌++◌, length, get_or, take, filter_map, Option, Some, None, is_some, refl, sym, ap, ◌∙◌, subst, ap₂, ⊎_elim, inl, inr, arith, eq-eqb, eqb-true}
 use Rattle.std.specs.Prelude.{◌⊎◌, ◌==◌}
 use Rattle.std.specs.List.{cons_option}
 use Rattle.std.specs.List.Sorted.{IsNonDecreasing, IsPermutation}
 use Rattle.std.proofs.lemmas.List.Sorted.{list_any-IsPermutation, IsNonDecreasingBy-from_default}
 use Rattle.std.proofs.lemmas.List.Folds.{list_any_at}
-use Rattle.std.proofs.lemmas.Bool.{cases_Bool, cases_lt, cases_eq, cases_order, false≢true, false_from_ne_true, or_cases, or_left, or_right, or_parts}
+use Rattle.std.proofs.lemmas.Bool.{cases_Bool, cases_lt, cases_eq, cases_order, false≢true, or_cases, or_left, or_right, or_parts}
 use Rattle.std.proofs.lemmas.Option.{none-some, same_Some}
 use Rattle.std.proofs.lemmas.List.{take_more, append-nil, length-map}
 use Rattle.std.proofs.lemmas.List.Elements.{filter_map-append}
@@ -27,6 +27,7 @@ use Rattle.proof_shape.proofs.Ordered.{has_at, has_first, has_where, within_rest
 use Rattle.proof_shape.specs.Survey.{IsCoverOf, CoversTell}
 use Rattle.proof_shape.proofs.Longer.{place_where}
 use Rattle.proof_shape.proofs.Faulty.{position_at}
+use Rattle.forest_model.proofs.Deleting.{same_Bools}
 
 abbrev pub beside : Place → Place
 beside p = place p.row (sibling_off p.off)
@@ -167,9 +168,6 @@ covered_up ts r o =
 pub covered_target : (ts : List Place) (r o : ℕ) → has_place ts r o ≡ true → is_some (cover ts r o) ≡ true
 covered_target ts zero o h = rw h refl
 covered_target ts (suc r) o h = rw h refl
-
-pub same_Bools : (a b : Bool) → (a ≡ true → b ≡ true) → (b ≡ true → a ≡ true) → a ≡ b
-same_Bools a b f g = ⊎_elim (λ t. t ∙ sym (f t)) (λ e. e ∙ sym (false_from_ne_true b (λ t. false≢true (sym e ∙ g t)))) (cases_Bool a)
 
 module _ (n : ℕ) (ts : List Place) (xs : List ℕ) (cs : List Place) (within : AreWithin n ts) (s : IsSwept n xs cs) (tied : (q : Place) → InForest n q.row q.off → has_number xs (pos n q) ≡ has ts q) where
   -- what the sweep has is covered

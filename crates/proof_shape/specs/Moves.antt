@@ -8,6 +8,7 @@ use Rattle.forest_place.specs.Position.{position}
 use Rattle.forest_model.specs.Cover.{is_above, need}
 use Rattle.forest_model.specs.Deletion.{is_gone}
 use Rattle.proof_shape.specs.Shape.{has_number}
+use Rattle.proof_shape.specs.Survey.{IsCoverOf}
 
 -- a covered place is gone where no needed place is beneath it
 abbrev pub gone_by : ℕ → List ℕ → List ℕ → ℕ → ℕ → Bool
@@ -21,8 +22,9 @@ abbrev pub IsBeneathTarget : List Place → Place → Type 0
 IsBeneathTarget ts p = (t : Place) × (has_place ts t.row t.off ≡ true) × (is_above t p ≡ true)
 
 -- what is kept beside the targets
-pub record IsSurveyed (n : ℕ) (ts needed : List Place) (covered kept : List ℕ) : Type 0 where
+pub record IsSurveyed (n : ℕ) (ts needed cover : List Place) (covered kept : List ℕ) : Type 0 where
   pub needed_is : needed ≡ need n ts
+  pub cover_is : IsCoverOf n ts cover
   pub covered_up : IsNonDecreasing covered
   pub kept_up : IsNonDecreasing kept
   pub tell : GoneTell n ts covered kept

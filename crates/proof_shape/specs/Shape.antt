@@ -19,6 +19,10 @@ AreWithin n ps = (r o : ℕ) → has_place ps r o ≡ true → InForest n r o
 abbrev pub positions_of : ℕ → List Place → List ℕ
 positions_of n ps = map (λ p. position n p.row p.off) ps
 
+-- the number is greater than all of the list
+abbrev pub IsPast : List ℕ → ℕ → Type 0
+IsPast xs x = (y : ℕ) → has_number xs y ≡ true → y < x
+
 -- a place above p has a position of the list
 abbrev pub HasOneAbove : ℕ → List ℕ → Place → Type 0
 HasOneAbove n xs p = (q : Place) × InForest n q.row q.off × (is_above q p ≡ true) × (has_number xs (position n q.row q.off) ≡ true)

@@ -3,7 +3,7 @@ ghost use Rattle.std.specs.Prelude.{◌≡◌, ℕ, ◌↔◌, ◌^◌, ◌<◌,
 ghost use Rattle.std.specs.List.Sorted.{IsNonDecreasing};
 ghost use Rattle.forest_place.specs.Forest.{InForest, is_root as is_root_at};
 ghost use Rattle.forest_place.specs.Places.{has_place};
-ghost use Rattle.proof_shape.specs.Shape.{has_number, AreWithin, HasOneAbove, HasNoneAbove};
+ghost use Rattle.proof_shape.specs.Shape.{has_number, AreWithin, HasOneAbove, HasNoneAbove, IsPast};
 
 use crate::order::contains;
 use forest_place::{Place, parent, position};
@@ -17,7 +17,16 @@ pub fn is_root(n: u64, place: Place) -> bool
     place.off % 2 == 0 && place.off + 1 == n >> place.row
 }
 
-// Whether a place above this one has a position of the list.
+// Whether a number is greater than all of an ascending list.
+fn is_past(sorted: &[u64], number: u64) -> bool
+    requires { IsNonDecreasing sorted.now }
+    ensures { IsTrue result → IsPast sorted.now number }
+{
+    let len = sorted.len();
+    len == 0 || sorted[len - 1] < number
+}
+
+// Whether a place above this one has a position of the list. Positions rise on the way up.
 fn is_beneath_one(n: u64, place: Place, sorted: &[u64]) -> bool
     requires small { n < 2 ^ 40 }
     requires within { InForest n place.row place.off }
@@ -27,7 +36,11 @@ fn is_beneath_one(n: u64, place: Place, sorted: &[u64]) -> bool
     let mut above = place;
     while !is_root(n, above) {
         above = parent(above);
-        if contains(sorted, position(above, n)) {
+        let number = position(above, n);
+        if is_past(sorted, number) {
+            return false;
+        }
+        if contains(sorted, number) {
             return true;
         }
     }

@@ -18,5 +18,6 @@ mod wrong;
 
 pub use above::is_root;
 pub use fault::ShapeFault;
+pub use need::is_near;
 pub use order::positions_of;
 pub use targets::Targets;

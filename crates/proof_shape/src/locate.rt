@@ -10,7 +10,7 @@ pub(crate) fn locate(alloc: Global, n: u64, positions: &[u64]) -> Result<Vec<Pla
     requires { n < 2 ^ 40 }
     ensures { IfOk result (λ v. IsFront n positions.now v.items) }
 {
-    let mut places = Vec::new(alloc);
+    let mut places = Vec::with_capacity(alloc, positions.len())?;
     for number in positions {
         match place_of(*number, n) {
             Some(place) => places.push(place)?,

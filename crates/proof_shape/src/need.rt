@@ -8,8 +8,8 @@ use crate::above::is_root;
 use forest_place::{Place, sibling};
 use std::alloc::{AllocError, Global};
 
-// Whether a place stands right before or right after an index.
-fn is_near(covered: &[Place], m: usize, place: Place) -> bool
+/// Whether a place stands right before or right after an index of a list.
+pub fn is_near(covered: &[Place], m: usize, place: Place) -> bool
     requires { m < length covered.now }
     ensures { IsTrue result ↔ IsNear covered.now m place }
 {
@@ -46,7 +46,7 @@ pub(crate) fn needed_of(alloc: Global, n: u64, covered: &[Place]) -> Result<Vec<
     requires rises { Rises n covered.now }
     ensures { IfOk result (λ v. v.items ≡ needed_in n covered.now) }
 {
-    let mut needed = Vec::new(alloc);
+    let mut needed = Vec::with_capacity(alloc, covered.len())?;
     for m in 0..covered.len() {
         if let Some(place) = needed_beside(n, covered, m) {
             needed.push(place)?;

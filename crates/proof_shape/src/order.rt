@@ -35,7 +35,7 @@ pub fn positions_of(alloc: Global, n: u64, places: &[Place]) -> Result<Vec<u64>,
     requires within { AreWithin n places.now }
     ensures { IfOk result (λ v. v.items ≡ numbers_of n places.now) }
 {
-    let mut positions = Vec::new(alloc);
+    let mut positions = Vec::with_capacity(alloc, places.len())?;
     for place in places {
         positions.push(position(*place, n))?;
     }

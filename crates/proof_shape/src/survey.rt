@@ -1,14 +1,13 @@
-//! What a deletion of targets asks for, from one sweep over the places at and above them.
-ghost use Rattle.std.specs.Prelude.{◌≡◌, ◌^◌, ◌<◌, IfOk};
+//! The places at and above others, from one sweep.
+ghost use Rattle.std.specs.Prelude.{◌≡◌, ◌^◌, ◌<◌, IfOk, map};
 ghost use Rattle.std.specs.List.Sorted.{IsNonDecreasing};
-ghost use Rattle.forest_model.specs.Cover.{need};
 ghost use Rattle.proof_shape.specs.Shape.{AreWithin};
+ghost use Rattle.proof_shape.specs.Swept.{up};
 ghost use Rattle.proof_shape.specs.Survey.{CoversTell, IsCoverOf};
 
 use crate::cover::cover_of;
-use crate::need::needed_of;
 use crate::order::{positions_of, sorted_positions};
-use forest_place::Place;
+use forest_place::{Place, parent};
 use std::alloc::{AllocError, Global};
 
 // The places at and above these.
@@ -40,16 +39,15 @@ pub(crate) fn covered_positions(
     positions_of(alloc, n, &covered)
 }
 
-// The places that are needed beside these and the places above them.
-pub(crate) fn needed_places(
-    alloc: Global,
-    n: u64,
-    places: &[Place],
-) -> Result<Vec<Place>, AllocError>
+// The places right above these.
+pub(crate) fn parents_of(alloc: Global, n: u64, places: &[Place]) -> Result<Vec<Place>, AllocError>
     requires small { n < 2 ^ 40 }
     requires within { AreWithin n places.now }
-    ensures { IfOk result (λ v. v.items ≡ need n places.now) }
+    ensures { IfOk result (λ v. v.items ≡ map up places.now) }
 {
-    let covered = covered_places(alloc, n, places)?;
-    needed_of(alloc, n, &covered)
+    let mut parents = Vec::with_capacity(alloc, places.len())?;
+    for place in places {
+        parents.push(parent(*place))?;
+    }
+    Ok(parents)
 }

@@ -1,13 +1,15 @@
 //! The targets of a deletion.
-ghost use Rattle.std.specs.Prelude.{◌≡◌, ◌↔◌, ◌⊎◌, ◌^◌, ◌<◌, IfOk, MatchResult, length, true};
+ghost use Rattle.std.specs.Prelude.{◌≡◌, ◌↔◌, ◌⊎◌, ◌^◌, ◌<◌, MatchResult, length, true};
 
 use crate::ShapeFault;
 use crate::locate::locate;
 use crate::moves::moved_from;
-use crate::survey::{covered_places, covered_positions, needed_places};
+use crate::need::needed_of;
+use crate::order::positions_of;
+use crate::survey::{covered_places, covered_positions, parents_of};
 use crate::wrong::{fault_at, sound_length};
 use forest_place::Place;
-use std::alloc::{AllocError, Global};
+use std::alloc::Global;
 use std::marker::Model;
 
 /// Targets of a deletion: different places of a forest, of which none stands above another.
@@ -17,8 +19,9 @@ pub struct Targets {
     list: Vec<Place>,
     needed: Vec<Place>,
 
-    // The positions of the targets and of the places above them, and of the needed places and of those above them.
-    covered: Vec<u64>,
+    // The targets and the places above them, their positions, and those of the places above needed places.
+    covered: Vec<Place>,
+    numbers: Vec<u64>,
     kept: Vec<u64>,
 }
 
@@ -30,7 +33,7 @@ impl Model for Targets {
 
     ghost view = { λ t. record { leaves = t.count; targets = t.list.items } };
 
-    ghost invariant = { λ t. IsTargeted (record { leaves = t.count; targets = t.list.items }) × IsSurveyed t.count t.list.items t.needed.items t.covered.items t.kept.items };
+    ghost invariant = { λ t. IsTargeted (record { leaves = t.count; targets = t.list.items }) × IsSurveyed t.count t.list.items t.needed.items t.covered.items t.numbers.items t.kept.items };
 }
 
 impl Targets {
@@ -60,14 +63,17 @@ impl Targets {
         if sound < positions.len() {
             return Err(ShapeFault::Outside(sound as u32));
         }
-        let needed = needed_places(alloc, n, &places)?;
-        let covered = covered_positions(alloc, n, &places)?;
-        let kept = covered_positions(alloc, n, &needed)?;
+        let covered = covered_places(alloc, n, &places)?;
+        let needed = needed_of(alloc, n, &covered)?;
+        let numbers = positions_of(alloc, n, &covered)?;
+        let parents = parents_of(alloc, n, &needed)?;
+        let kept = covered_positions(alloc, n, &parents)?;
         Ok(Targets {
             count: n,
             list: places,
             needed,
             covered,
+            numbers,
             kept,
         })
     }
@@ -103,10 +109,10 @@ impl Targets {
     }
 
     /// The covered places, which are the targets and all places above them, in ascending position.
-    pub fn covered(&self, alloc: Global) -> Result<Vec<Place>, AllocError>
-        ensures { IfOk result (λ v. IsCoverOf self.now.leaves self.now.targets v.items) }
+    pub fn covered(&self) -> &[Place]
+        ensures { IsCoverOf self.now.leaves self.now.targets result.now }
     {
-        covered_places(alloc, self.count, &self.list)
+        &self.covered
     }
 
     /// The places whose digests a proof of the targets has to give, in ascending position.
@@ -127,6 +133,6 @@ impl Targets {
         ensures stays { WhatStaysGoes self.now place result }
         ensures entries { EntryGoes self.now place result }
     {
-        moved_from(self.count, &self.covered, &self.kept, place)
+        moved_from(self.count, &self.numbers, &self.kept, place)
     }
 }

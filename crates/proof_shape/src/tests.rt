@@ -3,7 +3,7 @@ ghost use Rattle.std.specs.Prelude.{◌^◌, ◌<◌};
 ghost use Rattle.forest_place.specs.Forest.{InForest};
 
 use crate::{ShapeFault, Targets};
-use forest_place::{Place, place_of, position, sibling};
+use forest_place::{Place, place_of, sibling};
 use std::alloc::Global;
 use std::process::Abort;
 use std::test::Fail;

@@ -1,9 +1,13 @@
 use Rattle.std.proofs.Common.{◌≡◌, ◌<◌, ◌∙◌, sym, ap, subst, length, refl, arith}
 use Rattle.forest_model.specs.Cover.{need}
 use Rattle.forest_model.proofs.Lists.{need_had}
-use Rattle.proof_shape.specs.Shape.{AreWithin}
-use Rattle.proof_shape.specs.Survey.{CoversTell}
+use Rattle.std.specs.List.Sorted.{IsNonDecreasing}
+use Rattle.proof_shape.specs.Shape.{AreWithin, positions_of}
+use Rattle.proof_shape.specs.Swept.{Rises, needed_of}
+use Rattle.proof_shape.specs.Survey.{CoversTell, IsCoverOf}
+use Rattle.proof_shape.proofs.Needing.{rises_sorted, positions_tell}
 use Rattle.proof_shape.proofs.Gone.{gone_tell}
+use Rattle.proof_shape.proofs.Parents.{ups, ups_within}
 use Rattle.proof_shape.specs.Found.{IsSoundLength, IsFaultAt}
 use Rattle.proof_shape.proofs.Faulty.{fault_from, outside_from, targets_from}
 use Rattle.proof_shape.proofs.targets.Targets.new.Goals as goal
@@ -33,28 +37,48 @@ returns c =
     let top : k < length ps → ⊥ = λ lt. omega (arith, lt, c.if-sound-len.false, c.len.ensures) in
     (refl, targets_from c.args.n c.args.positions.now ps c.in_ok-places.ensures k sound top (λ lt. omega (arith, lt, c.if-sound-positions.false)))
 
-pub covered_positions-requires-2-clause-within : goal.covered_positions-requires-2-clause-within
-covered_positions-requires-2-clause-within c =
-    let is : c.deref-4.result.now ≡ need c.args.n c.deref-2.result.now = c.deref-4.ensures.value ∙ c.in_ok-needed.ensures in
-    subst (AreWithin c.args.n) (sym is) (λ r o h. (need_had c.args.n c.deref-2.result.now r o h).0)
+pub needed_of-requires-clause-within : goal.needed_of-requires-clause-within
+needed_of-requires-clause-within c = subst (AreWithin c.args.n) (sym c.deref-3.ensures.value) c.in_ok-covered.ensures.within
+
+pub needed_of-requires-clause-rises : goal.needed_of-requires-clause-rises
+needed_of-requires-clause-rises c = subst (Rises c.args.n) (sym c.deref-3.ensures.value) c.in_ok-covered.ensures.rises
+
+pub positions_of-requires-clause-within : goal.positions_of-requires-clause-within
+positions_of-requires-clause-within c = subst (AreWithin c.args.n) (sym c.deref-4.ensures.value) c.in_ok-covered.ensures.within
+
+pub covered_positions-requires-clause-within : goal.covered_positions-requires-clause-within
+covered_positions-requires-clause-within c =
+    let ps = c.deref-2.result.now in
+    let needed : c.deref-5.result.now ≡ need c.args.n ps = c.deref-5.ensures.value ∙ (c.in_ok-needed.ensures ∙ (ap (needed_of c.args.n) c.deref-3.ensures.value ∙ c.in_ok-covered.ensures.needed)) in
+    let is : c.deref-6.result.now ≡ ups (need c.args.n ps) = c.deref-6.ensures.value ∙ (c.in_ok-parents.ensures ∙ ap ups needed) in
+    subst (AreWithin c.args.n) (sym is) (ups_within c.args.n ps)
+
+pub parents_of-requires-clause-within : goal.parents_of-requires-clause-within
+parents_of-requires-clause-within c =
+    let ps = c.deref-2.result.now in
+    let needed : c.deref-5.result.now ≡ need c.args.n ps = c.deref-5.ensures.value ∙ (c.in_ok-needed.ensures ∙ (ap (needed_of c.args.n) c.deref-3.ensures.value ∙ c.in_ok-covered.ensures.needed)) in
+    subst (AreWithin c.args.n) (sym needed) (λ r o h. (need_had c.args.n ps r o h).0)
 
 pub invariant_of-result : goal.invariant_of-result
 invariant_of-result c =
     let n = c.args.n in
     let ps = c.in_ok-places.places.items in
     let k = c.in_ok-sound.sound in
+    let cs = c.in_ok-covered.covered.items in
     let sound = subst (λ l. IsSoundLength n l k) c.deref.ensures.value c.in_ok-sound.ensures in
     let top : k < length ps → ⊥ = λ lt. omega (arith, lt, c.if-sound-len.false, c.len.ensures) in
     let shape = (targets_from n c.args.positions.now ps c.in_ok-places.ensures k sound top (λ lt. omega (arith, lt, c.if-sound-positions.false))).shape in
     let fits = c.in_ok-places.ensures.fits in
-    let needed : c.in_ok-needed.needed.items ≡ need n ps = c.in_ok-needed.ensures ∙ ap (need n) c.deref-2.ensures.value in
-    let covered = subst (λ l. CoversTell n l c.in_ok-covered.covered.items) c.deref-3.ensures.value c.in_ok-covered.ensures.tell in
-    let kept = subst (λ l. CoversTell n l c.in_ok-kept.kept.items) (c.deref-4.ensures.value ∙ needed) c.in_ok-kept.ensures.tell in (
+    let cover = subst (λ l. IsCoverOf n l cs) c.deref-2.ensures.value c.in_ok-covered.ensures in
+    let needed : c.in_ok-needed.needed.items ≡ need n ps = c.in_ok-needed.ensures ∙ (ap (needed_of n) c.deref-3.ensures.value ∙ cover.needed) in
+    let numbers : c.in_ok-numbers.numbers.items ≡ positions_of n cs = c.in_ok-numbers.ensures ∙ ap (positions_of n) c.deref-4.ensures.value in
+    let kept = subst (λ l. CoversTell n l c.in_ok-kept.kept.items) (c.deref-6.ensures.value ∙ (c.in_ok-parents.ensures ∙ ap ups (c.deref-5.ensures.value ∙ needed))) c.in_ok-kept.ensures.tell in (
       record { few = c.requires; counted = omega (arith, fits, c.if-positions.false); shape = shape },
       record {
         needed_is = needed;
-        covered_up = c.in_ok-covered.ensures.sorted;
+        cover_is = cover;
+        covered_up = subst IsNonDecreasing (sym numbers) (rises_sorted n cs cover.rises);
         kept_up = c.in_ok-kept.ensures.sorted;
-        tell = gone_tell n ps shape c.in_ok-covered.covered.items c.in_ok-kept.kept.items covered kept;
+        tell = gone_tell n ps shape c.in_ok-numbers.numbers.items c.in_ok-kept.kept.items (subst (CoversTell n ps) (sym numbers) (positions_tell n ps cs cover)) kept;
       },
     )
