@@ -1,17 +1,17 @@
 //! What each covered place is made of.
-ghost use Rattle.std.specs.Prelude.{◌≡◌, ℕ, ◌+◌, ◌^◌, ◌<◌, ◌≤◌, ◌↔◌, IsTrue, true, false, List, length, IfOk, MatchOption};
+ghost use Rattle.std.specs.Prelude.{◌≡◌, ℕ, ◌+◌, ◌^◌, ◌<◌, ◌≤◌, true, false, List, length, IfOk, MatchOption};
 ghost use Rattle.std.specs.List.Sorted.{IsNonDecreasing};
 ghost use Rattle.forest_place.specs.declared.place.Place.{Place as Placed};
 ghost use Rattle.proof_shape.specs.Found.{place_in};
 ghost use Rattle.proof_shape.specs.Shape.{AreWithin, has_number, positions_of as numbers_of};
-ghost use Rattle.proof_shape.specs.Swept.{up, is_top, has, IsNear, Rises};
+ghost use Rattle.proof_shape.specs.Swept.{up, is_top, has, Rises};
 ghost use Rattle.proof_shape.specs.Survey.{IsCoverOf};
 ghost use Rattle.proof_verify.specs.Room.{IsPlan};
 ghost use Rattle.proof_verify.specs.Origins.{number_at, AreHalves, rank_of, AreLinked, ArePut, IsTop, AreTops};
 
 use crate::origin::{Half, Origin};
 use forest_place::{Place, parent, position, root_place, sibling};
-use proof_shape::{Targets, is_root};
+use proof_shape::{Targets, is_near, is_root};
 use std::alloc::{AllocError, Global};
 
 // Where a number stands in an ascending list.
@@ -33,17 +33,6 @@ fn index_from(covered: &[Place], from: usize, place: Place) -> usize
         i += 1;
     }
     i
-}
-
-// Whether a place stands right before or right after an index.
-fn is_near(covered: &[Place], i: usize, place: Place) -> bool
-    requires { i < length covered.now }
-    ensures { IsTrue result ↔ IsNear covered.now i place }
-{
-    if i > 0 && covered[i - 1] == place {
-        return true;
-    }
-    i + 1 < covered.len() && covered[i + 1] == place
 }
 
 // What the place above the covered place at an index is made of, and how many needed places are then siblings of covered
@@ -76,7 +65,7 @@ fn origin_above(n: u64, covered: &[Place], i: usize, rank: usize) -> Option<(Ori
     }
 }
 
-// What each covered place is made of that is no target, and the index of the place above each that is no root.
+// Fills what each covered place is made of that is no target, and the index of the place above each that is no root.
 fn link(n: u64, covered: &[Place], origins: &mut [Origin], parents: &mut [usize])
     requires small { n < 2 ^ 40 }
     requires within { AreWithin n covered.now }
@@ -113,7 +102,8 @@ fn put_targets(targets: &Targets, positions: &[u64], origins: &mut [Origin])
     }
 }
 
-// What each covered place is made of that is no target, and the index of the place above each that is no root.
+// Makes the two lists that `link` fills: what each covered place is made of, and the index of the place above each. At
+// targets in the first and at roots in the second, where `link` puts nothing, a blank stays.
 fn links_of(
     alloc: Global,
     n: u64,

@@ -89,7 +89,7 @@ impl Scratch {
         ensures { IfOk result (λ made. made.reserved ≡ targets.now) }
     {
         let n = targets.leaves();
-        let covered = targets.covered(alloc)?;
+        let covered = Vec::from_slice(alloc, targets.covered())?;
         let positions = positions_of(alloc, n, &covered)?;
         let (origins, parents) = plan_of(alloc, targets, &covered, &positions)?;
         let goes = goes_of(alloc, n, &covered, &origins, &parents)?;

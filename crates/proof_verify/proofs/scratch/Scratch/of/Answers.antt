@@ -14,7 +14,7 @@ use Rattle.proof_verify.proofs.scratch.Scratch.of.Goals as goal
 pub goes_of-requires-clause-rises : goal.goes_of-requires-clause-rises
 goes_of-requires-clause-rises c =
     let n = c.args.targets.now.leaves in
-    subst (λ m. Rises m c.deref-4.result.now) (sym c.leaves-n.ensures.is) (subst (Rises n) (sym c.deref-4.ensures.value) c.in_ok-covered.ensures.rises)
+    subst (λ m. Rises m c.deref-4.result.now) (sym c.leaves-n.ensures.is) (subst (Rises n) (sym (c.deref-4.ensures.value ∙ c.in_ok-covered.ensures.items)) c.covered.ensures.rises)
 
 pub goes_of-requires-clause-before : goal.goes_of-requires-clause-before
 goes_of-requires-clause-before c =
@@ -27,7 +27,7 @@ tops_of-requires-clause-sorted c =
     let cs = c.in_ok-covered.covered.items in
     let is : c.deref-7.result.now ≡ positions_of n cs =
     c.deref-7.ensures.value ∙ (c.in_ok-positions.ensures ∙ (ap (λ m. positions_of m c.deref.result.now) c.leaves-n.ensures.is ∙ ap (positions_of n) c.deref.ensures.value)) in
-    subst IsNonDecreasing (sym is) (rises_sorted n cs c.in_ok-covered.ensures.rises)
+    subst IsNonDecreasing (sym is) (rises_sorted n cs (subst (Rises n) (sym c.in_ok-covered.ensures.items) c.covered.ensures.rises))
 
 pub invariant_of-result : goal.invariant_of-result
 invariant_of-result c =
