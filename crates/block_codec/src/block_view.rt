@@ -7,19 +7,21 @@ ghost use Rattle.block_codec.specs.Block.{BlockFits, block_text, txids_of, block
 use crate::header::HeaderView;
 use std::marker::Model;
 use tx_codec::TxView;
-use uo_digest::{Digest, sha256d};
+use uo_digest::Digest;
 
-/// A block that holds a view of each of its transactions, and their ids; contracts see its value.
+/// A block that holds a view of each of its transactions, their ids and its own hash; contracts see its value.
 #[derive(Drop)]
 pub struct BlockView<'a> {
     pub(crate) bytes: &'a [u8],
     pub(crate) header: HeaderView,
     pub(crate) txs: Vec<TxView<'a>>,
     pub(crate) txids: Vec<Digest>,
+    pub(crate) hash: Digest,
 }
 
 impl<'a> Model for BlockView<'a> {
-    ghost use Rattle.block_codec.specs.Block.{Block};
+    ghost use Rattle.std.specs.Prelude.{◌≡◌};
+    ghost use Rattle.block_codec.specs.Block.{Block, block_hash_of};
 
     ghost Value = { Block };
 
@@ -27,7 +29,7 @@ impl<'a> Model for BlockView<'a> {
 
     ghost view = { λ s. block_of s.header s.txs.items };
 
-    ghost invariant = { λ s. IsBlockView s.bytes.now s.txids.items (block_of s.header s.txs.items) };
+    ghost invariant = { λ s. IsBlockView s.bytes.now s.txids.items (block_of s.header s.txs.items) × (s.hash ≡ block_hash_of (block_of s.header s.txs.items)) };
 }
 
 impl<'a> BlockView<'a> {
@@ -70,11 +72,12 @@ impl<'a> BlockView<'a> {
     }
 }
 
-/// SHA-256 of SHA-256 of the header, which names the block. It is printed with its bytes reversed.
+/// SHA-256 of SHA-256 of the header, which names the block. It was hashed when the block was read, and is printed with its
+/// bytes reversed.
 pub fn block_hash(block: &BlockView<'_>) -> Digest
     ensures { result ≡ block_hash_of block.now }
 {
-    sha256d(&block.bytes[..80])
+    block.hash
 }
 
 /// How many bytes markers, flags and witnesses have.

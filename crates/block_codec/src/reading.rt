@@ -1,5 +1,6 @@
 //! Reading a block.
-ghost use Rattle.std.specs.Prelude.{◌≡◌, ◌<◌, ◌≤◌, ◌^◌, [], length, map, IfSome, IfOk, IsErrOf};
+ghost use Rattle.std.specs.Prelude.{◌≡◌, ◌<◌, ◌≤◌, ◌^◌, [], length, map, take, IfSome, IfOk, IsErrOf};
+ghost use Rattle.sha2.specs.Sha256.{sha256};
 ghost use Rattle.uo_base.specs.Reading.{Gives, Splits, times};
 ghost use Rattle.tx_codec.specs.Reading.{some_count_at, tx_at};
 ghost use Rattle.block_codec.specs.declared.fault.BlockFault.TheVariants.{NotABlock};
@@ -14,7 +15,7 @@ use crate::header::HeaderView;
 use std::alloc::{AllocError, Global};
 use tx_codec::{TxView, read_tx};
 use uo_base::Cursor;
-use uo_digest::Digest;
+use uo_digest::{Digest, sha256d};
 
 #[tactic(auto, unfolding(crate::specs::Reading::digest_at))]
 fn read_digest(at: &mut Cursor<'_>) -> Option<Digest>
@@ -142,6 +143,14 @@ fn ids_of(alloc: Global, txs: &[TxView<'_>]) -> Result<Vec<Digest>, AllocError>
     txs.iter().map(|tx| id_of(tx)).collect(alloc)
 }
 
+// The hash of the header in front of a text.
+fn hash_of(text: &[u8]) -> Digest
+    requires { 80 ≤ length text.now }
+    ensures { result.0 ≡ sha256 (sha256 (take 80 text.now)) }
+{
+    sha256d(&text[..80])
+}
+
 /// The block that the whole text is. `NotABlock` exactly where it is none, be it for one byte too many.
 ///
 /// It goes over the text once to read it and once to hash the transactions.
@@ -155,10 +164,12 @@ pub fn read_block(alloc: Global, text: &[u8]) -> Result<BlockView<'_>, BlockFaul
 {
     let (header, txs) = read_parts(alloc, text)?;
     let txids = ids_of(alloc, &txs)?;
+    let hash = hash_of(text);
     Ok(BlockView {
         bytes: text,
         header,
         txs,
         txids,
+        hash,
     })
 }

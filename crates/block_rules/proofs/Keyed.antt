@@ -1,6 +1,6 @@
 -- Sets and maps by outpoint: what an insertion does.
 use Rattle.std.proofs.Common.{◌≡◌, ℕ, Bool, true, false, cond, List, [], ◌∷◌, ◌++◌, length, Some, refl, sym, ap, ◌∙◌, ap₂, ⊎_elim, arith}
-use Rattle.std.specs.Prelude.{◌&&◌, ◌||◌, ◌==◌, not, nat_lt, option_map, if◌then◌else◌}
+use Rattle.std.specs.Prelude.{◌&&◌, ◌||◌, ◌==◌, bytes_eq, not, nat_lt, option_map, if◌then◌else◌}
 use Rattle.std.specs.List.{list_any}
 use Rattle.std.specs.declared.cmp.Ordering.{Ordering}
 use Rattle.std.specs.declared.cmp.Ordering.TheVariants.{Less, Equal, Greater}
@@ -30,7 +30,15 @@ nat_eq_is x y = ⊎_elim (λ t. ⊎_elim (λ e. absurd (omega (arith, ltb-true x
 
 -- two keys are equal where their outpoints are
 pub key_eq : (a b : OutpointKey) → is_eq (key_cmp a b) ≡ same_point (point_of a) (point_of b)
-key_eq a b = then_eq (slice_cmp nat_cmp a.txid b.txid) (nat_cmp a.index b.index) ∙ ap₂ (λ x y. x && y) (is_eq-slice_cmp a.txid b.txid) (nat_eq_is a.index b.index)
+key_eq a b =
+    then_eq (nat_cmp a.index b.index) (slice_cmp nat_cmp a.txid b.txid) ∙
+    (ap₂ (λ x y. x && y) (nat_eq_is a.index b.index) (is_eq-slice_cmp a.txid b.txid) ∙ exchanged (a.index == b.index) (bytes_eq a.txid b.txid))
+  where
+    exchanged : (x y : Bool) → (x && y) ≡ (y && x)
+    exchanged true true = refl
+    exchanged true false = refl
+    exchanged false true = refl
+    exchanged false false = refl
 
 pub same_point-sym : (p q : Outpoint) → same_point p q ≡ same_point q p
 same_point-sym p q =

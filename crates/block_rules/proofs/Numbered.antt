@@ -13,7 +13,7 @@ drop-get [] k x e = absurd (none-some x e)
 drop-get (y ∷ ys) zero x e = ap (λ z. z ∷ ys) (same_Some y x e)
 drop-get (y ∷ ys) (suc k) x e = drop-get ys k x e
 
-drop-all : {X : Type 0} (xs : List X) (k : ℕ) → length xs ≤ k → drop k xs ≡ []
+pub drop-all : {X : Type 0} (xs : List X) (k : ℕ) → length xs ≤ k → drop k xs ≡ []
 drop-all [] zero h = refl
 drop-all [] (suc k) h = refl
 drop-all (x ∷ xs) zero h = absurd (omega arith)

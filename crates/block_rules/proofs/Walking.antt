@@ -20,7 +20,7 @@ use Rattle.block_rules.specs.Walk.{origin_at, owns_in, numbers_in, outside_at, o
 use Rattle.block_rules.proofs.Apart.{all_map, map_append}
 use Rattle.block_rules.proofs.Latest.{found-live, by_letter}
 use Rattle.block_rules.proofs.Unspent.{numbers_below, unspent}
-use Rattle.block_rules.proofs.Numbered.{drop-get}
+use Rattle.block_rules.proofs.Numbered.{drop-get, drop-all}
 
 -- ---- from transaction to transaction
 
@@ -44,15 +44,9 @@ walks_on hash height t txs tx id w next whole e i h n =
     (ap (walked_from hash height (suc t) (drop (suc t) txs)) (n ∙ ap (λ d. walked_on t tx (made_from (origin_at (maker_of hash height d)) 0 tx.outputs) w) (sym (id_at txs t tx id e i)))
     ∙ (sym (ap (λ xs. walked_from hash height t xs w) (drop-get txs t tx e)) ∙ h))
 
-drop-past : {X : Type 0} (xs : List X) (k : ℕ) → length xs ≤ k → drop k xs ≡ []
-drop-past [] zero h = refl
-drop-past [] (suc k) h = refl
-drop-past (x ∷ xs) zero h = absurd (omega arith)
-drop-past (x ∷ xs) (suc k) h = drop-past xs k (omega arith)
-
 pub walk_ends : (hash : Digest) (height t : ℕ) (txs : List Transaction) (w whole : Walked) → length txs ≤ t → walked_from hash height t (drop t txs) w ≡ whole → w ≡ whole
 unfolding walked_from
-walk_ends hash height t txs w whole l h = ap (λ xs. walked_from hash height t xs w) (sym (drop-past txs t l)) ∙ h
+walk_ends hash height t txs w whole l h = ap (λ xs. walked_from hash height t xs w) (sym (drop-all txs t l)) ∙ h
 
 pub drop-others : (txs : List Transaction) → drop 1 txs ≡ others txs
 drop-others [] = refl

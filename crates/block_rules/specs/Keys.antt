@@ -17,9 +17,9 @@ use Rattle.block_rules.specs.Money.{found_of}
 abbrev pub point_of : OutpointKey → Outpoint
 point_of key = record { txid = record { 0 = key.txid }; index = key.index }
 
--- by id and then by index
+-- by index and then by id
 abbrev pub key_cmp : OutpointKey → OutpointKey → Ordering
-key_cmp a b = ordering_then (slice_cmp nat_cmp a.txid b.txid) (nat_cmp a.index b.index)
+key_cmp a b = ordering_then (nat_cmp a.index b.index) (slice_cmp nat_cmp a.txid b.txid)
 
 -- the set has the keys of these outpoints, and no other
 abbrev pub HasPoints : BTreeSet OutpointKey → List Outpoint → Type 0

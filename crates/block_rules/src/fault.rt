@@ -1,4 +1,4 @@
-//! Why the rules of a block gave no answer of their own.
+//! Why a block is not let pass, or that there was no memory.
 ghost use Rattle.std.specs.Prelude.{◌≡◌};
 ghost use Rattle.block_rules.specs.declared.fault.RuleFault.TheVariants.{NoMemory as OutOfMemory};
 
@@ -7,7 +7,9 @@ use std::alloc::{AllocError, AllocFailed};
 use thiserror::Error;
 use uo_base::NoMemory;
 
-/// Why `shape_rules` does not let a block pass.
+/// Why a step of judging a block does not let it pass, or that there was no memory for the step.
+///
+/// Such steps are `shape_rules`, and what later judges the block's message and its proof.
 #[derive(Clone, Copy, Debug, PartialEq, Eq, Error)]
 pub enum RuleFault {
     /// The block breaks a rule.

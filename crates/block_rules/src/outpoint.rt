@@ -7,11 +7,11 @@ ghost use Rattle.block_rules.specs.Keys.{point_of};
 use leaf_record::RecordView;
 use tx_codec::InView;
 
-/// The name of an output, in an order of its own.
+/// The name of an output, in an order of its own: by the index, which is quick to compare, and then by the id.
 #[derive(Clone, Copy, Debug, PartialEq, Eq, PartialOrd, Ord)]
 pub(crate) struct OutpointKey {
-    txid: [u8; 32],
     index: u32,
+    txid: [u8; 32],
 }
 
 /// The output that an input spends.
@@ -19,8 +19,8 @@ pub(crate) fn key_of_input(input: &InView<'_>) -> OutpointKey
     ensures { point_of result ≡ outpoint_of (input_of input.now) }
 {
     OutpointKey {
-        txid: input.txid.0,
         index: input.index,
+        txid: input.txid.0,
     }
 }
 
@@ -28,7 +28,7 @@ pub(crate) fn key_of_record(leaf: &RecordView<'_>) -> OutpointKey
     ensures { point_of result ≡ leaf.now.point }
 {
     OutpointKey {
-        txid: leaf.txid.0,
         index: leaf.index,
+        txid: leaf.txid.0,
     }
 }

@@ -20,10 +20,12 @@ pub enum Verdict {
         height: u32,
         /// Its hash, where the bytes are a block.
         hash: Option<Digest>,
+        /// The first rule that it breaks.
         why: Refusal,
     },
     /// The chain went back by so many blocks, to this one.
     RolledBack {
+        /// How many blocks were taken back, from 0.
         count: u32,
         /// The height of the newest block that is left, where one is.
         height: Option<u32>,
@@ -34,6 +36,7 @@ pub enum Verdict {
     },
     /// The chain can not go back so far, and stays as it was.
     TooDeep {
+        /// How many blocks it was to go back.
         asked: u32,
         /// How many blocks it can go back.
         kept: u32,
