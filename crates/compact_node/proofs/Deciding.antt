@@ -1,5 +1,5 @@
 -- The first rule that a block breaks, from what each call answered.
-use Rattle.std.proofs.Common.{◌≡◌, ℕ, suc, ◌+◌, ◌<◌, ◌≤◌, ◌^◌, true, List, [], ◌∷◌, ◌++◌, map, length, Option, Some, None, refl, sym, ap, ap₂, ◌∙◌, subst, arith}
+use Rattle.std.proofs.Common.{◌≡◌, ℕ, suc, ◌+◌, ◌<◌, ◌≤◌, ◌^◌, List, [], ◌∷◌, ◌++◌, map, length, Option, Some, None, sym, ap, ap₂, ◌∙◌, subst, arith}
 use Rattle.std.specs.Prelude.{option_map, Result, Ok, Err, IfOk, IfErr, OnOk, IsErrAnd}
 use Rattle.std.specs.Option.{option_or}
 use Rattle.uo_base.specs.declared.event.Event.{Event}
@@ -24,12 +24,12 @@ use Rattle.block_rules.specs.Money.{BlockSpends, spends_of, money_steps}
 use Rattle.block_rules.specs.Rules.{block_steps}
 use Rattle.block_rules.specs.Judged.{IsShaped, ShapeJudged, IsPaidFor}
 use Rattle.block_rules.proofs.Firsts.{first_of-append}
-use Rattle.node_rules.specs.Messages.{in_full, points_of}
+use Rattle.node_rules.specs.Messages.{in_full}
 use Rattle.node_rules.specs.Reading.{Handed, read}
-use Rattle.node_rules.specs.Judging.{Evidence, message_steps, view_step, found_by, compact}
+use Rattle.node_rules.specs.Judging.{Evidence, message_steps, view_step, compact}
 use Rattle.node_rules.specs.Machine.{ChainEvent, BlockCame, event_in, verdict_by}
 use Rattle.compact_node.specs.After.{with_leaves}
-use Rattle.compact_node.specs.Node.{NodeState, IsNode, view_over, refusal_on, verdict_on, roots_spent, roots_after, node_with, node_by, next_node}
+use Rattle.compact_node.specs.Node.{NodeState, IsNode, view_over, refusal_on, verdict_on, node_with, node_by, next_node}
 use Rattle.compact_node.specs.Judged.{IsFirst, fault_over, IsTakenOut, IsAccepted}
 use Rattle.compact_node.specs.Laws.{SaysAsFull}
 use Rattle.compact_node.proofs.Refining.{spent-leaves, room_before, room, after-leaves, compact_is_full}

@@ -6,7 +6,7 @@ use Rattle.uo_digest.specs.declared.digest.Digest.{Digest}
 use Rattle.forest_place.specs.Forest.{InForest, is_slot, root_off}
 use Rattle.forest_model.specs.Content.{IsDigest}
 use Rattle.forest_model.specs.Standing.{root}
-use Rattle.forest_model.specs.Cover.{Cover, cover}
+use Rattle.forest_model.specs.Cover.{Cover, cover, IsGreatest}
 use Rattle.forest_model.specs.Evaluation.{asked, evaluation, hash_of, IsAccepted}
 use Rattle.forest_model.specs.Right.{entries, IsRight, IsLeafText, LiveFit, HasClash}
 use Rattle.forest_model.specs.Deletion.{entries_without, root_after, StandAt}
@@ -22,7 +22,7 @@ use Rattle.block_rules.specs.Steps.{first_of}
 use Rattle.block_rules.specs.Blocks.{external, new_records}
 use Rattle.block_rules.specs.Rules.{block_steps}
 use Rattle.node_rules.specs.Messages.{Message, named, targets, points_of, claimed, known_to}
-use Rattle.node_rules.specs.Accepting.{View, leaves_of, shape_fault, proof_fault, IsGreatest}
+use Rattle.node_rules.specs.Accepting.{View, leaves_of, shape_fault, proof_fault}
 use Rattle.node_rules.specs.Right.{is_right}
 use Rattle.node_rules.specs.Known.{is_known, kept_places, known_at, view_of}
 use Rattle.node_rules.specs.Reading.{Handed, read, message_in}
