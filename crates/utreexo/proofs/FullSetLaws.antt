@@ -1,5 +1,5 @@
 -- A node that keeps roots alone prints what a node that holds every output prints, as long as no proof is forged.
-use Rattle.std.proofs.Common.{◌≡◌, ℕ, zero, suc, ◌+◌, ◌<◌, ◌≤◌, ◌^◌, Bool, true, false, ◌&&◌, ◌||◌, List, [], ◌∷◌, ◌++◌, length, map, get_or, replicate, Option, Some, None, is_some, Result, Ok, Err, refl, sym, ap, subst, ◌∙◌, arith, rules as std_rules}
+use Rattle.std.proofs.Common.{◌≡◌, ℕ, zero, suc, ◌+◌, ◌<◌, ◌≤◌, ◌^◌, Bool, true, false, ◌||◌, List, [], ◌∷◌, ◌++◌, length, map, get_or, replicate, Option, Some, None, is_some, Result, Ok, Err, refl, sym, ap, subst, ◌∙◌, arith, rules as std_rules}
 use Rattle.std.specs.List.{flat_map, list_any}
 use Rattle.std.proofs.lemmas.Bool.{and_parts}
 use Rattle.std.proofs.lemmas.List.{append_assoc}
@@ -9,14 +9,10 @@ use Rattle.uo_base.specs.FeedEvent.{FeedEvent}
 use Rattle.uo_digest.specs.declared.digest.Digest.{Digest}
 use Rattle.leaf_record.specs.Leaf.{leaf_text}
 use Rattle.block_rules.specs.declared.verdict.Verdict.{Verdict}
-use Rattle.feed_frame.specs.declared.fault.FeedFault.{FeedFault}
 use Rattle.feed_frame.specs.Events.{events_of}
 use Rattle.feed_frame.specs.Machine.{after, written}
 use Rattle.feed_frame.proofs.Progress.{written-append}
-use Rattle.block_codec.specs.Block.{Block}
 use Rattle.block_rules.specs.declared.refusal.Refusal.{Refusal}
-use Rattle.forest_roots.specs.Stump.{IsStump, empty_roots}
-use Rattle.node_rules.specs.Reading.{Handed}
 use Rattle.node_rules.specs.Judging.{Rules}
 use Rattle.node_rules.specs.Machine.{ChainEvent, BlockCame, RollbackCame, StrayCame, Outcome, State, start, chain_of, step, event_in, verdicts, state_after, never_stops, told, goes_on, full_judge}
 use Rattle.compact_node.specs.Node.{NodeState, IsNode, Stands, is_forward, verdict_on, next_node, refusal_on, node_with, node_by}

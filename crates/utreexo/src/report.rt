@@ -13,7 +13,7 @@ use block_rules::Verdict;
 use std::alloc::{AllocError, Global};
 use uo_base::{NoMemory, Sink, put_all};
 
-/// As long as most lines are.
+/// The room that a line is given at first, in bytes: as long as most lines are.
 const ROOM: usize = 128;
 
 // A line with its end.

@@ -12,10 +12,10 @@ use crate::line::Line;
 use crate::report::say;
 use crate::status::Status;
 use crate::stop::Stop;
-use crate::words::{Command, read_words};
+use crate::words::read_words;
 use std::alloc::Global;
 use std::sync::ledger::Ledger;
-use uo_base::{Limits, Net, Sink, Source};
+use uo_base::{Limits, Sink, Source};
 use uo_digest::{Digester, Steps};
 
 /// Does all that the words ask for.

@@ -3,6 +3,9 @@ ghost use Rattle.std.specs.Prelude.{◌≡◌, ◌<◌, ◌≤◌, ◌^◌};
 
 mod chains;
 mod faults;
+mod proved;
+mod proved_many;
+mod proved_rows;
 mod rows;
 mod word_lists;
 

@@ -15,7 +15,7 @@ const MAIN: [u8; 4] = [0xf9, 0xbe, 0xb4, 0xd9];
 
 const REGTEST: [u8; 4] = [0xfa, 0xbf, 0xb5, 0xda];
 
-const SUBSIDY: u64 = 5_000_000_000;
+pub const SUBSIDY: u64 = 5_000_000_000;
 
 const BLOCKS: u32 = 120;
 
@@ -29,7 +29,7 @@ struct Chain {
 }
 
 // A transaction whose one input has the null outpoint and the height as its script, and which pays to the script 51.
-fn coinbase(alloc: Global, height: u32, amount: u64) -> Result<Vec<u8>, Fail> {
+pub fn coinbase(alloc: Global, height: u32, amount: u64) -> Result<Vec<u8>, Fail> {
     let mut tx = Vec::new(alloc);
     tx.extend_from_slice(&1u32.to_le_bytes())?;
     tx.push(1)?;

@@ -1,4 +1,4 @@
-use Rattle.std.proofs.Common.{◌≡◌, ◌≤◌, ◌*◌, ◌-◌, ◌^◌, false, None}
+use Rattle.std.proofs.Common.{◌≡◌, ◌≤◌, ◌*◌, ◌-◌, false, None}
 use Rattle.feed_frame.specs.FeedState.{limit_of}
 use Rattle.feed_frame.proofs.Progress.{Progress}
 use Rattle.utreexo.specs.Follow.{event_line, sends_nothing}
