@@ -22,10 +22,17 @@ const INPUTS: u32 = 25_000;
 
 const ROUNDS: u32 = 20;
 
+/// Bytes that are taken and given back before anything is measured. An allocator that learns from this to keep what is
+/// freed has pages at hand for large blocks as it has for small ones.
+const KEPT: usize = 16_777_216;
+
 /// Nanoseconds an input of judging blocks of a thousand inputs, of ten thousand, and of as many as a block has room for:
 /// first where all of them spend outputs of other blocks, then where all spend outputs of the block. Blocks of fewer
 /// inputs are measured over more of them, all different, so that what is met is not met again. It is the best of some rounds.
 pub fn measure_rules<R: Clock + Print + AllocGlobal>(rt: &R) -> io::Result<()> {
+    if keep_memory(rt.alloc())? < KEPT {
+        return println!(rt; "no memory");
+    }
     for count in [1_000, 10_000, 24_386] {
         let texts = texts(rt.alloc(), count, false)?;
         measure(rt, "external", count, &texts)?;
@@ -35,6 +42,12 @@ pub fn measure_rules<R: Clock + Print + AllocGlobal>(rt: &R) -> io::Result<()> {
         measure(rt, "internal", count, &texts)?;
     }
     Ok(())
+}
+
+fn keep_memory(alloc: Global) -> Result<usize, AllocError> {
+    let mut room = Vec::with_capacity(alloc, KEPT)?;
+    room.push(1u8)?;
+    Ok(room.capacity())
 }
 
 // Different blocks.

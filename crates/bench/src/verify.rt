@@ -110,11 +110,8 @@ fn measure<R: Clock + Print, L: Ledger>(
     let Ok(targets) = Targets::new(alloc, ENTRIES, &positions) else {
         return println!(rt; "{count} targets: none");
     };
-    let Ok(covered) = targets.covered(alloc) else {
-        return println!(rt; "{count} targets: no memory");
-    };
     let (reserving, checking, accepted) = accept(rt, alloc, &targets, rounds, steps)?;
-    let above = (covered.len() as u64).saturating_sub(count);
+    let above = (targets.covered().len() as u64).saturating_sub(count);
 
     // Each place above targets takes a digest, and one more where both its halves stay.
     let bare = above.saturating_mul(2).saturating_sub(count);
