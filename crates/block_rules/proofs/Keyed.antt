@@ -1,6 +1,6 @@
 -- Sets and maps by outpoint: what an insertion does.
-use Rattle.std.proofs.Common.{◌≡◌, ℕ, Bool, true, false, cond, List, [], ◌∷◌, ◌++◌, length, Some, refl, sym, ap, ◌∙◌, ap₂, ⊎_elim, arith}
-use Rattle.std.specs.Prelude.{◌&&◌, ◌||◌, ◌==◌, bytes_eq, not, nat_lt, option_map, if◌then◌else◌}
+use Rattle.std.proofs.Common.{◌≡◌, ℕ, zero, suc, Bool, true, false, cond, List, [], ◌∷◌, ◌++◌, take, length, Option, Some, None, refl, sym, ap, ◌∙◌, ap₂, ⊎_elim, arith}
+use Rattle.std.specs.Prelude.{◌&&◌, ◌||◌, ◌==◌, bytes_eq, not, nat_lt, option_map, slice_get, if◌then◌else◌}
 use Rattle.std.specs.List.{list_any}
 use Rattle.std.specs.declared.cmp.Ordering.{Ordering}
 use Rattle.std.specs.declared.cmp.Ordering.TheVariants.{Less, Equal, Greater}
@@ -12,13 +12,12 @@ use Rattle.std.specs.BTreeSet as set
 use Rattle.std.specs.BTreeSet.{BTreeSet}
 use Rattle.std.proofs.lemmas.Bool.{cases_Bool, eqb-true, ltb-true}
 use Rattle.std.proofs.lemmas.Map.Text.{is_eq-slice_cmp}
+use Rattle.std.proofs.lemmas.Option.{none-some, same_Some}
 use Rattle.leaf_record.specs.Leaf.{Outpoint, Leaf}
-use Rattle.leaf_record.specs.History.{same_point, History, newest}
-use Rattle.leaf_record.proofs.HistoryLaws.{same_point-true, same_point-same, newest-pushed}
+use Rattle.leaf_record.specs.History.{same_point, Entry, History, newest}
+use Rattle.leaf_record.proofs.HistoryLaws.{same_point-true, same_point-same, newest_is, shifted, newest-append, newest-pushed}
 use Rattle.block_rules.specs.declared.outpoint.OutpointKey.{OutpointKey}
-use Rattle.block_rules.specs.declared.made.Own.{Own}
-use Rattle.block_rules.specs.Money.{found_of}
-use Rattle.block_rules.specs.Keys.{point_of, key_cmp, HasPoints, own_of, IsIndex}
+use Rattle.block_rules.specs.Keys.{point_of, key_cmp, HasPoints, own_of, own_if, own_numbered, IsIndex}
 
 then_eq : (a b : Ordering) → is_eq (ordering_then a b) ≡ (is_eq a && is_eq b)
 then_eq Less b = refl
@@ -56,17 +55,45 @@ points_put old new key points has u = λ q. u.0 q ∙ (ap (λ b. cond b true (se
     by_case false q = has q
 
 -- the map, with a newer output
-pub index_put : (old new : BTreeMap OutpointKey Own) (key : OutpointKey) (own : Own) (made : History) (leaf : Leaf) → IsIndex old made → point_of key ≡ leaf.point → own ≡ record { number = length made; found = found_of leaf.rest } →
-    tree.Updates key_cmp old new key (Some own) → IsIndex new (made ++ Some leaf ∷ [])
-index_put old new key own made leaf index e o u = λ q.
+pub index_put : (old new : BTreeMap OutpointKey ℕ) (key : OutpointKey) (number : ℕ) (made : History) (leaf : Leaf) → IsIndex old made → point_of key ≡ leaf.point → number ≡ length made →
+    tree.Updates key_cmp old new key (Some number) → IsIndex new (made ++ Some leaf ∷ [])
+index_put old new key number made leaf index e n u = λ q.
     u.0 q
-    ∙ (ap (λ b. cond b (Some own) (tree.get key_cmp old q)) (key_eq key q ∙ ap (λ p. same_point p (point_of q)) e)
+    ∙ (ap (λ b. cond b (Some number) (tree.get key_cmp old q)) (key_eq key q ∙ ap (λ p. same_point p (point_of q)) e)
     ∙ (by_case (same_point leaf.point (point_of q)) q
-    ∙ sym (ap (option_map own_of) (newest-pushed (point_of q) made leaf))))
+    ∙ sym (ap (option_map (λ e. e.number)) (newest-pushed (point_of q) made leaf))))
   where
-    by_case : (b : Bool) (q : OutpointKey) → cond b (Some own) (tree.get key_cmp old q) ≡ option_map own_of (if b then Some (record { number = length made; leaf = leaf }) else newest (point_of q) made)
-    by_case true q = ap Some o
+    by_case : (b : Bool) (q : OutpointKey) → cond b (Some number) (tree.get key_cmp old q) ≡ option_map (λ e. e.number) (if b then Some (record { number = length made; leaf = leaf }) else newest (point_of q) made)
+    by_case true q = ap Some n
     by_case false q = index q
+
+-- nothing that is gone has a name
+pub index_gap : (index : BTreeMap OutpointKey ℕ) (made : History) → IsIndex index made → IsIndex index (made ++ None ∷ [])
+unfolding shifted
+index_gap index made h = λ q. h q ∙ sym (ap (option_map (λ e. e.number)) (newest-append (point_of q) made (None ∷ [])))
+
+-- an output is found again by its number
+pub told-some : (p : Outpoint) (made : History) (k : ℕ) → Some k ≡ option_map (λ e. e.number) (newest p made) → own_numbered k made ≡ option_map own_of (newest p made)
+told-some p made k e = by_case (newest p made) refl e
+  where
+    by_case : (n : Option Entry) → newest p made ≡ n → Some k ≡ option_map (λ e. e.number) n → own_numbered k made ≡ option_map own_of n
+    by_case None q e = absurd (none-some k (sym e))
+    by_case (Some f) q e =
+        let i = newest_is p made f q in
+        ap (λ j. own_numbered j made) (same_Some k f.number e) ∙ ap (own_if f.number) i.0
+
+pub told-none : (p : Outpoint) (made : History) → None ≡ option_map (λ e. e.number) (newest p made) → None ≡ option_map own_of (newest p made)
+told-none p made e = by_case (newest p made) e
+  where
+    by_case : (n : Option Entry) → None ≡ option_map (λ e. e.number) n → None ≡ option_map own_of n
+    by_case None e = refl
+    by_case (Some f) e = absurd (none-some f.number e)
+
+-- of a list, one more
+pub named_on : (us : History) (k : ℕ) (u : Option Leaf) → slice_get us k ≡ Some u → take (suc k) us ≡ take k us ++ u ∷ []
+named_on [] k u e = absurd (none-some u e)
+named_on (v ∷ vs) zero u e = ap (λ x. x ∷ []) (same_Some v u e)
+named_on (v ∷ vs) (suc k) u e = ap (λ xs. v ∷ xs) (named_on vs k u e)
 
 -- what an insertion says of the set before
 pub was_there : (added was : Bool) → added ≡ not was → added ≡ false → was ≡ true

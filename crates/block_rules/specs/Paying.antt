@@ -1,5 +1,6 @@
 -- What is paid, input by input, and that there is enough of what was found.
-use Rattle.std.specs.Prelude.{◌≡◌, ℕ, ◌+◌, ◌<◌, ◌^◌, List, [], ◌∷◌, length, Option, is_none, sum_by, count_by}
+use Rattle.std.specs.Prelude.{◌≡◌, ℕ, ◌+◌, ◌<◌, ◌^◌, List, [], ◌∷◌, length, map, Option, Some, is_none, sum_by, count_by}
+use Rattle.leaf_record.specs.History.{somes}
 use Rattle.block_rules.specs.declared.chain.Outside.{Outside}
 use Rattle.block_rules.specs.declared.chain.Found.{Found}
 use Rattle.block_rules.specs.Money.{Bill, paid_from, found_after}
@@ -21,3 +22,7 @@ pub record PaysNext (own : Option Found) (found : List Found) (paid : Found) (le
   pub now : (others : List (Option Found)) → paid_from (own ∷ others) found ≡ paid ∷ paid_from others left
   pub later : (others : List (Option Found)) → found_after (own ∷ others) found ≡ found_after others left
   pub count : outside_count (own ∷ []) + length left ≡ length found
+
+-- nothing is missing in a list
+abbrev pub IsWhole : {X : Type 0} → List (Option X) → Type 0
+IsWhole xs = xs ≡ map Some (somes xs)

@@ -16,9 +16,12 @@ use Rattle.block_rules.specs.Keys.{own_of}
 abbrev pub origin_at : Maker → Origin
 origin_at maker = record { block = maker.block; height = maker.height; coinbase = maker.coinbase; txid = maker.txid }
 
--- what each of these inputs spends of the outputs made so far
+-- what an input spends of the outputs made so far
+abbrev pub own_in : Input → History → Option Own
+own_in input made = option_map own_of (newest (outpoint_of input) made)
+
 abbrev pub owns_in : List Input → History → List (Option Own)
-owns_in inputs made = map (λ input. option_map own_of (newest (outpoint_of input) made)) inputs
+owns_in inputs made = map (λ input. own_in input made) inputs
 
 abbrev pub numbers_in : List (Option Own) → List ℕ
 numbers_in owns = somes (map (option_map (λ own. own.number)) owns)

@@ -1,5 +1,5 @@
 //! The outputs that a block has made so far.
-ghost use Rattle.std.specs.Prelude.{◌≡◌, ◌<◌, ◌≤◌, ◌++◌, ◌^◌, length, map, option_map, Some, [], ◌∷◌, OnOk};
+ghost use Rattle.std.specs.Prelude.{◌≡◌, ◌<◌, ◌≤◌, ◌+◌, ◌++◌, ◌^◌, length, take, map, option_map, Some, [], ◌∷◌, IfOk, OnOk};
 ghost use Rattle.tx_codec.specs.Views.{output_of};
 ghost use Rattle.leaf_record.specs.History.{newest};
 ghost use Rattle.block_rules.specs.Blocks.{is_spendable, leaf_of, made_from};
@@ -34,25 +34,30 @@ pub(crate) struct Maker {
     pub txid: Digest,
 }
 
-/// The spendable outputs of the transactions so far, and the newest of each name.
+/// The spendable outputs of the transactions so far. Those that inputs can spend are known by their names, too: the ones of
+/// the last transaction are named when the next one comes.
 #[derive(Drop)]
 pub(crate) struct Made<'a> {
     pub records: Vec<Option<RecordView<'a>>>,
-    pub newest: BTreeMap<OutpointKey, Own>,
+    /// The number of the newest output of each name, among the first `named`.
+    pub newest: BTreeMap<OutpointKey, usize>,
+    pub named: usize,
 }
 
 impl<'a> Made<'a> {
-    ghost use Rattle.block_rules.specs.Keys.{point_of, own_of, IsIndex};
+    ghost use Rattle.block_rules.specs.Keys.{point_of, own_of, own_numbered, IsIndex, Knows};
     ghost use Rattle.block_rules.specs.Walk.{origin_at};
 
-    pub fn new(alloc: Global) -> Self
-        ensures none { result.records.items ≡ [] }
-        ensures index { IsIndex result.newest result.records.items }
+    /// Nothing, and room for so many outputs.
+    pub fn new(alloc: Global, room: usize) -> Result<Self, NoMemory>
+        ensures none { IfOk result (λ made. made.records.items ≡ []) }
+        ensures known { IfOk result (λ made. Knows made.newest made.named made.records.items) }
     {
-        Made {
-            records: Vec::new(alloc),
+        Ok(Made {
+            records: Vec::with_capacity(alloc, room)?,
             newest: BTreeMap::new(alloc),
-        }
+            named: 0,
+        })
     }
 
     /// The newest output of a name.
@@ -60,15 +65,56 @@ impl<'a> Made<'a> {
         requires { IsIndex self.now.newest self.now.records.items }
         ensures { result ≡ option_map own_of (newest (point_of key) self.now.records.items) }
     {
-        self.newest.get(&key).copied()
+        match self.newest.get(&key) {
+            Some(number) => self.own(*number),
+            None => None,
+        }
+    }
+
+    fn own(&self, number: usize) -> Option<Own>
+        ensures { result ≡ own_numbered number self.now.records.items }
+    {
+        match self.records.get(number) {
+            Some(Some(leaf)) => Some(Own {
+                number,
+                found: found_of(leaf),
+            }),
+            Some(None) | None => None,
+        }
+    }
+
+    /// Makes all outputs known by their names.
+    pub fn name_all(&mut self) -> Result<(), NoMemory>
+        requires { Knows self.old.newest self.old.named self.old.records.items }
+        ensures same { OnOk result (self.new.records.items ≡ self.old.records.items) }
+        ensures index { OnOk result (IsIndex self.new.newest self.new.records.items) }
+        ensures known { OnOk result (Knows self.new.newest self.new.named self.new.records.items) }
+    {
+        for number in self.named..self.records.len() {
+            self.name(number)?;
+        }
+        self.named = self.records.len();
+        Ok(())
+    }
+
+    fn name(&mut self, number: usize) -> Result<(), NoMemory>
+        requires number { number < length self.old.records.items }
+        requires index { IsIndex self.old.newest (take number self.old.records.items) }
+        ensures same { OnOk result (self.new.records.items ≡ self.old.records.items) }
+        ensures index { OnOk result (IsIndex self.new.newest (take (number + 1) self.new.records.items)) }
+    {
+        if let Some(leaf) = &self.records[number] {
+            self.newest.insert(key_of_record(leaf), number)?;
+        }
+        Ok(())
     }
 
     /// Adds the spendable outputs of a transaction.
     pub fn add(&mut self, maker: &Maker, tx: &TxView<'a>) -> Result<(), NoMemory>
         requires height { maker.now.height < 2 ^ 31 }
-        requires index { IsIndex self.old.newest self.old.records.items }
+        requires known { Knows self.old.newest self.old.named self.old.records.items }
         ensures added { OnOk result (self.new.records.items ≡ self.old.records.items ++ map Some (made_from (origin_at maker.now) 0 tx.now.outputs)) }
-        ensures index { OnOk result (IsIndex self.new.newest self.new.records.items) }
+        ensures known { OnOk result (Knows self.new.newest self.new.named self.new.records.items) }
     {
         let mut index = 0;
         for output in tx.outputs() {
@@ -85,27 +131,13 @@ impl<'a> Made<'a> {
         output: &OutView<'a>,
     ) -> Result<(), NoMemory>
         requires height { maker.now.height < 2 ^ 31 }
-        requires index { IsIndex self.old.newest self.old.records.items }
+        requires known { Knows self.old.newest self.old.named self.old.records.items }
         ensures added { OnOk result (self.new.records.items ≡ self.old.records.items ++ map Some (made_from (origin_at maker.now) index (output_of output.now ∷ []))) }
-        ensures index { OnOk result (IsIndex self.new.newest self.new.records.items) }
+        ensures known { OnOk result (Knows self.new.newest self.new.named self.new.records.items) }
     {
         if is_spendable(output) {
-            self.push(record_of(maker, index, output))?;
+            self.records.push(Some(record_of(maker, index, output)))?;
         }
-        Ok(())
-    }
-
-    fn push(&mut self, leaf: RecordView<'a>) -> Result<(), NoMemory>
-        requires { IsIndex self.old.newest self.old.records.items }
-        ensures pushed { OnOk result (self.new.records.items ≡ self.old.records.items ++ Some leaf.entry ∷ []) }
-        ensures index { OnOk result (IsIndex self.new.newest self.new.records.items) }
-    {
-        let own = Own {
-            number: self.records.len(),
-            found: found_of(&leaf),
-        };
-        self.newest.insert(key_of_record(&leaf), own)?;
-        self.records.push(Some(leaf))?;
         Ok(())
     }
 }

@@ -1,5 +1,5 @@
 //! The rules that look at a block by itself.
-ghost use Rattle.std.specs.Prelude.{◌≡◌, ◌<◌, ◌≤◌, ◌^◌, [], length, None, Some, IfOk, IfErr, OnOk};
+ghost use Rattle.std.specs.Prelude.{◌≡◌, ◌<◌, ◌≤◌, ◌^◌, [], length, map, None, Some, IfOk, IfErr, OnOk};
 ghost use Rattle.std.specs.List.{AllByRecursion};
 ghost use Rattle.block_rules.specs.Blocks.{placed_of};
 ghost use Rattle.block_rules.specs.Judged.{ShapeJudged, FullJudged};
@@ -106,7 +106,7 @@ fn spends_at<'a>(
         net,
         height,
         external,
-        new: new_records(alloc, height, made, &spent)?,
+        new: new_records(alloc, height, made, &spent),
         claimed: output_sum(block.tx(0)) as u64,
         bills,
     })
@@ -118,13 +118,13 @@ fn new_records<'a>(
     height: u32,
     made: Made<'a>,
     spent: &[usize],
-) -> Result<Vec<RecordView<'a>>, NoMemory>
+) -> Vec<Option<RecordView<'a>>>
     requires { AllByRecursion (λ n. n < length made.records.items) spent.now }
-    ensures { IfOk result (λ new. new.items ≡ new_at height spent.now made.entry.records.items) }
+    ensures { result.items ≡ map Some (new_at height spent.now made.entry.records.items) }
 {
     if height == 0 {
-        Ok(Vec::new(alloc))
+        Vec::new(alloc)
     } else {
-        unspent(alloc, made.records, spent)
+        unspent(made.records, spent)
     }
 }

@@ -33,7 +33,8 @@ pub struct Spends<'a> {
     pub(crate) net: Net,
     pub(crate) height: u32,
     pub(crate) external: Vec<Outside>,
-    pub(crate) new: Vec<RecordView<'a>>,
+    // What is left of those that were made: nothing in it is missing.
+    pub(crate) new: Vec<Option<RecordView<'a>>>,
     // The sum of the coinbase's outputs.
     pub(crate) claimed: u64,
     // Of each transaction behind the coinbase.
@@ -45,18 +46,20 @@ impl<'a> Model for Spends<'a> {
 
     ghost Value = { BlockSpends };
 
+    ghost use Rattle.leaf_record.specs.History.{somes};
+
     ghost view = { λ s. record {
       net = s.net;
       height = s.height;
       external = s.external.items;
-      new = s.new.items;
+      new = somes s.new.items;
       claimed = s.claimed;
       bills = s.bills.items;
     } };
 
-    ghost use Rattle.block_rules.specs.Paying.{IsCounted};
+    ghost use Rattle.block_rules.specs.Paying.{IsCounted, IsWhole};
 
-    ghost invariant = { λ s. IsCounted s.bills.items s.external.items };
+    ghost invariant = { λ s. IsCounted s.bills.items s.external.items × IsWhole s.new.items };
 }
 
 impl<'a> Spends<'a> {
@@ -79,7 +82,9 @@ impl<'a> Spends<'a> {
         requires { i < length self.now.new }
         ensures { slice_get self.now.new i ≡ Some result }
     {
-        let record = &self.new[i as usize];
-        record.rest().with_outpoint(record.txid, record.index)
+        match &self.new[i as usize] {
+            Some(record) => record.rest().with_outpoint(record.txid, record.index),
+            None => unreachable!(),
+        }
     }
 }

@@ -68,9 +68,10 @@ fn put_events<D: Digester, F: Source, R: Sink, L: Ledger>(
     ensures later { R.faults report.old ≤ R.faults report.new }
 {
     let mut frames = Feed::new(alloc, net, limits.bytes);
+    let mut text = Vec::new(alloc);
     loop {
         match frames.next(feed) {
-            Ok(Some(event)) => put_event(alloc, follower, event, report, steps)?,
+            Ok(Some(event)) => put_event(alloc, follower, event, report, &mut text, steps)?,
             Ok(None) => return Ok(None),
             Err(fault) => return ending_by(fault),
         }
@@ -94,6 +95,7 @@ fn put_event<D: Digester, R: Sink, L: Ledger>(
     follower: &mut Follower<D>,
     event: Event<'_>,
     report: &mut R,
+    text: &mut Vec<u8>,
     steps: &mut Steps<L>,
 ) -> Result<(), Stop>
     requires short { IsShort (event_of event) }
@@ -106,7 +108,7 @@ fn put_event<D: Digester, R: Sink, L: Ledger>(
     ensures later { R.faults report.old ≤ R.faults report.new }
 {
     let verdict = follower.take(event, steps)?;
-    put_verdict(alloc, report, &verdict)
+    put_verdict(alloc, report, &verdict, text)
 }
 
 // The status and the last line of a run over a feed that ended so.

@@ -33,7 +33,12 @@ use std::sync::ledger::{Blank, Ledger};
 use uo_base::{FileSource, Limits, NoMemory, QuietSink, QuietSource, StdSink, StdSource};
 use uo_digest::{Sha512t256, Steps};
 
+/// Bytes that are taken once and given back. The C library's allocator then keeps what is freed for the next block, where it
+/// would return the memory of each large block to the system.
+const KEPT: usize = 16_777_216;
+
 fn main(rt: HostRuntime) -> ExitCode {
+    drop(Vec::<u8>::with_capacity(rt.alloc(), KEPT));
     let mut words = Vec::new(rt.alloc());
     if let Ok(args) = env::args(&rt) {
         for word in args.skip(1) {

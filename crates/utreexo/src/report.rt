@@ -35,17 +35,23 @@ pub fn line_of(alloc: Global, verdict: &Verdict, out: &mut Vec<u8>) -> Result<()
     Ok(())
 }
 
-/// Writes the line of a verdict, or a part of it where the run has to stop.
-pub fn put_verdict<R: Sink>(alloc: Global, report: &mut R, verdict: &Verdict) -> Result<(), Stop>
+/// Writes the line of a verdict, or a part of it where the run has to stop. It is made in `text`, whose room serves line after
+/// line.
+pub fn put_verdict<R: Sink>(
+    alloc: Global,
+    report: &mut R,
+    verdict: &Verdict,
+    text: &mut Vec<u8>,
+) -> Result<(), Stop>
     ensures whole { OnOk result (Appends (R.held report.old) (R.held report.new) (whole_line (Line.Verdict verdict.now))) }
     ensures part { AppendsPart (R.held report.old) (R.held report.new) (whole_line (Line.Verdict verdict.now)) }
     ensures read { IsErrOf result Stop.ReadFault → ⊥ }
     ensures write { IsErrOf result Stop.WriteFault → Rose (R.faults report.old) (R.faults report.new) }
     ensures later { R.faults report.old ≤ R.faults report.new }
 {
-    let mut text = Vec::new(alloc);
-    line_of(alloc, verdict, &mut text)?;
-    put_all(report, &text)?;
+    text.clear();
+    line_of(alloc, verdict, text)?;
+    put_all(report, text)?;
     Ok(())
 }
 
