@@ -1,7 +1,8 @@
 -- What is gone, by what is covered and by what is needed.
-use Rattle.std.proofs.Common.{◌≡◌, ℕ, zero, suc, ◌+◌, ◌-◌, ◌*◌, ◌/◌, ◌%◌, ◌^◌, ◌<◌, Bool, true, false, not, ◌&&◌, ◌||◌, List, Option, Some, None, is_some, refl, sym, ap, ◌∙◌, subst, ap₂, ⊎_elim, inl, inr, arith, eq-eqb, eqb-true}
+use Rattle.std.proofs.Common.{◌≡◌, ℕ, zero, suc, ◌+◌, ◌-◌, ◌*◌, ◌/◌, ◌%◌, ◌^◌, ◌<◌, ◌≤◌, length, get_or, [], Bool, true, false, not, ◌&&◌, ◌||◌, List, Option, Some, None, is_some, refl, sym, ap, ◌∙◌, subst, ap₂, ⊎_elim, inl, inr, arith, eq-eqb, eqb-true}
 use Rattle.std.specs.Prelude.{◌⊎◌, ◌==◌, nat_lt}
-use Rattle.std.proofs.lemmas.Bool.{cases_Bool, cases_eq, false≢true, false_from_ne_true, or_cases, or_left, or_right, or_from, and_from, and_parts, lt-ltb, ltb-true}
+use Rattle.std.proofs.lemmas.Bool.{cases_Bool, cases_eq, cases_lt, false≢true, false_from_ne_true, or_cases, or_left, or_right, or_from, and_from, and_parts, lt-ltb, ltb-true}
+use Rattle.std.proofs.lemmas.List.Folds.{list_any_at}
 use Rattle.std.proofs.lemmas.Option.{none-some}
 use Rattle.forest_place.specs.declared.place.Place.{Place}
 use Rattle.forest_place.specs.Forest.{InForest, is_root, sibling_off}
@@ -15,7 +16,11 @@ use Rattle.forest_model.proofs.Covers.{needed_parts}
 use Rattle.forest_model.proofs.Lists.{need_has, need_had}
 use Rattle.forest_model.proofs.Moving.{moved-step, moved-is_gone}
 use Rattle.proof_shape.specs.Survey.{CoversTell}
-use Rattle.proof_shape.specs.Moves.{GoneTell, IsBeneathTarget}
+use Rattle.proof_shape.specs.Shape.{has_number, AreWithin, positions_of}
+use Rattle.proof_shape.specs.Moves.{GoneTell, HasNeighbours, AreApart, IsBeneathTarget}
+use Rattle.proof_shape.proofs.Ordered.{has_where, sorted_number_is}
+use Rattle.forest_place.specs.Position.{position}
+use Rattle.std.specs.List.Sorted.{IsNonDecreasing, IsPermutation}
 use Rattle.proof_shape.proofs.Needing.{covered_up, covered_target}
 use Rattle.proof_shape.proofs.Climbing.{nothing_above}
 use Rattle.proof_shape.proofs.Parents.{ups, cover_above}
@@ -152,6 +157,72 @@ module _ (n : ℕ) (ts : List Place) (shape : HasShape n ts) where
       where_covered : (a x y : Bool) → (a ≡ true → x ≡ y) → (a && not x) ≡ (a && not y)
       where_covered true x y f = ap not (f refl)
       where_covered false x y f = refl
+
+-- ---- where no two targets stand side by side
+
+-- a number that is one more than the one before it
+pub neighbours_at : (xs : List ℕ) (k : ℕ) → k + 1 < length xs → get_or xs (k + 1) 0 ≡ suc (get_or xs k 0) → HasNeighbours xs
+neighbours_at xs k lt e = (
+  get_or xs k 0,
+  list_any_at (λ y. y == get_or xs k 0) xs k 0 (omega (arith, lt)) (eq-eqb _ _ refl),
+  list_any_at (λ y. y == suc (get_or xs k 0)) xs (k + 1) 0 lt (eq-eqb _ _ e),
+)
+
+-- numbers in ascending order of which none is one more than the one before it
+pub apart_from : (xs : List ℕ) → IsNonDecreasing xs → ((k : ℕ) → k + 1 < length xs → get_or xs (k + 1) 0 ≡ suc (get_or xs k 0) → ⊥) → AreApart xs
+apart_from xs up steps x h =
+    false_from_ne_true (has_number xs (suc x)) (λ h'.
+    let a = has_where xs x h in
+    let b = has_where xs (suc x) h' in
+    let le : a.0 ≤ b.0 = not_before a.0 b.0 a.1 a.2 b.2 (cases_lt b.0 a.0) in
+    between (b.0 - a.0) a.0 (let e : b.0 < length xs = b.1 in let z : a.0 + (b.0 - a.0) < length xs = omega (arith, e, le) in z) a.2 (ap (λ k. get_or xs k 0) (let e : a.0 + (b.0 - a.0) ≡ b.0 = omega (arith, le) in e) ∙ b.2))
+  where
+    not_before : (a b : ℕ) → a < length xs → get_or xs a 0 ≡ x → get_or xs b 0 ≡ suc x → (b < a) ⊎ (a ≤ b) → a ≤ b
+    not_before a b l ea eb (inl lt) = let z = up b a 0 (omega (arith, lt)) l in absurd (omega (arith, z, ea, eb))
+    not_before a b l ea eb (inr le) = le
+
+    step : (v : ℕ) → v ≡ x → (w : ℕ) → (w ≡ suc v → ⊥) → v ≤ w → w ≤ suc x → w ≡ x
+    step v e w never le most = ⊎_elim (λ same. absurd (never (same ∙ ap suc (sym e)))) (λ differ. omega (arith, e, le, most, differ)) (cases_eq w (suc x))
+
+    between : (d k : ℕ) → k + d < length xs → get_or xs k 0 ≡ x → get_or xs (k + d) 0 ≡ suc x → ⊥
+    between zero k l e f = let z : k + 0 ≡ k = omega arith in let g = sym e ∙ (ap (λ i. get_or xs i 0) (sym z) ∙ f) in omega (arith, g)
+    between (suc d) k l e f =
+        let to : k + suc d ≡ (k + 1) + d = omega arith in
+        let low = up k (k + 1) 0 (omega arith) (omega (arith, l)) in
+        let high = up (k + 1) (k + suc d) 0 (omega arith) l in
+        let next = step (get_or xs k 0) e (get_or xs (k + 1) 0) (steps k (omega (arith, l))) low (omega (arith, high, f)) in
+        between d (k + 1) (omega (arith, l)) next (ap (λ i. get_or xs i 0) (sym to) ∙ f)
+
+or_none : (x : Bool) → (x || false) ≡ x
+or_none true = refl
+or_none false = refl
+
+module _ (n : ℕ) (ts : List Place) (sorted : List ℕ) (within : AreWithin n ts) (perm : IsPermutation (positions_of n ts) sorted) (apart : AreApart sorted) where
+  -- nothing is gone but the targets
+  alone_gone : (r o : ℕ) → InForest n r o → is_gone ts r o ≡ has_place ts r o
+  alone_gone zero o h = refl
+  alone_gone (suc r) o h =
+      let left = InForest-left n r o h in
+      let right = InForest-right n r o h in
+      ap₂ (λ x y. has_place ts (suc r) o || (x && y)) (alone_gone r (2 * o) left) (alone_gone r (2 * o + 1) right) ∙
+      by_left (has_place ts r (2 * o)) (has_place ts r (2 * o + 1)) (λ it. other left right it)
+    where
+      other : InForest n r (2 * o) → InForest n r (2 * o + 1) → has_place ts r (2 * o) ≡ true → has_place ts r (2 * o + 1) ≡ false
+      other left right it =
+          let p : position n r (2 * o + 1) ≡ suc (position n r (2 * o)) = omega arith in
+          sym (sorted_number_is n ts sorted (place r (2 * o + 1)) within perm right) ∙
+          (ap (has_number sorted) p ∙ apart (position n r (2 * o)) (sorted_number_is n ts sorted (place r (2 * o)) within perm left ∙ it))
+
+      by_left : (x y : Bool) → (x ≡ true → y ≡ false) → (has_place ts (suc r) o || (x && y)) ≡ has_place ts (suc r) o
+      by_left false y f = or_none (has_place ts (suc r) o)
+      by_left true y f = ap (λ z. has_place ts (suc r) o || (true && z)) (f refl) ∙ or_none (has_place ts (suc r) o)
+
+  pub alone_tell : GoneTell n ts sorted []
+  alone_tell r o h = and_true (has_number sorted (position n r o)) ∙ (sorted_number_is n ts sorted (place r o) within perm h ∙ sym (alone_gone r o h))
+    where
+      and_true : (x : Bool) → (x && true) ≡ x
+      and_true true = refl
+      and_true false = refl
 
 -- a child of a place of the forest
 pub child_within : (n r o side : ℕ) → InForest n r o → 0 < r → side < 2 → InForest n (r - 1) (2 * o + side)

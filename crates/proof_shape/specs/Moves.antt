@@ -1,5 +1,5 @@
 -- How the places at and above the targets, and those above needed places, tell what is gone.
-use Rattle.std.specs.Prelude.{◌≡◌, ℕ, Bool, true, not, ◌&&◌, List}
+use Rattle.std.specs.Prelude.{◌≡◌, ℕ, suc, Bool, true, false, not, ◌&&◌, List}
 use Rattle.std.specs.List.Sorted.{IsNonDecreasing}
 use Rattle.forest_place.specs.declared.place.Place.{Place}
 use Rattle.forest_place.specs.Forest.{InForest}
@@ -7,7 +7,7 @@ use Rattle.forest_place.specs.Places.{has_place}
 use Rattle.forest_place.specs.Position.{position}
 use Rattle.forest_model.specs.Cover.{is_above, need}
 use Rattle.forest_model.specs.Deletion.{is_gone}
-use Rattle.proof_shape.specs.Shape.{has_number}
+use Rattle.proof_shape.specs.Shape.{has_number, positions_of}
 use Rattle.proof_shape.specs.Survey.{IsCoverOf}
 
 -- a covered place is gone where no needed place is beneath it
@@ -17,14 +17,27 @@ gone_by n covered kept row off = has_number covered (position n row off) && not 
 abbrev pub GoneTell : ℕ → List Place → List ℕ → List ℕ → Type 0
 GoneTell n ts covered kept = (row off : ℕ) → InForest n row off → gone_by n covered kept row off ≡ is_gone ts row off
 
+-- two lists in ascending order tell it
+pub record TellGone (n : ℕ) (ts : List Place) (covered kept : List ℕ) : Type 0 where
+  pub covered_up : IsNonDecreasing covered
+  pub kept_up : IsNonDecreasing kept
+  pub tell : GoneTell n ts covered kept
+
+-- two numbers of the list follow each other
+abbrev pub HasNeighbours : List ℕ → Type 0
+HasNeighbours xs = (x : ℕ) × (has_number xs x ≡ true) × (has_number xs (suc x) ≡ true)
+
+-- no two do
+abbrev pub AreApart : List ℕ → Type 0
+AreApart xs = (x : ℕ) → has_number xs x ≡ true → has_number xs (suc x) ≡ false
+
 -- a target stands above the place
 abbrev pub IsBeneathTarget : List Place → Place → Type 0
 IsBeneathTarget ts p = (t : Place) × (has_place ts t.row t.off ≡ true) × (is_above t p ≡ true)
 
 -- what is kept beside the targets
-pub record IsSurveyed (n : ℕ) (ts needed cover : List Place) (covered kept : List ℕ) : Type 0 where
+pub record IsSurveyed (n : ℕ) (ts needed cover : List Place) (numbers among kept : List ℕ) : Type 0 where
   pub needed_is : needed ≡ need n ts
   pub cover_is : IsCoverOf n ts cover
-  pub covered_up : IsNonDecreasing covered
-  pub kept_up : IsNonDecreasing kept
-  pub tell : GoneTell n ts covered kept
+  pub numbers_are : numbers ≡ positions_of n cover
+  pub gone : TellGone n ts among kept

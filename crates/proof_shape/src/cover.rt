@@ -77,6 +77,11 @@ fn climbs_next(n: u64, places: &[Place], k: usize, sorted: &[u64], j: usize) -> 
     }
 }
 
+/// Room that is taken at once: for a target and the places above it, and for those that each further target adds in most lists.
+const ROOM: usize = 40;
+
+const ROOM_EACH: usize = 8;
+
 // All places at these positions and above them.
 pub(crate) fn cover_of(alloc: Global, n: u64, sorted: &[u64]) -> Result<Vec<Place>, AllocError>
     requires small { n < 2 ^ 40 }
@@ -84,7 +89,8 @@ pub(crate) fn cover_of(alloc: Global, n: u64, sorted: &[u64]) -> Result<Vec<Plac
     requires places { ArePositions n sorted.now }
     ensures { IfOk result (λ v. IsSwept n sorted.now v.items) }
 {
-    let mut covered = Vec::new(alloc);
+    let room = sorted.len().saturating_mul(ROOM_EACH).saturating_add(ROOM);
+    let mut covered = Vec::with_capacity(alloc, room)?;
     let mut k = 0;
     let mut j = 0;
     while k < covered.len() || j < sorted.len() {

@@ -5,6 +5,7 @@
 mod above;
 mod cover;
 mod fault;
+mod leaving;
 mod locate;
 mod moves;
 mod need;
@@ -19,5 +20,4 @@ mod wrong;
 pub use above::is_root;
 pub use fault::ShapeFault;
 pub use need::is_near;
-pub use order::positions_of;
 pub use targets::Targets;

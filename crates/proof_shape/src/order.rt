@@ -29,8 +29,8 @@ pub(crate) fn rises(sorted: &[u64]) -> bool
     true
 }
 
-/// The positions of places.
-pub fn positions_of(alloc: Global, n: u64, places: &[Place]) -> Result<Vec<u64>, AllocError>
+// The positions of places.
+pub(crate) fn positions_of(alloc: Global, n: u64, places: &[Place]) -> Result<Vec<u64>, AllocError>
     requires small { n < 2 ^ 40 }
     requires within { AreWithin n places.now }
     ensures { IfOk result (λ v. v.items ≡ numbers_of n places.now) }

@@ -2,11 +2,12 @@
 ghost use Rattle.std.specs.Prelude.{◌≡◌, ◌↔◌, ◌⊎◌, ◌^◌, ◌<◌, MatchResult, length, true};
 
 use crate::ShapeFault;
+use crate::leaving::gone_among;
 use crate::locate::locate;
 use crate::moves::moved_from;
 use crate::need::needed_of;
 use crate::order::positions_of;
-use crate::survey::{covered_places, covered_positions, parents_of};
+use crate::survey::covered_places;
 use crate::wrong::{fault_at, sound_length};
 use forest_place::Place;
 use std::alloc::Global;
@@ -19,9 +20,12 @@ pub struct Targets {
     list: Vec<Place>,
     needed: Vec<Place>,
 
-    // The targets and the places above them, their positions, and those of the places above needed places.
+    // The targets and the places above them, and their positions.
     covered: Vec<Place>,
     numbers: Vec<u64>,
+
+    // A place is gone whose position is in the first list and not in the second.
+    among: Vec<u64>,
     kept: Vec<u64>,
 }
 
@@ -33,7 +37,7 @@ impl Model for Targets {
 
     ghost view = { λ t. record { leaves = t.count; targets = t.list.items } };
 
-    ghost invariant = { λ t. IsTargeted (record { leaves = t.count; targets = t.list.items }) × IsSurveyed t.count t.list.items t.needed.items t.covered.items t.numbers.items t.kept.items };
+    ghost invariant = { λ t. IsTargeted (record { leaves = t.count; targets = t.list.items }) × IsSurveyed t.count t.list.items t.needed.items t.covered.items t.numbers.items t.among.items t.kept.items };
 }
 
 impl Targets {
@@ -42,7 +46,7 @@ impl Targets {
     ghost use Rattle.forest_model.specs.Deletion.{moved, is_gone};
     ghost use Rattle.proof_shape.specs.Moves.{IsBeneathTarget};
     ghost use Rattle.proof_shape.specs.Laws.{WhatStaysGoes, EntryGoes};
-    ghost use Rattle.proof_shape.specs.Shape.{AreTargets, IsFault};
+    ghost use Rattle.proof_shape.specs.Shape.{AreTargets, IsFault, positions_of as numbers_of};
     ghost use Rattle.proof_shape.specs.Survey.{IsCoverOf};
     ghost use Rattle.proof_shape.specs.Targeted.{IsTargeted};
     ghost use Rattle.proof_shape.specs.Found.{place_in};
@@ -66,14 +70,14 @@ impl Targets {
         let covered = covered_places(alloc, n, &places)?;
         let needed = needed_of(alloc, n, &covered)?;
         let numbers = positions_of(alloc, n, &covered)?;
-        let parents = parents_of(alloc, n, &needed)?;
-        let kept = covered_positions(alloc, n, &parents)?;
+        let (among, kept) = gone_among(alloc, n, &places, &numbers, &needed)?;
         Ok(Targets {
             count: n,
             list: places,
             needed,
             covered,
             numbers,
+            among,
             kept,
         })
     }
@@ -108,11 +112,12 @@ impl Targets {
         &self.list
     }
 
-    /// The covered places, which are the targets and all places above them, in ascending position.
-    pub fn covered(&self) -> &[Place]
-        ensures { IsCoverOf self.now.leaves self.now.targets result.now }
+    /// The covered places, which are the targets and all places above them, in ascending position, and their positions.
+    pub fn covered(&self) -> (&[Place], &[u64])
+        ensures is { IsCoverOf self.now.leaves self.now.targets result.0.now }
+        ensures positions { result.1.now ≡ numbers_of self.now.leaves result.0.now }
     {
-        &self.covered
+        (&self.covered, &self.numbers)
     }
 
     /// The places whose digests a proof of the targets has to give, in ascending position.
@@ -133,6 +138,6 @@ impl Targets {
         ensures stays { WhatStaysGoes self.now place result }
         ensures entries { EntryGoes self.now place result }
     {
-        moved_from(self.count, &self.numbers, &self.kept, place)
+        moved_from(self.count, &self.among, &self.kept, place)
     }
 }

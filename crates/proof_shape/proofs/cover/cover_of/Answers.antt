@@ -29,4 +29,4 @@ loop-k-preserved c =
     numbered c.args.n c.args.sorted.now c.loop-k.covered.items c.loop-k.k c.loop-k.j s c.requires.sorted c.push_new.new.places.items c.place_at.result next below c.place_at.ensures.within c.place_at.ensures.is c.in_ok-push_new.ensures
 
 pub loop-k-init : goal.loop-k-init
-loop-k-init c = subst (λ l. IsSweep c.args.n c.args.sorted.now l 0 0) (sym c.new-covered.ensures.items) (sweep_begins c.args.n c.args.sorted.now)
+loop-k-init c = subst (λ l. IsSweep c.args.n c.args.sorted.now l 0 0) (sym c.in_ok-covered.ensures.items) (sweep_begins c.args.n c.args.sorted.now)

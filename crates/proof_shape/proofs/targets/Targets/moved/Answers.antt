@@ -8,7 +8,7 @@ use Rattle.proof_shape.proofs.targets.Targets.moved.Goals as goal
 
 is_moved : (c : goal.After-moved_from) → c.moved_from.result ≡ moved c.args.self.now.leaves c.args.self.now.targets c.args.place.row c.args.place.off
 is_moved c =
-    c.moved_from.ensures.is c.self.inside.list.items (λ r o h. ap₂ (λ x y. gone_by c.self.inside.count x y r o) c.deref.ensures.value c.deref-2.ensures.value ∙ c.self.invariant.1.tell r o h) ∙
+    c.moved_from.ensures.is c.self.inside.list.items (λ r o h. ap₂ (λ x y. gone_by c.self.inside.count x y r o) c.deref.ensures.value c.deref-2.ensures.value ∙ c.self.invariant.1.gone.tell r o h) ∙
     ap (λ (f : Targeted). moved f.leaves f.targets c.args.place.row c.args.place.off) c.self.view_is
 
 pub returns-clause-none : goal.returns-clause-none

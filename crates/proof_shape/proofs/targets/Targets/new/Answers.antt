@@ -1,13 +1,11 @@
 use Rattle.std.proofs.Common.{◌≡◌, ◌<◌, ◌∙◌, sym, ap, subst, length, refl, arith}
-use Rattle.forest_model.specs.Cover.{need}
-use Rattle.forest_model.proofs.Lists.{need_had}
+use Rattle.forest_model.specs.Cover.{HasShape, need}
 use Rattle.std.specs.List.Sorted.{IsNonDecreasing}
 use Rattle.proof_shape.specs.Shape.{AreWithin, positions_of}
 use Rattle.proof_shape.specs.Swept.{Rises, needed_of}
 use Rattle.proof_shape.specs.Survey.{CoversTell, IsCoverOf}
 use Rattle.proof_shape.proofs.Needing.{rises_sorted, positions_tell}
-use Rattle.proof_shape.proofs.Gone.{gone_tell}
-use Rattle.proof_shape.proofs.Parents.{ups, ups_within}
+use Rattle.proof_shape.specs.Moves.{TellGone}
 use Rattle.proof_shape.specs.Found.{IsSoundLength, IsFaultAt}
 use Rattle.proof_shape.proofs.Faulty.{fault_from, outside_from, targets_from}
 use Rattle.proof_shape.proofs.targets.Targets.new.Goals as goal
@@ -46,18 +44,29 @@ needed_of-requires-clause-rises c = subst (Rises c.args.n) (sym c.deref-3.ensure
 pub positions_of-requires-clause-within : goal.positions_of-requires-clause-within
 positions_of-requires-clause-within c = subst (AreWithin c.args.n) (sym c.deref-4.ensures.value) c.in_ok-covered.ensures.within
 
-pub covered_positions-requires-clause-within : goal.covered_positions-requires-clause-within
-covered_positions-requires-clause-within c =
-    let ps = c.deref-2.result.now in
-    let needed : c.deref-5.result.now ≡ need c.args.n ps = c.deref-5.ensures.value ∙ (c.in_ok-needed.ensures ∙ (ap (needed_of c.args.n) c.deref-3.ensures.value ∙ c.in_ok-covered.ensures.needed)) in
-    let is : c.deref-6.result.now ≡ ups (need c.args.n ps) = c.deref-6.ensures.value ∙ (c.in_ok-parents.ensures ∙ ap ups needed) in
-    subst (AreWithin c.args.n) (sym is) (ups_within c.args.n ps)
+pub gone_among-requires-clause-shape : goal.gone_among-requires-clause-shape
+gone_among-requires-clause-shape c =
+    let n = c.args.n in
+    let ps = c.in_ok-places.places.items in
+    let k = c.in_ok-sound.sound in
+    let sound = subst (λ l. IsSoundLength n l k) c.deref.ensures.value c.in_ok-sound.ensures in
+    let top : k < length ps → ⊥ = λ lt. omega (arith, lt, c.if-sound-len.false, c.len.ensures) in
+    subst (HasShape n) (sym c.deref-5.ensures.value) (targets_from n c.args.positions.now ps c.in_ok-places.ensures k sound top (λ lt. omega (arith, lt, c.if-sound-positions.false))).shape
 
-pub parents_of-requires-clause-within : goal.parents_of-requires-clause-within
-parents_of-requires-clause-within c =
-    let ps = c.deref-2.result.now in
-    let needed : c.deref-5.result.now ≡ need c.args.n ps = c.deref-5.ensures.value ∙ (c.in_ok-needed.ensures ∙ (ap (needed_of c.args.n) c.deref-3.ensures.value ∙ c.in_ok-covered.ensures.needed)) in
-    subst (AreWithin c.args.n) (sym needed) (λ r o h. (need_had c.args.n ps r o h).0)
+pub gone_among-requires-clause-sorted : goal.gone_among-requires-clause-sorted
+gone_among-requires-clause-sorted c =
+    let n = c.args.n in
+    let cs = c.in_ok-covered.covered.items in
+    let numbers : c.deref-6.result.now ≡ positions_of n cs = c.deref-6.ensures.value ∙ (c.in_ok-numbers.ensures ∙ ap (positions_of n) c.deref-4.ensures.value) in
+    subst IsNonDecreasing (sym numbers) (rises_sorted n cs c.in_ok-covered.ensures.rises)
+
+pub gone_among-requires-clause-tell : goal.gone_among-requires-clause-tell
+gone_among-requires-clause-tell c =
+    let n = c.args.n in
+    let cs = c.in_ok-covered.covered.items in
+    let numbers : c.deref-6.result.now ≡ positions_of n cs = c.deref-6.ensures.value ∙ (c.in_ok-numbers.ensures ∙ ap (positions_of n) c.deref-4.ensures.value) in
+    subst (CoversTell n c.deref-5.result.now) (sym numbers)
+    (subst (λ l. CoversTell n l (positions_of n cs)) (c.deref-2.ensures.value ∙ sym c.deref-5.ensures.value) (positions_tell n c.deref-2.result.now cs c.in_ok-covered.ensures))
 
 pub invariant_of-result : goal.invariant_of-result
 invariant_of-result c =
@@ -72,13 +81,7 @@ invariant_of-result c =
     let cover = subst (λ l. IsCoverOf n l cs) c.deref-2.ensures.value c.in_ok-covered.ensures in
     let needed : c.in_ok-needed.needed.items ≡ need n ps = c.in_ok-needed.ensures ∙ (ap (needed_of n) c.deref-3.ensures.value ∙ cover.needed) in
     let numbers : c.in_ok-numbers.numbers.items ≡ positions_of n cs = c.in_ok-numbers.ensures ∙ ap (positions_of n) c.deref-4.ensures.value in
-    let kept = subst (λ l. CoversTell n l c.in_ok-kept.kept.items) (c.deref-6.ensures.value ∙ (c.in_ok-parents.ensures ∙ ap ups (c.deref-5.ensures.value ∙ needed))) c.in_ok-kept.ensures.tell in (
+    let gone : TellGone n ps c.in_ok-among.among.items c.in_ok-among.kept.items = subst (λ l. TellGone n l c.in_ok-among.among.items c.in_ok-among.kept.items) c.deref-5.ensures.value c.in_ok-among.ensures in (
       record { few = c.requires; counted = omega (arith, fits, c.if-positions.false); shape = shape },
-      record {
-        needed_is = needed;
-        cover_is = cover;
-        covered_up = subst IsNonDecreasing (sym numbers) (rises_sorted n cs cover.rises);
-        kept_up = c.in_ok-kept.ensures.sorted;
-        tell = gone_tell n ps shape c.in_ok-numbers.numbers.items c.in_ok-kept.kept.items (subst (CoversTell n ps) (sym numbers) (positions_tell n ps cs cover)) kept;
-      },
+      record { needed_is = needed; cover_is = cover; numbers_are = numbers; gone = gone },
     )

@@ -1,0 +1,43 @@
+use Rattle.std.proofs.Common.{◌≡◌, sym, ap, ◌∙◌, subst, arith}
+use Rattle.std.specs.List.Sorted.{IsNonDecreasing}
+use Rattle.forest_model.specs.Cover.{need}
+use Rattle.forest_model.proofs.Lists.{need_had}
+use Rattle.proof_shape.specs.Shape.{AreWithin}
+use Rattle.proof_shape.specs.Survey.{CoversTell}
+use Rattle.proof_shape.specs.Moves.{AreApart, GoneTell}
+use Rattle.proof_shape.proofs.Gone.{gone_tell, alone_tell}
+use Rattle.proof_shape.proofs.Parents.{ups, ups_within}
+use Rattle.proof_shape.proofs.leaving.gone_among.Goals as goal
+
+pub parents_of-requires-clause-within : goal.parents_of-requires-clause-within
+parents_of-requires-clause-within c =
+    subst (AreWithin c.args.n) (sym c.requires.needed) (λ r o h. (need_had c.args.n c.args.targets.now r o h).0)
+
+pub covered_positions-requires-clause-within : goal.covered_positions-requires-clause-within
+covered_positions-requires-clause-within c =
+    let is : c.deref-then-have_neighbours.result.now ≡ ups (need c.args.n c.args.targets.now) = c.deref-then-have_neighbours.ensures.value ∙ (c.in_ok-above.ensures ∙ ap ups c.requires.needed) in
+    subst (AreWithin c.args.n) (sym is) (ups_within c.args.n c.args.targets.now)
+
+pub returns-in_ok-from_slice : goal.returns-in_ok-from_slice
+returns-in_ok-from_slice c =
+    let n = c.args.n in
+    let ts = c.args.targets.now in
+    let same = sym c.in_ok-from_slice.ensures.items in
+    let is : c.deref-then-have_neighbours.result.now ≡ ups (need n ts) = c.deref-then-have_neighbours.ensures.value ∙ (c.in_ok-above.ensures ∙ ap ups c.requires.needed) in
+    record {
+      covered_up = subst IsNonDecreasing same c.requires.sorted;
+      kept_up = c.in_ok-kept.ensures.sorted;
+      tell = gone_tell n ts c.requires.shape _ _ (subst (CoversTell n ts) same c.requires.tell) (subst (λ l. CoversTell n l c.in_ok-kept.kept.items) is c.in_ok-kept.ensures.tell);
+    }
+
+pub returns-else-have_neighbours : goal.returns-else-have_neighbours
+returns-else-have_neighbours c =
+    let n = c.args.n in
+    let ts = c.args.targets.now in
+    let apart = subst AreApart c.deref.ensures.value (rw c.if-have_neighbours.false at c.have_neighbours.ensures) in
+    let empty = sym c.new.ensures.items in
+    record {
+      covered_up = c.in_ok-sorted.ensures.sorted;
+      kept_up = subst IsNonDecreasing empty (λ i j d le lt. absurd (omega (arith, lt)));
+      tell = subst (GoneTell n ts c.in_ok-sorted.sorted.items) empty (alone_tell n ts c.in_ok-sorted.sorted.items c.requires.within c.in_ok-sorted.ensures.same apart);
+    }
