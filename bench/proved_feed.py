@@ -3,7 +3,7 @@
 
 First come blocks whose coinbases make ENTRIES outputs, then a hundred blocks so that these ripen, then BLOCKS blocks that each
 spend SPENDS of them (drawn by a fixed rule) and make as many. What a node has to digest for the last ones goes to standard
-error, as two numbers: 128-byte blocks of SHA-512 for the forest, and bytes of SHA-256 for hashes and ids.
+error, as two numbers: blocks of SHA-512 for the forest (128 bytes each) and of SHA-256 for hashes and ids (64 bytes each).
 
 The forest is kept as explicit trees, by a program of its own that knows nothing of the node.
 """
@@ -21,6 +21,11 @@ LEAF_BLOCKS = 2  # a pair has one
 
 def sha256d(text):
     return hashlib.sha256(hashlib.sha256(text).digest()).digest()
+
+
+def blocks_of(length):
+    """Blocks that SHA-256 of SHA-256 goes over for a text of so many bytes: each text has at least nine bytes more."""
+    return (length + 9 + 63) // 64 + 1
 
 
 def digest(text):
@@ -180,6 +185,15 @@ def merkle(ids):
     return ids[0]
 
 
+def pairs(count):
+    """Pairs that are hashed for the merkle root of so many ids."""
+    total = 0
+    while count > 1:
+        count = (count + 1) // 2
+        total += count
+    return total
+
+
 class Chain:
     def __init__(self, out):
         self.out, self.height, self.tip, self.forest, self.hashed = out, 0, bytes(32), Forest(), 0
@@ -212,7 +226,7 @@ class Chain:
                     self.forest.add(entry.leaf)
                     made.append(entry)
         self.height += 1
-        self.hashed += sum(len(tx) + 64 for tx in txs) + 144 + 128 * (len(txs) - 1)
+        self.hashed += sum(blocks_of(len(tx)) for tx in txs) + blocks_of(80) + blocks_of(64) * pairs(len(txs))
         return made, self.forest.made - before + LEAF_BLOCKS * (len(spent) + len(made))
 
 
