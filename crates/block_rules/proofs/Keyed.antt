@@ -1,6 +1,6 @@
 -- Sets and maps by outpoint: what an insertion does.
-use Rattle.std.proofs.Common.{◌≡◌, ℕ, zero, suc, Bool, true, false, cond, List, [], ◌∷◌, ◌++◌, take, length, Option, Some, None, refl, sym, ap, ◌∙◌, ap₂, ⊎_elim, arith}
-use Rattle.std.specs.Prelude.{◌&&◌, ◌||◌, ◌==◌, bytes_eq, not, nat_lt, option_map, slice_get, if◌then◌else◌}
+use Rattle.std.proofs.Common.{◌≡◌, ℕ, Bool, true, false, cond, List, [], ◌∷◌, ◌++◌, length, Option, Some, None, refl, sym, ap, ◌∙◌, ap₂, ⊎_elim, arith}
+use Rattle.std.specs.Prelude.{◌&&◌, ◌||◌, ◌==◌, bytes_eq, not, nat_lt, option_map, if◌then◌else◌}
 use Rattle.std.specs.List.{list_any}
 use Rattle.std.specs.declared.cmp.Ordering.{Ordering}
 use Rattle.std.specs.declared.cmp.Ordering.TheVariants.{Less, Equal, Greater}
@@ -88,12 +88,6 @@ told-none p made e = by_case (newest p made) e
     by_case : (n : Option Entry) → None ≡ option_map (λ e. e.number) n → None ≡ option_map own_of n
     by_case None e = refl
     by_case (Some f) e = absurd (none-some f.number e)
-
--- of a list, one more
-pub named_on : (us : History) (k : ℕ) (u : Option Leaf) → slice_get us k ≡ Some u → take (suc k) us ≡ take k us ++ u ∷ []
-named_on [] k u e = absurd (none-some u e)
-named_on (v ∷ vs) zero u e = ap (λ x. x ∷ []) (same_Some v u e)
-named_on (v ∷ vs) (suc k) u e = ap (λ xs. v ∷ xs) (named_on vs k u e)
 
 -- what an insertion says of the set before
 pub was_there : (added was : Bool) → added ≡ not was → added ≡ false → was ≡ true
