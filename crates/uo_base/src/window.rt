@@ -1,5 +1,5 @@
 //! Bytes that were read ahead.
-ghost use Rattle.std.specs.Prelude.{◌≡◌, ◌≤◌, ◌++◌, [], length, take, min};
+ghost use Rattle.std.specs.Prelude.{◌≡◌, ◌≤◌, ◌++◌, [], length, take, min, OnErr};
 ghost use Rattle.std.specs.Io.{ReadsAtMost};
 ghost use Rattle.std.specs.Io.KnownBytes.{ReadConsumes};
 ghost use Rattle.uo_base.specs.Faults.{CountsRead};
@@ -45,6 +45,7 @@ impl Window {
         ensures bytes { ReadConsumes (prepend_known (ahead self.old) (T.remaining reader.old)) (prepend_known (ahead self.new) (T.remaining reader.new)) result into.new }
         // The same of what is held, also where the reader tells nothing.
         ensures held { GivesAhead (ahead self.old) (ahead self.new) result into.new }
+        ensures empty { OnErr result (ahead self.old ≡ []) }
         ensures later { faults.old ≤ faults.new }
         ensures counts { CountsRead result faults.old faults.new }
     {
