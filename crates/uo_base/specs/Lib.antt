@@ -1,3 +1,4 @@
+-- What public clauses cite. What only proofs and private functions cite is the last part of Reading, and `ahead`.
 pub mod Ahead
 pub mod Compact
 pub mod Faults

@@ -1,7 +1,8 @@
 //! Bytes that were read ahead.
-ghost use Rattle.std.specs.Prelude.{◌≡◌, ◌<◌, ◌≤◌, ◌++◌, [], length, take, min, IfOk, OnErr};
+ghost use Rattle.std.specs.Prelude.{◌≡◌, ◌≤◌, ◌++◌, [], length, take, min, OnErr};
 ghost use Rattle.std.specs.Io.{ReadsAtMost};
-ghost use Rattle.uo_base.specs.Faults.{Rose};
+ghost use Rattle.std.specs.Io.KnownBytes.{ReadConsumes};
+ghost use Rattle.uo_base.specs.Faults.{CountsRead};
 
 use crate::Failed;
 use std::io::Read;
@@ -19,7 +20,8 @@ pub struct Window {
 }
 
 impl Window {
-    ghost use Rattle.uo_base.specs.Ahead.{ahead};
+    ghost use Rattle.std.specs.Io.KnownBytes.{prepend_known};
+    ghost use Rattle.uo_base.specs.Ahead.{ahead, GivesAhead};
 
     pub fn new() -> Self
         ensures { ahead result ≡ [] }
@@ -39,10 +41,13 @@ impl Window {
         into: &mut [u8],
     ) -> Result<usize, Failed>
         ensures bound { ReadsAtMost result into.new }
-        ensures kept { IfOk result (λ n. 0 < length (ahead self.old) → ahead self.old ≡ take n into.new ++ ahead self.new) }
+        // What is held and what the reader tells are one text, and none is given only at its end.
+        ensures bytes { ReadConsumes (prepend_known (ahead self.old) (T.remaining reader.old)) (prepend_known (ahead self.new) (T.remaining reader.new)) result into.new }
+        // The same of what is held, also where the reader tells nothing.
+        ensures held { GivesAhead (ahead self.old) (ahead self.new) result into.new }
         ensures empty { OnErr result (ahead self.old ≡ []) }
         ensures later { faults.old ≤ faults.new }
-        ensures cause { OnErr result (Rose faults.old faults.new) }
+        ensures counts { CountsRead result faults.old faults.new }
     {
         if self.start == self.end {
             self.start = 0;
@@ -68,8 +73,9 @@ impl Window {
 // One read of a reader, whose error is counted.
 fn counted_read<T: Read>(reader: &mut T, faults: &mut u64, into: &mut [u8]) -> Result<usize, Failed>
     ensures bound { ReadsAtMost result into.new }
+    ensures bytes { ReadConsumes (T.remaining reader.old) (T.remaining reader.new) result into.new }
     ensures later { faults.old ≤ faults.new }
-    ensures cause { OnErr result (Rose faults.old faults.new) }
+    ensures counts { CountsRead result faults.old faults.new }
 {
     match reader.read(into) {
         Ok(count) => Ok(count),

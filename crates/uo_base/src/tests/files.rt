@@ -3,7 +3,7 @@ ghost use Rattle.std.specs.Prelude.{◌<◌};
 
 use crate::{Failed, FileSink, FileSource, Source, fill, put_all};
 use std::alloc::Global;
-use std::process::Abort;
+use std::fs::remove_file;
 use std::rt::Files;
 use std::test::Fail;
 
@@ -20,12 +20,12 @@ fn pattern(alloc: Global) -> Result<Vec<u8>, Fail> {
     Ok(bytes)
 }
 
-// Reads the file from its start in pieces of this size, and then its end.
-fn check_pieces<R: Abort + Files + AllocGlobal>(
+// Reads the file from its start in pieces of this size, and then its end, and says whether it is as it was written.
+fn reads_as_written<R: Files + AllocGlobal>(
     rt: &R,
     written: &[u8],
     size: usize,
-) -> Result<(), Fail>
+) -> Result<bool, Fail>
     requires { 0 < size }
 {
     let mut source = FileSource::new(rt, String::from_str(rt.alloc(), NAME)?);
@@ -33,21 +33,34 @@ fn check_pieces<R: Abort + Files + AllocGlobal>(
     piece.resize(size, 0)?;
     for expected in written.chunks(size) {
         let count = fill(&mut source, &mut piece);
-        assert!(rt; count == Ok(expected.len()));
-        assert!(rt; piece.get(..expected.len()) == Some(expected));
+        if count != Ok(expected.len()) || piece.get(..expected.len()) != Some(expected) {
+            return Ok(false);
+        }
     }
-    assert!(rt; source.read(&mut piece) == Ok(0));
-    Ok(())
+    Ok(source.read(&mut piece) == Ok(0))
 }
 
+fn all_are_read_again<R: Files + AllocGlobal>(rt: &R) -> Result<bool, Fail> {
+    let written = pattern(rt.alloc())?;
+    let mut sink = FileSink::new(rt, String::from_str(rt.alloc(), NAME)?);
+    if put_all(&mut sink, &written) != Ok(()) {
+        return Ok(false);
+    }
+    for size in [1, 3, 4_096, 65_535, 65_536, 65_537, 200_001, 300_000] {
+        if !reads_as_written(rt, &written, size)? {
+            return Ok(false);
+        }
+    }
+    Ok(true)
+}
+
+// The file is removed before anything is asserted, so that none stays, whatever comes.
 #[test]
 fn files_are_read_again(rt: HostRuntime) -> Result<(), Fail> {
-    let written = pattern(rt.alloc())?;
-    let mut sink = FileSink::new(&rt, String::from_str(rt.alloc(), NAME)?);
-    assert!(rt; put_all(&mut sink, &written) == Ok(()));
-    for size in [1, 3, 4_096, 65_535, 65_536, 65_537, 200_001, 300_000] {
-        check_pieces(&rt, &written, size)?;
-    }
+    let outcome = all_are_read_again(&rt);
+    let removed = remove_file(&rt, NAME).is_ok();
+    assert!(rt; outcome?);
+    assert!(rt; removed);
     Ok(())
 }
 
