@@ -2,7 +2,7 @@
 ghost use Rattle.std.specs.Prelude.{◌≡◌, ◌*◌, ◌<◌, ◌^◌, [], length, drop, IfOk, IfSome, IfNone};
 ghost use Rattle.block_codec.specs.Block.{txids_of};
 ghost use Rattle.block_codec.specs.Merkle.{hash_over, paired, repeats_from, merkle_of, IsMerkle};
-ghost use Rattle.block_codec.specs.Pairs.{BeginsWith, PairGives};
+ghost use Rattle.block_codec.specs.Pairs.{HasFirst, PairGives};
 
 use crate::block_view::BlockView;
 use std::alloc::Global;
@@ -46,7 +46,7 @@ fn hash_above(level: &[Digest], pair: usize) -> Option<Digest>
 /// Puts the level above in the place of a level. It stops at the first repeat, and answers its place.
 fn raise(hashes: &mut Vec<Digest>) -> Option<u32>
     requires { length hashes.old.items < 2 ^ 32 }
-    ensures first { IfSome result (λ place. BeginsWith place (repeats_from 0 hashes.old.items)) }
+    ensures first { IfSome result (λ place. HasFirst place (repeats_from 0 hashes.old.items)) }
     ensures none { IfNone result (repeats_from 0 hashes.old.items ≡ []) }
     ensures above { IfNone result (hashes.new.items ≡ paired hashes.old.items) }
 {
