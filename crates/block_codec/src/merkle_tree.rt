@@ -78,12 +78,21 @@ fn climb(mut hashes: Vec<Digest>) -> MerkleOutcome
     MerkleOutcome::Root(hashes[0])
 }
 
-/// The root of the merkle tree over the block's ids, or the first repeat in it. A level pairs the neighbours of the one below
-/// and hashes each pair, an odd last one with itself, until one hash is left.
+/// The root of the merkle tree over these ids, or the first repeat in it. A level pairs the neighbours of the one below and
+/// hashes each pair, an odd last one with itself, until one hash is left.
+pub fn merkle_root_of(alloc: Global, ids: &[Digest]) -> Result<MerkleOutcome, NoMemory>
+    requires some { 0 < length ids.now }
+    requires few { length ids.now < 2 ^ 32 }
+    ensures exact { IfOk result (λ outcome. outcome ≡ merkle_of ids.now) }
+    ensures meaning { IfOk result (IsMerkle ids.now) }
+{
+    Ok(climb(Vec::from_slice(alloc, ids)?))
+}
+
+/// What `merkle_root_of` gives of the block's ids: the header should claim this root.
 pub fn merkle(alloc: Global, block: &BlockView<'_>) -> Result<MerkleOutcome, NoMemory>
     ensures exact { IfOk result (λ outcome. outcome ≡ merkle_of (txids_of block.now)) }
     ensures meaning { IfOk result (IsMerkle (txids_of block.now)) }
 {
-    let hashes = Vec::from_slice(alloc, &block.txids)?;
-    Ok(climb(hashes))
+    merkle_root_of(alloc, &block.txids)
 }

@@ -7,10 +7,9 @@
 
 mod block;
 mod fault;
-mod txs;
-
 #[cfg(test)]
 mod tests;
+mod txs;
 
 pub use block::{Sample, block_behind};
 pub use fault::SampleFault;
