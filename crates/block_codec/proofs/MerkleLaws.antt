@@ -10,7 +10,7 @@ use Rattle.uo_base.proofs.Formats.{found, some_is}
 use Rattle.uo_digest.specs.declared.digest.Digest.{Digest}
 use Rattle.block_codec.specs.Merkle.{is_same, paired, level_above, level, repeats_from, repeats, merkle_of, IsRepeat, IsFirstRepeat, IsRoot}
 use Rattle.block_codec.specs.declared.merkle_tree.MerkleOutcome.TheVariants.{Root, Repeated}
-use Rattle.block_codec.specs.Pairs.{BeginsWith}
+use Rattle.block_codec.specs.Pairs.{HasFirst}
 
 -- ---- levels
 
@@ -99,7 +99,7 @@ unshifted x y xs q r = record {
 head-is : (a b : ℕ) (xs ys : List ℕ) → a ∷ xs ≡ b ∷ ys → a ≡ b
 head-is a b xs ys e = cc
 
-pub first-repeat : (xs : List Digest) (p place : ℕ) → BeginsWith place (repeats_from p xs) → FirstAt xs p place
+pub first-repeat : (xs : List Digest) (p place : ℕ) → HasFirst place (repeats_from p xs) → FirstAt xs p place
 unfolding repeats_from
 first-repeat [] p place begins = absurd (none-longer place begins.0 (sym begins.1))
 first-repeat (x ∷ []) p place begins = absurd (none-longer place begins.0 (sym begins.1))
@@ -124,7 +124,7 @@ first-repeat (x ∷ y ∷ xs) p place begins = by_test (first-repeat xs (p + 2) 
     none (suc zero) lt h = absurd (omega (arith, h.even))
     none (suc (suc r)) lt h = f.before r (omega arith) (shifted x y xs r h)
 
-  by_test : (BeginsWith place (repeats_from (p + 2) xs) → FirstAt xs (p + 2) place) → (b : Bool) → is_same x y ≡ b → FirstAt (x ∷ y ∷ xs) p place
+  by_test : (HasFirst place (repeats_from (p + 2) xs) → FirstAt xs (p + 2) place) → (b : Bool) → is_same x y ≡ b → FirstAt (x ∷ y ∷ xs) p place
   by_test others true same = here same
   by_test others false differ = later differ (others (begins.0, rw differ at begins.1))
 
@@ -136,16 +136,16 @@ flat-none g a (suc n) none =
     let here : g a ≡ [] = none a (omega arith) (omega arith) in
     rw (flat_map-cons, here) (flat-none g (a + 1) n (λ l le lt. none l (omega arith) (omega arith)))
 
-flat-first : {X : Type 0} (g : ℕ → List X) (a n k : ℕ) (x : X) → a ≤ k → k < a + n → ((l : ℕ) → a ≤ l → l < k → g l ≡ []) → BeginsWith x (g k) → BeginsWith x (flat_map g (range_with_len a n))
+flat-first : {X : Type 0} (g : ℕ → List X) (a n k : ℕ) (x : X) → a ≤ k → k < a + n → ((l : ℕ) → a ≤ l → l < k → g l ≡ []) → HasFirst x (g k) → HasFirst x (flat_map g (range_with_len a n))
 flat-first g a zero k x le lt none begins = absurd (omega arith)
 flat-first {X = X} g a (suc n) k x le lt none begins = by_order (flat-first g (a + 1) n k x) (cases_lt a k) where
   rest : List X
   rest = flat_map g (range_with_len (a + 1) n)
 
-  here : a ≡ k → BeginsWith x (flat_map g (range_with_len a (suc n)))
+  here : a ≡ k → HasFirst x (flat_map g (range_with_len a (suc n)))
   here same = (begins.0 ++ rest, rw (flat_map-cons, same, begins.1) refl)
 
-  by_order : (a + 1 ≤ k → k < a + 1 + n → ((l : ℕ) → a + 1 ≤ l → l < k → g l ≡ []) → BeginsWith x (g k) → BeginsWith x rest) → (a < k) ⊎ (k ≤ a) → BeginsWith x (flat_map g (range_with_len a (suc n)))
+  by_order : (a + 1 ≤ k → k < a + 1 + n → ((l : ℕ) → a + 1 ≤ l → l < k → g l ≡ []) → HasFirst x (g k) → HasFirst x rest) → (a < k) ⊎ (k ≤ a) → HasFirst x (flat_map g (range_with_len a (suc n)))
   by_order others (inr ge) = here (omega arith)
   by_order others (inl below) =
       let first : g a ≡ [] = none a (omega arith) below in
@@ -159,10 +159,10 @@ of_level ids k = map (λ place. (k, place)) (repeats_from 0 (level ids k))
 abbrev pub Clear : List Digest → ℕ → Type 0
 Clear ids k = (l : ℕ) → l < k → repeats_from 0 (level ids l) ≡ []
 
-merkle-repeat : (ids : List Digest) (k place : ℕ) → k < length ids → Clear ids k → BeginsWith place (repeats_from 0 (level ids k)) → merkle_of ids ≡ Repeated k place
+merkle-repeat : (ids : List Digest) (k place : ℕ) → k < length ids → Clear ids k → HasFirst place (repeats_from 0 (level ids k)) → merkle_of ids ≡ Repeated k place
 merkle-repeat ids k place lt clear begins =
-    let here : BeginsWith (k, place) (of_level ids k) = (map (λ p. (k, p)) begins.0, rw begins.1 refl) in
-    let first : BeginsWith (k, place) (repeats ids) = flat-first (of_level ids) 0 (length ids) k (k, place) (omega arith) (omega arith) (λ l le below. rw (clear l below) refl) here in
+    let here : HasFirst (k, place) (of_level ids k) = (map (λ p. (k, p)) begins.0, rw begins.1 refl) in
+    let first : HasFirst (k, place) (repeats ids) = flat-first (of_level ids) 0 (length ids) k (k, place) (omega arith) (omega arith) (λ l le below. rw (clear l below) refl) here in
     rw first.1 refl
 
 root-of : (ids : List Digest) (k : ℕ) (root : Digest) → k ≤ length ids → Clear ids k → level ids k ≡ root ∷ [] → merkle_of ids ≡ Root root
@@ -222,9 +222,9 @@ climbed-more ids hashes above k lt none is c =
       by_order l (inl below) before = c.clear l below
       by_order l (inr at) before = let same : l ≡ k = omega arith in rw (same, c.level_is) none
 
-pub climbed-repeat : (ids hashes : List Digest) (k place : ℕ) → 1 < length hashes → BeginsWith place (repeats_from 0 hashes) → Climbed ids hashes k → (merkle_of ids ≡ Repeated k place) × IsFirstRepeat ids k place
+pub climbed-repeat : (ids hashes : List Digest) (k place : ℕ) → 1 < length hashes → HasFirst place (repeats_from 0 hashes) → Climbed ids hashes k → (merkle_of ids ≡ Repeated k place) × IsFirstRepeat ids k place
 climbed-repeat ids hashes k place lt begins c =
-    let at_level : BeginsWith place (repeats_from 0 (level ids k)) = rw c.level_is begins in
+    let at_level : HasFirst place (repeats_from 0 (level ids k)) = rw c.level_is begins in
     let first = first-repeat (level ids k) 0 place at_level in
     let at : first.at ≡ place = omega (arith, first.is) in (
       merkle-repeat ids k place (omega (arith, c.fewer)) c.clear at_level,

@@ -5,7 +5,7 @@ use Rattle.std.proofs.Math.ListN.{length-set}
 use Rattle.std.proofs.Math.Seq.{drop-cons}
 use Rattle.uo_digest.specs.declared.digest.Digest.{Digest}
 use Rattle.block_codec.specs.Merkle.{hash_over, is_same, paired, repeats_from}
-use Rattle.block_codec.specs.Pairs.{BeginsWith, PairGives}
+use Rattle.block_codec.specs.Pairs.{HasFirst, PairGives}
 
 -- ---- what is left of a level
 
@@ -70,7 +70,7 @@ raised-more start now i hash lt gives r =
       none = r.none ∙ gives.1 (2 * i) ∙ rw (left, next) refl;
     }
 
-pub raised-repeat : (start now : List Digest) (i : ℕ) → PairGives None (drop (2 * i) now) → Raised start now i → BeginsWith (2 * i) (repeats_from 0 start)
+pub raised-repeat : (start now : List Digest) (i : ℕ) → PairGives None (drop (2 * i) now) → Raised start now i → HasFirst (2 * i) (repeats_from 0 start)
 raised-repeat start now i gives r = (repeats_from (2 * i + 2) (drop 2 (drop (2 * i) now)), r.none ∙ gives (2 * i))
 
 pub raised-none : (start now : List Digest) (i : ℕ) → length now ≤ 2 * i → Raised start now i → repeats_from 0 start ≡ []

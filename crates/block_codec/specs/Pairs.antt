@@ -3,9 +3,9 @@ use Rattle.std.specs.Prelude.{◌≡◌, ℕ, ◌+◌, List, ◌∷◌, drop, Op
 use Rattle.uo_digest.specs.declared.digest.Digest.{Digest}
 use Rattle.block_codec.specs.Merkle.{paired, repeats_from}
 
--- the list has this at its front
-abbrev pub BeginsWith : {X : Type 0} → X → List X → Type 0
-BeginsWith {X = X} x xs = (others : List X) × (xs ≡ x ∷ others)
+-- this stands first in the list
+abbrev pub HasFirst : {X : Type 0} → X → List X → Type 0
+HasFirst {X = X} x xs = (others : List X) × (xs ≡ x ∷ others)
 
 -- a hash, which stands above the first pair of what is left of a level; or none where that pair is a repeat
 abbrev pub PairGives : Option Digest → List Digest → Type 0

@@ -1,8 +1,8 @@
 -- Reading a block from left to right.
 use Rattle.std.specs.Prelude.{◌≡◌, ℕ, List, length, Option, Some, None, Result, Ok, Err, option_map, ◌==◌, if◌then◌else◌}
 use Rattle.std.specs.Int.{w32}
-use Rattle.uo_base.specs.Reading.{◌>>=◌, bytes_at, number_at, times}
-use Rattle.uo_digest.specs.declared.digest.Digest.{Digest}
+use Rattle.uo_base.specs.Reading.{◌>>=◌, number_at, times}
+use Rattle.uo_digest.specs.Reading.{digest_in_front}
 use Rattle.tx_codec.specs.Transaction.{Transaction}
 use Rattle.tx_codec.specs.Reading.{some_count_at, tx_at}
 use Rattle.block_codec.specs.declared.fault.BlockFault.{BlockFault}
@@ -10,16 +10,11 @@ use Rattle.block_codec.specs.declared.fault.BlockFault.TheVariants.{NotABlock, N
 use Rattle.block_codec.specs.declared.header.HeaderView.{HeaderView}
 use Rattle.block_codec.specs.Block.{Block}
 
-unfoldable pub digest_at : List ℕ → Option (Digest × List ℕ)
-digest_at bytes = do
-  digest ← bytes_at 32 bytes
-  Some (record { 0 = digest.0 }, digest.1)
-
 unfoldable pub header_at : List ℕ → Option (HeaderView × List ℕ)
 header_at bytes = do
   version ← number_at w32 bytes
-  prev ← digest_at version.1
-  merkle ← digest_at prev.1
+  prev ← digest_in_front version.1
+  merkle ← digest_in_front prev.1
   time ← number_at w32 merkle.1
   bits ← number_at w32 time.1
   nonce ← number_at w32 bits.1
@@ -46,14 +41,12 @@ whole_at bytes = do
 abbrev pub block_in : List ℕ → Option Block
 block_in bytes = option_map (λ p. p.0) (whole_at bytes)
 
--- What a call that takes memory answered is the block of a text, or that it is none.
-abbrev pub Answers : Result Block BlockFault → Option Block → Type 0
-Answers (Ok b) found = found ≡ Some b
-Answers (Err NotABlock) found = found ≡ None
-Answers (Err NoMemory) found = Unit {0}
+-- What a fault says of a text, from "it is the text of no block".
+abbrev pub claims : BlockFault → Type 0 → Type 0
+claims NotABlock none = none
+claims NoMemory none = Unit {0}
 
--- What a call that takes memory answered and left is what reading gives.
-abbrev pub GivesOrFails : {X A : Type 0} → (X → A) → Result X BlockFault → List ℕ → Option (A × List ℕ) → Type 0
-GivesOrFails view (Ok x) left read = read ≡ Some (view x, left)
-GivesOrFails view (Err NotABlock) left read = read ≡ None
-GivesOrFails view (Err NoMemory) left read = Unit {0}
+-- What a call that takes memory answered is the block that was found in a text, or that there is none.
+abbrev pub IsWhatWasFound : Result Block BlockFault → Option Block → Type 0
+IsWhatWasFound (Ok b) found = found ≡ Some b
+IsWhatWasFound (Err fault) found = claims fault (found ≡ None)

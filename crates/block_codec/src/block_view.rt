@@ -21,11 +21,11 @@ pub struct BlockView<'a> {
 
 impl<'a> Model for BlockView<'a> {
     ghost use Rattle.std.specs.Prelude.{◌≡◌};
-    ghost use Rattle.block_codec.specs.Block.{Block, block_hash_of};
+    ghost use Rattle.block_codec.specs.Block.{Block, block_of, block_hash_of};
 
     ghost Value = { Block };
 
-    ghost use Rattle.block_codec.specs.Views.{block_of, IsBlockView};
+    ghost use Rattle.block_codec.specs.Views.{IsBlockView};
 
     ghost view = { λ s. block_of s.header s.txs.items };
 

@@ -15,7 +15,7 @@ mod writing;
 pub use block_view::{BlockView, block_hash, weight};
 pub use fault::BlockFault;
 pub use header::HeaderView;
-pub use merkle_tree::{MerkleOutcome, merkle};
+pub use merkle_tree::{MerkleOutcome, merkle, merkle_root_of};
 pub use reading::read_block;
 pub use writing::{one_block, write_block};
 

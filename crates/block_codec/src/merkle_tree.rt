@@ -2,7 +2,7 @@
 ghost use Rattle.std.specs.Prelude.{◌≡◌, ◌*◌, ◌<◌, ◌^◌, [], length, drop, IfOk, IfSome, IfNone};
 ghost use Rattle.block_codec.specs.Block.{txids_of};
 ghost use Rattle.block_codec.specs.Merkle.{hash_over, paired, repeats_from, merkle_of, IsMerkle};
-ghost use Rattle.block_codec.specs.Pairs.{BeginsWith, PairGives};
+ghost use Rattle.block_codec.specs.Pairs.{HasFirst, PairGives};
 
 use crate::block_view::BlockView;
 use std::alloc::Global;
@@ -46,7 +46,7 @@ fn hash_above(level: &[Digest], pair: usize) -> Option<Digest>
 /// Puts the level above in the place of a level. It stops at the first repeat, and answers its place.
 fn raise(hashes: &mut Vec<Digest>) -> Option<u32>
     requires { length hashes.old.items < 2 ^ 32 }
-    ensures first { IfSome result (λ place. BeginsWith place (repeats_from 0 hashes.old.items)) }
+    ensures first { IfSome result (λ place. HasFirst place (repeats_from 0 hashes.old.items)) }
     ensures none { IfNone result (repeats_from 0 hashes.old.items ≡ []) }
     ensures above { IfNone result (hashes.new.items ≡ paired hashes.old.items) }
 {
@@ -78,12 +78,21 @@ fn climb(mut hashes: Vec<Digest>) -> MerkleOutcome
     MerkleOutcome::Root(hashes[0])
 }
 
-/// The root of the merkle tree over the block's ids, or the first repeat in it. A level pairs the neighbours of the one below
-/// and hashes each pair, an odd last one with itself, until one hash is left.
+/// The root of the merkle tree over these ids, or the first repeat in it. A level pairs the neighbours of the one below and
+/// hashes each pair, an odd last one with itself, until one hash is left.
+pub fn merkle_root_of(alloc: Global, ids: &[Digest]) -> Result<MerkleOutcome, NoMemory>
+    requires some { 0 < length ids.now }
+    requires few { length ids.now < 2 ^ 32 }
+    ensures exact { IfOk result (λ outcome. outcome ≡ merkle_of ids.now) }
+    ensures meaning { IfOk result (IsMerkle ids.now) }
+{
+    Ok(climb(Vec::from_slice(alloc, ids)?))
+}
+
+/// What `merkle_root_of` gives of the block's ids: the header should claim this root.
 pub fn merkle(alloc: Global, block: &BlockView<'_>) -> Result<MerkleOutcome, NoMemory>
     ensures exact { IfOk result (λ outcome. outcome ≡ merkle_of (txids_of block.now)) }
     ensures meaning { IfOk result (IsMerkle (txids_of block.now)) }
 {
-    let hashes = Vec::from_slice(alloc, &block.txids)?;
-    Ok(climb(hashes))
+    merkle_root_of(alloc, &block.txids)
 }

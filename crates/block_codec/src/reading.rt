@@ -1,13 +1,12 @@
 //! Reading a block.
 ghost use Rattle.std.specs.Prelude.{◌≡◌, ◌<◌, ◌≤◌, ◌^◌, [], length, map, take, IfSome, IfOk, IsErrOf};
 ghost use Rattle.sha2.specs.Sha256.{sha256};
-ghost use Rattle.uo_base.specs.Reading.{Gives, Splits, times};
+ghost use Rattle.uo_base.specs.Reading.{Gives, GivesOrFails, Splits, times};
 ghost use Rattle.tx_codec.specs.Reading.{some_count_at, tx_at};
 ghost use Rattle.block_codec.specs.declared.fault.BlockFault.TheVariants.{NotABlock};
 ghost use Rattle.tx_codec.specs.Ids.{txid_of};
-ghost use Rattle.block_codec.specs.Block.{Block, BlockFits, block_text};
-ghost use Rattle.block_codec.specs.Reading.{digest_at, header_at, whole_at, block_in, Answers, GivesOrFails};
-ghost use Rattle.block_codec.specs.Views.{block_of};
+ghost use Rattle.block_codec.specs.Block.{Block, BlockFits, block_of, block_text};
+ghost use Rattle.block_codec.specs.Reading.{header_at, whole_at, block_in, claims, IsWhatWasFound};
 
 use crate::block_view::BlockView;
 use crate::fault::BlockFault;
@@ -17,21 +16,13 @@ use tx_codec::{TxView, read_tx};
 use uo_base::Cursor;
 use uo_digest::{Digest, sha256d};
 
-#[tactic(auto, unfolding(crate::specs::Reading::digest_at))]
-fn read_digest(at: &mut Cursor<'_>) -> Option<Digest>
-    ensures { Gives (λ d. d) result at.new (digest_at at.old) }
-{
-    let bytes = at.take(32)?;
-    Some(Digest::from_bytes(bytes))
-}
-
 #[tactic(auto, unfolding(crate::specs::Reading::header_at))]
 fn read_header(at: &mut Cursor<'_>) -> Option<HeaderView>
     ensures { Gives (λ h. h) result at.new (header_at at.old) }
 {
     let version = at.u32()?;
-    let prev = read_digest(at)?;
-    let merkle = read_digest(at)?;
+    let prev = Digest::read(at)?;
+    let merkle = Digest::read(at)?;
     let time = at.u32()?;
     let bits = at.u32()?;
     let nonce = at.u32()?;
@@ -83,7 +74,7 @@ fn front_count(text: &[u8]) -> Option<(u64, &[u8])>
 
 fn read_one<'a>(at: &mut Cursor<'a>) -> Result<TxView<'a>, BlockFault>
     requires { length at.old < 2 ^ 32 }
-    ensures exact { GivesOrFails (λ tx. tx) result at.new (tx_at at.old) }
+    ensures exact { GivesOrFails (λ tx. tx) claims result at.new (tx_at at.old) }
     ensures short { length at.new < 2 ^ 32 }
 {
     match read_tx(at) {
@@ -98,7 +89,7 @@ fn read_txs<'a>(
     count: u64,
 ) -> Result<Vec<TxView<'a>>, BlockFault>
     requires { length at.old < 2 ^ 32 }
-    ensures { GivesOrFails (λ txs. txs.items) result at.new (times tx_at count at.old) }
+    ensures { GivesOrFails (λ txs. txs.items) claims result at.new (times tx_at count at.old) }
 {
     let mut txs = Vec::new(alloc);
     for _ in 0..count {
@@ -115,7 +106,7 @@ fn read_parts<'a>(
     text: &'a [u8],
 ) -> Result<(HeaderView, Vec<TxView<'a>>), BlockFault>
     requires { length text.now < 2 ^ 32 }
-    ensures { GivesOrFails (λ p. block_of p.0 p.1.items) result [] (whole_at text.now) }
+    ensures { GivesOrFails (λ p. block_of p.0 p.1.items) claims result [] (whole_at text.now) }
 {
     let Some((header, rest)) = front_header(text) else {
         return Err(BlockFault::NotABlock);
@@ -160,7 +151,7 @@ pub fn read_block(alloc: Global, text: &[u8]) -> Result<BlockView<'_>, BlockFaul
     ensures found { IfOk result (λ b. BlockFits b × (text.now ≡ block_text b)) }
     // It is refused only where it is the text of no block.
     ensures none { IsErrOf result NotABlock → (b : Block) → BlockFits b → text.now ≡ block_text b → ⊥ }
-    ensures exact { Answers result (block_in text.now) }
+    ensures exact { IsWhatWasFound result (block_in text.now) }
 {
     let (header, txs) = read_parts(alloc, text)?;
     let txids = ids_of(alloc, &txs)?;

@@ -5,8 +5,7 @@ ghost use Rattle.uo_base.specs.Compact.{counted};
 ghost use Rattle.uo_base.specs.Moved.{Grew};
 ghost use Rattle.uo_base.specs.Reading.{OneReading};
 ghost use Rattle.tx_codec.specs.Transaction.{IsWritable, Fits, tx_text};
-ghost use Rattle.block_codec.specs.Block.{header_text, block_text, HeaderFits, BlockFits};
-ghost use Rattle.block_codec.specs.Views.{block_of};
+ghost use Rattle.block_codec.specs.Block.{block_of, header_text, block_text, HeaderFits, BlockFits};
 
 use crate::header::HeaderView;
 use tx_codec::{Tx, write_tx};

@@ -5,7 +5,7 @@ use Rattle.uo_digest.specs.declared.digest.Digest.{Digest}
 use Rattle.tx_codec.specs.Transaction.{Input, Output, Transaction}
 use Rattle.tx_codec.specs.Ids.{txid_of}
 use Rattle.block_codec.specs.Block.{Block, block_hash_of}
-use Rattle.leaf_record.specs.Leaf.{Outpoint, Leaf}
+use Rattle.leaf_record.specs.Leaf.{Outpoint, Leaf, longest_script}
 use Rattle.leaf_record.specs.History.{somes, History, Entry, newest}
 use Rattle.block_rules.specs.declared.chain.Outside.{Outside}
 
@@ -38,7 +38,7 @@ begins_with_return (code ∷ codes) = code == 106
 
 -- no longer than any script that can be run
 abbrev pub is_spendable : Output → Bool
-is_spendable output = not (begins_with_return output.script) && nat_le (length output.script) 10000
+is_spendable output = not (begins_with_return output.script) && nat_le (length output.script) longest_script
 
 -- what made an output: the block, its height, whether the transaction is the coinbase, and its id
 pub record Origin : Type 0 where

@@ -2,12 +2,13 @@
 ghost use Rattle.std.specs.Prelude.{◌≡◌, ◌<◌, ◌≤◌, ◌+◌, ◌++◌, ◌^◌, length, take, map, option_map, Some, [], ◌∷◌, IfOk, OnOk};
 ghost use Rattle.tx_codec.specs.Views.{output_of};
 ghost use Rattle.leaf_record.specs.History.{newest};
+ghost use Rattle.leaf_record.specs.Leaf.{longest_script};
 ghost use Rattle.block_rules.specs.Blocks.{is_spendable, leaf_of, made_from};
 ghost use Rattle.block_rules.specs.Money.{found_of};
 
 use crate::chain::Found;
 use crate::outpoint::{OutpointKey, key_of_record};
-use leaf_record::RecordView;
+use leaf_record::{MAX_SCRIPT, RecordView};
 use std::alloc::Global;
 use std::collections::BTreeMap;
 use tx_codec::{OutView, TxView};
@@ -15,8 +16,6 @@ use uo_base::NoMemory;
 use uo_digest::Digest;
 
 const OP_RETURN: u8 = 0x6a;
-
-const LONGEST_SCRIPT: usize = 10_000;
 
 /// An output of the block that an input of it spends: its number among those made so far, and what it is.
 #[derive(Clone, Copy, Debug, PartialEq, Eq)]
@@ -145,12 +144,12 @@ impl<'a> Made<'a> {
 fn is_spendable(output: &OutView<'_>) -> bool
     ensures { result ≡ is_spendable (output_of output.now) }
 {
-    output.script.first() != Some(&OP_RETURN) && output.script.len() <= LONGEST_SCRIPT
+    output.script.first() != Some(&OP_RETURN) && output.script.len() <= MAX_SCRIPT
 }
 
 fn record_of<'a>(maker: &Maker, index: u32, output: &OutView<'a>) -> RecordView<'a>
     requires height { maker.now.height < 2 ^ 31 }
-    requires script { length output.now.script.now ≤ 10000 }
+    requires script { length output.now.script.now ≤ longest_script }
     ensures { result ≡ record {
       point = record { txid = maker.now.txid; index = index };
       rest = record { block = maker.now.block; height = maker.now.height; coinbase = maker.now.coinbase; amount = output.now.amount; script = output.now.script.now };

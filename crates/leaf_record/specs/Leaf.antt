@@ -4,6 +4,7 @@ use Rattle.std.specs.Int.{w32, w64, to_le_bytes}
 use Rattle.sha2.specs.Sha512.{sha512}
 use Rattle.uo_base.specs.Compact.{sized}
 use Rattle.uo_digest.specs.declared.digest.Digest.{Digest}
+use Rattle.uo_digest.specs.Reading.{IsDigest}
 
 -- an output's name: the id of the transaction that made it, and its index there
 pub record Outpoint : Type 0 where
@@ -48,13 +49,17 @@ leaf_text l =
 
 -- ---- which have a text
 
+-- the most bytes that a script has that can be run, so an output with a longer one can not be spent
+abbrev pub longest_script : ℕ
+longest_script = 10000
+
 pub record RestFits (r : Rest) : Type 0 where
-  pub block : length r.block.0 ≡ 32
+  pub block : IsDigest r.block
   pub height : r.height < 2 ^ 31
   pub amount : r.amount < 2 ^ 64
-  pub script : length r.script ≤ 10000
+  pub script : length r.script ≤ longest_script
 
 pub record LeafFits (l : Leaf) : Type 0 where
-  pub txid : length l.point.txid.0 ≡ 32
+  pub txid : IsDigest l.point.txid
   pub index : l.point.index < 2 ^ 32
   pub rest : RestFits l.rest

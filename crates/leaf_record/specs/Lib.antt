@@ -1,4 +1,5 @@
+-- what public clauses cite
 pub mod Leaf
 pub mod History
-pub mod Reading
 pub mod Laws
+pub mod Reading

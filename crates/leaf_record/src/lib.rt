@@ -1,7 +1,7 @@
 //! The outputs that the forest holds: records of them, the text that each is hashed as, and its digest.
 //!
 //! A record has an output's name (the transaction's id and the index) and a rest: the hash and the height of the block that
-//! made it, whether the block's coinbase did, the amount in satoshis and the script. A proof message shows rests, since the
+//! made it, whether the block's coinbase did, the amount in satoshi and the script. A proof message shows rests, since the
 //! block that spends the outputs names them. [`Record`] owns its script; [`RecordView`] and [`RestView`] have it in a source.
 //!
 //! A rest is spelled as the block's hash (32 bytes), a code (4: twice the height, and one more for a coinbase output), the

@@ -25,7 +25,7 @@ pub struct Record {
     pub height: u32,
     /// Whether the block's coinbase made it.
     pub coinbase: bool,
-    /// The amount in satoshis.
+    /// The amount in satoshi.
     pub amount: u64,
     /// The locking script, of at most 10,000 bytes.
     pub script: Vec<u8>,
@@ -33,13 +33,13 @@ pub struct Record {
 
 impl Model for Record {
     ghost use Rattle.std.specs.Prelude.{◌<◌, ◌≤◌, ◌^◌, length};
-    ghost use Rattle.leaf_record.specs.Leaf.{Outpoint, Rest, Leaf};
+    ghost use Rattle.leaf_record.specs.Leaf.{Outpoint, Rest, Leaf, longest_script};
 
     ghost Value = { Leaf };
 
     ghost view = { λ r. record { point = record { txid = r.txid; index = r.index }; rest = record { block = r.block; height = r.height; coinbase = r.coinbase; amount = r.amount; script = r.script.items } } };
 
-    ghost invariant = { λ r. (r.height < 2 ^ 31) × (length r.script.items ≤ 10000) };
+    ghost invariant = { λ r. (r.height < 2 ^ 31) × (length r.script.items ≤ longest_script) };
 }
 
 /// The same where the script lies in a source.
@@ -65,13 +65,13 @@ pub struct RecordView<'a> {
 
 impl<'a> Model for RecordView<'a> {
     ghost use Rattle.std.specs.Prelude.{◌<◌, ◌≤◌, ◌^◌, length};
-    ghost use Rattle.leaf_record.specs.Leaf.{Outpoint, Rest, Leaf};
+    ghost use Rattle.leaf_record.specs.Leaf.{Outpoint, Rest, Leaf, longest_script};
 
     ghost Value = { Leaf };
 
     ghost view = { λ r. record { point = record { txid = r.txid; index = r.index }; rest = record { block = r.block; height = r.height; coinbase = r.coinbase; amount = r.amount; script = r.script.now } } };
 
-    ghost invariant = { λ r. (r.height < 2 ^ 31) × (length r.script.now ≤ 10000) };
+    ghost invariant = { λ r. (r.height < 2 ^ 31) × (length r.script.now ≤ longest_script) };
 }
 
 /// What a record is without the output's name, as a message shows it.
@@ -93,13 +93,13 @@ pub struct RestView<'a> {
 
 impl<'a> Model for RestView<'a> {
     ghost use Rattle.std.specs.Prelude.{◌<◌, ◌≤◌, ◌^◌, length};
-    ghost use Rattle.leaf_record.specs.Leaf.{Rest};
+    ghost use Rattle.leaf_record.specs.Leaf.{Rest, longest_script};
 
     ghost Value = { Rest };
 
     ghost view = { λ r. record { block = r.block; height = r.height; coinbase = r.coinbase; amount = r.amount; script = r.script.now } };
 
-    ghost invariant = { λ r. (r.height < 2 ^ 31) × (length r.script.now ≤ 10000) };
+    ghost invariant = { λ r. (r.height < 2 ^ 31) × (length r.script.now ≤ longest_script) };
 }
 
 impl<'a> RestView<'a> {

@@ -3,7 +3,7 @@ ghost use Rattle.std.specs.Prelude.{◌≡◌, ◌+◌, ◌<◌, ◌≤◌, ◌+
 ghost use Rattle.uo_base.specs.Moved.{Grew};
 ghost use Rattle.uo_base.specs.Reading.{Gives, Splits, Finds, Reads};
 ghost use Rattle.uo_base.specs.Compact.{sized};
-ghost use Rattle.leaf_record.specs.Leaf.{RestFits, payload_text, rest_text};
+ghost use Rattle.leaf_record.specs.Leaf.{RestFits, longest_script, payload_text, rest_text};
 ghost use Rattle.leaf_record.specs.Reading.{short_count_at, script_at, rest_at};
 
 use crate::record::{MAX_SCRIPT, RestView};
@@ -13,7 +13,7 @@ use uo_digest::Digest;
 #[tactic(auto, unfolding(crate::specs::Reading::short_count_at))]
 fn read_short_count(at: &mut Cursor<'_>) -> Option<usize>
     ensures exact { Gives (λ n. n) result at.new (short_count_at at.old) }
-    ensures short { IfSome result (λ n. n ≤ 10000) }
+    ensures short { IfSome result (λ n. n ≤ longest_script) }
 {
     let count = at.compact()?;
     if count <= MAX_SCRIPT as u64 {
@@ -26,7 +26,7 @@ fn read_short_count(at: &mut Cursor<'_>) -> Option<usize>
 #[tactic(auto, unfolding(crate::specs::Reading::script_at))]
 fn read_script<'a>(at: &mut Cursor<'a>) -> Option<&'a [u8]>
     ensures exact { Gives (λ s. s.now) result at.new (script_at at.old) }
-    ensures short { IfSome result (λ s. length s.now ≤ 10000) }
+    ensures short { IfSome result (λ s. length s.now ≤ longest_script) }
 {
     let count = read_short_count(at)?;
     at.take(count)
@@ -37,12 +37,12 @@ fn read_script<'a>(at: &mut Cursor<'a>) -> Option<&'a [u8]>
 fn read_parts<'a>(at: &mut Cursor<'a>) -> Option<RestView<'a>>
     ensures { Gives (λ r. r) result at.new (rest_at at.old) }
 {
-    let block = at.take(32)?;
+    let block = Digest::read(at)?;
     let code = at.u32()?;
     let amount = at.u64()?;
     let script = read_script(at)?;
     Some(RestView {
-        block: Digest::from_bytes(block),
+        block,
         height: code / 2,
         coinbase: code % 2 == 1,
         amount,

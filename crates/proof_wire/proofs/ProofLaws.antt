@@ -4,19 +4,18 @@ use Rattle.std.specs.Int.{w64, to_le_bytes}
 use Rattle.std.specs.List.{flat_map, AllByRecursion}
 use Rattle.std.proofs.lemmas.Bool.{eqb-true}
 use Rattle.std.proofs.lemmas.List.{append-nil, nil_from_length, length-map}
-use Rattle.uo_base.specs.Reading.{IsBytes, ◌>>=◌, bytes_at, number_at, times, OneReading}
+use Rattle.uo_base.specs.Reading.{IsBytes, ◌>>=◌, number_at, times, OneReading}
 use Rattle.uo_base.specs.Compact.{counted, counted_at}
-use Rattle.uo_base.proofs.Formats.{Lawful, same, led, ended, repeated, bytes_lawful, number_lawful, wide64, bind_some, passed, not_both, one_reading}
+use Rattle.uo_base.proofs.Formats.{Lawful, same, led, ended, repeated, bind_some, passed, not_both, one_reading, Always, u64_lawful}
 use Rattle.uo_base.proofs.CompactLaws.{AreCounted, counted_lawful}
 use Rattle.uo_digest.specs.declared.digest.Digest.{Digest}
+use Rattle.uo_digest.specs.Reading.{IsDigest, digest_text, digest_in_front}
+use Rattle.uo_digest.proofs.DigestLaws.{digest_lawful}
 use Rattle.leaf_record.specs.Leaf.{Rest, RestFits, rest_text}
 use Rattle.leaf_record.specs.Reading.{rest_at}
 use Rattle.leaf_record.proofs.LeafLaws.{rest_lawful}
-use Rattle.proof_wire.specs.BlockProof.{Spend, BlockProof, targets_of, rests_of, digest_text, body_text, message_text, SpendFits, HashFits, ProofFits}
-use Rattle.proof_wire.specs.Reading.{digest_at, spends_of, body_at, whole_at}
-
-abbrev Always : {A : Type 0} → A → Type 0
-Always x = Unit {0}
+use Rattle.proof_wire.specs.BlockProof.{Spend, BlockProof, targets_of, rests_of, body_text, message_text, SpendFits, ProofFits}
+use Rattle.proof_wire.specs.Reading.{spends_of, body_at, whole_at}
 
 abbrev IsTarget : ℕ → Type 0
 IsTarget n = n < 2 ^ 64
@@ -49,19 +48,11 @@ spends_fit (s ∷ ss) ts rs = (record { target = ts.0; rest = rs.0 }, spends_fit
 
 -- ---- the parts of a body
 
-pub hash_lawful : Lawful HashFits digest_text digest_at
-unfolding digest_at
-hash_lawful =
-    same _ HashFits _ digest_text digest_at
-    (led Always (λ xs. length xs ≡ 32) (λ xs. xs) (bytes_at 32) (λ d. d.0) _ _ _ (bytes_lawful 32) (λ bytes _.
-    ended (λ d. Unit {0} × (d.0 ≡ bytes)) (record { 0 = bytes }) (tt, refl) (λ d e. rw (← e.1) refl)))
-    (λ d f. f.1.0) (λ d f. (tt, (f, tt))) (λ d _. append-nil d.0)
-
 targets_lawful : Lawful (AreCounted IsTarget) (counted (to_le_bytes w64)) (counted_at (number_at w64))
-targets_lawful = counted_lawful IsTarget (to_le_bytes w64) (number_at w64) (number_lawful w64 (2 ^ 64) wide64)
+targets_lawful = counted_lawful IsTarget (to_le_bytes w64) (number_at w64) u64_lawful
 
-hashes_lawful : Lawful (AreCounted HashFits) (counted digest_text) (counted_at digest_at)
-hashes_lawful = counted_lawful HashFits digest_text digest_at hash_lawful
+hashes_lawful : Lawful (AreCounted IsDigest) (counted digest_text) (counted_at digest_in_front)
+hashes_lawful = counted_lawful IsDigest digest_text digest_in_front digest_lawful
 
 -- as many rests as there are targets
 abbrev RestsFit : ℕ → List Rest → Type 0
@@ -71,7 +62,7 @@ abbrev Told : List ℕ → BlockProof → Type 0
 Told ts p = Unit {0} × (targets_of p.spends ≡ ts)
 
 abbrev Behind : BlockProof → Type 0
-Behind p = AllByRecursion RestFits (rests_of p.spends) × (AreCounted HashFits p.hashes × Unit {0})
+Behind p = AllByRecursion RestFits (rests_of p.spends) × (AreCounted IsDigest p.hashes × Unit {0})
 
 behind_text : BlockProof → List ℕ
 behind_text p = flat_map rest_text (rests_of p.spends) ++ (counted digest_text p.hashes ++ [])
@@ -80,13 +71,13 @@ count_told : (ss : List Spend) (ts : List ℕ) → targets_of ss ≡ ts → leng
 count_told ss ts e = simp length-map (simp length-map at (ap length e))
 
 behind_lawful : (ts : List ℕ) → Lawful (λ p. Told ts p × Behind p) behind_text
-    (λ bytes. times rest_at (length ts) bytes >>= λ rests. counted_at digest_at rests.1 >>= λ hashes.
+    (λ bytes. times rest_at (length ts) bytes >>= λ rests. counted_at digest_in_front rests.1 >>= λ hashes.
     Some (record { spends = spends_of ts rests.0; hashes = hashes.0 }, hashes.1))
 unfolding behind_text
 behind_lawful ts =
     same _ (λ p. Told ts p × Behind p) _ behind_text _
     (led (Told ts) (RestsFit (length ts)) (flat_map rest_text) (times rest_at (length ts)) (λ p. rests_of p.spends) _ _ _ (repeated RestFits rest_text rest_at rest_lawful (length ts)) (λ rs fits.
-    led (λ p. Told ts p × (rests_of p.spends ≡ rs)) (AreCounted HashFits) (counted digest_text) (counted_at digest_at) (λ p. p.hashes) _ _ _ hashes_lawful (λ hs _.
+    led (λ p. Told ts p × (rests_of p.spends ≡ rs)) (AreCounted IsDigest) (counted digest_text) (counted_at digest_in_front) (λ p. p.hashes) _ _ _ hashes_lawful (λ hs _.
     ended (λ p. (Told ts p × (rests_of p.spends ≡ rs)) × (p.hashes ≡ hs))
     (record { spends = spends_of ts rs; hashes = hs }) (((tt, targets-spends ts rs fits.0), rests-spends ts rs fits.0), refl)
     (λ p e. rw (← e.0.0.1, ← e.0.1, ← e.1) (ap (with_hashes p.hashes) (sym (spends_told p.spends)))))))

@@ -4,6 +4,7 @@ use Rattle.std.specs.List.{flat_map, AllByRecursion}
 use Rattle.std.specs.Int.{w64, to_le_bytes}
 use Rattle.uo_base.specs.Compact.{counted}
 use Rattle.uo_digest.specs.declared.digest.Digest.{Digest}
+use Rattle.uo_digest.specs.Reading.{IsDigest, digest_text}
 use Rattle.leaf_record.specs.Leaf.{Rest, RestFits, rest_text}
 
 -- where the leaf of a spent output stands, and what the output is beside its name
@@ -25,9 +26,6 @@ rests_of spends = map (λ s. s.rest) spends
 
 -- ---- its text
 
-abbrev pub digest_text : Digest → List ℕ
-digest_text d = d.0
-
 -- what follows version and kind
 unfoldable pub body_text : BlockProof → List ℕ
 body_text p =
@@ -44,11 +42,8 @@ pub record SpendFits (s : Spend) : Type 0 where
   pub target : s.target < 2 ^ 64
   pub rest : RestFits s.rest
 
-abbrev pub HashFits : Digest → Type 0
-HashFits d = length d.0 ≡ 32
-
 pub record ProofFits (p : BlockProof) : Type 0 where
   pub count_of_spends : length p.spends < 2 ^ 64
   pub spends : AllByRecursion SpendFits p.spends
   pub count_of_hashes : length p.hashes < 2 ^ 64
-  pub hashes : AllByRecursion HashFits p.hashes
+  pub hashes : AllByRecursion IsDigest p.hashes

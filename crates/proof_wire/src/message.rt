@@ -5,8 +5,9 @@ ghost use Rattle.std.specs.List.{flat_map};
 ghost use Rattle.uo_base.specs.Moved.{Grew};
 ghost use Rattle.uo_base.specs.Reading.{OneReading};
 ghost use Rattle.uo_base.specs.Compact.{counted};
+ghost use Rattle.uo_digest.specs.Reading.{digest_text};
 ghost use Rattle.leaf_record.specs.Leaf.{RestFits, rest_text};
-ghost use Rattle.proof_wire.specs.BlockProof.{ProofFits, targets_of, rests_of, digest_text, message_text};
+ghost use Rattle.proof_wire.specs.BlockProof.{ProofFits, targets_of, rests_of, message_text};
 
 use leaf_record::{RestView, write_rest};
 use std::alloc::Global;
@@ -27,14 +28,14 @@ struct OwnedSpend {
 
 impl Model for OwnedSpend {
     ghost use Rattle.std.specs.Prelude.{◌<◌, ◌≤◌, ◌^◌, length};
-    ghost use Rattle.leaf_record.specs.Leaf.{Rest};
+    ghost use Rattle.leaf_record.specs.Leaf.{Rest, longest_script};
     ghost use Rattle.proof_wire.specs.BlockProof.{Spend};
 
     ghost Value = { Spend };
 
     ghost view = { λ s. record { target = s.target; rest = record { block = s.block; height = s.height; coinbase = s.coinbase; amount = s.amount; script = s.script.items } } };
 
-    ghost invariant = { λ s. (s.height < 2 ^ 31) × (length s.script.items ≤ 10000) };
+    ghost invariant = { λ s. (s.height < 2 ^ 31) × (length s.script.items ≤ longest_script) };
 }
 
 impl OwnedSpend {
@@ -76,13 +77,14 @@ pub struct Message {
 
 impl Model for Message {
     ghost use Rattle.std.specs.List.{AllByRecursion};
-    ghost use Rattle.proof_wire.specs.BlockProof.{BlockProof, SpendFits, HashFits};
+    ghost use Rattle.uo_digest.specs.Reading.{IsDigest};
+    ghost use Rattle.proof_wire.specs.BlockProof.{BlockProof, SpendFits};
 
     ghost Value = { BlockProof };
 
     ghost view = { λ m. record { spends = m.spends.items; hashes = m.hashes.items } };
 
-    ghost invariant = { λ m. AllByRecursion SpendFits m.spends.items × AllByRecursion HashFits m.hashes.items };
+    ghost invariant = { λ m. AllByRecursion SpendFits m.spends.items × AllByRecursion IsDigest m.hashes.items };
 }
 
 impl Message {

@@ -2,11 +2,12 @@
 ghost use Rattle.std.specs.Prelude.{◌≡◌, ◌≢◌, ◌↔◌, ◌*◌, ◌/◌, ◌<◌, ℕ, [], Some, length, slice_get, IfSome, IfOk, IsErrOf};
 ghost use Rattle.std.specs.Int.{w64};
 ghost use Rattle.std.specs.List.{AllByRecursion};
-ghost use Rattle.uo_base.specs.Reading.{Gives, number_at, times};
+ghost use Rattle.uo_base.specs.Reading.{Gives, GivesOrFails, number_at, times};
 ghost use Rattle.uo_base.specs.Compact.{counted_at};
+ghost use Rattle.uo_digest.specs.Reading.{digest_in_front};
 ghost use Rattle.leaf_record.specs.Reading.{rest_at};
 ghost use Rattle.proof_wire.specs.BlockProof.{BlockProof, ProofFits, body_text, message_text};
-ghost use Rattle.proof_wire.specs.Reading.{digest_at, parts_at, whole_at, GivesOrFails};
+ghost use Rattle.proof_wire.specs.Reading.{parts_at, whole_at, claims};
 ghost use Rattle.proof_wire.specs.Views.{targets_in, rests_in, hashes_in, BeginsWithRest};
 
 use crate::fault::MessageFault;
@@ -36,7 +37,7 @@ fn read_targets<'a>(at: &mut Cursor<'a>) -> Option<&'a [u8]>
 }
 
 fn read_hashes<'a>(at: &mut Cursor<'a>) -> Option<&'a [u8]>
-    ensures exact { Gives (λ s. hashes_in s.now) result at.new (counted_at digest_at at.old) }
+    ensures exact { Gives (λ s. hashes_in s.now) result at.new (counted_at digest_in_front at.old) }
     ensures even { IfSome result (λ s. 32 * (length s.now / 32) ≡ length s.now) }
 {
     take_parts(at, 32)
@@ -48,7 +49,7 @@ fn read_starts<'a>(
     at: &mut Cursor<'a>,
     count: u64,
 ) -> Result<Vec<&'a [u8]>, MessageFault>
-    ensures exact { GivesOrFails (λ starts. rests_in starts.items) result at.new (times rest_at count at.old) }
+    ensures exact { GivesOrFails (λ starts. rests_in starts.items) claims result at.new (times rest_at count at.old) }
     ensures begin { IfOk result (λ starts. AllByRecursion BeginsWithRest starts.items) }
 {
     let mut starts = Vec::new(alloc);
@@ -65,7 +66,7 @@ fn read_starts<'a>(
 /// What follows version and kind.
 #[tactic(auto, unfolding(crate::specs::Reading::whole_at, crate::specs::Reading::body_at))]
 fn read_body<'a>(alloc: Global, body: &'a [u8]) -> Result<MessageView<'a>, MessageFault>
-    ensures { GivesOrFails (λ m. m) result [] (whole_at body.now) }
+    ensures { GivesOrFails (λ m. m) claims result [] (whole_at body.now) }
 {
     let mut at = Cursor::new(body);
     let Some(targets) = read_targets(&mut at) else {

@@ -1,6 +1,7 @@
 //! Messages that were spelled by hand.
-use crate::{Message, MessageFault, read_message};
+use crate::{Message, MessageFault, MessageView, read_message};
 use std::alloc::{AllocError, Global};
+use std::process::Abort;
 use std::test::Fail;
 use uo_digest::Digest;
 
@@ -64,58 +65,107 @@ fn hash(i: u64) -> Digest {
     Digest([255 - (i % 251) as u8; 32])
 }
 
-/// Spend i has the height 1, the amount i and a script of i modulo 4 bytes.
-fn spelled(alloc: Global, spends: &Count, hashes: &Count) -> Result<Vec<u8>, AllocError> {
-    let mut text = Vec::new(alloc);
-    text.extend_from_slice(&[1, 0])?;
+/// The rest of spend i: the height 1, the amount i and a script of i modulo 4 bytes.
+fn put_rest(text: &mut Vec<u8>, i: u64) -> Result<(), AllocError> {
+    text.extend_from_slice(&block(i).0)?;
+    text.extend_from_slice(&[2, 0, 0, 0])?;
+    text.extend_from_slice(&i.to_le_bytes())?;
+    text.push((i % 4) as u8)?;
+    text.extend_from_slice([0x51; 4].split_at((i % 4) as usize).0)?;
+    Ok(())
+}
+
+fn put_targets(text: &mut Vec<u8>, spends: &Count) -> Result<(), AllocError> {
     text.extend_from_slice(spends.form)?;
     for i in 0..spends.count {
         text.extend_from_slice(&target(i).to_le_bytes())?;
     }
+    Ok(())
+}
+
+fn put_rests(text: &mut Vec<u8>, spends: &Count) -> Result<(), AllocError> {
     for i in 0..spends.count {
-        text.extend_from_slice(&block(i).0)?;
-        text.extend_from_slice(&[2, 0, 0, 0])?;
-        text.extend_from_slice(&i.to_le_bytes())?;
-        text.push((i % 4) as u8)?;
-        for _ in 0..i % 4 {
-            text.push(0x51)?;
-        }
+        put_rest(text, i)?;
     }
+    Ok(())
+}
+
+fn put_hashes(text: &mut Vec<u8>, hashes: &Count) -> Result<(), AllocError> {
     text.extend_from_slice(hashes.form)?;
     for i in 0..hashes.count {
         text.extend_from_slice(&hash(i).0)?;
     }
+    Ok(())
+}
+
+fn spelled(alloc: Global, spends: &Count, hashes: &Count) -> Result<Vec<u8>, AllocError> {
+    let mut text = Vec::from_slice(alloc, &[1, 0])?;
+    put_targets(&mut text, spends)?;
+    put_rests(&mut text, spends)?;
+    put_hashes(&mut text, hashes)?;
     Ok(text)
+}
+
+/// The spends are those that were spelled, and are shown by a message again.
+fn check_spends(
+    rt: &impl Abort,
+    view: &MessageView<'_>,
+    message: &mut Message,
+) -> Result<(), Fail> {
+    for i in 0..view.spends() {
+        let rest = view.rest(i);
+        assert!(rt; view.target(i) == target(i));
+        assert!(rt; rest.block == block(i));
+        assert!(rt; rest.height == 1 && !rest.coinbase);
+        assert!(rt; rest.amount == i);
+        assert!(rt; rest.script.len() as u64 == i % 4);
+        message.push_spend(target(i), &rest)?;
+    }
+    Ok(())
+}
+
+/// The hashes likewise.
+fn check_hashes(
+    rt: &impl Abort,
+    view: &MessageView<'_>,
+    message: &mut Message,
+) -> Result<(), Fail> {
+    for i in 0..view.hash_count() {
+        assert!(rt; view.hash(i) == hash(i));
+        message.push_hash(view.hash(i))?;
+    }
+    Ok(())
+}
+
+fn check_whole(rt: &impl Abort, alloc: Global, spends: &Count, hashes: &Count) -> Result<(), Fail> {
+    let text = spelled(alloc, spends, hashes)?;
+    let view = read_message(alloc, &text)?;
+    let mut message = Message::new(alloc);
+    assert!(rt; view.spends() == spends.count);
+    check_spends(rt, &view, &mut message)?;
+    assert!(rt; view.hash_count() == hashes.count);
+    check_hashes(rt, &view, &mut message)?;
+    let mut written = Vec::new(alloc);
+    message.write(&mut written)?;
+    assert!(rt; written.as_slice() == text.as_slice());
+    Ok(())
 }
 
 #[test]
 fn messages_whole(rt: HostRuntime) -> Result<(), Fail> {
     for spends in &SPENDS {
         for hashes in &HASHES {
-            let text = spelled(rt.alloc(), spends, hashes)?;
-            let view = read_message(rt.alloc(), &text)?;
-            let mut message = Message::new(rt.alloc());
-            assert!(rt; view.spends() == spends.count);
-            for i in 0..view.spends() {
-                let rest = view.rest(i);
-                assert!(rt; view.target(i) == target(i));
-                assert!(rt; rest.block == block(i));
-                assert!(rt; rest.height == 1 && !rest.coinbase);
-                assert!(rt; rest.amount == i);
-                assert!(rt; rest.script.len() as u64 == i % 4);
-                message.push_spend(target(i), &rest)?;
-            }
-            assert!(rt; view.hash_count() == hashes.count);
-            for i in 0..view.hash_count() {
-                assert!(rt; view.hash(i) == hash(i));
-                message.push_hash(view.hash(i))?;
-            }
-            let mut written = Vec::new(rt.alloc());
-            message.write(&mut written)?;
-            assert!(rt; written.as_slice() == text.as_slice());
+            check_whole(&rt, rt.alloc(), spends, hashes)?;
         }
     }
     Ok(())
+}
+
+fn check_cuts(rt: &impl Abort, alloc: Global, text: &[u8]) {
+    for cut in 0..text.len() {
+        let read = read_message(alloc, &text[..cut]);
+        assert!(rt; matches!(read, Err(MessageFault::NotAMessage)));
+    }
 }
 
 #[test]
@@ -123,40 +173,49 @@ fn messages_cut(rt: HostRuntime) -> Result<(), Fail> {
     for spends in &SPENDS {
         for hashes in &HASHES {
             let text = spelled(rt.alloc(), spends, hashes)?;
-            for cut in 0..text.len() {
-                let read = read_message(rt.alloc(), &text[..cut]);
-                assert!(rt; matches!(read, Err(MessageFault::NotAMessage)));
-            }
+            check_cuts(&rt, rt.alloc(), &text);
         }
     }
     Ok(())
 }
 
-/// Whether the byte at this place of a text is one of a count.
-fn is_of_count(place: usize, len: usize, spends: &Count, hashes: &Count) -> bool {
-    let from_end = len - place.min(len);
-    let is_of_spends = place >= 2 && place - 2 < spends.form.len();
-    let is_of_hashes = from_end > hashes.hash_bytes
-        && from_end - hashes.hash_bytes <= hashes.form.len();
-    is_of_spends || is_of_hashes
+/// The byte at a place takes each other value in turn.
+fn check_changed(rt: &impl Abort, alloc: Global, text: &mut [u8], place: usize) {
+    if place >= text.len() {
+        return;
+    }
+    for _ in 0..255 {
+        text[place] = text[place].wrapping_add(1);
+        let read = read_message(alloc, text);
+        assert!(rt; matches!(read, Err(MessageFault::NotAMessage)));
+    }
+    text[place] = text[place].wrapping_add(1);
+}
+
+/// Each byte of the two counts takes each other value.
+fn check_counts(
+    rt: &impl Abort,
+    alloc: Global,
+    spends: &Count,
+    hashes: &Count,
+) -> Result<(), Fail> {
+    let mut text = spelled(alloc, spends, hashes)?;
+    let size = hashes.hash_bytes.saturating_add(hashes.form.len());
+    let behind = text.len().saturating_sub(size);
+    for place in 0..spends.form.len() {
+        check_changed(rt, alloc, &mut text, place.saturating_add(2));
+    }
+    for place in 0..hashes.form.len() {
+        check_changed(rt, alloc, &mut text, place.saturating_add(behind));
+    }
+    Ok(())
 }
 
 #[test]
 fn counts_changed(rt: HostRuntime) -> Result<(), Fail> {
     for spends in &SPENDS {
         for hashes in &HASHES {
-            let mut text = spelled(rt.alloc(), spends, hashes)?;
-            for place in 0..text.len() {
-                let was = text[place];
-                for more in 1..256u16 {
-                    if is_of_count(place, text.len(), spends, hashes) {
-                        text[place] = was.wrapping_add((more % 256) as u8);
-                        let read = read_message(rt.alloc(), &text);
-                        assert!(rt; matches!(read, Err(MessageFault::NotAMessage)));
-                    }
-                }
-                text[place] = was;
-            }
+            check_counts(&rt, rt.alloc(), spends, hashes)?;
         }
     }
     Ok(())

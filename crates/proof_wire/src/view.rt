@@ -41,11 +41,11 @@ impl<'a> Model for MessageView<'a> {
 
     ghost Value = { BlockProof };
 
-    ghost use Rattle.proof_wire.specs.Views.{proof_in, IsView};
+    ghost use Rattle.proof_wire.specs.Views.{proof_in, IsMessageView};
 
     ghost view = { λ s. proof_in s.targets.now s.rests.items s.hashes.now };
 
-    ghost invariant = { λ s. IsView s.targets.now s.rests.items s.hashes.now };
+    ghost invariant = { λ s. IsMessageView s.targets.now s.rests.items s.hashes.now };
 }
 
 impl<'a> MessageView<'a> {

@@ -1,5 +1,9 @@
 //! A digest as a value.
-ghost use Rattle.std.specs.Prelude.{◌≡◌, length};
+ghost use Rattle.std.specs.Prelude.{◌≡◌, length, IfNone};
+ghost use Rattle.uo_base.specs.Reading.{Gives, Splits, Finds, Reads};
+ghost use Rattle.uo_digest.specs.Reading.{IsDigest, digest_text, digest_in_front};
+
+use uo_base::Cursor;
 
 /// 32 bytes that stand for a text: a block hash, a transaction's id, a leaf or a node of the forest.
 #[derive(Clone, Copy, Debug, PartialEq, Eq)]
@@ -15,4 +19,34 @@ impl Digest {
         digest.copy_from_slice(bytes);
         Digest(digest)
     }
+
+    /// The digest that the next 32 bytes are, in the order in which they are hashed and sent. `None` where fewer are left,
+    /// and then none is read.
+    pub fn read(at: &mut Cursor<'_>) -> Option<Digest>
+        ensures reads { Reads (λ d. d) IsDigest digest_text result at.old at.new }
+        ensures exact { Gives (λ d. d) result at.new (digest_in_front at.old) }
+        ensures stays { IfNone result (at.new ≡ at.old) }
+    {
+        let (digest, rest) = front_digest(at.rest())?;
+        *at = Cursor::new(rest);
+        Some(digest)
+    }
+}
+
+#[tactic(auto, unfolding(crate::specs::Reading::digest_in_front))]
+fn split_digest(bytes: &[u8]) -> Option<(Digest, &[u8])>
+    ensures { Splits (λ d. d) result (digest_in_front bytes.now) }
+{
+    if bytes.len() < 32 {
+        return None;
+    }
+    let (front, rest) = bytes.split_at(32);
+    Some((Digest::from_bytes(front), rest))
+}
+
+fn front_digest(bytes: &[u8]) -> Option<(Digest, &[u8])>
+    ensures reads { Finds (λ d. d) IsDigest digest_text result bytes.now }
+    ensures exact { Splits (λ d. d) result (digest_in_front bytes.now) }
+{
+    split_digest(bytes)
 }

@@ -8,6 +8,7 @@ use std::marker::Brand;
 use std::process::Abort;
 use std::sync::ledger::{Blank, Ledger};
 use std::test::Fail;
+use uo_base::Cursor;
 
 /// A text and its digest in plain order.
 struct Vector {
@@ -92,4 +93,14 @@ fn reversed_hex(rt: HostRuntime) {
         text.as_slice()
             == b"e20000000000000000000000000000000000000000000000000000000000006f".as_slice()
     );
+}
+
+#[test]
+fn read_from_the_front(rt: HostRuntime) {
+    let text = b"abcdefghijklmnopqrstuvwxyz0123456789";
+    let mut at = Cursor::new(text);
+    assert!(rt; Digest::read(&mut at) == Some(Digest(*b"abcdefghijklmnopqrstuvwxyz012345")));
+    assert!(rt; at.rest() == b"6789".as_slice());
+    assert!(rt; Digest::read(&mut at).is_none());
+    assert!(rt; at.rest() == b"6789".as_slice());
 }

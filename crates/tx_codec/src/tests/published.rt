@@ -1,25 +1,21 @@
-//! Published transactions: the coinbase of the first block, and signed transactions of BIP 143's examples.
+//! Published transactions: signed ones of BIP 143's examples.
 
-/// A transaction, its two ids as they are printed, and its length without marker, flag and stacks.
-pub(super) struct Published {
-    pub(super) text: &'static str,
+/// The two ids of a transaction as they are printed, and its length without marker, flag and stacks.
+#[derive(Drop)]
+pub(super) struct Ids {
     pub(super) txid: &'static [u8; 64],
     pub(super) wtxid: &'static [u8; 64],
     pub(super) stripped_len: u64,
 }
 
-pub(super) const PUBLISHED: [Published; 4] = [
-    // The coinbase of the first block.
-    Published {
-        text: "01000000010000000000000000000000000000000000000000000000000000000000000000ffffffff4d04ffff001d010445\
-            5468652054696d65732030332f4a616e2f32303039204368616e63656c6c6f72206f6e206272696e6b206f66207365636f6e\
-            64206261696c6f757420666f722062616e6b73ffffffff0100f2052a01000000434104678afdb0fe5548271967f1a67130b7\
-            105cd6a828e03909a67962e0ea1f61deb649f6bc3f4cef38c4f35504e51ec112de5c384df7ba0b8d578a4c702b6bf11d5fac\
-            00000000",
-        txid: b"4a5e1e4baab89f3a32518a88c31bc87f618f76673e2cc77ab2127b7afdeda33b",
-        wtxid: b"4a5e1e4baab89f3a32518a88c31bc87f618f76673e2cc77ab2127b7afdeda33b",
-        stripped_len: 204,
-    },
+/// A transaction, and what is published of it.
+#[derive(Drop)]
+pub(super) struct Published {
+    pub(super) text: &'static str,
+    pub(super) ids: Ids,
+}
+
+pub(super) const PUBLISHED: [Published; 3] = [
     // BIP 143, native P2WPKH: two inputs, of which the second has a witness.
     Published {
         text: "01000000000102fff7f7881a8099afa6940d42d1e7f6362bec38171ea3edf433541db4e4ad969f0000000049483045022100\
@@ -29,9 +25,11 @@ pub(super) const PUBLISHED: [Published; 4] = [
             0d000000001976a9143bde42dbee7e4dbe6a21b2d50ce2f0167faa815988ac000247304402203609e17b84f6a7d30c80bfa6\
             10b5b4542f32a8a0d5447a12fb1366d7f01cc44a0220573a954c4518331561406f90300e8f3358f51928d43c212a8caed02d\
             e67eebee0121025476c2e83188368da1ff3e292e7acafcdb3566bb0ad253f62fc70f07aeee635711000000",
-        txid: b"e8151a2af31c368a35053ddd4bdb285a8595c769a3ad83e0fa02314a602d4609",
-        wtxid: b"c36c38370907df2324d9ce9d149d191192f338b37665a82e78e76a12c909b762",
-        stripped_len: 233,
+        ids: Ids {
+            txid: b"e8151a2af31c368a35053ddd4bdb285a8595c769a3ad83e0fa02314a602d4609",
+            wtxid: b"c36c38370907df2324d9ce9d149d191192f338b37665a82e78e76a12c909b762",
+            stripped_len: 233,
+        },
     },
     // BIP 143, P2SH-P2WPKH: one input with a witness and a script.
     Published {
@@ -41,9 +39,11 @@ pub(super) const PUBLISHED: [Published; 4] = [
             8352d3ebbde1c94ce3a10d057c24175747116f8288e5d794d12d482f0220217f36a485cae903c713331d877c1f64677e3622\
             ad4010726870540656fe9dcb012103ad1d8e89212f0b92c74d23bb710c00662ad1470198ac48c43f7d6f93a2a26873920400\
             00",
-        txid: b"ef48d9d0f595052e0f8cdcf825f7a5e50b6a388a81f206f3f4846e5ecd7a0c23",
-        wtxid: b"680f483b2bf6c5dcbf111e69e885ba248a41a5e92070cfb0afec3cfc49a9fabb",
-        stripped_len: 142,
+        ids: Ids {
+            txid: b"ef48d9d0f595052e0f8cdcf825f7a5e50b6a388a81f206f3f4846e5ecd7a0c23",
+            wtxid: b"680f483b2bf6c5dcbf111e69e885ba248a41a5e92070cfb0afec3cfc49a9fabb",
+            stripped_len: 142,
+        },
     },
     // BIP 143, native P2WSH: two inputs, and three witness items.
     Published {
@@ -56,8 +56,17 @@ pub(super) const PUBLISHED: [Published; 4] = [
             d9e3789406b6c002201a9ecd315dd6a0e632ab20bbb98948bc0c6fb204f2c286963bb48517a7058e27034721026dccc749ad\
             c2a9d0d89497ac511f760f45c47dc5ed9cf352a58ac706453880aeadab210255a9626aebf5e29c0e6538428ba0d1dcf6ca98\
             ffdf086aa8ced5e0d0215ea465ac00000000",
-        txid: b"570e3730deeea7bd8bc92c836ccdeb4dd4556f2c33f2a1f7b889a4cb4e48d3ab",
-        wtxid: b"dbff04c7044a569f179c843e929449f6a24be183e42c66be9032f1c9eaaf5811",
-        stripped_len: 198,
+        ids: Ids {
+            txid: b"570e3730deeea7bd8bc92c836ccdeb4dd4556f2c33f2a1f7b889a4cb4e48d3ab",
+            wtxid: b"dbff04c7044a569f179c843e929449f6a24be183e42c66be9032f1c9eaaf5811",
+            stripped_len: 198,
+        },
     },
 ];
+
+/// The coinbase of the first block.
+pub(super) const FIRST_COINBASE: Ids = Ids {
+    txid: b"4a5e1e4baab89f3a32518a88c31bc87f618f76673e2cc77ab2127b7afdeda33b",
+    wtxid: b"4a5e1e4baab89f3a32518a88c31bc87f618f76673e2cc77ab2127b7afdeda33b",
+    stripped_len: 204,
+};

@@ -1,4 +1,4 @@
-use Rattle.block_codec.proofs.DigestLaws.{digest_is}
+use Rattle.uo_digest.proofs.DigestLaws.{digest_is}
 use Rattle.block_codec.proofs.merkle_tree.hash_of_pair.Goals as goal
 
 pub returns : goal.returns
