@@ -1,0 +1,31 @@
+-- How faults of reading and of targets are told.
+use Rattle.std.specs.Prelude.{◌≡◌, ℕ, List, Result, Ok, Err}
+use Rattle.proof_wire.specs.BlockProof.{BlockProof}
+use Rattle.proof_wire.specs.declared.fault.MessageFault.{MessageFault}
+use Rattle.proof_wire.specs.declared.fault.MessageFault.TheVariants.{NotAMessage, Version}
+use Rattle.proof_wire.specs.declared.fault.MessageFault.TheVariants as Unread
+use Rattle.proof_shape.specs.declared.fault.ShapeFault.{ShapeFault}
+use Rattle.proof_shape.specs.declared.fault.ShapeFault.TheVariants as Shape
+use Rattle.block_rules.specs.declared.fault.RuleFault.{RuleFault}
+use Rattle.block_rules.specs.declared.fault.RuleFault.TheVariants.{Refused, NoMemory}
+use Rattle.block_rules.specs.declared.refusal.Refusal.TheVariants as Why
+use Rattle.block_rules.specs.declared.refusal.ProofRefusal.TheVariants as Target
+use Rattle.node_rules.specs.Messages.{in_full}
+use Rattle.node_rules.specs.Reading.{unread, read, message_in}
+
+-- the message that bytes are, or why they are none
+abbrev pub IsReadAs : List ℕ → Result BlockProof RuleFault → Type 0
+IsReadAs bytes (Ok p) = message_in bytes ≡ read (in_full p)
+IsReadAs bytes (Err (Refused why)) = message_in bytes ≡ unread why
+IsReadAs bytes (Err NoMemory) = Unit {0}
+
+abbrev pub IsUnreadAs : MessageFault → RuleFault → Type 0
+IsUnreadAs NotAMessage fault = fault ≡ Refused Why.MessageForm
+IsUnreadAs (Version v) fault = fault ≡ Refused (Why.MessageVersion v)
+IsUnreadAs Unread.NoMemory fault = fault ≡ NoMemory
+
+abbrev pub IsRefusedAs : ShapeFault → RuleFault → Type 0
+IsRefusedAs (Shape.Outside i) fault = fault ≡ Refused (Why.Proof (Target.Outside i))
+IsRefusedAs (Shape.Repeated i j) fault = fault ≡ Refused (Why.Proof (Target.Repeated i j))
+IsRefusedAs (Shape.Beneath i j) fault = fault ≡ Refused (Why.Proof (Target.Beneath i j))
+IsRefusedAs Shape.NoMemory fault = fault ≡ NoMemory
