@@ -24,10 +24,10 @@ record AreRead (events : List FeedEvent) (read : Events) : Type 0 where
 read-more : (event : FeedEvent) (events : List FeedEvent) (end : ℕ) (read : Events) → AreRead events read → AreRead (event ∷ events) (led_by event end read)
 read-more event events end read r = record { all = ap (λ es. event ∷ es) r.all; ends = r.ends }
 
-block_long : (offset size : ℕ) → size ≤ most_block → length_fault Block offset size ≡ None
+pub block_long : (offset size : ℕ) → size ≤ most_block → length_fault Block offset size ≡ None
 block_long offset size h = rw (le-ltb most_block size h) refl
 
-proof_long : (offset size : ℕ) → size ≤ most_proof → length_fault Proof offset size ≡ None
+pub proof_long : (offset size : ℕ) → size ≤ most_proof → length_fault Proof offset size ≡ None
 proof_long offset size h = rw (le-ltb most_proof size h) refl
 
 module _ (net : Net) where

@@ -1,9 +1,10 @@
 -- The text of a list of events, and that it is read again.
-use Rattle.std.specs.Prelude.{◌≡◌, ℕ, ◌<◌, ◌≤◌, ◌^◌, List, [], ◌++◌, length, Option, Some, None}
+use Rattle.std.specs.Prelude.{◌≡◌, ◌⊎◌, ℕ, ◌<◌, ◌≤◌, ◌^◌, List, [], ◌∷◌, ◌++◌, length, Option, Some, None}
 use Rattle.std.specs.Int.{w32, to_le_bytes}
 use Rattle.std.specs.List.{flat_map, AllByRecursion}
 use Rattle.uo_base.specs.declared.event.Net.{Net}
 use Rattle.uo_base.specs.FeedEvent.{FeedEvent, BlockCame, RollbackCame, StrayCame}
+use Rattle.feed_frame.specs.declared.fault.FeedFault.TheVariants.{Limit}
 use Rattle.feed_frame.specs.Events.{events_of}
 use Rattle.feed_frame.specs.Frames.{block_magic, proof_magic, rollback_magic, most_block, most_proof}
 use Rattle.feed_frame.specs.Written.{frame_text}
@@ -43,3 +44,19 @@ pub record IsFeedOf (net : Net) (limit : ℕ) (feed : List ℕ) (events : List F
 abbrev pub FeedTextIsRead : Type 0
 FeedTextIsRead = (net : Net) (limit : ℕ) (events : List FeedEvent) → AllByRecursion HasFrames events → length (feed_text net events) ≤ limit
     → IsFeedOf net limit (feed_text net events) events
+
+-- a feed that has these events goes on past the limit: the first of them come, and behind them a stray where the limit stands between a proof
+-- and the end of its block
+pub record BeginsFeedOf (net : Net) (limit : ℕ) (feed : List ℕ) (events : List FeedEvent) : Type 0 where
+  pub front : List FeedEvent
+  pub later : List FeedEvent
+  pub split : events ≡ front ++ later
+  pub strays : List FeedEvent
+  pub one : (strays ≡ []) ⊎ (strays ≡ StrayCame ∷ [])
+  pub all : (events_of net limit feed).events ≡ front ++ strays
+  pub ends : (events_of net limit feed).ending ≡ Some (Limit limit)
+
+-- Where it is longer, the first of the events are read, up to the limit.
+abbrev pub FeedTextIsCut : Type 0
+FeedTextIsCut = (net : Net) (limit : ℕ) (events : List FeedEvent) → AllByRecursion HasFrames events → limit < length (feed_text net events)
+    → BeginsFeedOf net limit (feed_text net events) events
