@@ -1,5 +1,5 @@
 -- What a proving node writes of some events, and what `follow` answers to it. A proving node holds every output, and asks for no message.
-use Rattle.std.specs.Prelude.{◌≡◌, ◌≤◌, ℕ, List, [], ◌++◌, length, map, Option, None}
+use Rattle.std.specs.Prelude.{◌≡◌, ◌⊎◌, ◌<◌, ◌≤◌, ℕ, List, [], ◌∷◌, ◌++◌, length, map, Option, None}
 use Rattle.std.specs.List.{flat_map, AllByRecursion}
 use Rattle.uo_base.specs.declared.event.Limits.{Limits}
 use Rattle.uo_base.specs.declared.event.Net.{Net}
@@ -8,14 +8,16 @@ use Rattle.uo_digest.specs.declared.digest.Digest.{Digest}
 use Rattle.leaf_record.specs.Leaf.{leaf_text}
 use Rattle.block_rules.specs.declared.chain.Chain.{Chain}
 use Rattle.block_rules.specs.declared.verdict.Verdict.{Verdict}
+use Rattle.block_rules.specs.declared.verdict.Verdict.TheVariants.{Stray}
 use Rattle.feed_frame.specs.Events.{events_of}
 use Rattle.feed_frame.specs.FeedText.{feed_text}
 use Rattle.feed_run.specs.Answer.{Answer}
-use Rattle.feed_run.specs.declared.status.Status.TheVariants.{AllAccepted}
+use Rattle.feed_run.specs.declared.status.Status.TheVariants.{AllAccepted, InputLimit}
 use Rattle.node_rules.specs.Fitting.{AreEventBytes}
 use Rattle.node_rules.specs.Judging.{Rules}
 use Rattle.node_rules.specs.Machine.{start, chain_of, event_in, own_judge, verdicts, state_after, kept_verdicts}
 use Rattle.node_rules.specs.Proving.{proved_events}
+use Rattle.utreexo.specs.declared.line.Line.TheVariants as Line
 use Rattle.utreexo.specs.Follow.{line_of, follow_answer, rules_of, AreTrue}
 use Rattle.utreexo.specs.Lines.{whole_line}
 use Rattle.utreexo.specs.Machine.{end_line}
@@ -46,8 +48,24 @@ pub record IsFollowed (H : List ℕ → Digest) (limits : Limits) (net : Net) (r
   pub honest : AreTrue H limits net (events_of net limits.bytes feed).events
   pub answer : follow_answer H limits net feed ≡ answer_made (kept_verdicts (proving_verdicts rules events)) (proving_chain rules events)
 
--- A feed is followed where it is what a proving node with the same network and leaf limit writes of some events, with messages in full, and is
--- no longer than may be read.
-abbrev pub FollowsProving : (List ℕ → Digest) → Limits → Net → List ℕ → Type 0
-FollowsProving H limits net feed = (proving : Limits) (events : List FeedEvent) → proving.leaves ≡ limits.leaves → AllByRecursion AreEventBytes events
-    → feed ≡ proving_text H None (rules_of proving net) events → length feed ≤ limits.bytes → IsFollowed H limits net (rules_of proving net) events feed
+-- the same where the feed goes on past the limit: these are the first of the lines, with a `stray` behind them where the limit stands between a
+-- proof and the end of its block, and the line of the limit
+pub record IsFollowedTo (H : List ℕ → Digest) (limits : Limits) (net : Net) (rules : Rules) (events : List FeedEvent) (feed : List ℕ) : Type 0 where
+  pub honest : AreTrue H limits net (events_of net limits.bytes feed).events
+  pub front : List Verdict
+  pub later : List Verdict
+  pub split : kept_verdicts (proving_verdicts rules events) ≡ front ++ later
+  pub strays : List Verdict
+  pub one : (strays ≡ []) ⊎ (strays ≡ Stray ∷ [])
+  pub answer : follow_answer H limits net feed ≡ record { status = InputLimit; report = flat_map line_of (front ++ strays) ++ whole_line (Line.LimitFeed limits.bytes); out = [] }
+
+-- a proving node with the same network and leaf limit, whatever it may read, writes this feed of some events, with messages in full
+pub record IsWritten (H : List ℕ → Digest) (limits : Limits) (net : Net) (proving : Limits) (events : List FeedEvent) (feed : List ℕ) : Type 0 where
+  pub leaves : proving.leaves ≡ limits.leaves
+  pub bytes : AllByRecursion AreEventBytes events
+  pub text : feed ≡ proving_text H None (rules_of proving net) events
+
+-- Such a feed is followed, up to the limit.
+pub record FollowsProving (H : List ℕ → Digest) (limits : Limits) (net : Net) (feed : List ℕ) : Type 0 where
+  pub whole : (proving : Limits) (events : List FeedEvent) → IsWritten H limits net proving events feed → length feed ≤ limits.bytes → IsFollowed H limits net (rules_of proving net) events feed
+  pub cut : (proving : Limits) (events : List FeedEvent) → IsWritten H limits net proving events feed → limits.bytes < length feed → IsFollowedTo H limits net (rules_of proving net) events feed
