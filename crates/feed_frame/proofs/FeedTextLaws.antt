@@ -1,18 +1,16 @@
 -- The text of a list of events is read again.
-use Rattle.std.proofs.Common.{◌≡◌, ℕ, ◌+◌, ◌-◌, ◌<◌, ◌≤◌, ◌^◌, zero, List, [], ◌∷◌, ◌++◌, length, Option, Some, None, refl, sym, ap, subst, ◌∙◌, append_assoc, arith}
-use Rattle.std.specs.Int.{w32, from_le_bytes, to_le_bytes}
+use Rattle.std.proofs.Common.{◌≡◌, ℕ, ◌+◌, ◌<◌, ◌≤◌, ◌^◌, zero, List, [], ◌∷◌, ◌++◌, length, Some, None, refl, sym, ap, subst, ◌∙◌, append_assoc, arith}
+use Rattle.std.specs.Int.{w32, to_le_bytes}
 use Rattle.std.specs.List.{AllByRecursion}
 use Rattle.std.proofs.lemmas.Bool.{le-ltb}
 use Rattle.std.proofs.lemmas.Nat.{from_le_bytes-to_le_bytes_4}
 use Rattle.uo_base.specs.declared.event.Net.{Net}
 use Rattle.uo_base.specs.FeedEvent.{FeedEvent, BlockCame, RollbackCame, StrayCame}
-use Rattle.feed_frame.specs.declared.fault.FeedFault.{FeedFault}
-use Rattle.feed_frame.specs.declared.fault.FeedFault.TheVariants.{TooLong}
 use Rattle.feed_frame.specs.declared.head.Kind.{Kind}
 use Rattle.feed_frame.specs.declared.head.Kind.TheVariants.{Block, Proof, Rollback}
-use Rattle.feed_frame.specs.Frames.{Frame, Frames, with_frame, magic_of, length_fault, frames_from, most_block, most_proof}
+use Rattle.feed_frame.specs.Frames.{Frame, with_frame, magic_of, length_fault, frames_from, most_block, most_proof}
 use Rattle.feed_frame.specs.Events.{Events, events_in, events_of, events_over, led_by}
-use Rattle.feed_frame.specs.FeedText.{proof_text, event_text, feed_text, HasFrames, IsFeedOf, FeedTextIsRead}
+use Rattle.feed_frame.specs.FeedText.{event_text, feed_text, HasFrames, IsFeedOf}
 use Rattle.feed_frame.specs.Written.{frame_text}
 use Rattle.feed_frame.proofs.Within.{within-inside}
 use Rattle.feed_frame.proofs.WrittenLaws.{written_is_read}
