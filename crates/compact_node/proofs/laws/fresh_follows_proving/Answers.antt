@@ -1,0 +1,5 @@
+use Rattle.compact_node.proofs.Following.{fresh_follows_proving}
+use Rattle.compact_node.proofs.laws.fresh_follows_proving.Goals as goal
+
+pub returns : goal.returns
+returns c = λ H text net limits few short events. fresh_follows_proving H text net limits few short events

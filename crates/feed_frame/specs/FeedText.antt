@@ -1,0 +1,62 @@
+-- The text of a list of events, and that it is read again.
+use Rattle.std.specs.Prelude.{◌≡◌, ◌⊎◌, ℕ, ◌<◌, ◌≤◌, ◌^◌, List, [], ◌∷◌, ◌++◌, length, Option, Some, None}
+use Rattle.std.specs.Int.{w32, to_le_bytes}
+use Rattle.std.specs.List.{flat_map, AllByRecursion}
+use Rattle.uo_base.specs.declared.event.Net.{Net}
+use Rattle.uo_base.specs.FeedEvent.{FeedEvent, BlockCame, RollbackCame, StrayCame}
+use Rattle.feed_frame.specs.declared.fault.FeedFault.TheVariants.{Limit}
+use Rattle.feed_frame.specs.Events.{events_of}
+use Rattle.feed_frame.specs.Frames.{block_magic, proof_magic, rollback_magic, most_block, most_proof}
+use Rattle.feed_frame.specs.Written.{frame_text}
+
+abbrev pub proof_text : Option (List ℕ) → List ℕ
+proof_text None = []
+proof_text (Some message) = frame_text proof_magic message
+
+-- the frame of a block, behind that of its proof, or the frame of a rollback; a stray is not written
+unfoldable pub event_text : Net → FeedEvent → List ℕ
+event_text net (BlockCame block message) = proof_text message ++ frame_text (block_magic net) block
+event_text net (RollbackCame count) = frame_text rollback_magic (to_le_bytes w32 count)
+event_text net StrayCame = []
+
+-- the frames of events, one after the other
+abbrev pub feed_text : Net → List FeedEvent → List ℕ
+feed_text net events = flat_map (event_text net) events
+
+-- ---- which events have frames
+
+abbrev pub HasProofFrame : Option (List ℕ) → Type 0
+HasProofFrame None = Unit {0}
+HasProofFrame (Some message) = length message ≤ most_proof
+
+-- no part is longer than its frame may be, and it is no stray
+abbrev pub HasFrames : FeedEvent → Type 0
+HasFrames (BlockCame block message) = (length block ≤ most_block) × HasProofFrame message
+HasFrames (RollbackCame count) = count < 2 ^ 32
+HasFrames StrayCame = ⊥
+
+-- a feed has these events, and is read to its end
+pub record IsFeedOf (net : Net) (limit : ℕ) (feed : List ℕ) (events : List FeedEvent) : Type 0 where
+  pub all : (events_of net limit feed).events ≡ events
+  pub ends : (events_of net limit feed).ending ≡ None
+
+-- The text of events that have frames is read as these events, where it is no longer than may be read.
+abbrev pub FeedTextIsRead : Type 0
+FeedTextIsRead = (net : Net) (limit : ℕ) (events : List FeedEvent) → AllByRecursion HasFrames events → length (feed_text net events) ≤ limit
+    → IsFeedOf net limit (feed_text net events) events
+
+-- a feed that has these events goes on past the limit: the first of them come, and behind them a stray where the limit stands between a proof
+-- and the end of its block
+pub record BeginsFeedOf (net : Net) (limit : ℕ) (feed : List ℕ) (events : List FeedEvent) : Type 0 where
+  pub front : List FeedEvent
+  pub later : List FeedEvent
+  pub split : events ≡ front ++ later
+  pub strays : List FeedEvent
+  pub one : (strays ≡ []) ⊎ (strays ≡ StrayCame ∷ [])
+  pub all : (events_of net limit feed).events ≡ front ++ strays
+  pub ends : (events_of net limit feed).ending ≡ Some (Limit limit)
+
+-- Where it is longer, the first of the events are read, up to the limit.
+abbrev pub FeedTextIsCut : Type 0
+FeedTextIsCut = (net : Net) (limit : ℕ) (events : List FeedEvent) → AllByRecursion HasFrames events → limit < length (feed_text net events)
+    → BeginsFeedOf net limit (feed_text net events) events
