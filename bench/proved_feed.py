@@ -1,9 +1,14 @@
 #!/usr/bin/env python3
-"""Writes a feed of mainnet blocks with proofs: proved_feed.py ENTRIES BLOCKS SPENDS
+"""Writes feeds of mainnet blocks with proofs.
 
-First come blocks whose coinbases make ENTRIES outputs, then a hundred blocks so that these ripen, then BLOCKS blocks that each
-spend SPENDS of them (drawn by a fixed rule) and make as many. What a node has to digest for the last ones goes to standard
-error, as two numbers: blocks of SHA-512 for the forest (128 bytes each) and of SHA-256 for hashes and ids (64 bytes each).
+proved_feed.py ENTRIES BLOCKS SPENDS
+    First come blocks whose coinbases make ENTRIES outputs, then a hundred blocks so that these ripen, then BLOCKS blocks that each
+    spend SPENDS of them (drawn by a fixed rule) and make as many. What a node has to digest for the last ones goes to standard
+    error, as two numbers: blocks of SHA-512 for the forest (128 bytes each) and of SHA-256 for hashes and ids (64 bytes each).
+
+proved_feed.py example FEED LINES
+    The file FEED gets a small feed whose blocks spend with proofs, a proof that is wrong, and rollbacks behind which the same outputs are
+    spent again; the file LINES the report that a node that holds every output prints of it.
 
 The forest is kept as explicit trees, by a program of its own that knows nothing of the node.
 """
@@ -13,10 +18,12 @@ import sys
 
 MAGIC = bytes.fromhex("f9beb4d9")
 PROOF = b"UTXP"
+ROLLBACK = b"UTXR"
 TAG = hashlib.sha512(b"UtreexoV1").digest()
 SUBSIDY = 5_000_000_000
 SCRIPT = b"\x51"
 LEAF_BLOCKS = 2  # a pair has one
+KEPT = 100  # the most blocks that are taken back
 
 
 def sha256d(text):
@@ -113,7 +120,7 @@ class Forest:
         return list(zip(nodes, places[::-1]))
 
     def prove(self, leaves):
-        """The targets' positions, and the digests that are needed beside them in ascending position."""
+        """The targets' positions, and the digests that are needed beside them, by place in ascending position."""
         covered, targets, beside = {}, [], {}
         for leaf in leaves:
             path = self.path(leaf)
@@ -123,9 +130,20 @@ class Forest:
                 if node.parent is not None:
                     other = node.parent.right if node is node.parent.left else node.parent.left
                     beside[place[0], place[1] ^ 1] = other.digest
-        needed = sorted(place for place in beside if place not in covered)
         self.made += self.digests_for(covered)
-        return targets, [beside[place] for place in needed]
+        return targets, {place: beside[place] for place in sorted(beside) if place not in covered}
+
+    def differing_row(self, leaves, beside):
+        """The greatest row whose root is not what these leaves come to with these digests beside them."""
+        covered = {place: node for leaf in leaves for node, place in self.path(leaf)}
+
+        def value(row, off):
+            if (row, off) in beside:
+                return beside[row, off]
+            node = covered[row, off]
+            return node.digest if node.left is None else digest(value(row - 1, 2 * off) + value(row - 1, 2 * off + 1))
+
+        return max(row for (row, off), node in covered.items() if node.parent is None and value(row, off) != node.digest)
 
     @staticmethod
     def digests_for(covered):
@@ -194,44 +212,126 @@ def pairs(count):
     return total
 
 
+def outputs_of(ids, claims, payments):
+    """The outputs of a block: of which transaction, its id, the index, and the amount."""
+    lists = [claims] + [amounts for _, amounts in payments]
+    return [(t, ids[t], index, amount) for t, amounts in enumerate(lists) for index, amount in enumerate(amounts)]
+
+
 class Chain:
+    """Blocks behind one another, what is written of them, and the report of a node that holds every output."""
+
     def __init__(self, out):
-        self.out, self.height, self.tip, self.forest, self.hashed = out, 0, bytes(32), Forest(), 0
+        self.out, self.forest, self.hashed = out, Forest(), 0
+        self.blocks = []  # of each the hash, what it spends and what it makes
+        self.lines, self.events, self.kept = [], 0, 0
+
+    def height(self):
+        return len(self.blocks)
+
+    def tip(self):
+        return self.blocks[-1][0] if self.blocks else bytes(32)
+
+    def named(self, height, block):
+        return f"{height} {block[::-1].hex()}"
+
+    def chain_line(self):
+        return f"{self.named(self.height() - 1, self.tip()) if self.blocks else '- -'} {self.forest.count}"
+
+    def tell(self, line):
+        self.lines.append(line)
+        self.events += 1
+
+    def write_block(self, payments, claims):
+        """Writes the frame of a block of a coinbase and of payments, each a pair of what it spends and the amounts that it makes."""
+        txs = [coinbase(self.height(), claims)] + [payment(spent, amounts) for spent, amounts in payments]
+        ids = [sha256d(tx) for tx in txs]
+        header = struct.pack("<I", 1) + self.tip() + merkle(ids) + struct.pack("<I", 1231006505 + self.height()) + bytes.fromhex("ffff001d") + bytes(4)
+        self.out.write(frame(MAGIC, header + compact(len(txs)) + b"".join(txs)))
+        self.hashed += sum(blocks_of(len(tx)) for tx in txs) + blocks_of(80) + blocks_of(64) * pairs(len(txs))
+        return sha256d(header), ids
+
+    def write_message(self, spent, targets, beside):
+        self.out.write(frame(PROOF, (
+            b"\x01\x00" + compact(len(spent)) + b"".join(struct.pack("<Q", target) for target in targets)
+            + b"".join(entry.rest for entry in spent) + compact(len(beside)) + b"".join(beside.values())
+        )))
+
+    def keep(self, block, spent, made):
+        """The forest behind a block: what it spends goes, and then what it makes comes."""
+        for entry in spent:
+            self.forest.spend(entry.leaf)
+        for entry in made:
+            self.forest.add(entry.leaf)
+        self.blocks.append((block, spent, made))
 
     def extend(self, payments, claims):
-        """A block of a coinbase and of payments, each a pair of the entries that it spends and the amounts that it makes."""
-        txs = [coinbase(self.height, claims)] + [payment(spent, amounts) for spent, amounts in payments]
-        ids = [sha256d(tx) for tx in txs]
-        header = struct.pack("<I", 1) + self.tip + merkle(ids) + struct.pack("<I", 1231006505 + self.height) + bytes.fromhex("ffff001d") + bytes(4)
-        block = header + compact(len(txs)) + b"".join(txs)
+        """A block that is accepted. Answers what it makes, and how many digests that takes."""
         spent = [entry for entries, _ in payments for entry in entries]
-        before = self.forest.made
+        before, height = self.forest.made, self.height()
         if spent:
-            targets, hashes = self.forest.prove([entry.leaf for entry in spent])
-            message = (
-                b"\x01\x00" + compact(len(spent)) + b"".join(struct.pack("<Q", target) for target in targets)
-                + b"".join(entry.rest for entry in spent) + compact(len(hashes)) + b"".join(hashes)
-            )
-            self.out.write(frame(PROOF, message))
-            for entry in spent:
-                self.forest.spend(entry.leaf)
-        self.out.write(frame(MAGIC, block))
-        self.tip = sha256d(header)
-        made = []
-        if self.height > 0:
-            outputs = [(0, claims)] + [(t + 1, amounts) for t, (_, amounts) in enumerate(payments)]
-            for t, amounts in outputs:
-                for index, amount in enumerate(amounts):
-                    entry = Entry(ids[t], index, self.tip, self.height, t == 0, amount)
-                    self.forest.add(entry.leaf)
-                    made.append(entry)
-        self.height += 1
-        self.hashed += sum(blocks_of(len(tx)) for tx in txs) + blocks_of(80) + blocks_of(64) * pairs(len(txs))
+            self.write_message(spent, *self.forest.prove([entry.leaf for entry in spent]))
+        block, ids = self.write_block(payments, claims)
+        made = [Entry(txid, index, block, height, t == 0, amount) for t, txid, index, amount in outputs_of(ids, claims, payments) if height > 0]
+        self.keep(block, spent, made)
+        self.kept = min(KEPT, self.kept + 1)
+        self.tell(f"accepted {self.chain_line()}")
         return made, self.forest.made - before + LEAF_BLOCKS * (len(spent) + len(made))
 
+    def fail(self, payments, claims):
+        """A block whose message has one digest that is another's, and which is refused."""
+        spent = [entry for entries, _ in payments for entry in entries]
+        leaves = [entry.leaf for entry in spent]
+        targets, beside = self.forest.prove(leaves)
+        beside[min(beside)] = leaves[0].digest
+        self.write_message(spent, targets, beside)
+        block, _ = self.write_block(payments, claims)
+        self.tell(f"refused {self.named(self.height(), block)} proof root {self.forest.differing_row(leaves, beside)}")
 
-def main():
-    entries, blocks, spends = map(int, sys.argv[1:4])
+    def go_back(self, count):
+        """A rollback. The forest before is made anew, from nothing, of the blocks that are left."""
+        self.out.write(frame(ROLLBACK, struct.pack("<I", count)))
+        if count > self.kept:
+            self.tell(f"toodeep {count} {self.kept}")
+            return
+        left = self.blocks[:self.height() - count]
+        self.blocks, self.forest, self.kept = [], Forest(), self.kept - count
+        for block, spent, made in left:
+            for entry in made:
+                entry.leaf.parent = None
+            self.keep(block, spent, made)
+        self.tell(f"rolledback {count} {self.chain_line()}")
+
+    def report(self):
+        return "\n".join(self.lines + [f"end {self.events} {self.chain_line()}", ""])
+
+
+def example(feed, lines):
+    with open(feed, "wb") as out:
+        chain = Chain(out)
+        coins = []
+        for _ in range(102):
+            coins += chain.extend([], [SUBSIDY])[0]
+        half = SUBSIDY // 2
+        _, first, second = chain.extend([(coins[0:2], [SUBSIDY, SUBSIDY])], [SUBSIDY])[0]
+        chain.extend([([first, coins[2]], [half]), ([second], [half])], [SUBSIDY])
+        chain.fail([(coins[3:4], [half])], [SUBSIDY])
+        chain.extend([(coins[3:4], [half])], [SUBSIDY])
+        # the other branch, on which the same is spent, and which grows longer
+        chain.go_back(2)
+        chain.extend([([first], [SUBSIDY])], [SUBSIDY])
+        chain.extend([([second, coins[2], coins[3]], [half, half])], [SUBSIDY])
+        chain.fail([(coins[4:5], [half])], [SUBSIDY])
+        chain.extend([(coins[4:5], [half])], [SUBSIDY])
+        # further back than is kept, and before all of it
+        chain.go_back(KEPT + 1)
+        chain.go_back(4)
+        chain.extend([(coins[0:1], [half])], [SUBSIDY])
+    with open(lines, "w") as out:
+        out.write(chain.report())
+
+
+def measured(entries, blocks, spends):
     chain = Chain(sys.stdout.buffer)
     chain.extend([], [SUBSIDY])
     purse = []
@@ -254,4 +354,7 @@ def main():
     print(digests, chain.hashed, file=sys.stderr)
 
 
-main()
+if sys.argv[1] == "example":
+    example(*sys.argv[2:4])
+else:
+    measured(*map(int, sys.argv[1:4]))
