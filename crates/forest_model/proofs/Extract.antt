@@ -12,7 +12,7 @@ use Rattle.forest_model.specs.Content.{Tree, leaf, inner, content, digest_of, pa
 use Rattle.forest_place.specs.Forest.{InForest, is_root, is_slot, root_off}
 use Rattle.forest_model.specs.Standing.{half, tree_at, root, digest_at}
 use Rattle.forest_place.specs.Places.{is_at, has_place}
-use Rattle.forest_model.specs.Cover.{Cover, target, given, both, both_of, cover, need, is_needed, HasShape, is_above}
+use Rattle.forest_model.specs.Cover.{Cover, target, given, both, cover_of_halves, cover, need, is_needed, HasShape, is_above}
 use Rattle.forest_model.specs.Evaluation.{beside, value, value_texts, asked, hash_of, IsAccepted}
 use Rattle.forest_model.specs.Right.{IsRight, IsLiveAt, entries, text_at, HasClash}
 use Rattle.forest_place.proofs.Parts.{parts-suc, row_below, InForest-root, is_root-root_off, root_off-is_root, InForest-up}
@@ -51,7 +51,7 @@ target_beneath ts (suc r) o c e =
     up_from : (p : ℕ) → p / 2 ≡ o → (q : Place) × (k : ℕ) × (has_place ts q.row q.off ≡ true) × (q.row + k ≡ r) × (q.off / 2 ^ k ≡ p) → (q : Place) × (k : ℕ) × (has_place ts q.row q.off ≡ true) × (q.row + k ≡ suc r) × (q.off / 2 ^ k ≡ o)
     up_from p e w = (w.0, suc w.1, w.2, (let z : w.0.row + suc w.1 ≡ suc r = omega (arith, w.3) in z), parts-suc w.0.off w.1 ∙ ap (λ x. x / 2) w.4 ∙ e)
 
-    in_half : {A : Type 0} (x y : Option Cover) → both_of r o x y ≡ Some c → ((d : Cover) → x ≡ Some d → A) → ((d : Cover) → y ≡ Some d → A) → A
+    in_half : {A : Type 0} (x y : Option Cover) → cover_of_halves r o x y ≡ Some c → ((d : Cover) → x ≡ Some d → A) → ((d : Cover) → y ≡ Some d → A) → A
     in_half None None e f g = absurd (none-some c e)
     in_half (Some d) y e f g = f d refl
     in_half None (Some d) e f g = g d refl
@@ -68,15 +68,15 @@ parent_no_target n ts shape r o c e =
     false≢true (sym (shape.apart (place (suc r) (o / 2)) w.0 it w.2) ∙ above))
 
 -- the form of a cover above what is covered
-both_left : (r o : ℕ) (c : Cover) (y : Option Cover) → (d : Cover) × (both_of r o (Some c) y ≡ Some (both c d)) × (y ≡ None → d ≡ given r (2 * o + 1))
+both_left : (r o : ℕ) (c : Cover) (y : Option Cover) → (d : Cover) × (cover_of_halves r o (Some c) y ≡ Some (both c d)) × (y ≡ None → d ≡ given r (2 * o + 1))
 both_left r o c None = (given r (2 * o + 1), refl, λ e. refl)
 both_left r o c (Some d) = (d, refl, λ e. absurd (none-some d (sym e)))
 
-both_right : (r o : ℕ) (c : Cover) (x : Option Cover) → (d : Cover) × (both_of r o x (Some c) ≡ Some (both d c)) × (x ≡ None → d ≡ given r (2 * o))
+both_right : (r o : ℕ) (c : Cover) (x : Option Cover) → (d : Cover) × (cover_of_halves r o x (Some c) ≡ Some (both d c)) × (x ≡ None → d ≡ given r (2 * o))
 both_right r o c None = (given r (2 * o), refl, λ e. refl)
 both_right r o c (Some d) = (d, refl, λ e. absurd (none-some d (sym e)))
 
-cover-both : (ts : List Place) (r o : ℕ) → has_place ts (suc r) o ≡ false → cover ts (suc r) o ≡ both_of r o (cover ts r (2 * o)) (cover ts r (2 * o + 1))
+cover-both : (ts : List Place) (r o : ℕ) → has_place ts (suc r) o ≡ false → cover ts (suc r) o ≡ cover_of_halves r o (cover ts r (2 * o)) (cover ts r (2 * o + 1))
 cover-both ts r o e = rw e refl
 
 Beside-both : {P Q : ℕ → ℕ → Tree → Type 0} (c d : Cover) (t : Tree) → Beside P Q (both c d) t → (a : Tree) × (b : Tree) × (t ≡ inner a b) × Beside P Q c a × Beside P Q d b
@@ -177,13 +177,13 @@ module _ (H : List ℕ → Digest) (es : List (Option Digest)) (text_of : ℕ �
     above_left r h c e =
         let half_is : (2 * h) / 2 ≡ h = omega arith in
         let no_target : has_place ts (suc r) h ≡ false = ap (has_place ts (suc r)) (sym half_is) ∙ parent_no_target (length es) ts shape r (2 * h) c e in
-        cover-both ts r h no_target ∙ ap (λ x. both_of r h x (cover ts r (2 * h + 1))) e ∙ (both_left r h c (cover ts r (2 * h + 1))).1
+        cover-both ts r h no_target ∙ ap (λ x. cover_of_halves r h x (cover ts r (2 * h + 1))) e ∙ (both_left r h c (cover ts r (2 * h + 1))).1
 
     above_right : (r h : ℕ) (c : Cover) → cover ts r (2 * h + 1) ≡ Some c → cover ts (suc r) h ≡ Some (both (both_right r h c (cover ts r (2 * h))).0 c)
     above_right r h c e =
         let half_is : (2 * h + 1) / 2 ≡ h = omega arith in
         let no_target : has_place ts (suc r) h ≡ false = ap (has_place ts (suc r)) (sym half_is) ∙ parent_no_target (length es) ts shape r (2 * h + 1) c e in
-        cover-both ts r h no_target ∙ ap (λ x. both_of r h (cover ts r (2 * h)) x) e ∙ (both_right r h c (cover ts r (2 * h))).1
+        cover-both ts r h no_target ∙ ap (λ x. cover_of_halves r h (cover ts r (2 * h)) x) e ∙ (both_right r h c (cover ts r (2 * h))).1
 
     -- each covered place is found, from its root down
     covered_found : (k r o : ℕ) (c : Cover) → length es - r ≡ k → InForest (length es) r o → cover ts r o ≡ Some c → FoundAt r o c

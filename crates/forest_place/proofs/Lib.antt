@@ -3,6 +3,7 @@ pub mod Slots
 pub mod Siblings
 pub mod Differing
 pub mod Listed
+pub mod Counted
 pub mod Ascending
 pub mod Positions
 pub mod Numbered

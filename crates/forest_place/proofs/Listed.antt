@@ -1,5 +1,5 @@
 -- Lists of places: what is in one.
-use Rattle.std.proofs.Common.{◌≡◌, ℕ, zero, suc, ◌+◌, ◌/◌, ◌^◌, ◌<◌, ◌≤◌, Bool, true, List, [], ◌∷◌, filter, refl, sym, ap, ◌∙◌, subst, ap₂, ⊎_elim, arith, eq-eqb}
+use Rattle.std.proofs.Common.{◌≡◌, ℕ, zero, suc, ◌+◌, ◌/◌, ◌^◌, ◌<◌, ◌≤◌, Bool, true, false, List, [], ◌∷◌, filter, refl, sym, ap, ◌∙◌, subst, ap₂, ⊎_elim, arith, eq-eqb}
 use Rattle.std.specs.Prelude.{◌==◌}
 use Rattle.std.proofs.lemmas.Bool.{cases_Bool, and_from, and_parts, false≢true, eqb-true, or_cases, or_left, or_right, cases_eq}
 use Rattle.std.proofs.lemmas.List.Folds.{list_any-append}
@@ -7,6 +7,13 @@ use Rattle.forest_place.specs.declared.place.Place.{Place}
 use Rattle.forest_place.specs.Forest.{InForest}
 use Rattle.forest_place.specs.Places.{is_at, has_place, places, places_from, row_places}
 use Rattle.forest_place.proofs.Parts.{row_below}
+
+-- tests that are true together are one
+pub same_Bools : (a b : Bool) → (a ≡ true → b ≡ true) → (b ≡ true → a ≡ true) → a ≡ b
+same_Bools true true f g = refl
+same_Bools true false f g = absurd (false≢true (f refl))
+same_Bools false true f g = absurd (false≢true (g refl))
+same_Bools false false f g = refl
 
 abbrev pub place : ℕ → ℕ → Place
 place r o = record { row = r; off = o }

@@ -1,3 +1,4 @@
+-- what public clauses cite
 pub mod Forest
 pub mod Places
 pub mod Position

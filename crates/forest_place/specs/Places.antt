@@ -1,7 +1,8 @@
 -- Lists of places: what is in one, and the order of places.
-use Rattle.std.specs.Prelude.{◌≡◌, ℕ, zero, suc, ◌/◌, ◌^◌, ◌<◌, Bool, true, false, ◌&&◌, ◌==◌, ◌⊎◌, List, [], ◌∷◌, ◌++◌}
+use Rattle.std.specs.Prelude.{◌≡◌, ℕ, zero, suc, ◌-◌, ◌/◌, ◌^◌, ◌<◌, Bool, true, false, ◌&&◌, ◌==◌, ◌⊎◌, List, [], ◌∷◌, ◌++◌, length, get_or}
 use Rattle.std.specs.List.{list_any}
 use Rattle.forest_place.specs.declared.place.Place.{Place}
+use Rattle.forest_place.specs.Forest.{InForest}
 
 -- the place has this row and this offset
 abbrev pub is_at : ℕ → ℕ → Place → Bool
@@ -10,6 +11,18 @@ is_at row off p = (p.row == row) && (p.off == off)
 -- a place of the list has this row and this offset
 abbrev pub has_place : List Place → ℕ → ℕ → Bool
 has_place ps row off = list_any (is_at row off) ps
+
+-- all of them are places of the forest over n
+abbrev pub AreWithin : ℕ → List Place → Type 0
+AreWithin n ps = (r o : ℕ) → has_place ps r o ≡ true → InForest n r o
+
+-- the place at an index
+abbrev pub place_in : List Place → ℕ → Place
+place_in ps k = get_or ps k (record { row = 0; off = 0 })
+
+-- p stands right before or right after an index
+abbrev pub IsNear : List Place → ℕ → Place → Type 0
+IsNear ps k p = ((0 < k) × (place_in ps (k - 1) ≡ p)) ⊎ ((suc k < length ps) × (place_in ps (suc k) ≡ p))
 
 -- no place is twice in the list
 abbrev pub IsDistinct : List Place → Type 0

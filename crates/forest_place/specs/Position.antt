@@ -1,5 +1,5 @@
 -- The number of a place: rows one after another from the leaves up, each with room for all of its places.
-use Rattle.std.specs.Prelude.{ℕ, zero, suc, ◌+◌, ◌-◌, ◌^◌, ◌==◌, if◌then◌else◌, nat_lt, Option, find}
+use Rattle.std.specs.Prelude.{ℕ, zero, suc, ◌+◌, ◌-◌, ◌^◌, ◌==◌, if◌then◌else◌, nat_lt, List, map, Option, find}
 use Rattle.forest_place.specs.declared.place.Place.{Place}
 use Rattle.forest_place.specs.Places.{places}
 
@@ -23,3 +23,7 @@ position n row off = row_start (rows n) row + off
 -- the place of the forest over n that has a position
 abbrev pub place_at : ℕ → ℕ → Option Place
 place_at n number = find (λ p. position n p.row p.off == number) (places n)
+
+-- the positions of a list of places
+abbrev pub positions_of : ℕ → List Place → List ℕ
+positions_of n ps = map (λ p. position n p.row p.off) ps

@@ -2,11 +2,13 @@
 #![tactic(auto)]
 
 mod laws;
+mod lists;
 mod numbering;
 mod place;
 #[cfg(test)]
 mod tests;
 
 pub use laws::{places_are_beneath_roots, places_are_listed, positions_ascend};
+pub use lists::is_near;
 pub use numbering::{parent_position, place_of, position, rows};
-pub use place::{Place, children, parent, root_place, sibling, slot_of};
+pub use place::{Place, children, is_root, parent, root_place, sibling, slot_of};

@@ -1,6 +1,6 @@
 //! A place, and the places around it.
 ghost use Rattle.std.specs.Prelude.{◌≡◌, ◌+◌, ◌*◌, ◌/◌, ◌%◌, ◌^◌, ◌<◌, IsTrue, MatchOption};
-ghost use Rattle.forest_place.specs.Forest.{InForest, IsSlotOf, is_slot, root_off, sibling_off};
+ghost use Rattle.forest_place.specs.Forest.{InForest, IsSlotOf, is_slot, is_root as is_root_at, root_off, sibling_off};
 
 /// A row of the forest, counted from the leaves up, and an offset in it. Places are ordered as their positions are.
 #[derive(Clone, Copy, Debug, PartialEq, Eq, PartialOrd, Ord, Hash)]
@@ -36,6 +36,15 @@ pub fn root_place(row: u8, n: u64) -> Place
         row,
         off: (n >> row) - 1,
     }
+}
+
+/// Whether a place of the forest over `n` entries is a slot's root.
+pub fn is_root(n: u64, place: Place) -> bool
+    requires small { n < 2 ^ 40 }
+    requires within { InForest n place.row place.off }
+    ensures { result ≡ is_root_at n place.row place.off }
+{
+    place.off % 2 == 0 && place.off + 1 == n >> place.row
 }
 
 /// The place above.

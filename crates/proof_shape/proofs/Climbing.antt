@@ -9,7 +9,8 @@ use Rattle.forest_place.specs.Position.{position}
 use Rattle.forest_place.proofs.Parts.{InForest-up, InForest-beneath, not_root-down, half_pow}
 use Rattle.forest_place.proofs.Positions.{position_rises}
 use Rattle.forest_model.specs.Cover.{is_above}
-use Rattle.proof_shape.specs.Shape.{has_number, HasOneAbove, HasNoneAbove, IsPast}
+use Rattle.proof_shape.specs.Shape.{has_number}
+use Rattle.proof_shape.specs.Found.{HasOneAbove, HasNoneAbove, IsPast}
 
 -- no place of the forest stands above a root
 pub nothing_above : (n r o k : ℕ) → is_root n r o ≡ true → InForest n (r + suc k) (o / 2 ^ suc k) → ⊥

@@ -4,14 +4,15 @@ use Rattle.std.proofs.lemmas.List.{get_or-take}
 use Rattle.std.proofs.Math.Seq.{take-length}
 use Rattle.forest_place.specs.declared.place.Place.{Place}
 use Rattle.forest_place.specs.Forest.{InForest}
-use Rattle.forest_place.specs.Position.{position, place_at}
+use Rattle.forest_place.specs.Position.{position, place_at, positions_of}
 use Rattle.forest_place.proofs.Positions.{one_position}
 use Rattle.forest_place.proofs.Numbered.{place_at-position}
+use Rattle.forest_place.specs.Places.{place_in}
 use Rattle.forest_model.specs.Cover.{HasShape}
 use Rattle.proof_shape.specs.declared.fault.ShapeFault.{ShapeFault}
 use Rattle.proof_shape.specs.declared.fault.ShapeFault.TheVariants.{Outside, Repeated, Beneath, NoMemory}
-use Rattle.proof_shape.specs.Shape.{positions_of, is_crossing, AreTargets, IsSoundTo, IsFault}
-use Rattle.proof_shape.specs.Found.{place_in, IsFront, IsSoundLength, IsFaultAt, crosses}
+use Rattle.proof_shape.specs.Shape.{is_crossing, AreTargets, IsSoundTo, IsShapeFault}
+use Rattle.proof_shape.specs.Found.{IsFront, IsSoundLength, IsFaultAt, crosses}
 use Rattle.proof_shape.proofs.Ordered.{has_at}
 
 positions_taken : (n : ℕ) (ps : List Place) (k : ℕ) → positions_of n (take k ps) ≡ take k (positions_of n ps)
@@ -35,11 +36,11 @@ module _ (n : ℕ) (numbers : List ℕ) (ps : List Place) (f : IsFront n numbers
   in_forest : (k : ℕ) → k < length ps → InForest n (place_in ps k).row (place_in ps k).off
   in_forest k h = f.within (place_in ps k).row (place_in ps k).off (has_at ps k (record { row = 0; off = 0 }) h)
 
-  number_at : (k : ℕ) → k < length ps → get_or numbers k 0 ≡ position n (place_in ps k).row (place_in ps k).off
-  number_at k h = sym (get_or-take (length ps) numbers k 0 h) ∙ (ap (λ l. get_or l k 0) (sym f.numbered) ∙ position_at n ps k h)
+  number_of_place : (k : ℕ) → k < length ps → get_or numbers k 0 ≡ position n (place_in ps k).row (place_in ps k).off
+  number_of_place k h = sym (get_or-take (length ps) numbers k 0 h) ∙ (ap (λ l. get_or l k 0) (sym f.numbered) ∙ position_at n ps k h)
 
   place_is : (k : ℕ) → k < length ps → place_at n (get_or numbers k 0) ≡ Some (place_in ps k)
-  place_is k h = ap (place_at n) (number_at k h) ∙ place_at-position n (place_in ps k) (in_forest k h)
+  place_is k h = ap (place_at n) (number_of_place k h) ∙ place_at-position n (place_in ps k) (in_forest k h)
 
   front_sound : (i : ℕ) → i ≤ length ps → i < length numbers → HasShape n (take i ps) → IsSoundTo n numbers i
   front_sound i h below s = record {
@@ -48,21 +49,21 @@ module _ (n : ℕ) (numbers : List ℕ) (ps : List Place) (f : IsFront n numbers
   }
 
   same_number : (j i : ℕ) → j < length ps → i < length ps → place_in ps j ≡ place_in ps i → get_or numbers j 0 ≡ get_or numbers i 0
-  same_number j i h k e = number_at j h ∙ (ap (λ (p : Place). position n p.row p.off) e ∙ sym (number_at i k))
+  same_number j i h k e = number_of_place j h ∙ (ap (λ (p : Place). position n p.row p.off) e ∙ sym (number_of_place i k))
 
   same_place : (j i : ℕ) → j < length ps → i < length ps → get_or numbers j 0 ≡ get_or numbers i 0 → place_in ps j ≡ place_in ps i
-  same_place j i h k e = one_position n (place_in ps j) (place_in ps i) (in_forest j h) (in_forest i k) (sym (number_at j h) ∙ (e ∙ number_at i k))
+  same_place j i h k e = one_position n (place_in ps j) (place_in ps i) (in_forest j h) (in_forest i k) (sym (number_of_place j h) ∙ (e ∙ number_of_place i k))
 
   crossing_is : (i j : ℕ) → i < length ps → j < length ps → is_crossing (place_at n (get_or numbers i 0)) (place_at n (get_or numbers j 0)) ≡ crosses (place_in ps i) (place_in ps j)
   crossing_is i j h k = ap₂ is_crossing (place_is i h) (place_is j k)
 
   -- a fault of the places is the list's
-  pub fault_from : (i : ℕ) (fault : ShapeFault) → i < length ps → HasShape n (take i ps) → IsFaultAt ps i fault → IsFault n numbers fault
+  pub fault_from : (i : ℕ) (fault : ShapeFault) → i < length ps → HasShape n (take i ps) → IsFaultAt ps i fault → IsShapeFault n numbers fault
   fault_from i (Outside k) h s w = absurd w
   fault_from i (Repeated k j) h s w =
       let fits = f.fits in
       let lt = w.1.earlier in
-      subst (λ x. IsFault n numbers (Repeated x j)) (sym w.0)
+      subst (λ x. IsShapeFault n numbers (Repeated x j)) (sym w.0)
       record {
         first = front_sound i (omega arith) (omega (arith, h, fits)) s;
         earlier = lt;
@@ -72,7 +73,7 @@ module _ (n : ℕ) (numbers : List ℕ) (ps : List Place) (f : IsFront n numbers
   fault_from i (Beneath k j) h s w =
       let fits = f.fits in
       let lt = w.2.earlier in
-      subst (λ x. IsFault n numbers (Beneath x j)) (sym w.0)
+      subst (λ x. IsShapeFault n numbers (Beneath x j)) (sym w.0)
       record {
         first = front_sound i (omega arith) (omega (arith, h, fits)) s;
         earlier = lt;
@@ -86,7 +87,7 @@ module _ (n : ℕ) (numbers : List ℕ) (ps : List Place) (f : IsFront n numbers
   whole k s top = let fits = s.fits in omega (arith, fits, top)
 
   -- positions that are sound as far as they are places
-  pub outside_from : (k : ℕ) → IsSoundLength n ps k → (k < length ps → ⊥) → k < length numbers → IsFault n numbers (Outside k)
+  pub outside_from : (k : ℕ) → IsSoundLength n ps k → (k < length ps → ⊥) → k < length numbers → IsShapeFault n numbers (Outside k)
   outside_from k s top lt =
       let e = whole k s top in
       (front_sound k (omega (arith, e)) lt s.sound, ap (λ x. place_at n (get_or numbers x 0)) e ∙ f.ends (omega (arith, e, lt)))

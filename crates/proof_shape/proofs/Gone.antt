@@ -3,10 +3,11 @@ use Rattle.std.proofs.Common.{◌≡◌, ℕ, zero, suc, ◌+◌, ◌-◌, ◌*�
 use Rattle.std.specs.Prelude.{◌⊎◌, ◌==◌, nat_lt}
 use Rattle.std.proofs.lemmas.Bool.{cases_Bool, cases_eq, cases_lt, false≢true, false_from_ne_true, or_cases, or_left, or_right, or_from, and_from, and_parts, lt-ltb, ltb-true}
 use Rattle.std.proofs.lemmas.List.Folds.{list_any_at}
+use Rattle.std.proofs.Math.Bool.{or-false, and-true}
 use Rattle.std.proofs.lemmas.Option.{none-some}
 use Rattle.forest_place.specs.declared.place.Place.{Place}
 use Rattle.forest_place.specs.Forest.{InForest, is_root, sibling_off}
-use Rattle.forest_place.specs.Places.{has_place}
+use Rattle.forest_place.specs.Places.{has_place, AreWithin}
 use Rattle.forest_place.proofs.Parts.{parts-suc, half_pow, InForest-up, InForest-left, InForest-right, not_root-left, not_root-right, row_below}
 use Rattle.forest_place.proofs.Siblings.{sibling_off-left, sibling_off-right}
 use Rattle.forest_place.proofs.Listed.{place}
@@ -15,11 +16,11 @@ use Rattle.forest_model.specs.Deletion.{is_gone, moved, child_place}
 use Rattle.forest_model.proofs.Covers.{needed_parts}
 use Rattle.forest_model.proofs.Lists.{need_has, need_had}
 use Rattle.forest_model.proofs.Moving.{moved-step, moved-is_gone}
-use Rattle.proof_shape.specs.Survey.{CoversTell}
-use Rattle.proof_shape.specs.Shape.{has_number, AreWithin, positions_of}
-use Rattle.proof_shape.specs.Moves.{GoneTell, HasNeighbours, AreApart, IsBeneathTarget}
+use Rattle.proof_shape.specs.Targeted.{IsBeneathTarget}
+use Rattle.proof_shape.specs.Shape.{has_number}
+use Rattle.proof_shape.specs.Moves.{GoneTell, HasNeighbours, AreApart, CoversTell}
 use Rattle.proof_shape.proofs.Ordered.{has_where, sorted_number_is}
-use Rattle.forest_place.specs.Position.{position}
+use Rattle.forest_place.specs.Position.{position, positions_of}
 use Rattle.std.specs.List.Sorted.{IsNonDecreasing, IsPermutation}
 use Rattle.proof_shape.proofs.Needing.{covered_up, covered_target}
 use Rattle.proof_shape.proofs.Climbing.{nothing_above}
@@ -193,10 +194,6 @@ apart_from xs up steps x h =
         let next = step (get_or xs k 0) e (get_or xs (k + 1) 0) (steps k (omega (arith, l))) low (omega (arith, high, f)) in
         between d (k + 1) (omega (arith, l)) next (ap (λ i. get_or xs i 0) (sym to) ∙ f)
 
-or_none : (x : Bool) → (x || false) ≡ x
-or_none true = refl
-or_none false = refl
-
 module _ (n : ℕ) (ts : List Place) (sorted : List ℕ) (within : AreWithin n ts) (perm : IsPermutation (positions_of n ts) sorted) (apart : AreApart sorted) where
   -- nothing is gone but the targets
   alone_gone : (r o : ℕ) → InForest n r o → is_gone ts r o ≡ has_place ts r o
@@ -214,15 +211,11 @@ module _ (n : ℕ) (ts : List Place) (sorted : List ℕ) (within : AreWithin n t
           (ap (has_number sorted) p ∙ apart (position n r (2 * o)) (sorted_number_is n ts sorted (place r (2 * o)) within perm left ∙ it))
 
       by_left : (x y : Bool) → (x ≡ true → y ≡ false) → (has_place ts (suc r) o || (x && y)) ≡ has_place ts (suc r) o
-      by_left false y f = or_none (has_place ts (suc r) o)
-      by_left true y f = ap (λ z. has_place ts (suc r) o || (true && z)) (f refl) ∙ or_none (has_place ts (suc r) o)
+      by_left false y f = or-false (has_place ts (suc r) o)
+      by_left true y f = ap (λ z. has_place ts (suc r) o || (true && z)) (f refl) ∙ or-false (has_place ts (suc r) o)
 
   pub alone_tell : GoneTell n ts sorted []
-  alone_tell r o h = and_true (has_number sorted (position n r o)) ∙ (sorted_number_is n ts sorted (place r o) within perm h ∙ sym (alone_gone r o h))
-    where
-      and_true : (x : Bool) → (x && true) ≡ x
-      and_true true = refl
-      and_true false = refl
+  alone_tell r o h = and-true (has_number sorted (position n r o)) ∙ (sorted_number_is n ts sorted (place r o) within perm h ∙ sym (alone_gone r o h))
 
 -- a child of a place of the forest
 pub child_within : (n r o side : ℕ) → InForest n r o → 0 < r → side < 2 → InForest n (r - 1) (2 * o + side)

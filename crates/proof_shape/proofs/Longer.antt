@@ -6,11 +6,10 @@ use Rattle.std.proofs.lemmas.List.{take_more, get_or-take, length-take-le}
 use Rattle.std.proofs.lemmas.List.Folds.{list_any-append}
 use Rattle.forest_place.specs.declared.place.Place.{Place}
 use Rattle.forest_place.specs.Forest.{InForest}
-use Rattle.forest_place.specs.Places.{is_at, has_place, IsDistinct}
+use Rattle.forest_place.specs.Places.{is_at, has_place, IsDistinct, AreWithin, place_in}
 use Rattle.forest_place.proofs.Listed.{place, is_at-same, same_from_is_at}
 use Rattle.forest_model.specs.Cover.{is_above, HasShape}
-use Rattle.proof_shape.specs.Shape.{AreWithin}
-use Rattle.proof_shape.specs.Found.{place_in, crosses}
+use Rattle.proof_shape.specs.Found.{crosses}
 use Rattle.proof_shape.proofs.Ordered.{has_at}
 
 pub has_left : (xs ys : List Place) (r o : ℕ) → has_place xs r o ≡ true → has_place (xs ++ ys) r o ≡ true

@@ -11,23 +11,23 @@ use Rattle.std.proofs.lemmas.List.{take_more, append-nil, length-map}
 use Rattle.std.proofs.lemmas.List.Elements.{filter_map-append}
 use Rattle.forest_place.specs.declared.place.Place.{Place}
 use Rattle.forest_place.specs.Forest.{InForest, is_root, sibling_off}
-use Rattle.forest_place.specs.Places.{is_at, has_place, IsBefore, IsAscending}
+use Rattle.forest_place.specs.Places.{is_at, has_place, IsBefore, IsAscending, AreWithin, place_in, IsNear}
 use Rattle.forest_place.proofs.Parts.{InForest-left, InForest-right, not_root-left, not_root-right, double_half, double_half_odd}
 use Rattle.forest_place.proofs.Siblings.{sibling_cases, sibling_twice, sibling_within, sibling_no_root}
-use Rattle.forest_place.proofs.Listed.{place, same_from_is_at}
+use Rattle.forest_place.proofs.Listed.{same_Bools, place, same_from_is_at}
 use Rattle.forest_place.proofs.Ascending.{same_ascending}
 use Rattle.forest_place.proofs.Positions.{position_order}
-use Rattle.forest_model.specs.Cover.{Cover, cover, both_of, is_needed, need}
+use Rattle.forest_place.specs.Position.{positions_of}
+use Rattle.forest_model.specs.Cover.{Cover, cover, cover_of_halves, is_needed, need}
 use Rattle.forest_model.proofs.Covers.{needed_parts}
 use Rattle.forest_model.proofs.Lists.{need_has, need_had, need_ascending}
-use Rattle.proof_shape.specs.Shape.{has_number, AreWithin, positions_of}
-use Rattle.proof_shape.specs.Found.{place_in}
-use Rattle.proof_shape.specs.Swept.{pos, up, ArePositions, is_top, has, IsSwept, IsNear, Rises, needed_beside, needed_of}
+use Rattle.proof_shape.specs.Shape.{has_number}
+use Rattle.proof_shape.specs.Swept.{ArePositions, IsSwept}
 use Rattle.proof_shape.proofs.Ordered.{has_at, has_first, has_where, within_rest, number_is, sorted_number_is}
-use Rattle.proof_shape.specs.Survey.{IsCoverOf, CoversTell}
+use Rattle.proof_shape.specs.Survey.{IsCoverOf, pos, up, is_top, has, Rises, needed_beside, needed_of}
+use Rattle.proof_shape.specs.Moves.{CoversTell}
 use Rattle.proof_shape.proofs.Longer.{place_where}
 use Rattle.proof_shape.proofs.Faulty.{position_at}
-use Rattle.forest_model.proofs.Deleting.{same_Bools}
 
 abbrev pub beside : Place → Place
 beside p = place p.row (sibling_off p.off)
@@ -159,7 +159,7 @@ pub covered_up : (ts : List Place) (r o : ℕ) → is_some (cover ts (suc r) o) 
 covered_up ts r o =
     ⊎_elim (λ it. rw it refl) (λ other. rw other (by_halves (cover ts r (2 * o)) (cover ts r (2 * o + 1)))) (cases_Bool (has_place ts (suc r) o))
   where
-    by_halves : (x y : Option Cover) → is_some (both_of r o x y) ≡ (is_some x || is_some y)
+    by_halves : (x y : Option Cover) → is_some (cover_of_halves r o x y) ≡ (is_some x || is_some y)
     by_halves None None = refl
     by_halves None (Some d) = refl
     by_halves (Some c) None = refl

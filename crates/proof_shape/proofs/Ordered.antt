@@ -11,11 +11,11 @@ use Rattle.std.proofs.lemmas.List.Kept.{AllPairs-from_increasing}
 use Rattle.std.proofs.lemmas.Map.Keys.{IsDistinct-from_apart, IsDistinct-IsPermutation, IsDistinct-head, IsDistinct-tail, IsDistinct-cons, IsStrictlyIncreasing-from_distinct}
 use Rattle.forest_place.specs.declared.place.Place.{Place}
 use Rattle.forest_place.specs.Forest.{InForest}
-use Rattle.forest_place.specs.Places.{is_at, has_place, IsDistinct as HasNoRepeat}
-use Rattle.forest_place.specs.Position.{position}
+use Rattle.forest_place.specs.Places.{is_at, has_place, IsDistinct as HasNoRepeat, AreWithin}
+use Rattle.forest_place.specs.Position.{position, positions_of}
 use Rattle.forest_place.proofs.Listed.{place, is_at-same, same_from_is_at}
 use Rattle.forest_place.proofs.Positions.{one_position}
-use Rattle.proof_shape.specs.Shape.{has_number, AreWithin, positions_of}
+use Rattle.proof_shape.specs.Shape.{has_number}
 
 pub has_where : (xs : List ℕ) (y : ℕ) → has_number xs y ≡ true → (k : ℕ) × (k < length xs) × (get_or xs k 0 ≡ y)
 has_where [] y h = absurd (false≢true h)

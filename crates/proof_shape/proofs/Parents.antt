@@ -4,15 +4,14 @@ use Rattle.std.specs.Prelude.{◌⊎◌, ◌==◌}
 use Rattle.std.proofs.lemmas.Bool.{cases_Bool, false≢true, false_from_ne_true, or_cases, or_left, or_right, or_from, cases_eq}
 use Rattle.forest_place.specs.declared.place.Place.{Place}
 use Rattle.forest_place.specs.Forest.{InForest}
-use Rattle.forest_place.specs.Places.{has_place, is_at}
+use Rattle.forest_place.specs.Places.{has_place, is_at, AreWithin}
 use Rattle.forest_place.proofs.Parts.{InForest-up}
 use Rattle.forest_model.specs.Cover.{cover, need}
 use Rattle.forest_model.proofs.Covers.{needed_parts}
 use Rattle.forest_model.proofs.Lists.{need_had}
-use Rattle.proof_shape.specs.Shape.{AreWithin}
-use Rattle.proof_shape.specs.Swept.{up}
+use Rattle.proof_shape.specs.Survey.{up}
 use Rattle.proof_shape.proofs.Needing.{covered_up}
-use Rattle.forest_model.proofs.Deleting.{same_Bools}
+use Rattle.forest_place.proofs.Listed.{same_Bools}
 
 abbrev pub ups : List Place → List Place
 ups ns = map up ns

@@ -3,10 +3,11 @@ use Rattle.std.proofs.Common.{◌≡◌, ℕ, true, List, sym, ◌∙◌}
 use Rattle.std.specs.List.Sorted.{IsNonDecreasing, IsStrictlyIncreasing, IsPermutation}
 use Rattle.std.proofs.lemmas.Bool.{false≢true, true≢false, false_from_ne_true}
 use Rattle.forest_place.specs.declared.place.Place.{Place}
-use Rattle.forest_place.specs.Places.{has_place}
+use Rattle.forest_place.specs.Places.{has_place, AreWithin}
 use Rattle.forest_place.proofs.Listed.{place}
+use Rattle.forest_place.specs.Position.{positions_of}
 use Rattle.forest_model.specs.Cover.{HasShape}
-use Rattle.proof_shape.specs.Shape.{AreWithin, positions_of, HasNoneAbove}
+use Rattle.proof_shape.specs.Found.{HasNoneAbove}
 use Rattle.proof_shape.proofs.Ordered.{sorted_number_is, distinct_from_rising, rising_from_distinct}
 
 abbrev pub AreApart : ℕ → List Place → List ℕ → Type 0

@@ -1,14 +1,24 @@
 -- What is found of a list of places.
 use Rattle.std.specs.Prelude.{◌≡◌, ◌≢◌, ℕ, ◌+◌, ◌<◌, ◌≤◌, Bool, true, false, ◌||◌, List, take, length, get_or, None}
 use Rattle.forest_place.specs.declared.place.Place.{Place}
-use Rattle.forest_place.specs.Position.{place_at}
+use Rattle.forest_place.specs.Forest.{InForest}
+use Rattle.forest_place.specs.Places.{AreWithin, place_in}
+use Rattle.forest_place.specs.Position.{position, place_at, positions_of}
 use Rattle.forest_model.specs.Cover.{is_above, HasShape}
-use Rattle.proof_shape.specs.Shape.{AreWithin, positions_of}
+use Rattle.proof_shape.specs.Shape.{has_number}
 use Rattle.proof_shape.specs.declared.fault.ShapeFault.{ShapeFault}
 use Rattle.proof_shape.specs.declared.fault.ShapeFault.TheVariants.{Outside, Repeated, Beneath, NoMemory}
 
-abbrev pub place_in : List Place → ℕ → Place
-place_in ps k = get_or ps k (record { row = 0; off = 0 })
+-- the number is greater than all of the list
+abbrev pub IsPast : List ℕ → ℕ → Type 0
+IsPast xs x = (y : ℕ) → has_number xs y ≡ true → y < x
+
+-- a place above p has a position of the list
+abbrev pub HasOneAbove : ℕ → List ℕ → Place → Type 0
+HasOneAbove n xs p = (q : Place) × InForest n q.row q.off × (is_above q p ≡ true) × (has_number xs (position n q.row q.off) ≡ true)
+
+abbrev pub HasNoneAbove : ℕ → List ℕ → Place → Type 0
+HasNoneAbove n xs p = (q : Place) → InForest n q.row q.off → is_above q p ≡ true → has_number xs (position n q.row q.off) ≡ false
 
 -- no place stands in row 40 or above it
 abbrev pub AreLow : List Place → Type 0

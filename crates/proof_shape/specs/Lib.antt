@@ -1,7 +1,9 @@
+-- what public clauses cite
 pub mod Shape
-pub mod Found
 pub mod Targeted
-pub mod Swept
 pub mod Survey
-pub mod Moves
 pub mod Laws
+-- what only this crate's own proofs and private functions cite
+pub mod Found
+pub mod Swept
+pub mod Moves

@@ -1,14 +1,17 @@
 -- How the places at and above the targets, and those above needed places, tell what is gone.
-use Rattle.std.specs.Prelude.{◌≡◌, ℕ, suc, Bool, true, false, not, ◌&&◌, List}
+use Rattle.std.specs.Prelude.{◌≡◌, ℕ, suc, Bool, true, false, not, ◌&&◌, List, is_some}
 use Rattle.std.specs.List.Sorted.{IsNonDecreasing}
 use Rattle.forest_place.specs.declared.place.Place.{Place}
 use Rattle.forest_place.specs.Forest.{InForest}
-use Rattle.forest_place.specs.Places.{has_place}
-use Rattle.forest_place.specs.Position.{position}
-use Rattle.forest_model.specs.Cover.{is_above, need}
+use Rattle.forest_place.specs.Position.{position, positions_of}
+use Rattle.forest_model.specs.Cover.{cover, need}
 use Rattle.forest_model.specs.Deletion.{is_gone}
-use Rattle.proof_shape.specs.Shape.{has_number, positions_of}
-use Rattle.proof_shape.specs.Survey.{IsCoverOf}
+use Rattle.proof_shape.specs.Shape.{has_number}
+use Rattle.proof_shape.specs.Survey.{pos, IsCoverOf}
+
+-- the numbers tell which places are covered
+abbrev pub CoversTell : ℕ → List Place → List ℕ → Type 0
+CoversTell n ts xs = (q : Place) → InForest n q.row q.off → has_number xs (pos n q) ≡ is_some (cover ts q.row q.off)
 
 -- a covered place is gone where no needed place is beneath it
 abbrev pub gone_by : ℕ → List ℕ → List ℕ → ℕ → ℕ → Bool
@@ -30,10 +33,6 @@ HasNeighbours xs = (x : ℕ) × (has_number xs x ≡ true) × (has_number xs (su
 -- no two do
 abbrev pub AreApart : List ℕ → Type 0
 AreApart xs = (x : ℕ) → has_number xs x ≡ true → has_number xs (suc x) ≡ false
-
--- a target stands above the place
-abbrev pub IsBeneathTarget : List Place → Place → Type 0
-IsBeneathTarget ts p = (t : Place) × (has_place ts t.row t.off ≡ true) × (is_above t p ≡ true)
 
 -- what is kept beside the targets
 pub record IsSurveyed (n : ℕ) (ts needed cover : List Place) (numbers among kept : List ℕ) : Type 0 where

@@ -1,34 +1,14 @@
 -- Which lists of positions are those of targets, and where a list goes wrong.
-use Rattle.std.specs.Prelude.{◌≡◌, ◌≢◌, ℕ, ◌<◌, Bool, true, false, ◌||◌, ◌==◌, List, map, take, length, get_or, Option, Some, None}
+use Rattle.std.specs.Prelude.{◌≡◌, ◌≢◌, ℕ, ◌<◌, Bool, true, false, ◌||◌, ◌==◌, List, take, length, get_or, Option, Some, None}
 use Rattle.std.specs.List.{list_any}
 use Rattle.forest_place.specs.declared.place.Place.{Place}
-use Rattle.forest_place.specs.Forest.{InForest}
-use Rattle.forest_place.specs.Places.{has_place}
-use Rattle.forest_place.specs.Position.{position, place_at}
+use Rattle.forest_place.specs.Position.{positions_of, place_at}
 use Rattle.forest_model.specs.Cover.{is_above, HasShape}
 use Rattle.proof_shape.specs.declared.fault.ShapeFault.{ShapeFault}
 use Rattle.proof_shape.specs.declared.fault.ShapeFault.TheVariants.{Outside, Repeated, Beneath, NoMemory}
 
 abbrev pub has_number : List ℕ → ℕ → Bool
 has_number xs x = list_any (λ y. y == x) xs
-
--- the places are places of the forest over n
-abbrev pub AreWithin : ℕ → List Place → Type 0
-AreWithin n ps = (r o : ℕ) → has_place ps r o ≡ true → InForest n r o
-
-abbrev pub positions_of : ℕ → List Place → List ℕ
-positions_of n ps = map (λ p. position n p.row p.off) ps
-
--- the number is greater than all of the list
-abbrev pub IsPast : List ℕ → ℕ → Type 0
-IsPast xs x = (y : ℕ) → has_number xs y ≡ true → y < x
-
--- a place above p has a position of the list
-abbrev pub HasOneAbove : ℕ → List ℕ → Place → Type 0
-HasOneAbove n xs p = (q : Place) × InForest n q.row q.off × (is_above q p ≡ true) × (has_number xs (position n q.row q.off) ≡ true)
-
-abbrev pub HasNoneAbove : ℕ → List ℕ → Place → Type 0
-HasNoneAbove n xs p = (q : Place) → InForest n q.row q.off → is_above q p ≡ true → has_number xs (position n q.row q.off) ≡ false
 
 -- these are the positions of targets ts, which have shape
 pub record AreTargets (n : ℕ) (numbers : List ℕ) (ts : List Place) : Type 0 where
@@ -60,8 +40,8 @@ pub record IsBeneath (n : ℕ) (numbers : List ℕ) (i j : ℕ) : Type 0 where
   pub least : (k : ℕ) → k < j → is_crossing (place_at n (get_or numbers i 0)) (place_at n (get_or numbers k 0)) ≡ false
 
 -- the fault is that of the list
-abbrev pub IsFault : ℕ → List ℕ → ShapeFault → Type 0
-IsFault n numbers (Outside i) = IsSoundTo n numbers i × (place_at n (get_or numbers i 0) ≡ None)
-IsFault n numbers (Repeated i j) = IsRepeated n numbers i j
-IsFault n numbers (Beneath i j) = IsBeneath n numbers i j
-IsFault n numbers NoMemory = Unit {0}
+abbrev pub IsShapeFault : ℕ → List ℕ → ShapeFault → Type 0
+IsShapeFault n numbers (Outside i) = IsSoundTo n numbers i × (place_at n (get_or numbers i 0) ≡ None)
+IsShapeFault n numbers (Repeated i j) = IsRepeated n numbers i j
+IsShapeFault n numbers (Beneath i j) = IsBeneath n numbers i j
+IsShapeFault n numbers NoMemory = Unit {0}

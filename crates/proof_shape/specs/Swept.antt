@@ -1,23 +1,10 @@
 -- The covered places in ascending order, as a sweep finds them: the targets, and the place above each that is no root.
-use Rattle.std.specs.Prelude.{◌≡◌, ℕ, suc, ◌-◌, ◌/◌, ◌<◌, ◌≤◌, Bool, true, false, ◌||◌, ◌⊎◌, List, [], ◌∷◌, ◌++◌, length, get_or, Option, Some, None, filter_map, if◌then◌else◌}
+use Rattle.std.specs.Prelude.{◌≡◌, ℕ, ◌-◌, ◌<◌, ◌≤◌, true, false, ◌⊎◌, List, [], ◌∷◌, ◌++◌, length, get_or}
 use Rattle.forest_place.specs.declared.place.Place.{Place}
-use Rattle.forest_place.specs.Forest.{InForest, is_root, sibling_off}
-use Rattle.forest_place.specs.Places.{has_place}
-use Rattle.forest_place.specs.Position.{position}
-use Rattle.proof_shape.specs.Shape.{has_number, AreWithin}
-use Rattle.proof_shape.specs.Found.{place_in}
-
-abbrev pub pos : ℕ → Place → ℕ
-pos n p = position n p.row p.off
-
-abbrev pub up : Place → Place
-up p = record { row = suc p.row; off = p.off / 2 }
-
-abbrev pub is_top : ℕ → Place → Bool
-is_top n p = is_root n p.row p.off
-
-abbrev pub has : List Place → Place → Bool
-has ps p = has_place ps p.row p.off
+use Rattle.forest_place.specs.Forest.{InForest}
+use Rattle.forest_place.specs.Places.{AreWithin, place_in}
+use Rattle.proof_shape.specs.Shape.{has_number}
+use Rattle.proof_shape.specs.Survey.{pos, up, is_top, has}
 
 -- the numbers are positions of places of the forest
 abbrev pub ArePositions : ℕ → List ℕ → Type 0
@@ -56,17 +43,3 @@ pub record IsSweep (n : ℕ) (xs : List ℕ) (cs : List Place) (k j : ℕ) : Typ
 -- it is done
 abbrev pub IsSwept : ℕ → List ℕ → List Place → Type 0
 IsSwept n xs cs = IsSweep n xs cs (length cs) (length xs)
-
--- the sibling of a place of the list, where it is needed
-abbrev pub needed_beside : ℕ → List Place → Place → Option Place
-needed_beside n cs p = if is_top n p || has_place cs p.row (sibling_off p.off) then None else Some (record { row = p.row; off = sibling_off p.off })
-
-abbrev pub needed_of : ℕ → List Place → List Place
-needed_of n cs = filter_map (needed_beside n cs) cs
-
--- p stands right before or right after index m
-abbrev pub IsNear : List Place → ℕ → Place → Type 0
-IsNear cs m p = ((0 < m) × (place_in cs (m - 1) ≡ p)) ⊎ ((suc m < length cs) × (place_in cs (suc m) ≡ p))
-
-abbrev pub Rises : ℕ → List Place → Type 0
-Rises n cs = (a b : ℕ) → a < b → b < length cs → pos n (place_in cs a) < pos n (place_in cs b)

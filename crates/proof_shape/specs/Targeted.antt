@@ -1,7 +1,8 @@
 -- What contracts see of `Targets`.
-use Rattle.std.specs.Prelude.{ℕ, ◌^◌, ◌<◌, List, length}
+use Rattle.std.specs.Prelude.{◌≡◌, ℕ, true, ◌^◌, ◌<◌, List, length}
 use Rattle.forest_place.specs.declared.place.Place.{Place}
-use Rattle.forest_model.specs.Cover.{HasShape}
+use Rattle.forest_place.specs.Places.{has_place}
+use Rattle.forest_model.specs.Cover.{is_above, HasShape}
 
 -- how many entries the forest has, and its places that are targets
 pub record Targeted : Type 0 where
@@ -12,3 +13,7 @@ pub record IsTargeted (t : Targeted) : Type 0 where
   pub few : t.leaves < 2 ^ 40
   pub counted : length t.targets < 2 ^ 32
   pub shape : HasShape t.leaves t.targets
+
+-- a target stands above the place
+abbrev pub IsBeneathTarget : List Place → Place → Type 0
+IsBeneathTarget ts p = (t : Place) × (has_place ts t.row t.off ≡ true) × (is_above t p ≡ true)

@@ -1,21 +1,13 @@
 //! Whether places stand above others.
 ghost use Rattle.std.specs.Prelude.{◌≡◌, ℕ, ◌↔◌, ◌^◌, ◌<◌, IsTrue, false, true, MatchBool};
 ghost use Rattle.std.specs.List.Sorted.{IsNonDecreasing};
-ghost use Rattle.forest_place.specs.Forest.{InForest, is_root as is_root_at};
-ghost use Rattle.forest_place.specs.Places.{has_place};
-ghost use Rattle.proof_shape.specs.Shape.{has_number, AreWithin, HasOneAbove, HasNoneAbove, IsPast};
+ghost use Rattle.forest_place.specs.Forest.{InForest};
+ghost use Rattle.forest_place.specs.Places.{has_place, AreWithin};
+ghost use Rattle.proof_shape.specs.Shape.{has_number};
+ghost use Rattle.proof_shape.specs.Found.{HasOneAbove, HasNoneAbove, IsPast};
 
 use crate::order::contains;
-use forest_place::{Place, parent, position};
-
-/// Whether a place of the forest is a slot's root.
-pub fn is_root(n: u64, place: Place) -> bool
-    requires small { n < 2 ^ 40 }
-    requires within { InForest n place.row place.off }
-    ensures { result ≡ is_root_at n place.row place.off }
-{
-    place.off % 2 == 0 && place.off + 1 == n >> place.row
-}
+use forest_place::{Place, is_root, parent, position};
 
 // Whether a number is greater than all of an ascending list.
 fn is_past(sorted: &[u64], number: u64) -> bool

@@ -3,11 +3,11 @@ ghost use Rattle.std.specs.Prelude.{◌≡◌, ◌^◌, ◌<◌, true, false, If
 ghost use Rattle.std.specs.List.Sorted.{IsNonDecreasing};
 ghost use Rattle.forest_place.specs.declared.place.Place.{Place as Placed};
 ghost use Rattle.forest_place.specs.Forest.{InForest};
-ghost use Rattle.proof_shape.specs.Shape.{AreWithin};
-ghost use Rattle.proof_shape.specs.Swept.{pos, up, is_top, ArePositions, IsPushed, IsClimbed, ClimbsNext, NumberNext, IsSweep, IsSwept};
+ghost use Rattle.forest_place.specs.Places.{AreWithin};
+ghost use Rattle.proof_shape.specs.Swept.{ArePositions, IsPushed, IsClimbed, ClimbsNext, NumberNext, IsSweep, IsSwept};
+ghost use Rattle.proof_shape.specs.Survey.{pos, up, is_top};
 
-use crate::above::is_root;
-use forest_place::{Place, parent, place_of, position};
+use forest_place::{Place, is_root, parent, place_of, position};
 use std::alloc::{AllocError, Global};
 
 // Puts a place at the end, unless it stands there already.

@@ -18,7 +18,7 @@ pub enum ShapeFault {
     /// several such; this is the first.
     #[error("target {0} stands above or beneath target {1}")]
     Beneath(u32, u32),
-    /// There was no memory, or there are 2^32 positions or more.
+    /// There was no memory.
     #[error("out of memory")]
     NoMemory,
 }

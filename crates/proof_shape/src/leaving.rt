@@ -1,10 +1,9 @@
 //! What tells which places are gone.
 ghost use Rattle.std.specs.Prelude.{◌≡◌, ◌^◌, ◌<◌, IfOk, MatchBool};
 ghost use Rattle.std.specs.List.Sorted.{IsNonDecreasing};
+ghost use Rattle.forest_place.specs.Places.{AreWithin};
 ghost use Rattle.forest_model.specs.Cover.{HasShape, need};
-ghost use Rattle.proof_shape.specs.Shape.{AreWithin};
-ghost use Rattle.proof_shape.specs.Survey.{CoversTell};
-ghost use Rattle.proof_shape.specs.Moves.{HasNeighbours, AreApart, TellGone};
+ghost use Rattle.proof_shape.specs.Moves.{HasNeighbours, AreApart, TellGone, CoversTell};
 
 use crate::order::sorted_positions;
 use crate::survey::{covered_positions, parents_of};

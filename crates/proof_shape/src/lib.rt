@@ -17,7 +17,6 @@ mod targets;
 mod tests;
 mod wrong;
 
-pub use above::is_root;
 pub use fault::ShapeFault;
-pub use need::is_near;
+pub use moves::child_of;
 pub use targets::Targets;

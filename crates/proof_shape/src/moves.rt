@@ -22,9 +22,9 @@ fn is_gone(n: u64, covered: &[u64], kept: &[u64], place: Place) -> bool
     contains(covered, number) && !contains(kept, number)
 }
 
-// Where a child moves whose parent moves to a place: to that place where it is the only child that stays, else to the child
-// at its side.
-fn child_of(n: u64, goes: Place, alone: bool, side: u64) -> Place
+/// Where a child moves whose parent moves to a place: to that place where it is the only child that stays, else to the child
+/// of that place at its side, which is 0 for the left one and 1 for the right one.
+pub fn child_of(n: u64, goes: Place, alone: bool, side: u64) -> Place
     requires small { n < 2 ^ 40 }
     requires within { InForest n goes.row goes.off }
     requires row { 0 < goes.row }

@@ -1,23 +1,10 @@
 //! The places whose digests a proof has to give.
 ghost use Rattle.std.specs.Prelude.{◌≡◌, ◌↔◌, ◌^◌, ◌<◌, IfOk, IsTrue, length};
-ghost use Rattle.proof_shape.specs.Shape.{AreWithin};
-ghost use Rattle.proof_shape.specs.Found.{place_in};
-ghost use Rattle.proof_shape.specs.Swept.{IsNear, Rises, needed_beside as needed_near, needed_of as needed_in};
+ghost use Rattle.forest_place.specs.Places.{AreWithin, place_in, IsNear};
+ghost use Rattle.proof_shape.specs.Survey.{Rises, needed_beside as needed_near, needed_of as needed_in};
 
-use crate::above::is_root;
-use forest_place::{Place, sibling};
+use forest_place::{Place, is_near, is_root, sibling};
 use std::alloc::{AllocError, Global};
-
-/// Whether a place stands right before or right after an index of a list.
-pub fn is_near(covered: &[Place], m: usize, place: Place) -> bool
-    requires { m < length covered.now }
-    ensures { IsTrue result ↔ IsNear covered.now m place }
-{
-    if m > 0 && covered[m - 1] == place {
-        return true;
-    }
-    m + 1 < covered.len() && covered[m + 1] == place
-}
 
 // The sibling of the covered place at an index, where it is needed.
 fn needed_beside(n: u64, covered: &[Place], m: usize) -> Option<Place>

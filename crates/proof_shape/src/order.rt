@@ -1,7 +1,9 @@
 //! Ascending positions.
 ghost use Rattle.std.specs.Prelude.{◌≡◌, ◌↔◌, ◌^◌, ◌<◌, IfOk, IsTrue, map};
 ghost use Rattle.std.specs.List.Sorted.{IsNonDecreasing, IsStrictlyIncreasing, IsPermutation};
-ghost use Rattle.proof_shape.specs.Shape.{has_number, positions_of as numbers_of, AreWithin};
+ghost use Rattle.forest_place.specs.Places.{AreWithin};
+ghost use Rattle.forest_place.specs.Position.{positions_of as numbers_of};
+ghost use Rattle.proof_shape.specs.Shape.{has_number};
 
 use forest_place::{Place, position};
 use std::alloc::{AllocError, Global};

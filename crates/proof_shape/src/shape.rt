@@ -1,7 +1,7 @@
 //! Whether places have the shape of targets.
 ghost use Rattle.std.specs.Prelude.{◌↔◌, ◌^◌, ◌<◌, IfOk, IsTrue};
+ghost use Rattle.forest_place.specs.Places.{AreWithin};
 ghost use Rattle.forest_model.specs.Cover.{HasShape};
-ghost use Rattle.proof_shape.specs.Shape.{AreWithin};
 
 use crate::above::are_apart;
 use crate::order::{rises, sorted_positions};

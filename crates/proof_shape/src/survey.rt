@@ -1,9 +1,9 @@
 //! The places at and above others, from one sweep.
 ghost use Rattle.std.specs.Prelude.{◌≡◌, ◌^◌, ◌<◌, IfOk, map};
 ghost use Rattle.std.specs.List.Sorted.{IsNonDecreasing};
-ghost use Rattle.proof_shape.specs.Shape.{AreWithin};
-ghost use Rattle.proof_shape.specs.Swept.{up};
-ghost use Rattle.proof_shape.specs.Survey.{CoversTell, IsCoverOf};
+ghost use Rattle.forest_place.specs.Places.{AreWithin};
+ghost use Rattle.proof_shape.specs.Moves.{CoversTell};
+ghost use Rattle.proof_shape.specs.Survey.{IsCoverOf, up};
 
 use crate::cover::cover_of;
 use crate::order::{positions_of, sorted_positions};

@@ -42,23 +42,22 @@ impl Model for Targets {
 
 impl Targets {
     ghost use Rattle.forest_place.specs.Forest.{InForest};
+    ghost use Rattle.forest_place.specs.Places.{place_in};
+    ghost use Rattle.forest_place.specs.Position.{positions_of as numbers_of};
     ghost use Rattle.forest_model.specs.Cover.{need};
     ghost use Rattle.forest_model.specs.Deletion.{moved, is_gone};
-    ghost use Rattle.proof_shape.specs.Moves.{IsBeneathTarget};
     ghost use Rattle.proof_shape.specs.Laws.{WhatStaysGoes, EntryGoes};
-    ghost use Rattle.proof_shape.specs.Shape.{AreTargets, IsFault, positions_of as numbers_of};
+    ghost use Rattle.proof_shape.specs.Shape.{AreTargets, IsShapeFault};
     ghost use Rattle.proof_shape.specs.Survey.{IsCoverOf};
-    ghost use Rattle.proof_shape.specs.Targeted.{IsTargeted};
-    ghost use Rattle.proof_shape.specs.Found.{place_in};
+    ghost use Rattle.proof_shape.specs.Targeted.{IsTargeted, IsBeneathTarget};
 
-    /// The targets at these positions of the forest over `n` entries.
+    /// The targets at these positions of the forest over `n` entries. A fault names items of the list by `u32`, so the list has
+    /// fewer than 2^32.
     pub fn new(alloc: Global, n: u64, positions: &[u64]) -> Result<Targets, ShapeFault>
-        requires { n < 2 ^ 40 }
-        ensures { MatchResult result (λ t. (t.leaves ≡ n) × AreTargets n positions.now t.targets) (λ e. IsFault n positions.now e) }
+        requires small { n < 2 ^ 40 }
+        requires few { length positions.now < 2 ^ 32 }
+        ensures { MatchResult result (λ t. (t.leaves ≡ n) × AreTargets n positions.now t.targets) (λ e. IsShapeFault n positions.now e) }
     {
-        if positions.len() > u32::MAX as usize {
-            return Err(ShapeFault::NoMemory);
-        }
         let places = locate(alloc, n, positions)?;
         let sound = sound_length(alloc, n, &places)?;
         if sound < places.len() {

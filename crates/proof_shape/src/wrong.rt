@@ -1,8 +1,8 @@
 //! Where a list of places goes wrong.
 ghost use Rattle.std.specs.Prelude.{◌≡◌, ◌≢◌, ℕ, ◌^◌, ◌+◌, ◌<◌, ◌||◌, true, false, IfOk, MatchOption, length, take};
+ghost use Rattle.forest_place.specs.Places.{AreWithin, place_in};
 ghost use Rattle.forest_model.specs.Cover.{HasShape, is_above};
-ghost use Rattle.proof_shape.specs.Shape.{AreWithin};
-ghost use Rattle.proof_shape.specs.Found.{AreLow, place_in, IsSoundLength, IsFirstEqual, IsFirstCrossing, IsFaultAt, crosses as is_crossing};
+ghost use Rattle.proof_shape.specs.Found.{AreLow, IsSoundLength, IsFirstEqual, IsFirstCrossing, IsFaultAt, crosses as is_crossing};
 
 use crate::ShapeFault;
 use crate::shape::is_shaped;

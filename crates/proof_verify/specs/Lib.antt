@@ -1,4 +1,6 @@
+-- what public clauses cite
 pub mod Verified
+-- what only this crate's own proofs and private functions cite
 pub mod Origins
 pub mod Going
 pub mod Landings

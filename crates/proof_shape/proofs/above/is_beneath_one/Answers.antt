@@ -1,7 +1,8 @@
 use Rattle.std.proofs.Common.{◌≡◌, ◌<◌, true, false, sym, ap, ◌∙◌, subst, arith}
 use Rattle.forest_place.specs.Position.{position}
 use Rattle.forest_place.proofs.Positions.{row_small}
-use Rattle.proof_shape.specs.Shape.{has_number, IsPast}
+use Rattle.proof_shape.specs.Shape.{has_number}
+use Rattle.proof_shape.specs.Found.{IsPast}
 use Rattle.proof_shape.proofs.Climbing.{climb_begins, climb_finds, climb_goes_on, climb_passes, climb_ends, in_next}
 use Rattle.proof_shape.proofs.above.is_beneath_one.Goals as goal
 

@@ -3,7 +3,7 @@ use Rattle.forest_place.specs.declared.place.Place.{Place}
 use Rattle.forest_place.specs.Forest.{InForest}
 use Rattle.forest_place.proofs.Parts.{InForest-up}
 use Rattle.forest_place.proofs.Positions.{row_small}
-use Rattle.proof_shape.specs.Swept.{up, is_top}
+use Rattle.proof_shape.specs.Survey.{up, is_top}
 use Rattle.proof_shape.proofs.cover.above.Goals as goal
 
 pub parent-requires : goal.parent-requires

@@ -1,5 +1,5 @@
 use Rattle.std.proofs.Common.{arith}
-use Rattle.proof_shape.specs.Found.{place_in}
+use Rattle.forest_place.specs.Places.{place_in}
 use Rattle.proof_shape.proofs.Ordered.{has_at}
 use Rattle.proof_shape.proofs.cover.climbs_next.Goals as goal
 

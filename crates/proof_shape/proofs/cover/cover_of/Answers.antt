@@ -1,5 +1,5 @@
 use Rattle.std.proofs.Common.{◌<◌, ◌^◌, length, sym, subst, arith}
-use Rattle.proof_shape.specs.Found.{place_in}
+use Rattle.forest_place.specs.Places.{place_in}
 use Rattle.proof_shape.specs.Swept.{IsSweep, ClimbsNext, NumberNext}
 use Rattle.proof_shape.proofs.Sweeping.{index_low, small_position, in_forest, climbed, numbered, sweep_begins}
 use Rattle.proof_shape.proofs.cover.cover_of.Goals as goal

@@ -1,6 +1,6 @@
 use Rattle.std.proofs.Common.{◌≡◌, sym, subst, true}
 use Rattle.forest_place.specs.declared.place.Place.{Place}
-use Rattle.proof_shape.specs.Swept.{has}
+use Rattle.proof_shape.specs.Survey.{has}
 use Rattle.proof_shape.proofs.Ordered.{has_at}
 use Rattle.proof_shape.proofs.cover.push_parent.Goals as goal
 

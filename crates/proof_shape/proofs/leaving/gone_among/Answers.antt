@@ -1,10 +1,9 @@
 use Rattle.std.proofs.Common.{◌≡◌, sym, ap, ◌∙◌, subst, arith}
 use Rattle.std.specs.List.Sorted.{IsNonDecreasing}
+use Rattle.forest_place.specs.Places.{AreWithin}
 use Rattle.forest_model.specs.Cover.{need}
 use Rattle.forest_model.proofs.Lists.{need_had}
-use Rattle.proof_shape.specs.Shape.{AreWithin}
-use Rattle.proof_shape.specs.Survey.{CoversTell}
-use Rattle.proof_shape.specs.Moves.{AreApart, GoneTell}
+use Rattle.proof_shape.specs.Moves.{AreApart, GoneTell, CoversTell}
 use Rattle.proof_shape.proofs.Gone.{gone_tell, alone_tell}
 use Rattle.proof_shape.proofs.Parents.{ups, ups_within}
 use Rattle.proof_shape.proofs.leaving.gone_among.Goals as goal

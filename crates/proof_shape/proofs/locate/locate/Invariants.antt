@@ -1,5 +1,6 @@
 use Rattle.std.proofs.Common.{◌≡◌, take, length}
-use Rattle.proof_shape.specs.Shape.{positions_of, AreWithin}
+use Rattle.forest_place.specs.Places.{AreWithin}
+use Rattle.forest_place.specs.Position.{positions_of}
 use Rattle.proof_shape.proofs.locate.locate.Given as goal
 
 abbrev pub invariant-loop-number : goal.invariant-loop-number

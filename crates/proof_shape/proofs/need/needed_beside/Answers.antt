@@ -1,10 +1,10 @@
+use Rattle.forest_place.specs.Places.{IsNear, place_in}
 use Rattle.proof_shape.proofs.need.needed_beside.Goals as goal
 use Rattle.std.proofs.Common.{◌≡◌, ℕ, Some, false, refl, sym, ap, ap₂, ◌∙◌, subst}
 use Rattle.std.proofs.lemmas.Bool.{false≢true, false_from_ne_true}
 use Rattle.forest_place.specs.declared.place.Place.{Place}
-use Rattle.proof_shape.specs.Swept.{is_top, has, IsNear, needed_beside}
+use Rattle.proof_shape.specs.Survey.{is_top, has, needed_beside}
 use Rattle.proof_shape.proofs.Needing.{beside, near_from_has}
-use Rattle.proof_shape.specs.Found.{place_in}
 use Rattle.proof_shape.proofs.Ordered.{has_at}
 
 pub is_root-requires-clause-within : goal.is_root-requires-clause-within

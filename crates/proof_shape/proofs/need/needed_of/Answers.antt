@@ -1,5 +1,5 @@
 use Rattle.std.proofs.Common.{ap, ◌∙◌, sym}
-use Rattle.proof_shape.specs.Swept.{needed_beside}
+use Rattle.proof_shape.specs.Survey.{needed_beside}
 use Rattle.proof_shape.proofs.Needing.{kept_some, kept_none}
 use Rattle.proof_shape.proofs.need.needed_of.Goals as goal
 use Rattle.proof_shape.proofs.need.needed_of.Goals.{in-Some+in_ok-push, in_default}

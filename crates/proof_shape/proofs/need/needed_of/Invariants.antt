@@ -1,5 +1,5 @@
 use Rattle.std.proofs.Common.{◌≡◌, take, filter_map}
-use Rattle.proof_shape.specs.Swept.{needed_beside}
+use Rattle.proof_shape.specs.Survey.{needed_beside}
 use Rattle.proof_shape.proofs.need.needed_of.Given as goal
 
 abbrev pub invariant-loop-m : goal.invariant-loop-m

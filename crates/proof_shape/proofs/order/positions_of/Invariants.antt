@@ -1,5 +1,5 @@
 use Rattle.std.proofs.Common.{◌≡◌, take}
-use Rattle.proof_shape.specs.Shape.{positions_of}
+use Rattle.forest_place.specs.Position.{positions_of}
 use Rattle.proof_shape.proofs.order.positions_of.Given as goal
 
 abbrev pub invariant-loop-place : goal.invariant-loop-place

@@ -1,7 +1,7 @@
 use Rattle.std.proofs.Common.{sym, subst}
 use Rattle.std.specs.List.Sorted.{IsPermutation}
 use Rattle.std.proofs.lemmas.Result.{IfOk-weaker}
-use Rattle.proof_shape.specs.Shape.{positions_of}
+use Rattle.forest_place.specs.Position.{positions_of}
 use Rattle.proof_shape.specs.Swept.{IsSwept}
 use Rattle.proof_shape.specs.Survey.{IsCoverOf}
 use Rattle.proof_shape.proofs.Needing.{positions_are, cover_from_sweep}

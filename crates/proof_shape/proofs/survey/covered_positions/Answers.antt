@@ -1,8 +1,8 @@
 use Rattle.std.proofs.Common.{◌≡◌, sym, subst, ap, ◌∙◌}
 use Rattle.std.specs.List.Sorted.{IsNonDecreasing}
 use Rattle.std.proofs.lemmas.Result.{IfOk-weaker}
-use Rattle.proof_shape.specs.Shape.{positions_of}
-use Rattle.proof_shape.specs.Survey.{CoversTell}
+use Rattle.forest_place.specs.Position.{positions_of}
+use Rattle.proof_shape.specs.Moves.{CoversTell}
 use Rattle.proof_shape.proofs.Needing.{rises_sorted, positions_tell}
 use Rattle.proof_shape.proofs.survey.covered_positions.Goals as goal
 

@@ -1,5 +1,5 @@
 use Rattle.std.proofs.Common.{◌≡◌, take, map}
-use Rattle.proof_shape.specs.Swept.{up}
+use Rattle.proof_shape.specs.Survey.{up}
 use Rattle.proof_shape.proofs.survey.parents_of.Given as goal
 
 abbrev pub invariant-loop-place : goal.invariant-loop-place

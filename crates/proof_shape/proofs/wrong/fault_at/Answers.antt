@@ -1,5 +1,5 @@
 use Rattle.forest_place.proofs.Positions.{row_small}
-use Rattle.proof_shape.specs.Found.{place_in}
+use Rattle.forest_place.specs.Places.{place_in}
 use Rattle.proof_shape.proofs.Ordered.{has_at}
 use Rattle.proof_shape.proofs.Longer.{crossing_from}
 use Rattle.proof_shape.proofs.wrong.fault_at.Goals as goal

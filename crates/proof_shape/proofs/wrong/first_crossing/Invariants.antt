@@ -1,5 +1,6 @@
 use Rattle.std.proofs.Common.{◌≡◌, ℕ, ◌<◌, false}
-use Rattle.proof_shape.specs.Found.{place_in, crosses}
+use Rattle.forest_place.specs.Places.{place_in}
+use Rattle.proof_shape.specs.Found.{crosses}
 use Rattle.proof_shape.proofs.wrong.first_crossing.Given as goal
 
 abbrev pub invariant-loop-j : goal.invariant-loop-j

@@ -1,5 +1,5 @@
 use Rattle.std.proofs.Common.{◌≡◌, ℕ, ◌<◌}
-use Rattle.proof_shape.specs.Found.{place_in}
+use Rattle.forest_place.specs.Places.{place_in}
 use Rattle.proof_shape.proofs.wrong.first_equal.Given as goal
 
 abbrev pub invariant-loop-j : goal.invariant-loop-j

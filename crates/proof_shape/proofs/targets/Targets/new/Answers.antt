@@ -1,11 +1,11 @@
 use Rattle.std.proofs.Common.{◌≡◌, ◌<◌, ◌∙◌, sym, ap, subst, length, refl, arith}
+use Rattle.forest_place.specs.Places.{AreWithin}
+use Rattle.forest_place.specs.Position.{positions_of}
 use Rattle.forest_model.specs.Cover.{HasShape, need}
 use Rattle.std.specs.List.Sorted.{IsNonDecreasing}
-use Rattle.proof_shape.specs.Shape.{AreWithin, positions_of}
-use Rattle.proof_shape.specs.Swept.{Rises, needed_of}
-use Rattle.proof_shape.specs.Survey.{CoversTell, IsCoverOf}
+use Rattle.proof_shape.specs.Survey.{IsCoverOf, Rises, needed_of}
 use Rattle.proof_shape.proofs.Needing.{rises_sorted, positions_tell}
-use Rattle.proof_shape.specs.Moves.{TellGone}
+use Rattle.proof_shape.specs.Moves.{TellGone, CoversTell}
 use Rattle.proof_shape.specs.Found.{IsSoundLength, IsFaultAt}
 use Rattle.proof_shape.proofs.Faulty.{fault_from, outside_from, targets_from}
 use Rattle.proof_shape.proofs.targets.Targets.new.Goals as goal
@@ -82,6 +82,6 @@ invariant_of-result c =
     let needed : c.in_ok-needed.needed.items ≡ need n ps = c.in_ok-needed.ensures ∙ (ap (needed_of n) c.deref-3.ensures.value ∙ cover.needed) in
     let numbers : c.in_ok-numbers.numbers.items ≡ positions_of n cs = c.in_ok-numbers.ensures ∙ ap (positions_of n) c.deref-4.ensures.value in
     let gone : TellGone n ps c.in_ok-among.among.items c.in_ok-among.kept.items = subst (λ l. TellGone n l c.in_ok-among.among.items c.in_ok-among.kept.items) c.deref-5.ensures.value c.in_ok-among.ensures in (
-      record { few = c.requires; counted = omega (arith, fits, c.if-positions.false); shape = shape },
+      record { few = c.requires.small; counted = omega (arith, fits, c.requires.few); shape = shape },
       record { needed_is = needed; cover_is = cover; numbers_are = numbers; gone = gone },
     )
