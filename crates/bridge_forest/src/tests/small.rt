@@ -244,16 +244,15 @@ fn check_all<D: Digester, L: Ledger>(
     Ok(())
 }
 
-// One change, which turning the first entry follows.
+// All lists of two changes.
 #[test]
 fn changes_by_xor(rt: HostRuntime) -> Result<(), Fail> {
-    check_all::<XorFold, Brand>(&rt, rt.alloc(), 7, 12, Blank::new(1))?;
+    check_all::<XorFold, Brand>(&rt, rt.alloc(), 6, 12 * 12, Blank::new(1))?;
     Ok(())
 }
 
-// All lists of two changes.
 #[test]
 fn changes_by_sha(rt: HostRuntime) -> Result<(), Fail> {
-    check_all::<Sha512t256, Brand>(&rt, rt.alloc(), 4, 12 * 12, Blank::new(1))?;
+    check_all::<Sha512t256, Brand>(&rt, rt.alloc(), 5, 12 * 12, Blank::new(1))?;
     Ok(())
 }
