@@ -247,7 +247,7 @@ fn check_all<D: Digester, L: Ledger>(
 // All lists of two changes.
 #[test]
 fn changes_by_xor(rt: HostRuntime) -> Result<(), Fail> {
-    check_all::<XorFold, Brand>(&rt, rt.alloc(), 6, 12 * 12, Blank::new(1))?;
+    check_all::<XorFold, Brand>(&rt, rt.alloc(), 7, 12 * 12, Blank::new(1))?;
     Ok(())
 }
 
