@@ -7,7 +7,7 @@ use Rattle.uo_digest.specs.declared.digest.Digest.{Digest}
 use Rattle.forest_model.specs.Content.{Tree, leaf, join, content, digest_of, join_digests}
 use Rattle.forest_place.specs.Forest.{InForest}
 use Rattle.forest_place.proofs.Parts.{parts-suc, InForest-left, InForest-right}
-use Rattle.bridge_forest.specs.Parts.{middle, kept, part_digest, AreParts, ArePartsBut, pairs, both, digests_to}
+use Rattle.bridge_forest.specs.Parts.{middle, kept, part_digest, AreParts, ArePartsBut, pairs, digests_to}
 use Rattle.bridge_forest.proofs.Middles.{middle_below, middle_one}
 use Rattle.bridge_forest.proofs.Entries.{content-set_other, parts_before, path_below}
 
@@ -92,17 +92,17 @@ but_added H n leaves parts x all =
 pub cut_off : (H : List ℕ → Digest) (n m : ℕ) (leaves parts : List (Option Digest)) → ((r o : ℕ) → InForest m r o → InForest n r o) → AreParts H n leaves parts → AreParts H m leaves parts
 cut_off H n m leaves parts fewer all = record { is = λ r o h. all.is r o (fewer (suc r) o h) }
 
-both_pairs : (H : List ℕ → Digest) (x y : Option Tree) → pairs (option_map (digest_of H) x) (option_map (digest_of H) y) ≡ both x y
-both_pairs H None y = refl
-both_pairs H (Some l) None = refl
-both_pairs H (Some l) (Some r) = refl
+pairs-mapped : (H : List ℕ → Digest) (x y : Option Tree) → pairs (option_map (digest_of H) x) (option_map (digest_of H) y) ≡ pairs x y
+pairs-mapped H None y = refl
+pairs-mapped H (Some l) None = refl
+pairs-mapped H (Some l) (Some r) = refl
 
 -- the steps of one row more
 pub cost_more : (H : List ℕ → Digest) (n : ℕ) (leaves parts : List (Option Digest)) (number row o : ℕ) (left right : Option Digest) (first before after : ℕ) → o ≡ number / 2 ^ suc row → InForest n (suc row) o → ArePartsBut H n leaves parts number row →
     left ≡ kept leaves parts row (2 * o) → right ≡ kept leaves parts row (2 * o + 1) → before ≡ first + digests_to leaves number row → after ≡ before + pairs left right →
     after ≡ first + digests_to leaves number (suc row)
 cost_more H n leaves parts number row o left right first before after here within but le re be ae =
-    let p : pairs left right ≡ both (content leaves row (2 * o)) (content leaves row (2 * o + 1)) =
-    ap₂ pairs (le ∙ kept_right_but H n leaves parts number row (2 * o) but (InForest-left n row o within)) (re ∙ kept_right_but H n leaves parts number row (2 * o + 1) but (InForest-right n row o within)) ∙ both_pairs H (content leaves row (2 * o)) (content leaves row (2 * o + 1)) in
-    let q : pairs left right ≡ both (content leaves row (2 * (number / 2 ^ suc row))) (content leaves row (2 * (number / 2 ^ suc row) + 1)) = subst (λ x. pairs left right ≡ both (content leaves row (2 * x)) (content leaves row (2 * x + 1))) here p in
+    let p : pairs left right ≡ pairs (content leaves row (2 * o)) (content leaves row (2 * o + 1)) =
+    ap₂ pairs (le ∙ kept_right_but H n leaves parts number row (2 * o) but (InForest-left n row o within)) (re ∙ kept_right_but H n leaves parts number row (2 * o + 1) but (InForest-right n row o within)) ∙ pairs-mapped H (content leaves row (2 * o)) (content leaves row (2 * o + 1)) in
+    let q : pairs left right ≡ pairs (content leaves row (2 * (number / 2 ^ suc row))) (content leaves row (2 * (number / 2 ^ suc row) + 1)) = subst (λ x. pairs left right ≡ pairs (content leaves row (2 * x)) (content leaves row (2 * x + 1))) here p in
     omega (arith, be, ae, q)
