@@ -1,0 +1,106 @@
+//! A plain forest: the nodes over a list of entries, laid out from the roots downwards and hashed from nothing.
+use forest_place::Place;
+use forest_roots::pair;
+use std::alloc::{AllocError, Global};
+use std::process::Abort;
+use std::sync::ledger::Ledger;
+use uo_digest::{Digest, Digester, Steps};
+
+/// A node: its place, the number of its entry if it is one alone, and its digest.
+#[derive(Clone, Copy)]
+pub struct Node {
+    pub place: Place,
+    pub number: Option<u64>,
+    pub digest: Digest,
+}
+
+// The digest of the 2^row entries from `first` on.
+fn range_digest<D: Digester, L: Ledger>(
+    rt: &impl Abort,
+    entries: &[Option<Digest>],
+    row: u8,
+    first: usize,
+    steps: &mut Steps<L>,
+) -> Option<Digest> {
+    if row == 0 {
+        return entries.get(first).copied().flatten();
+    }
+    assert!(rt; row < 40 && first < 1 << 40);
+    let middle = first + (1 << (row - 1));
+    let left = range_digest::<D, L>(rt, entries, row - 1, first, steps);
+    let right = range_digest::<D, L>(rt, entries, row - 1, middle, steps);
+    match (left, right) {
+        (Some(left), Some(right)) => Some(pair::<D, L>(left, right, steps)),
+        (left, None) => left,
+        (None, right) => right,
+    }
+}
+
+// Lays out the 2^row entries from `first` on at a place and beneath it.
+fn walk<D: Digester, L: Ledger>(
+    rt: &impl Abort,
+    entries: &[Option<Digest>],
+    row: u8,
+    first: usize,
+    place: Place,
+    nodes: &mut Vec<Node>,
+    steps: &mut Steps<L>,
+) -> Result<(), AllocError> {
+    let Some(digest) = range_digest::<D, L>(rt, entries, row, first, steps) else {
+        return Ok(());
+    };
+    if row == 0 {
+        let number = Some(first as u64);
+        return Ok(nodes.push(Node {
+            place,
+            number,
+            digest,
+        })?);
+    }
+    assert!(rt; row < 40 && first < 1 << 40 && 0 < place.row && place.off < 1 << 40);
+    let middle = first + (1 << (row - 1));
+    if range_digest::<D, L>(rt, entries, row - 1, first, steps).is_none() {
+        return walk::<D, L>(rt, entries, row - 1, middle, place, nodes, steps);
+    }
+    if range_digest::<D, L>(rt, entries, row - 1, middle, steps).is_none() {
+        return walk::<D, L>(rt, entries, row - 1, first, place, nodes, steps);
+    }
+    nodes.push(Node {
+        place,
+        number: None,
+        digest,
+    })?;
+    let left = Place {
+        row: place.row - 1,
+        off: 2 * place.off,
+    };
+    let right = Place {
+        row: place.row - 1,
+        off: 2 * place.off + 1,
+    };
+    walk::<D, L>(rt, entries, row - 1, first, left, nodes, steps)?;
+    walk::<D, L>(rt, entries, row - 1, middle, right, nodes, steps)
+}
+
+/// The nodes of all slots.
+pub fn nodes_of<D: Digester, L: Ledger>(
+    rt: &impl Abort,
+    alloc: Global,
+    entries: &[Option<Digest>],
+    steps: &mut Steps<L>,
+) -> Result<Vec<Node>, AllocError> {
+    let mut nodes = Vec::new(alloc);
+    let mut first = 0;
+    for row in (0..4).rev() {
+        if (entries.len() >> row) % 2 == 1 {
+            let place = Place {
+                row,
+                off: first as u64 >> row,
+            };
+            walk::<D, L>(rt, entries, row, first, place, &mut nodes, steps)?;
+            assert!(rt; first < 1 << 40);
+            first += 1 << row;
+        }
+    }
+    Ok(nodes)
+}
