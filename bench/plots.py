@@ -74,13 +74,16 @@ class Plot:
 
 
 def powers(limits):
+    """Powers of ten; within a single one twice and five times it, too."""
     low, high = (round(math.log10(value)) for value in limits)
+    if high == low + 1:
+        return [10.0**low * times for times in (1, 2, 5, 10)]
     return [10.0**power for power in range(low, high + 1)]
 
 
 def by_entries(needs):
     """Digests of a block against the entries that were ever added, and the most that the contract of a step allows."""
-    plot = Plot("Digests of a block, by the size of the set", "outputs ever added", "digests", (1e3, 1e8), (1e1, 1e6))
+    plot = Plot("Digests of a block, by the size of the set", "outputs ever added", "digests", (1e3, 1e7), (1e1, 1e6))
     for colour, spends in zip(COLOURS, (1, 20, 100, 500, 2500)):
         rows = [row for row in needs if int(row["spends"]) == spends]
         plot.line([(int(row["entries"]), float(row["bound"])) for row in rows], colour, dashed=True)
@@ -95,7 +98,7 @@ def by_spends(needs):
     for colour, entries in zip(COLOURS, (10_000, 100_000, 1_000_000, 10_000_000)):
         rows = [row for row in needs if int(row["entries"]) == entries]
         if entries == 10_000_000:
-            plot.line([(int(row["spends"]), float(row["bound"])) for row in rows], "#777777", "at most, proved", dashed=True)
+            plot.line([(int(row["spends"]), float(row["bound"])) for row in rows], colour, "at most, proved", dashed=True)
         plot.line([(int(row["spends"]), float(row["digests"])) for row in rows], colour)
     for colour, entries, place in zip(COLOURS, (10_000, 100_000, 1_000_000, 10_000_000), range(4)):
         at = HEIGHT - BOTTOM - 86 + 20 * place
@@ -105,7 +108,7 @@ def by_spends(needs):
 
 def proof_bytes(needs):
     """Bytes of a proof for each output that is spent, against the entries."""
-    plot = Plot("Bytes of proof for each output spent", "outputs ever added", "bytes", (1e3, 1e8), (1e2, 1e3))
+    plot = Plot("Bytes of proof for each output spent", "outputs ever added", "bytes", (1e3, 1e7), (1e2, 1e3))
     for colour, spends in zip(COLOURS, (1, 20, 100, 500, 2500)):
         rows = [row for row in needs if int(row["spends"]) == spends]
         plot.line([(int(row["entries"]), float(row["message_bytes"]) / spends) for row in rows], colour, spends_of(spends))
