@@ -1,5 +1,5 @@
 #!/usr/bin/env python3
-"""Sets the built program beside examples/follower.py over feeds that are changed at random: compare_followers.py FEEDS [SEED].
+"""Sets the program beside examples/follower.py over feeds that are changed at random: compare_followers.py FEEDS [SEED].
 
 Each feed is one of two chains with proofs, with one to three changes: bits of proofs and blocks, the last block with other transactions
 under a merkle root that is right, other targets, hashes too many or too few, proofs left out, rollbacks, other ways on behind a rollback, an
@@ -16,7 +16,7 @@ sys.path.insert(0, str(TOP / "examples"))
 sys.dont_write_bytecode = True
 from follower import NotSo, Refused, merkle_root, read_block  # noqa: E402
 
-PROGRAM = [TOP / "crates/utreexo/out/utreexo", "follow"]
+PROGRAM = [TOP / "utreexo", "follow"]
 FOLLOWER = [sys.executable, TOP / "examples/follower.py"]
 
 
