@@ -1,5 +1,5 @@
 -- A node from its start follows what the proving node passes on.
-use Rattle.std.proofs.Common.{◌≡◌, ℕ, ◌<◌, ◌≤◌, ◌^◌, List, [], None, ◌∙◌, subst}
+use Rattle.std.proofs.Common.{ℕ, ◌<◌, ◌≤◌, ◌^◌, List, [], None, ◌∙◌, subst}
 use Rattle.uo_base.specs.declared.event.Limits.{Limits}
 use Rattle.uo_base.specs.declared.event.Net.{Net}
 use Rattle.uo_digest.specs.declared.digest.Digest.{Digest}
