@@ -1,9 +1,8 @@
 //! Rollbacks: how far a chain goes back, and what comes behind them.
 
-use super::chains::{SUBSIDY, coinbase};
+use super::blocks::{MAIN, SUBSIDY, coinbase, put_block, put_line};
 use super::proved::{
-    Case, Chain, HALF, SPENDING, Spending, begin_case, check_case, make_chain, put_block, put_line,
-    put_spent,
+    Case, Chain, HALF, SPENDING, Spending, begin_case, check_case, make_chain, put_spent,
 };
 use feed_run::Status;
 use std::alloc::Global;
@@ -127,7 +126,7 @@ fn put_next(alloc: Global, branch: &mut Branch, claim: u64) -> Result<Digest, Fa
     let height = u32::try_from(branch.hashes.len()).unwrap_or(0);
     let tx = coinbase(alloc, height, claim)?;
     let tip = tip_of(branch);
-    put_block(alloc, &mut branch.feed, &tip, &[tx])
+    put_block(alloc, MAIN, &mut branch.feed, &tip, &[tx])
 }
 
 fn put_accepted(alloc: Global, branch: &mut Branch, claim: u64) -> Result<(), Fail> {
