@@ -44,6 +44,7 @@ fn split_header(text: &[u8]) -> Option<(HeaderView, &[u8])>
     Some((header, at.rest()))
 }
 
+/// The same as `split_header`, and that what is left is no longer.
 fn front_header(text: &[u8]) -> Option<(HeaderView, &[u8])>
     ensures exact { Splits (λ h. h) result (header_at text.now) }
     ensures shorter { IfSome result (λ x. length x.1.now ≤ length text.now) }
@@ -65,6 +66,7 @@ fn split_count(text: &[u8]) -> Option<(u64, &[u8])>
     }
 }
 
+/// The same as `split_count`, and that what is left is no longer.
 fn front_count(text: &[u8]) -> Option<(u64, &[u8])>
     ensures exact { Splits (λ n. n) result (some_count_at text.now) }
     ensures shorter { IfSome result (λ x. length x.1.now ≤ length text.now) }

@@ -1,4 +1,7 @@
 //! A block behind the first, with a coinbase and a payment. Hash and ids were computed by another program.
+ghost use Rattle.std.specs.Prelude.{IfOk};
+ghost use Rattle.tx_codec.specs.Transaction.{IsWritable};
+
 use crate::{GENESIS_HASH, SampleFault, block_behind, coinbase, legacy_tx};
 use std::alloc::Global;
 use std::test::Fail;
@@ -11,7 +14,9 @@ const REWARD: OutView<'static> = OutView {
     script: b"\x51",
 };
 
-fn payment(alloc: Global) -> Result<Tx, NoMemory> {
+fn payment(alloc: Global) -> Result<Tx, NoMemory>
+    ensures { IfOk result IsWritable }
+{
     let input = InView {
         txid: Digest([11; 32]),
         index: 3,

@@ -3,7 +3,7 @@ use Rattle.std.proofs.Common.{◌≡◌, ℕ, List, Option, Some, None, refl, sy
 use Rattle.std.specs.Prelude.{option_map, Contains}
 use Rattle.uo_digest.specs.declared.digest.Digest.{Digest}
 use Rattle.forest_model.specs.Content.{Tree, leaf, inner, digest_of}
-use Rattle.forest_model.specs.Standing.{tree_at, digest_at}
+use Rattle.forest_model.specs.Standing.{tree_at}
 use Rattle.forest_model.specs.Literal.{Node, nodes, made_of}
 use Rattle.forest_model.proofs.Literally.{node_stands, standing_is_node}
 use Rattle.bridge_forest.specs.State.{leaf_number}

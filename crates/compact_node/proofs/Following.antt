@@ -1,5 +1,5 @@
 -- A node from its start follows what the proving node passes on.
-use Rattle.std.proofs.Common.{◌≡◌, ℕ, ◌<◌, ◌≤◌, ◌^◌, List, [], None, ◌∙◌, subst}
+use Rattle.std.proofs.Common.{ℕ, ◌<◌, ◌≤◌, ◌^◌, List, [], None, ◌∙◌, subst}
 use Rattle.uo_base.specs.declared.event.Limits.{Limits}
 use Rattle.uo_base.specs.declared.event.Net.{Net}
 use Rattle.uo_digest.specs.declared.digest.Digest.{Digest}
@@ -10,12 +10,12 @@ use Rattle.node_rules.proofs.Following.{followed}
 use Rattle.compact_node.specs.Node.{Stands}
 use Rattle.compact_node.specs.Node as Node
 use Rattle.compact_node.specs.Throughout.{node_after}
-use Rattle.compact_node.specs.Following.{FollowsProving}
+use Rattle.compact_node.specs.Following.{SaysAsProving}
 use Rattle.compact_node.proofs.Throughout.{fresh_is_full}
 
 pub fresh_follows_proving : (H : List ℕ → Digest) (text : Leaf → List ℕ) (net : Net) (limits : Limits) → limits.leaves < 2 ^ 40 → limits.bytes ≤ 2 ^ 48 →
     let rules : Rules = record { net = net; limits = limits } in
-    (events : List ChainEvent) → FollowsProving H text rules (Node.fresh_node net limits) events
+    (events : List ChainEvent) → SaysAsProving H text rules (Node.fresh_node net limits) events
 fresh_follows_proving H text net limits few short events =
     let rules : Rules = record { net = net; limits = limits } in
     let s = Node.fresh_node net limits in

@@ -11,7 +11,7 @@ use Rattle.compact_node.specs.Node as Node
 use Rattle.compact_node.specs.Throughout.{verdicts_on, node_after, AreHonest}
 
 -- no proof of it is forged; the node says of each block and rollback what the proving node said of it, and stands for what that one holds then
-pub record FollowsProving (H : List ℕ → Digest) (text : Leaf → List ℕ) (rules : Rules) (s : NodeState) (events : List ChainEvent) : Type 0 where
+pub record SaysAsProving (H : List ℕ → Digest) (text : Leaf → List ℕ) (rules : Rules) (s : NodeState) (events : List ChainEvent) : Type 0 where
   pub honest : AreHonest H text rules start (proof_feed H text None rules start events)
   pub said : verdicts_on H text s (proof_feed H text None rules start events) ≡ kept_verdicts (verdicts rules own_judge start events)
   pub stands : Stands H text (state_after rules own_judge start events) (node_after H text s (proof_feed H text None rules start events))
@@ -20,4 +20,4 @@ pub record FollowsProving (H : List ℕ → Digest) (text : Leaf → List ℕ) (
 abbrev pub FreshFollowsProving : Type 0
 FreshFollowsProving = (H : List ℕ → Digest) (text : Leaf → List ℕ) (net : Net) (limits : Limits) → limits.leaves < 2 ^ 40 → limits.bytes ≤ 2 ^ 48 →
     let rules : Rules = record { net = net; limits = limits } in
-    (events : List ChainEvent) → FollowsProving H text rules (Node.fresh_node net limits) events
+    (events : List ChainEvent) → SaysAsProving H text rules (Node.fresh_node net limits) events

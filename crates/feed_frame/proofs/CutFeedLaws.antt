@@ -14,7 +14,7 @@ use Rattle.feed_frame.specs.Ahead.{frames_behind}
 use Rattle.feed_frame.specs.Finding.{BeginsFrame}
 use Rattle.feed_frame.specs.Frames.{Frame, Frames, no_frames, with_frame, magic_of, kind_at, length_fault, frames_from, within}
 use Rattle.feed_frame.specs.Events.{Events, events_in, events_of, events_over, led_by}
-use Rattle.feed_frame.specs.FeedText.{event_text, feed_text, HasFrames, BeginsFeedOf}
+use Rattle.feed_frame.specs.FeedText.{event_text, feed_text, HasFrames, HasFirstEvents}
 use Rattle.feed_frame.specs.Written.{frame_text}
 use Rattle.feed_frame.proofs.FeedTextLaws.{block_long, proof_long}
 use Rattle.feed_frame.proofs.FrameLemmas.{magic_cut, body_cut}
@@ -255,7 +255,7 @@ module _ (net : Net) (limit : ℕ) where
   cut_from (RollbackCame count ∷ events) all = rollback_step count events all.0 (cut_from events all.1)
   cut_from (StrayCame ∷ events) all = absurd all.0
 
-  pub feed_cut : (events : List FeedEvent) → AllByRecursion HasFrames events → limit < length (feed_text net events) → BeginsFeedOf net limit (feed_text net events) events
+  pub feed_cut : (events : List FeedEvent) → AllByRecursion HasFrames events → limit < length (feed_text net events) → HasFirstEvents net limit (feed_text net events) events
   unfolding events_of
   feed_cut events all past =
       let r = cut_from events all 0 (omega arith) (omega (arith, past)) in

@@ -10,7 +10,7 @@ use Rattle.feed_frame.specs.declared.head.Kind.{Kind}
 use Rattle.feed_frame.specs.declared.head.Kind.TheVariants.{Block, Proof, Rollback}
 use Rattle.feed_frame.specs.Frames.{Frame, with_frame, magic_of, length_fault, frames_from, most_block, most_proof}
 use Rattle.feed_frame.specs.Events.{Events, events_in, events_of, events_over, led_by}
-use Rattle.feed_frame.specs.FeedText.{event_text, feed_text, HasFrames, IsFeedOf}
+use Rattle.feed_frame.specs.FeedText.{event_text, feed_text, HasFrames, HasEvents}
 use Rattle.feed_frame.specs.Written.{frame_text}
 use Rattle.feed_frame.proofs.Within.{within-inside}
 use Rattle.feed_frame.proofs.WrittenLaws.{written_is_read}
@@ -82,7 +82,7 @@ module _ (net : Net) where
       (read-more (RollbackCame count) events _ _ (read_again events (end_of offset (to_le_bytes w32 count)) all.1))
   read_again (StrayCame ∷ events) offset all = absurd all.0
 
-  pub feed_read : (limit : ℕ) (events : List FeedEvent) → AllByRecursion HasFrames events → length (feed_text net events) ≤ limit → IsFeedOf net limit (feed_text net events) events
+  pub feed_read : (limit : ℕ) (events : List FeedEvent) → AllByRecursion HasFrames events → length (feed_text net events) ≤ limit → HasEvents net limit (feed_text net events) events
   unfolding events_of
   feed_read limit events all room =
       let text = feed_text net events in

@@ -9,13 +9,13 @@ use Rattle.feed_frame.specs.Events.{events_of}
 use Rattle.feed_frame.specs.Frames.{block_magic, proof_magic, rollback_magic, most_block, most_proof}
 use Rattle.feed_frame.specs.Written.{frame_text}
 
-abbrev pub proof_text : Option (List ℕ) → List ℕ
-proof_text None = []
-proof_text (Some message) = frame_text proof_magic message
+abbrev pub proof_frame_text : Option (List ℕ) → List ℕ
+proof_frame_text None = []
+proof_frame_text (Some message) = frame_text proof_magic message
 
 -- the frame of a block, behind that of its proof, or the frame of a rollback; a stray is not written
 unfoldable pub event_text : Net → FeedEvent → List ℕ
-event_text net (BlockCame block message) = proof_text message ++ frame_text (block_magic net) block
+event_text net (BlockCame block message) = proof_frame_text message ++ frame_text (block_magic net) block
 event_text net (RollbackCame count) = frame_text rollback_magic (to_le_bytes w32 count)
 event_text net StrayCame = []
 
@@ -36,18 +36,18 @@ HasFrames (RollbackCame count) = count < 2 ^ 32
 HasFrames StrayCame = ⊥
 
 -- a feed has these events, and is read to its end
-pub record IsFeedOf (net : Net) (limit : ℕ) (feed : List ℕ) (events : List FeedEvent) : Type 0 where
+pub record HasEvents (net : Net) (limit : ℕ) (feed : List ℕ) (events : List FeedEvent) : Type 0 where
   pub all : (events_of net limit feed).events ≡ events
   pub ends : (events_of net limit feed).ending ≡ None
 
 -- The text of events that have frames is read as these events, where it is no longer than may be read.
 abbrev pub FeedTextIsRead : Type 0
 FeedTextIsRead = (net : Net) (limit : ℕ) (events : List FeedEvent) → AllByRecursion HasFrames events → length (feed_text net events) ≤ limit
-    → IsFeedOf net limit (feed_text net events) events
+    → HasEvents net limit (feed_text net events) events
 
 -- a feed that has these events goes on past the limit: the first of them come, and behind them a stray where the limit stands between a proof
 -- and the end of its block
-pub record BeginsFeedOf (net : Net) (limit : ℕ) (feed : List ℕ) (events : List FeedEvent) : Type 0 where
+pub record HasFirstEvents (net : Net) (limit : ℕ) (feed : List ℕ) (events : List FeedEvent) : Type 0 where
   pub front : List FeedEvent
   pub later : List FeedEvent
   pub split : events ≡ front ++ later
@@ -59,4 +59,4 @@ pub record BeginsFeedOf (net : Net) (limit : ℕ) (feed : List ℕ) (events : Li
 -- Where it is longer, the first of the events are read, up to the limit.
 abbrev pub FeedTextIsCut : Type 0
 FeedTextIsCut = (net : Net) (limit : ℕ) (events : List FeedEvent) → AllByRecursion HasFrames events → limit < length (feed_text net events)
-    → BeginsFeedOf net limit (feed_text net events) events
+    → HasFirstEvents net limit (feed_text net events) events

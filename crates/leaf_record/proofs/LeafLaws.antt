@@ -8,7 +8,6 @@ use Rattle.sha2.proofs.Facts512.{length-sha512}
 use Rattle.uo_base.specs.Reading.{◌>>=◌, bytes_at, number_at, OneReading}
 use Rattle.uo_base.specs.Compact.{compact, compact_at, sized}
 use Rattle.uo_base.proofs.Formats.{Lawful, same, led, ended, tested, one_reading, bytes_lawful, Always, u32_lawful, u64_lawful}
-use Rattle.uo_digest.specs.declared.digest.Digest.{Digest}
 use Rattle.uo_digest.specs.Reading.{IsDigest, digest_text, digest_in_front}
 use Rattle.uo_digest.proofs.DigestLaws.{digest_lawful}
 use Rattle.uo_base.proofs.CompactLaws.{compact_lawful, compact_1, compact_2}

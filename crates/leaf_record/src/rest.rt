@@ -58,6 +58,7 @@ fn split_rest(text: &[u8]) -> Option<(RestView<'_>, &[u8])>
     Some((rest, at.rest()))
 }
 
+/// The same as `split_rest`, in terms of texts.
 fn front_rest(text: &[u8]) -> Option<(RestView<'_>, &[u8])>
     ensures reads { Finds (λ r. r) RestFits rest_text result text.now }
     ensures exact { Splits (λ r. r) result (rest_at text.now) }

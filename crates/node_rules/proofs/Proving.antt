@@ -1,5 +1,5 @@
 -- What the proving node passes on is read again, and has frames.
-use Rattle.std.proofs.Common.{◌≡◌, ℕ, suc, ◌+◌, ◌*◌, ◌<◌, ◌≤◌, ◌^◌, Bool, true, false, cond, List, [], ◌∷◌, map, length, Option, Some, None, refl, sym, ap, ap₂, ◌∙◌, arith}
+use Rattle.std.proofs.Common.{◌≡◌, ℕ, ◌+◌, ◌*◌, ◌<◌, ◌≤◌, ◌^◌, Bool, true, false, cond, List, [], ◌∷◌, map, length, Option, Some, None, refl, ap, ap₂, arith}
 use Rattle.std.specs.Prelude.{nat_le}
 use Rattle.std.specs.List.{AllByRecursion}
 use Rattle.std.proofs.lemmas.Bool.{leb-true, false≢true}
@@ -7,23 +7,22 @@ use Rattle.uo_base.specs.FeedEvent.{FeedEvent, BlockCame, RollbackCame, StrayCam
 use Rattle.uo_base.specs.Reading.{IsBytes}
 use Rattle.uo_digest.specs.declared.digest.Digest.{Digest}
 use Rattle.forest_model.specs.Content.{IsDigest}
-use Rattle.block_codec.specs.Block.{Block, BlockFits, block_text, stripped_text, weight_of}
+use Rattle.block_codec.specs.Block.{Block, block_text, stripped_text, weight_of}
 use Rattle.block_codec.specs.Reading.{block_in}
 use Rattle.block_codec.proofs.BlockLaws.{IsBlockText, block_in-fits}
 use Rattle.leaf_record.specs.Leaf.{Leaf}
 use Rattle.proof_wire.specs.BlockProof.{message_text}
-use Rattle.block_rules.specs.declared.chain.Chain.{Chain}
 use Rattle.block_rules.specs.declared.chain.Outside.{Outside}
 use Rattle.block_rules.specs.declared.refusal.Refusal.{Refusal}
 use Rattle.block_rules.specs.Blocks.{external}
-use Rattle.node_rules.specs.Fitting.{AreEventBytes, HistoryFits, StateFits}
+use Rattle.node_rules.specs.Fitting.{AreEventBytes, StateFits}
 use Rattle.node_rules.specs.Messages.{Message}
-use Rattle.node_rules.specs.Reading.{Handed, read, message_in, handed_in}
+use Rattle.node_rules.specs.Reading.{read, message_in, handed_in}
 use Rattle.node_rules.specs.Judging.{Rules, own, refusal, message_of, written}
 use Rattle.node_rules.specs.Machine.{ChainEvent, Level, State, start, chain_of, event_in, own_judge, by_refusal, step, is_made, with_message, proof_feed}
 use Rattle.node_rules.specs.Machine as Chain
 use Rattle.node_rules.specs.Proving.{written_text, text_beside, passed_on, proved_events, IsShortMessage, CanBeWritten}
-use Rattle.node_rules.proofs.Fitting.{Passes, passes, read_event_fits, step_fits, start_fits}
+use Rattle.node_rules.proofs.Fitting.{passes, read_event_fits, step_fits, start_fits}
 use Rattle.node_rules.proofs.Levels.{step_few}
 use Rattle.node_rules.proofs.MessageLaws.{message_read}
 use Rattle.node_rules.proofs.Written.{written_fits, written_short}

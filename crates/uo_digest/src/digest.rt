@@ -44,6 +44,7 @@ fn split_digest(bytes: &[u8]) -> Option<(Digest, &[u8])>
     Some((Digest::from_bytes(front), rest))
 }
 
+/// The same as `split_digest`, in terms of texts.
 fn front_digest(bytes: &[u8]) -> Option<(Digest, &[u8])>
     ensures reads { Finds (λ d. d) IsDigest digest_text result bytes.now }
     ensures exact { Splits (λ d. d) result (digest_in_front bytes.now) }

@@ -1,5 +1,5 @@
 -- What a proving node writes is followed.
-use Rattle.std.proofs.Common.{◌≡◌, ◌⊎◌, inl, inr, ℕ, suc, ◌<◌, ◌≤◌, ◌^◌, Bool, true, false, cond, is_some, List, [], ◌∷◌, ◌++◌, length, map, Option, Some, None, refl, sym, ap, subst, ◌∙◌, arith}
+use Rattle.std.proofs.Common.{◌≡◌, ◌⊎◌, inl, inr, ℕ, suc, ◌<◌, ◌≤◌, ◌^◌, Bool, false, cond, is_some, List, [], ◌∷◌, ◌++◌, length, map, Option, Some, None, refl, sym, ap, subst, ◌∙◌, arith}
 use Rattle.std.specs.List.{flat_map, list_any, AllByRecursion}
 use Rattle.std.proofs.lemmas.Bool.{and_parts}
 use Rattle.std.proofs.lemmas.List.{length-map, map-append}
@@ -15,7 +15,7 @@ use Rattle.block_rules.specs.declared.verdict.Verdict.TheVariants.{Accepted, Ref
 use Rattle.feed_frame.specs.declared.fault.FeedFault.{FeedFault}
 use Rattle.feed_frame.specs.declared.fault.FeedFault.TheVariants.{Limit}
 use Rattle.feed_frame.specs.Events.{events_of}
-use Rattle.feed_frame.specs.FeedText.{feed_text, HasProofFrame, HasFrames, IsFeedOf, BeginsFeedOf}
+use Rattle.feed_frame.specs.FeedText.{feed_text, HasProofFrame, HasFrames, HasEvents, HasFirstEvents}
 use Rattle.feed_frame.proofs.CutFeedLaws.{feed_cut}
 use Rattle.feed_frame.proofs.FeedTextLaws.{feed_read}
 use Rattle.feed_run.specs.Answer.{Answer}
@@ -143,15 +143,15 @@ module _ (H : List ℕ → Digest) (long : (x : List ℕ) → length (H x).0 ≡
     abbrev made : List Verdict
     made = kept_verdicts (proving_verdicts (rules_of limits net) events)
 
-    read : length feed ≤ limits.bytes → feed ≡ feed_text net proved → IsFeedOf net limits.bytes feed proved
+    read : length feed ≤ limits.bytes → feed ≡ feed_text net proved → HasEvents net limits.bytes feed proved
     read room is =
-        subst (λ f. IsFeedOf net limits.bytes f proved) (sym is)
+        subst (λ f. HasEvents net limits.bytes f proved) (sym is)
         (feed_read net limits.bytes proved (all_framed proved (events_short H leaf_text long (rules_of limits net) few None events all)) (subst (λ f. length f ≤ limits.bytes) is room))
 
     again : map event_in proved ≡ came
     again = events_again H leaf_text long (rules_of limits net) few events all
 
-    follows : Fresh.FollowsProving H leaf_text (rules_of limits net) node (map event_in events)
+    follows : Fresh.SaysAsProving H leaf_text (rules_of limits net) node (map event_in events)
     follows = fresh_follows_proving H leaf_text net limits few short (map event_in events)
 
     as_many : length proved ≡ length made
@@ -184,9 +184,9 @@ module _ (H : List ℕ → Digest) (long : (x : List ℕ) → length (H x).0 ≡
 
     -- past the limit
     module _ (past : limits.bytes < length feed) (is : feed ≡ feed_text net proved) where
-      read_to : BeginsFeedOf net limits.bytes feed proved
+      read_to : HasFirstEvents net limits.bytes feed proved
       read_to =
-          subst (λ f. BeginsFeedOf net limits.bytes f proved) (sym is)
+          subst (λ f. HasFirstEvents net limits.bytes f proved) (sym is)
           (feed_cut net limits.bytes proved (all_framed proved (events_short H leaf_text long (rules_of limits net) few None events all)) (subst (λ f. limits.bytes < length f) is past))
 
       followed_to : IsFollowedTo H limits net (rules_of limits net) events feed

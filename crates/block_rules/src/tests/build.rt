@@ -1,9 +1,9 @@
 //! Blocks made from sketches.
-ghost use Rattle.std.specs.Prelude.{◌<◌, length, IfOk};
+ghost use Rattle.std.specs.Prelude.{IfOk};
 ghost use Rattle.std.specs.List.{AllByRecursion};
 ghost use Rattle.tx_codec.specs.Transaction.{IsWritable};
 
-use block_codec::{HeaderView, MerkleOutcome, merkle, read_block, write_block};
+use block_samples::block_behind;
 use std::alloc::Global;
 use std::test::Fail;
 use tx_codec::{Tx, TxIn, TxOut, write_tx};
@@ -131,38 +131,14 @@ pub fn text_of(alloc: Global, txs: &[Tx], flaw: Flaw) -> Result<Vec<u8>, Fail>
     if txs.is_empty() {
         return Err("a transaction".into());
     }
-    let mut header = HeaderView {
-        version: 1,
-        prev: if flaw == Flaw::Prev {
-            Digest([8; 32])
-        } else {
-            TIP
-        },
-        merkle: Digest([0; 32]),
-        time: 0,
-        bits: 0,
-        nonce: 0,
+    let prev = if flaw == Flaw::Prev {
+        Digest([8; 32])
+    } else {
+        TIP
     };
-    if flaw != Flaw::Merkle {
-        header.merkle = root_of(alloc, &header, txs)?;
+    let mut text = block_behind(alloc, prev, txs)?.text;
+    if flaw == Flaw::Merkle {
+        *text.get_mut(36).ok_or("a merkle root")? ^= 1;
     }
-    let mut text = Vec::new(alloc);
-    write_block(&header, txs, &mut text)?;
     Ok(text)
-}
-
-fn root_of(alloc: Global, header: &HeaderView, txs: &[Tx]) -> Result<Digest, Fail>
-    requires some { 0 < length txs.now }
-    requires writable { AllByRecursion IsWritable txs.now }
-{
-    let mut text = Vec::new(alloc);
-    write_block(header, txs, &mut text)?;
-    if text.len() >= 4_294_967_296 {
-        return Err("a short text".into());
-    }
-    let block = read_block(alloc, &text)?;
-    match merkle(alloc, &block)? {
-        MerkleOutcome::Root(root) => Ok(root),
-        MerkleOutcome::Repeated { .. } => Ok(Digest([0; 32])),
-    }
 }

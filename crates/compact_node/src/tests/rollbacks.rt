@@ -203,7 +203,10 @@ fn check_ways<L: Ledger>(
     }
     assert_eq!(rt; back.node.chain(), straight.node.chain());
     for row in 0..8 {
-        assert_eq!(rt; back.node.roots().root(row), straight.node.roots().root(row));
+        assert_eq!(rt;
+            back.node.roots().root(row),
+            straight.node.roots().root(row)
+        );
     }
     Ok(())
 }

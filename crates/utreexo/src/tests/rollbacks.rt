@@ -1,16 +1,13 @@
 //! Rollbacks: how far a chain goes back, and what comes behind them.
-ghost use Rattle.std.specs.Prelude.{◌≡◌, ◌<◌};
 
-use super::chains::{SUBSIDY, coinbase};
+use super::blocks::{MAIN, SUBSIDY, coinbase, put_block, put_line};
 use super::proved::{
-    Case, Chain, HALF, SPENDING, Spending, check_case, first_message, make_chain, put_block,
-    put_line, put_proof, put_spending,
+    Case, Chain, HALF, SPENDING, Spending, begin_case, check_case, make_chain, put_spent,
 };
 use feed_run::Status;
 use std::alloc::Global;
 use std::marker::Brand;
-use std::process::Abort;
-use std::sync::ledger::{Blank, Ledger};
+use std::sync::ledger::Blank;
 use std::test::Fail;
 use uo_digest::Digest;
 
@@ -129,7 +126,7 @@ fn put_next(alloc: Global, branch: &mut Branch, claim: u64) -> Result<Digest, Fa
     let height = u32::try_from(branch.hashes.len()).unwrap_or(0);
     let tx = coinbase(alloc, height, claim)?;
     let tip = tip_of(branch);
-    put_block(alloc, &mut branch.feed, &tip, &[tx])
+    put_block(alloc, MAIN, &mut branch.feed, &tip, &[tx])
 }
 
 fn put_accepted(alloc: Global, branch: &mut Branch, claim: u64) -> Result<(), Fail> {
@@ -226,22 +223,15 @@ const OTHERWISE: Spending = Spending {
     claim: SUBSIDY + HALF,
 };
 
-// Appends a block of height 101 that spends the first coin of the chain, with the proof, and its line.
-fn put_spent(
+// Appends a block that spends the first coin, and a rollback that takes it back.
+fn put_taken_back(
     alloc: Global,
     chain: &Chain,
     spending: &Spending,
     case: &mut Case,
     back: &str,
-) -> Result<Digest, Fail> {
-    put_proof(&mut case.feed, &first_message(alloc, chain)?)?;
-    let hash = put_spending(alloc, chain, spending, &mut case.feed)?;
-    put_line(&mut case.report, "accepted 101 ", &hash, back)?;
-    Ok(hash)
-}
-
-// Takes the block of height 101 back.
-fn put_unspent(chain: &Chain, case: &mut Case) -> Result<(), Fail> {
+) -> Result<(), Fail> {
+    put_spent(alloc, chain, spending, case, back)?;
     put_rollback(&mut case.feed, 1)?;
     put_line(&mut case.report, "rolledback 1 100 ", &chain.tip, " 100")
 }
@@ -249,16 +239,9 @@ fn put_unspent(chain: &Chain, case: &mut Case) -> Result<(), Fail> {
 // One output is spent, again on another branch, and once more as at first.
 fn spent_case(alloc: Global) -> Result<Case, Fail> {
     let chain = make_chain(alloc)?;
-    let mut case = Case {
-        feed: Vec::from_slice(alloc, &chain.feed)?,
-        status: Status::AllAccepted,
-        report: Vec::from_slice(alloc, &chain.report)?,
-        back: " 103",
-    };
-    put_spent(alloc, &chain, &SPENDING, &mut case, " 103")?;
-    put_unspent(&chain, &mut case)?;
-    put_spent(alloc, &chain, &OTHERWISE, &mut case, " 102")?;
-    put_unspent(&chain, &mut case)?;
+    let mut case = begin_case(alloc, &chain, Status::AllAccepted, " 103")?;
+    put_taken_back(alloc, &chain, &SPENDING, &mut case, " 103")?;
+    put_taken_back(alloc, &chain, &OTHERWISE, &mut case, " 102")?;
     let last = put_spent(alloc, &chain, &SPENDING, &mut case, " 103")?;
     put_line(&mut case.report, "end 106 101 ", &last, " 103")?;
     Ok(case)
