@@ -1,0 +1,107 @@
+//! Outputs by their names.
+ghost use Rattle.std.specs.Prelude.{◌+◌, OnOk};
+ghost use Rattle.output_index.specs.Held.{IsAbove};
+
+use leaf_record::Record;
+use output_index::Outputs;
+use std::alloc::Global;
+use std::io;
+use std::rt::Clock;
+use std::time::{Duration, Instant};
+use uo_base::NoMemory;
+use uo_digest::Digest;
+
+/// Nanoseconds of adding outputs, of finding them by their names, and of spending them and taking that back, among a hundred
+/// thousand to ten million. The names differ in their last four bytes alone.
+pub fn measure_outputs<R: Clock + Print + AllocGlobal>(rt: &R) -> io::Result<()> {
+    for entries in [100_000, 1_000_000, 10_000_000] {
+        measure(rt, rt.alloc(), entries)?;
+    }
+    Ok(())
+}
+
+fn txid_of(number: u32) -> Digest {
+    let [a, b, c, d] = number.to_le_bytes();
+    let mut id = [2; 32];
+    id[28] = a;
+    id[29] = b;
+    id[30] = c;
+    id[31] = d;
+    Digest(id)
+}
+
+fn record_of(alloc: Global, number: u32) -> Result<Record, NoMemory> {
+    Ok(Record {
+        block: Digest([1; 32]),
+        txid: txid_of(number),
+        index: 0,
+        height: 7,
+        coinbase: false,
+        amount: 5,
+        script: vec![in alloc; 0x51]?,
+    })
+}
+
+fn insert_all(alloc: Global, outputs: &mut Outputs, entries: u32) -> Result<(), NoMemory>
+    requires { IsAbove 0 outputs.old }
+{
+    for number in 0..entries {
+        insert(outputs, u64::from(number), record_of(alloc, number)?)?;
+    }
+    Ok(())
+}
+
+fn insert(outputs: &mut Outputs, number: u64, leaf: Record) -> Result<(), NoMemory>
+    requires { IsAbove number outputs.old }
+    ensures { OnOk result (IsAbove (number + 1) outputs.new) }
+{
+    outputs.insert(number, leaf)
+}
+
+// The i-th of some numbers, which are spread over all.
+fn chosen(i: u32, entries: u32) -> u32 {
+    i.wrapping_mul(0x9e37_79b9) % entries.max(1)
+}
+
+fn find_all(outputs: &Outputs, entries: u32) -> u64 {
+    let mut seen = 0;
+    for i in 0..entries {
+        seen ^= outputs.newest(&txid_of(chosen(i, entries)), 0).unwrap_or(0);
+    }
+    seen
+}
+
+fn spend_all(outputs: &mut Outputs, entries: u32) {
+    for i in 0..entries {
+        let number = u64::from(chosen(i, entries));
+        if outputs.live(number) {
+            outputs.spend(number);
+        }
+    }
+}
+
+fn nanoseconds(elapsed: Duration, count: u32) -> u128 {
+    elapsed.as_nanos() / u128::from(count.max(1))
+}
+
+fn measure<R: Clock + Print>(rt: &R, alloc: Global, entries: u32) -> io::Result<()> {
+    let mut outputs = Outputs::new(alloc);
+    let start = Instant::now(rt)?;
+    let added = insert_all(alloc, &mut outputs, entries);
+    let adding = start.elapsed(rt)?;
+    if added.is_err() {
+        return println!(rt; "{entries} outputs: no memory");
+    }
+    let start = Instant::now(rt)?;
+    let seen = find_all(&outputs, entries);
+    let finding = start.elapsed(rt)?;
+    let start = Instant::now(rt)?;
+    spend_all(&mut outputs, entries);
+    let spending = start.elapsed(rt)?;
+    println!(rt;
+        "{entries} outputs: insert {} ns, newest {} ns, spend {} ns; {seen}",
+        nanoseconds(adding, entries),
+        nanoseconds(finding, entries),
+        nanoseconds(spending, entries)
+    )
+}

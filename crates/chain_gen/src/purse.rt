@@ -1,0 +1,137 @@
+//! What can be spent.
+ghost use Rattle.std.specs.Prelude.{◌≡◌, ◌≤◌, ◌<◌, ◌+◌, ◌++◌, length, take, IfOk, OnOk};
+ghost use Rattle.std.specs.List.{range_with_len};
+ghost use Rattle.chain_gen.specs.Purses.{AllRipe, Chosen, no_coins, put};
+
+use crate::coin::{Coin, is_ripe, ripe_places};
+use crate::draw::draw;
+use std::alloc::Global;
+use std::marker::Model;
+use uo_base::NoMemory;
+
+/// The coins of a chain that can be split, in the order in which they came, and how many blocks it has.
+///
+/// A draw does not go over all of them: the ones in front, up to the first that is not ripe yet, are found by their place.
+#[derive(Drop)]
+pub(crate) struct Purse {
+    height: u32,
+    /// The coins that came in front, also those that were taken since.
+    coins: Vec<Coin>,
+    /// The places there of those that are left.
+    settled: Vec<usize>,
+    /// The others: the coins of some hundred blocks.
+    recent: Vec<Coin>,
+}
+
+impl Model for Purse {
+    ghost use Rattle.std.specs.Prelude.{◌++◌};
+    ghost use Rattle.chain_gen.specs.Purses.{PurseValue, IsSettled, coins_at};
+
+    ghost Value = { PurseValue };
+
+    ghost view = { λ p. record { height = p.height; coins = coins_at p.coins.items p.settled.items ++ p.recent.items } };
+
+    ghost invariant = { λ p. IsSettled p.height p.coins.items p.settled.items };
+}
+
+impl Purse {
+    /// Nothing can be spent yet.
+    pub fn new(alloc: Global) -> Self
+        ensures { result ≡ no_coins }
+    {
+        Purse {
+            height: 0,
+            coins: Vec::new(alloc),
+            settled: Vec::new(alloc),
+            recent: Vec::new(alloc),
+        }
+    }
+
+    /// How many blocks the chain has.
+    pub fn height(&self) -> u32
+        ensures { result ≡ self.now.height }
+    {
+        self.height
+    }
+
+    /// The same once more.
+    pub fn copy(&self, alloc: Global) -> Result<Self, NoMemory>
+        ensures { IfOk result (λ copy. copy ≡ self.now) }
+    {
+        Ok(Purse {
+            height: self.height,
+            coins: Vec::from_slice(alloc, &self.coins)?,
+            settled: Vec::from_slice(alloc, &self.settled)?,
+            recent: Vec::from_slice(alloc, &self.recent)?,
+        })
+    }
+
+    /// The coin comes in, if it can be split.
+    pub fn put(&mut self, coin: Coin) -> Result<(), NoMemory>
+        ensures { OnOk result (self.new ≡ put coin self.old) }
+    {
+        if coin.amount >= 4 {
+            self.recent.push(coin)?;
+        }
+        Ok(())
+    }
+
+    /// Draws a ripe coin and takes it out; None where none is ripe.
+    pub fn choose(&mut self, alloc: Global, word: &mut u64) -> Result<Option<Coin>, NoMemory>
+        ensures { IfOk result (λ coin. Chosen word.old word.new self.old self.new coin) }
+    {
+        let settled = self.settled.len();
+        let places = ripe_places(alloc, &self.recent, self.height)?;
+        let count = settled as u64 + places.len() as u64;
+        if count == 0 {
+            return Ok(None);
+        }
+        let chosen = draw(word, count) as usize;
+        if chosen < settled {
+            let place = self.settled.remove(chosen);
+            Ok(Some(self.coins[place]))
+        } else {
+            Ok(Some(self.recent.remove(places[chosen - settled])))
+        }
+    }
+
+    /// The chain has one more block.
+    pub fn rise(&mut self, alloc: Global) -> Result<(), NoMemory>
+        requires { self.old.height < 100001 }
+        ensures { OnOk result (self.new ≡ record { height = self.old.height + 1; coins = self.old.coins }) }
+    {
+        self.height += 1;
+        let count = ripe_front(&self.recent, self.height);
+        let places = places_from(alloc, self.coins.len(), count)?;
+        let others = Vec::from_slice(alloc, &self.recent[count..])?;
+        self.coins.extend_from_slice(&self.recent[..count])?;
+        self.settled.extend_from_slice(&places)?;
+        self.recent = others;
+        Ok(())
+    }
+}
+
+/// How many coins stand in front of the first that is not ripe.
+fn ripe_front(coins: &[Coin], height: u32) -> usize
+    ensures few { result ≤ length coins.now }
+    ensures ripe { AllRipe height (take result coins.now) }
+{
+    for (place, coin) in coins.iter().enumerate() {
+        if !is_ripe(coin, height) {
+            return place;
+        }
+    }
+    coins.len()
+}
+
+/// So many places, from the first on.
+fn places_from(alloc: Global, first: usize, count: usize) -> Result<Vec<usize>, NoMemory>
+    requires { first + count ≤ 18446744073709551615 }
+    ensures { IfOk result (λ places. places.items ≡ range_with_len first count) }
+{
+    let mut places = Vec::new(alloc);
+    for past in 0..count {
+        places.push(first + past)?;
+    }
+    Ok(places)
+}
