@@ -89,7 +89,7 @@ proof_climbed H text scripts us ks hs number hashes few s e = by_found (find is_
     st : StandsForCache H (entries H text us) (watch scripts us) (map bare ks) hs
     st = stands_for H text scripts us ks hs s
 
-    by_found : (x : Option Kept) → find is_same_number leaf_key number ks ≡ x → option_map (λ (k : Kept). beside_way (40 - k.place.row) hs k.place.row k.place.off) x ≡ Some hashes → IsProofOf H (entries H text us) number hashes
+    by_found : (x : Option Kept) → find is_same_number leaf_key number ks ≡ x → option_map (λ (p : Place). beside_way (40 - p.row) hs p.row p.off) (option_map (λ (k : Kept). k.place) x) ≡ Some hashes → IsProofOf H (entries H text us) number hashes
     by_found None g e = absurd (none-some hashes e)
     by_found (Some k) g e =
         let found : find is_same_number kept_key number (kept_entries (entries H text us) (watch scripts us)) ≡ Some (bare k) = ap (find is_same_number kept_key number) (sym st.of_kept) ∙ (find_bare number ks ∙ ap (option_map bare) g) in

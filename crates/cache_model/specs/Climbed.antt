@@ -24,9 +24,13 @@ abbrev pub beside_way : ℕ → List (Place × Digest) → ℕ → ℕ → List 
 beside_way zero hs row off = []
 beside_way (suc k) hs row off = led (look hs row (sibling_off off)) (beside_way k hs (suc row) (off / 2))
 
--- those of the entry with this number, if it is kept. A forest has 40 rows
+-- where the entry with this number stands, if it is kept
+abbrev pub kept_place : List Kept → ℕ → Option Place
+kept_place ks number = option_map (λ (k : Kept). k.place) (find is_same_number leaf_key number ks)
+
+-- the digests on the way up of the entry with this number, if it is kept. A forest has 40 rows
 abbrev pub proof_in : List Kept → List (Place × Digest) → ℕ → Option (List Digest)
-proof_in ks hs number = option_map (λ (k : Kept). beside_way (40 - k.place.row) hs k.place.row k.place.off) (find is_same_number leaf_key number ks)
+proof_in ks hs number = option_map (λ (p : Place). beside_way (40 - p.row) hs p.row p.off) (kept_place ks number)
 
 -- the hashes that stand at the needed places of an entry's place
 pub record IsProofOf (H : List ℕ → Digest) (es : List (Option Digest)) (number : ℕ) (hashes : List Digest) : Type 0 where
