@@ -47,6 +47,8 @@ pub fn delete_from(
     requires taken_room { vec_len room.old.taken + length parts.old.kept ≤ vec_capacity room.old.taken }
     ensures kept { parts.new.kept ≡ moved_leaves targets.now.leaves targets.now.targets parts.old.kept }
     ensures held { parts.new.held ≡ held_deleted targets.now.leaves targets.now.targets pairs.now kept.now.targets parts.old.held }
+    ensures kept_within { All (λ k. InForest targets.now.leaves k.place.row k.place.off) parts.new.kept }
+    ensures held_within { All (λ x. InForest targets.now.leaves x.0.row x.0.off) parts.new.held }
     ensures taken { room.new.taken.items ≡ room.old.taken.items ++ filter (is_gone_leaf targets.now.leaves targets.now.targets) parts.old.kept }
     ensures before { room.new.held.items ≡ parts.old.held }
 {
@@ -74,6 +76,8 @@ pub fn add_to(
     requires spare_room { parts.old.held_room ≤ vec_capacity room.old.held }
     ensures kept { parts.new.kept ≡ leaves_more (is_empty_of joins.now) n (length joins.now) leaf digest parts.old.kept }
     ensures held { parts.new.held ≡ added_by joins.now digest n (is_some leaf) parts.old.held }
+    ensures kept_within { All (λ k. InForest (n + 1) k.place.row k.place.off) parts.new.kept }
+    ensures held_within { All (λ x. InForest (n + 1) x.0.row x.0.off) parts.new.held }
     ensures len { length parts.new.held ≤ length parts.old.held + 2 * length joins.now + 1 }
     ensures kept_room { parts.old.kept_room ≤ parts.new.kept_room }
     ensures held_room { parts.old.held_room ≤ parts.new.held_room }
