@@ -173,3 +173,22 @@ added_in js d n watched hs all a =
     put_all_in (suc n) (shown_by js d n (is_root_held n hs) watched (length js) zero) (put_all (raised_held (is_empty_of js) n (length js) hs) [])
     (shown_in js d n (is_root_held n hs) all watched (length js) zero (omega arith))
     (put_all_in (suc n) (raised_held (is_empty_of js) n (length js) hs) [] (raised_held_in (is_empty_of js) n (length js) all hs a) (All-nil (IsHeldIn (suc n))))
+
+-- the numbers stay below the count of entries
+abbrev pub IsNumbered : ℕ → Kept → Type 0
+IsNumbered n k = k.number < n
+
+pub numbers_moved : (n : ℕ) (ts : List Place) (b : ℕ) (ks : List Kept) → All (IsNumbered b) ks → All (IsNumbered b) (moved_leaves n ts ks)
+numbers_moved n ts b ks a = passed (IsNumbered b) (IsNumbered b) (moved_leaf n ts) (λ x y h e. goes x y h (moved n ts x.place.row x.place.off) e) ks a
+  where
+    goes : (x y : Kept) → IsNumbered b x → (q : Option Place) → option_map (λ (q : Place). let k : Kept = record { number = x.number; leaf = x.leaf; place = q; digest = x.digest } in k) q ≡ Some y → IsNumbered b y
+    goes x y h None e = absurd (none-some y e)
+    goes x y h (Some q) e = subst (IsNumbered b) (same_Some _ y e) h
+
+raised_numbers : (e : ℕ → Bool) (n m : ℕ) (ks : List Kept) → All (IsNumbered n) ks → All (IsNumbered (n + 1)) (raised_leaves e n m ks)
+raised_numbers e n m [] a = All-nil (IsNumbered (n + 1))
+raised_numbers e n m (k ∷ ks) a = All-cons (IsNumbered (n + 1)) _ (raised_leaves e n m ks) (let lt = All-head (IsNumbered n) k ks a in omega (arith, lt)) (raised_numbers e n m ks (All-tail (IsNumbered n) k ks a))
+
+pub numbers_more : (e : ℕ → Bool) (n m : ℕ) (watched : Option Leaf) (d : Digest) (ks : List Kept) → All (IsNumbered n) ks → All (IsNumbered (n + 1)) (leaves_more e n m watched d ks)
+numbers_more e n m None d ks a = subst (All (IsNumbered (n + 1))) (sym (append-nil (raised_leaves e n m ks))) (raised_numbers e n m ks a)
+numbers_more e n m (Some leaf) d ks a = All-append (IsNumbered (n + 1)) (raised_leaves e n m ks) _ (raised_numbers e n m ks a) (All-cons (IsNumbered (n + 1)) _ [] (omega arith) (All-nil (IsNumbered (n + 1))))

@@ -1,5 +1,5 @@
 //! Both lists of a cache after a deletion and after an addition.
-ghost use Rattle.std.specs.Prelude.{◌≡◌, ◌+◌, ◌*◌, ◌<◌, ◌≤◌, ◌^◌, ◌++◌, true, length, filter, is_some, All, vec_len, vec_capacity, option_map};
+ghost use Rattle.std.specs.Prelude.{◌≡◌, ℕ, ◌+◌, ◌*◌, ◌<◌, ◌≤◌, ◌^◌, ◌++◌, true, length, filter, is_some, All, vec_len, vec_capacity};
 ghost use Rattle.forest_place.specs.Forest.{InForest};
 ghost use Rattle.forest_model.specs.Addition.{all_slots};
 ghost use Rattle.cache_model.specs.Lists.{AscendByNumber, moved_leaves, leaf_places, leaves_more};
@@ -47,6 +47,7 @@ pub fn delete_from(
     requires taken_room { vec_len room.old.taken + length parts.old.kept ≤ vec_capacity room.old.taken }
     ensures kept { parts.new.kept ≡ moved_leaves targets.now.leaves targets.now.targets parts.old.kept }
     ensures held { parts.new.held ≡ held_deleted targets.now.leaves targets.now.targets pairs.now kept.now.targets parts.old.held }
+    ensures numbers { (b : ℕ) → All (λ k. k.number < b) parts.old.kept → All (λ k. k.number < b) parts.new.kept }
     ensures kept_within { All (λ k. InForest targets.now.leaves k.place.row k.place.off) parts.new.kept }
     ensures held_within { All (λ x. InForest targets.now.leaves x.0.row x.0.off) parts.new.held }
     ensures taken { room.new.taken.items ≡ room.old.taken.items ++ filter (is_gone_leaf targets.now.leaves targets.now.targets) parts.old.kept }
@@ -76,6 +77,7 @@ pub fn add_to(
     requires spare_room { parts.old.held_room ≤ vec_capacity room.old.held }
     ensures kept { parts.new.kept ≡ leaves_more (is_empty_of joins.now) n (length joins.now) leaf digest parts.old.kept }
     ensures held { parts.new.held ≡ added_by joins.now digest n (is_some leaf) parts.old.held }
+    ensures numbers { All (λ k. k.number < n + 1) parts.new.kept }
     ensures kept_within { All (λ k. InForest (n + 1) k.place.row k.place.off) parts.new.kept }
     ensures held_within { All (λ x. InForest (n + 1) x.0.row x.0.off) parts.new.held }
     ensures len { length parts.new.held ≤ length parts.old.held + 2 * length joins.now + 1 }

@@ -2,7 +2,7 @@ use Rattle.std.proofs.Common.{length, sym, subst, All, is_some, add-one, ◌+◌
 use Rattle.cache_model.specs.Lists.{AscendByNumber}
 use Rattle.cache_update.specs.Joins.{is_empty_of}
 use Rattle.cache_update.proofs.Orders.{more_ascend}
-use Rattle.cache_update.proofs.Within.{IsHeldIn, IsKeptIn, more_in, added_in}
+use Rattle.cache_update.proofs.Within.{IsHeldIn, IsKeptIn, IsNumbered, more_in, added_in, numbers_more}
 use Rattle.cache_update.proofs.lists.add_to.Goals as goal
 
 pub invariant_of-parts : goal.invariant_of-parts
@@ -21,3 +21,8 @@ returns-clause-held_within c =
     subst (λ n. All (IsHeldIn n) c.add_held.new.held.items) (sym (add-one c.args.n))
     (subst (All (IsHeldIn _)) (sym c.add_held.ensures.held)
     (added_in c.args.joins.now c.args.digest c.args.n _ _ c.requires.slots (rw (← c.parts.view_is) at c.requires.held_within)))
+
+pub returns-clause-numbers : goal.returns-clause-numbers
+returns-clause-numbers c =
+    subst (All (IsNumbered (c.args.n + 1))) (sym c.add_kept.ensures.items)
+    (numbers_more (is_empty_of c.args.joins.now) c.args.n (length c.args.joins.now) c.args.leaf c.args.digest _ (rw (← c.parts.view_is) at c.requires.numbers))
