@@ -1,18 +1,17 @@
 -- The places beside the way up of one place are those that it needs.
-use Rattle.std.proofs.Common.{◌≡◌, ℕ, zero, suc, ◌+◌, ◌-◌, ◌*◌, ◌/◌, ◌%◌, ◌^◌, ◌<◌, ◌≤◌, Bool, true, false, cond, not, List, [], ◌∷◌, map, length, Option, Some, None, is_some, refl, sym, ap, ap₂, ◌∙◌, subst, ⊎_elim, inl, inr, arith, eqb-true}
-use Rattle.std.specs.Prelude.{option_map, ◌==◌, ◌⊎◌}
-use Rattle.std.proofs.lemmas.Bool.{cases_Bool, cases_eq, cases_lt, false≢true, true≢false, or_cases, or_left, or_right, and_parts, false_from_ne_true}
-use Rattle.std.proofs.lemmas.Option.{none-some, same_Some}
+use Rattle.std.proofs.Common.{◌≡◌, ℕ, zero, suc, ◌+◌, ◌-◌, ◌*◌, ◌/◌, ◌%◌, ◌^◌, ◌<◌, ◌≤◌, Bool, true, false, cond, List, [], ◌∷◌, map, Option, Some, None, is_some, refl, sym, ap, ap₂, ◌∙◌, subst, ⊎_elim, inl, inr, arith, eqb-true}
+use Rattle.std.specs.Prelude.{◌==◌, ◌⊎◌}
+use Rattle.std.proofs.lemmas.Bool.{cases_Bool, cases_eq, false≢true, or_cases, or_left, or_right, and_parts}
+use Rattle.std.proofs.lemmas.Option.{none-some}
 use Rattle.uo_digest.specs.declared.digest.Digest.{Digest}
 use Rattle.forest_place.specs.declared.place.Place.{Place}
 use Rattle.forest_place.specs.Forest.{InForest, is_root, sibling_off}
-use Rattle.forest_place.specs.Places.{is_at, has_place, IsBefore, IsAscending}
+use Rattle.forest_place.specs.Places.{is_at, has_place, IsAscending}
 use Rattle.forest_place.proofs.Ascending.{same_ascending}
 use Rattle.forest_place.proofs.Listed.{place, is_at-same, same_from_is_at}
-use Rattle.forest_place.proofs.Parts.{parts-suc, InForest-up, InForest-root, InForest-beneath, not_root-down, half_pow}
-use Rattle.forest_place.proofs.Positions.{row_small}
+use Rattle.forest_place.proofs.Parts.{parts-suc, InForest-up, InForest-beneath, not_root-down, half_pow}
 use Rattle.forest_place.proofs.Siblings.{sibling_cases, sibling_twice, sibling_within, sibling_no_root}
-use Rattle.forest_model.specs.Cover.{Cover, cover, cover_of_halves, need, is_needed}
+use Rattle.forest_model.specs.Cover.{Cover, cover, cover_of_halves, need}
 use Rattle.forest_model.proofs.Covers.{some_from_test, needed_parts, uncovered_halves}
 use Rattle.forest_model.proofs.Lists.{need_has, need_had, need_ascending}
 use Rattle.cache_model.specs.Cache.{look}

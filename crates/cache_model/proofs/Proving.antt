@@ -1,5 +1,5 @@
 -- The proof of a kept entry, read off what is held on its way up.
-use Rattle.std.proofs.Common.{◌≡◌, ℕ, ◌+◌, ◌-◌, ◌^◌, ◌<◌, ◌≤◌, Bool, true, false, List, [], ◌∷◌, map, length, filter_map, Option, Some, None, refl, sym, ap, ◌∙◌, subst, ⊎_elim, arith}
+use Rattle.std.proofs.Common.{◌≡◌, ℕ, ◌-◌, ◌^◌, ◌<◌, Bool, true, false, List, [], ◌∷◌, map, length, filter_map, Option, Some, None, refl, sym, ap, ◌∙◌, subst, ⊎_elim, arith}
 use Rattle.std.specs.Prelude.{option_map}
 use Rattle.std.specs.List.{cons_option}
 use Rattle.std.proofs.lemmas.Bool.{cases_Bool, or_cases, false≢true}
@@ -8,21 +8,20 @@ use Rattle.uo_digest.specs.declared.digest.Digest.{Digest}
 use Rattle.forest_place.specs.declared.place.Place.{Place}
 use Rattle.forest_place.specs.Forest.{InForest}
 use Rattle.forest_place.specs.Places.{is_at, has_place}
-use Rattle.forest_place.proofs.Listed.{place, same_from_is_at}
+use Rattle.forest_place.proofs.Listed.{same_from_is_at}
 use Rattle.forest_place.proofs.Positions.{row_small}
 use Rattle.forest_model.specs.Content.{Tree, leaf, digest_of}
-use Rattle.forest_model.specs.Standing.{tree_at, digest_at}
+use Rattle.forest_model.specs.Standing.{tree_at}
 use Rattle.forest_model.specs.Cover.{need}
 use Rattle.forest_model.proofs.Climbs.{tree_at-forest}
 use Rattle.forest_model.proofs.EntryPlaces.{entry_place-leaf}
 use Rattle.forest_model.proofs.Lists.{need_had}
 use Rattle.forest_model.proofs.Living.{needed_stands}
 use Rattle.cache_model.specs.Entry.{KeptEntry}
-use Rattle.cache_model.specs.Cache.{numbers, kept_at, kept_entries, entry_places, held, look, proof_from, StandsForCache}
+use Rattle.cache_model.specs.Cache.{numbers, kept_at, kept_entries, entry_places, held, look, StandsForCache}
 use Rattle.forest_model.specs.Right.{entries}
-use Rattle.leaf_record.specs.History.{History}
 use Rattle.cache_model.specs.declared.kept.Kept.{Kept}
-use Rattle.cache_model.specs.Lists.{IsCacheOf, leaf_key}
+use Rattle.cache_model.specs.Lists.{leaf_key}
 use Rattle.cache_model.specs.Undo.{find, is_same_number, is_before_number, kept_key}
 use Rattle.cache_model.specs.Climbed.{beside_way, IsProofOf, ProofIsClimbed}
 use Rattle.cache_model.proofs.Lists.{bare, watch, stands_for, same_count}
@@ -99,5 +98,5 @@ proof_climbed H text scripts us ks hs number hashes few s e = by_found (find is_
         let all : hs ≡ all_held H (entries H text us) (watch scripts us) (bare k) kept.0 = st.of_held ∙ ap (λ es. held H (entries H text us) (entry_places es)) st.of_kept in
         let proof = climbed H (entries H text us) (watch scripts us) (bare k) kept.0 (subst (λ n. n < 2 ^ 40) (sym (same_count H text us)) few) in
         subst (λ (n : ℕ). IsProofOf H (entries H text us) n hashes) same
-            (subst (IsProofOf H (entries H text us) k.number) (same_Some (beside_way (40 - k.place.row) hs k.place.row k.place.off) hashes e)
-            (subst (λ xs. IsProofOf H (entries H text us) k.number (beside_way (40 - k.place.row) xs k.place.row k.place.off)) (sym all) proof))
+        (subst (IsProofOf H (entries H text us) k.number) (same_Some (beside_way (40 - k.place.row) hs k.place.row k.place.off) hashes e)
+        (subst (λ xs. IsProofOf H (entries H text us) k.number (beside_way (40 - k.place.row) xs k.place.row k.place.off)) (sym all) proof))

@@ -1,7 +1,6 @@
 -- Places stay in the forest, whatever a proof said.
-use Rattle.std.proofs.Common.{◌≡◌, ℕ, zero, suc, ◌+◌, ◌-◌, ◌*◌, ◌/◌, ◌%◌, ◌^◌, ◌<◌, ◌≤◌, Bool, true, false, cond, ◌||◌, List, [], ◌∷◌, ◌++◌, map, filter, filter_map, length, Option, Some, None, is_some, refl, sym, ap, ◌∙◌, subst, ⊎_elim, All, arith}
+use Rattle.std.proofs.Common.{◌≡◌, ℕ, zero, suc, ◌+◌, ◌-◌, ◌*◌, ◌/◌, ◌%◌, ◌<◌, ◌≤◌, Bool, true, false, cond, ◌||◌, List, [], ◌∷◌, filter, filter_map, length, Option, Some, None, refl, sym, ap, ◌∙◌, subst, ⊎_elim, All, arith}
 use Rattle.std.specs.Prelude.{option_map}
-use Rattle.std.specs.Option.{option_to_list}
 use Rattle.std.specs.List.{cons_option}
 use Rattle.std.proofs.lemmas.Bool.{cases_Bool, cases_lt}
 use Rattle.std.proofs.lemmas.List.{append-nil}
@@ -24,7 +23,7 @@ use Rattle.cache_model.specs.Cache.{child, raised, raised_held, noted, is_root_h
 use Rattle.cache_model.specs.Known.{is_known}
 use Rattle.cache_model.specs.Lists.{moved_leaf, moved_leaves, raised_leaves, leaves_more}
 use Rattle.cache_model.specs.Steps.{put, put_all, staying, moving, destined, held_deleted}
-use Rattle.cache_model.specs.Undo.{change, is_same_place, is_before_place, held_key}
+use Rattle.cache_model.specs.Undo.{is_same_place, is_before_place}
 use Rattle.cache_model.proofs.Raising.{raised-step, raised-joined, raised-same}
 use Rattle.cache_update.specs.Joins.{is_empty_of, root_of, carried_to, shown_by, added_by}
 use Rattle.cache_update.proofs.Moves.{IsAt, goes_within, child_within}
@@ -166,7 +165,7 @@ module _ (js : List Join) (d : Digest) (n : ℕ) (w : ℕ → Bool) (all : all_s
       by_known true None a b rest = All-cons (IsHeldIn (suc n)) (carried_place (is_empty_of js) n (suc k) row, carried_to d js row) (shown_by js d n w (c || w row) k (suc row)) a rest
       by_known true (Some x) a b rest =
           All-cons (IsHeldIn (suc n)) (carried_place (is_empty_of js) n (suc k) row, carried_to d js row) ((child 0 (carried_place (is_empty_of js) n k (suc row)), x) ∷ shown_by js d n w (c || w row) k (suc row)) a
-              (All-cons (IsHeldIn (suc n)) (child 0 (carried_place (is_empty_of js) n k (suc row)), x) (shown_by js d n w (c || w row) k (suc row)) b rest)
+          (All-cons (IsHeldIn (suc n)) (child 0 (carried_place (is_empty_of js) n k (suc row)), x) (shown_by js d n w (c || w row) k (suc row)) b rest)
 
 pub added_in : (js : List Join) (d : Digest) (n : ℕ) (watched : Bool) (hs : List (Place × Digest)) → all_slots n (length js) ≡ true → All (IsHeldIn n) hs → All (IsHeldIn (suc n)) (added_by js d n watched hs)
 added_in js d n watched hs all a =

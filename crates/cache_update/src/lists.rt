@@ -54,7 +54,14 @@ pub fn delete_from(
     ensures before { room.new.held.items ≡ parts.old.held }
 {
     move_kept(&mut parts.kept, &mut room.taken, targets);
-    delete_held(&mut parts.held, &mut room.held, &mut room.moves, targets, kept, pairs);
+    delete_held(
+        &mut parts.held,
+        &mut room.held,
+        &mut room.moves,
+        targets,
+        kept,
+        pairs,
+    );
 }
 
 /// The lists become those after an addition to `n` entries that joined `joins`, where `leaf` is the output if it is watched.

@@ -76,7 +76,13 @@ fn follows_additions(rt: HostRuntime) -> Result<(), Fail> {
     assert_eq!(rt; parts.held.len(), held.len());
     for (i, (row, off, byte)) in held.iter().enumerate() {
         if i < parts.held.len() {
-            assert!(rt; parts.held[i].0 == Place { row: *row, off: *off });
+            assert!(rt;
+                parts.held[i].0
+                    == Place {
+                        row: *row,
+                        off: *off
+                    }
+            );
             assert!(rt; parts.held[i].1 == digest(*byte));
         }
     }

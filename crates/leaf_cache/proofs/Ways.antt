@@ -10,7 +10,7 @@ use Rattle.cache_model.specs.declared.kept.Kept.{Kept}
 use Rattle.cache_model.specs.Lists.{leaf_key, AscendByNumber}
 use Rattle.cache_model.specs.Search.{IsSplit}
 use Rattle.cache_model.specs.Undo.{is_same_number, is_before_number}
-use Rattle.cache_model.specs.Climbed.{led, beside_way, kept_place, proof_in}
+use Rattle.cache_model.specs.Climbed.{led, beside_way, kept_place}
 use Rattle.cache_model.proofs.Undoing.{number_order}
 use Rattle.cache_model.proofs.Searching.{find_split, find_at, none_at, none_end}
 

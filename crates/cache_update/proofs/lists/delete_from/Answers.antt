@@ -1,4 +1,4 @@
-use Rattle.std.proofs.Common.{sym, subst, ap, ◌∙◌, All}
+use Rattle.std.proofs.Common.{sym, subst, All}
 use Rattle.cache_model.specs.Lists.{AscendByNumber}
 use Rattle.cache_update.proofs.Orders.{moved_ascend}
 use Rattle.cache_update.proofs.Within.{IsHeldIn, IsKeptIn, IsNumbered, moved_in, deleted_in, numbers_moved}

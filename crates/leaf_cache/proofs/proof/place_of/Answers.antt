@@ -1,5 +1,4 @@
-use Rattle.std.proofs.Common.{sym, ap, ◌∙◌, arith}
-use Rattle.cache_model.specs.declared.kept.Kept.{Kept}
+use Rattle.std.proofs.Common.{arith}
 use Rattle.leaf_cache.proofs.Ways.{place_end, place_there, place_other}
 use Rattle.leaf_cache.proofs.proof.place_of.Goals as goal
 
