@@ -1,8 +1,8 @@
 -- The differences of two ascending lists lead from the one to the other.
-use Rattle.std.proofs.Common.{◌≡◌, ℕ, Bool, true, false, cond, List, [], ◌∷◌, ◌++◌, map, filter_map, Option, Some, None, is_some, bytes_eq, refl, sym, ap, ap₂, ◌∙◌, subst, ⊎_elim, All}
+use Rattle.std.proofs.Common.{◌≡◌, ℕ, Bool, true, false, cond, List, [], ◌∷◌, ◌++◌, map, filter_map, Option, Some, None, is_some, refl, sym, ap, ap₂, ◌∙◌, ⊎_elim, All}
 use Rattle.std.specs.Prelude.{option_map}
 use Rattle.std.specs.List.{cons_option}
-use Rattle.std.proofs.lemmas.Bool.{cases_Bool, false≢true, true≢false, or_left, or_right}
+use Rattle.std.proofs.lemmas.Bool.{cases_Bool, false≢true, true≢false, or_right}
 use Rattle.std.proofs.lemmas.List.Elements.{All-nil, All-cons, All-head, All-tail, All-append}
 use Rattle.std.proofs.lemmas.Option.{none-some, same_Some}
 use Rattle.std.proofs.lemmas.Slice.Eq.{bytes_eq-Decides}
@@ -34,13 +34,13 @@ all_looked (x ∷ xs) a =
         let found : find is_same_place held_key z.0 xs ≡ Some (z.0, z.1) = find_is z.0 xs ∙ ap (option_map (λ d. (z.0, d))) e in
         let later = f z.0 (z.0, z.1) found in
         All-cons (λ y. look (x ∷ xs) y.0.row y.0.off ≡ Some y.1) z zs
-            (⊎_elim
-            (λ t. let s : is_at z.0.row z.0.off x.0 ≡ true = t in
-            let same : x.0 ≡ z.0 = same_from_is_at z.0.row z.0.off x.0 s in
-            absurd (true≢false (sym (place_order.itself z.0) ∙ place_order.apart z.0 z.0 (ap (λ (p : Place). is_before_place p z.0) (sym same) ∙ later))))
-            (λ t. let s : is_at z.0.row z.0.off x.0 ≡ false = t in rw s e)
-            (cases_Bool (is_at z.0.row z.0.off x.0)))
-            (behind ys f zs (All-tail (λ y. look xs y.0.row y.0.off ≡ Some y.1) z zs h))
+        (⊎_elim
+        (λ t. let s : is_at z.0.row z.0.off x.0 ≡ true = t in
+        let same : x.0 ≡ z.0 = same_from_is_at z.0.row z.0.off x.0 s in
+        absurd (true≢false (sym (place_order.itself z.0) ∙ place_order.apart z.0 z.0 (ap (λ (p : Place). is_before_place p z.0) (sym same) ∙ later))))
+        (λ t. let s : is_at z.0.row z.0.off x.0 ≡ false = t in rw s e)
+        (cases_Bool (is_at z.0.row z.0.off x.0)))
+        (behind ys f zs (All-tail (λ y. look xs y.0.row y.0.off ≡ Some y.1) z zs h))
 
 -- a change that has what was held
 abbrev pub HasFormer : List (Place × Digest) → Place × Option Digest → Type 0

@@ -1,5 +1,5 @@
 -- What differs between two ascending lists of held digests.
-use Rattle.std.specs.Prelude.{Bool, true, false, List, ◌++◌, filter_map, Option, Some, None, is_some, bytes_eq, if◌then◌else◌}
+use Rattle.std.specs.Prelude.{Bool, false, List, ◌++◌, filter_map, Option, Some, None, is_some, bytes_eq, if◌then◌else◌}
 use Rattle.uo_digest.specs.declared.digest.Digest.{Digest}
 use Rattle.forest_place.specs.declared.place.Place.{Place}
 use Rattle.cache_model.specs.Cache.{look}

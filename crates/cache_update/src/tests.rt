@@ -3,7 +3,7 @@ ghost use Rattle.std.specs.Prelude.{◌≡◌, ◌+◌, ◌<◌, ◌≤◌, ◌^
 ghost use Rattle.forest_place.specs.Forest.{InForest};
 ghost use Rattle.forest_model.specs.Addition.{all_slots};
 
-use crate::{Room, add_to};
+use crate::{Room, add_to, differences, undo_held};
 use forest_place::Place;
 use forest_roots::Join;
 use leaf_cache::Parts;
@@ -70,22 +70,26 @@ fn follows_additions(rt: HostRuntime) -> Result<(), Fail> {
     add(&mut parts, &mut room, 0, 1, &[], Some(leaf))?;
     add(&mut parts, &mut room, 1, 2, &[join(0, 1, 3)], None)?;
     add(&mut parts, &mut room, 2, 4, &[], None)?;
+    let older = parts.copy(rt.alloc())?;
     let last = [join(0, 4, 12), join(1, 3, 15)];
     add(&mut parts, &mut room, 3, 8, &last, None)?;
     let held: [(u8, u64, u8); 5] = [(0, 0, 1), (0, 1, 2), (1, 0, 3), (1, 1, 12), (2, 0, 15)];
     assert_eq!(rt; parts.held.len(), held.len());
     for (i, (row, off, byte)) in held.iter().enumerate() {
         if i < parts.held.len() {
-            assert!(rt;
-                parts.held[i].0
-                    == Place {
-                        row: *row,
-                        off: *off
-                    }
-            );
+            let place = Place {
+                row: *row,
+                off: *off,
+            };
+            assert!(rt; parts.held[i].0 == place);
             assert!(rt; parts.held[i].1 == digest(*byte));
         }
     }
     assert_eq!(rt; parts.kept.len(), 1);
+    let log = differences(rt.alloc(), &parts.held, &older.held)?;
+    assert_eq!(rt; log.len(), 2);
+    parts.held.reserve(log.len())?;
+    undo_held(&mut parts.held, &log);
+    assert_eq!(rt; parts.held.len(), 3);
     Ok(())
 }
