@@ -52,6 +52,9 @@ pub fn delete_from(
     ensures held_within { All (λ x. InForest targets.now.leaves x.0.row x.0.off) parts.new.held }
     ensures taken { room.new.taken.items ≡ room.old.taken.items ++ filter (is_gone_leaf targets.now.leaves targets.now.targets) parts.old.kept }
     ensures before { room.new.held.items ≡ parts.old.held }
+    ensures kept_room { parts.old.kept_room ≤ parts.new.kept_room }
+    ensures held_room { vec_capacity room.old.held ≤ parts.new.held_room }
+    ensures spare_room { parts.old.held_room ≤ vec_capacity room.new.held }
 {
     move_kept(&mut parts.kept, &mut room.taken, targets);
     delete_held(
