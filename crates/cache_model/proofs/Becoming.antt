@@ -106,7 +106,7 @@ module _ (H : List ℕ → Digest) (es : List (Option Digest)) (d : Digest) (w :
   unfolding last_tree
   last_watched_zero = refl
 
-  -- a root that is join, and what it is join with, are the halves of what is carried_digest further
+  -- a root that is joined, and what it is joined with, are the halves of what is carried further
   last_fork : (row : ℕ) (l : Tree) → root_tree es d row ≡ Some l → last_tree es d (suc row) ≡ inner l (last_tree es d row)
   unfolding last_tree onto
   last_fork row l e = rw e refl
@@ -130,7 +130,7 @@ module _ (H : List ℕ → Digest) (es : List (Option Digest)) (d : Digest) (w :
   empty_from row None e = ap (λ y. is_none (option_map (digest_of H) y)) e
   empty_from row (Some t) e = ap (λ y. is_none (option_map (digest_of H) y)) e
 
-  -- beneath the first free row, what is carried_digest stands at the right of a root that is not empty
+  -- beneath the first free row, what is carried stands at the right of a root that is not empty
   right_of : (k row : ℕ) (l : Tree) → root_tree es d row ≡ Some l → at_place (suc k) row ≡ child 1 (at_place k (suc row))
   right_of k row l e = let z = empty_from row (Some l) e in rw z refl
 
@@ -178,7 +178,7 @@ module _ (H : List ℕ → Digest) (es : List (Option Digest)) (d : Digest) (w :
   unfolding last_tree onto
   last_same row e = rw e refl
 
-  -- what is carried_digest is shown where it is watched, or what it is join with
+  -- what is carried is shown where it is watched, or what it is joined with
   top_in : (i row j : ℕ) (c : Bool) → c ≡ has_watched w (last_tree es d row) → j ≡ row + i → has_watched w (last_tree es d j) ≡ true → is_some (look (table_of c i row) (at_place zero j).row (at_place zero j).off) ≡ true
   top_in zero row j c e f h =
       let z : j ≡ row = omega arith in
@@ -188,7 +188,7 @@ module _ (H : List ℕ → Digest) (es : List (Option Digest)) (d : Digest) (w :
       noted_past (c || watched row) _ _ (table_of (c || watched row) i (suc row)) (at_place zero j).row (at_place zero j).off
       (top_in i (suc row) j (c || watched row) (ap (λ b. b || watched row) e ∙ sym (last_watched row)) (omega arith) h)
 
-  -- the same at a row that is join, and the root there
+  -- the same at a row that is joined, and the root there
   row_in : (i k kk row j : ℕ) (c : Bool) → c ≡ has_watched w (last_tree es d row) → kk ≡ i + suc k → j ≡ row + i → (has_watched w (last_tree es d j) || watched j) ≡ true →
       (is_some (look (table_of c kk row) (at_place (suc k) j).row (at_place (suc k) j).off) ≡ true) × ((l : Tree) → root_tree es d j ≡ Some l → is_some (look (table_of c kk row) (child 0 (at_place k (suc j))).row (child 0 (at_place k (suc j))).off) ≡ true)
   row_in zero k zero row j c e f g h = let z : ⊥ = omega arith in absurd z
@@ -271,7 +271,7 @@ module _ (H : List ℕ → Digest) (es : List (Option Digest)) (d : Digest) (w :
             let u : watched j ≡ true = ap root_watched g ∙ (ap (has_watched w) (sym same) ∙ h) in
             at_row (or_right (has_watched w (last_tree es d j)) (watched j) u)
 
-    -- a root that is join and known is shown
+    -- a root that is joined and known is shown
     joined_in : (k j r o : ℕ) (t : Tree) → suc j + k ≡ m → root_tree es d j ≡ Some t → child 0 (at_place k (suc j)) ≡ place r o → IsBy r o t → is_some (look news r o) ≡ true
     joined_in k j r o t e g p by =
         let a = slots_at (suc j) k e in
