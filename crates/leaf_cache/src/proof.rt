@@ -1,0 +1,64 @@
+//! The proof of one kept entry.
+ghost use Rattle.std.specs.Prelude.{◌≡◌, ◌-◌, option_map, IfOk};
+ghost use Rattle.cache_model.specs.Climbed.{beside_way as beside_way_of, kept_place, proof_in as proof_in_of};
+ghost use Rattle.cache_model.specs.Lists.{AscendByNumber, AscendByPlace};
+
+use crate::search::{digest_in, index_of_number};
+use cache_model::Kept;
+use forest_place::{Place, sibling};
+use std::alloc::Global;
+use uo_base::NoMemory;
+use uo_digest::Digest;
+
+// Where the entry with this number stands, if it is kept.
+fn place_of(kept: &[Kept], number: u64) -> Option<Place>
+    requires { AscendByNumber kept.now }
+    ensures { result ≡ kept_place kept.now number }
+{
+    let i = index_of_number(kept, number);
+    if i == kept.len() {
+        return None;
+    }
+    if kept[i].number == number {
+        Some(kept[i].place)
+    } else {
+        None
+    }
+}
+
+// The digests that are held beside a place and beside those above it, up to the first that is not held.
+fn beside_way(alloc: Global, held: &[(Place, Digest)], from: Place) -> Result<Vec<Digest>, NoMemory>
+    requires { AscendByPlace held.now }
+    ensures { IfOk result (λ v. v.items ≡ beside_way_of (40 - from.row) held.now from.row from.off) }
+{
+    let mut proof = Vec::new(alloc);
+    let mut place = from;
+    while place.row < 40 {
+        let Some(digest) = digest_in(held, sibling(place)) else {
+            return Ok(proof);
+        };
+        proof.push(digest)?;
+        place = Place {
+            row: place.row + 1,
+            off: place.off / 2,
+        };
+    }
+    Ok(proof)
+}
+
+// The digests on the way up of the entry with this number, if it is kept.
+pub(crate) fn proof_in(
+    alloc: Global,
+    kept: &[Kept],
+    held: &[(Place, Digest)],
+    number: u64,
+) -> Result<Option<Vec<Digest>>, NoMemory>
+    requires numbers { AscendByNumber kept.now }
+    requires places { AscendByPlace held.now }
+    ensures { IfOk result (λ proof. option_map (λ v. v.items) proof ≡ proof_in_of kept.now held.now number) }
+{
+    match place_of(kept, number) {
+        None => Ok(None),
+        Some(place) => Ok(Some(beside_way(alloc, held, place)?)),
+    }
+}
