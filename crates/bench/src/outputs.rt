@@ -11,8 +11,8 @@ use std::time::{Duration, Instant};
 use uo_base::NoMemory;
 use uo_digest::Digest;
 
-/// Nanoseconds of adding outputs, of finding them by their names, and of spending them and taking that back, among a hundred
-/// thousand to ten million. The names differ in their last four bytes alone.
+/// Nanoseconds of adding outputs, of finding them by their names, and of spending them, among a hundred thousand to ten
+/// million. The names differ in their last four bytes alone.
 pub fn measure_outputs<R: Clock + Print + AllocGlobal>(rt: &R) -> io::Result<()> {
     for entries in [100_000, 1_000_000, 10_000_000] {
         measure(rt, rt.alloc(), entries)?;
