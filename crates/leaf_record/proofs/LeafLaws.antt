@@ -12,7 +12,7 @@ use Rattle.uo_digest.specs.Reading.{IsDigest, digest_text, digest_in_front}
 use Rattle.uo_digest.proofs.DigestLaws.{digest_lawful}
 use Rattle.uo_base.proofs.CompactLaws.{compact_lawful, compact_1, compact_2}
 use Rattle.leaf_record.specs.declared.leaf.TheConstants.{TAG}
-use Rattle.leaf_record.specs.Leaf.{Outpoint, Rest, Leaf, code_of, longest_script, payload_text, rest_text, tag, leaf_text, RestFits, LeafFits}
+use Rattle.leaf_record.specs.Leaf.{Outpoint, Rest, Leaf, code_of, longest_script, payload_text, rest_text, tag, output_text, leaf_text, RestFits, LeafFits}
 use Rattle.leaf_record.specs.Reading.{short_count_at, script_at, rest_at}
 use Rattle.leaf_record.specs.Laws.{OneLeaf, LeafTextIsLong}
 
@@ -87,10 +87,20 @@ abbrev untagged_text : Leaf → List ℕ
 untagged_text l = l.rest.block.0 ++ (l.point.txid.0 ++ (to_le_bytes w32 l.point.index ++ (to_le_bytes w32 (code_of l.rest) ++ (to_le_bytes w64 l.rest.amount ++ sized l.rest.script))))
 
 leaf_is : (l : Leaf) → leaf_text l ≡ tag ++ (tag ++ untagged_text l)
-unfolding leaf_text payload_text
+unfolding leaf_text output_text payload_text
 leaf_is l = regrouped tag l.rest.block.0 l.point.txid.0 (to_le_bytes w32 l.point.index) (to_le_bytes w32 (code_of l.rest)) (to_le_bytes w64 l.rest.amount) (sized l.rest.script) where
-  regrouped : (t b x i c a s : List ℕ) → t ++ t ++ b ++ x ++ i ++ (c ++ a ++ s) ≡ t ++ (t ++ (b ++ (x ++ (i ++ (c ++ (a ++ s))))))
+  regrouped : (t b x i c a s : List ℕ) → t ++ t ++ (b ++ x ++ i ++ (c ++ a ++ s)) ≡ t ++ (t ++ (b ++ (x ++ (i ++ (c ++ (a ++ s))))))
   regrouped t b x i c a s = simp append_assoc
+
+pub behind_tags : (l : Leaf) → (tag ++ tag) ++ output_text l ≡ leaf_text l
+unfolding leaf_text
+behind_tags l = regrouped tag (output_text l) where
+  regrouped : (t o : List ℕ) → (t ++ t) ++ o ≡ t ++ t ++ o
+  regrouped t o = simp append_assoc
+
+-- which is no longer than the whole
+pub output_short : (l : Leaf) → length (output_text l) ≤ length (leaf_text l)
+output_short l = rw (← behind_tags l, length-append (tag ++ tag) (output_text l)) (omega arith)
 
 untagged_at : List ℕ → Option (Leaf × List ℕ)
 untagged_at bytes = do

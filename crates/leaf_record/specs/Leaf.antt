@@ -41,11 +41,13 @@ rest_text r = r.block.0 ++ payload_text (code_of r) r.amount r.script
 unfoldable pub tag : List ℕ
 tag = sha512 (codes "UtreexoV1")
 
+-- what it says of the output
+unfoldable pub output_text : Leaf → List ℕ
+output_text l = l.rest.block.0 ++ l.point.txid.0 ++ to_le_bytes w32 l.point.index ++ payload_text (code_of l.rest) l.rest.amount l.rest.script
+
 -- the text that a leaf's digest is taken of
 unfoldable pub leaf_text : Leaf → List ℕ
-leaf_text l =
-    tag ++ tag ++ l.rest.block.0 ++ l.point.txid.0 ++ to_le_bytes w32 l.point.index
-    ++ payload_text (code_of l.rest) l.rest.amount l.rest.script
+leaf_text l = tag ++ tag ++ output_text l
 
 -- ---- which have a text
 

@@ -1,7 +1,7 @@
 //! The text that a leaf's digest is taken of.
 ghost use Rattle.std.specs.Prelude.{◌≡◌, ◌+◌, ◌<◌, ◌≤◌, ◌++◌, length, vec_len, vec_capacity, IfOk, OnOk, OnErr};
 ghost use Rattle.uo_base.specs.Moved.{Grew};
-ghost use Rattle.leaf_record.specs.Leaf.{LeafFits, tag, leaf_text};
+ghost use Rattle.leaf_record.specs.Leaf.{LeafFits, tag, output_text, leaf_text};
 
 use crate::record::RecordView;
 use crate::rest::put_payload;
@@ -42,6 +42,23 @@ fn put_tags(out: &mut Vec<u8>) -> Result<(), NoMemory>
     put_tag(out)
 }
 
+// What a leaf text says behind its tags.
+#[tactic(auto, unfolding(crate::specs::Leaf::output_text))]
+fn put_output(leaf: &RecordView<'_>, out: &mut Vec<u8>) -> Result<(), NoMemory>
+    ensures ok { OnOk result (out.new.items ≡ out.old.items ++ output_text leaf.now) }
+    ensures err { OnErr result (Grew out.old.items out.new.items) }
+    ensures full { OnErr result (vec_capacity out.old < vec_len out.old + length (output_text leaf.now)) }
+    ensures capacity { vec_capacity out.old ≤ vec_capacity out.new }
+    ensures fits { LeafFits leaf.now }
+{
+    let rest = leaf.rest();
+    out.extend_from_slice(&rest.block.0)?;
+    out.extend_from_slice(&leaf.txid.0)?;
+    out.extend_from_slice(&leaf.index.to_le_bytes())?;
+    put_payload(rest.code(), rest.amount, rest.script, out)?;
+    Ok(())
+}
+
 #[tactic(auto, unfolding(crate::specs::Leaf::leaf_text))]
 fn put_leaf(leaf: &RecordView<'_>, out: &mut Vec<u8>) -> Result<(), NoMemory>
     ensures ok { OnOk result (out.new.items ≡ out.old.items ++ leaf_text leaf.now) }
@@ -50,13 +67,10 @@ fn put_leaf(leaf: &RecordView<'_>, out: &mut Vec<u8>) -> Result<(), NoMemory>
     ensures capacity { vec_capacity out.old ≤ vec_capacity out.new }
     ensures fits { LeafFits leaf.now }
 {
-    let rest = leaf.rest();
+    // The view keeps what fits.
+    let _rest = leaf.rest();
     put_tags(out)?;
-    out.extend_from_slice(&rest.block.0)?;
-    out.extend_from_slice(&leaf.txid.0)?;
-    out.extend_from_slice(&leaf.index.to_le_bytes())?;
-    put_payload(rest.code(), rest.amount, rest.script, out)?;
-    Ok(())
+    put_output(leaf, out)
 }
 
 /// Appends a leaf text: the SHA-512 of `UtreexoV1` twice (128 bytes), the hash of the block that made the output (32), the
@@ -81,36 +95,47 @@ pub fn leaf_text(leaf: &RecordView<'_>, out: &mut Vec<u8>) -> Result<(), NoMemor
     }
 }
 
-/// Room for one leaf text. Contracts see how many bytes it has room for.
-#[derive(Drop)]
-pub struct LeafBuf {
+/// Room for one leaf text, and the two tags that all of them begin with, taken in once. Contracts see how many bytes it has room for.
+pub struct LeafBuf<D: Digester> {
     bytes: Vec<u8>,
+    tags: D::Front,
 }
 
-impl Model for LeafBuf {
-    ghost use Rattle.std.specs.Prelude.{ℕ, ◌≤◌, vec_capacity};
+impl<D: Digester> Drop for LeafBuf<D> {
+    fn drop(self) {
+        let LeafBuf { bytes: _, tags: _ } = self;
+    }
+}
+
+impl<D: Digester> Model for LeafBuf<D> {
+    ghost use Rattle.std.specs.Prelude.{ℕ, ◌≤◌, ◌++◌, vec_capacity};
+    ghost use Rattle.leaf_record.specs.Leaf.{tag};
 
     ghost Value = { ℕ };
 
     ghost view = { λ b. vec_capacity b.bytes };
 
-    ghost invariant = { λ b. 10211 ≤ vec_capacity b.bytes };
+    ghost invariant = { λ b. (10211 ≤ vec_capacity b.bytes) × D.holds b.tags (tag ++ tag) };
 }
 
-impl LeafBuf {
+impl<D: Digester> LeafBuf<D> {
     /// Takes the memory that digesting leaves needs.
-    pub fn new(alloc: Global) -> Result<LeafBuf, NoMemory>
+    pub fn new(alloc: Global) -> Result<LeafBuf<D>, NoMemory>
         ensures { IfOk result (λ room. room ≡ 10211) }
     {
+        let bytes = Vec::with_capacity(alloc, MAX_LEAF_TEXT)?;
+        let mut tags = Vec::new(alloc);
+        put_tags(&mut tags)?;
         Ok(LeafBuf {
-            bytes: Vec::with_capacity(alloc, MAX_LEAF_TEXT)?,
+            bytes,
+            tags: D::front(&tags),
         })
     }
 }
 
 /// The digest of a leaf's text, in one step. It takes no memory.
 pub fn leaf_digest<D: Digester, L: Ledger>(
-    buf: &mut LeafBuf,
+    buf: &mut LeafBuf<D>,
     leaf: &RecordView<'_>,
     steps: &mut Steps<L>,
 ) -> Digest
@@ -119,8 +144,8 @@ pub fn leaf_digest<D: Digester, L: Ledger>(
     ensures fits { LeafFits leaf.now }
 {
     buf.bytes.clear();
-    match leaf_text(leaf, &mut buf.bytes) {
-        Ok(()) => D::digest(&buf.bytes, steps),
+    match put_output(leaf, &mut buf.bytes) {
+        Ok(()) => D::digest_behind(&buf.tags, &buf.bytes, steps),
         Err(_) => unreachable!(),
     }
 }

@@ -160,7 +160,7 @@ fn check_digest<L: Ledger>(rt: &impl Abort, alloc: Global, blank: Blank) -> Resu
     let mut steps = Steps::<L>::new(blank);
     let record = record(alloc)?;
     let rest = record.view().rest();
-    let mut buf = LeafBuf::new(alloc)?;
+    let mut buf = LeafBuf::<XorFold>::new(alloc)?;
     let leaf = rest.with_outpoint(record.txid, record.index);
     let digest = leaf_digest::<XorFold, L>(&mut buf, &leaf, &mut steps);
     let expected = b"0303030300030303060303030303030302520303030303030303030303030303";

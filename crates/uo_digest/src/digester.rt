@@ -1,5 +1,5 @@
 //! What a digest is, and what makes one.
-ghost use Rattle.std.specs.Prelude.{◌≡◌, ◌+◌, ℕ, List, length};
+ghost use Rattle.std.specs.Prelude.{◌≡◌, ◌+◌, ◌++◌, ℕ, List, length};
 ghost use Rattle.uo_digest.specs.declared.digest.Digest.{Digest as Digested};
 
 use crate::{Digest, Steps};
@@ -13,6 +13,21 @@ pub trait Digester {
     /// The digest of a text, as one step.
     fn digest<L: Ledger>(text: &[u8], steps: &mut Steps<L>) -> Digest
         ensures value { result ≡ digest_of text.now }
+        ensures step { steps.new ≡ steps.old + 1 };
+
+    /// What has been taken in of a text that goes on: where many texts begin alike, the work on their front is done once.
+    type Front: Drop;
+
+    /// The text that was taken in.
+    ghost holds: { Self.Front → List ℕ → Type 0 };
+
+    /// Takes in the front of texts. This is no step.
+    fn front(text: &[u8]) -> Self::Front
+        ensures { holds result text.now };
+
+    /// The digest of the whole text, a front and what comes behind it, as one step.
+    fn digest_behind<L: Ledger>(front: &Self::Front, rest: &[u8], steps: &mut Steps<L>) -> Digest
+        ensures value { (text : List ℕ) → holds front.now text → result ≡ digest_of (text ++ rest.now) }
         ensures step { steps.new ≡ steps.old + 1 };
 
     /// A digest has 32 bytes.

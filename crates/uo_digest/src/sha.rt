@@ -2,6 +2,7 @@
 ghost use Rattle.std.specs.Prelude.{◌≡◌};
 ghost use Rattle.sha2.specs.Sha256.{sha256};
 ghost use Rattle.sha2.specs.Sha512.{sha512_256};
+ghost use Rattle.sha2.specs.Hashers.{Holds512_256};
 ghost use Rattle.sha2.proofs.Facts512.{length-sha512_256};
 
 use crate::{Digest, Digester, Steps};
@@ -17,6 +18,25 @@ impl Digester for Sha512t256 {
     fn digest<L: Ledger>(text: &[u8], steps: &mut Steps<L>) -> Digest {
         steps.tick();
         Digest(<Sha512_256 as sha2::Digest>::digest(text))
+    }
+
+    type Front = Sha512_256;
+
+    ghost holds = { λ hasher text. Holds512_256 hasher text };
+
+    fn front(text: &[u8]) -> Sha512_256 {
+        <Sha512_256 as sha2::Digest>::new_with_prefix(text)
+    }
+
+    fn digest_behind<L: Ledger>(front: &Sha512_256, rest: &[u8], steps: &mut Steps<L>) -> Digest {
+        steps.tick();
+        match front.clone() {
+            Ok(mut hasher) => {
+                sha2::Digest::update(&mut hasher, rest);
+                Digest(sha2::Digest::finalize(hasher))
+            }
+            Err(_) => unreachable!(),
+        }
     }
 
     ghost has_32_bytes = { length-sha512_256 };

@@ -61,6 +61,11 @@ fn check_digester<D: Digester, L: Ledger>(rt: &impl Abort, vectors: &[Vector], b
     for vector in vectors {
         let digest = D::digest(vector.text, &mut steps);
         assert!(rt; hex_plain(&digest).as_slice() == vector.digest.as_slice());
+        // The same behind each front of the text.
+        for cut in 0..=vector.text.len() {
+            let front = D::front(&vector.text[..cut]);
+            assert!(rt; D::digest_behind(&front, &vector.text[cut..], &mut steps) == digest);
+        }
     }
 }
 
