@@ -18,10 +18,10 @@ iterate-last : {A : Type 0} (h : A → A) (n : ℕ) (x : A) → iterate h (suc n
 iterate-last h zero x = refl
 iterate-last h (suc n) x = iterate-last h n (h x)
 
-level-more : (ids : List Digest) (k : ℕ) → level ids (k + 1) ≡ level_above (level ids k)
+pub level-more : (ids : List Digest) (k : ℕ) → level ids (k + 1) ≡ level_above (level ids k)
 level-more ids k = rw add-one (iterate-last level_above k ids)
 
-above-paired : (xs : List Digest) → 1 < length xs → level_above xs ≡ paired xs
+pub above-paired : (xs : List Digest) → 1 < length xs → level_above xs ≡ paired xs
 unfolding level_above
 above-paired [] lt = absurd (omega arith)
 above-paired (x ∷ []) lt = absurd (omega arith)
@@ -37,6 +37,9 @@ length-paired (x ∷ y ∷ xs) = let others = length-paired xs in (omega (arith,
 pub paired-fewer : (xs above : List Digest) → 1 < length xs → above ≡ paired xs → length above < length xs
 paired-fewer xs above lt is = omega (arith, (length-paired xs).1, ap length is)
 
+pub paired-some : (xs above : List Digest) → 0 < length xs → above ≡ paired xs → 0 < length above
+paired-some xs above lt is = omega (arith, (length-paired xs).0, ap length is)
+
 -- the root stays
 root-stays : (ids : List Digest) (root : Digest) (k n : ℕ) → level ids k ≡ root ∷ [] → level ids (n + k) ≡ root ∷ []
 unfolding level_above
@@ -45,7 +48,7 @@ root-stays ids root k (suc n) e =
     let next : suc n + k ≡ (n + k) + 1 = omega arith in
     rw (next, level-more ids (n + k), root-stays ids root k n e) refl
 
-root-later : (ids : List Digest) (root : Digest) (k l : ℕ) → k ≤ l → level ids k ≡ root ∷ [] → level ids l ≡ root ∷ []
+pub root-later : (ids : List Digest) (root : Digest) (k l : ℕ) → k ≤ l → level ids k ≡ root ∷ [] → level ids l ≡ root ∷ []
 root-later ids root k l le e = let same : l ≡ (l - k) + k = omega arith in rw same (root-stays ids root k (l - k) e)
 
 -- ---- what is repeated on one level
@@ -235,7 +238,7 @@ climbed-repeat ids hashes k place lt begins c =
       },
     )
 
-one-hash : (hashes : List Digest) (root : Digest) → 0 < length hashes → length hashes ≤ 1 → root ≡ get_or hashes 0 root → hashes ≡ root ∷ []
+pub one-hash : (hashes : List Digest) (root : Digest) → 0 < length hashes → length hashes ≤ 1 → root ≡ get_or hashes 0 root → hashes ≡ root ∷ []
 one-hash [] root some few is = absurd (omega arith)
 one-hash (x ∷ []) root some few is = ap (λ (d : Digest). d ∷ []) (sym is)
 one-hash (x ∷ y ∷ xs) root some few is = absurd (omega arith)

@@ -10,6 +10,7 @@ mod fault;
 mod header;
 mod merkle_tree;
 mod reading;
+mod witness;
 mod writing;
 
 pub use block_view::{BlockView, block_hash, weight};
@@ -17,6 +18,7 @@ pub use fault::BlockFault;
 pub use header::HeaderView;
 pub use merkle_tree::{MerkleOutcome, merkle, merkle_root_of};
 pub use reading::read_block;
+pub use witness::{commitment, witness_root};
 pub use writing::{one_block, write_block};
 
 #[cfg(test)]

@@ -21,7 +21,7 @@ pub enum MerkleOutcome {
 }
 
 /// The hash over two hashes.
-fn hash_of_pair(left: &Digest, right: &Digest) -> Digest
+pub(crate) fn hash_of_pair(left: &Digest, right: &Digest) -> Digest
     ensures { result ≡ hash_over left.now right.now }
 {
     let mut stream = Sha256dStream::new();

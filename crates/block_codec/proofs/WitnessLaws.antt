@@ -1,0 +1,62 @@
+-- Up to the root over ids, whatever is repeated.
+use Rattle.std.proofs.Common.{◌≡◌, ℕ, suc, ◌+◌, ◌<◌, ◌≤◌, List, [], ◌∷◌, ◌++◌, length, map, drop, replicate, get_or, Option, Some, None, refl, sym, ap, ◌∙◌, arith}
+use Rattle.std.proofs.lemmas.List.{map-append, length-map}
+use Rattle.std.specs.Option.{option_or}
+use Rattle.uo_digest.specs.declared.digest.Digest.{Digest}
+use Rattle.tx_codec.specs.Transaction.{Output, Transaction}
+use Rattle.tx_codec.specs.Views.{output_of}
+use Rattle.tx_codec.specs.declared.views.OutView.{OutView}
+use Rattle.tx_codec.specs.Ids.{wtxid_of}
+use Rattle.block_codec.specs.Witness.{commitment_in, last_commitment, witness_ids}
+use Rattle.block_codec.specs.Merkle.{paired, level, merkle_root}
+use Rattle.block_codec.proofs.MerkleLaws.{above-paired, level-more, paired-fewer, paired-some, root-later, one-hash}
+
+-- A level that is reached; the hashes get fewer.
+pub record IsLevel (ids hashes : List Digest) : Type 0 where
+  pub number : ℕ
+  pub level_is : level ids number ≡ hashes
+  pub some : 0 < length hashes
+  pub fewer : length hashes + number ≤ length ids
+
+pub level-start : (ids : List Digest) → 0 < length ids → IsLevel ids ids
+level-start ids some = record { number = 0; level_is = refl; some = some; fewer = omega arith }
+
+pub level-next : (ids hashes above : List Digest) → 1 < length hashes → above ≡ paired hashes → IsLevel ids hashes → IsLevel ids above
+level-next ids hashes above lt is l = record {
+  number = l.number + 1;
+  level_is = level-more ids l.number ∙ rw (l.level_is, is) (above-paired hashes lt);
+  some = paired-some hashes above l.some is;
+  fewer = omega (arith, paired-fewer hashes above lt is, l.fewer);
+}
+
+pub level-root : (ids hashes : List Digest) (root : Digest) → length hashes ≤ 1 → root ≡ get_or hashes 0 root → IsLevel ids hashes → root ≡ merkle_root ids
+level-root ids hashes root few is l =
+    let top : level ids l.number ≡ root ∷ [] = l.level_is ∙ one-hash hashes root l.some few is in
+    rw (root-later ids root l.number (length ids) (omega (arith, l.fewer)) top) refl
+
+-- ---- the last output goes before
+
+pub last-more : (outputs : List Output) (output : Output) → last_commitment (outputs ++ output ∷ []) ≡ option_or (commitment_in output.script) (last_commitment outputs)
+last-more [] output = before_none (commitment_in output.script) where
+  before_none : (x : Option Digest) → x ≡ option_or x None
+  before_none None = refl
+  before_none (Some x) = refl
+last-more (first ∷ outputs) output = ap (λ x. option_or x (commitment_in first.script)) (last-more outputs output) ∙ behind (commitment_in output.script) (last_commitment outputs) (commitment_in first.script) where
+  behind : (x y z : Option Digest) → option_or (option_or x y) z ≡ option_or x (option_or y z)
+  behind None y z = refl
+  behind (Some x) y z = refl
+
+pub taken-more : (outputs : List OutView) (output : OutView) (last found : Option Digest) → last ≡ last_commitment (map output_of outputs) → found ≡ commitment_in output.script.now
+    → option_or found last ≡ last_commitment (map output_of (outputs ++ output ∷ []))
+taken-more outputs output last found so_far is =
+    rw (so_far, is) (sym (ap last_commitment (map-append output_of outputs (output ∷ [])) ∙ last-more (map output_of outputs) (output_of output)))
+
+-- ---- ids
+
+pub length-ids : (txs : List Transaction) → length (witness_ids txs) ≡ length txs
+length-ids [] = refl
+length-ids (coinbase ∷ txs) = ap suc (length-map txs wtxid_of)
+
+pub ids-behind : (txs : List Transaction) → 0 < length txs → record { 0 = replicate 32 0 } ∷ map wtxid_of (drop 1 txs) ≡ witness_ids txs
+ids-behind [] lt = absurd (omega arith)
+ids-behind (coinbase ∷ txs) lt = refl

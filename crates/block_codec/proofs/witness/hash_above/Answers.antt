@@ -1,0 +1,11 @@
+use Rattle.std.proofs.Common.{sym, ◌∙◌}
+use Rattle.block_codec.proofs.PairLaws.{last_gives, both_above}
+use Rattle.block_codec.proofs.witness.hash_above.Goals as goal
+
+pub returns-in-None : goal.returns-in-None
+returns-in-None c = rw c.hash_of_pair.ensures (last_gives _ _ _ c.requires c.in-None.ensures.lookup.3).0
+
+pub returns-in-Some : goal.returns-in-Some
+returns-in-Some c =
+    let found = c.in-Some.ensures.lookup in
+    rw c.hash_of_pair-in-Some.ensures (both_above _ _ _ _ found.3.0 found.1)

@@ -1,0 +1,101 @@
+//! What a block commits to of its witnesses (BIP 141).
+ghost use Rattle.std.specs.Prelude.{◌≡◌, ◌*◌, ◌<◌, ◌^◌, length, drop, map, IfOk};
+ghost use Rattle.std.specs.Option.{option_or};
+ghost use Rattle.tx_codec.specs.Ids.{wtxid_of};
+ghost use Rattle.block_codec.specs.Merkle.{paired, merkle_root};
+ghost use Rattle.block_codec.specs.Pairs.{IsAbove};
+ghost use Rattle.block_codec.specs.Witness.{commitment_in, commitment_of, witness_ids, witness_root_of};
+
+use crate::block_view::BlockView;
+use crate::merkle_tree::hash_of_pair;
+use std::alloc::{AllocError, Global};
+use uo_base::NoMemory;
+use uo_digest::Digest;
+
+/// How a script begins that commits to witnesses.
+const HEAD: [u8; 6] = [0x6a, 0x24, 0xaa, 0x21, 0xa9, 0xed];
+
+// The hash in such a script.
+fn commitment_in(script: &[u8]) -> Option<Digest>
+    ensures { result ≡ commitment_in script.now }
+{
+    if script.len() < 38 || &script[..6] != HEAD.as_slice() {
+        return None;
+    }
+    Some(Digest::from_bytes(&script[6..38]))
+}
+
+/// The hash by which the block commits to its witnesses: bytes 6 to 37 of the script of the coinbase's last output whose script
+/// has at least 38 bytes and begins with `6a24aa21a9ed`. None where there is no such output.
+pub fn commitment(block: &BlockView<'_>) -> Option<Digest>
+    ensures { result ≡ commitment_of block.now }
+{
+    // A block has a transaction.
+    let _text = block.bytes();
+    let mut last = None;
+    for output in block.tx(0).outputs() {
+        if let Some(hash) = commitment_in(output.script) {
+            last = Some(hash);
+        }
+    }
+    last
+}
+
+// The hash above this pair of a level, from 0.
+fn hash_above(level: &[Digest], pair: usize) -> Digest
+    requires { 2 * pair < length level.now }
+    ensures { IsAbove result (drop (2 * pair) level.now) }
+{
+    let left = level[2 * pair];
+    match level.get(2 * pair + 1) {
+        None => hash_of_pair(&left, &left),
+        Some(right) => hash_of_pair(&left, right),
+    }
+}
+
+// Puts the level above in the place of a level, whatever is repeated.
+fn lift(hashes: &mut Vec<Digest>)
+    requires { length hashes.old.items < 2 ^ 32 }
+    ensures { hashes.new.items ≡ paired hashes.old.items }
+{
+    let count = hashes.len().div_ceil(2);
+    for pair in 0..count {
+        hashes[pair] = hash_above(hashes, pair);
+    }
+    hashes.truncate(count);
+}
+
+// The root over these ids, whatever is repeated.
+fn root_of(mut hashes: Vec<Digest>) -> Digest
+    requires some { 0 < length hashes.items }
+    requires few { length hashes.items < 2 ^ 32 }
+    ensures { result ≡ merkle_root hashes.items }
+{
+    while hashes.len() > 1 {
+        lift(&mut hashes);
+    }
+    hashes[0]
+}
+
+// The ids with witnesses, 32 zero bytes for the coinbase's.
+fn witness_ids(alloc: Global, block: &BlockView<'_>) -> Result<Vec<Digest>, AllocError>
+    requires { 0 < length block.now.txs }
+    ensures ids { IfOk result (λ ids. ids.items ≡ witness_ids block.now.txs) }
+    ensures few { IfOk result (λ ids. length ids.items < 2 ^ 32) }
+{
+    let mut ids = Vec::with_capacity(alloc, block.tx_count() as usize)?;
+    ids.push(Digest([0; 32]))?;
+    for tx in &block.txs[1..] {
+        ids.push(tx.wtxid())?;
+    }
+    Ok(ids)
+}
+
+/// The root of the merkle tree over the ids with witnesses, 32 zero bytes in place of the coinbase's.
+pub fn witness_root(alloc: Global, block: &BlockView<'_>) -> Result<Digest, NoMemory>
+    ensures { IfOk result (λ root. root ≡ witness_root_of block.now) }
+{
+    // A block has a transaction.
+    let _text = block.bytes();
+    Ok(root_of(witness_ids(alloc, block)?))
+}
