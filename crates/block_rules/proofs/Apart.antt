@@ -7,6 +7,7 @@ use Rattle.uo_digest.specs.declared.digest.Digest.{Digest}
 use Rattle.tx_codec.specs.Transaction.{Transaction}
 use Rattle.block_codec.specs.Block.{Block, block_hash_of}
 use Rattle.uo_base.specs.declared.event.Limits.{Limits}
+use Rattle.uo_base.specs.declared.event.Net.{Net}
 use Rattle.leaf_record.specs.Leaf.{Outpoint}
 use Rattle.leaf_record.specs.History.{History, same_point}
 use Rattle.leaf_record.proofs.HistoryLaws.{same_point-same}
@@ -91,9 +92,9 @@ external_in-flat [] = refl
 external_in-flat (g ∷ gs) = ap (λ xs. external_in g ++ xs) (external_in-flat gs) ∙ sym (external_in-append g (flat_map (λ g. g) gs))
 
 -- where no step on the block alone fails, the external inputs name different outputs
-pub external_apart : (limits : Limits) (chain : Chain) (b : Block) (height : ℕ) → first_of (block_steps limits chain b) ≡ None → OutsideApart (external b height)
-external_apart limits chain b height h =
-    let apart = apart_others b.txs (each_passes (block_steps limits chain b) 5 h) in
+pub external_apart : (net : Net) (limits : Limits) (chain : Chain) (b : Block) (height : ℕ) → first_of (block_steps net limits chain b) ≡ None → OutsideApart (external b height)
+external_apart net limits chain b height h =
+    let apart = apart_others b.txs (each_passes (block_steps net limits chain b) 6 h) in
     let hash = block_hash_of b in
     subst OutsideApart (sym (external_in-flat (groups b height)))
     (external_in-apart (flat_map (λ g. g) (groups b height))

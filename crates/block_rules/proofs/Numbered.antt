@@ -1,6 +1,7 @@
 -- The first answer over a list, found from its front.
-use Rattle.std.proofs.Common.{◌≡◌, ℕ, zero, suc, ◌+◌, ◌≤◌, Bool, true, false, List, [], ◌∷◌, drop, length, Option, Some, None, refl, sym, ap, ◌∙◌, arith, add-one}
+use Rattle.std.proofs.Common.{◌≡◌, ℕ, zero, suc, ◌+◌, ◌≤◌, Bool, true, false, ◌||◌, List, [], ◌∷◌, drop, length, Option, Some, None, refl, sym, ap, ◌∙◌, arith, add-one}
 use Rattle.std.specs.Prelude.{slice_get}
+use Rattle.std.specs.List.{list_any}
 use Rattle.std.specs.Option.{option_or}
 use Rattle.std.proofs.lemmas.Option.{none-some, same_Some}
 use Rattle.tx_codec.specs.Transaction.{Transaction}
@@ -34,6 +35,22 @@ module _ {X Y : Type 0} (f : ℕ → X → Option Y) where
   -- it is nowhere
   pub none-left : (xs : List X) (k : ℕ) (whole : Option Y) → first_from k f (drop k xs) ≡ whole → length xs ≤ k → whole ≡ None
   none-left xs k whole h l = sym h ∙ ap (first_from k f) (drop-all xs k l)
+
+module _ {X : Type 0} (p : X → Bool) where
+  any-get : (xs : List X) (k : ℕ) (x : X) (whole : Bool) → list_any p (drop k xs) ≡ whole → slice_get xs k ≡ Some x → whole ≡ (p x || list_any p (drop (suc k) xs))
+  any-get xs k x whole h e = sym h ∙ ap (list_any p) (drop-get xs k x e)
+
+  -- one is here
+  pub any-here : (xs : List X) (k : ℕ) (x : X) (whole : Bool) → list_any p (drop k xs) ≡ whole → slice_get xs k ≡ Some x → p x ≡ true → whole ≡ true
+  any-here xs k x whole h e is = any-get xs k x whole h e ∙ ap (λ b. b || list_any p (drop (suc k) xs)) is
+
+  -- none is here
+  pub any-on : (xs : List X) (k : ℕ) (x : X) (whole : Bool) → list_any p (drop k xs) ≡ whole → slice_get xs k ≡ Some x → p x ≡ false → list_any p (drop (k + 1) xs) ≡ whole
+  any-on xs k x whole h e is = rw add-one (sym (any-get xs k x whole h e ∙ ap (λ b. b || list_any p (drop (suc k) xs)) is))
+
+  -- none is anywhere
+  pub any-none : (xs : List X) (k : ℕ) (whole : Bool) → list_any p (drop k xs) ≡ whole → length xs ≤ k → whole ≡ false
+  any-none xs k whole h l = sym h ∙ ap (list_any p) (drop-all xs k l)
 
 pub unless-true : {X : Type 0} (b : Bool) (x : X) → b ≡ true → unless b x ≡ None
 unless-true b x e = ap (λ z. unless z x) e

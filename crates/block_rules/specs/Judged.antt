@@ -14,13 +14,13 @@ use Rattle.block_rules.specs.Rules.{full_step, block_steps}
 
 -- no step fails, and this is what the block leaves to later rules
 pub record IsShaped (net : Net) (limits : Limits) (chain : Chain) (b : Block) (s : BlockSpends) : Type 0 where
-  pub passes : first_of (block_steps limits chain b) ≡ None
+  pub passes : first_of (block_steps net limits chain b) ≡ None
   pub spends : s ≡ spends_of net chain.blocks b
 
 -- or the first step that fails
 abbrev pub ShapeJudged : Net → Limits → Chain → Block → Result BlockSpends RuleFault → Type 0
 ShapeJudged net limits chain b (Ok s) = IsShaped net limits chain b s
-ShapeJudged net limits chain b (Err (Refused why)) = first_of (block_steps limits chain b) ≡ Some why
+ShapeJudged net limits chain b (Err (Refused why)) = first_of (block_steps net limits chain b) ≡ Some why
 ShapeJudged net limits chain b (Err NoMemory) = Unit {0}
 
 -- of the last of these steps alone

@@ -2,6 +2,7 @@
 pub mod Steps
 pub mod Blocks
 pub mod Money
+pub mod Witness
 pub mod Rules
 pub mod Judged
 pub mod Laws

@@ -3,6 +3,7 @@ use Rattle.std.specs.Prelude.{ℕ, ◌+◌, ◌^◌, ◌==◌, ◌&&◌, nat_le,
 use Rattle.std.specs.List.{list_any}
 use Rattle.std.specs.Option.{option_or}
 use Rattle.uo_base.specs.declared.event.Limits.{Limits}
+use Rattle.uo_base.specs.declared.event.Net.{Net}
 use Rattle.uo_digest.specs.declared.digest.Digest.{Digest}
 use Rattle.tx_codec.specs.Transaction.{Input, Output, Transaction}
 use Rattle.block_codec.specs.declared.merkle_tree.MerkleOutcome.{MerkleOutcome}
@@ -17,6 +18,7 @@ use Rattle.block_rules.specs.declared.refusal.Refusal.TheVariants as Why
 use Rattle.block_rules.specs.Steps.{unless, first_from}
 use Rattle.block_rules.specs.Blocks.{Placed, placed_of, new_records}
 use Rattle.block_rules.specs.Money.{most_money, output_sum}
+use Rattle.block_rules.specs.Witness.{witness_step}
 
 -- the outpoint of no output: 32 zero bytes, and the greatest index
 abbrev pub is_null : Input → Bool
@@ -63,10 +65,11 @@ abbrev pub full_step : Limits → Chain → Block → Option Refusal
 full_step limits chain b = unless (has_room limits chain (length (new_records b chain.blocks))) Why.Full
 
 -- the steps that look at the block alone, in their order, one a line
-abbrev pub block_steps : Limits → Chain → Block → List (Option Refusal)
-block_steps limits chain b =
+abbrev pub block_steps : Net → Limits → Chain → Block → List (Option Refusal)
+block_steps net limits chain b =
     unless (is_same b.header.prev chain.tip) Why.Link
     ∷ merkle_step b.header.merkle (merkle_of (txids_of b))
+    ∷ witness_step net chain.blocks b
     ∷ unless (nat_le (weight_of b) 4000000) (Why.Weight (weight_of b))
     ∷ option_map Why.Coinbase (coinbase_fault b.txs)
     ∷ option_map Why.Value (value_fault b.txs)

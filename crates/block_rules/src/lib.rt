@@ -28,13 +28,15 @@ mod sums;
 mod tests;
 mod verdict;
 mod walk;
+mod witness;
 
 pub use chain::{Chain, Found, Outside};
 pub use fault::RuleFault;
 pub use issue::subsidy;
 pub use laws::{internal_is_latest, new_is_paid, new_is_unspent};
 pub use money::money_rules;
-pub use refusal::{ProofRefusal, Refusal};
+pub use refusal::{ProofRefusal, Refusal, WitnessFault};
 pub use shape::shape_rules;
 pub use spends::Spends;
 pub use verdict::Verdict;
+pub use witness::witness_height;

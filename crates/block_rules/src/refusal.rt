@@ -17,6 +17,17 @@ pub enum ProofRefusal {
     RootDiffers { row: u8 },
 }
 
+/// Why what a block says of its witnesses does not hold (BIP 141).
+#[derive(Clone, Copy, Debug, PartialEq, Eq)]
+pub enum WitnessFault {
+    /// The coinbase commits to witnesses, and its own witness is not exactly one item of 32 bytes.
+    Form,
+    /// The commitment is not the hash of the root over the ids with witnesses and of that item.
+    Root,
+    /// The coinbase does not commit to witnesses, and a transaction has some.
+    Unexpected,
+}
+
 /// Why a block is refused: the first rule that it breaks. Transactions are numbered from 0, the coinbase, and so are the
 /// inputs of each.
 #[derive(Clone, Copy, Debug, PartialEq, Eq)]
@@ -34,6 +45,8 @@ pub enum Refusal {
         /// The place of the left one.
         place: u32,
     },
+    /// The coinbase does not commit to the block's witnesses as it has to from the network's witness height on (BIP 141).
+    Witness(WitnessFault),
     /// The block weighs more than 4,000,000 (BIP 141).
     Weight {
         weight: u64,

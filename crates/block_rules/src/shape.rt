@@ -16,6 +16,7 @@ use crate::spends::Spends;
 use crate::steps::{coinbase_step, link_step, merkle_step, value_step, weight_step};
 use crate::sums::output_sum;
 use crate::walk::{Walk, unspent, walk_over};
+use crate::witness::witness_step;
 use block_codec::BlockView;
 use leaf_record::RecordView;
 use std::alloc::Global;
@@ -24,7 +25,7 @@ use uo_base::{Limits, Net, NoMemory};
 const MOST_BLOCKS: u32 = 2_147_483_648;
 
 /// Judges a block by itself, beside the chain that it is to extend. The rules are asked in this order, and the first that
-/// is broken is the answer: that it extends the tip, its merkle root, its weight, its coinbase, the values of its outputs,
+/// is broken is the answer: that it extends the tip, its merkle root, its witnesses, its weight, its coinbase, the values of its outputs,
 /// that no outpoint is spent twice in it, and that there is room for what it adds.
 pub fn shape_rules<'a>(
     alloc: Global,
@@ -41,6 +42,7 @@ pub fn shape_rules<'a>(
     let _text = block.bytes();
     refuse(link_step(block, chain))?;
     refuse(merkle_step(alloc, block)?)?;
+    refuse(witness_step(alloc, block, chain.blocks, net)?)?;
     refuse(weight_step(block))?;
     refuse(coinbase_step(block))?;
     refuse(value_step(block))?;
