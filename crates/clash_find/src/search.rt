@@ -36,6 +36,7 @@ fn evaluated<D: Digester, L: Ledger>(
 ) -> Result<Option<Vec<CoveredPlace>>, NoMemory>
     requires small { n < 2 ^ 40 }
     requires count { length message.now.proof.spends ≡ length external.now }
+    requires few { length message.now.proof.spends < 2 ^ 32 }
     requires ascends { AscendByPlace known.now }
     ensures { IfOk result (λ items. IsEvaluated D.digest_of n external.now (look known.now) message.now items) }
 {
@@ -72,6 +73,7 @@ pub fn find<D: Digester, L: Ledger>(
     steps: &mut Steps<L>,
 ) -> Result<Option<Clash>, NoMemory>
     requires count { length message.now.proof.spends ≡ length spends.now.external }
+    requires few { length message.now.proof.spends < 2 ^ 32 }
     requires ascends { AscendByPlace known.now }
     ensures { IfOk result (λ clash. (us : History) → StandForHistory D.digest_of forest.now.entries outputs.now us → IsKnowledge D.digest_of forest.now.entries (look known.now) →
         IsAnswer D.digest_of us (look known.now) (points_of spends.now.external) message.now clash) }

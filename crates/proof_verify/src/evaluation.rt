@@ -17,7 +17,7 @@ use uo_base::NoMemory;
 use uo_digest::{Digest, Digester, Steps};
 
 /// What is digested at a covered place.
-#[derive(Clone, Copy)]
+#[derive(Clone, Copy, Debug, PartialEq, Eq)]
 pub enum Made {
     /// The leaf text of the target at this index.
     Target(usize),
@@ -26,7 +26,7 @@ pub enum Made {
 }
 
 /// A covered place, and the digest that a proof comes to there.
-#[derive(Clone, Copy)]
+#[derive(Clone, Copy, Debug, PartialEq, Eq)]
 pub struct CoveredPlace {
     pub place: Place,
     pub made: Made,
