@@ -1,7 +1,7 @@
 -- Known hashes are found by one pass over them, and given ones are filled in between.
 use Rattle.std.proofs.Common.{◌≡◌, ◌≢◌, ℕ, zero, suc, ◌+◌, ◌<◌, ◌≤◌, Bool, true, false, List, [], ◌∷◌, ◌++◌, map, length, get_or, take, drop, filter, Option, Some, None, refl, sym, ap, ◌∙◌, subst, ap₂, ⊎_elim, inl, inr, arith, append_assoc}
-use Rattle.std.specs.Prelude.{◌⊎◌, cond, is_none, count_by, slice_get, unwrap_or, if◌then◌else◌}
-use Rattle.std.proofs.lemmas.Bool.{cases_Bool, cases_lt, cases_eq, false≢true, false_from_ne_true, or_left, or_right, or_cases}
+use Rattle.std.specs.Prelude.{◌⊎◌, ◌||◌, ◌&&◌, ◌==◌, nat_lt, cond, is_none, count_by, slice_get, unwrap_or, if◌then◌else◌}
+use Rattle.std.proofs.lemmas.Bool.{cases_Bool, cases_lt, cases_eq, eqb-true, ltb-true, false≢true, false_from_ne_true, or_left, or_right, or_cases, and_parts}
 use Rattle.std.proofs.lemmas.List.{drop_more, take_more, length-drop, map-append}
 use Rattle.std.proofs.lemmas.List.Sums.{sum_by-cons}
 use Rattle.std.proofs.lemmas.Option.{none-some, same_Some}
@@ -73,7 +73,7 @@ comes_before p q t =
     ⊎_elim
     (λ low. inl (ltb-true p.row q.row low))
     (λ same. let both = and_parts (p.row == q.row) (nat_lt p.off q.off) same in inr (eqb-true p.row q.row both.0, ltb-true p.off q.off both.1))
-    (or_parts (nat_lt p.row q.row) ((p.row == q.row) && nat_lt p.off q.off) t)
+    (or_cases (nat_lt p.row q.row) ((p.row == q.row) && nat_lt p.off q.off) t)
 
 ascending : (ks : List Entry) → AscendByPlace ks → IsAscending (map (λ (k : Entry). k.0) ks)
 ascending [] a = tt
