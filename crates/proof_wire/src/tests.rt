@@ -98,12 +98,7 @@ fn put_hashes(text: &mut Vec<u8>, hashes: &Count) -> Result<(), AllocError> {
     Ok(())
 }
 
-fn spelled(
-    alloc: Global,
-    kind: u8,
-    spends: &Count,
-    hashes: &Count,
-) -> Result<Vec<u8>, AllocError> {
+fn spelled(alloc: Global, kind: u8, spends: &Count, hashes: &Count) -> Result<Vec<u8>, AllocError> {
     let mut text = Vec::from_slice(alloc, &[1, kind])?;
     put_targets(&mut text, spends)?;
     put_rests(&mut text, spends)?;
