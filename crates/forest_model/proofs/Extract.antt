@@ -27,13 +27,13 @@ use Rattle.forest_place.proofs.Ascending.{ascending-filter, distinct_from_ascend
 use Rattle.forest_model.proofs.Clash.{HasTexts, IsFound, Clashes, compared}
 
 -- the record of a live entry
-record IsEntry {R : Type 0} (H : List ℕ → Digest) (text : R → List ℕ) (us : List (Option R)) (i : ℕ) (d : Digest) : Type 0 where
-  rec : R
-  live : slice_get us i ≡ Some (Some rec)
-  shown : text_at text us i ≡ text rec
-  digest : d ≡ H (text rec)
+pub record IsEntry {R : Type 0} (H : List ℕ → Digest) (text : R → List ℕ) (us : List (Option R)) (i : ℕ) (d : Digest) : Type 0 where
+  pub rec : R
+  pub live : slice_get us i ≡ Some (Some rec)
+  pub shown : text_at text us i ≡ text rec
+  pub digest : d ≡ H (text rec)
 
-entry_of : {R : Type 0} (H : List ℕ → Digest) (text : R → List ℕ) (us : List (Option R)) (i : ℕ) (d : Digest) → get_or (entries H text us) i None ≡ Some d → IsEntry H text us i d
+pub entry_of : {R : Type 0} (H : List ℕ → Digest) (text : R → List ℕ) (us : List (Option R)) (i : ℕ) (d : Digest) → get_or (entries H text us) i None ≡ Some d → IsEntry H text us i d
 entry_of H text [] i d e = absurd (none-some d e)
 entry_of H text (None ∷ us) zero d e = absurd (none-some d e)
 entry_of H text (Some r ∷ us) zero d e = record { rec = r; live = refl; shown = refl; digest = sym (same_Some _ d e) }
@@ -57,7 +57,7 @@ target_beneath ts (suc r) o c e =
     in_half None (Some d) e f g = g d refl
 
 -- so its parent is no target
-parent_no_target : (n : ℕ) (ts : List Place) → HasShape n ts → (r o : ℕ) (c : Cover) → cover ts r o ≡ Some c → has_place ts (suc r) (o / 2) ≡ false
+pub parent_no_target : (n : ℕ) (ts : List Place) → HasShape n ts → (r o : ℕ) (c : Cover) → cover ts r o ≡ Some c → has_place ts (suc r) (o / 2) ≡ false
 parent_no_target n ts shape r o c e =
     let w = target_beneath ts r o c e in
     false_from_ne_true _ (λ it.
@@ -68,15 +68,15 @@ parent_no_target n ts shape r o c e =
     false≢true (sym (shape.apart (place (suc r) (o / 2)) w.0 it w.2) ∙ above))
 
 -- the form of a cover above what is covered
-both_left : (r o : ℕ) (c : Cover) (y : Option Cover) → (d : Cover) × (cover_of_halves r o (Some c) y ≡ Some (both c d)) × (y ≡ None → d ≡ given r (2 * o + 1))
+pub both_left : (r o : ℕ) (c : Cover) (y : Option Cover) → (d : Cover) × (cover_of_halves r o (Some c) y ≡ Some (both c d)) × (y ≡ None → d ≡ given r (2 * o + 1))
 both_left r o c None = (given r (2 * o + 1), refl, λ e. refl)
 both_left r o c (Some d) = (d, refl, λ e. absurd (none-some d (sym e)))
 
-both_right : (r o : ℕ) (c : Cover) (x : Option Cover) → (d : Cover) × (cover_of_halves r o x (Some c) ≡ Some (both d c)) × (x ≡ None → d ≡ given r (2 * o))
+pub both_right : (r o : ℕ) (c : Cover) (x : Option Cover) → (d : Cover) × (cover_of_halves r o x (Some c) ≡ Some (both d c)) × (x ≡ None → d ≡ given r (2 * o))
 both_right r o c None = (given r (2 * o), refl, λ e. refl)
 both_right r o c (Some d) = (d, refl, λ e. absurd (none-some d (sym e)))
 
-cover-both : (ts : List Place) (r o : ℕ) → has_place ts (suc r) o ≡ false → cover ts (suc r) o ≡ cover_of_halves r o (cover ts r (2 * o)) (cover ts r (2 * o + 1))
+pub cover-both : (ts : List Place) (r o : ℕ) → has_place ts (suc r) o ≡ false → cover ts (suc r) o ≡ cover_of_halves r o (cover ts r (2 * o)) (cover ts r (2 * o + 1))
 cover-both ts r o e = rw e refl
 
 Beside-both : {P Q : ℕ → ℕ → Tree → Type 0} (c d : Cover) (t : Tree) → Beside P Q (both c d) t → (a : Tree) × (b : Tree) × (t ≡ inner a b) × Beside P Q c a × Beside P Q d b
@@ -99,16 +99,13 @@ beside_long none (p ∷ ps) [] r o h a = h
 beside_long none (p ∷ ps) (d ∷ ds) r o h a =
     ⊎_elim (λ e. rw e (All-head (λ d. length d.0 ≡ 32) d ds a)) (λ e. rw e (beside_long none ps ds r o h (All-tail (λ d. length d.0 ≡ 32) d ds a))) (cases_Bool (is_at r o p))
 
-beside_other : (ps : List Place) (xs : List (List ℕ)) (r o : ℕ) → All (λ x. length x ≢ 64) xs → length (beside [] ps xs r o) ≢ 64
+pub beside_other : (ps : List Place) (xs : List (List ℕ)) (r o : ℕ) → All (λ x. length x ≢ 64) xs → length (beside [] ps xs r o) ≢ 64
 beside_other [] xs r o a e = absurd (omega (arith, e))
 beside_other (p ∷ ps) [] r o a e = absurd (omega (arith, e))
 beside_other (p ∷ ps) (x ∷ xs) r o a e =
     ⊎_elim (λ i. All-head (λ x. length x ≢ 64) x xs a (rw i at e)) (λ i. beside_other ps xs r o (All-tail (λ x. length x ≢ 64) x xs a) (rw i at e)) (cases_Bool (is_at r o p))
 
-module _ (H : List ℕ → Digest) (es : List (Option Digest)) (text_of : ℕ → List ℕ) (ts : List Place) (xs : List (List ℕ)) (hashes : ℕ → ℕ → Digest)
-    (long : (x : List ℕ) → length (H x).0 ≡ 32) (hash_long : (r o : ℕ) → length (hashes r o).0 ≡ 32) (xs_long : All (λ x. length x ≢ 64) xs)
-    (entry : (i : ℕ) (d : Digest) → get_or es i None ≡ Some d → (H (text_of i) ≡ d) × (length (text_of i) ≢ 64))
-    (shape : HasShape (length es) ts) where
+module _ (H : List ℕ → Digest) (es : List (Option Digest)) (text_of : ℕ → List ℕ) (ts : List Place) (xs : List (List ℕ)) (hashes : ℕ → ℕ → Digest) where
   abbrev leaf_texts : ℕ → ℕ → List ℕ
   leaf_texts = beside [] ts xs
 
@@ -124,47 +121,49 @@ module _ (H : List ℕ → Digest) (es : List (Option Digest)) (text_of : ℕ �
     pub of_tree : content es row (root_off (length es) row) ≡ Some tree
     pub clash : Clashes H text_of leaf_texts hashes covered tree
 
-  has_texts : (t : Tree) → EachLeaf (λ i d. get_or es i None ≡ Some d) t → HasTexts H text_of leaf_texts hashes t
-  has_texts (leaf i d) h = entry i d h
-  has_texts (inner l r) h = (has_texts l h.0, has_texts r h.1)
-
   abbrev FoundAt : ℕ → ℕ → Cover → Type 0
   FoundAt r o c = (t : Tree) × (tree_at es r o ≡ Some t) × Found c t
 
-  module _ (agrees : (row : ℕ) (c : Cover) → is_slot (length es) row ≡ true → cover ts row (root_off (length es) row) ≡ Some c → root H es row ≡ Some (value H (λ r o. H (leaf_texts r o)) hashes c)) where
-    slot_found : (row : ℕ) (c : Cover) → is_slot (length es) row ≡ true → cover ts row (root_off (length es) row) ≡ Some c → FoundAt row (root_off (length es) row) c ⊎ ClashAt
-    slot_found row c slot e =
-        let o = root_off (length es) row in
-        let a = agrees row c slot e in
-        let t = stands_from_digest H (content es row o) _ (sym a) in
-        let same : value H (λ r o. H (leaf_texts r o)) hashes c ≡ digest_of H t.0 = same_Some _ _ (sym a ∙ ap (option_map (digest_of H)) t.1) in
-        ⊎_elim
-        (λ f. inl (t.0, tree_at-root es row o (is_root-root_off (length es) row slot) ∙ t.1, f))
-        (λ x. inr record { row = row; covered = c; tree = t.0; slot = slot; of_cover = e; of_tree = t.1; clash = x })
-        (compared H text_of leaf_texts hashes long hash_long (λ r o. beside_other ts xs r o xs_long) c t.0 (has_texts t.0 (content-leaves es row o t.0 t.1)) same)
+  module _ (long : (x : List ℕ) → length (H x).0 ≡ 32) (hash_long : (r o : ℕ) → length (hashes r o).0 ≡ 32) (xs_long : All (λ x. length x ≢ 64) xs)
+      (entry : (i : ℕ) (d : Digest) → get_or es i None ≡ Some d → (H (text_of i) ≡ d) × (length (text_of i) ≢ 64)) where
+    has_texts : (t : Tree) → EachLeaf (λ i d. get_or es i None ≡ Some d) t → HasTexts H text_of leaf_texts hashes t
+    has_texts (leaf i d) h = entry i d h
+    has_texts (inner l r) h = (has_texts l h.0, has_texts r h.1)
 
-    -- all the slots of the first k rows are found, or one has a clash
-    slots_found : (k : ℕ) → ((row : ℕ) (c : Cover) → row < k → is_slot (length es) row ≡ true → cover ts row (root_off (length es) row) ≡ Some c → FoundAt row (root_off (length es) row) c) ⊎ ClashAt
-    slots_found zero = inl (λ row c lt slot e. absurd (omega arith))
-    slots_found (suc k) =
-        ⊎_elim
-        (λ below. ⊎_elim
-        (λ here. inl (λ row c lt slot e. ⊎_elim (λ same. subst (λ r. (c : Cover) → is_slot (length es) r ≡ true → cover ts r (root_off (length es) r) ≡ Some c → FoundAt r (root_off (length es) r) c) (sym same) here c slot e) (λ other. below row c (omega (arith, other)) slot e) (cases_eq row k)))
-        (λ x. inr x)
-        (at_row k (is_slot (length es) k) refl (cover ts k (root_off (length es) k)) refl))
-        (λ x. inr x)
-        (slots_found k)
-      where
-        at_row : (k : ℕ) (b : Bool) → is_slot (length es) k ≡ b → (x : Option Cover) → cover ts k (root_off (length es) k) ≡ x → ((c : Cover) → is_slot (length es) k ≡ true → cover ts k (root_off (length es) k) ≡ Some c → FoundAt k (root_off (length es) k) c) ⊎ ClashAt
-        at_row k false s x e = inl (λ c slot f. absurd (false≢true (sym s ∙ slot)))
-        at_row k true s None e = inl (λ c slot f. absurd (none-some c (sym e ∙ f)))
-        at_row k true s (Some c) e =
-            ⊎_elim
-            (λ f. inl (λ d slot g. subst (FoundAt k (root_off (length es) k)) (same_Some c d (sym e ∙ g)) f))
-            (λ x. inr x)
-            (slot_found k c s e)
+    module _ (agrees : (row : ℕ) (c : Cover) → is_slot (length es) row ≡ true → cover ts row (root_off (length es) row) ≡ Some c → root H es row ≡ Some (value H (λ r o. H (leaf_texts r o)) hashes c)) where
+      slot_found : (row : ℕ) (c : Cover) → is_slot (length es) row ≡ true → cover ts row (root_off (length es) row) ≡ Some c → FoundAt row (root_off (length es) row) c ⊎ ClashAt
+      slot_found row c slot e =
+          let o = root_off (length es) row in
+          let a = agrees row c slot e in
+          let t = stands_from_digest H (content es row o) _ (sym a) in
+          let same : value H (λ r o. H (leaf_texts r o)) hashes c ≡ digest_of H t.0 = same_Some _ _ (sym a ∙ ap (option_map (digest_of H)) t.1) in
+          ⊎_elim
+          (λ f. inl (t.0, tree_at-root es row o (is_root-root_off (length es) row slot) ∙ t.1, f))
+          (λ x. inr record { row = row; covered = c; tree = t.0; slot = slot; of_cover = e; of_tree = t.1; clash = x })
+          (compared H text_of leaf_texts hashes long hash_long (λ r o. beside_other ts xs r o xs_long) c t.0 (has_texts t.0 (content-leaves es row o t.0 t.1)) same)
 
-  module _ (found : (row : ℕ) (c : Cover) → is_slot (length es) row ≡ true → cover ts row (root_off (length es) row) ≡ Some c → FoundAt row (root_off (length es) row) c) where
+      -- all the slots of the first k rows are found, or one has a clash
+      slots_found : (k : ℕ) → ((row : ℕ) (c : Cover) → row < k → is_slot (length es) row ≡ true → cover ts row (root_off (length es) row) ≡ Some c → FoundAt row (root_off (length es) row) c) ⊎ ClashAt
+      slots_found zero = inl (λ row c lt slot e. absurd (omega arith))
+      slots_found (suc k) =
+          ⊎_elim
+          (λ below. ⊎_elim
+          (λ here. inl (λ row c lt slot e. ⊎_elim (λ same. subst (λ r. (c : Cover) → is_slot (length es) r ≡ true → cover ts r (root_off (length es) r) ≡ Some c → FoundAt r (root_off (length es) r) c) (sym same) here c slot e) (λ other. below row c (omega (arith, other)) slot e) (cases_eq row k)))
+          (λ x. inr x)
+          (at_row k (is_slot (length es) k) refl (cover ts k (root_off (length es) k)) refl))
+          (λ x. inr x)
+          (slots_found k)
+        where
+          at_row : (k : ℕ) (b : Bool) → is_slot (length es) k ≡ b → (x : Option Cover) → cover ts k (root_off (length es) k) ≡ x → ((c : Cover) → is_slot (length es) k ≡ true → cover ts k (root_off (length es) k) ≡ Some c → FoundAt k (root_off (length es) k) c) ⊎ ClashAt
+          at_row k false s x e = inl (λ c slot f. absurd (false≢true (sym s ∙ slot)))
+          at_row k true s None e = inl (λ c slot f. absurd (none-some c (sym e ∙ f)))
+          at_row k true s (Some c) e =
+              ⊎_elim
+              (λ f. inl (λ d slot g. subst (FoundAt k (root_off (length es) k)) (same_Some c d (sym e ∙ g)) f))
+              (λ x. inr x)
+              (slot_found k c s e)
+
+  module _ (shape : HasShape (length es) ts) (found : (row : ℕ) (c : Cover) → is_slot (length es) row ≡ true → cover ts row (root_off (length es) row) ≡ Some c → FoundAt row (root_off (length es) row) c) where
     halves_found : (r h : ℕ) (c d : Cover) → FoundAt (suc r) h (both c d) → FoundAt r (2 * h) c × FoundAt r (2 * h + 1) d
     halves_found r h c d f =
         let w = Beside-both c d f.0 f.2 in
@@ -251,12 +250,12 @@ module _ (H : List ℕ → Digest) (es : List (Option Digest)) (text_of : ℕ �
         (w.0, w.1, f.1 ∙ ap Some w.2, w.3))
 
 -- the digests of texts, beside places
-leaves_are : {R : Type 0} (H : List ℕ → Digest) (text : R → List ℕ) (ts : List Place) (rs : List R) (r o : ℕ) → beside (H []) ts (map (λ x. H (text x)) rs) r o ≡ H (beside [] ts (map text rs) r o)
+pub leaves_are : {R : Type 0} (H : List ℕ → Digest) (text : R → List ℕ) (ts : List Place) (rs : List R) (r o : ℕ) → beside (H []) ts (map (λ x. H (text x)) rs) r o ≡ H (beside [] ts (map text rs) r o)
 leaves_are H text [] rs r o = refl
 leaves_are H text (t ∷ ts) [] r o = refl
 leaves_are H text (t ∷ ts) (x ∷ rs) r o = ⊎_elim (λ e. rw e refl) (λ e. rw e (leaves_are H text ts rs r o)) (cases_Bool (is_at r o t))
 
-value-same : (H : List ℕ → Digest) (f g hashes : ℕ → ℕ → Digest) → ((r o : ℕ) → f r o ≡ g r o) → (c : Cover) → value H f hashes c ≡ value H g hashes c
+pub value-same : (H : List ℕ → Digest) (f g hashes : ℕ → ℕ → Digest) → ((r o : ℕ) → f r o ≡ g r o) → (c : Cover) → value H f hashes c ≡ value H g hashes c
 value-same H f g hashes e (target r o) = e r o
 value-same H f g hashes e (given r o) = refl
 value-same H f g hashes e (both c d) = ap₂ (pair H) (value-same H f g hashes e c) (value-same H f g hashes e d)
@@ -273,7 +272,7 @@ module _ {R : Type 0} (H : List ℕ → Digest) (text : R → List ℕ) (long : 
   same_length : length es ≡ length us
   same_length = length-map us (option_map (λ r. H (text r)))
 
-  entry_texts : (i : ℕ) (d : Digest) → get_or es i None ≡ Some d → (H (text_at text us i) ≡ d) × (length (text_at text us i) ≢ 64)
+  pub entry_texts : (i : ℕ) (d : Digest) → get_or es i None ≡ Some d → (H (text_at text us i) ≡ d) × (length (text_at text us i) ≢ 64)
   entry_texts i d e =
       let w = entry_of H text us i d e in
       (ap H w.shown ∙ sym w.digest, λ n. other w.rec (live_fits i w.rec w.live) (ap length (sym w.shown) ∙ n))
@@ -323,6 +322,23 @@ module _ {R : Type 0} (H : List ℕ → Digest) (text : R → List ℕ) (long : 
       by_known (Some d) e = known_long r o d e
       by_known None e = beside_long (H []) (asked (length es) ts known) hs r o (long []) hs_long
 
+  -- what is accepted is right, where each slot with targets is found
+  pub right_from_found : (ts : List Place) (known : ℕ → ℕ → Option Digest) (rs : List R) (hs : List Digest) → All fits rs →
+      IsAccepted H (length es) (root H es) ts known (map (λ r. H (text r)) rs) hs →
+      ((row : ℕ) (c : Cover) → is_slot (length es) row ≡ true → cover ts row (root_off (length es) row) ≡ Some c →
+      (t : Tree) × (tree_at es row (root_off (length es) row) ≡ Some t) × IsFound H (text_at text us) (beside [] ts (map text rs)) (hash_of H (length es) ts known hs) c t) →
+      IsRight H text us ts known rs hs
+  right_from_found ts known rs hs all_fit acc found =
+      let rs_fit = by_recursion fits rs all_fit in
+      let xs = map text rs in
+      let hashes = hash_of H (length es) ts known hs in
+      let n : length xs ≡ length ts = length-map rs text ∙ sym (length-map rs (λ r. H (text r))) ∙ acc.one_leaf_each in
+      record {
+        spends = spends_from ts rs rs_fit (leaves_right H es (text_at text us) ts xs hashes acc.shape found n);
+        shown = subst (λ m. map Some hs ≡ map (λ p. digest_at H es p.row p.off) (asked m ts known)) same_length
+            (hashes_shown ts known hs acc.one_hash_each (hash_at H es (text_at text us) ts xs hashes acc.shape found));
+      }
+
   -- what is accepted is right, or two texts clash
   pub right_or_clash : (ts : List Place) (known : ℕ → ℕ → Option Digest) (rs : List R) (hs : List Digest) → ((r o : ℕ) (d : Digest) → known r o ≡ Some d → length d.0 ≡ 32) → All (λ d. length d.0 ≡ 32) hs → All fits rs → IsAccepted H (length us) (root H es) ts known (map (λ r. H (text r)) rs) hs → IsRight H text us ts known rs hs ⊎ HasClash H text us ts known rs hs
   right_or_clash ts known rs hs known_long hs_long all_fit given_acc =
@@ -338,12 +354,7 @@ module _ {R : Type 0} (H : List ℕ → Digest) (text : R → List ℕ) (long : 
       (λ f.
       let found = λ (row : ℕ) (c : Cover) (slot : is_slot (length es) row ≡ true) (e : cover ts row (root_off (length es) row) ≡ Some c).
       f row c (row_below (length es) row (root_off (length es) row) (InForest-root (length es) row _ (is_root-root_off (length es) row slot))) slot e in
-      let n : length xs ≡ length ts = length-map rs text ∙ sym (length-map rs (λ r. H (text r))) ∙ acc.one_leaf_each in
-      inl record {
-        spends = spends_from ts rs rs_fit (leaves_right H es (text_at text us) ts xs hashes long hash_long xs_long entry_texts acc.shape found n);
-        shown = subst (λ m. map Some hs ≡ map (λ p. digest_at H es p.row p.off) (asked m ts known)) same_length
-            (hashes_shown ts known hs acc.one_hash_each (hash_at H es (text_at text us) ts xs hashes long hash_long xs_long entry_texts acc.shape found));
-      })
+      inl (right_from_found ts known rs hs all_fit acc found))
       (λ x. inr record {
         first = x.clash.first;
         second = x.clash.second;
@@ -364,4 +375,4 @@ module _ {R : Type 0} (H : List ℕ → Digest) (text : R → List ℕ) (long : 
         differ = x.clash.differ;
         same_digest = x.clash.same_digest;
       })
-      (slots_found H es (text_at text us) ts xs hashes long hash_long xs_long entry_texts acc.shape agrees (length es))
+      (slots_found H es (text_at text us) ts xs hashes long hash_long xs_long entry_texts agrees (length es))

@@ -29,11 +29,11 @@ use Rattle.node_rules.proofs.Written.{written_fits, written_short}
 
 -- ---- one message
 
-handed_again : (ext : List Outside) (m : Message) → message_in (message_text m.proof) ≡ read m → handed_in (written_text ext m) ≡ written ext m
+handed_again : (ext : List Outside) (m : Message) → message_in (message_text m) ≡ read m → handed_in (written_text ext m) ≡ written ext m
 handed_again [] m e = refl
 handed_again (at ∷ ext) m e = e
 
-written_few : (ext : List Outside) (m : Message) → length (message_text m.proof) ≤ 300000000 → IsShortMessage (written_text ext m)
+written_few : (ext : List Outside) (m : Message) → length (message_text m) ≤ 300000000 → IsShortMessage (written_text ext m)
 written_few [] m h = tt
 written_few (at ∷ ext) m h = h
 
@@ -77,20 +77,20 @@ module _ (H : List ℕ → Digest) (text : Leaf → List ℕ) (long : (x : List 
           by None e made = absurd (false≢true made)
           by (Some b) e made = by_case b e (refusal rules (chain_of s.now) b (own s.now.history (external b s.now.blocks))) refl made
 
-    event_again : (event : FeedEvent) → AreEventBytes event → IsMade (event_in event) → event_in (passed_on H text None s.now event) ≡ with_message H text None s.now (event_in event)
-    event_again (BlockCame bytes message) is made =
-        by_block bytes is message (λ x. Chain.BlockCame x (handed_in (text_beside H text None s.now x)) ≡ with_message H text None s.now (Chain.BlockCame x (handed_in message)))
+    event_again : (watch : Option (List (List ℕ))) (event : FeedEvent) → AreEventBytes event → IsMade (event_in event) → event_in (passed_on H text watch s.now event) ≡ with_message H text watch s.now (event_in event)
+    event_again watch (BlockCame bytes message) is made =
+        by_block bytes is message (λ x. Chain.BlockCame x (handed_in (text_beside H text watch s.now x)) ≡ with_message H text watch s.now (Chain.BlockCame x (handed_in message)))
         (λ b t q.
         let us = s.now.history in
         let ext = external b s.now.blocks in
-        let m = message_of H text None us ext in
+        let m = message_of H text watch us ext in
         let l = small.fits.0 in
         let low = l.within in
-        let again = message_read (message_text m.proof) m.proof (written_fits H text long us l.records (omega (arith, low, few)) None rules (chain_of s.now) b t.fits q) refl in
+        let again = message_read (message_text m) m (written_fits H text long us l.records (omega (arith, low, few)) watch rules (chain_of s.now) b t.fits q) refl in
         ap (Chain.BlockCame (Some b)) (handed_again ext m again))
         made
-    event_again (RollbackCame count) is made = refl
-    event_again StrayCame is made = refl
+    event_again watch (RollbackCame count) is made = refl
+    event_again watch StrayCame is made = refl
 
     event_short : (watch : Option (List (List ℕ))) (event : FeedEvent) → AreEventBytes event → IsMade (event_in event) → CanBeWritten (passed_on H text watch s.now event)
     event_short watch (BlockCame bytes message) is made =
@@ -113,17 +113,17 @@ module _ (H : List ℕ → Digest) (text : Leaf → List ℕ) (long : (x : List 
 
   -- ---- all events
 
-  again_from : (s : State) (events : List FeedEvent) → IsSmall s → AllByRecursion AreEventBytes events → map event_in (proved_events H text None rules s events) ≡ proof_feed H text None rules s (map event_in events)
-  again_from s [] small all = refl
-  again_from s (event ∷ events) small all =
+  again_from : (watch : Option (List (List ℕ))) (s : State) (events : List FeedEvent) → IsSmall s → AllByRecursion AreEventBytes events → map event_in (proved_events H text watch rules s events) ≡ proof_feed H text watch rules s (map event_in events)
+  again_from watch s [] small all = refl
+  again_from watch s (event ∷ events) small all =
       let o = step rules own_judge s (event_in event) in
-      by (is_made o.verdict) refl (again_from o.state events (next_small s event all.0 small) all.1)
+      by (is_made o.verdict) refl (again_from watch o.state events (next_small s event all.0 small) all.1)
     where
       by : (t : Bool) → is_made (step rules own_judge s (event_in event)).verdict ≡ t
-          → map event_in (proved_events H text None rules (step rules own_judge s (event_in event)).state events) ≡ proof_feed H text None rules (step rules own_judge s (event_in event)).state (map event_in events)
-          → map event_in (cond t (passed_on H text None s.now event ∷ proved_events H text None rules (step rules own_judge s (event_in event)).state events) (proved_events H text None rules (step rules own_judge s (event_in event)).state events))
-          ≡ cond t (with_message H text None s.now (event_in event) ∷ proof_feed H text None rules (step rules own_judge s (event_in event)).state (map event_in events)) (proof_feed H text None rules (step rules own_judge s (event_in event)).state (map event_in events))
-      by true e later = ap₂ (λ x xs. x ∷ xs) (event_again s small event all.0 e) later
+          → map event_in (proved_events H text watch rules (step rules own_judge s (event_in event)).state events) ≡ proof_feed H text watch rules (step rules own_judge s (event_in event)).state (map event_in events)
+          → map event_in (cond t (passed_on H text watch s.now event ∷ proved_events H text watch rules (step rules own_judge s (event_in event)).state events) (proved_events H text watch rules (step rules own_judge s (event_in event)).state events))
+          ≡ cond t (with_message H text watch s.now (event_in event) ∷ proof_feed H text watch rules (step rules own_judge s (event_in event)).state (map event_in events)) (proof_feed H text watch rules (step rules own_judge s (event_in event)).state (map event_in events))
+      by true e later = ap₂ (λ x xs. x ∷ xs) (event_again s small watch event all.0 e) later
       by false e later = later
 
   short_from : (watch : Option (List (List ℕ))) (s : State) (events : List FeedEvent) → IsSmall s → AllByRecursion AreEventBytes events → AllByRecursion CanBeWritten (proved_events H text watch rules s events)
@@ -140,8 +140,8 @@ module _ (H : List ℕ → Digest) (text : Leaf → List ℕ) (long : (x : List 
   start_small : IsSmall start
   start_small = record { fits = start_fits rules; levels = omega arith }
 
-  pub events_again : (events : List FeedEvent) → AllByRecursion AreEventBytes events → map event_in (proved_events H text None rules start events) ≡ proof_feed H text None rules start (map event_in events)
-  events_again events all = again_from start events start_small all
+  pub events_again : (watch : Option (List (List ℕ))) (events : List FeedEvent) → AllByRecursion AreEventBytes events → map event_in (proved_events H text watch rules start events) ≡ proof_feed H text watch rules start (map event_in events)
+  events_again watch events all = again_from watch start events start_small all
 
   pub events_short : (watch : Option (List (List ℕ))) (events : List FeedEvent) → AllByRecursion AreEventBytes events → AllByRecursion CanBeWritten (proved_events H text watch rules start events)
   events_short watch events all = short_from watch start events start_small all

@@ -18,7 +18,7 @@ use Rattle.node_rules.specs.Machine.{Level, State, start, event_in, own_judge, s
 -- the bytes beside a block that is passed on: none where nothing is spent from outside
 abbrev pub written_text : List Outside → Message → Option (List ℕ)
 written_text [] m = None
-written_text (at ∷ ext) m = Some (message_text m.proof)
+written_text (at ∷ ext) m = Some (message_text m)
 
 abbrev pub text_beside : (List ℕ → Digest) → (Leaf → List ℕ) → Option (List (List ℕ)) → Level → Option Block → Option (List ℕ)
 text_beside H text watch l None = None
@@ -40,11 +40,11 @@ proved_events H text watch rules s (event ∷ events) =
 
 -- ---- what holds of them
 
--- read again, with messages in full, they are what the proving node passes on of what the events were read as
+-- read again, they are what the proving node passes on of what the events were read as
 abbrev pub ProvedEventsAreRead : Type 0
-ProvedEventsAreRead = (H : List ℕ → Digest) (text : Leaf → List ℕ) → ((x : List ℕ) → IsDigest (H x)) →
+ProvedEventsAreRead = (H : List ℕ → Digest) (text : Leaf → List ℕ) (watch : Option (List (List ℕ))) → ((x : List ℕ) → IsDigest (H x)) →
     (rules : Rules) → rules.limits.leaves < 2 ^ 40 → (events : List FeedEvent) → AllByRecursion AreEventBytes events →
-    map event_in (proved_events H text None rules start events) ≡ proof_feed H text None rules start (map event_in events)
+    map event_in (proved_events H text watch rules start events) ≡ proof_feed H text watch rules start (map event_in events)
 
 abbrev pub IsShortMessage : Option (List ℕ) → Type 0
 IsShortMessage None = Unit {0}

@@ -1,6 +1,5 @@
 -- How faults of reading and of targets are told.
 use Rattle.std.specs.Prelude.{◌≡◌, ℕ, List, Result, Ok, Err}
-use Rattle.proof_wire.specs.BlockProof.{BlockProof}
 use Rattle.proof_wire.specs.declared.fault.MessageFault.{MessageFault}
 use Rattle.proof_wire.specs.declared.fault.MessageFault.TheVariants.{NotAMessage, Version}
 use Rattle.proof_wire.specs.declared.fault.MessageFault.TheVariants as Unread
@@ -10,12 +9,12 @@ use Rattle.block_rules.specs.declared.fault.RuleFault.{RuleFault}
 use Rattle.block_rules.specs.declared.fault.RuleFault.TheVariants.{Refused, NoMemory}
 use Rattle.block_rules.specs.declared.refusal.Refusal.TheVariants as Why
 use Rattle.block_rules.specs.declared.refusal.ProofRefusal.TheVariants as Target
-use Rattle.node_rules.specs.Messages.{in_full}
+use Rattle.node_rules.specs.Messages.{Message}
 use Rattle.node_rules.specs.Reading.{unread, read, message_in}
 
 -- the message that bytes are, or why they are none
-abbrev pub IsReadAs : List ℕ → Result BlockProof RuleFault → Type 0
-IsReadAs bytes (Ok p) = message_in bytes ≡ read (in_full p)
+abbrev pub IsReadAs : List ℕ → Result Message RuleFault → Type 0
+IsReadAs bytes (Ok m) = message_in bytes ≡ read m
 IsReadAs bytes (Err (Refused why)) = message_in bytes ≡ unread why
 IsReadAs bytes (Err NoMemory) = Unit {0}
 

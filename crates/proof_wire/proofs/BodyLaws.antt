@@ -1,5 +1,5 @@
 -- The reading of a body, part by part.
-use Rattle.std.proofs.Common.{◌≡◌, ℕ, ◌-◌, ◌*◌, ◌/◌, ◌≤◌, eqb, List, [], ◌∷◌, length, take, drop, get_or, true, false, Some, None, refl, sym, ap, ◌∙◌, arith}
+use Rattle.std.proofs.Common.{◌≡◌, ℕ, ◌-◌, ◌*◌, ◌/◌, ◌≤◌, eqb, Bool, List, [], ◌∷◌, length, take, drop, get_or, true, false, Some, None, refl, sym, ap, ap₂, ◌∙◌, arith}
 use Rattle.std.specs.Prelude.{Result, Ok, Err, IfOk, IsErrOf}
 use Rattle.std.specs.Borrow.{Bor}
 use Rattle.std.specs.Int.{w64, from_le_bytes}
@@ -16,7 +16,7 @@ use Rattle.leaf_record.specs.Leaf.{Rest}
 use Rattle.leaf_record.specs.Reading.{rest_at}
 use Rattle.proof_wire.specs.declared.fault.MessageFault.{MessageFault}
 use Rattle.proof_wire.specs.declared.fault.MessageFault.TheVariants.{NotAMessage, Version, NoMemory}
-use Rattle.proof_wire.specs.BlockProof.{BlockProof, ProofFits, body_text, message_text}
+use Rattle.proof_wire.specs.BlockProof.{BlockProof, ProofMessage, ProofFits, kind_of, body_text, message_text}
 use Rattle.proof_wire.specs.Reading.{spends_of, body_at, whole_at, claims}
 use Rattle.proof_wire.specs.Views.{targets_in, rests_in, BeginsWithRest, IsMessageView}
 use Rattle.proof_wire.proofs.ProofLaws.{whole_took, no_body}
@@ -95,7 +95,14 @@ front_two (x ∷ []) a b long ea eb = absurd (omega arith)
 front_two (x ∷ y ∷ rest) a b long ea eb = rw (take_rest (x ∷ y ∷ rest) 2, ← ea, ← eb) refl
 
 -- version and kind stand before what was read
-pub behind_front : (r : Result BlockProof MessageFault) (text body : List ℕ) → text ≡ 1 ∷ 0 ∷ body → IfOk r (λ m. ProofFits m × (body ≡ body_text m))
-    → IfOk r (λ m. ProofFits m × (text ≡ message_text m))
-behind_front (Ok m) text body front found = (found.0, front ∙ ap (λ (b : List ℕ). 1 ∷ 0 ∷ b) found.1)
-behind_front (Err e) text body front found = tt
+pub behind_front : (r : Result ProofMessage MessageFault) (lean : Bool) (text body : List ℕ) → text ≡ 1 ∷ kind_of lean ∷ body → IfOk r (λ m. (m.lean ≡ lean) × ProofFits m.proof × (body ≡ body_text m.proof))
+    → IfOk r (λ m. ProofFits m.proof × (text ≡ message_text m))
+behind_front (Ok m) lean text body front found = (found.1, front ∙ ap₂ (λ (k : Bool) (b : List ℕ). 1 ∷ kind_of k ∷ b) (sym found.0) found.2)
+behind_front (Err e) lean text body front found = tt
+
+-- and no message has that body
+pub none_behind : (r : Result ProofMessage MessageFault) (lean : Bool) (text body : List ℕ) → text ≡ 1 ∷ kind_of lean ∷ body → (IsErrOf r NotAMessage → (p : BlockProof) → ProofFits p → body ≡ body_text p → ⊥)
+    → IsErrOf r NotAMessage → (m : ProofMessage) → ProofFits m.proof → text ≡ message_text m → ⊥
+none_behind r lean text body front none is m fits e =
+    let z : 1 ∷ kind_of lean ∷ body ≡ 1 ∷ kind_of m.lean ∷ body_text m.proof = sym front ∙ e in
+    none is m.proof fits (cc)

@@ -1,5 +1,5 @@
 -- What a message says is a lawful format.
-use Rattle.std.proofs.Common.{◌≡◌, ℕ, ◌^◌, ◌<◌, cond, eqb, List, [], ◌∷◌, ◌++◌, length, Some, None, refl, sym, ap, subst, ◌∙◌, append_assoc, arith}
+use Rattle.std.proofs.Common.{◌≡◌, ℕ, ◌^◌, ◌<◌, cond, eqb, Bool, true, false, List, [], ◌∷◌, ◌++◌, length, Some, None, refl, sym, ap, ap₂, subst, ◌∙◌, append_assoc, arith}
 use Rattle.std.specs.Int.{w64, to_le_bytes}
 use Rattle.std.specs.List.{flat_map, AllByRecursion}
 use Rattle.std.proofs.lemmas.Bool.{eqb-true}
@@ -14,7 +14,7 @@ use Rattle.uo_digest.proofs.DigestLaws.{digest_lawful}
 use Rattle.leaf_record.specs.Leaf.{Rest, RestFits, rest_text}
 use Rattle.leaf_record.specs.Reading.{rest_at}
 use Rattle.leaf_record.proofs.LeafLaws.{rest_lawful}
-use Rattle.proof_wire.specs.BlockProof.{Spend, BlockProof, targets_of, rests_of, body_text, message_text, SpendFits, ProofFits}
+use Rattle.proof_wire.specs.BlockProof.{Spend, BlockProof, ProofMessage, targets_of, rests_of, body_text, kind_of, message_text, SpendFits, ProofFits, MessageFits}
 use Rattle.proof_wire.specs.Reading.{spends_of, body_at, whole_at}
 
 abbrev IsTarget : ℕ → Type 0
@@ -133,8 +133,24 @@ whole_again p fits =
 pub no_body : (bytes : List ℕ) → whole_at bytes ≡ None → (p : BlockProof) → ProofFits p → bytes ≡ body_text p → ⊥
 no_body bytes none p fits e = not_both (whole_at bytes) (p, []) none (ap whole_at e ∙ whole_again p fits)
 
+-- kinds are told apart
+one_kind : (a b : Bool) → kind_of a ≡ kind_of b → a ≡ b
+one_kind false false e = refl
+one_kind false true e = absurd (let z : 0 ≡ 1 = e in omega arith)
+one_kind true false e = absurd (let z : 1 ≡ 0 = e in omega arith)
+one_kind true true e = refl
+
 -- a message's text is the front of no other's
-pub one_message : OneReading ProofFits message_text
-one_message = λ x y a b fx fy e. one_reading _ _ _ body_lawful x y a b fx fy (tails e) where
-  tails : {xs ys : List ℕ} → 1 ∷ 0 ∷ xs ≡ 1 ∷ 0 ∷ ys → xs ≡ ys
-  tails e = cc
+pub one_message : OneReading MessageFits message_text
+one_message x y a b fx fy e =
+    let body = one_reading _ _ _ body_lawful x.proof y.proof a b fx fy (tails e) in
+    (ap₂ made (one_kind x.lean y.lean (kinds e)) body.0, body.1)
+  where
+    tails : {k l : ℕ} {xs ys : List ℕ} → 1 ∷ k ∷ xs ≡ 1 ∷ l ∷ ys → xs ≡ ys
+    tails e = cc
+
+    kinds : {k l : ℕ} {xs ys : List ℕ} → 1 ∷ k ∷ xs ≡ 1 ∷ l ∷ ys → k ≡ l
+    kinds e = cc
+
+    made : Bool → BlockProof → ProofMessage
+    made lean p = record { lean = lean; proof = p }

@@ -1,5 +1,5 @@
 -- What a proof message says beside a block, and its one text.
-use Rattle.std.specs.Prelude.{ℕ, ◌<◌, ◌^◌, List, ◌∷◌, ◌++◌, length, map}
+use Rattle.std.specs.Prelude.{ℕ, ◌<◌, ◌^◌, Bool, true, false, List, ◌∷◌, ◌++◌, length, map}
 use Rattle.std.specs.List.{flat_map, AllByRecursion}
 use Rattle.std.specs.Int.{w64, to_le_bytes}
 use Rattle.uo_base.specs.Compact.{counted}
@@ -32,9 +32,18 @@ body_text p =
     counted (to_le_bytes w64) (targets_of p.spends) ++ flat_map rest_text (rests_of p.spends)
     ++ counted digest_text p.hashes
 
--- the version 1, the kind 0 and the body
-abbrev pub message_text : BlockProof → List ℕ
-message_text p = 1 ∷ 0 ∷ body_text p
+-- a whole message: what it says, and whether it is lean. Then the hashes that its reader knows are left out
+pub record ProofMessage : Type 0 where
+  pub lean : Bool
+  pub proof : BlockProof
+
+abbrev pub kind_of : Bool → ℕ
+kind_of false = 0
+kind_of true = 1
+
+-- the version 1, the kind and the body
+abbrev pub message_text : ProofMessage → List ℕ
+message_text m = 1 ∷ kind_of m.lean ∷ body_text m.proof
 
 -- ---- which have a text
 
@@ -47,3 +56,6 @@ pub record ProofFits (p : BlockProof) : Type 0 where
   pub spends : AllByRecursion SpendFits p.spends
   pub count_of_hashes : length p.hashes < 2 ^ 64
   pub hashes : AllByRecursion IsDigest p.hashes
+
+abbrev pub MessageFits : ProofMessage → Type 0
+MessageFits m = ProofFits m.proof

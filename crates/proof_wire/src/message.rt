@@ -7,7 +7,7 @@ ghost use Rattle.uo_base.specs.Reading.{OneReading};
 ghost use Rattle.uo_base.specs.Compact.{counted};
 ghost use Rattle.uo_digest.specs.Reading.{digest_text};
 ghost use Rattle.leaf_record.specs.Leaf.{RestFits, rest_text};
-ghost use Rattle.proof_wire.specs.BlockProof.{ProofFits, targets_of, rests_of, message_text};
+ghost use Rattle.proof_wire.specs.BlockProof.{ProofFits, MessageFits, kind_of, targets_of, rests_of, message_text};
 
 use leaf_record::{RestView, write_rest};
 use std::alloc::Global;
@@ -70,6 +70,7 @@ impl OwnedSpend {
 /// A message that is made spend by spend and hash by hash; contracts see what it says.
 #[derive(Debug, Drop)]
 pub struct Message {
+    lean: bool,
     spends: Vec<OwnedSpend>,
     hashes: Vec<Digest>,
     alloc: Global,
@@ -78,21 +79,22 @@ pub struct Message {
 impl Model for Message {
     ghost use Rattle.std.specs.List.{AllByRecursion};
     ghost use Rattle.uo_digest.specs.Reading.{IsDigest};
-    ghost use Rattle.proof_wire.specs.BlockProof.{BlockProof, SpendFits};
+    ghost use Rattle.proof_wire.specs.BlockProof.{ProofMessage, SpendFits};
 
-    ghost Value = { BlockProof };
+    ghost Value = { ProofMessage };
 
-    ghost view = { λ m. record { spends = m.spends.items; hashes = m.hashes.items } };
+    ghost view = { λ m. record { lean = m.lean; proof = record { spends = m.spends.items; hashes = m.hashes.items } } };
 
     ghost invariant = { λ m. AllByRecursion SpendFits m.spends.items × AllByRecursion IsDigest m.hashes.items };
 }
 
 impl Message {
-    /// No spend and no hash.
-    pub fn new(alloc: Global) -> Message
-        ensures { result ≡ record { spends = []; hashes = [] } }
+    /// No spend and no hash, in a message that is full or lean.
+    pub fn new(alloc: Global, lean: bool) -> Message
+        ensures { result ≡ record { lean = lean; proof = record { spends = []; hashes = [] } } }
     {
         Message {
+            lean,
             spends: Vec::new(alloc),
             hashes: Vec::new(alloc),
             alloc,
@@ -101,7 +103,7 @@ impl Message {
 
     /// One more spend: the position of its leaf in the forest before the block, and its rest.
     pub fn push_spend(&mut self, target: u64, rest: &RestView<'_>) -> Result<(), NoMemory>
-        ensures ok { OnOk result (self.new ≡ record { spends = self.old.spends ++ record { target = target; rest = rest.now } ∷ []; hashes = self.old.hashes }) }
+        ensures ok { OnOk result (self.new ≡ record { lean = self.old.lean; proof = record { spends = self.old.proof.spends ++ record { target = target; rest = rest.now } ∷ []; hashes = self.old.proof.hashes } }) }
         ensures err { OnErr result (self.new ≡ self.old) }
     {
         let spend = OwnedSpend::new(self.alloc, target, rest)?;
@@ -111,7 +113,7 @@ impl Message {
 
     /// One more hash.
     pub fn push_hash(&mut self, hash: Digest) -> Result<(), NoMemory>
-        ensures ok { OnOk result (self.new ≡ record { spends = self.old.spends; hashes = self.old.hashes ++ hash ∷ [] }) }
+        ensures ok { OnOk result (self.new ≡ record { lean = self.old.lean; proof = record { spends = self.old.proof.spends; hashes = self.old.proof.hashes ++ hash ∷ [] } }) }
         ensures err { OnErr result (self.new ≡ self.old) }
     {
         self.hashes.push(hash)?;
@@ -122,10 +124,10 @@ impl Message {
     fn put(&self, out: &mut Vec<u8>) -> Result<(), NoMemory>
         ensures ok { OnOk result (out.new.items ≡ out.old.items ++ message_text self.now) }
         ensures err { OnErr result (Grew out.old.items out.new.items) }
-        ensures fits { ProofFits self.now }
+        ensures fits { ProofFits self.now.proof }
     {
         let spends = self.spends.as_slice();
-        out.extend_from_slice(&[1, 0])?;
+        out.extend_from_slice(&[1, kind_byte(self.lean)])?;
         put_targets(spends, out)?;
         put_rests(spends, out)?;
         put_hashes(&self.hashes, out)?;
@@ -137,7 +139,7 @@ impl Message {
         ensures ok { OnOk result (out.new.items ≡ out.old.items ++ message_text self.now) }
         ensures err { OnErr result (out.new.items ≡ out.old.items) }
         // What was written is a message, so it is read again.
-        ensures fits { ProofFits self.now }
+        ensures fits { ProofFits self.now.proof }
     {
         let start = out.len();
         match self.put(out) {
@@ -147,6 +149,16 @@ impl Message {
                 Err(NoMemory)
             }
         }
+    }
+}
+
+/// The second byte of a message.
+fn kind_byte(lean: bool) -> u8
+    ensures { result ≡ kind_of lean }
+{
+    match lean {
+        false => 0,
+        true => 1,
     }
 }
 
@@ -184,5 +196,5 @@ fn put_hashes(hashes: &[Digest], out: &mut Vec<u8>) -> Result<(), NoMemory>
 
 /// No message's text is the front of another's, so a message that was written is read again.
 pub fn one_message()
-    ensures { OneReading ProofFits message_text }
+    ensures { OneReading MessageFits message_text }
 {}

@@ -6,12 +6,12 @@ ghost use Rattle.uo_base.specs.Reading.{Gives, GivesOrFails, number_at, times};
 ghost use Rattle.uo_base.specs.Compact.{counted_at};
 ghost use Rattle.uo_digest.specs.Reading.{digest_in_front};
 ghost use Rattle.leaf_record.specs.Reading.{rest_at};
-ghost use Rattle.proof_wire.specs.BlockProof.{BlockProof, ProofFits, body_text, message_text};
+ghost use Rattle.proof_wire.specs.BlockProof.{BlockProof, ProofMessage, ProofFits, body_text, message_text};
 ghost use Rattle.proof_wire.specs.Reading.{parts_at, whole_at, claims};
 ghost use Rattle.proof_wire.specs.Views.{targets_in, rests_in, hashes_in, BeginsWithRest};
 
 use crate::fault::MessageFault;
-use crate::view::MessageView;
+use crate::view::{BodyView, MessageView};
 use leaf_record::read_rest;
 use std::alloc::Global;
 use uo_base::Cursor;
@@ -65,7 +65,7 @@ fn read_starts<'a>(
 
 /// What follows version and kind.
 #[tactic(auto, unfolding(crate::specs::Reading::whole_at, crate::specs::Reading::body_at))]
-fn read_body<'a>(alloc: Global, body: &'a [u8]) -> Result<MessageView<'a>, MessageFault>
+fn read_body<'a>(alloc: Global, body: &'a [u8]) -> Result<BodyView<'a>, MessageFault>
     ensures { GivesOrFails (λ m. m) claims result [] (whole_at body.now) }
 {
     let mut at = Cursor::new(body);
@@ -79,7 +79,7 @@ fn read_body<'a>(alloc: Global, body: &'a [u8]) -> Result<MessageView<'a>, Messa
     if !at.rest().is_empty() {
         return Err(MessageFault::NotAMessage);
     }
-    Ok(MessageView {
+    Ok(BodyView {
         targets,
         rests,
         hashes,
@@ -87,7 +87,7 @@ fn read_body<'a>(alloc: Global, body: &'a [u8]) -> Result<MessageView<'a>, Messa
 }
 
 /// The same, in terms of texts.
-fn read_full<'a>(alloc: Global, body: &'a [u8]) -> Result<MessageView<'a>, MessageFault>
+fn read_whole<'a>(alloc: Global, body: &'a [u8]) -> Result<BodyView<'a>, MessageFault>
     ensures found { IfOk result (λ m. ProofFits m × (body.now ≡ body_text m)) }
     ensures none { IsErrOf result MessageFault.NotAMessage → (p : BlockProof) → ProofFits p → body.now ≡ body_text p → ⊥ }
     ensures version { (v : ℕ) → IsErrOf result (MessageFault.Version v) → ⊥ }
@@ -95,15 +95,28 @@ fn read_full<'a>(alloc: Global, body: &'a [u8]) -> Result<MessageView<'a>, Messa
     read_body(alloc, body)
 }
 
-/// The message that the whole text is: the version 1, the kind 0, a count and the targets of the
+/// The message that is full or lean, and has this body.
+fn read_kind<'a>(alloc: Global, lean: bool, body: &'a [u8]) -> Result<MessageView<'a>, MessageFault>
+    ensures found { IfOk result (λ m. (m.lean ≡ lean) × ProofFits m.proof × (body.now ≡ body_text m.proof)) }
+    ensures none { IsErrOf result MessageFault.NotAMessage → (p : BlockProof) → ProofFits p → body.now ≡ body_text p → ⊥ }
+    ensures version { (v : ℕ) → IsErrOf result (MessageFault.Version v) → ⊥ }
+{
+    match read_whole(alloc, body) {
+        Ok(body) => Ok(MessageView { lean, body }),
+        Err(fault) => Err(fault),
+    }
+}
+
+/// The message that the whole text is: the version 1, the kind (0, or 1 where it is lean), a count and the targets of the
 /// spends (8 bytes each), their rests, and a count and the hashes (32 bytes each).
 pub fn read_message<'a>(alloc: Global, text: &'a [u8]) -> Result<MessageView<'a>, MessageFault>
-    ensures found { IfOk result (λ m. ProofFits m × (text.now ≡ message_text m)) }
-    ensures none { IsErrOf result MessageFault.NotAMessage → (p : BlockProof) → ProofFits p → text.now ≡ message_text p → ⊥ }
+    ensures found { IfOk result (λ m. ProofFits m.proof × (text.now ≡ message_text m)) }
+    ensures none { IsErrOf result MessageFault.NotAMessage → (m : ProofMessage) → ProofFits m.proof → text.now ≡ message_text m → ⊥ }
     ensures version { (v : ℕ) → IsErrOf result (MessageFault.Version v) ↔ ((slice_get text.now 0 ≡ Some v) × (v ≢ 1)) }
 {
     match text {
-        [1, 0, body @ ..] => read_full(alloc, body),
+        [1, 0, body @ ..] => read_kind(alloc, false, body),
+        [1, 1, body @ ..] => read_kind(alloc, true, body),
         [] | [1, ..] => Err(MessageFault::NotAMessage),
         [version, ..] => Err(MessageFault::Version(*version)),
     }

@@ -98,8 +98,8 @@ fn put_hashes(text: &mut Vec<u8>, hashes: &Count) -> Result<(), AllocError> {
     Ok(())
 }
 
-fn spelled(alloc: Global, spends: &Count, hashes: &Count) -> Result<Vec<u8>, AllocError> {
-    let mut text = Vec::from_slice(alloc, &[1, 0])?;
+fn spelled(alloc: Global, kind: u8, spends: &Count, hashes: &Count) -> Result<Vec<u8>, AllocError> {
+    let mut text = Vec::from_slice(alloc, &[1, kind])?;
     put_targets(&mut text, spends)?;
     put_rests(&mut text, spends)?;
     put_hashes(&mut text, hashes)?;
@@ -137,10 +137,17 @@ fn check_hashes(
     Ok(())
 }
 
-fn check_whole(rt: &impl Abort, alloc: Global, spends: &Count, hashes: &Count) -> Result<(), Fail> {
-    let text = spelled(alloc, spends, hashes)?;
+fn check_whole(
+    rt: &impl Abort,
+    alloc: Global,
+    kind: u8,
+    spends: &Count,
+    hashes: &Count,
+) -> Result<(), Fail> {
+    let text = spelled(alloc, kind, spends, hashes)?;
     let view = read_message(alloc, &text)?;
-    let mut message = Message::new(alloc);
+    assert!(rt; view.lean() == (kind == 1));
+    let mut message = Message::new(alloc, view.lean());
     assert!(rt; view.spends() == spends.count);
     check_spends(rt, &view, &mut message)?;
     assert!(rt; view.hash_count() == hashes.count);
@@ -155,7 +162,8 @@ fn check_whole(rt: &impl Abort, alloc: Global, spends: &Count, hashes: &Count) -
 fn messages_whole(rt: HostRuntime) -> Result<(), Fail> {
     for spends in &SPENDS {
         for hashes in &HASHES {
-            check_whole(&rt, rt.alloc(), spends, hashes)?;
+            let kind = (hashes.count % 2) as u8;
+            check_whole(&rt, rt.alloc(), kind, spends, hashes)?;
         }
     }
     Ok(())
@@ -172,7 +180,7 @@ fn check_cuts(rt: &impl Abort, alloc: Global, text: &[u8]) {
 fn messages_cut(rt: HostRuntime) -> Result<(), Fail> {
     for spends in &SPENDS {
         for hashes in &HASHES {
-            let text = spelled(rt.alloc(), spends, hashes)?;
+            let text = spelled(rt.alloc(), 1, spends, hashes)?;
             check_cuts(&rt, rt.alloc(), &text);
         }
     }
@@ -199,7 +207,7 @@ fn check_counts(
     spends: &Count,
     hashes: &Count,
 ) -> Result<(), Fail> {
-    let mut text = spelled(alloc, spends, hashes)?;
+    let mut text = spelled(alloc, 0, spends, hashes)?;
     let size = hashes.hash_bytes.saturating_add(hashes.form.len());
     let behind = text.len().saturating_sub(size);
     for place in 0..spends.form.len() {
@@ -226,7 +234,7 @@ struct Refused {
     fault: MessageFault,
 }
 
-/// No byte, other versions, the kinds 1 and 2, a byte after the message, 9,375,000 hashes (300
+/// No byte, other versions, the kinds 2 and 255, a byte after the message, 9,375,000 hashes (300
 /// megabytes) of which none is there, and 2^61 targets.
 const REFUSED: [Refused; 8] = [
     Refused {
@@ -242,7 +250,7 @@ const REFUSED: [Refused; 8] = [
         fault: MessageFault::Version(0),
     },
     Refused {
-        text: &[1, 1, 0, 0],
+        text: &[1, 255, 0, 0],
         fault: MessageFault::NotAMessage,
     },
     Refused {

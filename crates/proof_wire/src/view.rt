@@ -27,16 +27,15 @@ fn number(bytes: &[u8]) -> u64
     ])
 }
 
-/// A message that holds no copy of its parts, but knows where each rest begins; contracts see what
-/// it says.
+/// What follows version and kind, without a copy of its parts.
 #[derive(Drop)]
-pub struct MessageView<'a> {
-    pub(crate) targets: &'a [u8],
-    pub(crate) rests: Vec<&'a [u8]>,
-    pub(crate) hashes: &'a [u8],
+pub(crate) struct BodyView<'a> {
+    pub targets: &'a [u8],
+    pub rests: Vec<&'a [u8]>,
+    pub hashes: &'a [u8],
 }
 
-impl<'a> Model for MessageView<'a> {
+impl<'a> Model for BodyView<'a> {
     ghost use Rattle.proof_wire.specs.BlockProof.{BlockProof};
 
     ghost Value = { BlockProof };
@@ -48,24 +47,21 @@ impl<'a> Model for MessageView<'a> {
     ghost invariant = { λ s. IsMessageView s.targets.now s.rests.items s.hashes.now };
 }
 
-impl<'a> MessageView<'a> {
-    /// How many outputs are spent.
-    pub fn spends(&self) -> u64
+impl<'a> BodyView<'a> {
+    fn spends(&self) -> u64
         ensures { result ≡ length self.now.spends }
     {
         self.rests.len() as u64
     }
 
-    /// The position of the leaf of a spent output, in the forest before the block.
-    pub fn target(&self, i: u64) -> u64
+    fn target(&self, i: u64) -> u64
         requires { i < length self.now.spends }
         ensures { slice_get (targets_of self.now.spends) i ≡ Some result }
     {
         number(part(self.targets, 8, i as usize))
     }
 
-    /// What the message shows of a spent output.
-    pub fn rest(&self, i: u64) -> RestView<'a>
+    fn rest(&self, i: u64) -> RestView<'a>
         requires { i < length self.now.spends }
         ensures { slice_get (rests_of self.now.spends) i ≡ Some result }
     {
@@ -76,18 +72,79 @@ impl<'a> MessageView<'a> {
         }
     }
 
-    /// How many hashes there are besides.
-    pub fn hash_count(&self) -> u64
+    fn hash_count(&self) -> u64
         ensures { result ≡ length self.now.hashes }
     {
         self.hashes.len() as u64 / 32
     }
 
-    /// A hash, in the order of positions.
-    pub fn hash(&self, i: u64) -> Digest
+    fn hash(&self, i: u64) -> Digest
         requires { i < length self.now.hashes }
         ensures { slice_get self.now.hashes i ≡ Some result }
     {
         Digest::from_bytes(part(self.hashes, 32, i as usize))
+    }
+}
+
+/// A message that holds no copy of its parts, but knows where each rest begins; contracts see what
+/// it says.
+#[derive(Drop)]
+pub struct MessageView<'a> {
+    pub(crate) lean: bool,
+    pub(crate) body: BodyView<'a>,
+}
+
+impl<'a> Model for MessageView<'a> {
+    ghost use Rattle.proof_wire.specs.BlockProof.{ProofMessage};
+
+    ghost Value = { ProofMessage };
+
+    ghost view = { λ s. record { lean = s.lean; proof = s.body } };
+}
+
+impl<'a> MessageView<'a> {
+    /// Whether the hashes that its reader knows are left out.
+    pub fn lean(&self) -> bool
+        ensures { result ≡ self.now.lean }
+    {
+        self.lean
+    }
+
+    /// How many outputs are spent.
+    pub fn spends(&self) -> u64
+        ensures { result ≡ length self.now.proof.spends }
+    {
+        self.body.spends()
+    }
+
+    /// The position of the leaf of a spent output, in the forest before the block.
+    pub fn target(&self, i: u64) -> u64
+        requires { i < length self.now.proof.spends }
+        ensures { slice_get (targets_of self.now.proof.spends) i ≡ Some result }
+    {
+        self.body.target(i)
+    }
+
+    /// What the message shows of a spent output.
+    pub fn rest(&self, i: u64) -> RestView<'a>
+        requires { i < length self.now.proof.spends }
+        ensures { slice_get (rests_of self.now.proof.spends) i ≡ Some result }
+    {
+        self.body.rest(i)
+    }
+
+    /// How many hashes there are besides.
+    pub fn hash_count(&self) -> u64
+        ensures { result ≡ length self.now.proof.hashes }
+    {
+        self.body.hash_count()
+    }
+
+    /// A hash, in the order of positions.
+    pub fn hash(&self, i: u64) -> Digest
+        requires { i < length self.now.proof.hashes }
+        ensures { slice_get self.now.proof.hashes i ≡ Some result }
+    {
+        self.body.hash(i)
     }
 }

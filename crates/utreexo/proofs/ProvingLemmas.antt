@@ -149,7 +149,7 @@ module _ (H : List ℕ → Digest) (long : (x : List ℕ) → length (H x).0 ≡
         (feed_read net limits.bytes proved (all_framed proved (events_short H leaf_text long (rules_of limits net) few None events all)) (subst (λ f. length f ≤ limits.bytes) is room))
 
     again : map event_in proved ≡ came
-    again = events_again H leaf_text long (rules_of limits net) few events all
+    again = events_again H leaf_text long (rules_of limits net) few None events all
 
     follows : Fresh.SaysAsProving H leaf_text (rules_of limits net) node (map event_in events)
     follows = fresh_follows_proving H leaf_text net limits few short (map event_in events)

@@ -1,0 +1,442 @@
+-- From what the search finds to what it means.
+use Rattle.std.proofs.Common.{◌≡◌, ◌≢◌, ℕ, zero, suc, ◌+◌, ◌-◌, ◌*◌, ◌<◌, Bool, true, false, List, [], ◌∷◌, ◌++◌, map, length, get_or, Option, Some, None, Contains, refl, sym, ap, ◌∙◌, subst, ap₂, ⊎_elim, inl, inr, arith}
+use Rattle.std.specs.Prelude.{◌⊎◌, option_map, option_and_then, slice_get, unwrap_or, All}
+use Rattle.std.specs.List.{AllByRecursion}
+use Rattle.std.proofs.lemmas.Bool.{cases_Bool, false≢true, false_from_ne_true}
+use Rattle.std.proofs.lemmas.List.{length-map, get_or_default}
+use Rattle.std.proofs.lemmas.Option.{none-some, same_Some, slice_get-map}
+use Rattle.uo_digest.specs.declared.digest.Digest.{Digest}
+use Rattle.forest_place.specs.declared.place.Place.{Place}
+use Rattle.forest_place.specs.Forest.{InForest, is_root, is_slot, root_off}
+use Rattle.forest_place.specs.Places.{is_at, has_place, IsDistinct}
+use Rattle.forest_place.proofs.Listed.{place, is_at-same, same_from_is_at}
+use Rattle.forest_place.proofs.Parts.{InForest-root, is_root-root_off, root_off-is_root}
+use Rattle.forest_model.specs.Content.{IsDigest, Tree, leaf, inner, content, digest_of, node_texts}
+use Rattle.forest_model.specs.Standing.{tree_at, digest_at, root}
+use Rattle.forest_model.specs.Cover.{Cover, target, given, both, cover_of_halves, cover, is_needed, HasShape}
+use Rattle.forest_model.specs.Evaluation.{beside, value, value_texts, asked, hash_of, nothing_known, evaluation, IsAccepted}
+use Rattle.forest_model.specs.Right.{entries, text_at as entry_text, IsKnowledge, IsRight, IsNodeText, IsValueText}
+use Rattle.forest_model.proofs.Climbs.{tree_at-root}
+use Rattle.forest_model.proofs.Unique.{tree_at-leaves}
+use Rattle.forest_model.proofs.Clash.{Contains-first}
+use Rattle.forest_model.proofs.Extract.{entry_of, entry_texts, leaves_are, value-same, beside_other, right_from_found}
+use Rattle.leaf_record.specs.Leaf.{Leaf, LeafFits, leaf_text}
+use Rattle.leaf_record.specs.History.{History}
+use Rattle.leaf_record.proofs.LeafLaws.{one_leaf, leaf_long}
+use Rattle.forest_place.specs.Places.{place_in}
+use Rattle.proof_shape.proofs.Ordered.{has_at}
+use Rattle.proof_verify.specs.Evaluation.{IsMade, IsEvaluatedAt}
+use Rattle.proof_verify.specs.declared.evaluation.CoveredPlace.{CoveredPlace}
+use Rattle.proof_verify.specs.declared.evaluation.Made.{Made}
+use Rattle.proof_verify.specs.declared.evaluation.Made.TheVariants.{Target, Halves}
+use Rattle.block_rules.specs.declared.chain.Outside.{Outside}
+use Rattle.output_index.specs.Held.{Held, leaf_at}
+use Rattle.node_rules.specs.Messages.{Message, point_of, points_of, named, targets, known_to}
+use Rattle.node_rules.specs.Accepting.{leaves_of, proof_fault}
+use Rattle.node_rules.specs.Right.{is_right}
+use Rattle.node_rules.proofs.Faults.{length-named, accepted, passes}
+use Rattle.node_rules.proofs.Righting.{right_is_tested}
+use Rattle.node_rules.proofs.Serving.{AreSame, same_value, same_cover, hash_of_all, same_evaluation}
+use Rattle.clash_find.specs.Clashes.{TextClash}
+use Rattle.clash_find.specs.Texts.{tree_text, text_at, claims, claim_text, made_text, AreDigests, IsWithin}
+use Rattle.clash_find.specs.Answers.{StandForHistory, view_over, IsClash, IsAnswer}
+use Rattle.clash_find.specs.Searched.{IsReady, DoRootsAgree, IsClashAt, AreCompared}
+use Rattle.clash_find.proofs.Claiming.{claims-long}
+use Rattle.clash_find.proofs.Agreement.{value_of, node_text, cover_text, HasDigests, AgreeAt, found, right_agrees}
+use Rattle.clash_find.proofs.Listing.{IsOfSlot, IsOfCover, node_listed, cover_listed}
+
+-- what is beside the place at an index
+beside_slice : {X : Type 0} (none : X) (ps : List Place) (xs : List X) (i : ℕ) → IsDistinct ps → length xs ≡ length ps → i < length ps → beside none ps xs (place_in ps i).row (place_in ps i).off ≡ unwrap_or (slice_get xs i) none
+beside_slice none [] xs i u e lt = absurd (omega (arith, lt))
+beside_slice none (p ∷ ps) [] i u e lt = absurd (omega (arith, e))
+beside_slice none (p ∷ ps) (x ∷ xs) zero u e lt = let here : is_at p.row p.off p ≡ true = is_at-same p.row p.off in rw here refl
+beside_slice none (p ∷ ps) (x ∷ xs) (suc i) u e lt =
+    let q = place_in ps i in
+    let li : i < length ps = omega (arith, lt) in
+    let other : is_at q.row q.off p ≡ false = false_from_ne_true _ (λ same.
+    let z : p ≡ q = same_from_is_at q.row q.off p same in
+    false≢true (sym u.0 ∙ (ap (λ (y : Place). has_place ps y.row y.off) z ∙ has_at ps i (record { row = 0; off = 0 }) li))) in
+    rw other (beside_slice none ps xs i u.1 (omega (arith, e)) li)
+
+-- a place that is covered as a target is that target
+target_is : (ts : List Place) (r o a b : ℕ) → cover ts r o ≡ Some (target a b) → (a ≡ r) × (b ≡ o)
+target_is ts zero o a b e =
+    ⊎_elim
+    (λ (it : has_place ts zero o ≡ true). let z : target zero o ≡ target a b = same_Some _ _ (rw it at e) in (cc, cc))
+    (λ (other : has_place ts zero o ≡ false). absurd (none-some _ (rw other at e)))
+    (cases_Bool (has_place ts zero o))
+target_is ts (suc r) o a b e =
+    ⊎_elim
+    (λ (it : has_place ts (suc r) o ≡ true). let z : target (suc r) o ≡ target a b = same_Some _ _ (rw it at e) in (cc, cc))
+    (λ (other : has_place ts (suc r) o ≡ false). no_target (cover ts r (2 * o)) (cover ts r (2 * o + 1)) (rw other at e))
+    (cases_Bool (has_place ts (suc r) o))
+  where
+    no_target : {A : Type 0} (x y : Option Cover) → cover_of_halves r o x y ≡ Some (target a b) → A
+    no_target None None e = absurd (none-some _ e)
+    no_target (Some x) None e = absurd (let z = same_Some _ _ e in cc)
+    no_target None (Some y) e = absurd (let z = same_Some _ _ e in cc)
+    no_target (Some x) (Some y) e = absurd (let z = same_Some _ _ e in cc)
+
+-- what has a digest is there
+standing : (H : List ℕ → Digest) (x : Option Tree) (d : Digest) → option_map (digest_of H) x ≡ Some d → (t : Tree) × (x ≡ Some t) × (digest_of H t ≡ d)
+standing H None d e = absurd (none-some d e)
+standing H (Some t) d e = (t, refl, same_Some _ _ e)
+
+module _ (H : List ℕ → Digest) (long : (x : List ℕ) → IsDigest (H x)) (us : History) (outputs : List Held)
+    (held : (i : ℕ) (l : Leaf) → slice_get us i ≡ Some (Some l) → leaf_at i outputs ≡ Some l) (fit : (i : ℕ) (l : Leaf) → slice_get us i ≡ Some (Some l) → LeafFits l)
+    (ext : List Outside) (m : Message) (count : length m.proof.spends ≡ length ext) (known : ℕ → ℕ → Option Digest) where
+  abbrev es : List (Option Digest)
+  es = entries H leaf_text us
+
+  abbrev n : ℕ
+  n = length es
+
+  abbrev ts : List Place
+  ts = targets n m.proof
+
+  abbrev rs : List Leaf
+  rs = claims ext m
+
+  abbrev hs : List Digest
+  hs = m.proof.hashes
+
+  abbrev k : ℕ → ℕ → Option Digest
+  k = known_to m.lean known
+
+  abbrev text_of : ℕ → List ℕ
+  text_of = entry_text leaf_text us
+
+  abbrev leaf_texts : ℕ → ℕ → List ℕ
+  leaf_texts = beside [] ts (map leaf_text rs)
+
+  abbrev hashes : ℕ → ℕ → Digest
+  hashes = hash_of H n ts k hs
+
+  abbrev V : Cover → Digest
+  V = value_of H es text_of ts leaf_texts hashes
+
+  abbrev node_text_of : Tree → List ℕ
+  node_text_of = node_text H es text_of ts leaf_texts hashes
+
+  abbrev cover_text_of : Cover → List ℕ
+  cover_text_of = cover_text H es text_of ts leaf_texts hashes
+
+  same_length : n ≡ length us
+  same_length = length-map us (option_map (λ (r : Leaf). H (leaf_text r)))
+
+  points_count : length m.proof.spends ≡ length (points_of ext)
+  points_count = count ∙ sym (length-map ext point_of)
+
+  no_pair : (l : Leaf) → LeafFits l → length (leaf_text l) ≢ 64
+  no_pair l f e = let w = (leaf_long l f).0 in absurd (omega (arith, w, e))
+
+  each_entry : (i : ℕ) (d : Digest) → get_or es i None ≡ Some d → (H (text_of i) ≡ d) × (length (text_of i) ≢ 64)
+  each_entry = entry_texts H leaf_text long LeafFits no_pair one_leaf us fit
+
+  -- a node that stands has a text
+  node_shown : (r o : ℕ) (t : Tree) → tree_at es r o ≡ Some t → text_at H es outputs r o ≡ Some (node_text_of t)
+  node_shown r o t s = ap (option_and_then (tree_text H outputs)) s ∙ by_tree t s
+    where
+      by_tree : (t : Tree) → tree_at es r o ≡ Some t → tree_text H outputs t ≡ Some (node_text_of t)
+      by_tree (leaf i d) s =
+          let w = entry_of H leaf_text us i d (tree_at-leaves es r o (leaf i d) s) in
+          ap (option_map leaf_text) (held i w.rec w.live) ∙ ap Some (sym w.shown)
+      by_tree (inner a b) s = refl
+
+  -- its text has its digest
+  node_digest : (r o : ℕ) (t : Tree) → tree_at es r o ≡ Some t → H (node_text_of t) ≡ digest_of H t
+  node_digest r o (leaf i d) s = (each_entry i d (tree_at-leaves es r o (leaf i d) s)).0
+  node_digest r o (inner a b) s = refl
+
+  module _ (items : List CoveredPlace) (ready : IsReady H n ext known m items) where
+    -- ---- what the items say, by what is digested with the message's own hashes
+
+    abbrev full_hashes : ℕ → ℕ → Digest
+    full_hashes = hash_of H n ts nothing_known ready.full
+
+    same_hash : (r o : ℕ) → InForest n r o → is_needed n ts (place r o) ≡ true → hashes r o ≡ full_hashes r o
+    same_hash = hash_of_all H n ts hashes ready.full (ready.hashes.hashes_are H)
+
+    evaluates : (c : Cover) → AreSame H n ts hashes full_hashes same_hash c → evaluation H n ts nothing_known (leaves_of H leaf_text (points_of ext) m) ready.full c ≡ V c
+    evaluates c same =
+        value-same H (beside (H []) ts (leaves_of H leaf_text (points_of ext) m)) (λ r o. H (leaf_texts r o)) full_hashes (leaves_are H leaf_text ts rs) c
+        ∙ sym (same_value H n ts hashes full_hashes same_hash (λ r o. H (leaf_texts r o)) c same)
+
+    blank : CoveredPlace
+    blank = record { place = record { row = 0; off = 0 }; made = Target 0; digest = record { 0 = [] } }
+
+    -- what is said of one item
+    record IsItem (item : CoveredPlace) : Type 0 where
+      within : InForest n item.place.row item.place.off
+      beneath : Cover
+      covered : cover ts item.place.row item.place.off ≡ Some beneath
+      digest : item.digest ≡ V beneath
+      text : made_text ext m item.made ≡ cover_text_of beneath
+      whole : AreDigests item.made → HasDigests H es text_of ts leaf_texts hashes beneath
+      own : H (cover_text_of beneath) ≡ V beneath
+      listed : Contains (value_texts H leaf_texts hashes beneath) (cover_text_of beneath)
+      form : (beneath ≡ target item.place.row item.place.off) ⊎ ((a : Cover) × (b : Cover) × (beneath ≡ both a b))
+
+    target_text : (p : Place) (i : ℕ) → i < length ts → place_in ts i ≡ p → claim_text ext m i ≡ leaf_texts p.row p.off
+    target_text p i lt e =
+        let long_list : length (map leaf_text rs) ≡ length ts = length-map rs leaf_text ∙ (claims-long ext m count ∙ (sym count ∙ targets_count)) in
+        ap (λ (x : Option (List ℕ)). unwrap_or x []) (sym (slice_get-map leaf_text rs i))
+        ∙ (sym (beside_slice [] ts (map leaf_text rs) i ready.shape.distinct long_list lt) ∙ ap (λ (q : Place). leaf_texts q.row q.off) e)
+      where
+        targets_count : length m.proof.spends ≡ length ts
+        targets_count = sym (length-named n m.proof.spends) ∙ (ap length ready.named_all ∙ length-map ts Some)
+
+    item_from : (item : CoveredPlace) → IsEvaluatedAt H n ts (leaves_of H leaf_text (points_of ext) m) ready.full item → IsItem item
+    item_from item e = by_made e.beneath e.covered e.digest item.made refl e.made
+      where
+        same : (c : Cover) → cover ts item.place.row item.place.off ≡ Some c → AreSame H n ts hashes full_hashes same_hash c
+        same c q = same_cover H n ts hashes full_hashes same_hash item.place.row item.place.off c e.within q
+
+        by_made : (c : Cover) → cover ts item.place.row item.place.off ≡ Some c → item.digest ≡ evaluation H n ts nothing_known (leaves_of H leaf_text (points_of ext) m) ready.full c → (made : Made) → item.made ≡ made →
+            IsMade H n ts (leaves_of H leaf_text (points_of ext) m) ready.full item.place c item.made → IsItem item
+        by_made (target a b) q d (Target i) is made =
+            let w = target_is ts item.place.row item.place.off a b q in
+            let at : target item.place.row item.place.off ≡ target a b = ap₂ target (sym w.0) (sym w.1) in
+            let here = subst (λ (x : Made). IsMade H n ts (leaves_of H leaf_text (points_of ext) m) ready.full item.place (target a b) x) is made in
+            record {
+              within = e.within;
+              beneath = target a b;
+              covered = q;
+              digest = d ∙ evaluates (target a b) (same (target a b) q);
+              text = ap (made_text ext m) is ∙ (target_text item.place i here.0 here.1 ∙ ap cover_text_of at);
+              whole = λ h. tt;
+              own = refl;
+              listed = Contains-first _ [];
+              form = inl (sym at);
+            }
+        by_made (target a b) q d (Halves x y) is made = absurd (subst (λ (x : Made). IsMade H n ts (leaves_of H leaf_text (points_of ext) m) ready.full item.place (target a b) x) is made)
+        by_made (given a b) q d z is made = absurd made
+        by_made (both l r) q d (Target i) is made = absurd (subst (λ (x : Made). IsMade H n ts (leaves_of H leaf_text (points_of ext) m) ready.full item.place (both l r) x) is made)
+        by_made (both l r) q d (Halves x y) is made =
+            let here = subst (λ (x : Made). IsMade H n ts (leaves_of H leaf_text (points_of ext) m) ready.full item.place (both l r) x) is made in
+            let s = same (both l r) q in
+            let left : x ≡ V l = here.0 ∙ evaluates l s.0 in
+            let right : y ≡ V r = here.1 ∙ evaluates r s.1 in
+            record {
+              within = e.within;
+              beneath = both l r;
+              covered = q;
+              digest = d ∙ evaluates (both l r) s;
+              text = ap (made_text ext m) is ∙ ap₂ (λ (x y : Digest). x.0 ++ y.0) left right;
+              whole = λ h. let w = subst AreDigests is h in (subst IsDigest left w.0, subst IsDigest right w.1);
+              own = refl;
+              listed = Contains-first _ _;
+              form = inr (l, r, refl);
+            }
+
+    item_at : (i : ℕ) (d : CoveredPlace) → i < length items → IsItem (get_or items i d)
+    item_at i d lt = item_from (get_or items i d) (ready.evaluated.each i d lt)
+
+    -- ---- the roots
+
+    abbrev Accepts : Type 0
+    Accepts = IsAccepted H n (root H es) ts k (leaves_of H leaf_text (points_of ext) m) hs
+
+    leaves_count : length (leaves_of H leaf_text (points_of ext) m) ≡ length ts
+    leaves_count =
+        length-map rs (λ (l : Leaf). H (leaf_text l)) ∙ (claims-long ext m count ∙ (sym count ∙ (sym (length-named n m.proof.spends) ∙ (ap length ready.named_all ∙ length-map ts Some))))
+
+    -- the digest at a covered place, by its item
+    root_is : DoRootsAgree H es items true → (row : ℕ) (c : Cover) → is_slot n row ≡ true → cover ts row (root_off n row) ≡ Some c → root H es row ≡ Some (V c)
+    root_is agree row c slot e =
+        let o = root_off n row in
+        let top = is_root-root_off n row slot in
+        let w = ready.evaluated.all row o c (InForest-root n row o top) e in
+        let at : (get_or items w.0 blank).place ≡ place row o = w.2 blank in
+        let it = item_at w.0 blank w.1 in
+        let here : is_root n (get_or items w.0 blank).place.row (get_or items w.0 blank).place.off ≡ true = subst (λ (p : Place). is_root n p.row p.off ≡ true) (sym at) top in
+        let got = agree w.0 blank w.1 here in
+        let same : it.beneath ≡ c = same_Some _ _ (sym it.covered ∙ (ap (λ (p : Place). cover ts p.row p.off) at ∙ e)) in
+        ap (option_map (digest_of H)) (sym (tree_at-root es row o top))
+        ∙ (ap (λ (p : Place). digest_at H es p.row p.off) (sym at) ∙ (got ∙ ap Some (it.digest ∙ ap V same)))
+
+    accepts : DoRootsAgree H es items true → Accepts
+    accepts agree = record {
+      shape = ready.shape;
+      one_leaf_each = leaves_count;
+      one_hash_each = ready.hashes.count;
+      agrees = λ row c slot e.
+          let h = InForest-root n row (root_off n row) (is_root-root_off n row slot) in
+          root_is agree row c slot e
+          ∙ ap Some (sym (same_evaluation H n m known ready.full (leaves_of H leaf_text (points_of ext) m) row (root_off n row) c ready.hashes h e ∙ evaluates c (same_cover H n ts hashes full_hashes same_hash row (root_off n row) c h e)));
+    }
+
+    abbrev Passes : ℕ → Type 0
+    Passes j = proof_fault H leaf_text (record { n = j; roots = root H es; known = known }) (points_of ext) m ≡ None
+
+    to_us : (P : ℕ → Type 0) → P n → P (length us)
+    to_us P p = subst P same_length p
+
+    to_es : (P : ℕ → Type 0) → P (length us) → P n
+    to_es P p = subst P (sym same_length) p
+
+    no_fault : DoRootsAgree H es items true → Passes (length us)
+    no_fault agree = to_us Passes (passes H leaf_text (record { n = n; roots = root H es; known = known }) (points_of ext) m (accepts agree) ready.named_all)
+
+    -- where a root differs, the message is not accepted
+    pub refused : DoRootsAgree H es items false → IsAnswer H us known (points_of ext) m None
+    refused (i, d, lt, top, other) none =
+        let it = item_at i d lt in
+        let p = (get_or items i d).place in
+        let w = accepted H leaf_text (record { n = n; roots = root H es; known = known }) (points_of ext) m points_count (to_es Passes none) in
+        let t = root_off-is_root n p.row p.off top in
+        let e : cover ts p.row (root_off n p.row) ≡ Some it.beneath = ap (cover ts p.row) (sym t.0) ∙ it.covered in
+        let same = w.0.agrees p.row it.beneath t.1 e in
+        let is : evaluation H n ts k (leaves_of H leaf_text (points_of ext) m) hs it.beneath ≡ V it.beneath =
+        same_evaluation H n m known ready.full (leaves_of H leaf_text (points_of ext) m) p.row p.off it.beneath ready.hashes it.within it.covered ∙ evaluates it.beneath (same_cover H n ts hashes full_hashes same_hash p.row p.off it.beneath it.within it.covered) in
+        absurd (other (ap (option_map (digest_of H)) (tree_at-root es p.row p.off top) ∙ (ap (λ o. option_map (digest_of H) (content es p.row o)) t.0 ∙ (same ∙ ap Some (is ∙ sym it.digest)))))
+
+    -- ---- the texts
+
+    -- what stands at an item whose digest is the forest's
+    stands_at : (i : ℕ) (lt : i < length items) → digest_at H es (get_or items i blank).place.row (get_or items i blank).place.off ≡ Some (get_or items i blank).digest →
+        (t : Tree) × (tree_at es (get_or items i blank).place.row (get_or items i blank).place.off ≡ Some t) × (digest_of H t ≡ (get_or items i blank).digest)
+    stands_at i lt e = standing H (tree_at es (get_or items i blank).place.row (get_or items i blank).place.off) (get_or items i blank).digest e
+
+    -- where no item shows a clash, the texts are equal
+    agree_everywhere : AreCompared H es outputs ext m items None → (r o : ℕ) → InForest n r o → AgreeAt H es text_of ts leaf_texts hashes r o
+    agree_everywhere compared r o h c t e s v =
+        let w = ready.evaluated.all r o c h e in
+        let item = get_or items w.0 blank in
+        let at : item.place ≡ place r o = w.2 blank in
+        let it = item_at w.0 blank w.1 in
+        let same : it.beneath ≡ c = same_Some _ _ (sym it.covered ∙ (ap (λ (p : Place). cover ts p.row p.off) at ∙ e)) in
+        let there : tree_at es item.place.row item.place.off ≡ Some t = ap (λ (p : Place). tree_at es p.row p.off) at ∙ s in
+        let digest : digest_at H es item.place.row item.place.off ≡ Some item.digest = ap (option_map (digest_of H)) there ∙ ap Some (sym v ∙ (ap V (sym same) ∙ sym it.digest)) in
+        let g = compared w.0 blank w.1 digest (node_text_of t) (node_shown item.place.row item.place.off t there) in
+        (g.0 ∙ (it.text ∙ ap cover_text_of same), subst (HasDigests H es text_of ts leaf_texts hashes) same (it.whole g.1))
+
+    leaf_other : (r o : ℕ) → length (leaf_texts r o) ≢ 64
+    leaf_other r o = beside_other ts (map leaf_text rs) r o (all_other rs ready.fit)
+      where
+        all_other : (ls : List Leaf) → AllByRecursion LeafFits ls → All (λ x. length x ≢ 64) (map leaf_text ls)
+        all_other [] h j d lt = absurd (omega (arith, lt))
+        all_other (l ∷ ls) h zero d lt = no_pair l h.0
+        all_other (l ∷ ls) h (suc j) d lt = all_other ls h.1 j d (omega (arith, lt))
+
+    all_fit : (ls : List Leaf) → AllByRecursion LeafFits ls → All LeafFits ls
+    all_fit [] h j d lt = absurd (omega (arith, lt))
+    all_fit (l ∷ ls) h zero d lt = h.0
+    all_fit (l ∷ ls) h (suc j) d lt = all_fit ls h.1 j d (omega (arith, lt))
+
+    abbrev RightBy : ℕ → Type 0
+    RightBy j = IsRight H leaf_text us (targets j m.proof) k rs hs
+
+    right : DoRootsAgree H es items true → AreCompared H es outputs ext m items None → RightBy n
+    right agree compared =
+        right_from_found H leaf_text long LeafFits no_pair one_leaf us fit ts k rs hs (all_fit rs ready.fit) (accepts agree)
+        (λ row c slot e.
+        let o = root_off n row in
+        let top = is_root-root_off n row slot in
+        let h = InForest-root n row o top in
+        let w = standing H (content es row o) (V c) (root_is agree row c slot e) in
+        let s : tree_at es row o ≡ Some w.0 = tree_at-root es row o top ∙ w.1 in
+        (w.0, s, found H es text_of ts leaf_texts hashes long leaf_other each_entry (agree_everywhere compared) row o c w.0 h e s (sym w.2)))
+
+    pub right_answer : DoRootsAgree H es items true → AreCompared H es outputs ext m items None → IsAnswer H us known (points_of ext) m None
+    right_answer agree compared none =
+        (right_is_tested H leaf_text us known (points_of ext) m).1 (to_us RightBy (right agree compared), to_us (λ j. named j m.proof ≡ map Some (targets j m.proof)) ready.named_all, points_count)
+
+    module _ (view : IsKnowledge H es known) where
+      lean_view : (lean : Bool) → IsKnowledge H es (known_to lean known)
+      lean_view true = view
+      lean_view false = λ row off d e. absurd (none-some d e)
+
+      -- a right message has one text at each covered place
+      not_right : (c : TextClash) (i : ℕ) → i < length items → IsClashAt H es outputs ext m (get_or items i blank) c → is_right H leaf_text us known (points_of ext) m ≢ true
+      not_right c i lt clash tested =
+          let w = (right_is_tested H leaf_text us known (points_of ext) m).0 tested in
+          let r = to_es RightBy w.0 in
+          let shown : map Some hs ≡ map (λ p. digest_at H es p.row p.off) (asked n ts k) = subst (λ j. map Some hs ≡ map (λ p. digest_at H es p.row p.off) (asked j ts k)) (sym same_length) r.shown in
+          let it = item_at i blank lt in
+          let p = (get_or items i blank).place in
+          let t = stands_at i lt clash.same in
+          let agrees = right_agrees H leaf_text us ts k rs hs (lean_view m.lean) r.spends shown p.row p.off it.beneath t.0 it.within it.covered t.1 in
+          let same : node_text_of t.0 ≡ cover_text_of it.beneath = by_form it.beneath p it.form agrees in
+          let first : c.first ≡ node_text_of t.0 = same_Some _ _ (sym clash.first ∙ node_shown p.row p.off t.0 t.1) in
+          clash.differ (first ∙ (same ∙ (sym it.text ∙ sym clash.second)))
+        where
+          by_form : {x : List ℕ} (b : Cover) (p : Place) → (b ≡ target p.row p.off) ⊎ ((a : Cover) × (d : Cover) × (b ≡ both a d)) →
+              (b ≡ target p.row p.off → x ≡ leaf_texts p.row p.off) × ((a d : Cover) → b ≡ both a d → x ≡ (V a).0 ++ (V d).0) → x ≡ cover_text_of b
+          by_form b p (inl e) w = w.0 e ∙ ap cover_text_of (sym e)
+          by_form b p (inr (a, d, e)) w = w.1 a d e ∙ ap cover_text_of (sym e)
+
+      is_clash : (c : TextClash) (i : ℕ) → i < length items → IsClashAt H es outputs ext m (get_or items i blank) c → IsClash H us known (points_of ext) m c
+      is_clash c i lt clash =
+          let it = item_at i blank lt in
+          let p = (get_or items i blank).place in
+          let t = stands_at i lt clash.same in
+          let first : c.first ≡ node_text_of t.0 = same_Some _ _ (sym clash.first ∙ node_shown p.row p.off t.0 t.1) in
+          let second : c.second ≡ cover_text_of it.beneath = clash.second ∙ it.text in
+          let node = node_listed H es text_of (n - p.row) p.row p.off t.0 (node_text_of t.0) refl it.within t.1 (first_listed t.0) in
+          let covered = cover_listed H n ts ready.shape leaf_texts hashes (n - p.row) p.row p.off it.beneath (cover_text_of it.beneath) refl it.within it.covered it.listed in
+          record {
+            of_forest = subst (IsNodeText H leaf_text us) (sym first) (record {
+              row = node.row;
+              tree = node.tree;
+              slot = to_us (λ j. is_slot j node.row ≡ true) node.slot;
+              of_slot = to_us (λ j. content es node.row (root_off j node.row) ≡ Some node.tree) node.of_slot;
+              listed = node.listed;
+            });
+            of_proof = to_us (λ j. IsValueText H leaf_text j (targets j m.proof) k rs hs c.second) (subst (IsValueText H leaf_text n ts k rs hs) (sym second) (record {
+              row = covered.row;
+              covered = covered.covered;
+              slot = covered.slot;
+              of_slot = covered.of_slot;
+              listed = covered.listed;
+            }));
+            differ = clash.differ;
+            first_is = ap H first ∙ (node_digest p.row p.off t.0 t.1 ∙ (t.2 ∙ sym clash.digest));
+            second_is = ap H second ∙ (it.own ∙ (sym it.digest ∙ sym clash.digest));
+          }
+        where
+          first_listed : (t : Tree) → Contains (node_texts H text_of t) (node_text_of t)
+          first_listed (leaf j d) = Contains-first _ []
+          first_listed (inner l r) = Contains-first _ _
+
+      pub answered : DoRootsAgree H es items true → (r : Option TextClash) → AreCompared H es outputs ext m items r → IsAnswer H us known (points_of ext) m r
+      answered agree None compared = right_answer agree compared
+      answered agree (Some c) (i, d, lt, at) =
+          let clash = subst (λ (x : CoveredPlace). IsClashAt H es outputs ext m x c) (get_or_default items i d blank lt) at in
+          (no_fault agree, false_from_ne_true _ (not_right c i lt clash), is_clash c i lt clash)
+
+-- ---- for a forest and an index that stand for the history
+
+module _ (H : List ℕ → Digest) (long : (x : List ℕ) → IsDigest (H x)) (es0 : List (Option Digest)) (outputs : List Held) (ext : List Outside) (m : Message) (count : length m.proof.spends ≡ length ext) (known : ℕ → ℕ → Option Digest) where
+  pub none_accepted : ((roots : ℕ → Option Digest) → proof_fault H leaf_text (record { n = length es0; roots = roots; known = known }) (points_of ext) m ≢ None) → (us : History) → StandForHistory H es0 outputs us → IsAnswer H us known (points_of ext) m None
+  none_accepted refused us s none =
+      let same : length us ≡ length es0 = sym (length-map us (option_map (λ (r : Leaf). H (leaf_text r)))) ∙ ap length (sym s.entries_are) in
+      absurd (refused (root H (entries H leaf_text us)) (subst (λ j. proof_fault H leaf_text (record { n = j; roots = root H (entries H leaf_text us); known = known }) (points_of ext) m ≡ None) same none))
+
+  pub root_refused : (items : List CoveredPlace) → IsReady H (length es0) ext known m items → DoRootsAgree H es0 items false → (us : History) → StandForHistory H es0 outputs us → IsAnswer H us known (points_of ext) m None
+  root_refused items ready agree us s =
+      refused H long us outputs s.held s.fit ext m count known items (subst (λ (e : List (Option Digest)). IsReady H (length e) ext known m items) s.entries_are ready) (subst (λ (e : List (Option Digest)). DoRootsAgree H e items false) s.entries_are agree)
+
+  pub found_answer : (items : List CoveredPlace) → IsReady H (length es0) ext known m items → DoRootsAgree H es0 items true → (r : Option TextClash) → AreCompared H es0 outputs ext m items r →
+      (us : History) → StandForHistory H es0 outputs us → IsKnowledge H es0 known → IsAnswer H us known (points_of ext) m r
+  found_answer items ready agree r compared us s view =
+      answered H long us outputs s.held s.fit ext m count known items (subst (λ (e : List (Option Digest)). IsReady H (length e) ext known m items) s.entries_are ready) (subst (λ (e : List (Option Digest)). IsKnowledge H e known) s.entries_are view)
+      (subst (λ (e : List (Option Digest)). DoRootsAgree H e items true) s.entries_are agree) r (subst (λ (e : List (Option Digest)). AreCompared H e outputs ext m items r) s.entries_are compared)
+
+  -- the targets of the items are among the inputs
+  pub targets_within : (items : List CoveredPlace) → IsReady H (length es0) ext known m items → (i : ℕ) (d : CoveredPlace) → i < length items → IsWithin (length ext) (get_or items i d).made
+  targets_within items ready i d lt = by_made (get_or items i d) (ready.evaluated.each i d lt)
+    where
+      few : length (targets (length es0) m.proof) ≡ length ext
+      few = sym (length-map (targets (length es0) m.proof) Some) ∙ (ap length (sym ready.named_all) ∙ (length-named (length es0) m.proof.spends ∙ count))
+
+      by_made : (item : CoveredPlace) → IsEvaluatedAt H (length es0) (targets (length es0) m.proof) (leaves_of H leaf_text (points_of ext) m) ready.full item → IsWithin (length ext) item.made
+      by_made item e = at e.beneath item.made e.made
+        where
+          at : (c : Cover) (made : Made) → IsMade H (length es0) (targets (length es0) m.proof) (leaves_of H leaf_text (points_of ext) m) ready.full item.place c made → IsWithin (length ext) made
+          at (target a b) (Target j) h = let l = h.0 in omega (arith, l, few)
+          at (target a b) (Halves x y) h = tt
+          at (given a b) (Target j) h = absurd h
+          at (given a b) (Halves x y) h = tt
+          at (both l r) (Target j) h = absurd h
+          at (both l r) (Halves x y) h = tt

@@ -1,0 +1,126 @@
+-- What is refused of the targets or the hashes of a message is a fault of its proof.
+use Rattle.std.proofs.Common.{◌≡◌, ◌≢◌, ℕ, List, [], ◌∷◌, map, length, Option, Some, None, Err, refl, sym, ap, ap₂, ◌∙◌, subst}
+use Rattle.std.specs.List.{AllByRecursion}
+use Rattle.std.proofs.lemmas.List.{length-map}
+use Rattle.std.proofs.lemmas.Option.{none-some}
+use Rattle.uo_digest.specs.declared.digest.Digest.{Digest}
+use Rattle.forest_place.specs.declared.place.Place.{Place}
+use Rattle.forest_model.specs.Cover.{need, HasShape}
+use Rattle.leaf_record.specs.Leaf.{LeafFits, leaf_text}
+use Rattle.leaf_record.specs.History.{somes}
+use Rattle.proof_wire.specs.BlockProof.{BlockProof}
+use Rattle.proof_shape.specs.Targeted.{Targeted}
+use Rattle.proof_verify.specs.Evaluation.{AreEvaluatedAt}
+use Rattle.proof_verify.specs.declared.evaluation.CoveredPlace.{CoveredPlace}
+use Rattle.block_rules.specs.declared.chain.Outside.{Outside}
+use Rattle.block_rules.specs.declared.fault.RuleFault.TheVariants.{Refused}
+use Rattle.block_rules.specs.declared.refusal.Refusal.{Refusal}
+use Rattle.block_rules.specs.declared.refusal.Refusal.TheVariants as Why
+use Rattle.block_rules.specs.declared.refusal.ProofRefusal.TheVariants as Fault
+use Rattle.block_rules.proofs.Firsts.{option_or-none}
+use Rattle.node_rules.specs.Messages.{Message, point_of, points_of, named, targets, known_to}
+use Rattle.node_rules.specs.Accepting.{View, leaves_of, shape_fault, proof_fault}
+use Rattle.node_rules.specs.Judged.{AreNamed, TargetsJudged, HashesJudged, AreHashes, IsOtherCount}
+use Rattle.node_rules.proofs.Faults.{length-named, accepted}
+use Rattle.clash_find.specs.Texts.{claims}
+use Rattle.clash_find.specs.Searched.{IsReady}
+use Rattle.clash_find.proofs.Claiming.{claims-long}
+
+targets_refused : (n : ℕ) (p : BlockProof) (why : Refusal) → TargetsJudged n p (Err (Refused why)) → shape_fault n [] 0 (named n p) ≢ None
+targets_refused n p Why.Block h e = h
+targets_refused n p Why.Link h e = h
+targets_refused n p Why.MerkleRoot h e = h
+targets_refused n p (Why.MerkleRepeated level place) h e = h
+targets_refused n p (Why.Weight w) h e = h
+targets_refused n p (Why.Coinbase t) h e = h
+targets_refused n p (Why.Value t) h e = h
+targets_refused n p (Why.Double t i) h e = h
+targets_refused n p Why.Full h e = h
+targets_refused n p Why.NoProof h e = h
+targets_refused n p Why.MessageForm h e = h
+targets_refused n p (Why.MessageVersion v) h e = h
+targets_refused n p (Why.Spends got want) h e = h
+targets_refused n p (Why.Proof fault) h e = none-some _ (sym e ∙ h)
+targets_refused n p (Why.Missing t i) h e = h
+targets_refused n p (Why.Immature t i) h e = h
+targets_refused n p (Why.Overspend t) h e = h
+targets_refused n p (Why.Subsidy c a) h e = h
+
+hashes_refused : (m : Message) (t : Targeted) (known : ℕ → ℕ → Option Digest) (why : Refusal) → HashesJudged m t known (Err (Refused why)) → (want : ℕ) × (got : ℕ) × IsOtherCount m t known want got
+hashes_refused m t known Why.Block h = absurd h
+hashes_refused m t known Why.Link h = absurd h
+hashes_refused m t known Why.MerkleRoot h = absurd h
+hashes_refused m t known (Why.MerkleRepeated level place) h = absurd h
+hashes_refused m t known (Why.Weight w) h = absurd h
+hashes_refused m t known (Why.Coinbase x) h = absurd h
+hashes_refused m t known (Why.Value x) h = absurd h
+hashes_refused m t known (Why.Double x i) h = absurd h
+hashes_refused m t known Why.Full h = absurd h
+hashes_refused m t known Why.NoProof h = absurd h
+hashes_refused m t known Why.MessageForm h = absurd h
+hashes_refused m t known (Why.MessageVersion v) h = absurd h
+hashes_refused m t known (Why.Spends got want) h = absurd h
+hashes_refused m t known (Why.Proof (Fault.Outside i)) h = absurd h
+hashes_refused m t known (Why.Proof (Fault.Repeated i j)) h = absurd h
+hashes_refused m t known (Why.Proof (Fault.Beneath i j)) h = absurd h
+hashes_refused m t known (Why.Proof (Fault.HashCount want got)) h = (want, got, h)
+hashes_refused m t known (Why.Proof (Fault.EmptyRoot row)) h = absurd h
+hashes_refused m t known (Why.Proof (Fault.RootDiffers row)) h = absurd h
+hashes_refused m t known (Why.Missing x i) h = absurd h
+hashes_refused m t known (Why.Immature x i) h = absurd h
+hashes_refused m t known (Why.Overspend x) h = absurd h
+hashes_refused m t known (Why.Subsidy c a) h = absurd h
+
+somes-map : {X : Type 0} (xs : List X) → somes (map Some xs) ≡ xs
+somes-map [] = refl
+somes-map (x ∷ xs) = ap (λ ys. x ∷ ys) (somes-map xs)
+
+targeted : (t : Targeted) (n : ℕ) (ts : List Place) → t.leaves ≡ n → t.targets ≡ ts → t ≡ record { leaves = n; targets = ts }
+targeted t n ts a b = ap₂ (λ (k : ℕ) (ps : List Place). let x : Targeted = record { leaves = k; targets = ps } in x) a b
+
+-- the targets are those of the message
+pub targets_are : (n : ℕ) (p : BlockProof) (t : Targeted) → AreNamed n p t → t ≡ record { leaves = n; targets = targets n p }
+targets_are n p t a = targeted t n (targets n p) a.leaves (sym (somes-map t.targets) ∙ ap somes (sym a.places))
+
+pub named_all : (n : ℕ) (p : BlockProof) (t : Targeted) → AreNamed n p t → named n p ≡ map Some (targets n p)
+named_all n p t a = a.places ∙ ap (map Some) (sym (somes-map t.targets) ∙ ap somes (sym a.places))
+
+module _ (H : List ℕ → Digest) (n : ℕ) (ext : List Outside) (m : Message) (known : ℕ → ℕ → Option Digest) (roots : ℕ → Option Digest) where
+  abbrev view : View
+  view = record { n = n; roots = roots; known = known }
+
+  pub no_shape : (why : Refusal) → TargetsJudged n m.proof (Err (Refused why)) → proof_fault H leaf_text view (points_of ext) m ≢ None
+  no_shape why h e = targets_refused n m.proof why h (option_or-none (shape_fault n [] 0 (named n m.proof)) _ e).0
+
+  pub no_count : (t : Targeted) (why : Refusal) → length m.proof.spends ≡ length ext → AreNamed n m.proof t → HashesJudged m t known (Err (Refused why)) → proof_fault H leaf_text view (points_of ext) m ≢ None
+  no_count t why count a h e =
+      let w = hashes_refused m t known why h in
+      let o = subst (λ (x : Targeted). IsOtherCount m x known w.0 w.1) (targets_are n m.proof t a) w.2 in
+      let acc = accepted H leaf_text view (points_of ext) m (count ∙ sym (length-map ext point_of)) e in
+      o.differ (o.got_is ∙ (acc.0.one_hash_each ∙ sym o.want_is))
+
+-- ---- what the calls on the way ask for, and what they give
+
+pub targets_long : (n : ℕ) (p : BlockProof) (t : Targeted) → AreNamed n p t → length t.targets ≡ length p.spends
+targets_long n p t a = sym (length-map t.targets Some) ∙ (ap length (sym a.places) ∙ length-named n p.spends)
+
+pub leaves_long : (H : List ℕ → Digest) (n : ℕ) (ext : List Outside) (m : Message) (t : Targeted) (leaves seen : List Digest) → length m.proof.spends ≡ length ext → AreNamed n m.proof t → seen ≡ leaves → leaves ≡ leaves_of H leaf_text (points_of ext) m → length seen ≡ length t.targets
+leaves_long H n ext m t leaves seen count a same is =
+    ap length (same ∙ is) ∙ (length-map (claims ext m) (λ leaf. H (leaf_text leaf)) ∙ (claims-long ext m count ∙ (sym count ∙ sym (targets_long n m.proof t a))))
+
+pub hashes_long : (H : List ℕ → Digest) (m : Message) (t : Targeted) (known : ℕ → ℕ → Option Digest) (hashes seen : List Digest) → seen ≡ hashes → AreHashes m t known hashes → length seen ≡ length (need t.leaves t.targets)
+hashes_long H m t known hashes seen same a = ap length (same ∙ a.hashes_are H) ∙ length-map (need t.leaves t.targets) _
+
+pub is_ready : (H : List ℕ → Digest) (n : ℕ) (ext : List Outside) (known : ℕ → ℕ → Option Digest) (m : Message) (t : Targeted) (leaves leaves' hashes hashes' : List Digest) (items : List CoveredPlace) → AreNamed n m.proof t → HasShape t.leaves t.targets →
+    leaves' ≡ leaves → leaves ≡ leaves_of H leaf_text (points_of ext) m → hashes' ≡ hashes → AreHashes m t known hashes → AllByRecursion LeafFits (claims ext m) → AreEvaluatedAt H t.leaves t.targets leaves' hashes' items → IsReady H n ext known m items
+is_ready H n ext known m t leaves leaves' hashes hashes' items a shape same is same' are fit evaluated =
+    let e = targets_are n m.proof t a in
+    record {
+      named_all = named_all n m.proof t a;
+      shape = subst (λ (x : Targeted). HasShape x.leaves x.targets) e shape;
+      full = hashes;
+      hashes = subst (λ (x : Targeted). AreHashes m x known hashes) e are;
+      fit = fit;
+      evaluated = subst (λ (x : Targeted). AreEvaluatedAt H x.leaves x.targets (leaves_of H leaf_text (points_of ext) m) hashes items) e
+          (subst (λ (l : List Digest). AreEvaluatedAt H t.leaves t.targets l hashes items) (same ∙ is) (subst (λ (l : List Digest). AreEvaluatedAt H t.leaves t.targets leaves' l items) same' evaluated));
+    }

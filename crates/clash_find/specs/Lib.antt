@@ -1,0 +1,7 @@
+-- what public clauses cite
+pub mod Clashes
+pub mod Answers
+pub mod Laws
+-- what only this crate's own proofs and private functions cite
+pub mod Texts
+pub mod Searched
