@@ -1,5 +1,5 @@
 -- What undoes the newest blocks, while the index changes and records are dropped.
-use Rattle.std.proofs.Common.{◌≡◌, ◌≢◌, ℕ, zero, suc, ◌+◌, ◌<◌, ◌≤◌, Bool, true, false, List, [], ◌∷◌, ◌++◌, map, set, length, take, Option, Some, None, refl, sym, ap, ap₂, ◌∙◌, subst, ⊎_elim, arith}
+use Rattle.std.proofs.Common.{◌≡◌, ◌≢◌, ℕ, zero, suc, ◌+◌, ◌<◌, ◌≤◌, Bool, true, false, List, [], ◌∷◌, ◌++◌, map, set, length, take, get_or, Option, Some, None, refl, sym, ap, ap₂, ◌∙◌, subst, ⊎_elim, arith}
 use Rattle.std.specs.Prelude.{slice_get, option_map, unwrap_or, AllPairs, All}
 use Rattle.std.specs.List.{AllByRecursion}
 use Rattle.std.proofs.lemmas.Bool.{cases_Bool, false≢true}
@@ -40,19 +40,13 @@ got_front [] ys i x e = absurd (none-some x e)
 got_front (z ∷ xs) ys zero x e = e
 got_front (z ∷ xs) ys (suc i) x e = got_front xs ys i x e
 
-pub differ_head : (n : ℕ) (ns : List ℕ) → AllPairs (λ i j. i ≢ j) (n ∷ ns) → AllByRecursion (λ m. n ≢ m) ns
-differ_head n [] a = tt
-differ_head n (m ∷ ns) a = (a 0 1 0 (omega arith) (omega arith), differ_head n ns (λ i j d lt below. by i j d lt below))
-  where
-    by : (i j d : ℕ) → i < j → j < length (n ∷ ns) → _
-    by zero zero d lt below = absurd (omega (arith, lt))
-    by zero (suc j) d lt below = a 0 (suc (suc j)) d (omega arith) (omega (arith, below))
-    by (suc i) zero d lt below = absurd (omega (arith, lt))
-    by (suc i) (suc j) d lt below = a (suc (suc i)) (suc (suc j)) d (omega (arith, lt)) (omega (arith, below))
+differ_at : (n : ℕ) (ns : List ℕ) → ((j d : ℕ) → j < length ns → n ≢ get_or ns j d) → AllByRecursion (λ m. n ≢ m) ns
+differ_at n [] h = tt
+differ_at n (m ∷ ns) h = (h 0 0 (omega arith), differ_at n ns (λ j d lt. h (suc j) d (omega (arith, lt))))
 
 pub differ_from : (ns : List ℕ) → AllPairs (λ i j. i ≢ j) ns → AllDiffer ns
 differ_from [] a = tt
-differ_from (n ∷ ns) a = (differ_head n ns a, differ_from ns (λ i j d lt below. a (suc i) (suc j) d (omega (arith, lt)) (omega (arith, below))))
+differ_from (n ∷ ns) a = (differ_at n ns (λ j d lt. a 0 (suc j) d (omega arith) (omega (arith, lt))), differ_from ns (λ i j d lt below. a (suc i) (suc j) d (omega (arith, lt)) (omega (arith, below))))
 
 -- ---- what was spent stays spent
 

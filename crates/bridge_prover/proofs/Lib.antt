@@ -2,5 +2,12 @@ pub mod Gathering
 pub mod Rising
 pub mod Indexing
 pub mod Showing
+pub mod Restoring
 pub mod Giving
 pub mod Owning
+pub mod Next
+pub mod Undoing
+pub mod Deciding
+pub mod Refining
+pub mod Telling
+pub mod Throughout

@@ -1,5 +1,5 @@
 -- What a message shows.
-use Rattle.std.proofs.Common.{◌≡◌, ℕ, ◌+◌, ◌<◌, ◌≤◌, Bool, true, false, List, [], ◌∷◌, ◌++◌, map, length, take, get_or, Option, Some, None, refl, sym, ap, ◌∙◌, subst}
+use Rattle.std.proofs.Common.{◌≡◌, ℕ, suc, ◌+◌, ◌<◌, ◌≤◌, Bool, true, false, List, [], ◌∷◌, ◌++◌, map, length, take, get_or, Option, Some, None, refl, sym, ap, ◌∙◌, subst, arith}
 use Rattle.std.specs.Prelude.{option_map, is_some}
 use Rattle.std.specs.List.{filter}
 use Rattle.std.proofs.lemmas.List.{take_all}
@@ -14,6 +14,7 @@ use Rattle.forest_model.specs.Standing.{tree_at, digest_at}
 use Rattle.forest_model.specs.Cover.{need}
 use Rattle.forest_model.specs.Evaluation.{asked, nothing_known}
 use Rattle.forest_model.proofs.Climbs.{tree_at-forest}
+use Rattle.leaf_record.specs.Leaf.{Leaf}
 use Rattle.leaf_record.specs.History.{somes}
 use Rattle.proof_shape.specs.declared.fault.ShapeFault.{ShapeFault}
 use Rattle.proof_shape.specs.declared.fault.ShapeFault.TheVariants as Shape
@@ -85,3 +86,12 @@ hash_more H es spends ps i d old new lt was e =
 
 pub shown_all : (es : List (Option Digest)) (hs : List Held) (numbers : List ℕ) (i : ℕ) (shown : BlockProof) (at : List ℕ) → length numbers ≤ i → AreShown es hs (take i numbers) shown at → AreShown es hs numbers shown at
 shown_all es hs numbers i shown at le a = subst (λ xs. AreShown es hs xs shown at) (take_all i numbers le) a
+
+-- no more is shown than is spent
+pub shown_few : (es : List (Option Digest)) (hs : List Held) (numbers : List ℕ) → length (targets_of (spends_by es hs numbers)) ≤ length numbers
+shown_few es hs [] = omega arith
+shown_few es hs (n ∷ ns) = by (leaf_at n hs) (shown_few es hs ns)
+  where
+    by : (x : Option Leaf) → length (targets_of (spends_by es hs ns)) ≤ length ns → length (targets_of (somes (option_map (spend_of es n) x ∷ map (λ i. option_map (spend_of es i) (leaf_at i hs)) ns))) ≤ suc (length ns)
+    by None le = omega (arith, le)
+    by (Some leaf) le = omega (arith, le)
