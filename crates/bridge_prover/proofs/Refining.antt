@@ -1,7 +1,8 @@
 -- A bridge says and does what the proving node says and does, and stays a bridge.
 use Rattle.std.proofs.Common.{◌≡◌, ℕ, zero, suc, ◌+◌, ◌<◌, ◌≤◌, ◌^◌, Bool, true, false, List, [], ◌∷◌, length, Option, Some, None, refl, sym, ap, ap₂, ◌∙◌, subst, ⊎_elim, arith}
-use Rattle.std.specs.Prelude.{nat_le, option_map, if◌then◌else◌}
-use Rattle.std.proofs.lemmas.Bool.{cases_Bool, leb-true, le-leb}
+use Rattle.std.specs.Prelude.{nat_le, option_map, slice_get, take, drop, if◌then◌else◌}
+use Rattle.std.proofs.lemmas.Bool.{cases_Bool, leb-true}
+use Rattle.std.proofs.lemmas.Option.{none-some, same_Some}
 use Rattle.uo_base.specs.declared.event.Limits.{Limits}
 use Rattle.uo_base.specs.declared.event.Net.{Net}
 use Rattle.uo_digest.specs.declared.digest.Digest.{Digest}
@@ -20,17 +21,19 @@ use Rattle.node_rules.specs.Reading.{Handed}
 use Rattle.node_rules.specs.Judging.{Rules, Evidence, own, refusal, message_of, proof_of}
 use Rattle.node_rules.specs.Machine.{ChainEvent, BlockCame, RollbackCame, StrayCame, Level, State, Outcome, chain_of, height_of, back, by_refusal, is_made, verdict_by}
 use Rattle.node_rules.specs.Proving.{written_text, text_beside}
+use Rattle.bridge_forest.specs.Blocks.{all_restored}
 use Rattle.output_index.specs.Held.{Held}
 use Rattle.reorg_undo.specs.Undo.{UndoRecord}
 use Rattle.compact_node.specs.Node.{gone_to}
-use Rattle.bridge_prover.specs.Own.{own_in}
-use Rattle.bridge_prover.specs.Bridge.{BridgeState, fresh_bridge, refusal_on, chain_back, verdict_on, bridge_with, bridge_by, after_block, undone_by, gone_back, next_bridge, proof_by, message_by, told_if, message_on}
+use Rattle.bridge_prover.specs.Own.{own_in, cut_in, unspent_in}
+use Rattle.bridge_prover.specs.Bridge.{BridgeState, fresh_bridge, refusal_on, chain_before, chain_back, restored_in, verdict_on, bridge_with, bridge_by, after_block, undone_by, gone_back, next_bridge, proof_by, message_by, told_if, message_on}
+use Rattle.bridge_prover.specs.Judged.{CanUndo}
 use Rattle.bridge_prover.specs.Standing.{Undoes, GiveBack, Stands, IsBridge}
 use Rattle.bridge_prover.specs.Laws.{own_outcome, text_by, own_text, IsAsOwn, BridgeIsOwn, FreshStands, FreshIsBridge, NextIsBridge}
 use Rattle.bridge_prover.proofs.Giving.{length-after, older_few}
 use Rattle.bridge_prover.proofs.Owning.{own_same, proof_same}
 use Rattle.bridge_prover.proofs.Next.{IsAt, at_level, at-then, next_is}
-use Rattle.bridge_prover.proofs.Undoing.{IsLast, at-undone}
+use Rattle.bridge_prover.proofs.Undoing.{IsLast, at-undone, can_undo}
 
 pub fresh_stands : FreshStands
 fresh_stands H text net limits = record { chain = refl; entries = refl; index = refl; undo = tt }
@@ -135,6 +138,40 @@ module _ (H : List ℕ → Digest) (text : Leaf → List ℕ) where
             levels = record { now = l; older = ls };
             stands = at.stands;
           }
+
+  -- the newest record is the head of them
+  pub head_of : (u : UndoRecord) (us : List UndoRecord) → Some u ≡ slice_get us 0 → us ≡ u ∷ drop 1 us
+  head_of u [] e = absurd (none-some u (sym e))
+  head_of u (w ∷ us) e = ap (λ x. x ∷ us) (sym (same_Some u w e))
+
+  pub can_go_back : (s : BridgeState) (u : UndoRecord) → IsBridge H text s → Some u ≡ slice_get s.undo 0 → CanUndo H text s u
+  can_go_back s u is e = by is.levels.older (drop 1 s.undo) (subst (GiveBack s.held is.levels.now is.levels.older) (head_of u s.undo e) is.stands.undo)
+    where
+      by : (ls : List Level) (us : List UndoRecord) → GiveBack s.held is.levels.now ls (u ∷ us) → CanUndo H text s u
+      by [] us g = absurd g
+      by (l ∷ ls) us g = can_undo H text s is.levels.now l ls u us (record {
+        counted = ap (λ (c : Chain). c.leaves) is.stands.chain;
+        entries_are = is.stands.entries;
+        index = is.stands.index;
+        below = is.below;
+        rise = is.rise;
+        undoes = g.0;
+        held = g.1;
+        later = g.2;
+      })
+
+  -- what the calls leave that undo the newest block is again what a bridge keeps
+  pub undone_like : (s : BridgeState) (u : UndoRecord) → IsBridge H text s → Some u ≡ slice_get s.undo 0 →
+      (es front : List (Option Digest)) (hs left : List Held) (ns ms : List ℕ) (undo : List UndoRecord) → ns ≡ u.spent → front ≡ take u.leaves s.entries → es ≡ all_restored (restored_in H text s.held ns) front →
+      ms ≡ u.spent → left ≡ cut_in u.leaves s.held → hs ≡ unspent_in ms left → undo ≡ drop 1 s.undo →
+      IsBridge H text (record { rules = s.rules; chain = chain_before u; entries = es; held = hs; undo = undo })
+  undone_like s u is e es front hs left ns ms undo n f x m l h o =
+      let gone = subst (λ us. IsBridge H text (undone_by H text us s)) (head_of u s.undo e) (one_back-is s is) in
+      let es_are : es ≡ all_restored (restored_in H text s.held u.spent) (take u.leaves s.entries) = x ∙ ap₂ (λ ns front. all_restored (restored_in H text s.held ns) front) n f in
+      let hs_are : hs ≡ unspent_in u.spent (cut_in u.leaves s.held) = h ∙ ap₂ unspent_in m l in
+      subst (λ us. IsBridge H text (record { rules = s.rules; chain = chain_before u; entries = es; held = hs; undo = us })) (sym o)
+      (subst (λ y. IsBridge H text (record { rules = s.rules; chain = chain_before u; entries = es; held = y; undo = drop 1 s.undo })) (sym hs_are)
+      (subst (λ y. IsBridge H text (record { rules = s.rules; chain = chain_before u; entries = y; held = unspent_in u.spent (cut_in u.leaves s.held); undo = drop 1 s.undo })) (sym es_are) gone))
 
   pub back-is : (k : ℕ) (s : BridgeState) → IsBridge H text s → IsBridge H text (gone_back H text k s)
   back-is zero s is = is

@@ -94,4 +94,4 @@ shown_few es hs (n ∷ ns) = by (leaf_at n hs) (shown_few es hs ns)
   where
     by : (x : Option Leaf) → length (targets_of (spends_by es hs ns)) ≤ length ns → length (targets_of (somes (option_map (spend_of es n) x ∷ map (λ i. option_map (spend_of es i) (leaf_at i hs)) ns))) ≤ suc (length ns)
     by None le = omega (arith, le)
-    by (Some leaf) le = omega (arith, le)
+    by (Some output) le = omega (arith, le)

@@ -1,6 +1,6 @@
 -- What a verdict tells of the levels, how many there are, and what a rollback costs.
 use Rattle.std.proofs.Common.{◌≡◌, ℕ, zero, suc, ◌+◌, ◌-◌, ◌*◌, ◌≤◌, ◌^◌, Bool, true, false, List, [], ◌∷◌, map, length, take, drop, Option, Some, None, refl, sym, ap, ap₂, ◌∙◌, subst, arith}
-use Rattle.std.specs.Prelude.{nat_le, sum_by, Result, Ok, Err, IfOk, OnOk}
+use Rattle.std.specs.Prelude.{nat_le, slice_get, sum_by, Result, Ok, Err, IfOk, OnOk}
 use Rattle.std.proofs.lemmas.Bool.{leb-true, leb-false}
 use Rattle.std.proofs.lemmas.List.{length-take, length-drop, length-map}
 use Rattle.std.proofs.lemmas.List.Sums.{sum_by-cons}
@@ -28,7 +28,7 @@ use Rattle.bridge_prover.specs.Bridge.{BridgeState, chain_before, chain_back, re
 use Rattle.bridge_prover.specs.Standing.{GiveBack, IsBridge}
 use Rattle.bridge_prover.specs.Laws.{chains_of, LevelsTold}
 use Rattle.bridge_prover.proofs.Next.{IsAt, at_level}
-use Rattle.bridge_prover.proofs.Refining.{chain-back, give_long, at-back}
+use Rattle.bridge_prover.proofs.Refining.{chain-back, give_long, at-back, head_of}
 
 map_taken : {X Y : Type 0} (f : X → Y) (k : ℕ) (xs : List X) → map f (take k xs) ≡ take k (map f xs)
 map_taken f zero xs = refl
@@ -104,6 +104,19 @@ module _ (H : List ℕ → Digest) (text : Leaf → List ℕ) where
 
   rows_more : (n m : ℕ) → n ≤ m → rows n ≤ rows m
   rows_more n m le = let f = rows_fit m in rows_least n (rows m) (omega (arith, f, le))
+
+  -- what the newest block costs
+  pub undo_cost : (s : BridgeState) (u : UndoRecord) → Some u ≡ slice_get s.undo 0 → (before here after : ℕ) (ns : List ℕ) (front : List (Option Digest)) → ns ≡ u.spent → front ≡ take u.leaves s.entries → here ≡ before →
+      after ≤ here + length ns * (rows (length front) + 1) → after ≤ before + spent_by 1 s.undo * (rows (length s.entries) + 1)
+  undo_cost s u e before here after ns front n f same le =
+      let r = rows (length s.entries) in
+      let few : length front ≤ length s.entries = (let a = ap length f in let b = length-take u.leaves s.entries in omega (arith, a, b)) in
+      let low : rows (length front) + 1 ≤ r + 1 = (let m = rows_more _ _ few in omega (arith, m)) in
+      let is : spent_by 1 s.undo ≡ length u.spent = ap (spent_by 1) (head_of H text u s.undo e) ∙ (let z = sum_by-cons (λ (u : UndoRecord). length u.spent) u [] in omega (arith, z)) in
+      let count : length ns ≡ spent_by 1 s.undo = ap length n ∙ sym is in
+      let le' : after ≤ here + spent_by 1 s.undo * (rows (length front) + 1) = subst (λ x. after ≤ here + x * (rows (length front) + 1)) count le in
+      let bound : spent_by 1 s.undo * (rows (length front) + 1) ≤ spent_by 1 s.undo * (r + 1) = mul-le-mul_left (spent_by 1 s.undo) low in
+      omega (arith, same, le', bound)
 
   pub cost-more : (k : ℕ) (s : BridgeState) (before here after : ℕ) → here ≤ before + spent_by k s.undo * (rows (length s.entries) + 1) →
       after ≤ here + spent_by 1 (gone_back H text k s).undo * (rows (length (gone_back H text k s).entries) + 1) → after ≤ before + spent_by (k + 1) s.undo * (rows (length s.entries) + 1)

@@ -163,7 +163,7 @@ impl<D: Digester> Bridge<D> {
         ensures next { self.new ≡ next_bridge D.digest_of leaf_text self.old (RollbackCame count) }
         ensures steps { steps.new ≤ steps.old + most_steps self.old (RollbackCame count) }
     {
-        let kept = self.undo.kept();
+        let kept = self.kept_levels();
         if count <= kept {
             self.go_back(count, steps);
             self.gone_to(count)
