@@ -16,6 +16,8 @@ mod find;
 mod held;
 mod laws;
 mod message;
+#[cfg(test)]
+mod tests;
 
 pub use bridge::{Bridge, Proved};
 pub use laws::{
