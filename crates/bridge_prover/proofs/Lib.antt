@@ -1,0 +1,13 @@
+pub mod Gathering
+pub mod Rising
+pub mod Indexing
+pub mod Showing
+pub mod Restoring
+pub mod Giving
+pub mod Owning
+pub mod Next
+pub mod Undoing
+pub mod Deciding
+pub mod Refining
+pub mod Telling
+pub mod Throughout

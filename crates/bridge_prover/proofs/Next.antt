@@ -1,0 +1,252 @@
+-- What a bridge keeps after a block is again what a bridge keeps, and stands for the next level.
+use Rattle.std.proofs.Common.{◌≡◌, ◌≢◌, ℕ, zero, suc, ◌+◌, ◌<◌, ◌≤◌, ◌^◌, true, List, [], ◌∷◌, ◌++◌, map, set, take, length, Option, Some, None, refl, sym, ap, ap₂, ◌∙◌, subst, arith}
+use Rattle.std.specs.Prelude.{slice_get, nat_lt, nat_le, option_map, unwrap_or, All, AllPairs}
+use Rattle.std.specs.List.{AllByRecursion}
+use Rattle.std.proofs.lemmas.Bool.{and_parts, ltb-true, leb-true}
+use Rattle.std.proofs.lemmas.List.{length-map, length-append, append-nil, set-append_left, length-take}
+use Rattle.std.proofs.lemmas.Option.{slice_get_within}
+use Rattle.uo_digest.specs.declared.digest.Digest.{Digest}
+use Rattle.forest_place.specs.Position.{place_at}
+use Rattle.forest_model.specs.Right.{entries}
+use Rattle.forest_model.specs.Deletion.{entries_without}
+use Rattle.block_codec.specs.Block.{Block}
+use Rattle.leaf_record.specs.Leaf.{Leaf}
+use Rattle.leaf_record.specs.History.{History, spent}
+use Rattle.proof_wire.specs.BlockProof.{targets_of}
+use Rattle.block_rules.specs.declared.chain.Chain.{Chain}
+use Rattle.block_rules.specs.declared.chain.Outside.{Outside}
+use Rattle.block_rules.specs.declared.refusal.Refusal.TheVariants as Why
+use Rattle.block_rules.specs.Steps.{unless, first_of}
+use Rattle.block_rules.specs.Blocks.{external, new_records}
+use Rattle.block_rules.specs.Rules.{block_steps, has_room}
+use Rattle.block_rules.specs.Money.{spends_of, money_steps}
+use Rattle.block_rules.proofs.Firsts.{each_passes, append_passes, unless-passed}
+use Rattle.node_rules.specs.Judging.{Rules, Evidence, own, refusal, history_after}
+use Rattle.node_rules.specs.Machine.{Level, State, chain_of}
+use Rattle.node_rules.specs.Accepting.{shape_fault}
+use Rattle.node_rules.proofs.Spending.{entries-after}
+use Rattle.output_index.specs.Held.{Held, IsAbove, is_spent, leaf_at, with_live, NumbersRise}
+use Rattle.output_index.specs.Indexed.{IsIndexOf}
+use Rattle.output_index.proofs.Standing.{inserted_is_added, spent_is_spent, there_is_live}
+use Rattle.output_index.proofs.HeldLaws.{above-with_live}
+use Rattle.reorg_undo.specs.Undo.{UndoRecord}
+use Rattle.bridge_forest.specs.State as forest
+use Rattle.bridge_prover.specs.Own.{own_in, numbered, spent_in}
+use Rattle.bridge_prover.specs.Bridge.{BridgeState, refusal_on, record_of, dropped, bridge_with, spends_by}
+use Rattle.bridge_prover.specs.Judged.{IsReady}
+use Rattle.bridge_prover.specs.Standing.{IsLiveIn, Undoes, AreHeld, GiveBack, Stands, IsBridge}
+use Rattle.bridge_prover.proofs.Indexing.{above-numbered, append_same}
+use Rattle.bridge_prover.proofs.Owning.{all_index, own_same, live_held, live_entries, live_each, apart, shaped}
+use Rattle.bridge_prover.proofs.Rising.{all_mapped, rise-numbered, rise-spent, rise-forgotten, above-forgotten, leaf-append, leaf-spent}
+use Rattle.bridge_prover.proofs.Giving.{length-spent, length-after, differ_from, gone_after, GoneIn, IsOld, all_old, give_held, give_taken, give_forgotten, spent_there, index-forgotten}
+
+-- the bridge stands for these levels, and its index is in order
+pub record IsAt (H : List ℕ → Digest) (text : Leaf → List ℕ) (t : State) (s : BridgeState) : Type 0 where
+  pub stands : Stands H text t s
+  pub below : IsAbove s.chain.leaves s.held
+  pub rise : NumbersRise s.held
+
+pub at_level : (H : List ℕ → Digest) (text : Leaf → List ℕ) (t : State) (s : BridgeState) → IsBridge H text s → Stands H text t s → IsAt H text t s
+at_level H text t s is stands = record { stands = stands; below = is.below; rise = is.rise }
+
+-- ---- lists
+
+set_twice : {X : Type 0} (xs : List (Option X)) (i j : ℕ) → set (set xs i None) j None ≡ set (set xs j None) i None
+set_twice [] i j = refl
+set_twice (x ∷ xs) zero zero = refl
+set_twice (x ∷ xs) zero (suc j) = refl
+set_twice (x ∷ xs) (suc i) zero = refl
+set_twice (x ∷ xs) (suc i) (suc j) = ap (λ ys. x ∷ ys) (set_twice xs i j)
+
+spent-set : (ns : List ℕ) (us : History) (n : ℕ) → spent ns (set us n None) ≡ set (spent ns us) n None
+spent-set [] us n = refl
+spent-set (m ∷ ns) us n = ap (λ xs. set xs m None) (spent-set ns us n) ∙ set_twice (spent ns us) n m
+
+spent-append : (ns : List ℕ) (us vs : History) → AllByRecursion (IsLiveIn us) ns → spent ns (us ++ vs) ≡ spent ns us ++ vs
+spent-append [] us vs a = refl
+spent-append (n ∷ ns) us vs a =
+    let below = slice_get_within us n (Some a.0.0) a.0.1 in
+    ap (λ xs. set xs n None) (spent-append ns us vs a.1) ∙ set-append_left (spent ns us) vs n None (omega (arith, below, length-spent ns us))
+
+-- ---- the index
+
+index-added : (new : List Leaf) (hs : List Held) (us : History) → IsIndexOf hs us → IsIndexOf (hs ++ numbered (length us) new) (us ++ map Some new)
+index-added [] hs us i = subst (λ x. IsIndexOf x (us ++ [])) (sym (append-nil hs)) (subst (IsIndexOf hs) (sym (append-nil us)) i)
+index-added (leaf ∷ new) hs us i =
+    let h : Held = record { number = length us; leaf = leaf; live = true } in
+    let rest = index-added new (hs ++ h ∷ []) (us ++ Some leaf ∷ []) (inserted_is_added leaf hs us i) in
+    let long : length (us ++ Some leaf ∷ []) ≡ suc (length us) = length-append us (Some leaf ∷ []) ∙ (let e : length us + 1 ≡ suc (length us) = omega arith in e) in
+    let held : (hs ++ h ∷ []) ++ numbered (length (us ++ Some leaf ∷ [])) new ≡ hs ++ h ∷ numbered (suc (length us)) new = ap (λ n. (hs ++ h ∷ []) ++ numbered n new) long ∙ append_same hs (h ∷ []) (numbered (suc (length us)) new) in
+    subst (λ x. IsIndexOf x (us ++ Some leaf ∷ map Some new)) held (subst (IsIndexOf ((hs ++ h ∷ []) ++ numbered (length (us ++ Some leaf ∷ [])) new)) (append_same us (Some leaf ∷ []) (map Some new)) rest)
+
+index-spent : (ns : List ℕ) (hs : List Held) (us : History) → IsIndexOf hs us → IsIndexOf (spent_in ns hs) (spent ns us)
+index-spent [] hs us i = i
+index-spent (n ∷ ns) hs us i = subst (IsIndexOf (spent_in ns (with_live n _ hs))) (spent-set ns us n) (index-spent ns (with_live n _ hs) (set us n None) (spent_is_spent n hs us i))
+
+-- after a block
+index-after : (ns : List ℕ) (new : List Leaf) (hs : List Held) (us : History) → AllByRecursion (IsLiveIn us) ns → IsIndexOf hs us → IsIndexOf (spent_in ns (hs ++ numbered (length us) new)) (history_after us ns new)
+index-after ns new hs us live i = subst (IsIndexOf (spent_in ns (hs ++ numbered (length us) new))) (spent-append ns us (map Some new) live) (index-spent ns (hs ++ numbered (length us) new) (us ++ map Some new) (index-added new hs us i))
+
+above-spent : (n : ℕ) (ns : List ℕ) (hs : List Held) → IsAbove n hs → IsAbove n (spent_in ns hs)
+above-spent n [] hs a = a
+above-spent n (m ∷ ns) hs a = above-spent n ns (with_live m _ hs) (above-with_live n m _ hs a)
+
+map_twice : {X Y Z : Type 0} (f : X → Y) (g : Y → Z) (xs : List X) → map (λ x. g (f x)) xs ≡ map g (map f xs)
+map_twice f g [] = refl
+map_twice f g (x ∷ xs) = ap (λ ys. g (f x) ∷ ys) (map_twice f g xs)
+
+-- the entries after a block
+pub entries-then : (H : List ℕ → Digest) (text : Leaf → List ℕ) (us : History) (ns : List ℕ) (new : List Leaf) → entries_without ns (entries H text us) ++ map Some (map (λ leaf. H (text leaf)) new) ≡ entries H text (history_after us ns new)
+entries-then H text us ns new = ap (λ xs. entries_without ns (entries H text us) ++ xs) (sym (map_twice (λ leaf. H (text leaf)) Some new)) ∙ sym (entries-after H text us ns new)
+
+-- ---- the room for a block
+
+room_before : (rules : Rules) (chain : Chain) (b : Block) → first_of (block_steps rules.limits chain b) ≡ None →
+    (chain.blocks < 2 ^ 31) × (chain.leaves + length (new_records b chain.blocks) ≤ rules.limits.leaves)
+room_before rules chain b passed =
+    let sixth : unless (has_room rules.limits chain (length (new_records b chain.blocks))) Why.Full ≡ None = each_passes (block_steps rules.limits chain b) 6 passed in
+    let both = and_parts (nat_lt chain.blocks (2 ^ 31)) (nat_le (chain.leaves + length (new_records b chain.blocks)) rules.limits.leaves) (unless-passed _ _ sixth) in
+    (ltb-true _ _ both.0, leb-true _ _ both.1)
+
+room : (rules : Rules) (chain : Chain) (b : Block) (e : Evidence) → refusal rules chain b e ≡ None →
+    (chain.blocks < 2 ^ 31) × (chain.leaves + length (new_records b chain.blocks) ≤ rules.limits.leaves)
+room rules chain b e h = room_before rules chain b (append_passes (block_steps rules.limits chain b) (e.steps ++ money_steps (spends_of rules.net chain.blocks b) e.found) h).0
+
+-- ---- a block that breaks no rule
+
+module _ (H : List ℕ → Digest) (text : Leaf → List ℕ) (t : State) (s : BridgeState) (at : IsAt H text t s) (b : Block) (passes : refusal s.rules s.chain b (own t.now.history (external b s.chain.blocks)) ≡ None) where
+  abbrev us : History
+  us = t.now.history
+
+  abbrev ext : List Outside
+  ext = external b s.chain.blocks
+
+  abbrev new : List Leaf
+  new = new_records b s.chain.blocks
+
+  abbrev ns : List ℕ
+  ns = (own us ext).numbers
+
+  abbrev after : History
+  after = history_after us ns new
+
+  abbrev held : List Held
+  held = spent_in ns (s.held ++ numbered s.chain.leaves new)
+
+  counted : length us ≡ s.chain.leaves
+  counted = sym (ap (λ (c : Chain). c.leaves) at.stands.chain)
+
+  live : AllByRecursion (IsLiveIn us) ns
+  live = live_each s.held us at.rise at.stands.index H text s.rules s.chain b passes
+
+  index : IsIndexOf held after
+  index = subst (λ n. IsIndexOf (spent_in ns (s.held ++ numbered n new)) after) counted (index-after ns new s.held us live at.stands.index)
+
+  rise : NumbersRise held
+  rise = rise-spent ns _ (rise-numbered s.chain.leaves new s.held at.rise at.below)
+
+  still : (i : ℕ) (leaf : Leaf) → leaf_at i s.held ≡ Some leaf → leaf_at i held ≡ Some leaf
+  still i leaf e = leaf-spent i ns (s.held ++ numbered s.chain.leaves new) ∙ leaf-append i leaf s.held (numbered s.chain.leaves new) e
+
+  -- the entries that can be forgotten
+  old : AllByRecursion (IsOld s.held t.now t.older 99) (dropped s.undo) × AllPairs (λ i j. i ≢ j) (dropped s.undo)
+  old = by (slice_get s.undo 99) refl
+    where
+      by : (x : Option UndoRecord) → slice_get s.undo 99 ≡ x → let ms = unwrap_or (option_map (λ (u : UndoRecord). u.spent) x) [] in AllByRecursion (IsOld s.held t.now t.older 99) ms × AllPairs (λ i j. i ≢ j) ms
+      by None e = (tt, λ i j d lt below. absurd (omega (arith, below)))
+      by (Some u) e = all_old 99 s.held t.now t.older s.undo u at.stands.undo e
+
+  old_spent : AllByRecursion (λ n. is_spent n held ≡ true) (dropped s.undo)
+  old_spent = all_mapped (IsOld s.held t.now t.older 99) (λ n. is_spent n held ≡ true) (λ n o. spent_there held after rise index n o.leaf (gone_after us ns new n o.newest) (still n o.leaf o.held)) (dropped s.undo) old.0
+
+  old_gone : AllByRecursion (λ n. AllByRecursion (GoneIn n) (take 100 (t.now ∷ t.older))) (dropped s.undo)
+  old_gone = all_mapped (IsOld s.held t.now t.older 99) (λ n. AllByRecursion (GoneIn n) (take 100 (t.now ∷ t.older))) (λ n o. (o.newest, o.others)) (dropped s.undo) old.0
+
+  module _ (hash : Digest) where
+    abbrev level : Level
+    level = record { blocks = suc t.now.blocks; tip = hash; history = after }
+
+    abbrev then : BridgeState
+    then = bridge_with H text s hash ns new
+
+    back : Undoes (record_of s.chain ns) level t.now
+    back = record { chain = at.stands.chain; next = refl; new = new; after = refl; live = live; apart = apart s.held us at.rise at.stands.index H text s.rules s.chain b passes }
+
+    all_back : GiveBack held level (t.now ∷ t.older) (record_of s.chain ns ∷ s.undo)
+    all_back = (
+      back,
+      λ i leaf e. still i leaf (there_is_live i leaf s.held us at.rise at.stands.index e).1,
+      give_held s.held held (length us) (λ i leaf lt e. still i leaf e) t.now t.older s.undo (omega arith) at.stands.undo,
+    )
+
+    stands-then : Stands H text (record { now = level; older = take 100 (t.now ∷ t.older) }) then
+    stands-then = record {
+      chain = ap (λ (c : Chain). (let d : Chain = record { blocks = suc c.blocks; tip = hash; leaves = c.leaves + length new } in d)) at.stands.chain ∙ ap (λ n. (let d : Chain = record { blocks = suc t.now.blocks; tip = hash; leaves = n } in d)) (sym (length-after us ns new));
+      entries = ap (λ es. entries_without ns es ++ map Some (map (λ leaf. H (text leaf)) new)) at.stands.entries ∙ entries-then H text us ns new;
+      index = index-forgotten (dropped s.undo) held after rise old_spent (differ_from (dropped s.undo) old.1) index;
+      undo = give_forgotten (dropped s.undo) held level (take 100 (t.now ∷ t.older)) (take 100 (record_of s.chain ns ∷ s.undo)) old_gone (give_taken 100 held level (t.now ∷ t.older) (record_of s.chain ns ∷ s.undo) all_back);
+    }
+
+    pub at-then : IsAt H text (record { now = level; older = take 100 (t.now ∷ t.older) }) then
+    at-then = record {
+      stands = stands-then;
+      below = above-forgotten _ (dropped s.undo) held (above-spent _ ns _ (above-numbered s.chain.leaves new s.held at.below));
+      rise = rise-forgotten (dropped s.undo) held rise;
+    }
+
+module _ (H : List ℕ → Digest) (text : Leaf → List ℕ) (s : BridgeState) (b : Block) (is : IsBridge H text s) (passes : refusal_on s b ≡ None) where
+  abbrev t : State
+  t = is.levels
+
+  abbrev here : IsAt H text t s
+  here = at_level H text t s is is.stands
+
+  same : own_in s.held (external b s.chain.blocks) ≡ own t.now.history (external b s.chain.blocks)
+  same = own_same s.held t.now.history is.rise is.stands.index (external b s.chain.blocks)
+
+  by_history : refusal s.rules s.chain b (own t.now.history (external b s.chain.blocks)) ≡ None
+  by_history = subst (λ e. refusal s.rules s.chain b e ≡ None) same passes
+
+  numbers : (own_in s.held (external b s.chain.blocks)).numbers ≡ (own t.now.history (external b s.chain.blocks)).numbers
+  numbers = ap (λ (e : Evidence). e.numbers) same
+
+  there : (hash : Digest) → IsBridge H text (bridge_with H text s hash (own t.now.history (external b s.chain.blocks)).numbers (new_records b s.chain.blocks))
+  there hash =
+      let fits = room s.rules s.chain b (own t.now.history (external b s.chain.blocks)) by_history in
+      let at = at-then H text t s here b by_history hash in
+      record {
+        low = omega (arith, fits.0);
+        within = fits.1;
+        few = is.few;
+        below = at.below;
+        rise = at.rise;
+        kept = omega (arith, length-take 100 (record_of s.chain (own t.now.history (external b s.chain.blocks)).numbers ∷ s.undo));
+        levels = _;
+        stands = at.stands;
+      }
+
+  -- a block that passes may be taken
+  pub ready : (hash : Digest) (numbers' : List ℕ) → numbers' ≡ (own_in s.held (external b s.chain.blocks)).numbers → length numbers' < 2 ^ 32 → IsReady H text s hash numbers' (new_records b s.chain.blocks)
+  ready hash numbers' e short =
+      let us = t.now.history in
+      let ns = (own us (external b s.chain.blocks)).numbers in
+      let index = is.stands.index in
+      let fits = room s.rules s.chain b (own us (external b s.chain.blocks)) by_history in
+      let es = is.stands.entries in
+      let short' : length ns < 2 ^ 32 = subst (λ xs. length xs < 2 ^ 32) (e ∙ numbers) short in
+      subst (λ xs. IsReady H text s hash xs (new_records b s.chain.blocks)) (sym (e ∙ numbers)) (record {
+        live = subst (λ x. All (λ i. forest.is_live x i ≡ true) ns) (sym es) (live_entries s.held us is.rise index H text s.rules s.chain b by_history);
+        held = live_held s.held us is.rise index H text s.rules s.chain b by_history;
+        apart = apart s.held us is.rise index H text s.rules s.chain b by_history;
+        short = short';
+        shape = subst (λ x. shape_fault (length x) [] 0 (map (place_at (length x)) (targets_of (spends_by x s.held ns))) ≡ None) (sym es) (subst (λ xs. shape_fault (length (entries H text us)) [] 0 (map (place_at (length (entries H text us))) (targets_of (spends_by (entries H text us) s.held xs))) ≡ None) numbers (shaped s.held us is.rise index H text s.rules s.chain b by_history));
+        counted = ap length es ∙ (length-map us _ ∙ sym (ap (λ (c : Chain). c.leaves) is.stands.chain));
+        few = omega (arith, fits.1, is.few);
+        low = fits.0;
+        old = all_index _ _ (old_spent H text t s here b by_history);
+        old_apart = (old H text t s here b by_history).1;
+        next = there hash;
+      })
+
+  pub next_is : (hash : Digest) → IsBridge H text (bridge_with H text s hash (own_in s.held (external b s.chain.blocks)).numbers (new_records b s.chain.blocks))
+  next_is hash = subst (λ xs. IsBridge H text (bridge_with H text s hash xs (new_records b s.chain.blocks))) (sym numbers) (there hash)

@@ -1,0 +1,6 @@
+use Rattle.leaf_record.specs.Leaf.{leaf_text}
+use Rattle.bridge_prover.proofs.Refining.{fresh_like}
+use Rattle.bridge_prover.proofs.bridge.Bridge.new.Goals as goal
+
+pub invariant_of-result : goal.invariant_of-result
+invariant_of-result g c = fresh_like g.D.Digester.digest_of leaf_text c.args.net c.args.limits _ _ _ c.new.ensures.entries c.new-2.ensures c.in_ok-new.ensures c.requires

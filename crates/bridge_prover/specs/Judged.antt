@@ -1,0 +1,62 @@
+-- What the calls on a block answer.
+use Rattle.std.specs.Prelude.{◌≡◌, ◌≢◌, ℕ, ◌+◌, ◌<◌, ◌≤◌, ◌^◌, true, false, List, [], ◌++◌, map, take, length, Option, Some, None, All, AllPairs}
+use Rattle.uo_digest.specs.declared.digest.Digest.{Digest}
+use Rattle.forest_place.specs.Position.{place_at}
+use Rattle.block_codec.specs.Block.{Block}
+use Rattle.leaf_record.specs.Leaf.{Leaf}
+use Rattle.proof_wire.specs.BlockProof.{targets_of}
+use Rattle.block_rules.specs.Blocks.{external}
+use Rattle.block_rules.specs.declared.chain.Found.{Found}
+use Rattle.block_rules.specs.declared.chain.Outside.{Outside}
+use Rattle.block_rules.specs.declared.refusal.Refusal.{Refusal}
+use Rattle.block_rules.specs.Money.{found_of}
+use Rattle.block_rules.specs.Steps.{first_of}
+use Rattle.node_rules.specs.Accepting.{shape_fault}
+use Rattle.bridge_forest.specs.State as forest
+use Rattle.output_index.specs.Held.{Held, is_live, is_spent}
+use Rattle.reorg_undo.specs.Undo.{UndoRecord}
+use Rattle.bridge_prover.specs.Own.{newest_in, missing_in, leaves_in, own_in, numbered, spent_in, cut_in}
+use Rattle.bridge_prover.specs.Bridge.{BridgeState, refusal_on, spends_by, proof_by, message_by, bridge_with, after_block, dropped, undone_by}
+use Rattle.bridge_prover.specs.Standing.{IsBridge}
+
+-- the first external input of which no live entry is held
+abbrev pub first_missing : List Held → List Outside → Option Refusal
+first_missing hs ext = first_of (map (missing_in hs) ext)
+
+-- these are the entries that the external inputs spend, none of which is missing, and this is what they are
+pub record AreFound (hs : List Held) (ext : List Outside) (numbers : List ℕ) (found : List Found) : Type 0 where
+  pub each : map Some numbers ≡ newest_in hs ext
+  pub passes : first_missing hs ext ≡ None
+  pub are : found ≡ map (λ leaf. found_of leaf.rest) (leaves_in hs numbers)
+
+-- all that has to hold so that a block may be taken which spends these entries: they are live and different, their places have
+-- shape, there is room, what can be forgotten then is spent, and what the bridge keeps then is again what a bridge keeps
+pub record IsReady (H : List ℕ → Digest) (text : Leaf → List ℕ) (s : BridgeState) (hash : Digest) (numbers : List ℕ) (new : List Leaf) : Type 0 where
+  pub live : All (λ i. forest.is_live s.entries i ≡ true) numbers
+  pub held : All (λ i. is_live i s.held ≡ true) numbers
+  pub apart : AllPairs (λ i j. i ≢ j) numbers
+  pub short : length numbers < 2 ^ 32
+  pub shape : shape_fault (length s.entries) [] 0 (map (place_at (length s.entries)) (targets_of (spends_by s.entries s.held numbers))) ≡ None
+  pub counted : length s.entries ≡ s.chain.leaves
+  pub few : s.chain.leaves + length new < 2 ^ 40
+  pub low : s.chain.blocks < 2 ^ 31
+  pub old : All (λ i. is_spent i (spent_in numbers (s.held ++ numbered s.chain.leaves new)) ≡ true) (dropped s.undo)
+  pub old_apart : AllPairs (λ i j. i ≢ j) (dropped s.undo)
+  pub next : IsBridge H text (bridge_with H text s hash numbers new)
+
+-- no step fails, this is what is passed on, and this is what the bridge keeps then
+pub record IsProved (H : List ℕ → Digest) (text : Leaf → List ℕ) (s : BridgeState) (b : Block) (message : Option (List ℕ)) (t : BridgeState) : Type 0 where
+  pub passes : refusal_on s b ≡ None
+  pub says : message ≡ message_by (external b s.chain.blocks) (proof_by H s.entries s.held (own_in s.held (external b s.chain.blocks)).numbers)
+  pub next : t ≡ after_block H text s b
+
+-- all that has to hold so that the newest block can be undone: what it added is live, and what it spent is spent
+pub record CanUndo (H : List ℕ → Digest) (text : Leaf → List ℕ) (s : BridgeState) (u : UndoRecord) : Type 0 where
+  pub below : u.leaves ≤ length s.entries
+  pub counted : length s.entries ≡ s.chain.leaves
+  pub added : (i : ℕ) → u.leaves ≤ i → i < length s.entries → forest.is_live s.entries i ≡ true
+  pub added_held : (i : ℕ) → u.leaves ≤ i → i < s.chain.leaves → is_live i s.held ≡ true
+  pub given : All (λ i. i < length (take u.leaves s.entries)) u.spent
+  pub spent : All (λ i. forest.is_live (take u.leaves s.entries) i ≡ false) u.spent
+  pub spent_held : All (λ i. is_spent i (cut_in u.leaves s.held) ≡ true) u.spent
+  pub apart : AllPairs (λ i j. i ≢ j) u.spent

@@ -1,0 +1,376 @@
+//! The bridge.
+ghost use Rattle.std.specs.Prelude.{◌≡◌, ◌+◌, ◌*◌, ◌<◌, ◌≤◌, ◌^◌, length, option_map, None, Some, IfOk, IfErr, OnOk, OnErr};
+ghost use Rattle.block_codec.specs.Reading.{block_in};
+ghost use Rattle.forest_place.specs.Position.{rows};
+ghost use Rattle.leaf_record.specs.Leaf.{leaf_text};
+ghost use Rattle.node_rules.specs.Machine.{height_of};
+ghost use Rattle.uo_base.specs.FeedEvent.{event_of};
+
+use crate::entries::{digests_of, restore_all};
+use crate::find::{found_by, numbers_of};
+use crate::held::{cut, insert_all, keep, spend_all, undo_of, unspend_all};
+use crate::message::message_for;
+use block_codec::{BlockFault, BlockView, block_hash, read_block};
+use block_rules::{
+    Chain, Found, Outside, Refusal, RuleFault, Spends, Verdict, money_rules, shape_rules,
+};
+use bridge_forest::Forest;
+use leaf_record::LeafBuf;
+use output_index::Outputs;
+use reorg_undo::{Ring, Undo};
+use std::alloc::Global;
+use std::marker::Model;
+use std::sync::ledger::Ledger;
+use uo_base::{Event, Limits, Net, NoMemory};
+use uo_digest::{Digest, Digester, Steps};
+
+/// What a bridge says of an event, and the proof message that it passes on beside an accepted block which spends from outside.
+#[derive(Debug, Drop)]
+pub struct Proved {
+    /// What it says.
+    pub verdict: Verdict,
+    /// The message's bytes.
+    pub message: Option<Vec<u8>>,
+}
+
+/// A node that holds every output, by the digester `D`. It judges each block by what it holds, and proves it to others.
+#[derive(Drop)]
+pub struct Bridge<D: Digester> {
+    alloc: Global,
+    net: Net,
+    limits: Limits,
+    chain: Chain,
+    forest: Forest<D>,
+    outputs: Outputs,
+    undo: Ring<Undo>,
+    room: LeafBuf,
+}
+
+impl<D: Digester> Model for Bridge<D> {
+    ghost use Rattle.leaf_record.specs.Leaf.{leaf_text};
+    ghost use Rattle.node_rules.specs.Judging.{Rules};
+    ghost use Rattle.bridge_prover.specs.Bridge.{BridgeState};
+    ghost use Rattle.bridge_prover.specs.Standing.{IsBridge};
+
+    ghost Value = { BridgeState };
+
+    ghost view = { λ s. record { rules = record { net = s.net; limits = s.limits }; chain = s.chain; entries = s.forest.entries; held = s.outputs; undo = s.undo } };
+
+    ghost invariant = { λ s. IsBridge D.digest_of leaf_text (record { rules = record { net = s.net; limits = s.limits }; chain = s.chain; entries = s.forest.entries; held = s.outputs; undo = s.undo }) };
+}
+
+impl<D: Digester> Bridge<D> {
+    ghost use Rattle.block_codec.specs.Block.{block_hash_of};
+    ghost use Rattle.block_rules.specs.Judged.{ShapeJudged};
+    ghost use Rattle.block_rules.specs.declared.verdict.Verdict.TheVariants as Said;
+    ghost use Rattle.node_rules.specs.Laws.{kept_after};
+    ghost use Rattle.node_rules.specs.Machine.{BlockCame, RollbackCame, event_in};
+    ghost use Rattle.node_rules.specs.Reading.{nothing};
+    ghost use Rattle.compact_node.specs.Judged.{IsFirst};
+    ghost use Rattle.compact_node.specs.Node.{IsShort, gone_to};
+    ghost use Rattle.bridge_prover.specs.Bridge.{bridge_with, fresh_bridge, gone_back, message_by, message_on, most_steps, next_bridge, proof_by, refusal_on, spent_by, undone_by, verdict_on};
+    ghost use Rattle.bridge_prover.specs.Judged.{AreFound, IsProved, IsReady, first_missing};
+    ghost use Rattle.bridge_prover.specs.Laws.{LevelsTold, SaysAsOwn};
+    ghost use Rattle.bridge_prover.specs.Standing.{IsBridge};
+
+    /// A bridge with no block and no output, and room for what undoes a hundred blocks.
+    pub fn new(alloc: Global, net: Net, limits: Limits) -> Result<Bridge<D>, NoMemory>
+        requires { limits.leaves < 2 ^ 40 }
+        ensures { IfOk result (λ bridge. bridge ≡ fresh_bridge net limits) }
+    {
+        Ok(Bridge {
+            alloc,
+            net,
+            limits,
+            chain: Chain {
+                blocks: 0,
+                tip: Digest([0; 32]),
+                leaves: 0,
+            },
+            forest: Forest::new(alloc),
+            outputs: Outputs::new(alloc),
+            undo: Ring::new(alloc)?,
+            room: LeafBuf::new(alloc)?,
+        })
+    }
+
+    /// The blocks that were accepted.
+    pub fn chain(&self) -> Chain
+        ensures is { result ≡ self.now.chain }
+        ensures bridge { IsBridge D.digest_of leaf_text self.now }
+    {
+        self.chain
+    }
+
+    /// By how many blocks the bridge can go back.
+    pub fn kept_levels(&self) -> u32
+        ensures { result ≡ length self.now.undo }
+    {
+        self.undo.kept()
+    }
+
+    /// The entries of all outputs that were ever added.
+    pub fn forest(&self) -> &Forest<D>
+        ensures { result.now.entries ≡ self.now.entries }
+    {
+        &self.forest
+    }
+
+    /// The outputs, by number and by outpoint: those that are live, and those that the blocks spent which can be undone.
+    pub fn outputs(&self) -> &Outputs
+        ensures { result.now ≡ self.now.held }
+    {
+        &self.outputs
+    }
+
+    /// Judges an event by all outputs, and goes on where it is accepted; a message beside a block is not looked at. At a
+    /// refusal and where there is no memory the bridge stays as it was. A rollback by `count` blocks undoes the last `count`
+    /// accepted ones, or is too deep, exactly where `count` is above [`kept_levels`](Bridge::kept_levels).
+    pub fn step<L: Ledger>(
+        &mut self,
+        event: Event<'_>,
+        steps: &mut Steps<L>,
+    ) -> Result<Proved, NoMemory>
+        requires short { IsShort (event_of event) }
+        ensures verdict { IfOk result (λ p. p.verdict ≡ verdict_on self.old (event_in (event_of event.entry))) }
+
+        // Some exactly where a block was accepted that spends from outside.
+        ensures message { IfOk result (λ p. option_map (λ bytes. bytes.items) p.message ≡ message_on D.digest_of self.old (event_in (event_of event.entry))) }
+        ensures next { OnOk result (self.new ≡ next_bridge D.digest_of leaf_text self.old (event_in (event_of event.entry))) }
+        ensures stays { OnErr result (self.new ≡ self.old) }
+
+        // Which levels it can go back to then, and how many.
+        ensures levels { IfOk result (λ p. LevelsTold self.old p.verdict self.new) }
+        ensures kept { IfOk result (λ p. length self.new.undo ≡ kept_after (Some p.verdict) (length self.old.undo)) }
+
+        // Where it stands for what the proving node holds, it says what that node says, passes on what that one passes on, and
+        // stands for what that node holds then.
+        ensures refines { IfOk result (λ p. SaysAsOwn D.digest_of leaf_text self.old (event_in (event_of event.entry)) p.verdict (option_map (λ bytes. bytes.items) p.message) self.new) }
+        ensures steps { steps.new ≤ steps.old + most_steps self.old (event_in (event_of event.entry)) }
+    {
+        // What a bridge keeps is known.
+        let _chain = &self.chain;
+        match event {
+            Event::Block { block, .. } => self.take_bytes(block, steps),
+            Event::Rollback { count } => Ok(alone(self.roll_back(count, steps))),
+            Event::Stray => Ok(alone(Verdict::Stray)),
+        }
+    }
+
+    // Undoes so many blocks, where as many can be undone.
+    fn roll_back<L: Ledger>(&mut self, count: u32, steps: &mut Steps<L>) -> Verdict
+        ensures verdict { result ≡ verdict_on self.old (RollbackCame count) }
+        ensures next { self.new ≡ next_bridge D.digest_of leaf_text self.old (RollbackCame count) }
+        ensures steps { steps.new ≤ steps.old + most_steps self.old (RollbackCame count) }
+    {
+        let kept = self.kept_levels();
+        if count <= kept {
+            self.go_back(count, steps);
+            self.gone_to(count)
+        } else {
+            Verdict::TooDeep { asked: count, kept }
+        }
+    }
+
+    fn gone_to(&self, count: u32) -> Verdict
+        ensures { result ≡ gone_to count self.now.chain }
+    {
+        Verdict::RolledBack {
+            count,
+            height: newest_height(self.chain.blocks),
+            hash: self.chain.tip,
+            leaves: self.chain.leaves,
+        }
+    }
+
+    fn go_back<L: Ledger>(&mut self, count: u32, steps: &mut Steps<L>)
+        ensures next { self.new ≡ gone_back D.digest_of leaf_text count self.old }
+        ensures steps { steps.new ≤ steps.old + spent_by count self.old.undo * (rows (length self.old.entries) + 1) }
+    {
+        for _ in 0..count {
+            self.go_one_back(steps);
+        }
+    }
+
+    // The newest block, if one can be undone, is undone. This takes no memory.
+    fn go_one_back<L: Ledger>(&mut self, steps: &mut Steps<L>)
+        ensures next { self.new ≡ undone_by D.digest_of leaf_text self.old.undo self.old }
+        ensures steps { steps.new ≤ steps.old + spent_by 1 self.old.undo * (rows (length self.old.entries) + 1) }
+    {
+        let Some(undo) = self.undo.pop() else {
+            return;
+        };
+        self.forest.cut(undo.leaves, steps);
+        restore_all(
+            &mut self.forest,
+            &self.outputs,
+            &mut self.room,
+            &undo.spent,
+            steps,
+        );
+        cut(&mut self.outputs, undo.leaves, self.chain.leaves);
+        unspend_all(&mut self.outputs, &undo.spent);
+        self.chain = Chain {
+            blocks: undo.blocks,
+            tip: undo.tip,
+            leaves: undo.leaves,
+        };
+    }
+
+    // Goes on by a block that spends these entries, or leaves all as it was where there is no memory.
+    fn extend<L: Ledger>(
+        &mut self,
+        hash: Digest,
+        spends: &Spends<'_>,
+        numbers: Vec<u64>,
+        steps: &mut Steps<L>,
+    ) -> Result<Option<Vec<u8>>, NoMemory>
+        requires { IsReady D.digest_of leaf_text self.old hash numbers.items spends.now.new }
+        ensures says { IfOk result (λ m. option_map (λ bytes. bytes.items) m ≡ message_by spends.now.external (proof_by D.digest_of self.old.entries self.old.held numbers.items)) }
+        ensures next { OnOk result (self.new ≡ bridge_with D.digest_of leaf_text self.old hash numbers.items spends.now.new) }
+        ensures stays { OnErr result (self.new ≡ self.old) }
+        ensures steps { steps.new ≤ steps.old + length numbers.items * rows (length self.old.entries) + 2 * length spends.now.new + 40 }
+    {
+        let message = message_for::<D>(
+            self.alloc,
+            &self.forest,
+            &self.outputs,
+            spends.external(),
+            &numbers,
+        )?;
+        let digests = digests_of::<D, L>(self.alloc, &mut self.room, spends, steps)?;
+        self.forest.reserve(digests.len() as u64)?;
+        insert_all(self.alloc, &mut self.outputs, self.chain.leaves, spends)?;
+        // Nothing can fail from here on.
+        spend_all(&mut self.outputs, &numbers);
+        self.forest.apply_block(&numbers, &digests, steps);
+        let undo = undo_of(&self.chain, numbers);
+        keep(&mut self.undo, &mut self.outputs, undo);
+        self.chain = Chain {
+            blocks: self.chain.blocks + 1,
+            tip: hash,
+            leaves: self.chain.leaves + digests.len() as u64,
+        };
+        Ok(message)
+    }
+
+    // Judges a block, and goes on where it breaks no rule.
+    fn pass<L: Ledger>(
+        &mut self,
+        block: &BlockView<'_>,
+        hash: Digest,
+        steps: &mut Steps<L>,
+    ) -> Result<Option<Vec<u8>>, RuleFault>
+        requires { hash ≡ block_hash_of block.now }
+        ensures ok { IfOk result (λ m. IsProved D.digest_of leaf_text self.old block.now (option_map (λ bytes. bytes.items) m) self.new) }
+        ensures err { IfErr result (λ fault. IsFirst (refusal_on self.old block.now) fault) }
+        ensures stays { OnErr result (self.new ≡ self.old) }
+        ensures steps { steps.new ≤ steps.old + most_steps self.old (BlockCame (Some block.now) nothing) }
+    {
+        let spends = self.shape(block)?;
+        // A block that is not too heavy has few inputs, since it has a text.
+        let _bytes = block.bytes();
+        let (numbers, found) = self.look_up(spends.external())?;
+        match money_rules(&spends, &found) {
+            Ok(_) => match self.extend(hash, &spends, numbers, steps) {
+                Ok(message) => Ok(message),
+                Err(NoMemory) => Err(RuleFault::NoMemory),
+            },
+            Err(why) => Err(RuleFault::Refused(why)),
+        }
+    }
+
+    // Asks the rules on the block alone.
+    fn shape<'b>(&self, block: &BlockView<'b>) -> Result<Spends<'b>, RuleFault>
+        ensures judged { ShapeJudged self.now.rules.net self.now.rules.limits self.now.chain block.now result }
+        ensures bridge { IsBridge D.digest_of leaf_text self.now }
+    {
+        shape_rules(self.alloc, block, &self.chain, self.net, self.limits)
+    }
+
+    // The newest live entry of each external input's outpoint, and what the rules on money ask of it; or the first input of
+    // which there is none.
+    fn look_up(&self, external: &[Outside]) -> Result<(Vec<u64>, Vec<Found>), RuleFault>
+        ensures ok { IfOk result (λ all. AreFound self.now.held external.now all.0.items all.1.items) }
+        ensures err { IfErr result (λ fault. IsFirst (first_missing self.now.held external.now) fault) }
+    {
+        let numbers = numbers_of(self.alloc, &self.outputs, external)?;
+        let found = found_by(self.alloc, &self.outputs, &numbers)?;
+        Ok((numbers, found))
+    }
+
+    fn take_block<L: Ledger>(
+        &mut self,
+        block: &BlockView<'_>,
+        steps: &mut Steps<L>,
+    ) -> Result<Proved, NoMemory>
+        ensures verdict { IfOk result (λ p. p.verdict ≡ verdict_on self.old (BlockCame (Some block.now) nothing)) }
+        ensures message { IfOk result (λ p. option_map (λ bytes. bytes.items) p.message ≡ message_on D.digest_of self.old (BlockCame (Some block.now) nothing)) }
+        ensures next { OnOk result (self.new ≡ next_bridge D.digest_of leaf_text self.old (BlockCame (Some block.now) nothing)) }
+        ensures stays { OnErr result (self.new ≡ self.old) }
+        ensures steps { steps.new ≤ steps.old + most_steps self.old (BlockCame (Some block.now) nothing) }
+    {
+        let height = self.chain.blocks;
+        let hash = block_hash(block);
+        match self.pass(block, hash, steps) {
+            Ok(message) => Ok(Proved {
+                verdict: Verdict::Accepted {
+                    height,
+                    hash,
+                    leaves: self.chain.leaves,
+                },
+                message,
+            }),
+            Err(RuleFault::Refused(why)) => Ok(self.refused(Some(hash), why)),
+            Err(RuleFault::NoMemory) => Err(NoMemory),
+        }
+    }
+
+    fn take_bytes<L: Ledger>(
+        &mut self,
+        bytes: &[u8],
+        steps: &mut Steps<L>,
+    ) -> Result<Proved, NoMemory>
+        requires short { length bytes.now < 2 ^ 32 }
+        ensures verdict { IfOk result (λ p. p.verdict ≡ verdict_on self.old (BlockCame (block_in bytes.now) nothing)) }
+        ensures message { IfOk result (λ p. option_map (λ bytes. bytes.items) p.message ≡ message_on D.digest_of self.old (BlockCame (block_in bytes.now) nothing)) }
+        ensures next { OnOk result (self.new ≡ next_bridge D.digest_of leaf_text self.old (BlockCame (block_in bytes.now) nothing)) }
+        ensures stays { OnErr result (self.new ≡ self.old) }
+        ensures steps { steps.new ≤ steps.old + most_steps self.old (BlockCame (block_in bytes.now) nothing) }
+    {
+        match read_block(self.alloc, bytes) {
+            Ok(block) => self.take_block(&block, steps),
+            Err(BlockFault::NotABlock) => Ok(self.refused(None, Refusal::Block)),
+            Err(BlockFault::NoMemory) => Err(NoMemory),
+        }
+    }
+
+    fn refused(&self, hash: Option<Digest>, why: Refusal) -> Proved
+        ensures verdict { result.verdict ≡ Said.Refused self.now.chain.blocks hash why }
+        ensures message { result.message ≡ None }
+    {
+        alone(Verdict::Refused {
+            height: self.chain.blocks,
+            hash,
+            why,
+        })
+    }
+}
+
+// What is said with no message.
+fn alone(verdict: Verdict) -> Proved
+    ensures verdict { result.verdict ≡ verdict }
+    ensures message { result.message ≡ None }
+{
+    Proved {
+        verdict,
+        message: None,
+    }
+}
+
+// The height of the newest of so many blocks.
+fn newest_height(blocks: u32) -> Option<u32>
+    ensures { result ≡ height_of blocks }
+{
+    blocks.checked_sub(1)
+}

@@ -1,0 +1,74 @@
+//! Digests of outputs for the forest.
+ghost use Rattle.std.specs.Prelude.{◌≡◌, ◌≢◌, ℕ, ◌+◌, ◌*◌, ◌<◌, ◌≤◌, ◌∷◌, [], map, length, false, IfOk, All, AllPairs};
+ghost use Rattle.forest_place.specs.Position.{rows};
+ghost use Rattle.leaf_record.specs.Leaf.{leaf_text};
+ghost use Rattle.bridge_forest.specs.State.{is_live};
+ghost use Rattle.bridge_forest.specs.Blocks.{all_restored};
+ghost use Rattle.bridge_prover.specs.Bridge.{restored_in};
+
+use block_rules::Spends;
+use bridge_forest::Forest;
+use leaf_record::{LeafBuf, leaf_digest};
+use output_index::Outputs;
+use std::alloc::{AllocError, Global};
+use std::sync::ledger::Ledger;
+use uo_digest::{Digest, Digester, Steps};
+
+// The digests of the block's new records, in their order.
+pub(crate) fn digests_of<D: Digester, L: Ledger>(
+    alloc: Global,
+    room: &mut LeafBuf,
+    spends: &Spends<'_>,
+    steps: &mut Steps<L>,
+) -> Result<Vec<Digest>, AllocError>
+    ensures digests { IfOk result (λ digests. digests.items ≡ map (λ leaf. D.digest_of (leaf_text leaf)) spends.now.new) }
+    ensures steps { steps.new ≤ steps.old + length spends.now.new }
+{
+    let mut digests = Vec::with_capacity(alloc, spends.new_count() as usize)?;
+    for i in 0..spends.new_count() {
+        let leaf = spends.new_output(i);
+        digests.push(leaf_digest::<D, L>(room, &leaf, steps))?;
+    }
+    Ok(digests)
+}
+
+// Makes an entry live again, if it is held.
+fn restore<D: Digester, L: Ledger>(
+    forest: &mut Forest<D>,
+    outputs: &Outputs,
+    room: &mut LeafBuf,
+    number: u64,
+    steps: &mut Steps<L>,
+)
+    requires given { number < length forest.old.entries }
+    requires spent { is_live forest.old.entries number ≡ false }
+    ensures entries { forest.new.entries ≡ all_restored (restored_in D.digest_of leaf_text outputs.now (number ∷ [])) forest.old.entries }
+    ensures steps { steps.new ≤ steps.old + (rows (length forest.old.entries) + 1) }
+{
+    match outputs.output(number) {
+        Some(leaf) => {
+            let digest = leaf_digest::<D, L>(room, &leaf, steps);
+            forest.restore(number, digest, steps);
+        }
+        None => {}
+    }
+}
+
+// Makes the entries of these numbers live again, each with the digest of the output that is held.
+pub(crate) fn restore_all<D: Digester, L: Ledger>(
+    forest: &mut Forest<D>,
+    outputs: &Outputs,
+    room: &mut LeafBuf,
+    numbers: &[u64],
+    steps: &mut Steps<L>,
+)
+    requires given { All (λ i. i < length forest.old.entries) numbers.now }
+    requires spent { All (λ i. is_live forest.old.entries i ≡ false) numbers.now }
+    requires apart { AllPairs (λ i j. i ≢ j) numbers.now }
+    ensures entries { forest.new.entries ≡ all_restored (restored_in D.digest_of leaf_text outputs.now numbers.now) forest.old.entries }
+    ensures steps { steps.new ≤ steps.old + length numbers.now * (rows (length forest.old.entries) + 1) }
+{
+    for number in numbers {
+        restore::<D, L>(forest, outputs, room, *number, steps);
+    }
+}

@@ -1,0 +1,72 @@
+//! What the external inputs of a block spend.
+ghost use Rattle.std.specs.Prelude.{◌≡◌, ℕ, ◌++◌, ◌∷◌, [], None, Some, map, IfOk, OnOk, IfErr, IsSome};
+ghost use Rattle.std.specs.List.{AllByRecursion};
+ghost use Rattle.block_rules.specs.Money.{found_of};
+ghost use Rattle.output_index.specs.Held.{leaf_at};
+ghost use Rattle.bridge_prover.specs.Own.{newest_in, leaves_in};
+ghost use Rattle.compact_node.specs.Judged.{IsFirst};
+ghost use Rattle.bridge_prover.specs.Judged.{first_missing};
+
+use block_rules::{Found, Outside, Refusal, RuleFault};
+use leaf_record::RecordView;
+use output_index::Outputs;
+use std::alloc::{AllocError, Global};
+
+// The newest live entry of each external input's outpoint, or the first input of which there is none.
+pub(crate) fn numbers_of(
+    alloc: Global,
+    outputs: &Outputs,
+    external: &[Outside],
+) -> Result<Vec<u64>, RuleFault>
+    ensures ok { IfOk result (λ numbers. map Some numbers.items ≡ newest_in outputs.now external.now) }
+    ensures passes { OnOk result (first_missing outputs.now external.now ≡ None) }
+    ensures err { IfErr result (λ fault. IsFirst (first_missing outputs.now external.now) fault) }
+{
+    let mut numbers = Vec::with_capacity(alloc, external.len())?;
+    for at in external {
+        let Some(number) = outputs.newest(&at.txid, at.index) else {
+            return Err(RuleFault::Refused(Refusal::Missing {
+                tx: at.tx,
+                input: at.input,
+            }));
+        };
+        numbers.push(number)?;
+    }
+    Ok(numbers)
+}
+
+// What the rules on money ask of an output.
+fn found_in(leaf: &RecordView<'_>) -> Found
+    ensures { result ≡ found_of leaf.now.rest }
+{
+    Found {
+        amount: leaf.amount,
+        height: leaf.height,
+        coinbase: leaf.coinbase,
+    }
+}
+
+fn put_found(found: &mut Vec<Found>, outputs: &Outputs, number: u64) -> Result<(), AllocError>
+    ensures { OnOk result (found.new.items ≡ found.old.items ++ map (λ leaf. found_of leaf.rest) (leaves_in outputs.now (number ∷ []))) }
+{
+    match outputs.output(number) {
+        Some(leaf) => found.push(found_in(&leaf))?,
+        None => {}
+    }
+    Ok(())
+}
+
+// What these entries are.
+pub(crate) fn found_by(
+    alloc: Global,
+    outputs: &Outputs,
+    numbers: &[u64],
+) -> Result<Vec<Found>, AllocError>
+    ensures { IfOk result (λ found. found.items ≡ map (λ leaf. found_of leaf.rest) (leaves_in outputs.now numbers.now)) }
+{
+    let mut found = Vec::with_capacity(alloc, numbers.len())?;
+    for number in numbers {
+        put_found(&mut found, outputs, *number)?;
+    }
+    Ok(found)
+}

@@ -1,0 +1,207 @@
+//! A bridge, and a compact node beside it that gets what the bridge passes on.
+use super::build::{Sketch, build};
+use crate::Bridge;
+use block_rules::{Refusal, Verdict};
+use block_samples::Sample;
+use compact_node::Node;
+use std::alloc::Global;
+use std::process::Abort;
+use std::sync::ledger::Ledger;
+use std::test::Fail;
+use uo_base::{Event, Limits, Net};
+use uo_digest::{Digest, Sha512t256, Steps};
+
+pub const NONE: Digest = Digest([0; 32]);
+
+/// 50 coins.
+pub const FULL: u64 = 5_000_000_000;
+
+/// A block on top of the chain.
+#[derive(Clone, Copy)]
+pub enum Act {
+    /// So many blocks with a coinbase alone.
+    Plain(u32),
+    /// One that has the coinbase of this height.
+    Twin(u32),
+    /// One that spends the output of the coinbase of this height, for these amounts.
+    Spend(u32, &'static [u64]),
+    /// The same for two halves, of which a third transaction spends the first.
+    Halves(u32),
+    /// One that spends an output that was never made.
+    Unknown,
+}
+
+/// What a block comes to.
+#[derive(Clone, Copy)]
+pub enum End {
+    Accepted(u64),
+    Refused(Refusal),
+}
+
+impl End {
+    pub fn verdict(self, height: u32, hash: Digest) -> Verdict {
+        match self {
+            End::Accepted(leaves) => Verdict::Accepted {
+                height,
+                hash,
+                leaves,
+            },
+            End::Refused(why) => Verdict::Refused {
+                height,
+                hash: Some(hash),
+                why,
+            },
+        }
+    }
+}
+
+/// What the bridge said of the last block: of the message that it passed on, the length, the lowest byte of the first target, and
+/// the lowest byte of what tells its height.
+#[derive(Clone, Copy)]
+pub struct Told {
+    pub height: u32,
+    pub hash: Digest,
+    pub verdict: Verdict,
+    pub front: (usize, u8, u8),
+}
+
+/// The front of a message.
+fn front_of(message: Option<&[u8]>) -> (usize, u8, u8) {
+    match message {
+        Some(bytes) => (
+            bytes.len(),
+            bytes.get(3).copied().unwrap_or(255),
+            bytes.get(43).copied().unwrap_or(255),
+        ),
+        None => (0, 0, 0),
+    }
+}
+
+/// Both, and of each block the hash and the id of its coinbase.
+#[derive(Drop)]
+pub struct Pair {
+    pub alloc: Global,
+    pub bridge: Bridge<Sha512t256>,
+    pub node: Node<Sha512t256>,
+    pub hashes: Vec<Digest>,
+    pub ids: Vec<Digest>,
+}
+
+impl Pair {
+    pub fn new(alloc: Global, net: Net) -> Result<Pair, Fail> {
+        Ok(Pair {
+            alloc,
+            bridge: Bridge::new(alloc, net, Limits::standard())?,
+            node: Node::new(alloc, net, Limits::standard())?,
+            hashes: Vec::new(alloc),
+            ids: Vec::new(alloc),
+        })
+    }
+
+    fn tip(&self) -> Digest {
+        self.hashes.last().copied().unwrap_or(NONE)
+    }
+
+    fn id(&self, height: u32) -> Result<Digest, Fail> {
+        Ok(*self.ids.get(height as usize).ok_or("a block")?)
+    }
+
+    /// Gives a block to the bridge, and what that passes on to the node.
+    pub fn pass<L: Ledger>(
+        &mut self,
+        rt: &impl Abort,
+        block: &Sample,
+        steps: &mut Steps<L>,
+    ) -> Result<Told, Fail> {
+        let height = self.bridge.chain().blocks;
+        let text = block.text.as_slice();
+        if text.len() >= 4_294_967_296 {
+            return Err("a short block".into());
+        }
+        let proved = self.bridge.step(
+            Event::Block {
+                block: text,
+                message: None,
+            },
+            steps,
+        )?;
+        let message = proved.message.as_deref();
+        if let Verdict::Accepted { .. } = proved.verdict {
+            let event = Event::Block {
+                block: text,
+                message,
+            };
+            assert_eq!(rt; self.node.step(event, steps)?, proved.verdict);
+            self.hashes.push(block.hash)?;
+            self.ids.push(*block.ids.first().ok_or("a coinbase")?)?;
+        }
+        Ok(Told {
+            height,
+            hash: block.hash,
+            verdict: proved.verdict,
+            front: front_of(message),
+        })
+    }
+
+    /// A block with a coinbase of this height and such transactions.
+    fn build(&self, height: u32, sketches: &[Sketch<'_>]) -> Result<Sample, Fail> {
+        build(self.alloc, self.tip(), height, FULL, sketches)
+    }
+
+    fn halves(&self, height: u32, spent: u32) -> Result<Sample, Fail> {
+        let halves = Sketch(self.id(spent)?, 0, &[2_500_000_000, 2_500_000_000]);
+        let first = self.build(height, &[halves])?;
+        let id = *first.ids.get(1).ok_or("an id")?;
+        self.build(height, &[halves, Sketch(id, 0, &[2_500_000_000])])
+    }
+
+    fn block(&self, act: Act, height: u32) -> Result<Sample, Fail> {
+        match act {
+            Act::Plain(_) => self.build(height, &[]),
+            Act::Twin(other) => self.build(other, &[]),
+            Act::Spend(spent, amounts) => {
+                self.build(height, &[Sketch(self.id(spent)?, 0, amounts)])
+            }
+            Act::Halves(spent) => self.halves(height, spent),
+            Act::Unknown => self.build(height, &[Sketch(Digest([9; 32]), 0, &[FULL])]),
+        }
+    }
+
+    /// What is said of the last block.
+    pub fn act<L: Ledger>(
+        &mut self,
+        rt: &impl Abort,
+        act: Act,
+        steps: &mut Steps<L>,
+    ) -> Result<Told, Fail> {
+        let more = match act {
+            Act::Plain(count) => count.saturating_sub(1),
+            _ => 0,
+        };
+        for _ in 0..more {
+            let block = self.block(act, self.bridge.chain().blocks)?;
+            let _ = self.pass(rt, &block, steps)?;
+        }
+        let block = self.block(act, self.bridge.chain().blocks)?;
+        self.pass(rt, &block, steps)
+    }
+
+    /// Takes both back by so many blocks.
+    pub fn go_back<L: Ledger>(
+        &mut self,
+        rt: &impl Abort,
+        count: u32,
+        steps: &mut Steps<L>,
+    ) -> Result<Verdict, Fail> {
+        let event = Event::Rollback { count };
+        let proved = self.bridge.step(event, steps)?;
+        assert!(rt; proved.message.is_none());
+        assert_eq!(rt; self.node.step(event, steps)?, proved.verdict);
+        if let Verdict::RolledBack { .. } = proved.verdict {
+            let left = self.hashes.len().saturating_sub(count as usize);
+            self.hashes.truncate(left);
+            self.ids.truncate(left);
+        }
+        Ok(proved.verdict)
+    }
+}
