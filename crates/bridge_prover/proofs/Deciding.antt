@@ -51,7 +51,7 @@ one_passes x e = ap (λ y. first_of (y ∷ [])) e
 
 module _ (s : BridgeState) (b : Block) where
   abbrev before : List (Option Refusal)
-  before = block_steps s.rules.limits s.chain b
+  before = block_steps s.rules.net s.rules.limits s.chain b
 
   abbrev ext : List Outside
   ext = external b s.chain.blocks

@@ -101,16 +101,16 @@ entries-then H text us ns new = ap (λ xs. entries_without ns (entries H text us
 
 -- ---- the room for a block
 
-room_before : (rules : Rules) (chain : Chain) (b : Block) → first_of (block_steps rules.limits chain b) ≡ None →
+room_before : (rules : Rules) (chain : Chain) (b : Block) → first_of (block_steps rules.net rules.limits chain b) ≡ None →
     (chain.blocks < 2 ^ 31) × (chain.leaves + length (new_records b chain.blocks) ≤ rules.limits.leaves)
 room_before rules chain b passed =
-    let sixth : unless (has_room rules.limits chain (length (new_records b chain.blocks))) Why.Full ≡ None = each_passes (block_steps rules.limits chain b) 6 passed in
+    let sixth : unless (has_room rules.limits chain (length (new_records b chain.blocks))) Why.Full ≡ None = each_passes (block_steps rules.net rules.limits chain b) 7 passed in
     let both = and_parts (nat_lt chain.blocks (2 ^ 31)) (nat_le (chain.leaves + length (new_records b chain.blocks)) rules.limits.leaves) (unless-passed _ _ sixth) in
     (ltb-true _ _ both.0, leb-true _ _ both.1)
 
 room : (rules : Rules) (chain : Chain) (b : Block) (e : Evidence) → refusal rules chain b e ≡ None →
     (chain.blocks < 2 ^ 31) × (chain.leaves + length (new_records b chain.blocks) ≤ rules.limits.leaves)
-room rules chain b e h = room_before rules chain b (append_passes (block_steps rules.limits chain b) (e.steps ++ money_steps (spends_of rules.net chain.blocks b) e.found) h).0
+room rules chain b e h = room_before rules chain b (append_passes (block_steps rules.net rules.limits chain b) (e.steps ++ money_steps (spends_of rules.net chain.blocks b) e.found) h).0
 
 -- ---- a block that breaks no rule
 

@@ -43,7 +43,7 @@ pub struct Bridge<D: Digester> {
     forest: Forest<D>,
     outputs: Outputs,
     undo: Ring<Undo>,
-    room: LeafBuf,
+    room: LeafBuf<D>,
 }
 
 impl<D: Digester> Model for Bridge<D> {

@@ -17,7 +17,7 @@ use uo_digest::{Digest, Digester, Steps};
 // The digests of the block's new records, in their order.
 pub(crate) fn digests_of<D: Digester, L: Ledger>(
     alloc: Global,
-    room: &mut LeafBuf,
+    room: &mut LeafBuf<D>,
     spends: &Spends<'_>,
     steps: &mut Steps<L>,
 ) -> Result<Vec<Digest>, AllocError>
@@ -36,7 +36,7 @@ pub(crate) fn digests_of<D: Digester, L: Ledger>(
 fn restore<D: Digester, L: Ledger>(
     forest: &mut Forest<D>,
     outputs: &Outputs,
-    room: &mut LeafBuf,
+    room: &mut LeafBuf<D>,
     number: u64,
     steps: &mut Steps<L>,
 )
@@ -58,7 +58,7 @@ fn restore<D: Digester, L: Ledger>(
 pub(crate) fn restore_all<D: Digester, L: Ledger>(
     forest: &mut Forest<D>,
     outputs: &Outputs,
-    room: &mut LeafBuf,
+    room: &mut LeafBuf<D>,
     numbers: &[u64],
     steps: &mut Steps<L>,
 )

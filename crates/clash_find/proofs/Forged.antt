@@ -20,7 +20,7 @@ use Rattle.node_rules.specs.Judging.{Rules, message_steps, is_forged}
 use Rattle.clash_find.specs.Clashes.{TextClash}
 use Rattle.clash_find.specs.Answers.{view_over, IsAnswer}
 
-module _ (H : List ℕ → Digest) (us : History) (scripts : List (List ℕ)) (rules : Rules) (chain : Chain) (b : Block) (m : Message) (passes : first_of (block_steps rules.limits chain b ++ message_steps (external b chain.blocks) (read m)) ≡ None) where
+module _ (H : List ℕ → Digest) (us : History) (scripts : List (List ℕ)) (rules : Rules) (chain : Chain) (b : Block) (m : Message) (passes : first_of (block_steps rules.net rules.limits chain b ++ message_steps (external b chain.blocks) (read m)) ≡ None) where
   abbrev known : ℕ → ℕ → Option Digest
   known = known_at H leaf_text scripts us
 

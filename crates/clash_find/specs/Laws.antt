@@ -19,7 +19,7 @@ use Rattle.clash_find.specs.Answers.{IsAnswer}
 -- answered exactly where the event is forged
 abbrev pub FoundExactlyWhereForged : Type 0
 FoundExactlyWhereForged = (H : List ℕ → Digest) (us : History) (scripts : List (List ℕ)) (rules : Rules) (chain : Chain) (b : Block) (m : Message) (known : ℕ → ℕ → Option Digest) (answer : Option TextClash) →
-    first_of (block_steps rules.limits chain b ++ message_steps (external b chain.blocks) (read m)) ≡ None →
+    first_of (block_steps rules.net rules.limits chain b ++ message_steps (external b chain.blocks) (read m)) ≡ None →
     ((row off : ℕ) → known row off ≡ known_at H leaf_text scripts us row off) →
     IsAnswer H us known (points_of (external b chain.blocks)) m answer →
     is_forged H leaf_text scripts rules chain us b (read m) ≡ is_some answer
