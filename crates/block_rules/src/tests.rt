@@ -2,6 +2,7 @@
 mod build;
 mod money;
 mod shape;
+mod witness;
 
 use crate::{RuleFault, internal_is_latest, new_is_paid, new_is_unspent, subsidy};
 use std::alloc::AllocError;

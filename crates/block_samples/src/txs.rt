@@ -1,4 +1,4 @@
-//! Transactions of the legacy form.
+//! Transactions.
 ghost use Rattle.std.specs.Prelude.{◌≡◌, ◌<◌, [], ◌∷◌, length, map, IfOk};
 ghost use Rattle.std.specs.Int.{w32, to_le_bytes};
 ghost use Rattle.tx_codec.specs.Transaction.{IsWritable};
@@ -84,4 +84,20 @@ pub fn coinbase(alloc: Global, height: u32, outputs: &[OutView<'_>]) -> Result<T
         sequence: u32::MAX,
     };
     legacy_tx(alloc, &[input], outputs, 0)
+}
+
+/// The transaction with this witness for its one input, of at least one item.
+pub fn witnessed(alloc: Global, tx: Tx, items: &[&[u8]]) -> Result<Tx, NoMemory>
+    requires one { length tx.inputs ≡ 1 }
+    requires some { 0 < length items.now }
+    // It has a text.
+    ensures writable { IfOk result IsWritable }
+{
+    let mut stack = Vec::new(alloc);
+    for item in items {
+        stack.push(Vec::from_slice(alloc, item)?)?;
+    }
+    let mut stacks = Vec::new(alloc);
+    stacks.push(stack)?;
+    Ok(Tx { stacks, ..tx })
 }
