@@ -31,10 +31,10 @@ use Rattle.compact_node.specs.Throughout.{verdicts_on, node_after, AreHonest}
 use Rattle.compact_node.specs.Following as Fresh
 use Rattle.compact_node.proofs.Following.{fresh_follows_proving}
 use Rattle.compact_node.proofs.Throughout.{verdicts_on-append}
-use Rattle.utreexo.specs.declared.line.Line.TheVariants as Line
+use Rattle.report_lines.specs.declared.line.Line.TheVariants as Line
 use Rattle.utreexo.specs.Answers.{answer_with}
 use Rattle.utreexo.specs.Follow.{line_of, follow_answer, rules_of, AreTrue}
-use Rattle.utreexo.specs.Lines.{whole_line}
+use Rattle.report_lines.specs.Lines.{whole_line}
 use Rattle.utreexo.specs.Machine.{follow_end, is_refused}
 use Rattle.utreexo.specs.Proving.{proving_text, proving_verdicts, proving_chain, answer_made, IsFollowed, IsFollowedTo, IsWritten, FollowsProving}
 

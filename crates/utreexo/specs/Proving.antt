@@ -17,9 +17,9 @@ use Rattle.node_rules.specs.Fitting.{AreEventBytes}
 use Rattle.node_rules.specs.Judging.{Rules}
 use Rattle.node_rules.specs.Machine.{start, chain_of, event_in, own_judge, verdicts, state_after, kept_verdicts}
 use Rattle.node_rules.specs.Proving.{proved_events}
-use Rattle.utreexo.specs.declared.line.Line.TheVariants as Line
+use Rattle.report_lines.specs.declared.line.Line.TheVariants as Line
 use Rattle.utreexo.specs.Follow.{line_of, follow_answer, rules_of, AreTrue}
-use Rattle.utreexo.specs.Lines.{whole_line}
+use Rattle.report_lines.specs.Lines.{whole_line}
 use Rattle.utreexo.specs.Machine.{end_line}
 
 -- ---- a proving node, told these rules, over some events

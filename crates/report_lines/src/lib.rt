@@ -1,0 +1,17 @@
+//! The lines that the program prints, and how they are written.
+//!
+//! A [`Line`] is a line without the byte that ends it. [`push_line`] and [`line_of`] append it to a text, [`put_line`] and [`say`] write
+//! it to a sink.
+#![tactic(auto)]
+
+mod hash_text;
+mod line;
+mod report;
+#[cfg(test)]
+mod tests;
+mod verdict;
+
+pub use hash_text::{HashText, PlainText};
+pub use line::Line;
+pub use report::{line_of, push_line, put_line, say};
+pub use verdict::VerdictText;

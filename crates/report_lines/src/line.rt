@@ -1,0 +1,88 @@
+//! The lines of the report.
+ghost use Rattle.std.specs.Prelude.{Some};
+
+use crate::hash_text::{HashText, PlainText};
+use crate::verdict::VerdictText;
+use block_rules::Verdict;
+use std::fmt;
+use uo_digest::Digest;
+
+/// A line of the report, without the byte that ends it.
+#[derive(Clone, Copy, Debug, PartialEq, Eq)]
+pub enum Line {
+    /// What the node says of an event.
+    Verdict(Verdict),
+    /// The end of a feed: its events, the height and hash of the newest block, the entries ever added.
+    End {
+        events: u64,
+        tip: Option<(u32, Digest)>,
+        leaves: u64,
+    },
+    /// The words are not accepted, from this index on.
+    Words(u64),
+    /// No frame begins with these four bytes at this offset.
+    FrameMagic {
+        offset: u64,
+        found: [u8; 4],
+    },
+    /// The feed ends within the frame at this offset, which lacks so many bytes.
+    FrameCut {
+        offset: u64,
+        missing: u64,
+    },
+    /// The block or proof at this offset has more bytes than one may have.
+    FrameLong {
+        offset: u64,
+        length: u32,
+    },
+    /// The rollback at this offset has not four bytes.
+    FrameRollback {
+        offset: u64,
+        length: u32,
+    },
+    /// The feed has more than this many bytes.
+    LimitFeed(u64),
+    /// A feed was generated: its frames of blocks, its frames of rollbacks, its bytes.
+    Generated {
+        blocks: u32,
+        rollbacks: u32,
+        bytes: u64,
+    },
+}
+
+impl fmt::Display for Line {
+    ghost use Rattle.report_lines.specs.Lines.{line_text};
+
+    ghost output = { λ line. Some (line_text line) };
+
+    fn fmt<W: fmt::Write>(&self, f: &mut fmt::Formatter<W>) -> fmt::Result {
+        match self {
+            Line::Verdict(verdict) => write!(f, "{}", VerdictText(verdict)),
+            Line::End {
+                events,
+                tip: Some((height, hash)),
+                leaves,
+            } => write!(f, "end {events} {height} {} {leaves}", HashText(hash)),
+            Line::End {
+                events,
+                tip: None,
+                leaves,
+            } => write!(f, "end {events} - - {leaves}"),
+            Line::Words(at) => write!(f, "words {at}"),
+            Line::FrameMagic { offset, found } => {
+                write!(f, "frame magic {offset} {}", PlainText(found))
+            }
+            Line::FrameCut { offset, missing } => write!(f, "frame cut {offset} {missing}"),
+            Line::FrameLong { offset, length } => write!(f, "frame long {offset} {length}"),
+            Line::FrameRollback { offset, length } => {
+                write!(f, "frame rollback {offset} {length}")
+            }
+            Line::LimitFeed(bytes) => write!(f, "limit feed {bytes}"),
+            Line::Generated {
+                blocks,
+                rollbacks,
+                bytes,
+            } => write!(f, "generated {blocks} {rollbacks} {bytes}"),
+        }
+    }
+}

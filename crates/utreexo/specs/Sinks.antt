@@ -1,0 +1,26 @@
+-- The sink that the program stores to, by its kind.
+use Rattle.std.specs.Prelude.{◌≡◌, Option, List, ℕ, ⊤, Some, None, Result, Ok, Err}
+use Rattle.uo_base.specs.declared.quiet.QuietSink.{QuietSink}
+use Rattle.uo_base.specs.declared.system.FileSink.{FileSink}
+use Rattle.uo_base.specs.Files.{sink_name}
+use Rattle.utreexo.specs.declared.any_sink.AnySink.{AnySink}
+use Rattle.utreexo.specs.declared.any_sink.AnySink.TheVariants.{File, Quiet}
+use Rattle.command_words.specs.declared.words.WordFault.{WordFault}
+use Rattle.command_words.specs.Words.{Asked, AskedFollow, AskedGen}
+
+-- what is said of the sink that is held
+abbrev pub of_kind : {R F D A : Type 0} → (FileSink R F D → A) → (QuietSink → A) → AnySink R F D → A
+of_kind file quiet (File s) = file s
+of_kind file quiet (Quiet s) = quiet s
+
+-- the file that is named, or none
+abbrev pub IsFileOrQuiet : {R F D : Type 0} → Option (List ℕ) → AnySink R F D → Type 0
+IsFileOrQuiet (Some name) (File s) = sink_name s ≡ name
+IsFileOrQuiet None (Quiet s) = ⊤
+IsFileOrQuiet name sink = ⊥
+
+-- what is stored goes to the file that the words name, and nowhere else
+abbrev pub IsOutOf : {R F D : Type 0} → Result Asked WordFault → AnySink R F D → Type 0
+IsOutOf (Ok (AskedFollow net feed)) sink = IsFileOrQuiet None sink
+IsOutOf (Ok (AskedGen net number blocks to)) sink = IsFileOrQuiet to sink
+IsOutOf (Err fault) sink = IsFileOrQuiet None sink

@@ -1,0 +1,50 @@
+-- What a call within a run gives of an answer, and why it stops.
+use Rattle.std.specs.Prelude.{◌≡◌, ℕ, List}
+use Rattle.std.specs.declared.option.Option.{Option}
+use Rattle.std.specs.Io.KnownBytes.{Appends}
+use Rattle.uo_base.specs.Moved.{AppendsPart}
+use Rattle.uo_base.specs.Told.{Tells}
+use Rattle.chain_gen.specs.declared.fault.GenFault.{GenFault}
+use Rattle.chain_gen.specs.declared.fault.GenFault.TheVariants as Fault
+use Rattle.feed_run.specs.Answer.{Answer}
+use Rattle.feed_run.specs.declared.status.Status.{Status}
+use Rattle.feed_run.specs.declared.stop.Stop.{Stop}
+use Rattle.utreexo.specs.Runs.{Inputs, Agrees, IsGiven, IsBegun}
+
+-- ---- of an answer to the feed alone
+
+-- the call gave the whole answer to a feed, which is the one that is told
+pub record Ends (answer : List ℕ → Answer) (feed report report' out out' : Option (List ℕ)) (status : Status) : Type 0 where
+  pub text : List ℕ
+  pub told : Tells feed text
+  pub answered : status ≡ (answer text).status
+  pub reported : Appends report report' (answer text).report
+  pub sent : Appends out out' (answer text).out
+
+-- the call wrote a part of the answer to a feed, which is the one that is told
+pub record StaysWithin (answer : List ℕ → Answer) (feed report report' out out' : Option (List ℕ)) : Type 0 where
+  pub text : List ℕ
+  pub told : Tells feed text
+  pub reported : AppendsPart report report' (answer text).report
+  pub sent : AppendsPart out out' (answer text).out
+
+-- ---- of an answer to all inputs
+
+-- the call gave the whole answer
+pub record EndsRun (answer : Inputs → Answer) (feed prior watch report report' out out' : Option (List ℕ)) (status : Status) : Type 0 where
+  pub inputs : Inputs
+  pub told : Agrees feed prior watch inputs
+  pub given : IsGiven (answer inputs) report report' out out' status
+
+-- or a part of it
+pub record StaysWithinRun (answer : Inputs → Answer) (feed prior watch report report' out out' : Option (List ℕ)) : Type 0 where
+  pub inputs : Inputs
+  pub told : Agrees feed prior watch inputs
+  pub begun : IsBegun (answer inputs) report report' out out'
+
+-- ---- why it stops
+
+-- at a fault of a generated feed
+abbrev pub stop_of_gen : GenFault → Stop
+stop_of_gen Fault.WriteFault = Stop.WriteFault
+stop_of_gen Fault.NoMemory = Stop.NoMemory
