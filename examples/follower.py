@@ -9,6 +9,7 @@ import sys
 from dataclasses import dataclass
 
 NULL = (bytes(32), 0xFFFFFFFF)
+COMMITS = bytes.fromhex("6a24aa21a9ed")
 ALL_MONEY = 2_100_000_000_000_000
 TAG = hashlib.sha512(b"UtreexoV1").digest()
 
@@ -64,6 +65,8 @@ class Transaction:
     inputs: list  # of outpoint and script
     outputs: list  # of amount and script
     txid: bytes
+    whole_id: bytes
+    stacks: list  # of items, for each input; none in the plain form
     witness_size: int
 
 
@@ -82,12 +85,14 @@ def read_transaction(reader):
         raise NotSo
     outputs = [(reader.number(8), reader.sized()) for _ in range(reader.compact())]
     plain = version + reader.text[body : reader.at]
+    stacks = []
     if has_stacks:
         stacks = [[reader.sized() for _ in range(reader.compact())] for _ in inputs]
         if not any(stacks):
             raise NotSo
     plain += reader.take(4)
-    return Transaction(inputs, outputs, sha256d(plain), reader.at - start - len(plain))
+    whole = reader.text[start : reader.at]
+    return Transaction(inputs, outputs, sha256d(plain), sha256d(whole), stacks, len(whole) - len(plain))
 
 
 def read_block(text):
@@ -138,16 +143,31 @@ def read_message(text):
 # ---- rules that need no proof
 
 
-def merkle_root(hashes):
+def merkle_root(hashes, may_repeat=False):
     level = 0
     while len(hashes) > 1:
         for place in range(0, len(hashes) - 1, 2):
-            if hashes[place] == hashes[place + 1]:
+            if hashes[place] == hashes[place + 1] and not may_repeat:
                 raise Refused(f"merkle repeated {level} {place}")
         hashes = hashes + hashes[-1:] * (len(hashes) % 2)
         hashes = [sha256d(left + right) for left, right in zip(hashes[::2], hashes[1::2])]
         level += 1
     return hashes[0]
+
+
+def check_witnesses(transactions):
+    scripts = [script for _, script in transactions[0].outputs]
+    committed = [script[6:38] for script in scripts if len(script) >= 38 and script.startswith(COMMITS)]
+    if not committed:
+        if any(transaction.stacks for transaction in transactions):
+            raise Refused("witness unexpected")
+        return
+    stack = transactions[0].stacks[0] if transactions[0].stacks else []
+    if [len(item) for item in stack] != [32]:
+        raise Refused("witness form")
+    root = merkle_root([bytes(32)] + [transaction.whole_id for transaction in transactions[1:]], may_repeat=True)
+    if sha256d(root + stack[0]) != committed[-1]:
+        raise Refused("witness root")
 
 
 def check_transactions(transactions):
@@ -322,8 +342,8 @@ class Level:
 
 
 class Node:
-    def __init__(self, halving):
-        self.levels, self.halving = [Level(0, bytes(32), 0, {})], halving
+    def __init__(self, halving, witness_height):
+        self.levels, self.halving, self.witness_height = [Level(0, bytes(32), 0, {})], halving, witness_height
 
     def take_block(self, text, message):
         now = self.levels[-1]
@@ -344,6 +364,8 @@ class Node:
             raise Refused("link")
         if merkle_root([transaction.txid for transaction in transactions]) != header[36:68]:
             raise Refused("merkle root")
+        if now.blocks >= self.witness_height:
+            check_witnesses(transactions)
         weight = 4 * len(text) - 3 * sum(transaction.witness_size for transaction in transactions)
         if weight > 4_000_000:
             raise Refused(f"weight {weight}")
@@ -432,7 +454,7 @@ def lines_of(node, feed, block_magic):
 
 def main():
     regtest = sys.argv[1:] == ["regtest"]
-    node = Node(150 if regtest else 210_000)
+    node = Node(150, 0) if regtest else Node(210_000, 481_824)
     status, line = 0, ""
     for line in lines_of(node, sys.stdin.buffer.read(), bytes.fromhex("fabfb5da" if regtest else "f9beb4d9")):
         print(line)
