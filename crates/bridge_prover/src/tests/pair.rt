@@ -1,6 +1,6 @@
 //! A bridge, and a compact node beside it that gets what the bridge passes on.
 use super::build::{Sketch, build};
-use crate::Bridge;
+use crate::{Bridge, Proved};
 use block_rules::{Refusal, Verdict};
 use block_samples::Sample;
 use compact_node::Node;
@@ -65,6 +65,30 @@ pub struct Told {
     pub front: (usize, u8, u8),
 }
 
+fn prove<L: Ledger>(
+    bridge: &mut Bridge<Sha512t256>,
+    block: &[u8],
+    steps: &mut Steps<L>,
+) -> Result<Proved, Fail> {
+    if block.len() > 4_000_000 {
+        return Err("a short block".into());
+    }
+    let message = None;
+    Ok(bridge.step(Event::Block { block, message }, steps)?)
+}
+
+fn follow<L: Ledger>(
+    node: &mut Node<Sha512t256>,
+    block: &[u8],
+    message: Option<&[u8]>,
+    steps: &mut Steps<L>,
+) -> Result<Verdict, Fail> {
+    if block.len() > 4_000_000 {
+        return Err("a short block".into());
+    }
+    Ok(node.step(Event::Block { block, message }, steps)?)
+}
+
 /// The front of a message.
 fn front_of(message: Option<&[u8]>) -> (usize, u8, u8) {
     match message {
@@ -114,24 +138,11 @@ impl Pair {
         steps: &mut Steps<L>,
     ) -> Result<Told, Fail> {
         let height = self.bridge.chain().blocks;
-        let text = block.text.as_slice();
-        if text.len() >= 4_294_967_296 {
-            return Err("a short block".into());
-        }
-        let proved = self.bridge.step(
-            Event::Block {
-                block: text,
-                message: None,
-            },
-            steps,
-        )?;
+        let proved = prove(&mut self.bridge, &block.text, steps)?;
         let message = proved.message.as_deref();
         if let Verdict::Accepted { .. } = proved.verdict {
-            let event = Event::Block {
-                block: text,
-                message,
-            };
-            assert_eq!(rt; self.node.step(event, steps)?, proved.verdict);
+            let verdict = follow(&mut self.node, &block.text, message, steps)?;
+            assert_eq!(rt; verdict, proved.verdict);
             self.hashes.push(block.hash)?;
             self.ids.push(*block.ids.first().ok_or("a coinbase")?)?;
         }
