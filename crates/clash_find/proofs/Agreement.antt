@@ -1,8 +1,8 @@
 -- A proof is right exactly where, at each covered place at which it comes to the forest's digest, the two texts are equal.
-use Rattle.std.proofs.Common.{◌≡◌, ◌≢◌, ℕ, zero, suc, ◌+◌, ◌*◌, Bool, true, false, List, [], ◌∷◌, ◌++◌, map, length, get_or, Option, Some, None, refl, sym, ap, ◌∙◌, subst, ap₂, ⊎_elim, arith, length-append}
+use Rattle.std.proofs.Common.{◌≡◌, ◌≢◌, ℕ, zero, suc, ◌+◌, ◌*◌, true, false, List, [], ◌∷◌, ◌++◌, map, length, get_or, Option, Some, None, refl, sym, ap, ◌∙◌, subst, ap₂, ⊎_elim, arith, length-append}
 use Rattle.std.specs.Prelude.{option_map, slice_get}
 use Rattle.std.specs.List.{AllZip}
-use Rattle.std.proofs.lemmas.Bool.{cases_Bool, false≢true, or_cases}
+use Rattle.std.proofs.lemmas.Bool.{cases_Bool, false≢true}
 use Rattle.std.proofs.lemmas.Option.{none-some, same_Some}
 use Rattle.uo_digest.specs.declared.digest.Digest.{Digest}
 use Rattle.forest_place.specs.declared.place.Place.{Place}
@@ -14,11 +14,11 @@ use Rattle.forest_model.specs.Content.{IsDigest, Tree, leaf, inner, digest_of}
 use Rattle.forest_model.specs.Standing.{half, tree_at, digest_at}
 use Rattle.forest_model.specs.Cover.{Cover, target, given, both, cover_of_halves, cover}
 use Rattle.forest_model.specs.Evaluation.{beside, value, asked, hash_of}
-use Rattle.forest_model.specs.Right.{entries, text_at, IsKnowledge, IsRight, IsLiveAt}
+use Rattle.forest_model.specs.Right.{entries, text_at, IsKnowledge, IsLiveAt}
 use Rattle.forest_model.proofs.Climbs.{tree_at-left, tree_at-right}
 use Rattle.forest_model.proofs.Covers.{Beside, at_target, at_given, at_both, Beside-weaker, StandsAsTarget, StandsAsNeeded, laid, value-laid}
 use Rattle.forest_model.proofs.Unique.{EachLeaf, tree_at-leaves}
-use Rattle.forest_model.proofs.Clash.{HasTexts, IsFound, same_parts, same_Digest}
+use Rattle.forest_model.proofs.Clash.{IsFound, same_parts, same_Digest}
 use Rattle.forest_model.proofs.Right.{hash_right}
 
 module _ (H : List ℕ → Digest) (es : List (Option Digest)) (text_of : ℕ → List ℕ) (ts : List Place) (leaf_texts : ℕ → ℕ → List ℕ) (hashes : ℕ → ℕ → Digest) where

@@ -13,8 +13,8 @@ use Rattle.forest_place.proofs.Listed.{place, is_at-same, same_from_is_at}
 use Rattle.forest_place.proofs.Parts.{InForest-root, is_root-root_off, root_off-is_root}
 use Rattle.forest_model.specs.Content.{IsDigest, Tree, leaf, inner, content, digest_of, node_texts}
 use Rattle.forest_model.specs.Standing.{tree_at, digest_at, root}
-use Rattle.forest_model.specs.Cover.{Cover, target, given, both, cover_of_halves, cover, is_needed, HasShape}
-use Rattle.forest_model.specs.Evaluation.{beside, value, value_texts, asked, hash_of, nothing_known, evaluation, IsAccepted}
+use Rattle.forest_model.specs.Cover.{Cover, target, given, both, cover_of_halves, cover, is_needed}
+use Rattle.forest_model.specs.Evaluation.{beside, value_texts, asked, hash_of, nothing_known, evaluation, IsAccepted}
 use Rattle.forest_model.specs.Right.{entries, text_at as entry_text, IsKnowledge, IsRight, IsNodeText, IsValueText}
 use Rattle.forest_model.proofs.Climbs.{tree_at-root}
 use Rattle.forest_model.proofs.Unique.{tree_at-leaves}
@@ -39,11 +39,11 @@ use Rattle.node_rules.proofs.Righting.{right_is_tested}
 use Rattle.node_rules.proofs.Serving.{AreSame, same_value, same_cover, hash_of_all, same_evaluation}
 use Rattle.clash_find.specs.Clashes.{TextClash}
 use Rattle.clash_find.specs.Texts.{tree_text, text_at, claims, claim_text, made_text, AreDigests, IsWithin}
-use Rattle.clash_find.specs.Answers.{StandForHistory, view_over, IsClash, IsAnswer}
+use Rattle.clash_find.specs.Answers.{StandForHistory, IsClash, IsAnswer}
 use Rattle.clash_find.specs.Searched.{IsReady, DoRootsAgree, IsClashAt, AreCompared}
 use Rattle.clash_find.proofs.Claiming.{claims-long}
 use Rattle.clash_find.proofs.Agreement.{value_of, node_text, cover_text, HasDigests, AgreeAt, found, right_agrees}
-use Rattle.clash_find.proofs.Listing.{IsOfSlot, IsOfCover, node_listed, cover_listed}
+use Rattle.clash_find.proofs.Listing.{node_listed, cover_listed}
 
 -- what is beside the place at an index
 beside_slice : {X : Type 0} (none : X) (ps : List Place) (xs : List X) (i : ℕ) → IsDistinct ps → length xs ≡ length ps → i < length ps → beside none ps xs (place_in ps i).row (place_in ps i).off ≡ unwrap_or (slice_get xs i) none

@@ -1,5 +1,5 @@
 -- A clash is found exactly at a forged event.
-use Rattle.std.proofs.Common.{◌≡◌, ℕ, Bool, true, false, List, ◌++◌, Option, Some, None, refl, sym, ap, ◌∙◌, subst}
+use Rattle.std.proofs.Common.{◌≡◌, ℕ, Bool, false, List, ◌++◌, Option, Some, None, refl, ap, subst}
 use Rattle.std.specs.Prelude.{not, ◌&&◌, is_none, is_some}
 use Rattle.std.proofs.Math.Path.{fun_ext}
 use Rattle.uo_digest.specs.declared.digest.Digest.{Digest}

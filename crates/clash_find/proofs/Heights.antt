@@ -1,12 +1,12 @@
 -- No tree is higher than the row of its place, so at row 0 stand leaves alone; and what the children of a place tell of it.
-use Rattle.std.proofs.Common.{◌≡◌, ℕ, zero, suc, ◌-◌, ◌*◌, ◌+◌, ◌/◌, ◌%◌, ◌≤◌, Bool, true, false, List, length, get_or, Option, Some, None, [], refl, sym, ap, ◌∙◌, ap₂, subst, ⊎_elim, arith}
+use Rattle.std.proofs.Common.{◌≡◌, ℕ, zero, suc, ◌-◌, ◌*◌, ◌+◌, ◌/◌, ◌%◌, true, false, List, length, get_or, Option, Some, None, [], refl, sym, ap, ◌∙◌, ap₂, ⊎_elim}
 use Rattle.std.specs.Prelude.{option_map, option_and_then}
 use Rattle.std.proofs.lemmas.Bool.{cases_Bool}
 use Rattle.std.proofs.lemmas.Option.{none-some, same_Some}
 use Rattle.uo_digest.specs.declared.digest.Digest.{Digest}
 use Rattle.forest_place.specs.Forest.{InForest, is_root}
 use Rattle.forest_model.specs.Content.{Tree, leaf, inner, join, content, digest_of}
-use Rattle.forest_model.specs.Standing.{half, climb, tree_at, digest_at}
+use Rattle.forest_model.specs.Standing.{half, climb, tree_at}
 use Rattle.forest_model.proofs.Climbs.{tree_at-left, tree_at-right}
 use Rattle.bridge_forest.specs.State.{leaf_number}
 use Rattle.output_index.specs.Held.{Held}

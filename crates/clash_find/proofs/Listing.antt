@@ -1,5 +1,5 @@
 -- What stands at a place is a part of its slot's tree, and what is covered of its slot's cover; so their texts are listed.
-use Rattle.std.proofs.Common.{◌≡◌, ℕ, zero, suc, ◌+◌, ◌-◌, ◌*◌, ◌/◌, ◌%◌, true, List, [], ◌∷◌, ◌++◌, length, Option, Some, Contains, refl, sym, ap, ◌∙◌, subst, ⊎_elim, arith}
+use Rattle.std.proofs.Common.{◌≡◌, ℕ, zero, suc, ◌+◌, ◌-◌, ◌*◌, ◌/◌, ◌%◌, true, List, length, Option, Some, Contains, sym, ap, ◌∙◌, ⊎_elim, arith}
 use Rattle.std.proofs.lemmas.Bool.{cases_Bool, cases_eq}
 use Rattle.std.proofs.lemmas.List.Elements.{Contains-append_left, Contains-append_right}
 use Rattle.uo_digest.specs.declared.digest.Digest.{Digest}
@@ -7,10 +7,10 @@ use Rattle.forest_place.specs.declared.place.Place.{Place}
 use Rattle.forest_place.specs.Forest.{InForest, is_root, is_slot, root_off}
 use Rattle.forest_place.specs.Places.{has_place}
 use Rattle.forest_place.proofs.Parts.{row_below, root_off-is_root, InForest-up}
-use Rattle.forest_model.specs.Content.{Tree, leaf, inner, content, digest_of, node_texts}
-use Rattle.forest_model.specs.Standing.{half, tree_at}
+use Rattle.forest_model.specs.Content.{Tree, inner, content, node_texts}
+use Rattle.forest_model.specs.Standing.{tree_at}
 use Rattle.forest_model.specs.Cover.{Cover, both, cover_of_halves, cover, HasShape}
-use Rattle.forest_model.specs.Evaluation.{value, value_texts}
+use Rattle.forest_model.specs.Evaluation.{value_texts}
 use Rattle.forest_model.proofs.Climbs.{tree_at-root, tree_at-left, tree_at-right}
 use Rattle.forest_model.proofs.Covers.{inner_from_left, inner_from_right}
 use Rattle.forest_model.proofs.Clash.{Contains-later}

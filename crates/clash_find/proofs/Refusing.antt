@@ -18,7 +18,7 @@ use Rattle.block_rules.specs.declared.refusal.Refusal.{Refusal}
 use Rattle.block_rules.specs.declared.refusal.Refusal.TheVariants as Why
 use Rattle.block_rules.specs.declared.refusal.ProofRefusal.TheVariants as Fault
 use Rattle.block_rules.proofs.Firsts.{option_or-none}
-use Rattle.node_rules.specs.Messages.{Message, point_of, points_of, named, targets, known_to}
+use Rattle.node_rules.specs.Messages.{Message, point_of, points_of, named, targets}
 use Rattle.node_rules.specs.Accepting.{View, leaves_of, shape_fault, proof_fault}
 use Rattle.node_rules.specs.Judged.{AreNamed, TargetsJudged, HashesJudged, AreHashes, IsOtherCount}
 use Rattle.node_rules.proofs.Faults.{length-named, accepted}

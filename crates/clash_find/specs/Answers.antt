@@ -1,5 +1,5 @@
 -- What is answered of a proof over the whole set of outputs.
-use Rattle.std.specs.Prelude.{◌≡◌, ◌≢◌, ℕ, Bool, true, false, List, length, slice_get, Option, Some, None}
+use Rattle.std.specs.Prelude.{◌≡◌, ◌≢◌, ℕ, true, false, List, length, slice_get, Option, Some, None}
 use Rattle.uo_digest.specs.declared.digest.Digest.{Digest}
 use Rattle.forest_model.specs.Standing.{root}
 use Rattle.forest_model.specs.Right.{entries, IsNodeText, IsValueText}

@@ -103,7 +103,9 @@ fn clash_in<L: Ledger>(
         leaves: 8,
     };
     let sample = spending(alloc)?;
-    let block = read_block(alloc, &sample.text)?;
+    let bytes = sample.text.as_slice();
+    assert!(rt; bytes.len() < 1 << 32);
+    let block = read_block(alloc, bytes)?;
     let spends = shape_rules(alloc, &block, &chain, Net::Main, Limits::standard())?;
     let message = read_message(alloc, text)?;
     assert!(rt; message.spends() == 1 && spends.external().len() == 1);

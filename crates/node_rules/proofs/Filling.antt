@@ -1,6 +1,6 @@
 -- Known hashes are found by one pass over them, and given ones are filled in between.
-use Rattle.std.proofs.Common.{◌≡◌, ◌≢◌, ℕ, zero, suc, ◌+◌, ◌<◌, ◌≤◌, Bool, true, false, List, [], ◌∷◌, ◌++◌, map, length, get_or, take, drop, filter, Option, Some, None, refl, sym, ap, ◌∙◌, subst, ap₂, ⊎_elim, inl, inr, arith, append_assoc}
-use Rattle.std.specs.Prelude.{◌⊎◌, ◌||◌, ◌&&◌, ◌==◌, nat_lt, cond, is_none, count_by, slice_get, unwrap_or, if◌then◌else◌}
+use Rattle.std.proofs.Common.{◌≡◌, ◌≢◌, ℕ, zero, suc, ◌+◌, ◌<◌, Bool, true, false, List, [], ◌∷◌, ◌++◌, map, length, get_or, take, drop, filter, Option, Some, None, refl, sym, ap, ◌∙◌, subst, ap₂, ⊎_elim, inl, inr, arith, append_assoc}
+use Rattle.std.specs.Prelude.{◌⊎◌, ◌&&◌, ◌==◌, nat_lt, cond, is_none, slice_get, unwrap_or}
 use Rattle.std.proofs.lemmas.Bool.{cases_Bool, cases_lt, cases_eq, eqb-true, ltb-true, false≢true, false_from_ne_true, or_left, or_right, or_cases, and_parts}
 use Rattle.std.proofs.lemmas.List.{drop_more, take_more, length-drop, map-append}
 use Rattle.std.proofs.lemmas.List.Sums.{sum_by-cons}

@@ -1,13 +1,13 @@
 -- The hashes of all needed places serve as those of a message in full.
-use Rattle.std.proofs.Common.{◌≡◌, ℕ, zero, suc, ◌+◌, ◌*◌, ◌<◌, Bool, true, false, List, [], ◌∷◌, ◌++◌, map, length, filter, Option, Some, None, refl, sym, ap, ◌∙◌, subst, ap₂, ⊎_elim, arith, eq-eqb}
-use Rattle.std.specs.Prelude.{◌==◌, not, is_none, unwrap_or, if◌then◌else◌}
+use Rattle.std.proofs.Common.{◌≡◌, ℕ, zero, suc, ◌+◌, ◌*◌, Bool, true, false, List, [], ◌∷◌, map, length, filter, Option, Some, None, refl, sym, ap, ◌∙◌, subst, ap₂, ⊎_elim, eq-eqb}
+use Rattle.std.specs.Prelude.{◌==◌, is_none, if◌then◌else◌}
 use Rattle.std.specs.Option.{option_or}
 use Rattle.std.proofs.lemmas.Bool.{cases_Bool}
 use Rattle.std.proofs.lemmas.List.{length-map, map-id}
 use Rattle.std.proofs.lemmas.Option.{none-some, same_Some}
 use Rattle.uo_digest.specs.declared.digest.Digest.{Digest}
 use Rattle.forest_place.specs.declared.place.Place.{Place}
-use Rattle.forest_place.specs.Forest.{InForest, is_root, is_slot, root_off, sibling_off}
+use Rattle.forest_place.specs.Forest.{InForest, is_slot, root_off, sibling_off}
 use Rattle.forest_place.specs.Places.{has_place}
 use Rattle.forest_place.proofs.Listed.{place}
 use Rattle.forest_place.proofs.Parts.{InForest-root, InForest-left, InForest-right, not_root-left, not_root-right, is_root-root_off}

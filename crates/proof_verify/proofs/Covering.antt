@@ -1,5 +1,5 @@
 -- What is gathered of the covered places is what the proof comes to at each.
-use Rattle.std.proofs.Common.{◌≡◌, ℕ, zero, suc, ◌+◌, ◌<◌, true, false, List, map, length, get_or, Option, Some, None, is_some, refl, sym, ap, ◌∙◌, subst, inl, inr, arith}
+use Rattle.std.proofs.Common.{◌≡◌, ℕ, zero, suc, ◌<◌, true, false, List, map, length, get_or, Option, Some, None, is_some, refl, sym, ap, ◌∙◌, subst, inl, inr, arith}
 use Rattle.std.specs.Prelude.{◌⊎◌}
 use Rattle.std.specs.List.{range_with_len}
 use Rattle.std.proofs.lemmas.Bool.{cases_Bool, false≢true}
@@ -7,21 +7,18 @@ use Rattle.std.proofs.lemmas.List.FromFn.{get_or-map-range_with_len, length-map-
 use Rattle.std.proofs.lemmas.Option.{same_Some}
 use Rattle.uo_digest.specs.declared.digest.Digest.{Digest}
 use Rattle.forest_place.specs.declared.place.Place.{Place}
-use Rattle.forest_place.specs.Forest.{InForest}
 use Rattle.forest_place.specs.Places.{has_place}
 use Rattle.forest_place.proofs.Listed.{place}
-use Rattle.forest_model.specs.Cover.{Cover, target, given, both, cover, need, HasShape}
-use Rattle.forest_model.specs.Evaluation.{evaluation, nothing_known}
+use Rattle.forest_model.specs.Cover.{Cover, target, cover, need, HasShape}
 use Rattle.forest_place.specs.Places.{place_in}
 use Rattle.proof_shape.specs.Survey.{has}
 use Rattle.proof_shape.proofs.Longer.{place_where}
 use Rattle.proof_verify.specs.Origins.{origin_at, AreHalves, IsTargetAt}
-use Rattle.proof_verify.specs.Nodes.{node_at, IsWithin, IsHalfWithin, CanEvaluate, AreEvaluated}
+use Rattle.proof_verify.specs.Nodes.{IsWithin, IsHalfWithin, CanEvaluate, AreEvaluated}
 use Rattle.proof_verify.specs.Room.{IsPlan}
 use Rattle.proof_verify.specs.Evaluation.{IsMade, IsEvaluatedAt, AreEvaluatedAt}
 use Rattle.proof_verify.specs.Gathered.{made_from, item_from, AreHalvesWithin, AreHalfwise}
 use Rattle.proof_verify.specs.declared.evaluation.CoveredPlace.{CoveredPlace}
-use Rattle.proof_verify.specs.declared.evaluation.Made.{Made}
 use Rattle.proof_verify.specs.declared.node.Node.{Node}
 use Rattle.proof_verify.specs.declared.origin.Half.{Half}
 use Rattle.proof_verify.specs.declared.origin.Half.TheVariants.{Covered, Needed}

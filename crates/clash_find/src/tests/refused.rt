@@ -132,9 +132,7 @@ fn place_of(place: (u8, u64)) -> Place {
 
 /// What stands at a place, or another digest where nothing does.
 fn digest_at(forest: &Forest<XorFold>, place: (u8, u64)) -> Digest {
-    forest
-        .digest_at(place_of(place))
-        .unwrap_or(Digest([9; 32]))
+    forest.digest_at(place_of(place)).unwrap_or(Digest([9; 32]))
 }
 
 fn check_row<L: Ledger>(
@@ -154,7 +152,13 @@ fn check_row<L: Ledger>(
         Some(place) => Some((place_of(place), digest_at(&forest, place))),
         None => None,
     };
-    let text = spell(alloc, row.lean, place_of(row.target), block_of(row.block), &hashes)?;
+    let text = spell(
+        alloc,
+        row.lean,
+        place_of(row.target),
+        block_of(row.block),
+        &hashes,
+    )?;
     let clash = clash_in(rt, alloc, &forest, &outputs, &text, known, steps)?;
     assert!(rt; clash.is_none());
     Ok(())

@@ -1,5 +1,5 @@
 use Rattle.cache_model.specs.Cache.{look}
-use Rattle.clash_find.proofs.Refusing.{no_shape, no_count, leaves_long, hashes_long, is_ready}
+use Rattle.clash_find.proofs.Refusing.{no_count, leaves_long, hashes_long, is_ready}
 use Rattle.clash_find.proofs.search.evaluated.Goals as goal
 
 pub returns-in-Err-Refused-full_hashes : goal.returns-in-Err-Refused-full_hashes
