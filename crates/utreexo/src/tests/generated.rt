@@ -99,14 +99,15 @@ fn rows(rt: HostRuntime) -> Result<(), Fail> {
     Ok(())
 }
 
-// The port takes a byte at each call, so where its call 5,000 fails it has 5,000 bytes, and no line was begun.
+// The port fails at its third call, and no line was begun.
 #[test]
 fn a_front_is_stored(rt: HostRuntime) -> Result<(), Fail> {
     let words = ["gen", "9", "51"];
     let whole = run_on::<Brand>(rt.alloc(), &words, &[], &[], Blank::new(1))?;
-    let front = run_on::<Brand>(rt.alloc(), &words, &[], &[5_000], Blank::new(1))?;
+    let front = run_on::<Brand>(rt.alloc(), &words, &[], &[2], Blank::new(1))?;
     assert_eq!(rt; front.status, Status::WriteFault);
-    assert!(rt; whole.out.as_slice().get(..5_000) == Some(front.out.as_slice()));
+    assert!(rt; !front.out.is_empty() && front.out.len() < 300);
+    assert!(rt; whole.out.as_slice().starts_with(front.out.as_slice()));
     assert!(rt; front.report.is_empty());
     Ok(())
 }
