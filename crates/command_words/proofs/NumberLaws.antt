@@ -105,6 +105,6 @@ module _ (most : ℕ) (word : List ℕ) (small : most < 2 ^ 64) (plain : begins_
 
   pub not_parsed : (IsNumber word → ⊥) → number_in most word ≡ None
   not_parsed p = no_number most word small (λ n few is.
-    let numeral = decimal_is_IsNumeral n few in
-    let q = subst (λ w. IsNumeral 10 w × (digits_value 10 w < 2 ^ 64)) (sym (unsigned ∙ is)) (numeral.0, subst (λ k. k < 2 ^ 64) (sym numeral.1) few) in
-    p q)
+      let numeral = decimal_is_IsNumeral n few in
+      let q = subst (λ w. IsNumeral 10 w × (digits_value 10 w < 2 ^ 64)) (sym (unsigned ∙ is)) (numeral.0, subst (λ k. k < 2 ^ 64) (sym numeral.1) few) in
+      p q)

@@ -57,19 +57,25 @@ IsBarred front = (rest : List (List ℕ)) (asked : Asked) → Asks (front ++ res
 
 -- all words are the front of an accepted list, which has more
 missing : (front : List (List ℕ)) → Begins front → ((asked : Asked) → Asks front asked → ⊥) → Means front (Err (record { at = length front }))
-missing front b none = (none, record {
-  within = omega arith;
-  begins = subst Begins (sym (take_all (length front) front (omega arith))) b;
-  greatest = λ j above most f. absurd (omega (arith, above, most));
-})
+missing front b none = (
+  none,
+  record {
+    within = omega arith;
+    begins = subst Begins (sym (take_all (length front) front (omega arith))) b;
+    greatest = λ j above most f. absurd (omega (arith, above, most));
+  },
+)
 
 -- the word behind such a front is bad
 bad_word : (front : List (List ℕ)) (word : List ℕ) (rest : List (List ℕ)) → Begins front → IsBarred (front ++ word ∷ []) → Means (front ++ word ∷ rest) (Err (record { at = length front }))
-bad_word front word rest b barred = (none, record {
-  within = omega (arith, length-append front (word ∷ rest));
-  begins = subst Begins (sym (take-whole front (word ∷ rest))) b;
-  greatest = greatest;
-})
+bad_word front word rest b barred = (
+  none,
+  record {
+    within = omega (arith, length-append front (word ∷ rest));
+    begins = subst Begins (sym (take-whole front (word ∷ rest))) b;
+    greatest = greatest;
+  },
+)
   where
     same : (xs : List (List ℕ)) → (front ++ word ∷ []) ++ xs ≡ front ++ word ∷ xs
     same xs = append_assoc front (word ∷ []) xs
@@ -83,7 +89,7 @@ bad_word front word rest b barred = (none, record {
         let one : j - length front ≡ suc k = omega (arith, above) in
         let cut : take j (front ++ word ∷ rest) ≡ front ++ word ∷ take k rest = take-within front (word ∷ rest) j (omega (arith, above)) ∙ ap (λ n. front ++ take n (word ∷ rest)) one in
         let all : take j (front ++ word ∷ rest) ++ f.rest ≡ (front ++ word ∷ []) ++ (take k rest ++ f.rest) =
-            ap (λ l. l ++ f.rest) cut ∙ append_assoc front (word ∷ take k rest) f.rest ∙ sym (same (take k rest ++ f.rest)) in
+        ap (λ l. l ++ f.rest) cut ∙ append_assoc front (word ∷ take k rest) f.rest ∙ sym (same (take k rest ++ f.rest)) in
         barred (take k rest ++ f.rest) f.asked (subst (λ l. Asks l f.asked) all f.asks)
 
 -- ---- words that are read as options

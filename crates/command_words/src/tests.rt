@@ -87,7 +87,15 @@ const ROWS: [Row; 10] = [
         },
     },
     Row {
-        words: &["gen", "18446744073709551615", "100000", "--to", "7", "--net", "regtest"],
+        words: &[
+            "gen",
+            "18446744073709551615",
+            "100000",
+            "--to",
+            "7",
+            "--net",
+            "regtest",
+        ],
         asked: Command::Gen {
             net: Net::Regtest,
             number: 18_446_744_073_709_551_615,

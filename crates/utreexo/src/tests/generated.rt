@@ -50,6 +50,10 @@ const ROWS: [Row; 4] = [
     },
 ];
 
+/// The last line of a follower in Python over the feed of `gen 9 51`.
+const LAST_LINE: &[u8] =
+    b"end 52 48 8e335d39d887cd211aeefd80e4e917b9c601c565a44682ed25df967531521528 48\n";
+
 // A run without faults, but for the call of this number on the port that stores.
 fn run_on<L: Ledger>(
     alloc: Global,
@@ -99,14 +103,15 @@ fn rows(rt: HostRuntime) -> Result<(), Fail> {
     Ok(())
 }
 
-// The port takes a byte at each call, so where its call 5,000 fails it has 5,000 bytes, and no line was begun.
+// The port fails at its third call, and no line was begun.
 #[test]
 fn a_front_is_stored(rt: HostRuntime) -> Result<(), Fail> {
     let words = ["gen", "9", "51"];
     let whole = run_on::<Brand>(rt.alloc(), &words, &[], &[], Blank::new(1))?;
-    let front = run_on::<Brand>(rt.alloc(), &words, &[], &[5_000], Blank::new(1))?;
+    let front = run_on::<Brand>(rt.alloc(), &words, &[], &[2], Blank::new(1))?;
     assert_eq!(rt; front.status, Status::WriteFault);
-    assert!(rt; whole.out.as_slice().get(..5_000) == Some(front.out.as_slice()));
+    assert!(rt; !front.out.is_empty() && front.out.len() < 300);
+    assert!(rt; whole.out.as_slice().starts_with(front.out.as_slice()));
     assert!(rt; front.report.is_empty());
     Ok(())
 }
@@ -117,7 +122,6 @@ fn a_young_chain_is_followed(rt: HostRuntime) -> Result<(), Fail> {
     let made = run_on::<Brand>(rt.alloc(), &["gen", "9", "51"], &[], &[], Blank::new(1))?;
     let told = run_on::<Brand>(rt.alloc(), &["follow"], &made.out, &[], Blank::new(1))?;
     assert_eq!(rt; told.status, Status::AllAccepted);
-    assert!(rt; told.report.as_slice().split(|byte| *byte == 10).count() == 54);
-    assert!(rt; told.report.as_slice().ends_with(b" 48\n".as_slice()));
+    assert!(rt; told.report.as_slice().ends_with(LAST_LINE));
     Ok(())
 }
