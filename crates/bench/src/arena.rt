@@ -71,6 +71,17 @@ fn places(forest: &Forest<Sha512t256>, rounds: u64) -> u64 {
     seen
 }
 
+fn branches(forest: &Forest<Sha512t256>, rounds: u64) -> u64 {
+    let mut seen = 0;
+    for i in 0..rounds {
+        let number = chosen(i, forest.leaves());
+        if forest.live(number) {
+            seen ^= forest.branch(number).siblings.len() as u64;
+        }
+    }
+    seen
+}
+
 fn digests_at(forest: &Forest<Sha512t256>, rounds: u64) -> u8 {
     let mut seen = 0;
     for i in 0..rounds {
@@ -136,10 +147,14 @@ fn measure_look_ups<R: Clock + Print>(
     let start = Instant::now(rt)?;
     let digest = digests_at(forest, rounds);
     let reading = start.elapsed(rt)?;
+    let start = Instant::now(rt)?;
+    let siblings = branches(forest, rounds);
+    let proving = start.elapsed(rt)?;
     println!(rt;
-        "  {rounds} times: place {} us, digest_at {} us; {place} {digest}",
+        "  {rounds} times: place {} us, digest_at {} us, branch {} us; {place} {digest} {siblings}",
         placing.as_micros(),
-        reading.as_micros()
+        reading.as_micros(),
+        proving.as_micros()
     )
 }
 
