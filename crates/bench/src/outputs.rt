@@ -2,6 +2,7 @@
 ghost use Rattle.std.specs.Prelude.{◌+◌, OnOk};
 ghost use Rattle.output_index.specs.Held.{IsAbove};
 
+use crate::probe::descend;
 use leaf_record::Record;
 use output_index::Outputs;
 use std::alloc::Global;
@@ -16,6 +17,7 @@ use uo_digest::Digest;
 pub fn measure_outputs<R: Clock + Print + AllocGlobal>(rt: &R) -> io::Result<()> {
     for entries in [100_000, 1_000_000, 10_000_000] {
         measure(rt, rt.alloc(), entries)?;
+        measure_bare(rt, rt.alloc(), entries)?;
     }
     Ok(())
 }
@@ -82,6 +84,31 @@ fn spend_all(outputs: &mut Outputs, entries: u32) {
 
 fn nanoseconds(elapsed: Duration, count: u32) -> u128 {
     elapsed.as_nanos() / u128::from(count.max(1))
+}
+
+// Bytes of the index and its records for each entry.
+const ENTRY: usize = 264;
+
+// Two searches for each entry by bare reads over as many bytes as the index takes.
+fn search_bare(words: &[u64], levels: u32, entries: u32) -> u64 {
+    let mut seen = 0;
+    for i in 0..entries {
+        seen ^= descend(words, levels, u64::from(i));
+        seen ^= descend(words, levels, !seen);
+    }
+    seen
+}
+
+fn measure_bare<R: Clock + Print>(rt: &R, alloc: Global, entries: u32) -> io::Result<()> {
+    let words = vec![in alloc; 0u64; entries as usize * (ENTRY / 8)]?;
+    let levels = (entries.max(1).ilog2() + 2) / 3;
+    let start = Instant::now(rt)?;
+    let seen = search_bare(&words, levels, entries);
+    let time = start.elapsed(rt)?;
+    println!(rt;
+        "  two searches of {levels} bare reads over as many bytes: {} ns; {seen}",
+        nanoseconds(time, entries)
+    )
 }
 
 fn measure<R: Clock + Print>(rt: &R, alloc: Global, entries: u32) -> io::Result<()> {

@@ -48,6 +48,16 @@ beside_right H n leaves parts number zero right h = digest-leaf H (sibling_off (
 beside_right H n leaves parts number (suc row) right h =
     right.is row (sibling_off (number / 2 ^ suc row)) (sibling_in n (suc row) (number / 2 ^ suc row) (subst (λ x. InForest n (suc (suc row)) x) (parts-suc number (suc row)) h)) (λ low same. sibling_apart (number / 2 ^ suc row) (sym same))
 
+-- a part that has the entry may be anything
+pub path_cleared : (H : List ℕ → Digest) (n : ℕ) (leaves parts : List (Option Digest)) (number row o at : ℕ) (digest : Option Digest) → at ≡ middle row o → o ≡ number / 2 ^ suc row → ArePartsBut H n leaves parts number 0 → ArePartsBut H n leaves (set parts at digest) number 0
+path_cleared H n leaves parts number row o at digest ae here but = record {
+  is = λ r p h off_path.
+      get_or-set_other parts at (middle r p) digest None (λ same.
+      let w = middle_one r p row o (same ∙ ae) in
+      off_path (omega arith) (ap (λ k. number / 2 ^ suc k) w.0 ∙ sym here ∙ sym w.1))
+      ∙ but.is r p h off_path;
+}
+
 -- the parts beside an entry's, below this row
 pub record AreFound (H : List ℕ → Digest) (n : ℕ) (leaves : List (Option Digest)) (number row : ℕ) (found : List (Option Digest)) : Type 0 where
   pub forty : length found ≡ 40
