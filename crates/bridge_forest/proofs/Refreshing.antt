@@ -32,6 +32,10 @@ row_open n number row off r here ge h =
     let up = path_below n number (suc row) (suc r) (omega arith) h in
     omega (arith, up, parts-suc number row, parts-suc n row, here)
 
+pub kept_right_but : (H : List ℕ → Digest) (n : ℕ) (leaves parts : List (Option Digest)) (number row off : ℕ) → ArePartsBut H n leaves parts number row → InForest n row off → kept leaves parts row off ≡ part_digest H leaves row off
+kept_right_but H n leaves parts number zero off right h = digest-leaf H off (get_or leaves off None)
+kept_right_but H n leaves parts number (suc row) off right h = right.is row off h (λ le. absurd (omega arith))
+
 pub up_within : (n row off : ℕ) → off / 2 < n / 2 ^ row / 2 → InForest n (suc row) (off / 2)
 up_within n row off lt = omega (arith, parts-suc n row, lt)
 

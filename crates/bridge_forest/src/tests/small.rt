@@ -180,7 +180,10 @@ fn check_branches<D: Digester, L: Ledger>(
             let branch = both.forest.branch(number);
             let row = branch.place.row.wrapping_add(branch.siblings.len() as u8);
             let root = climb::<D, L>(leaf, &branch, steps);
-            assert!(rt; roots.root(row) == Some(Some(root)), "the branch of entry {number}");
+            assert!(rt;
+                roots.root(row) == Some(Some(root)),
+                "the branch of entry {number}"
+            );
         }
     }
 }
