@@ -1,18 +1,18 @@
 //! A forest that is changed in place.
 ghost use Rattle.std.specs.Prelude.{◌≡◌, ◌^◌, ◌<◌};
 
+use crate::stopwatch::Stopwatch;
 use bridge_forest::Forest;
 use forest_place::{Place, slot_of};
 use forest_roots::pair;
 use std::alloc::Global;
 use std::io;
-use std::rt::Clock;
 use std::sync::ledger::{Blank, Ledger};
-use std::time::Instant;
+use std::time::CpuClock;
 use uo_digest::{Digest, Sha512t256, Steps};
 
 /// Nanoseconds of additions, of changes and of look-ups over a hundred thousand to ten million entries.
-pub fn measure_arena<R: Clock + Print + AllocGlobal, L: Ledger>(
+pub fn measure_arena<R: CpuClock + Print + AllocGlobal, L: Ledger>(
     rt: &R,
     blank: Blank,
 ) -> io::Result<()>
@@ -71,6 +71,17 @@ fn places(forest: &Forest<Sha512t256>, rounds: u64) -> u64 {
     seen
 }
 
+fn branches(forest: &Forest<Sha512t256>, rounds: u64) -> u64 {
+    let mut seen = 0;
+    for i in 0..rounds {
+        let number = chosen(i, forest.leaves());
+        if forest.live(number) {
+            seen ^= forest.branch(number).siblings.len() as u64;
+        }
+    }
+    seen
+}
+
 fn digests_at(forest: &Forest<Sha512t256>, rounds: u64) -> u8 {
     let mut seen = 0;
     for i in 0..rounds {
@@ -105,18 +116,17 @@ fn digest_alone<L: Ledger>(count: u64, steps: &mut Steps<L>) -> Digest {
     digest
 }
 
-fn measure_additions<R: Clock + Print, L: Ledger>(
+fn measure_additions<R: CpuClock + Print, L: Ledger>(
     rt: &R,
     forest: &mut Forest<Sha512t256>,
     entries: u64,
     steps: &mut Steps<L>,
 ) -> io::Result<()> {
-    let start = Instant::now(rt)?;
+    let mut watch = Stopwatch::start(rt)?;
     add_all(forest, entries, steps);
-    let time = start.elapsed(rt)?;
-    let start = Instant::now(rt)?;
+    let time = watch.lap(rt)?;
     let last = digest_alone(entries, steps);
-    let bare = start.elapsed(rt)?;
+    let bare = watch.lap(rt)?;
     println!(rt;
         "{entries} additions: {} us, as many digests alone {} us; {}",
         time.as_micros(),
@@ -125,40 +135,40 @@ fn measure_additions<R: Clock + Print, L: Ledger>(
     )
 }
 
-fn measure_look_ups<R: Clock + Print>(
+fn measure_look_ups<R: CpuClock + Print>(
     rt: &R,
     forest: &Forest<Sha512t256>,
     rounds: u64,
 ) -> io::Result<()> {
-    let start = Instant::now(rt)?;
+    let mut watch = Stopwatch::start(rt)?;
     let place = places(forest, rounds);
-    let placing = start.elapsed(rt)?;
-    let start = Instant::now(rt)?;
+    let placing = watch.lap(rt)?;
     let digest = digests_at(forest, rounds);
-    let reading = start.elapsed(rt)?;
+    let reading = watch.lap(rt)?;
+    let siblings = branches(forest, rounds);
+    let proving = watch.lap(rt)?;
     println!(rt;
-        "  {rounds} times: place {} us, digest_at {} us; {place} {digest}",
+        "  {rounds} times: place {} us, digest_at {} us, branch {} us; {place} {digest} {siblings}",
         placing.as_micros(),
-        reading.as_micros()
+        reading.as_micros(),
+        proving.as_micros()
     )
 }
 
-fn measure_changes<R: Clock + Print, L: Ledger>(
+fn measure_changes<R: CpuClock + Print, L: Ledger>(
     rt: &R,
     forest: &mut Forest<Sha512t256>,
     bare: u64,
     rounds: u64,
     steps: &mut Steps<L>,
 ) -> io::Result<()> {
-    let start = Instant::now(rt)?;
+    let mut watch = Stopwatch::start(rt)?;
     remove_all(forest, rounds, steps);
-    let removing = start.elapsed(rt)?;
-    let start = Instant::now(rt)?;
+    let removing = watch.lap(rt)?;
     restore_all(forest, rounds, steps);
-    let restoring = start.elapsed(rt)?;
-    let start = Instant::now(rt)?;
+    let restoring = watch.lap(rt)?;
     let last = digest_alone(bare, steps);
-    let alone = start.elapsed(rt)?;
+    let alone = watch.lap(rt)?;
     println!(rt;
         "  {rounds} times: remove {} us, restore {} us, the {bare} digests of each alone {} us; {}",
         removing.as_micros(),
@@ -168,7 +178,7 @@ fn measure_changes<R: Clock + Print, L: Ledger>(
     )
 }
 
-fn measure<R: Clock + Print, L: Ledger>(
+fn measure<R: CpuClock + Print, L: Ledger>(
     rt: &R,
     alloc: Global,
     entries: u64,

@@ -2,20 +2,23 @@
 ghost use Rattle.std.specs.Prelude.{◌+◌, OnOk};
 ghost use Rattle.output_index.specs.Held.{IsAbove};
 
+use crate::probe::descend;
+use crate::rate::nanoseconds_each;
+use crate::stopwatch::Stopwatch;
 use leaf_record::Record;
 use output_index::Outputs;
 use std::alloc::Global;
 use std::io;
-use std::rt::Clock;
-use std::time::{Duration, Instant};
+use std::time::CpuClock;
 use uo_base::NoMemory;
 use uo_digest::Digest;
 
 /// Nanoseconds of adding outputs, of finding them by their names, and of spending them, among a hundred thousand to ten
 /// million. The names differ in their last four bytes alone.
-pub fn measure_outputs<R: Clock + Print + AllocGlobal>(rt: &R) -> io::Result<()> {
+pub fn measure_outputs<R: CpuClock + Print + AllocGlobal>(rt: &R) -> io::Result<()> {
     for entries in [100_000, 1_000_000, 10_000_000] {
         measure(rt, rt.alloc(), entries)?;
+        measure_bare(rt, rt.alloc(), entries)?;
     }
     Ok(())
 }
@@ -80,28 +83,47 @@ fn spend_all(outputs: &mut Outputs, entries: u32) {
     }
 }
 
-fn nanoseconds(elapsed: Duration, count: u32) -> u128 {
-    elapsed.as_nanos() / u128::from(count.max(1))
+// Bytes of the index and its records for each entry.
+const ENTRY: usize = 264;
+
+// Two searches for each entry by bare reads over as many bytes as the index takes.
+fn search_bare(words: &[u64], levels: u32, entries: u32) -> u64 {
+    let mut seen = 0;
+    for i in 0..entries {
+        seen ^= descend(words, levels, u64::from(i));
+        seen ^= descend(words, levels, !seen);
+    }
+    seen
 }
 
-fn measure<R: Clock + Print>(rt: &R, alloc: Global, entries: u32) -> io::Result<()> {
+fn measure_bare<R: CpuClock + Print>(rt: &R, alloc: Global, entries: u32) -> io::Result<()> {
+    let words = vec![in alloc; 0u64; entries as usize * (ENTRY / 8)]?;
+    let levels = (entries.max(1).ilog2() + 2) / 3;
+    let mut watch = Stopwatch::start(rt)?;
+    let seen = search_bare(&words, levels, entries);
+    let time = watch.lap(rt)?;
+    println!(rt;
+        "  two searches of {levels} bare reads over as many bytes: {} ns; {seen}",
+        nanoseconds_each(u64::from(entries), time)
+    )
+}
+
+fn measure<R: CpuClock + Print>(rt: &R, alloc: Global, entries: u32) -> io::Result<()> {
     let mut outputs = Outputs::new(alloc);
-    let start = Instant::now(rt)?;
+    let mut watch = Stopwatch::start(rt)?;
     let added = insert_all(alloc, &mut outputs, entries);
-    let adding = start.elapsed(rt)?;
+    let adding = watch.lap(rt)?;
     if added.is_err() {
         return println!(rt; "{entries} outputs: no memory");
     }
-    let start = Instant::now(rt)?;
     let seen = find_all(&outputs, entries);
-    let finding = start.elapsed(rt)?;
-    let start = Instant::now(rt)?;
+    let finding = watch.lap(rt)?;
     spend_all(&mut outputs, entries);
-    let spending = start.elapsed(rt)?;
+    let spending = watch.lap(rt)?;
     println!(rt;
         "{entries} outputs: insert {} ns, newest {} ns, spend {} ns; {seen}",
-        nanoseconds(adding, entries),
-        nanoseconds(finding, entries),
-        nanoseconds(spending, entries)
+        nanoseconds_each(u64::from(entries), adding),
+        nanoseconds_each(u64::from(entries), finding),
+        nanoseconds_each(u64::from(entries), spending)
     )
 }

@@ -1,13 +1,14 @@
 -- The digests above a written entry, one row after another.
-use Rattle.std.proofs.Common.{◌≡◌, ℕ, zero, suc, ◌+◌, ◌*◌, ◌/◌, ◌^◌, ◌<◌, ◌≤◌, List, length, get_or, set, Option, Some, None, refl, sym, ap, ap₂, ◌∙◌, subst, ⊎_elim, arith}
+use Rattle.std.proofs.Common.{◌≡◌, ℕ, zero, suc, ◌+◌, ◌*◌, ◌/◌, ◌%◌, ◌^◌, ◌<◌, ◌≤◌, List, length, get_or, set, Option, Some, None, refl, sym, ap, ap₂, ◌∙◌, subst, ⊎_elim, arith}
 use Rattle.std.specs.Prelude.{option_map}
-use Rattle.std.proofs.lemmas.Bool.{cases_eq}
-use Rattle.std.proofs.lemmas.List.{get_or-set_same, get_or-set_other}
+use Rattle.std.proofs.lemmas.Bool.{cases_eq, cases_lt}
+use Rattle.std.proofs.lemmas.List.{get_or-set_same, get_or-set_other, length-set}
 use Rattle.uo_digest.specs.declared.digest.Digest.{Digest}
 use Rattle.forest_model.specs.Content.{Tree, leaf, join, content, digest_of, join_digests}
-use Rattle.forest_place.specs.Forest.{InForest}
-use Rattle.forest_place.proofs.Parts.{parts-suc, InForest-left, InForest-right}
-use Rattle.bridge_forest.specs.Parts.{middle, kept, part_digest, AreParts, ArePartsBut, pairs, digests_to}
+use Rattle.forest_place.specs.Forest.{InForest, sibling_off}
+use Rattle.forest_place.proofs.Parts.{parts-suc, InForest-down, not_root-down}
+use Rattle.forest_place.proofs.Siblings.{sibling_cases, sibling_within}
+use Rattle.bridge_forest.specs.Parts.{middle, kept, part_digest, AreParts, ArePartsBut, AreBeside, pairs, digests_to}
 use Rattle.bridge_forest.proofs.Middles.{middle_below, middle_one}
 use Rattle.bridge_forest.proofs.Entries.{content-set_other, parts_before, path_below}
 
@@ -25,18 +26,85 @@ pub kept_right : (H : List ℕ → Digest) (n : ℕ) (leaves parts : List (Optio
 kept_right H n leaves parts zero off right h = digest-leaf H off (get_or leaves off None)
 kept_right H n leaves parts (suc row) off right h = right.is row off h
 
+-- where a part further up is in the forest, so is the next one
+row_open : (n number row off r : ℕ) → off ≡ number / 2 ^ row → row ≤ r → InForest n (suc r) (number / 2 ^ suc r) → off / 2 < n / 2 ^ row / 2
+row_open n number row off r here ge h =
+    let up = path_below n number (suc row) (suc r) (omega arith) h in
+    omega (arith, up, parts-suc number row, parts-suc n row, here)
+
 pub kept_right_but : (H : List ℕ → Digest) (n : ℕ) (leaves parts : List (Option Digest)) (number row off : ℕ) → ArePartsBut H n leaves parts number row → InForest n row off → kept leaves parts row off ≡ part_digest H leaves row off
 kept_right_but H n leaves parts number zero off right h = digest-leaf H off (get_or leaves off None)
 kept_right_but H n leaves parts number (suc row) off right h = right.is row off h (λ le. absurd (omega arith))
 
+pub up_within : (n row off : ℕ) → off / 2 < n / 2 ^ row / 2 → InForest n (suc row) (off / 2)
+up_within n row off lt = omega (arith, parts-suc n row, lt)
+
+-- the sibling of a child
+pub sibling_in : (n row off : ℕ) → InForest n (suc row) (off / 2) → InForest n row (sibling_off off)
+sibling_in n row off h = sibling_within n row off (InForest-down n row off h) (not_root-down n row off h)
+
+sibling_apart : (off : ℕ) → sibling_off off ≡ off → ⊥
+sibling_apart off e = ⊎_elim (λ a. let z : ⊥ = omega (arith, a, e) in z) (λ a. let z : ⊥ = omega (arith, a, e) in z) (sibling_cases off)
+
+-- the part beside one that has the entry is right before anything is digested
+pub beside_right : (H : List ℕ → Digest) (n : ℕ) (leaves parts : List (Option Digest)) (number row : ℕ) → ArePartsBut H n leaves parts number 0 → InForest n (suc row) (number / 2 ^ suc row) → kept leaves parts row (sibling_off (number / 2 ^ row)) ≡ part_digest H leaves row (sibling_off (number / 2 ^ row))
+beside_right H n leaves parts number zero right h = digest-leaf H (sibling_off (number / 1)) (get_or leaves (sibling_off (number / 1)) None)
+beside_right H n leaves parts number (suc row) right h =
+    right.is row (sibling_off (number / 2 ^ suc row)) (sibling_in n (suc row) (number / 2 ^ suc row) (subst (λ x. InForest n (suc (suc row)) x) (parts-suc number (suc row)) h)) (λ low same. sibling_apart (number / 2 ^ suc row) (sym same))
+
+-- a part that has the entry may be anything
+pub path_cleared : (H : List ℕ → Digest) (n : ℕ) (leaves parts : List (Option Digest)) (number row o at : ℕ) (digest : Option Digest) → at ≡ middle row o → o ≡ number / 2 ^ suc row → ArePartsBut H n leaves parts number 0 → ArePartsBut H n leaves (set parts at digest) number 0
+path_cleared H n leaves parts number row o at digest ae here but = record {
+  is = λ r p h off_path.
+      get_or-set_other parts at (middle r p) digest None (λ same.
+      let w = middle_one r p row o (same ∙ ae) in
+      off_path (omega arith) (ap (λ k. number / 2 ^ suc k) w.0 ∙ sym here ∙ sym w.1))
+      ∙ but.is r p h off_path;
+}
+
+-- the parts beside an entry's, below this row
+pub record AreFound (H : List ℕ → Digest) (n : ℕ) (leaves : List (Option Digest)) (number row : ℕ) (found : List (Option Digest)) : Type 0 where
+  pub forty : length found ≡ 40
+  pub is : (r : ℕ) → r < row → InForest n (suc r) (number / 2 ^ suc r) → get_or found r None ≡ part_digest H leaves r (sibling_off (number / 2 ^ r))
+
+pub one_found : (H : List ℕ → Digest) (n : ℕ) (leaves found : List (Option Digest)) (number row : ℕ) (digest : Option Digest) → row < 40 → digest ≡ part_digest H leaves row (sibling_off (number / 2 ^ row)) → AreFound H n leaves number row found → AreFound H n leaves number (row + 1) (set found row digest)
+one_found H n leaves found number row digest low e all = record {
+  forty = length-set found row digest ∙ all.forty;
+  is = λ r lt h. ⊎_elim
+      (λ same. subst (λ k. get_or (set found row digest) k None ≡ part_digest H leaves k (sibling_off (number / 2 ^ k))) (sym same) (get_or-set_same found row digest None (omega (arith, low, all.forty)) ∙ e))
+      (λ other. get_or-set_other found row r digest None other ∙ all.is r (omega (arith, lt, other)) h)
+      (cases_eq r row);
+}
+
+pub all_found : (H : List ℕ → Digest) (n : ℕ) (leaves found : List (Option Digest)) (number row off : ℕ) → off ≡ number / 2 ^ row → (off / 2 < n / 2 ^ row / 2 → ⊥) → AreFound H n leaves number row found → AreBeside H n leaves number found
+all_found H n leaves found number row off here top all = record { is = λ r h. ⊎_elim (λ lt. all.is r lt h) (λ ge. absurd (top (row_open n number row off r here ge h))) (cases_lt r row) }
+
+-- the two halves of the part above
+pub halves_right : (H : List ℕ → Digest) (leaves : List (Option Digest)) (row off : ℕ) (half other left right : Option Digest) → half ≡ part_digest H leaves row off → other ≡ part_digest H leaves row (sibling_off off) →
+    (off % 2 ≡ 0 → (left ≡ half) × (right ≡ other)) → (off % 2 ≡ 1 → (left ≡ other) × (right ≡ half)) →
+    (left ≡ part_digest H leaves row (2 * (off / 2))) × (right ≡ part_digest H leaves row (2 * (off / 2) + 1))
+halves_right H leaves row off half other left right he oe even odd =
+    ⊎_elim
+    (λ a.
+    let l : off ≡ 2 * (off / 2) = omega (arith, a) in
+    let r : sibling_off off ≡ 2 * (off / 2) + 1 = omega (arith, a) in
+    ((even a.0).0 ∙ he ∙ ap (part_digest H leaves row) l, (even a.0).1 ∙ oe ∙ ap (part_digest H leaves row) r))
+    (λ a.
+    let l : sibling_off off ≡ 2 * (off / 2) = omega (arith, a) in
+    let r : off ≡ 2 * (off / 2) + 1 = omega (arith, a) in
+    ((odd a.0).0 ∙ oe ∙ ap (part_digest H leaves row) l, (odd a.0).1 ∙ he ∙ ap (part_digest H leaves row) r))
+    (sibling_cases off)
+
+-- their digest is that of the part above
+pub joined_right : (H : List ℕ → Digest) (leaves : List (Option Digest)) (row o : ℕ) (left right digest : Option Digest) → left ≡ part_digest H leaves row (2 * o) → right ≡ part_digest H leaves row (2 * o + 1) → digest ≡ join_digests H left right → digest ≡ part_digest H leaves (suc row) o
+joined_right H leaves row o left right digest le re de =
+    de ∙ ap₂ (join_digests H) le re ∙ sym (digest-joined H (content leaves row (2 * o)) (content leaves row (2 * o + 1)))
+
 module _ (H : List ℕ → Digest) (n : ℕ) (leaves parts : List (Option Digest)) (number : ℕ) where
   -- one row more
-  pub row_more : (row o : ℕ) (left right digest : Option Digest) → n ≤ length parts → o ≡ number / 2 ^ suc row → InForest n (suc row) o → ArePartsBut H n leaves parts number row →
-      left ≡ kept leaves parts row (2 * o) → right ≡ kept leaves parts row (2 * o + 1) → digest ≡ join_digests H left right →
+  pub row_more : (row o : ℕ) (digest : Option Digest) → n ≤ length parts → o ≡ number / 2 ^ suc row → InForest n (suc row) o → ArePartsBut H n leaves parts number row → digest ≡ part_digest H leaves (suc row) o →
       ArePartsBut H n leaves (set parts (middle row o) digest) number (suc row)
-  row_more row o left right digest room here within but le re de =
-      let x : digest ≡ part_digest H leaves (suc row) o =
-      de ∙ ap₂ (join_digests H) (le ∙ kept_right_but H n leaves parts number row (2 * o) but (InForest-left n row o within)) (re ∙ kept_right_but H n leaves parts number row (2 * o + 1) but (InForest-right n row o within)) ∙ sym (digest-joined H (content leaves row (2 * o)) (content leaves row (2 * o + 1))) in
+  row_more row o digest room here within but x =
       let lt : middle row o < length parts = omega (arith, middle_below n row o within) in
       record {
         is = λ r p h off_path.
@@ -56,13 +124,12 @@ module _ (H : List ℕ → Digest) (n : ℕ) (leaves parts : List (Option Digest
       }
 
   -- the same where the code has written it
-  pub row_written : (row o at : ℕ) (left right digest : Option Digest) → n ≤ length parts → at ≡ middle row o → o ≡ number / 2 ^ suc row → InForest n (suc row) o → ArePartsBut H n leaves parts number row →
-      left ≡ kept leaves parts row (2 * o) → right ≡ kept leaves parts row (2 * o + 1) → digest ≡ join_digests H left right →
+  pub row_written : (row o at : ℕ) (digest : Option Digest) → n ≤ length parts → at ≡ middle row o → o ≡ number / 2 ^ suc row → InForest n (suc row) o → ArePartsBut H n leaves parts number row → digest ≡ part_digest H leaves (suc row) o →
       ArePartsBut H n leaves (set parts at digest) number (row + 1)
-  row_written row o at left right digest room ae here within but le re de =
+  row_written row o at digest room ae here within but x =
       let e : suc row ≡ row + 1 = omega arith in
-      subst (λ x. ArePartsBut H n leaves (set parts x digest) number (row + 1)) (sym ae)
-      (subst (λ x. ArePartsBut H n leaves (set parts (middle row o) digest) number x) e (row_more row o left right digest room here within but le re de))
+      subst (λ k. ArePartsBut H n leaves (set parts k digest) number (row + 1)) (sym ae)
+      (subst (λ k. ArePartsBut H n leaves (set parts (middle row o) digest) number k) e (row_more row o digest room here within but x))
 
   -- all rows
   pub rows_done : (row off : ℕ) → off ≡ number / 2 ^ row → (off / 2 < n / 2 ^ row / 2 → ⊥) → ArePartsBut H n leaves parts number row → AreParts H n leaves parts
@@ -70,11 +137,7 @@ module _ (H : List ℕ → Digest) (n : ℕ) (leaves parts : List (Option Digest
       record {
         is = λ r p h.
             but.is r p h (λ low at.
-            let in_row : InForest n (suc r) (number / 2 ^ suc r) = subst (λ x. InForest n (suc r) x) (sym at) h in
-            let up = path_below n number (suc row) (suc r) (omega arith) in_row in
-            let e = parts-suc number row in
-            let f = parts-suc n row in
-            top (omega (arith, up, e, f, here)));
+            top (row_open n number row off r here low (subst (λ x. InForest n (suc r) x) (sym at) h)));
       }
 
 -- an entry is written: all parts without it are right
@@ -98,11 +161,11 @@ pairs-mapped H (Some l) None = refl
 pairs-mapped H (Some l) (Some r) = refl
 
 -- the steps of one row more
-pub cost_more : (H : List ℕ → Digest) (n : ℕ) (leaves parts : List (Option Digest)) (number row o : ℕ) (left right : Option Digest) (first before after : ℕ) → o ≡ number / 2 ^ suc row → InForest n (suc row) o → ArePartsBut H n leaves parts number row →
-    left ≡ kept leaves parts row (2 * o) → right ≡ kept leaves parts row (2 * o + 1) → before ≡ first + digests_to leaves number row → after ≡ before + pairs left right →
+pub cost_more : (H : List ℕ → Digest) (leaves : List (Option Digest)) (number row o : ℕ) (left right : Option Digest) (first before after : ℕ) → o ≡ number / 2 ^ suc row →
+    left ≡ part_digest H leaves row (2 * o) → right ≡ part_digest H leaves row (2 * o + 1) → before ≡ first + digests_to leaves number row → after ≡ before + pairs left right →
     after ≡ first + digests_to leaves number (suc row)
-cost_more H n leaves parts number row o left right first before after here within but le re be ae =
+cost_more H leaves number row o left right first before after here le re be ae =
     let p : pairs left right ≡ pairs (content leaves row (2 * o)) (content leaves row (2 * o + 1)) =
-    ap₂ pairs (le ∙ kept_right_but H n leaves parts number row (2 * o) but (InForest-left n row o within)) (re ∙ kept_right_but H n leaves parts number row (2 * o + 1) but (InForest-right n row o within)) ∙ pairs-mapped H (content leaves row (2 * o)) (content leaves row (2 * o + 1)) in
+    ap₂ pairs le re ∙ pairs-mapped H (content leaves row (2 * o)) (content leaves row (2 * o + 1)) in
     let q : pairs left right ≡ pairs (content leaves row (2 * (number / 2 ^ suc row))) (content leaves row (2 * (number / 2 ^ suc row) + 1)) = subst (λ x. pairs left right ≡ pairs (content leaves row (2 * x)) (content leaves row (2 * x + 1))) here p in
     omega (arith, be, ae, q)

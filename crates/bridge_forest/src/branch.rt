@@ -1,0 +1,31 @@
+//! What proves a live entry.
+use arrayvec::ArrayVec;
+use forest_place::Place;
+use uo_digest::Digest;
+
+/// A place of the forest that is the sibling of another, and the digest that stands there.
+#[derive(Clone, Copy, Debug, PartialEq, Eq)]
+pub struct Sibling {
+    /// The place.
+    pub place: Place,
+    /// The digest of the node that stands there.
+    pub digest: Digest,
+}
+
+impl Default for Sibling {
+    fn default() -> Self {
+        Sibling {
+            place: Place { row: 0, off: 0 },
+            digest: Digest([0; 32]),
+        }
+    }
+}
+
+/// Where a live entry stands, and what proves it: the merkle branch from there up.
+#[derive(Drop)]
+pub struct Branch {
+    /// The place at which the entry stands.
+    pub place: Place,
+    /// The siblings of this place and of those above it, from below the root of the slot down.
+    pub siblings: ArrayVec<Sibling, 40>,
+}
