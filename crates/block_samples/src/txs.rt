@@ -86,6 +86,16 @@ pub fn coinbase(alloc: Global, height: u32, outputs: &[OutView<'_>]) -> Result<T
     legacy_tx(alloc, &[input], outputs, 0)
 }
 
+fn items_of(alloc: Global, items: &[&[u8]]) -> Result<Vec<Vec<u8>>, NoMemory>
+    ensures { IfOk result (λ owned. length owned.items ≡ length items.now) }
+{
+    let mut owned = Vec::new(alloc);
+    for item in items {
+        owned.push(Vec::from_slice(alloc, item)?)?;
+    }
+    Ok(owned)
+}
+
 /// The transaction with this witness for its one input, of at least one item.
 pub fn witnessed(alloc: Global, tx: Tx, items: &[&[u8]]) -> Result<Tx, NoMemory>
     requires one { length tx.inputs ≡ 1 }
@@ -93,11 +103,7 @@ pub fn witnessed(alloc: Global, tx: Tx, items: &[&[u8]]) -> Result<Tx, NoMemory>
     // It has a text.
     ensures writable { IfOk result IsWritable }
 {
-    let mut stack = Vec::new(alloc);
-    for item in items {
-        stack.push(Vec::from_slice(alloc, item)?)?;
-    }
     let mut stacks = Vec::new(alloc);
-    stacks.push(stack)?;
+    stacks.push(items_of(alloc, items)?)?;
     Ok(Tx { stacks, ..tx })
 }
