@@ -62,12 +62,7 @@ const ROWS: [Row; 4] = [
     ],
 ];
 
-fn check_row<L: Ledger>(
-    rt: &impl Abort,
-    alloc: Global,
-    row: Row,
-    blank: Blank,
-) -> Result<(), Fail>
+fn check_row<L: Ledger>(rt: &impl Abort, alloc: Global, row: Row, blank: Blank) -> Result<(), Fail>
     requires name { blank.name ≡ L.name }
     requires parts { blank.parts ≡ L.parts }
     requires some { 0 < blank.parts }

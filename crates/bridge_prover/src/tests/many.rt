@@ -65,7 +65,15 @@ fn check_many<L: Ledger>(rt: &impl Abort, alloc: Global, blank: Blank) -> Result
     assert!(rt; matches!(told.verdict, Verdict::Accepted { .. }));
     assert_eq!(rt; told.front.0, 1_316_774);
     let back = pair.go_back(rt, 1, &mut steps)?;
-    assert!(rt; matches!(back, Verdict::RolledBack { height: Some(100), .. }));
+    assert!(rt;
+        matches!(
+            back,
+            Verdict::RolledBack {
+                height: Some(100),
+                ..
+            }
+        )
+    );
     Ok(())
 }
 

@@ -139,17 +139,18 @@ impl Pair {
     ) -> Result<Told, Fail> {
         let height = self.bridge.chain().blocks;
         let proved = prove(&mut self.bridge, &block.text, steps)?;
+        let verdict = proved.verdict;
         let message = proved.message.as_deref();
-        if let Verdict::Accepted { .. } = proved.verdict {
-            let verdict = follow(&mut self.node, &block.text, message, steps)?;
-            assert_eq!(rt; verdict, proved.verdict);
+        if let Verdict::Accepted { .. } = verdict {
+            let followed = follow(&mut self.node, &block.text, message, steps)?;
+            assert_eq!(rt; followed, verdict);
             self.hashes.push(block.hash)?;
             self.ids.push(*block.ids.first().ok_or("a coinbase")?)?;
         }
         Ok(Told {
             height,
             hash: block.hash,
-            verdict: proved.verdict,
+            verdict,
             front: front_of(message),
         })
     }
@@ -207,12 +208,13 @@ impl Pair {
         let event = Event::Rollback { count };
         let proved = self.bridge.step(event, steps)?;
         assert!(rt; proved.message.is_none());
-        assert_eq!(rt; self.node.step(event, steps)?, proved.verdict);
-        if let Verdict::RolledBack { .. } = proved.verdict {
+        let verdict = proved.verdict;
+        assert_eq!(rt; self.node.step(event, steps)?, verdict);
+        if let Verdict::RolledBack { .. } = verdict {
             let left = self.hashes.len().saturating_sub(count as usize);
             self.hashes.truncate(left);
             self.ids.truncate(left);
         }
-        Ok(proved.verdict)
+        Ok(verdict)
     }
 }
