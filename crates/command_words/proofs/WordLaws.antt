@@ -1,13 +1,13 @@
 -- What is read out of words is what they mean.
-use Rattle.std.proofs.Common.{◌≡◌, ℕ, zero, suc, ◌+◌, ◌-◌, ◌<◌, ◌≤◌, ◌^◌, Bool, true, false, List, [], ◌∷◌, ◌++◌, length, take, take_all, Option, Some, None, Result, Ok, Err, codes, decimal, bytes_eq, refl, sym, ap, ap₂, subst, ◌∙◌, arith, if◌then◌else◌, length-append, append-nil, append_assoc}
+use Rattle.std.proofs.Common.{◌≡◌, ℕ, suc, ◌+◌, ◌-◌, ◌<◌, ◌≤◌, ◌^◌, Bool, true, false, List, [], ◌∷◌, ◌++◌, length, take, take_all, Option, Some, None, Result, Ok, Err, codes, decimal, bytes_eq, refl, sym, ap, ap₂, subst, ◌∙◌, arith, if◌then◌else◌, length-append, append-nil, append_assoc}
 use Rattle.std.proofs.lemmas.Bool.{true≢false}
 use Rattle.std.proofs.lemmas.Fmt.{decimal_injective}
 use Rattle.std.specs.Cmp.Lexicographic.{same_text}
 use Rattle.uo_base.specs.declared.event.Net.{Net}
 use Rattle.command_words.specs.declared.words.WordFault.{WordFault}
 use Rattle.command_words.specs.Numbers.{number_in}
-use Rattle.command_words.specs.Options.{Given, words_of, Settings, settings_of, nothing, needs, settings_from}
-use Rattle.command_words.specs.Words.{Asked, AskedGen, Task, Following, Generating, front_of, IsInRange, options_of, asked_by, Asks, Begins, IsFarthest, Means, read_for, options_for, blocks_for, gen_for, command_of}
+use Rattle.command_words.specs.Options.{words_of, Settings, settings_of, nothing, needs, settings_from}
+use Rattle.command_words.specs.Words.{Asked, AskedGen, Task, Following, Generating, front_of, IsInRange, options_of, asked_by, Asks, Begins, Means, read_for, options_for, blocks_for, gen_for, command_of}
 use Rattle.command_words.proofs.NumberLaws.{number_is, number_again}
 use Rattle.command_words.proofs.OptionLaws.{Sound, sound, reads_all}
 
