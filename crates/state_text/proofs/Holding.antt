@@ -3,7 +3,8 @@ use Rattle.std.proofs.Common.{◌≡◌, ℕ, suc, ◌+◌, ◌<◌, Bool, true,
 use Rattle.std.specs.Prelude.{◌⊎◌, ◌||◌, ◌&&◌, not, is_some, option_map}
 use Rattle.std.specs.List.{AllByRecursion, cons_option}
 use Rattle.std.proofs.lemmas.Bool.{cases_Bool, false≢true, or_left, and_parts}
-use Rattle.std.proofs.lemmas.Option.{none-some}
+use Rattle.std.proofs.lemmas.Option.{none-some, same_Some}
+use Rattle.std.proofs.lemmas.Simd.{map-map}
 use Rattle.std.proofs.lemmas.List.{length-map}
 use Rattle.std.proofs.Math.ListN.{get_or-map}
 use Rattle.uo_digest.specs.declared.digest.Digest.{Digest}
@@ -23,15 +24,20 @@ use Rattle.forest_model.proofs.Lists.{need_has, need_had, need_ascending}
 use Rattle.forest_model.proofs.Right.{computed_at, hash_right}
 use Rattle.proof_shape.proofs.Needing.{ascending_from_rises}
 use Rattle.proof_shape.proofs.Ordered.{has_at}
+use Rattle.proof_shape.specs.Survey.{IsCoverOf}
 use Rattle.proof_verify.specs.Judged.{pair_at}
-use Rattle.proof_verify.specs.Covered.{AreCovered}
+use Rattle.proof_verify.specs.Evaluation.{AreEvaluatedAt}
+use Rattle.proof_verify.specs.declared.evaluation.CoveredPlace.{CoveredPlace}
+use Rattle.proof_verify.specs.declared.evaluation.Made.TheVariants.{Target}
 use Rattle.proof_verify.proofs.Values.{asked_all}
 use Rattle.cache_model.specs.Known.{is_watched, kept_from, is_known}
 use Rattle.node_rules.proofs.Hashes.{hashes_there}
 use Rattle.state_text.specs.declared.entry.StoredEntry.{StoredEntry}
 use Rattle.state_text.specs.Stored.{places_of, leaves_of}
 use Rattle.state_text.specs.OfHistory.{kept_entry, kept_entries, level_kept, digests_at}
-use Rattle.state_text.specs.Held.{held_by, held_at, IsHeld, AreHeld, merged, paired, HeldIsKnown}
+use Rattle.state_text.specs.Told.{told_by, told_at, told_list, HeldIsKnown}
+use Rattle.state_text.specs.Merged.{merged, paired, told_pair}
+use Rattle.state_text.proofs.ToldLists.{IsHeld, AreHeld, listed}
 use Rattle.state_text.proofs.KeptLaws.{AreKeptAt, all_kept, target_stands, leaves_shown}
 use Rattle.state_text.proofs.Merging.{places_in, merged-all, merged-has, merged-ascends, places-paired}
 
@@ -70,6 +76,23 @@ paired-beside none (p ∷ ps) (d ∷ ds) distinct e = (
 
 -- ---- what is told
 
+-- covered places in order, each with what its cover evaluates to
+record AreCovered (H : List ℕ → Digest) (n : ℕ) (ts : List Place) (leaves hashes : List Digest) (pairs : List (Place × Digest)) : Type 0 where
+  cover_is : IsCoverOf n ts (places_in pairs)
+  digests : (m : ℕ) (c : Cover) → m < length pairs → cover ts (pair_at pairs m).0.row (pair_at pairs m).0.off ≡ Some c → (pair_at pairs m).1 ≡ evaluation H n ts nothing_known leaves hashes c
+
+covered_from : (H : List ℕ → Digest) (n : ℕ) (ts : List Place) (leaves hashes : List Digest) (items : List CoveredPlace) → AreEvaluatedAt H n ts leaves hashes items → AreCovered H n ts leaves hashes (map told_pair items)
+covered_from H n ts leaves hashes items are = record {
+  cover_is = subst (IsCoverOf n ts) (sym (map-map (λ (h : Place × Digest). h.0) told_pair items)) are.order;
+  digests = λ m c lt e.
+      let none : CoveredPlace = record { place = record { row = 0; off = 0 }; made = Target 0; digest = record { 0 = [] } } in
+      let within : m < length items = omega (arith, lt, length-map items told_pair) in
+      let at : pair_at (map told_pair items) m ≡ told_pair (get_or items m none) = get_or-map told_pair items m none in
+      let is = are.each m none within in
+      let beneath : cover ts (get_or items m none).place.row (get_or items m none).place.off ≡ Some c = ap (λ (h : Place × Digest). cover ts h.0.row h.0.off) (sym at) ∙ e in
+      ap (λ (h : Place × Digest). h.1) at ∙ (is.digest ∙ ap (evaluation H n ts nothing_known leaves hashes) (same_Some is.beneath c (sym is.covered ∙ beneath)));
+}
+
 some_is : (x : Option Cover) → is_some x ≡ true → (c : Cover) × (x ≡ Some c)
 some_is None e = absurd (false≢true e)
 some_is (Some c) e = (c, refl)
@@ -84,15 +107,15 @@ bare n ts p needed =
     let a = and_parts (not (is_root n p.row p.off) && not (is_some (cover ts p.row p.off))) (is_some (cover ts p.row (sibling_off p.off))) needed in
     none_is (cover ts p.row p.off) (and_parts (not (is_root n p.row p.off)) (not (is_some (cover ts p.row p.off))) a.0).1
 
-none_then : (f : Cover → Digest) (x : Option Cover) (b : Bool) (d : Digest) → x ≡ None → b ≡ true → held_by f (cond b (Some d) None) x ≡ Some d
+none_then : (f : Cover → Digest) (x : Option Cover) (b : Bool) (d : Digest) → x ≡ None → b ≡ true → told_by f (cond b (Some d) None) x ≡ Some d
 none_then f x b d e t = rw (e, t) refl
 
-none_else : (f : Cover → Digest) (x : Option Cover) (b : Bool) (d : Digest) → x ≡ None → b ≡ false → held_by f (cond b (Some d) None) x ≡ None
+none_else : (f : Cover → Digest) (x : Option Cover) (b : Bool) (d : Digest) → x ≡ None → b ≡ false → told_by f (cond b (Some d) None) x ≡ None
 none_else f x b d e t = rw (e, t) refl
 
 module _ (H : List ℕ → Digest) (n : ℕ) (ts : List Place) (leaves hashes : List Digest) where
   abbrev at : Place → Option Digest
-  at = held_at H n ts leaves hashes
+  at = told_at H n ts leaves hashes
 
   pub at_cover : (p : Place) (c : Cover) → cover ts p.row p.off ≡ Some c → at p ≡ Some (evaluation H n ts nothing_known leaves hashes c)
   at_cover p c e = rw e refl
@@ -128,7 +151,7 @@ module _ (H : List ℕ → Digest) (n : ℕ) (ts : List Place) (leaves hashes : 
         (w.0, at_needed h.0 w.1 ∙ ap (λ (d : Digest). let o : Option Digest = Some d in o) (ap (λ l. beside (H []) l hashes h.0.row h.0.off) (asked_all n ts) ∙ b.1)))
         (paired-beside (H []) (need n ts) hashes (distinct_from_ascending (need n ts) (need_ascending n ts)) long))
 
-    pub held_are : AreHeld n at (merged covered needed)
+    held_are : AreHeld n at (merged covered needed)
     held_are = record {
       ascending = merged-ascends covered needed (ascending_from_rises n (places_in covered) are.cover_is.within are.cover_is.rises) (subst IsAscending (sym places_needed) (need_ascending n ts)) (λ r o h k.
           let within = are.cover_is.within r o h in
@@ -147,9 +170,16 @@ module _ (H : List ℕ → Digest) (n : ℕ) (ts : List Place) (leaves hashes : 
             (λ other. absurd (none-some d (sym (at_other p f other) ∙ e)))
             (cases_Bool (is_needed n ts p))
 
+-- the covered places and the needed ones as one list are what is told
+pub told_are : (H : List ℕ → Digest) (n : ℕ) (ts : List Place) (leaves hashes : List Digest) (items : List CoveredPlace) → AreEvaluatedAt H n ts leaves hashes items → length hashes ≡ length (need n ts)
+    → merged (map told_pair items) (paired (need n ts) hashes) ≡ told_list n (told_at H n ts leaves hashes)
+told_are H n ts leaves hashes items are long =
+    listed n (told_at H n ts leaves hashes) (merged (map told_pair items) (paired (need n ts) hashes))
+    (held_are H n ts leaves hashes (map told_pair items) (paired (need n ts) hashes) (covered_from H n ts leaves hashes items are) long refl)
+
 -- ---- beside a history
 
-kept_same : (place_of : ℕ → Option Place) (scripts : List (List ℕ)) (i : ℕ) (us : History) → somes (map place_of (kept_from i scripts us)) ≡ places_of (kept_entries place_of scripts i us)
+pub kept_same : (place_of : ℕ → Option Place) (scripts : List (List ℕ)) (i : ℕ) (us : History) → somes (map place_of (kept_from i scripts us)) ≡ places_of (kept_entries place_of scripts i us)
 kept_same place_of scripts i [] = refl
 kept_same place_of scripts i (u ∷ us) =
     subst (λ (x : Option Place). somes (map place_of (kept_from i scripts (u ∷ us))) ≡ places_of (cons_option (kept_entry scripts i x u) others)) refl
@@ -174,7 +204,7 @@ kept_same place_of scripts i (u ∷ us) =
     by_place (Some p) e None rest = rest
     by_place (Some p) e (Some leaf) rest = taken p leaf (is_watched scripts (Some leaf)) e rest
 
-by_known : (f : Cover → Digest) (x : Option Cover) (b : Bool) (d : Digest) (o : Option Digest) → ((c : Cover) → x ≡ Some c → o ≡ Some (f c)) → (x ≡ None → b ≡ true → o ≡ Some d) → held_by f (cond b (Some d) None) x ≡ cond (is_some x || b) o None
+by_known : (f : Cover → Digest) (x : Option Cover) (b : Bool) (d : Digest) (o : Option Digest) → ((c : Cover) → x ≡ Some c → o ≡ Some (f c)) → (x ≡ None → b ≡ true → o ≡ Some d) → told_by f (cond b (Some d) None) x ≡ cond (is_some x || b) o None
 by_known f (Some c) b d o cov need = sym (cov c refl)
 by_known f None true d o cov need = sym (need refl refl)
 by_known f None false d o cov need = refl

@@ -29,7 +29,8 @@ use Rattle.node_rules.proofs.Hashes.{hashes_there}
 use Rattle.node_rules.proofs.Righting.{got_entry}
 use Rattle.state_text.specs.declared.entry.StoredEntry.{StoredEntry}
 use Rattle.state_text.specs.Stored.{places_of, leaves_of, body_text}
-use Rattle.state_text.specs.Fits.{RootFits, LevelFits, ScriptFits, IsScript, IsLevel, IsNext, AreLevels}
+use Rattle.state_text.specs.Fits.{RootFits, LevelFits, ScriptFits, IsLevel, IsNext, AreLevels}
+use Rattle.leaf_cache.specs.Watched.{IsScript}
 use Rattle.state_text.specs.OfHistory.{stump_of, level_kept, digests_at, level_of, IsChained, AreChained, HistoryHasState, OneState}
 use Rattle.state_text.proofs.KeptLaws.{AreKeptAt, all_kept, shape, target_stands, leaves_shown, are_kept, kept_fit, few_kept}
 use Rattle.state_text.proofs.StateFormat.{one_body}

@@ -1,19 +1,22 @@
 -- Ascending scripts: what stands before what, and a search.
-use Rattle.std.proofs.Common.{◌≡◌, ℕ, zero, suc, ◌-◌, ◌<◌, ◌≤◌, true, List, [], ◌∷◌, map, length, drop, get_or, Result, Ok, Err, refl, sym, ap, ap₂, ◌∙◌, subst, arith, ⊎_elim}
-use Rattle.std.specs.Prelude.{bytes_eq, is_ok, ◌||◌, MatchResult}
+use Rattle.std.proofs.Common.{◌≡◌, ℕ, zero, suc, ◌-◌, ◌<◌, ◌≤◌, true, ◌+◌, List, [], ◌∷◌, ◌++◌, map, length, take, drop, get_or, Some, Option, refl, sym, ap, ap₂, ◌∙◌, subst, arith, ⊎_elim}
+use Rattle.std.specs.Prelude.{bytes_eq, ◌⊎◌}
 use Rattle.std.specs.Global.{Vec}
-use Rattle.std.specs.List.{list_any, HoldsAt}
-use Rattle.std.specs.List.Sorted.{IsBinarySearchResult, IsNonDecreasingBy}
+use Rattle.std.specs.List.{AllByRecursion, insert}
 use Rattle.std.specs.declared.cmp.Ordering.{Ordering}
 use Rattle.std.specs.declared.cmp.Ordering.TheVariants.{Less, Equal, Greater}
-use Rattle.std.specs.Ordering.{nat_cmp, is_eq, ordering_index, ordering_reverse}
+use Rattle.std.specs.Ordering.{nat_cmp, is_lt}
 use Rattle.std.specs.Cmp.Lexicographic.{slice_cmp}
-use Rattle.std.proofs.lemmas.Bool.{cases_lt}
 use Rattle.std.proofs.lemmas.Cmp.{nat_list_cmp_total}
-use Rattle.std.proofs.lemmas.List.{get_or-map, length-map, length-drop}
-use Rattle.std.proofs.lemmas.List.Folds.{list_any_none, list_any_at}
-use Rattle.std.proofs.lemmas.Map.Text.{is_eq-slice_cmp}
-use Rattle.state_text.specs.Ordered.{ScriptsRise}
+use Rattle.std.proofs.lemmas.List.{length-drop, length-take-le, get_or-take, get_or_default, take_more}
+use Rattle.std.proofs.lemmas.Bool.{cases_Bool, false≢true, true≢false}
+use Rattle.std.proofs.lemmas.Option.{none-some}
+use Rattle.std.proofs.lemmas.List.Edits.{insert_end}
+use Rattle.cache_model.specs.Undo.{find}
+use Rattle.cache_model.specs.Search.{IsSplit}
+use Rattle.leaf_cache.specs.Watched.{IsScript, AreWatched, ScriptsAscend, is_before_script, script_key, put_script}
+use Rattle.leaf_cache.proofs.Scripts.{script_order, put_new}
+use Rattle.state_text.specs.Ordered.{ScriptsRise, AreScripts}
 
 abbrev order : List ℕ → List ℕ → Ordering
 order x y = slice_cmp nat_cmp x y
@@ -38,53 +41,6 @@ rises-far (x ∷ xs) h i zero d lt within = absurd (omega (arith, lt))
 rises-far (x ∷ xs) h zero (suc j) d lt within = first-below x xs h j d (omega (arith, within))
 rises-far (x ∷ xs) h (suc i) (suc j) d lt within = rises-far xs (rise-tail x xs h) i j d (omega (arith, lt)) (omega (arith, within))
 
--- how two that rise stand to a third
-index_rises : (a b x : List ℕ) → order a b ≡ Less → ordering_index (order a x) ≤ ordering_index (order b x)
-index_rises a b x below = by_case (order a x) refl
-  where
-    past : order x b ≡ Less → ordering_index (order b x) ≡ 2
-    past e = ap ordering_index (nat_list_cmp_total.antisymm b x ∙ ap ordering_reverse e)
-
-    by_case : (o : Ordering) → order a x ≡ o → ordering_index o ≤ ordering_index (order b x)
-    by_case Less e = omega arith
-    by_case Equal e = let p = past (sym (nat_list_cmp_total.congr a x b e) ∙ below) in omega (arith, p)
-    by_case Greater e =
-        let p = past (nat_list_cmp_total.trans x a b (nat_list_cmp_total.antisymm x a ∙ ap ordering_reverse e) below) in omega (arith, p)
-
-nondecreasing : (vs : List (Vec ℕ)) (x : List ℕ) → ScriptsRise (bytes_of vs) → IsNonDecreasingBy (λ v. ordering_index (order v.items x)) vs
-nondecreasing vs x h = λ i j d le within.
-    ⊎_elim
-    (λ (lt : i < j).
-    let at = λ (k : ℕ) (w : k < length vs). get_or-map (λ (v : Vec ℕ). v.items) vs k d [] w in
-    let e = rises-far (bytes_of vs) h i j [] lt (subst (λ n. j < n) (sym (length-map vs (λ (v : Vec ℕ). v.items))) within) in
-    index_rises (get_or vs i d).items (get_or vs j d).items x (ap₂ order (sym (at i (omega (arith, lt, within)))) (sym (at j within)) ∙ e))
-    (λ ge. let same : i ≡ j = omega arith in subst (λ k. ordering_index (order (get_or vs i d).items x) ≤ ordering_index (order (get_or vs k d).items x)) same (omega arith))
-    (cases_lt i j)
-
--- ---- what a search finds
-
-list_any-bytes : (x : List ℕ) (vs : List (Vec ℕ)) → list_any (bytes_eq x) (bytes_of vs) ≡ list_any (λ v. bytes_eq x v.items) vs
-list_any-bytes x [] = refl
-list_any-bytes x (v ∷ vs) = ap (λ b. bytes_eq x v.items || b) (list_any-bytes x vs)
-
-same_if : (v x : List ℕ) (o : Ordering) → order v x ≡ o → bytes_eq x v ≡ is_eq (ordering_reverse o)
-same_if v x o e = sym (is_eq-slice_cmp x v) ∙ ap is_eq (nat_list_cmp_total.antisymm x v ∙ ap ordering_reverse e)
-
-found_at : (vs : List (Vec ℕ)) (x : List ℕ) (i : ℕ) → i < length vs → HoldsAt (λ v. order v.items x ≡ Equal) vs i → list_any (λ v. bytes_eq x v.items) vs ≡ true
-found_at [] x i lt hold = absurd (omega (arith, lt))
-found_at (w ∷ ws) x i lt hold = list_any_at (λ (v : Vec ℕ). bytes_eq x v.items) (w ∷ ws) i w lt (same_if (get_or (w ∷ ws) i w).items x Equal (hold w))
-
-pub searched : (vs : List (Vec ℕ)) (x : List ℕ) (r : Result ℕ ℕ) → ScriptsRise (bytes_of vs) → MatchResult r (λ i. i < length vs) (λ i. i ≤ length vs)
-    → IsBinarySearchResult (λ v. order v.items x) vs r → is_ok r ≡ list_any (bytes_eq x) (bytes_of vs)
-searched vs x (Ok i) h within found = sym (list_any-bytes x vs ∙ found_at vs x i within found)
-searched vs x (Err i) h within found =
-    let p = found (nondecreasing vs x h) in
-    sym (list_any-bytes x vs ∙ list_any_none (λ (v : Vec ℕ). bytes_eq x v.items) vs (λ k d lt.
-    ⊎_elim
-    (λ (less : k < i). same_if (get_or vs k d).items x Less (p.0 k d (omega arith) less))
-    (λ (ge : i ≤ k). same_if (get_or vs k d).items x Greater (p.1 k d ge lt))
-    (cases_lt k i)))
-
 -- ---- the order, neighbour by neighbour
 
 -- one that is left has no neighbour
@@ -95,3 +51,54 @@ few_rise (v ∷ w ∷ vs) few = absurd (omega (arith, few))
 
 pub rise-none : (vs : List (Vec ℕ)) (i : ℕ) → 1 ≤ i → length vs ≤ i → ScriptsRise (bytes_of (drop (i - 1) vs))
 rise-none vs i some le = few_rise (drop (i - 1) vs) (omega (arith, length-drop (i - 1) vs))
+
+-- ---- the list of a node
+
+less_is : (a b : List ℕ) → order a b ≡ Less → is_before_script a b ≡ true
+less_is a b e = ap is_lt e
+
+is_less : (o : Ordering) → is_lt o ≡ true → o ≡ Less
+is_less Less e = refl
+is_less Equal e = absurd (false≢true e)
+is_less Greater e = absurd (false≢true e)
+
+before_found : (x : List ℕ) (xs : List (List ℕ)) → ScriptsRise (x ∷ xs) → (k v : List ℕ) → find bytes_eq script_key k xs ≡ Some v → is_before_script x k ≡ true
+before_found x [] rise k v e = absurd (none-some v e)
+before_found x (y ∷ ys) rise k v e =
+    ⊎_elim
+    (λ here. subst (λ s. is_before_script x s ≡ true) (sym (script_order.same k y here)) (less_is x y rise.0))
+    (λ other. script_order.further x y k (less_is x y rise.0) (before_found y ys rise.1 k v (rw other at e)))
+    (cases_Bool (bytes_eq k y))
+
+ascend : (xs : List (List ℕ)) → ScriptsRise xs → ScriptsAscend xs
+ascend [] rise = tt
+ascend (x ∷ xs) rise = ((λ k v e. before_found x xs rise k v e), ascend xs (rise-tail x xs rise))
+
+rise : (xs : List (List ℕ)) → ScriptsAscend xs → ScriptsRise xs
+rise [] a = tt
+rise (x ∷ []) a = tt
+rise (x ∷ y ∷ more) a =
+    let found : find bytes_eq script_key y (y ∷ more) ≡ Some y = rw (script_order.itself y) refl in
+    (is_less (order x y) (a.0 y y found), rise (y ∷ more) a.1)
+
+pub scripts_watched : (xs : List (List ℕ)) → AreScripts xs → AreWatched xs
+scripts_watched xs s = record { few = s.few; each = s.each; ascend = ascend xs s.rise }
+
+pub watched_scripts : (xs : List (List ℕ)) → AreWatched xs → AreScripts xs
+watched_scripts xs w = record { few = w.few; each = w.each; rise = rise xs w.ascend }
+
+-- the next one goes behind those that were put in
+pub put_next : (xs : List (List ℕ)) → ScriptsRise xs → (i : ℕ) → i < length xs → put_script (get_or xs i []) (take i xs) ≡ take (i + 1) xs
+put_next xs rise i lt =
+    let x = get_or xs i [] in
+    let long : length (take i xs) ≡ i = length-take-le i xs (omega (arith, lt)) in
+    let split : IsSplit is_before_script script_key x (take i xs) i = record {
+      within = omega (arith, long);
+      low = λ j d less. subst (λ s. is_before_script s x ≡ true) (sym (get_or-take i xs j d less)) (less_is (get_or xs j d) x (far j d less));
+      high = λ j d le within. absurd (omega (arith, le, within, long));
+    } in
+    sym (put_new x (take i xs) i split (λ within. absurd (omega (arith, within, long))))
+    ∙ (ap (λ k. insert (take i xs) k x) (sym long) ∙ (insert_end (take i xs) x ∙ sym (take_more xs i [] lt)))
+  where
+    far : (j : ℕ) (d : List ℕ) → j < i → order (get_or xs j d) (get_or xs i []) ≡ Less
+    far j d less = ap (order (get_or xs j d)) (get_or_default xs i [] d lt) ∙ rises-far xs rise j i d less lt

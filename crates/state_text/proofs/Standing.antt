@@ -28,9 +28,9 @@ placed_within n bytes p after e =
 pub entry_within : (n : ℕ) (bytes : List ℕ) (e : StoredEntry) (after : List ℕ) → entry_at n bytes ≡ Some (e, after) → StandsWithin n e
 unfolding entry_at
 entry_within n bytes e after h =
-    let a = bind_some (number_at w64 bytes) (λ number. placed_at n number.1 >>= λ place. digest_at place.1 >>= λ txid. number_at w32 txid.1 >>= λ index. rest_at index.1 >>= λ rest. Some (entry_of number.0 place.0 txid.0 index.0 rest.0, rest.1)) (e, after) h in
-    let b = bind_some (placed_at n a.0.1) (λ place. digest_at place.1 >>= λ txid. number_at w32 txid.1 >>= λ index. rest_at index.1 >>= λ rest. Some (entry_of a.0.0 place.0 txid.0 index.0 rest.0, rest.1)) (e, after) a.2 in
-    let c = bind_some (digest_at b.0.1) (λ txid. number_at w32 txid.1 >>= λ index. rest_at index.1 >>= λ rest. Some (entry_of a.0.0 b.0.0 txid.0 index.0 rest.0, rest.1)) (e, after) b.2 in
+    let a = bind_some (number_at w64 bytes) (λ number. placed_at n number.1 >>= λ place. digest_in_front place.1 >>= λ txid. number_at w32 txid.1 >>= λ index. rest_at index.1 >>= λ rest. Some (entry_of number.0 place.0 txid.0 index.0 rest.0, rest.1)) (e, after) h in
+    let b = bind_some (placed_at n a.0.1) (λ place. digest_in_front place.1 >>= λ txid. number_at w32 txid.1 >>= λ index. rest_at index.1 >>= λ rest. Some (entry_of a.0.0 place.0 txid.0 index.0 rest.0, rest.1)) (e, after) a.2 in
+    let c = bind_some (digest_in_front b.0.1) (λ txid. number_at w32 txid.1 >>= λ index. rest_at index.1 >>= λ rest. Some (entry_of a.0.0 b.0.0 txid.0 index.0 rest.0, rest.1)) (e, after) b.2 in
     let d = bind_some (number_at w32 c.0.1) (λ index. rest_at index.1 >>= λ rest. Some (entry_of a.0.0 b.0.0 c.0.0 index.0 rest.0, rest.1)) (e, after) c.2 in
     let r = bind_some (rest_at d.0.1) (λ rest. Some (entry_of a.0.0 b.0.0 c.0.0 d.0.0 rest.0, rest.1)) (e, after) d.2 in
     let made : StoredEntry × List ℕ = (entry_of a.0.0 b.0.0 c.0.0 d.0.0 r.0.0, r.0.1) in

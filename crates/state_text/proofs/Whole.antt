@@ -1,5 +1,7 @@
 -- What was read of a body, and what was found of it.
-use Rattle.std.proofs.Common.{◌≡◌, ℕ, ◌^◌, ◌<◌, List, [], Some, sym, ap, ◌∙◌, subst}
+use Rattle.std.proofs.Common.{◌≡◌, ℕ, ◌^◌, ◌<◌, List, [], Result, Ok, Err, Some, sym, ap, ◌∙◌, subst}
+use Rattle.std.specs.Prelude.{MatchResult}
+use Rattle.std.specs.List.{AllByRecursion}
 use Rattle.uo_base.specs.Reading.{IsBytes}
 use Rattle.uo_base.proofs.Formats.{some_is, not_both}
 use Rattle.uo_digest.specs.declared.digest.Digest.{Digest}
@@ -7,7 +9,8 @@ use Rattle.state_text.specs.declared.fault.StateFault.{StateFault}
 use Rattle.state_text.specs.declared.fault.StateFault.TheVariants.{NotAState, Version, NoMemory}
 use Rattle.state_text.specs.Stored.{StateValue, body_text}
 use Rattle.state_text.specs.Fits.{IsSound, IsState, HasBody}
-use Rattle.state_text.specs.Reading.{whole_at}
+use Rattle.state_text.specs.Cached.{CachedState, state_in, IsFilled}
+use Rattle.state_text.specs.Reading.{whole_at, claims}
 use Rattle.state_text.proofs.Gathering.{Fails}
 use Rattle.state_text.proofs.Judged.{Denies}
 use Rattle.state_text.proofs.StateFormat.{whole_took, whole_again}
@@ -21,11 +24,18 @@ module _ (H : List ℕ → Digest) (most : ℕ) (few : most < 2 ^ 40) (body : Li
   unread NoMemory none = tt
   unread (Version v) none = none
 
-  module _ (s : StateValue) (read : whole_at most body ≡ Some (s, [])) where
-    pub unsound : (e : StateFault) → Denies e (IsSound H most s) → Denies e (HasBody H most body)
-    unsound NotAState denied = λ b. denied (subst (IsSound H most) (ap (λ p. p.0) (some_is (b.0, []) (s, []) (sym (again b) ∙ read))) b.1.sound)
+  module _ (v : StateValue) (read : whole_at most body ≡ Some (v, [])) where
+    unsound : (e : StateFault) → Denies e (IsSound H most v) → Denies e (HasBody H most body)
+    unsound NotAState denied = λ b. denied (subst (IsSound H most) (ap (λ p. p.0) (some_is (b.0, []) (v, []) (sym (again b) ∙ read))) b.1.sound)
     unsound NoMemory denied = tt
-    unsound (Version v) denied = denied
+    unsound (Version n) denied = denied
 
-    pub sound : IsBytes body → IsSound H most s → IsState H most s × (body ≡ body_text s)
-    sound is_bytes good = let t = whole_took most few body s [] is_bytes read in (record { fits = t.fits; sound = good }, t.text)
+    -- what was found of what was read
+    pub judged : IsBytes body → (r : Result CachedState StateFault)
+        → MatchResult r (λ s. IsSound H most v × (state_in s ≡ v) × AllByRecursion (IsFilled H) s.levels) (λ e. claims e (IsSound H most v → ⊥))
+        → MatchResult r (λ s. IsState H most (state_in s) × (body ≡ body_text (state_in s)) × AllByRecursion (IsFilled H) s.levels) (λ e. claims e (HasBody H most body → ⊥))
+    judged is_bytes (Ok s) m =
+        let t = whole_took most few body v [] is_bytes read in
+        let state : IsState H most v = record { fits = t.fits; sound = m.0 } in
+        (subst (IsState H most) (sym m.1) state, t.text ∙ ap body_text (sym m.1), m.2)
+    judged is_bytes (Err e) m = unsound e m

@@ -7,7 +7,7 @@ use Rattle.leaf_record.specs.Leaf.{leaf_text}
 use Rattle.forest_place.specs.declared.place.Place.{Place}
 use Rattle.forest_model.specs.Cover.{need}
 use Rattle.forest_model.specs.Right.{entries}
-use Rattle.forest_roots.specs.Stump.{Stump, StandsFor}
+use Rattle.forest_roots.specs.Stump.{Stump, IsStump, StandsFor}
 use Rattle.cache_model.specs.declared.kept.Kept.{Kept}
 use Rattle.cache_model.specs.Cache.{look}
 use Rattle.cache_model.specs.Lists.{IsCacheOf}
@@ -15,7 +15,7 @@ use Rattle.node_rules.specs.Machine.{Level, State}
 use Rattle.state_text.specs.declared.entry.StoredEntry.{StoredEntry}
 use Rattle.state_text.specs.Stored.{LevelValue, StateValue, places_of}
 use Rattle.state_text.specs.Told.{level_tells, told_list}
-use Rattle.state_text.specs.OfHistory.{stump_of, level_of, state_of}
+use Rattle.state_text.specs.OfHistory.{level_of, state_of}
 
 -- a chain's newest block, the roots of its entries, those of them that are kept, and the digests that are held for these
 pub record CachedLevel : Type 0 where
@@ -62,9 +62,9 @@ pub record StandsForLevel (H : List ℕ → Digest) (scripts : List (List ℕ)) 
   pub roots : StandsFor H (entries H leaf_text l.history) c.roots
   pub cache : IsCacheOf H leaf_text scripts l.history c.kept c.held
 
--- what stands for a level is stored as that level is, and is what it tells
+-- what stands for a level is stored as that level is, and has what it tells
 abbrev pub StandingIsStored : Type 0
-StandingIsStored = (H : List ℕ → Digest) (scripts : List (List ℕ)) (c : CachedLevel) (l : Level) → c.roots ≡ stump_of H (entries H leaf_text l.history) → length l.history < 2 ^ 40 →
+StandingIsStored = (H : List ℕ → Digest) (scripts : List (List ℕ)) (c : CachedLevel) (l : Level) → IsStump c.roots →
     StandsForLevel H scripts c l → (level_in c ≡ level_of H scripts l) × IsFilled H c
 
 -- what is read of the state of a node that holds every output stands for it, level by level

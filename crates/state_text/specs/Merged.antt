@@ -3,7 +3,7 @@ use Rattle.std.specs.Prelude.{◌≡◌, ℕ, ◌==◌, ◌&&◌, ◌||◌, nat_
 use Rattle.std.specs.List.{AllByRecursion}
 use Rattle.uo_digest.specs.declared.digest.Digest.{Digest}
 use Rattle.forest_place.specs.declared.place.Place.{Place}
-use Rattle.forest_place.specs.Forest.{is_root}
+use Rattle.forest_place.specs.Forest.{InForest, is_root}
 use Rattle.forest_roots.specs.Stump.{Stump, root_in}
 use Rattle.proof_verify.specs.declared.evaluation.CoveredPlace.{CoveredPlace}
 
@@ -27,6 +27,10 @@ paired (p ∷ ps) (d ∷ ds) = (p, d) ∷ paired ps ds
 
 abbrev pub told_pair : CoveredPlace → Place × Digest
 told_pair item = (item.place, item.digest)
+
+-- its place is one of the forest over n
+abbrev pub StandsIn : ℕ → CoveredPlace → Type 0
+StandsIn n item = InForest n item.place.row item.place.off
 
 -- at a slot's root it comes to the root that stands there
 abbrev pub IsRightRoot : Stump → CoveredPlace → Type 0

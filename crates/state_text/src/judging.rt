@@ -1,5 +1,5 @@
 //! Whether what was read is the state of a node.
-ghost use Rattle.std.specs.Prelude.{◌≡◌, ◌×◌, ℕ, ◌<◌, ◌^◌, length, map, IfOk, IfErr, MatchResult};
+ghost use Rattle.std.specs.Prelude.{◌≡◌, ℕ, ◌<◌, ◌^◌, length, map, IfOk, IfErr, MatchResult};
 ghost use Rattle.std.specs.List.{AllByRecursion};
 ghost use Rattle.forest_roots.specs.Stump.{root_in};
 ghost use Rattle.leaf_record.specs.Leaf.{leaf_text};
@@ -67,7 +67,7 @@ fn with_leaves(
     leaves: &[Digest],
 ) -> Result<Vec<Kept>, NoMemory>
     requires { length leaves.now ≡ length entries.items }
-    ensures entries { IfOk result (λ kept. map entry_of kept.items ≡ entries.entry.items) }
+    ensures entries { IfOk result (λ kept. map entry_of kept.items ≡ entries.items) }
     ensures digests { IfOk result (λ kept. map (λ k. k.digest) kept.items ≡ leaves.now) }
 {
     let mut kept = Vec::with_capacity(alloc, entries.len())?;
@@ -97,14 +97,9 @@ fn judge_level<D: Digester, L: Ledger>(
     room: &mut LeafBuf,
     steps: &mut Steps<L>,
 ) -> Result<StoredLevel<D>, StateFault>
-    ensures { MatchResult result (λ l. IsMadeLevel D.digest_of watch.now level.entry l) (λ e. claims e (IsLevel D.digest_of watch.now level.entry → ⊥)) }
+    ensures { MatchResult result (λ l. IsMadeLevel D.digest_of watch.now level l) (λ e. claims e (IsLevel D.digest_of watch.now level → ⊥)) }
 {
-    let SpelledLevel {
-        tip,
-        roots,
-        kept,
-        hashes,
-    } = level;
+    let (tip, roots, kept, hashes) = level.into_parts();
     let n = roots.leaves();
     judge_kept(watch, n, &kept)?;
     let places = places_in(alloc, &kept)?;
@@ -125,7 +120,7 @@ fn judge_levels<D: Digester, L: Ledger>(
     levels: Vec<SpelledLevel<D>>,
     steps: &mut Steps<L>,
 ) -> Result<Vec<StoredLevel<D>>, StateFault>
-    ensures { MatchResult result (λ made. AreMadeLevels D.digest_of watch.now levels.entry.items made.items) (λ e. claims e (AllByRecursion (IsLevel D.digest_of watch.now) levels.entry.items → ⊥)) }
+    ensures { MatchResult result (λ made. AreMadeLevels D.digest_of watch.now levels.items made.items) (λ e. claims e (AllByRecursion (IsLevel D.digest_of watch.now) levels.items → ⊥)) }
 {
     let mut room = LeafBuf::new(alloc)?;
     let mut made = Vec::with_capacity(alloc, levels.len())?;
@@ -136,7 +131,7 @@ fn judge_levels<D: Digester, L: Ledger>(
 }
 
 // A level with no block is that of the start, and none has more entries than this. Its entries are counted.
-fn judge_next<D>(left: u32, bound: u64, level: &SpelledLevel<D>) -> Result<u64, StateFault>
+fn judge_next<D: Digester>(left: u32, bound: u64, level: &SpelledLevel<D>) -> Result<u64, StateFault>
     ensures count { IfOk result (λ n. n ≡ level.now.roots.leaves) }
     ensures judged { Judges result (IsNext left bound level.now) }
 {
@@ -153,7 +148,7 @@ fn judge_next<D>(left: u32, bound: u64, level: &SpelledLevel<D>) -> Result<u64, 
     Ok(n)
 }
 
-fn judge_chain<D>(blocks: u32, most: u64, levels: &[SpelledLevel<D>]) -> Result<(), StateFault>
+fn judge_chain<D: Digester>(blocks: u32, most: u64, levels: &[SpelledLevel<D>]) -> Result<(), StateFault>
     ensures { Judges result (AreLevels blocks most levels.now) }
 {
     let mut left = blocks;
@@ -183,15 +178,10 @@ pub(crate) fn judge_state<D: Digester, L: Ledger>(
     steps: &mut Steps<L>,
 ) -> Result<StoredState<D>, StateFault>
     ensures { MatchResult result
-        (λ s. IsSound D.digest_of most state.entry × (state_in s ≡ state.entry) × AllByRecursion (IsFilled D.digest_of) s.levels)
-        (λ e. claims e (IsSound D.digest_of most state.entry → ⊥)) }
+        (λ s. IsSound D.digest_of most state × (state_in s ≡ state) × AllByRecursion (IsFilled D.digest_of) s.levels)
+        (λ e. claims e (IsSound D.digest_of most state → ⊥)) }
 {
-    let SpelledState {
-        net,
-        blocks,
-        scripts,
-        levels,
-    } = state;
+    let (net, blocks, scripts, levels) = state.into_parts();
     judge_counts(blocks, levels.len())?;
     judge_chain(blocks, most, &levels)?;
     let watch = watch_of(alloc, &scripts)?;

@@ -1,6 +1,6 @@
 //! Reading a state.
 ghost use Rattle.std.specs.List.{AllByRecursion};
-ghost use Rattle.std.specs.Prelude.{◌≡◌, ◌×◌, ◌↔◌, ◌<◌, ◌^◌, ◌∷◌, ℕ, List, IfOk, IsErrOf, MatchOption, MatchResult};
+ghost use Rattle.std.specs.Prelude.{◌≡◌, ◌↔◌, ◌<◌, ◌^◌, ◌∷◌, ℕ, List, IfOk, IsErrOf, MatchOption, MatchResult};
 ghost use Rattle.state_text.specs.Stored.{StateValue, IsOfVersion, body_text, state_text};
 ghost use Rattle.state_text.specs.Fits.{IsState, HasBody};
 ghost use Rattle.state_text.specs.Cached.{state_in, IsFilled};

@@ -1,5 +1,5 @@
 //! Watched scripts.
-ghost use Rattle.std.specs.Prelude.{◌≡◌, ◌<◌, ◌++◌, ◌∷◌, [], map, length, take, OnOk, MatchResult};
+ghost use Rattle.std.specs.Prelude.{◌≡◌, map, length, IfOk, MatchResult};
 ghost use Rattle.leaf_cache.specs.Watched.{IsScript, AreWatched};
 ghost use Rattle.state_text.specs.Reading.{claims, Judges};
 ghost use Rattle.state_text.specs.Ordered.{ScriptsRise, AreScripts};

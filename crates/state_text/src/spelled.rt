@@ -1,4 +1,7 @@
 //! What a text spells, before it is judged.
+ghost use Rattle.std.specs.Prelude.{◌≡◌, map};
+ghost use Rattle.std.specs.List.{AllByRecursion};
+ghost use Rattle.state_text.specs.Stored.{StandsWithin};
 
 use crate::entry::StoredEntry;
 use forest_roots::Roots;
@@ -36,6 +39,22 @@ impl<D> Drop for SpelledLevel<D> {
     }
 }
 
+impl<D> SpelledLevel<D> {
+    /// Its newest block, roots, kept entries and hashes.
+    pub(crate) fn into_parts(self) -> (Digest, Roots<D>, Vec<StoredEntry>, Vec<Digest>)
+        ensures parts { self ≡ record { tip = result.0; roots = result.1; kept = result.2.items; hashes = result.3.items } }
+        ensures within { AllByRecursion (StandsWithin result.1.leaves) result.2.items }
+    {
+        let SpelledLevel {
+            tip,
+            roots,
+            kept,
+            hashes,
+        } = self;
+        (tip, roots, kept, hashes)
+    }
+}
+
 /// A state as it stands in a text.
 pub(crate) struct SpelledState<D> {
     pub(crate) net: Net,
@@ -61,5 +80,20 @@ impl<D> Drop for SpelledState<D> {
             scripts: _,
             levels: _,
         } = self;
+    }
+}
+
+impl<D> SpelledState<D> {
+    /// Its network, count of blocks, scripts and levels.
+    pub(crate) fn into_parts(self) -> (Net, u32, Vec<Vec<u8>>, Vec<SpelledLevel<D>>)
+        ensures { self ≡ record { net = result.0; blocks = result.1; scripts = map (λ script. script.items) result.2.items; levels = result.3.items } }
+    {
+        let SpelledState {
+            net,
+            blocks,
+            scripts,
+            levels,
+        } = self;
+        (net, blocks, scripts, levels)
     }
 }

@@ -1,14 +1,12 @@
 //! What the kept entries and the hashes of a level tell of its forest.
-ghost use Rattle.std.specs.Prelude.{◌≡◌, ◌×◌, length, map, IfOk, MatchResult, ℕ};
+ghost use Rattle.std.specs.Prelude.{◌≡◌, length, map, IfOk, MatchResult, ℕ};
 ghost use Rattle.std.specs.Bool.{OnTrue, OnFalse};
-ghost use Rattle.forest_place.specs.Forest.{is_root as is_root_of};
-ghost use Rattle.forest_model.specs.Cover.{HasShape, need};
+ghost use Rattle.std.specs.List.{AllByRecursion};
 ghost use Rattle.forest_model.specs.Evaluation.{nothing_known, IsAccepted};
 ghost use Rattle.forest_roots.specs.Stump.{root_in};
-ghost use Rattle.proof_verify.specs.Evaluation.{IsEvaluatedAt};
 ghost use Rattle.state_text.specs.Told.{told_at, told_list};
 ghost use Rattle.state_text.specs.Reading.{claims};
-ghost use Rattle.state_text.specs.Merged.{comes_before, merged, paired, told_pair, IsRightRoot, AreRightRoots};
+ghost use Rattle.state_text.specs.Merged.{comes_before, merged, paired, told_pair, StandsIn, IsRightRoot, AreRightRoots};
 
 use crate::fault::StateFault;
 use forest_place::{Place, is_root};
@@ -82,7 +80,8 @@ fn with_digests(
 }
 
 // Where the place is that of a root: whether the digest is this root.
-fn is_right_root<D>(roots: &Roots<D>, item: &CoveredPlace) -> bool
+fn is_right_root<D: Digester>(roots: &Roots<D>, item: &CoveredPlace) -> bool
+    requires { StandsIn roots.now.leaves item.now }
     ensures right { OnTrue result (IsRightRoot roots.now item.now) }
     ensures wrong { OnFalse result (IsRightRoot roots.now item.now → ⊥) }
 {
@@ -96,7 +95,8 @@ fn is_right_root<D>(roots: &Roots<D>, item: &CoveredPlace) -> bool
 }
 
 // Each covered root is the root that stands there.
-fn judge_roots<D>(roots: &Roots<D>, covered: &[CoveredPlace]) -> bool
+fn judge_roots<D: Digester>(roots: &Roots<D>, covered: &[CoveredPlace]) -> bool
+    requires { AllByRecursion (StandsIn roots.now.leaves) covered.now }
     ensures right { OnTrue result (AreRightRoots roots.now covered.now) }
     ensures wrong { OnFalse result (AreRightRoots roots.now covered.now → ⊥) }
 {
@@ -125,6 +125,8 @@ pub(crate) fn told_of<D: Digester, L: Ledger>(
             × (held.items ≡ told_list roots.now.leaves (told_at D.digest_of roots.now.leaves targets.now.targets leaves.now hashes.now)))
         (λ e. claims e (IsAccepted D.digest_of roots.now.leaves (root_in roots.now) targets.now.targets nothing_known leaves.now hashes.now → ⊥)) }
 {
+    // That the targets have shape.
+    let _count = targets.leaves();
     let needed = targets.needed();
     if hashes.len() != needed.len() {
         return Err(StateFault::NotAState);

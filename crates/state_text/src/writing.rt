@@ -16,6 +16,7 @@ ghost use Rattle.cache_model.specs.Cache.{look};
 ghost use Rattle.cache_model.specs.Lists.{AscendByPlace, leaf_places};
 ghost use Rattle.state_text.specs.Stored.{net_code, root_text, roots_text, entry_text, level_text, front_text, state_text};
 ghost use Rattle.state_text.specs.Cached.{entry_of, level_in, state_in};
+ghost use Rattle.state_text.specs.Ordered.{kept_text};
 
 use crate::fault::StateFault;
 use crate::level::StoredLevel;
@@ -28,7 +29,7 @@ use leaf_record::{Record, RecordView, write_rest};
 use proof_shape::Targets;
 use std::alloc::Global;
 use uo_base::{Net, NoMemory, Sink, SinkFault, put_all, put_compact};
-use uo_digest::Digest;
+use uo_digest::{Digest, Digester};
 
 fn put_root(out: &mut Vec<u8>, root: Option<Digest>) -> Result<(), NoMemory>
     ensures ok { OnOk result (out.new.items ≡ out.old.items ++ root_text root) }
@@ -45,7 +46,7 @@ fn put_root(out: &mut Vec<u8>, root: Option<Digest>) -> Result<(), NoMemory>
 }
 
 // The root of each slot, from the greatest down.
-fn put_roots<D>(out: &mut Vec<u8>, roots: &Roots<D>) -> Result<(), NoMemory>
+fn put_roots<D: Digester>(out: &mut Vec<u8>, roots: &Roots<D>) -> Result<(), NoMemory>
     ensures ok { OnOk result (out.new.items ≡ out.old.items ++ roots_text 40 roots.now) }
     ensures err { OnErr result (Grew out.old.items out.new.items) }
 {
@@ -172,7 +173,7 @@ fn push_digest(digests: &mut Vec<Digest>, digest: Option<Digest>) -> Result<(), 
 
 // The parts of a level in a row.
 #[tactic(auto, unfolding(crate::specs::Stored::level_text))]
-fn put_level<D>(
+fn put_level<D: Digester>(
     out: &mut Vec<u8>,
     tip: Digest,
     roots: &Roots<D>,
@@ -254,7 +255,7 @@ fn front_bytes(
     Ok(bytes)
 }
 
-fn level_bytes<D>(
+fn level_bytes<D: Digester>(
     alloc: Global,
     tip: Digest,
     roots: &Roots<D>,
@@ -304,7 +305,7 @@ pub fn write_front<W: Sink>(
 /// Writes a level of a state: its newest block, or 32 zero bytes where there is none, its roots, its kept entries, and the
 /// digests that are held at the places that a proof of these needs. The levels of a state stand one after the other, the present
 /// one first. Where a fault comes, a front of the text is written.
-pub fn write_level<W: Sink, D>(
+pub fn write_level<W: Sink, D: Digester>(
     alloc: Global,
     sink: &mut W,
     tip: Digest,
@@ -320,26 +321,26 @@ pub fn write_level<W: Sink, D>(
     put_piece(sink, level_bytes(alloc, tip, roots, parts))
 }
 
-fn put_stored<W: Sink, D>(
+fn put_stored<W: Sink, D: Digester>(
     alloc: Global,
     sink: &mut W,
     level: &StoredLevel<D>,
 ) -> Result<(), SinkFault>
-    ensures whole { OnOk result (Appends (W.held sink.old) (W.held sink.new) (level_text (level_in level.now))) }
-    ensures part { AppendsPart (W.held sink.old) (W.held sink.new) (level_text (level_in level.now)) }
+    ensures whole { OnOk result (Appends (W.held sink.old) (W.held sink.new) (kept_text level.now)) }
+    ensures part { AppendsPart (W.held sink.old) (W.held sink.new) (kept_text level.now) }
     ensures later { W.faults sink.old ≤ W.faults sink.new }
     ensures cause { IsErrOf result SinkFault.Failed → Rose (W.faults sink.old) (W.faults sink.new) }
 {
     write_level(alloc, sink, level.tip, &level.roots, &level.parts)
 }
 
-fn put_levels<W: Sink, D>(
+fn put_levels<W: Sink, D: Digester>(
     alloc: Global,
     sink: &mut W,
     levels: &[StoredLevel<D>],
 ) -> Result<(), SinkFault>
-    ensures whole { OnOk result (Appends (W.held sink.old) (W.held sink.new) (flat_map level_text (map level_in levels.now))) }
-    ensures part { AppendsPart (W.held sink.old) (W.held sink.new) (flat_map level_text (map level_in levels.now)) }
+    ensures whole { OnOk result (Appends (W.held sink.old) (W.held sink.new) (flat_map kept_text levels.now)) }
+    ensures part { AppendsPart (W.held sink.old) (W.held sink.new) (flat_map kept_text levels.now) }
     ensures later { W.faults sink.old ≤ W.faults sink.new }
     ensures cause { IsErrOf result SinkFault.Failed → Rose (W.faults sink.old) (W.faults sink.new) }
 {
@@ -349,7 +350,7 @@ fn put_levels<W: Sink, D>(
     Ok(())
 }
 
-impl<D> StoredState<D> {
+impl<D: Digester> StoredState<D> {
     /// Writes the text of the state, or a front of it where a fault comes. There are at most 255 levels.
     pub fn write<W: Sink>(&self, alloc: Global, sink: &mut W) -> Result<(), SinkFault>
         requires { length self.now.levels < 256 }
