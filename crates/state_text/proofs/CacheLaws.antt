@@ -46,11 +46,8 @@ module _ (H : List ℕ → Digest) (scripts : List (List ℕ)) (us : History) wh
       let rest = entries_from (suc i) vs (λ k. at (suc k) ∙ ap (λ n. get_or us n None) (let z : i + suc k ≡ suc i + k = omega arith in z)) in
       by_entry v (at 0 ∙ ap (λ n. get_or us n None) (let z : i + 0 ≡ i = omega arith in z)) rest
     where
-      abbrev later : List ℕ
-      later = kept_from (suc i) scripts vs
-
-      by_place : (leaf : Leaf) → Some leaf ≡ get_or us i None → (q : Option Place) → entry_place es i ≡ q → map entry_of (filter_map (kept_leaf H leaf_text us) later) ≡ kept_entries (entry_place es) scripts (suc i) vs → is_watched scripts (Some leaf) ≡ true
-          → map entry_of (filter_map (kept_leaf H leaf_text us) (i ∷ later)) ≡ cons_option (kept_entry scripts i q (Some leaf)) (kept_entries (entry_place es) scripts (suc i) vs)
+      by_place : (leaf : Leaf) → Some leaf ≡ get_or us i None → (q : Option Place) → entry_place es i ≡ q → map entry_of (filter_map (kept_leaf H leaf_text us) (kept_from (suc i) scripts vs)) ≡ kept_entries (entry_place es) scripts (suc i) vs → is_watched scripts (Some leaf) ≡ true
+          → map entry_of (filter_map (kept_leaf H leaf_text us) (i ∷ kept_from (suc i) scripts vs)) ≡ cons_option (kept_entry scripts i q (Some leaf)) (kept_entries (entry_place es) scripts (suc i) vs)
       by_place leaf e None f rest t = rw (← e, f) rest
       by_place leaf e (Some p) f rest t = rw (← e, f, t) (ap (λ xs. record { number = i; place = p; leaf = leaf } ∷ xs) rest)
 
@@ -62,13 +59,14 @@ module _ (H : List ℕ → Digest) (scripts : List (List ℕ)) (us : History) wh
       none_spent None = refl
       none_spent (Some p) = refl
 
-      by_entry : (u : Option Leaf) → u ≡ get_or us i None → map entry_of (filter_map (kept_leaf H leaf_text us) later) ≡ kept_entries (entry_place es) scripts (suc i) vs
-          → map entry_of (filter_map (kept_leaf H leaf_text us) (cond (is_watched scripts u) (i ∷ later) later)) ≡ cons_option (kept_entry scripts i (entry_place es i) u) (kept_entries (entry_place es) scripts (suc i) vs)
+      by_entry : (u : Option Leaf) → u ≡ get_or us i None → map entry_of (filter_map (kept_leaf H leaf_text us) (kept_from (suc i) scripts vs)) ≡ kept_entries (entry_place es) scripts (suc i) vs
+          → map entry_of (filter_map (kept_leaf H leaf_text us) (cond (is_watched scripts u) (i ∷ kept_from (suc i) scripts vs) (kept_from (suc i) scripts vs))) ≡ cons_option (kept_entry scripts i (entry_place es i) u) (kept_entries (entry_place es) scripts (suc i) vs)
       by_entry None e rest = rw (none_spent (entry_place es i)) rest
       by_entry (Some leaf) e rest =
           ⊎_elim
           (λ t. rw t (by_place leaf e (entry_place es i) refl rest t))
-          (λ t. rw (t, none_kept leaf (entry_place es i) t) rest)
+          (λ t. ap (λ b. map entry_of (filter_map (kept_leaf H leaf_text us) (cond b (i ∷ kept_from (suc i) scripts vs) (kept_from (suc i) scripts vs)))) t
+          ∙ (rest ∙ sym (ap (λ x. cons_option x (kept_entries (entry_place es) scripts (suc i) vs)) (none_kept leaf (entry_place es i) t))))
           (cases_Bool (is_watched scripts (Some leaf)))
 
   pub same_entries : map entry_of (kept_leaves H leaf_text scripts us) ≡ level_kept H scripts us
@@ -86,16 +84,16 @@ module _ (H : List ℕ → Digest) (scripts : List (List ℕ)) (us : History) wh
 
 -- ---- the digests
 
-map_at : (f g : Place → Option Digest) (ps : List Place) → ((r o : ℕ) → has_place ps r o ≡ true → f (place r o) ≡ g (place r o)) → filter_map f ps ≡ somes (map g ps)
-map_at f g ps h = filter_map-at f g ps h ∙ as_somes ps
+as_somes : (g : Place → Option Digest) (qs : List Place) → filter_map g qs ≡ somes (map g qs)
+as_somes g [] = refl
+as_somes g (q ∷ qs) = by_one (g q) refl (as_somes g qs)
   where
-    as_somes : (qs : List Place) → filter_map g qs ≡ somes (map g qs)
-    as_somes [] = refl
-    as_somes (q ∷ qs) = by_one (g q) refl
-      where
-        by_one : (x : Option Digest) → g q ≡ x → filter_map g (q ∷ qs) ≡ somes (map g (q ∷ qs))
-        by_one None e = rw e (as_somes qs)
-        by_one (Some d) e = rw e (ap (λ ds. d ∷ ds) (as_somes qs))
+    by_one : (x : Option Digest) → g q ≡ x → filter_map g qs ≡ somes (map g qs) → filter_map g (q ∷ qs) ≡ somes (map g (q ∷ qs))
+    by_one None e rest = rw e rest
+    by_one (Some d) e rest = rw e (ap (λ ds. d ∷ ds) rest)
+
+map_at : (f g : Place → Option Digest) (ps : List Place) → ((r o : ℕ) → has_place ps r o ≡ true → f (place r o) ≡ g (place r o)) → filter_map f ps ≡ somes (map g ps)
+map_at f g ps h = filter_map-at f g ps h ∙ as_somes g ps
 
 module _ (H : List ℕ → Digest) (scripts : List (List ℕ)) (c : CachedLevel) (l : Level) (stump : IsStump c.roots) (s : StandsForLevel H scripts c l) where
   abbrev us' : History

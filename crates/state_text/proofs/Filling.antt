@@ -72,7 +72,7 @@ module _ (H : List ℕ → Digest) (n : ℕ) (ts : List Place) (leaves hashes : 
 
 -- ---- a level
 
-shape_leaves : (ks : List Kept) → leaf_places ks ≡ places_of (map entry_of ks)
+pub shape_leaves : (ks : List Kept) → leaf_places ks ≡ places_of (map entry_of ks)
 shape_leaves [] = refl
 shape_leaves (k ∷ ks) = ap (λ ps. k.place ∷ ps) (shape_leaves ks)
 

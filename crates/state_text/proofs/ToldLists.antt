@@ -2,8 +2,7 @@
 use Rattle.std.proofs.Common.{◌≡◌, ℕ, Bool, true, false, cond, List, [], ◌∷◌, map, length, Option, Some, None, refl, sym, ap, ap₂, ◌∙◌, subst, arith, ⊎_elim, inl, inr}
 use Rattle.std.specs.Prelude.{◌⊎◌, filter, filter_map, is_some, option_map, ◌||◌}
 use Rattle.std.specs.List.{AllByRecursion}
-use Rattle.std.proofs.lemmas.Bool.{cases_Bool, false≢true, or_cases, or_left, or_right, lt-ltb}
-use Rattle.std.proofs.Common.{eq-eqb}
+use Rattle.std.proofs.lemmas.Bool.{cases_Bool, false≢true, or_cases, or_left, or_right}
 use Rattle.std.proofs.lemmas.Option.{none-some, same_Some}
 use Rattle.uo_digest.specs.declared.digest.Digest.{Digest}
 use Rattle.forest_place.specs.declared.place.Place.{Place}
@@ -15,7 +14,7 @@ use Rattle.cache_model.specs.Cache.{look}
 use Rattle.cache_model.specs.Lists.{AscendByPlace}
 use Rattle.cache_model.specs.Undo.{find, is_same_place, is_before_place, held_key}
 use Rattle.state_text.specs.Told.{told_list}
-use Rattle.state_text.proofs.Merging.{places_in}
+use Rattle.state_text.proofs.Merging.{places_in, means_before}
 
 -- the place is one of the forest, and this is told of it
 abbrev pub IsHeld : ℕ → (Place → Option Digest) → Place × Digest → Type 0
@@ -51,6 +50,12 @@ module _ (at : Place → Option Digest) where
       by_one None e rest = rw e rest
       by_one (Some d) e rest = rw e (e, rest)
 
+  look_here : (p : Place) (d : Digest) (hs : List (Place × Digest)) (r o : ℕ) → is_at r o p ≡ true → look ((p, d) ∷ hs) r o ≡ Some d
+  look_here p d hs r o e = rw e refl
+
+  look_later : (p : Place) (d : Digest) (hs : List (Place × Digest)) (r o : ℕ) → is_at r o p ≡ false → look ((p, d) ∷ hs) r o ≡ look hs r o
+  look_later p d hs r o e = rw e refl
+
   -- nothing stands where nothing is told
   none_told : (ps : List Place) (r o : ℕ) → at (place r o) ≡ None → look (filter_map told ps) r o ≡ None
   none_told [] r o e = refl
@@ -61,7 +66,7 @@ module _ (at : Place → Option Digest) where
       by_one (Some d) f rest =
           ⊎_elim
           (λ here. absurd (none-some d (sym e ∙ (ap at (sym (same_from_is_at r o p here)) ∙ f))))
-          (λ other. rw (f, other) rest)
+          (λ other. rw f (look_later p d (filter_map told ps) r o other ∙ rest))
           (cases_Bool (is_at r o p))
 
   -- what stands in it at a place
@@ -74,9 +79,9 @@ module _ (at : Place → Option Digest) where
 
       by_one : (x : Option Digest) → at p ≡ x → (is_at r o p ≡ true) ⊎ (is_at r o p ≡ false) → (has_place ps r o ≡ true → look (filter_map told ps) r o ≡ at (place r o)) → look (filter_map told (p ∷ ps)) r o ≡ at (place r o)
       by_one None e (inl here) rest = let f : at (place r o) ≡ None = ap at (sym (same_from_is_at r o p here)) ∙ e in rw e (none_told ps r o f ∙ sym f)
-      by_one (Some d) e (inl here) rest = let f : at (place r o) ≡ Some d = ap at (sym (same_from_is_at r o p here)) ∙ e in rw (e, here) (sym f)
+      by_one (Some d) e (inl here) rest = let f : at (place r o) ≡ Some d = ap at (sym (same_from_is_at r o p here)) ∙ e in rw e (look_here p d (filter_map told ps) r o here ∙ sym f)
       by_one None e (inr other) rest = rw e (rest (there other))
-      by_one (Some d) e (inr other) rest = rw (e, other) (rest (there other))
+      by_one (Some d) e (inr other) rest = rw e (look_later p d (filter_map told ps) r o other ∙ rest (there other))
 
 -- two lists over the same places that are told are the same
 same_held : (at : Place → Option Digest) (xs ys : List (Place × Digest)) → places_in xs ≡ places_in ys → AllByRecursion (λ h. at h.0 ≡ Some h.1) xs → AllByRecursion (λ h. at h.0 ≡ Some h.1) ys → xs ≡ ys
@@ -126,10 +131,6 @@ module _ (n : ℕ) (at : Place → Option Digest) where
 
 -- ---- the order of a cache
 
-before_is : (p q : Place) → IsBefore p q → is_before_place p q ≡ true
-before_is p q (inl lt) = or_left _ _ (lt-ltb p.row q.row lt)
-before_is p q (inr same) = or_right _ _ (rw (eq-eqb p.row q.row same.0, lt-ltb p.off q.off same.1) refl)
-
 found_has : (p : Place) (hs : List (Place × Digest)) (h : Place × Digest) → find is_same_place held_key p hs ≡ Some h → has_place (places_in hs) p.row p.off ≡ true
 found_has p [] h e = absurd cc
 found_has p (x ∷ hs) h e =
@@ -140,4 +141,4 @@ found_has p (x ∷ hs) h e =
 
 pub places_ascend : (hs : List (Place × Digest)) → IsAscending (places_in hs) → AscendByPlace hs
 places_ascend [] a = tt
-places_ascend (x ∷ hs) a = (λ p h e. before_is x.0 p (a.0 p (found_has p hs h e)), places_ascend hs a.1)
+places_ascend (x ∷ hs) a = (λ p h e. means_before x.0 p (a.0 p (found_has p hs h e)), places_ascend hs a.1)

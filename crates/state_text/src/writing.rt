@@ -180,7 +180,7 @@ fn put_level<D: Digester>(
     kept: &[Kept],
     hashes: &[Digest],
 ) -> Result<(), NoMemory>
-    requires within { AreWithin roots.now.leaves (leaf_places kept.now) }
+    requires { AreWithin roots.now.leaves (leaf_places kept.now) }
     ensures ok { OnOk result (out.new.items ≡ out.old.items ++ level_text (record { tip = tip; roots = roots.now; kept = map entry_of kept.now; hashes = hashes.now })) }
     ensures err { OnErr result (Grew out.old.items out.new.items) }
 {
@@ -351,6 +351,13 @@ fn put_levels<W: Sink, D: Digester>(
 }
 
 impl<D: Digester> StoredState<D> {
+    fn level_count(&self) -> u8
+        requires { length self.now.levels < 256 }
+        ensures { result ≡ length self.now.levels }
+    {
+        self.levels.len() as u8
+    }
+
     /// Writes the text of the state, or a front of it where a fault comes. There are at most 255 levels.
     pub fn write<W: Sink>(&self, alloc: Global, sink: &mut W) -> Result<(), SinkFault>
         requires { length self.now.levels < 256 }
@@ -359,8 +366,8 @@ impl<D: Digester> StoredState<D> {
         ensures later { W.faults sink.old ≤ W.faults sink.new }
         ensures cause { IsErrOf result SinkFault.Failed → Rose (W.faults sink.old) (W.faults sink.new) }
     {
-        let levels = self.levels.len() as u8;
-        write_front(alloc, sink, self.net, self.blocks, &self.watch, levels)?;
+        let count = self.level_count();
+        write_front(alloc, sink, self.net, self.blocks, &self.watch, count)?;
         put_levels(alloc, sink, &self.levels)
     }
 }
