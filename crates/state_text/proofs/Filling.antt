@@ -67,8 +67,8 @@ module _ (H : List ℕ → Digest) (n : ℕ) (ts : List Place) (leaves hashes : 
       let some = λ (d : Digest). let o : Option Digest = Some d in o in
       listed_all (λ p. look (told_list n at) p.row p.off) (need n ts) hashes
       (map_from some (λ p. look (told_list n at) p.row p.off) (H []) (need n ts) hashes (distinct_from_ascending (need n ts) (need_ascending n ts)) long (λ r o h.
-          let w = need_had n ts r o h in
-          sym (look_told n at r o w.0 ∙ (at_needed H n ts leaves hashes (place r o) w.1 ∙ ap some (ap (λ ps. beside (H []) ps hashes r o) (asked_all n ts))))))
+      let w = need_had n ts r o h in
+      sym (look_told n at r o w.0 ∙ (at_needed H n ts leaves hashes (place r o) w.1 ∙ ap some (ap (λ ps. beside (H []) ps hashes r o) (asked_all n ts))))))
 
 -- ---- a level
 

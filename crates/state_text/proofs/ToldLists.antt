@@ -124,9 +124,9 @@ module _ (n : ℕ) (at : Place → Option Digest) where
       same_ascending (places_in hs) (filter (λ p. is_some (at p)) (places n)) are.ascending (ascending-filter (λ p. is_some (at p)) (places n) (places_ascending n))
       (λ r o h. let w = within_held n at hs are.sound r o h in filter_has (λ p. is_some (at p)) (places n) r o (places_have n r o w.0) w.1)
       (λ r o h.
-          let w = filter_had (λ p. is_some (at p)) (places n) r o h in
-          let d = some_of (at (place r o)) w.1 in
-          are.all (place r o) d.0 (places_had n r o w.0) d.1) in
+      let w = filter_had (λ p. is_some (at p)) (places n) r o h in
+      let d = some_of (at (place r o)) w.1 in
+      are.all (place r o) d.0 (places_had n r o w.0) d.1) in
       same_held at hs (told_list n at) (same ∙ sym (told_places at (places n))) (told_of_held n at hs are.sound) (told_sound at (places n))
 
 -- ---- the order of a cache

@@ -8,7 +8,6 @@ use Rattle.leaf_record.specs.History.{somes, History}
 use Rattle.uo_digest.specs.Reading.{IsDigest}
 use Rattle.forest_place.specs.declared.place.Place.{Place}
 use Rattle.forest_place.specs.Forest.{is_slot}
-
 use Rattle.forest_model.specs.Standing.{digest_at, root}
 use Rattle.forest_model.specs.EntryPlace.{entry_place}
 use Rattle.forest_model.specs.Cover.{need}

@@ -131,7 +131,11 @@ fn judge_levels<D: Digester, L: Ledger>(
 }
 
 // A level with no block is that of the start, and none has more entries than this. Its entries are counted.
-fn judge_next<D: Digester>(left: u32, bound: u64, level: &SpelledLevel<D>) -> Result<u64, StateFault>
+fn judge_next<D: Digester>(
+    left: u32,
+    bound: u64,
+    level: &SpelledLevel<D>,
+) -> Result<u64, StateFault>
     ensures count { IfOk result (λ n. n ≡ level.now.roots.leaves) }
     ensures judged { Judges result (IsNext left bound level.now) }
 {
@@ -148,7 +152,11 @@ fn judge_next<D: Digester>(left: u32, bound: u64, level: &SpelledLevel<D>) -> Re
     Ok(n)
 }
 
-fn judge_chain<D: Digester>(blocks: u32, most: u64, levels: &[SpelledLevel<D>]) -> Result<(), StateFault>
+fn judge_chain<D: Digester>(
+    blocks: u32,
+    most: u64,
+    levels: &[SpelledLevel<D>],
+) -> Result<(), StateFault>
     ensures { Judges result (AreLevels blocks most levels.now) }
 {
     let mut left = blocks;

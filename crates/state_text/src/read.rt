@@ -37,7 +37,7 @@ fn read_first<D: Digester, L: Ledger>(
     steps: &mut Steps<L>,
 ) -> Result<StoredState<D>, StateFault>
     requires { most < 2 ^ 40 }
-    ensures { MatchResult result 
+    ensures { MatchResult result
         (λ s. IsState D.digest_of most (state_in s) × (body.now ≡ body_text (state_in s)) × AllByRecursion (IsFilled D.digest_of) s.levels)
         (λ e. claims e (HasBody D.digest_of most body.now → ⊥)) }
 {

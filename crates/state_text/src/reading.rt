@@ -9,7 +9,6 @@ ghost use Rattle.state_text.specs.Reading.{leaves_at, root_at, roots_at, placed_
 use crate::entry::StoredEntry;
 use crate::fault::StateFault;
 use crate::spelled::{SpelledLevel, SpelledState};
-
 use forest_place::{Place, place_of};
 use forest_roots::Roots;
 use leaf_record::{RecordView, read_rest};

@@ -66,10 +66,7 @@ fn with_hashes(
 }
 
 // Each covered place with its digest.
-fn with_digests(
-    alloc: Global,
-    covered: &[CoveredPlace],
-) -> Result<Vec<(Place, Digest)>, NoMemory>
+fn with_digests(alloc: Global, covered: &[CoveredPlace]) -> Result<Vec<(Place, Digest)>, NoMemory>
     ensures { IfOk result (λ pairs. pairs.items ≡ map told_pair covered.now) }
 {
     let mut pairs = Vec::with_capacity(alloc, covered.len())?;
@@ -122,7 +119,7 @@ pub(crate) fn told_of<D: Digester, L: Ledger>(
     requires leaves { length leaves.now ≡ length targets.now.targets }
     ensures { MatchResult result
         (λ held. IsAccepted D.digest_of roots.now.leaves (root_in roots.now) targets.now.targets nothing_known leaves.now hashes.now
-            × (held.items ≡ told_list roots.now.leaves (told_at D.digest_of roots.now.leaves targets.now.targets leaves.now hashes.now)))
+        × (held.items ≡ told_list roots.now.leaves (told_at D.digest_of roots.now.leaves targets.now.targets leaves.now hashes.now)))
         (λ e. claims e (IsAccepted D.digest_of roots.now.leaves (root_in roots.now) targets.now.targets nothing_known leaves.now hashes.now → ⊥)) }
 {
     // That the targets have shape.

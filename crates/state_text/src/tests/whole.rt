@@ -43,8 +43,32 @@ fn check_state<L: Ledger>(
 #[test]
 fn states_whole(rt: HostRuntime) -> Result<(), Fail> {
     check_state::<Brand>(&rt, rt.alloc(), &start(rt.alloc())?, (0, 0), Blank::new(1))?;
-    check_state::<Brand>(&rt, rt.alloc(), &genesis(rt.alloc())?, (0, 0), Blank::new(1))?;
-    check_state::<Brand>(&rt, rt.alloc(), &two_kept(rt.alloc())?, (2, 3), Blank::new(1))?;
-    check_state::<Brand>(&rt, rt.alloc(), &none_kept(rt.alloc())?, (0, 0), Blank::new(1))?;
-    check_state::<Brand>(&rt, rt.alloc(), &one_kept(rt.alloc())?, (1, 3), Blank::new(1))
+    check_state::<Brand>(
+        &rt,
+        rt.alloc(),
+        &genesis(rt.alloc())?,
+        (0, 0),
+        Blank::new(1),
+    )?;
+    check_state::<Brand>(
+        &rt,
+        rt.alloc(),
+        &two_kept(rt.alloc())?,
+        (2, 3),
+        Blank::new(1),
+    )?;
+    check_state::<Brand>(
+        &rt,
+        rt.alloc(),
+        &none_kept(rt.alloc())?,
+        (0, 0),
+        Blank::new(1),
+    )?;
+    check_state::<Brand>(
+        &rt,
+        rt.alloc(),
+        &one_kept(rt.alloc())?,
+        (1, 3),
+        Blank::new(1),
+    )
 }
