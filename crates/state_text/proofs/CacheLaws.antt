@@ -1,6 +1,6 @@
 -- A cache that stands for a history is stored as that history is, and is read back.
-use Rattle.std.proofs.Common.{◌≡◌, ℕ, zero, suc, ◌+◌, ◌<◌, ◌^◌, Bool, true, false, cond, List, [], ◌∷◌, map, length, get_or, Option, Some, None, refl, sym, ap, ap₂, ◌∙◌, subst, arith, ⊎_elim}
-use Rattle.std.specs.Prelude.{filter_map, option_map, is_some, ◌||◌}
+use Rattle.std.proofs.Common.{◌≡◌, ℕ, suc, ◌+◌, ◌<◌, ◌^◌, Bool, true, false, cond, List, [], ◌∷◌, map, length, get_or, Option, Some, None, refl, sym, ap, ap₂, ◌∙◌, subst, arith, ⊎_elim}
+use Rattle.std.specs.Prelude.{filter_map, option_map, is_some}
 use Rattle.std.specs.List.{AllByRecursion, AllZip, cons_option}
 use Rattle.std.proofs.lemmas.Bool.{cases_Bool, or_right}
 use Rattle.std.proofs.lemmas.List.{length-map}
@@ -15,20 +15,20 @@ use Rattle.forest_model.specs.EntryPlace.{entry_place}
 use Rattle.forest_model.specs.Cover.{cover, is_needed, need}
 use Rattle.forest_model.specs.Right.{entries}
 use Rattle.forest_model.proofs.Lists.{need_had}
-use Rattle.forest_roots.specs.Stump.{Stump, IsStump, StandsFor}
+use Rattle.forest_roots.specs.Stump.{Stump, IsStump}
 use Rattle.forest_roots.proofs.One.{one_stump}
 use Rattle.cache_model.specs.declared.kept.Kept.{Kept}
-use Rattle.cache_model.specs.Known.{is_watched, kept, kept_from, is_known, kept_places, known_at}
+use Rattle.cache_model.specs.Known.{is_watched, kept, kept_from, is_known, kept_places}
 use Rattle.cache_model.specs.Cache.{look, held, held_at}
-use Rattle.cache_model.specs.Lists.{kept_leaf, kept_leaf_of, kept_leaves, IsCacheOf}
+use Rattle.cache_model.specs.Lists.{kept_leaf, kept_leaf_of, kept_leaves}
 use Rattle.cache_model.proofs.Histories.{known_is}
 use Rattle.cache_model.proofs.Tables.{filter_map-at}
-use Rattle.node_rules.specs.Machine.{Level, State}
+use Rattle.node_rules.specs.Machine.{Level}
 use Rattle.state_text.specs.declared.entry.StoredEntry.{StoredEntry}
 use Rattle.state_text.specs.Stored.{LevelValue, StateValue, places_of}
-use Rattle.state_text.specs.OfHistory.{stump_of, kept_entry, kept_entries, level_kept, digests_at, level_of, state_of}
+use Rattle.state_text.specs.OfHistory.{stump_of, kept_entry, kept_entries, level_kept, digests_at, level_of}
 use Rattle.state_text.specs.Told.{told_list, level_tells}
-use Rattle.state_text.specs.Cached.{CachedLevel, CachedState, entry_of, level_in, state_in, IsFilled, StandsForLevel, StandingIsStored, StoredIsStanding}
+use Rattle.state_text.specs.Cached.{CachedLevel, entry_of, level_in, IsFilled, StandsForLevel, StandingIsStored, StoredIsStanding}
 use Rattle.state_text.proofs.LevelLaws.{is_stump, stump_slot}
 use Rattle.state_text.proofs.Holding.{kept_same, held_is_known}
 use Rattle.state_text.proofs.Filling.{one_filling}

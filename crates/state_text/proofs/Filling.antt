@@ -1,20 +1,19 @@
 -- The lists of a cache, made from what a level says.
-use Rattle.std.proofs.Common.{◌≡◌, ℕ, suc, ◌<◌, ◌≤◌, List, [], ◌∷◌, ◌++◌, map, length, Option, Some, None, refl, sym, ap, ap₂, ◌∙◌, subst, arith, ⊎_elim}
-use Rattle.std.specs.Prelude.{filter_map, ◌==◌, nat_lt}
+use Rattle.std.proofs.Common.{◌≡◌, ℕ, suc, ◌≤◌, List, [], ◌∷◌, ◌++◌, map, length, Option, Some, refl, sym, ap, ap₂, ◌∙◌, subst, arith, ⊎_elim}
+use Rattle.std.specs.Prelude.{filter_map, ◌==◌}
 use Rattle.std.specs.List.{AllByRecursion}
 use Rattle.std.proofs.lemmas.Bool.{cases_Bool, or_cases, false≢true, lt-ltb, eqb-true}
-use Rattle.std.proofs.lemmas.Option.{none-some, same_Some}
-use Rattle.std.proofs.lemmas.Simd.{map-map}
+use Rattle.std.proofs.lemmas.Option.{none-some}
 use Rattle.std.proofs.lemmas.List.{map-append}
 use Rattle.uo_digest.specs.declared.digest.Digest.{Digest}
-use Rattle.leaf_record.specs.Leaf.{Leaf, leaf_text}
+use Rattle.leaf_record.specs.Leaf.{leaf_text}
 use Rattle.forest_place.specs.declared.place.Place.{Place}
 use Rattle.forest_place.specs.Forest.{InForest}
 use Rattle.forest_place.specs.Places.{is_at, has_place, AreWithin}
 use Rattle.forest_place.proofs.Listed.{place, same_from_is_at}
 use Rattle.forest_place.proofs.Ascending.{distinct_from_ascending}
 use Rattle.forest_model.specs.Cover.{HasShape, need}
-use Rattle.forest_model.specs.Evaluation.{beside, hash_of, nothing_known, IsAccepted}
+use Rattle.forest_model.specs.Evaluation.{beside, nothing_known, IsAccepted}
 use Rattle.forest_model.proofs.Lists.{need_had, need_ascending, map_from}
 use Rattle.forest_roots.specs.Stump.{Stump, root_in}
 use Rattle.proof_verify.proofs.Values.{asked_all}

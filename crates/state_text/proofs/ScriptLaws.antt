@@ -1,20 +1,20 @@
 -- Ascending scripts: what stands before what, and a search.
-use Rattle.std.proofs.Common.{◌≡◌, ℕ, zero, suc, ◌-◌, ◌<◌, ◌≤◌, true, ◌+◌, List, [], ◌∷◌, ◌++◌, map, length, take, drop, get_or, Some, Option, refl, sym, ap, ap₂, ◌∙◌, subst, arith, ⊎_elim}
-use Rattle.std.specs.Prelude.{bytes_eq, ◌⊎◌}
+use Rattle.std.proofs.Common.{◌≡◌, ℕ, zero, suc, ◌-◌, ◌<◌, ◌≤◌, true, ◌+◌, List, [], ◌∷◌, map, length, take, drop, get_or, Some, refl, sym, ap, ◌∙◌, subst, arith, ⊎_elim}
+use Rattle.std.specs.Prelude.{bytes_eq}
 use Rattle.std.specs.Global.{Vec}
-use Rattle.std.specs.List.{AllByRecursion, insert}
+use Rattle.std.specs.List.{insert}
 use Rattle.std.specs.declared.cmp.Ordering.{Ordering}
 use Rattle.std.specs.declared.cmp.Ordering.TheVariants.{Less, Equal, Greater}
 use Rattle.std.specs.Ordering.{nat_cmp, is_lt}
 use Rattle.std.specs.Cmp.Lexicographic.{slice_cmp}
 use Rattle.std.proofs.lemmas.Cmp.{nat_list_cmp_total}
 use Rattle.std.proofs.lemmas.List.{length-drop, length-take-le, get_or-take, get_or_default, take_more}
-use Rattle.std.proofs.lemmas.Bool.{cases_Bool, false≢true, true≢false}
+use Rattle.std.proofs.lemmas.Bool.{cases_Bool, false≢true}
 use Rattle.std.proofs.lemmas.Option.{none-some}
 use Rattle.std.proofs.lemmas.List.Edits.{insert_end}
 use Rattle.cache_model.specs.Undo.{find}
 use Rattle.cache_model.specs.Search.{IsSplit}
-use Rattle.leaf_cache.specs.Watched.{IsScript, AreWatched, ScriptsAscend, is_before_script, script_key, put_script}
+use Rattle.leaf_cache.specs.Watched.{AreWatched, ScriptsAscend, is_before_script, script_key, put_script}
 use Rattle.leaf_cache.proofs.Scripts.{script_order, put_new}
 use Rattle.state_text.specs.Ordered.{ScriptsRise, AreScripts}
 

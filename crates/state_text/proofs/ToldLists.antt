@@ -1,18 +1,18 @@
 -- A list of what is told of the places of a forest.
-use Rattle.std.proofs.Common.{◌≡◌, ℕ, Bool, true, false, cond, List, [], ◌∷◌, map, length, Option, Some, None, refl, sym, ap, ap₂, ◌∙◌, subst, arith, ⊎_elim, inl, inr}
-use Rattle.std.specs.Prelude.{◌⊎◌, filter, filter_map, is_some, option_map, ◌||◌}
+use Rattle.std.proofs.Common.{◌≡◌, ℕ, true, false, List, [], ◌∷◌, length, Option, Some, None, refl, sym, ap, ap₂, ◌∙◌, subst, arith, ⊎_elim, inl, inr}
+use Rattle.std.specs.Prelude.{◌⊎◌, filter, filter_map, is_some, option_map}
 use Rattle.std.specs.List.{AllByRecursion}
 use Rattle.std.proofs.lemmas.Bool.{cases_Bool, false≢true, or_cases, or_left, or_right}
 use Rattle.std.proofs.lemmas.Option.{none-some, same_Some}
 use Rattle.uo_digest.specs.declared.digest.Digest.{Digest}
 use Rattle.forest_place.specs.declared.place.Place.{Place}
 use Rattle.forest_place.specs.Forest.{InForest}
-use Rattle.forest_place.specs.Places.{is_at, has_place, places, IsBefore, IsAscending}
+use Rattle.forest_place.specs.Places.{is_at, has_place, places, IsAscending}
 use Rattle.forest_place.proofs.Listed.{place, same_from_is_at, filter_has, filter_had, places_have, places_had}
 use Rattle.forest_place.proofs.Ascending.{ascending-filter, places_ascending, same_ascending}
 use Rattle.cache_model.specs.Cache.{look}
 use Rattle.cache_model.specs.Lists.{AscendByPlace}
-use Rattle.cache_model.specs.Undo.{find, is_same_place, is_before_place, held_key}
+use Rattle.cache_model.specs.Undo.{find, is_same_place, held_key}
 use Rattle.state_text.specs.Told.{told_list}
 use Rattle.state_text.proofs.Merging.{places_in, means_before}
 

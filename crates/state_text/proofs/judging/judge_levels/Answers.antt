@@ -5,7 +5,6 @@ use Rattle.state_text.specs.Cached.{level_in}
 use Rattle.state_text.specs.Ordered.{AreMadeLevels}
 use Rattle.std.proofs.lemmas.Result.{err_from_is_err_and}
 use Rattle.std.specs.List.{AllByRecursion}
-use Rattle.std.specs.Vec.Iter.{into_iter_items}
 use Rattle.state_text.specs.Fits.{IsLevel}
 use Rattle.state_text.proofs.Judged.{denied}
 use Rattle.state_text.proofs.Filling.{all_one, levels_more}

@@ -1,4 +1,4 @@
-use Rattle.std.proofs.Common.{List, Option, ◌++◌, sym, ap, ap₂, ◌∙◌}
+use Rattle.std.proofs.Common.{List, Option, ◌++◌, sym, ap₂, ◌∙◌}
 use Rattle.std.specs.Option.{option_to_list}
 use Rattle.cache_model.specs.Cache.{look}
 use Rattle.forest_place.specs.declared.place.Place.{Place}

@@ -1,5 +1,4 @@
 use Rattle.state_text.specs.Ordered.{kept_text}
-use Rattle.state_text.specs.Cached.{CachedLevel}
 use Rattle.std.proofs.Common.{ap}
 use Rattle.state_text.proofs.Written.{as_part}
 use Rattle.state_text.proofs.writing.put_stored.Goals as goal
