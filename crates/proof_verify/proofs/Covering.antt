@@ -1,24 +1,29 @@
 -- What is gathered of the covered places is what the proof comes to at each.
-use Rattle.std.proofs.Common.{◌≡◌, ℕ, zero, suc, ◌<◌, true, false, List, map, length, get_or, Option, Some, None, is_some, refl, sym, ap, ◌∙◌, subst, inl, inr, arith}
+use Rattle.std.proofs.Common.{◌≡◌, ℕ, zero, suc, ◌+◌, ◌<◌, ◌≤◌, true, false, List, [], ◌∷◌, ◌++◌, take, map, length, get_or, Option, Some, None, is_some, refl, sym, ap, ◌∙◌, subst, inl, inr, arith}
 use Rattle.std.specs.Prelude.{◌⊎◌}
 use Rattle.std.specs.List.{range_with_len}
 use Rattle.std.proofs.lemmas.Bool.{cases_Bool, false≢true}
-use Rattle.std.proofs.lemmas.List.FromFn.{get_or-map-range_with_len, length-map-range_with_len}
+use Rattle.std.proofs.lemmas.List.{take_more, take_all}
+use Rattle.std.proofs.lemmas.Simd.{map-map}
+use Rattle.std.proofs.lemmas.List.FromFn.{get_or-map-range_with_len, length-map-range_with_len, map-range_with_len_more}
 use Rattle.std.proofs.lemmas.Option.{same_Some}
 use Rattle.uo_digest.specs.declared.digest.Digest.{Digest}
 use Rattle.forest_place.specs.declared.place.Place.{Place}
+use Rattle.forest_place.specs.Forest.{InForest}
 use Rattle.forest_place.specs.Places.{has_place}
 use Rattle.forest_place.proofs.Listed.{place}
-use Rattle.forest_model.specs.Cover.{Cover, target, cover, need, HasShape}
+use Rattle.forest_model.specs.Cover.{Cover, target, given, both, cover, need, HasShape}
+use Rattle.forest_model.specs.Evaluation.{evaluation, nothing_known}
 use Rattle.forest_place.specs.Places.{place_in}
-use Rattle.proof_shape.specs.Survey.{has}
+use Rattle.proof_shape.specs.Survey.{has, IsCoverOf}
 use Rattle.proof_shape.proofs.Longer.{place_where}
 use Rattle.proof_verify.specs.Origins.{origin_at, AreHalves, IsTargetAt}
-use Rattle.proof_verify.specs.Nodes.{IsWithin, IsHalfWithin, CanEvaluate, AreEvaluated}
+use Rattle.proof_verify.specs.Nodes.{node_at, IsWithin, IsHalfWithin, CanEvaluate, AreEvaluated}
 use Rattle.proof_verify.specs.Room.{IsPlan}
 use Rattle.proof_verify.specs.Evaluation.{IsMade, IsEvaluatedAt, AreEvaluatedAt}
 use Rattle.proof_verify.specs.Gathered.{made_from, item_from, AreHalvesWithin, AreHalfwise}
 use Rattle.proof_verify.specs.declared.evaluation.CoveredPlace.{CoveredPlace}
+use Rattle.proof_verify.specs.declared.evaluation.Made.{Made}
 use Rattle.proof_verify.specs.declared.node.Node.{Node}
 use Rattle.proof_verify.specs.declared.origin.Half.{Half}
 use Rattle.proof_verify.specs.declared.origin.Half.TheVariants.{Covered, Needed}
@@ -38,6 +43,15 @@ halfwise os leaves hashes nodes long can i lt = wider (origin_at os i) (can i lt
     wider : (o : Origin) → IsWithin i leaves hashes o → AreHalvesWithin nodes hashes o
     wider (Target k) w = tt
     wider (Halves x y) w = (wider_half x w.0, wider_half y w.1)
+
+-- a list is that of its places by index
+by_index : (cs : List Place) (k : ℕ) → k ≤ length cs → map (place_in cs) (range_with_len 0 k) ≡ take k cs
+by_index cs zero le = refl
+by_index cs (suc k) le =
+    let lt : k < length cs = omega (arith, le) in
+    let up : k + 1 ≡ suc k = omega arith in
+    subst (λ m. map (place_in cs) (range_with_len 0 m) ≡ take m cs) up
+    (map-range_with_len_more (place_in cs) 0 k k (omega arith) ∙ (ap (λ ps. ps ++ place_in cs k ∷ []) (by_index cs k (omega (arith, le))) ∙ sym (take_more cs k (record { row = 0; off = 0 }) lt)))
 
 module _ (H : List ℕ → Digest) (n : ℕ) (ts cs : List Place) (os : List Origin) (plan : IsPlan n ts cs os) (shape : HasShape n ts) (leaves hashes : List Digest) (leaves_long : length leaves ≡ length ts) (hashes_long : length hashes ≡ length (need n ts))
     (nodes : List Node) (evaluated : AreEvaluated H os leaves hashes (length os) nodes) where
@@ -94,4 +108,7 @@ module _ (H : List ℕ → Digest) (n : ℕ) (ts cs : List Place) (os : List Ori
             let there : has cs (place row off) ≡ true = plan.cover_is.covered (place row off) h ∙ ap is_some e in
             let w = place_where cs row off there in
             (w.0, (let l = w.1 in omega (arith, l, count)), λ d. ap (λ (x : CoveredPlace). x.place) (at w.0 d w.1) ∙ w.2);
+        order =
+            let made : map (λ (x : CoveredPlace). x.place) items ≡ cs = ap (map (λ (x : CoveredPlace). x.place)) is ∙ (map-map (λ (x : CoveredPlace). x.place) f (range_with_len 0 (length cs)) ∙ (by_index cs (length cs) (omega arith) ∙ take_all (length cs) cs (omega arith))) in
+            subst (IsCoverOf n ts) (sym made) plan.cover_is;
       }

@@ -1,11 +1,12 @@
 -- What a proof comes to at each covered place.
-use Rattle.std.specs.Prelude.{◌≡◌, ℕ, ◌<◌, List, length, get_or, Some}
+use Rattle.std.specs.Prelude.{◌≡◌, ℕ, ◌<◌, List, map, length, get_or, Some}
 use Rattle.uo_digest.specs.declared.digest.Digest.{Digest}
 use Rattle.forest_place.specs.declared.place.Place.{Place}
 use Rattle.forest_place.specs.Forest.{InForest}
 use Rattle.forest_place.specs.Places.{place_in}
 use Rattle.forest_model.specs.Cover.{Cover, target, given, both, cover}
 use Rattle.forest_model.specs.Evaluation.{evaluation, nothing_known}
+use Rattle.proof_shape.specs.Survey.{IsCoverOf}
 use Rattle.proof_verify.specs.declared.evaluation.CoveredPlace.{CoveredPlace}
 use Rattle.proof_verify.specs.declared.evaluation.Made.{Made}
 use Rattle.proof_verify.specs.declared.evaluation.Made.TheVariants as Of
@@ -26,7 +27,8 @@ pub record IsEvaluatedAt (H : List ℕ → Digest) (n : ℕ) (ts : List Place) (
   pub digest : item.digest ≡ evaluation H n ts nothing_known leaves hashes beneath
   pub made : IsMade H n ts leaves hashes item.place beneath item.made
 
--- all covered places
+-- all covered places, in ascending position
 pub record AreEvaluatedAt (H : List ℕ → Digest) (n : ℕ) (ts : List Place) (leaves hashes : List Digest) (items : List CoveredPlace) : Type 0 where
   pub each : (i : ℕ) (d : CoveredPlace) → i < length items → IsEvaluatedAt H n ts leaves hashes (get_or items i d)
   pub all : (row off : ℕ) (c : Cover) → InForest n row off → cover ts row off ≡ Some c → (i : ℕ) × (i < length items) × ((d : CoveredPlace) → (get_or items i d).place ≡ record { row = row; off = off })
+  pub order : IsCoverOf n ts (map (λ item. item.place) items)

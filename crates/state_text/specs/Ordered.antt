@@ -1,0 +1,44 @@
+-- What the code asks, one thing after another.
+use Rattle.std.specs.Prelude.{◌≡◌, ℕ, ◌≤◌, List, [], ◌∷◌, map, length}
+use Rattle.std.specs.List.{AllByRecursion}
+use Rattle.std.specs.declared.cmp.Ordering.TheVariants.{Less}
+use Rattle.std.specs.Ordering.{nat_cmp}
+use Rattle.std.specs.Cmp.Lexicographic.{slice_cmp}
+use Rattle.uo_digest.specs.declared.digest.Digest.{Digest}
+use Rattle.forest_place.specs.declared.place.Place.{Place}
+use Rattle.proof_shape.specs.Shape.{AreTargets}
+use Rattle.leaf_cache.specs.Watched.{IsScript}
+use Rattle.state_text.specs.Stored.{LevelValue, level_text}
+use Rattle.state_text.specs.Fits.{IsLevel}
+use Rattle.state_text.specs.Cached.{CachedLevel, level_in, IsFilled}
+
+-- each comes before the next one, by bytes
+abbrev pub ScriptsRise : List (List ℕ) → Type 0
+ScriptsRise [] = Unit {0}
+ScriptsRise (x ∷ []) = Unit {0}
+ScriptsRise (x ∷ y ∷ more) = (slice_cmp nat_cmp x y ≡ Less) × ScriptsRise (y ∷ more)
+
+-- at most 10,000, of which each may be watched and comes before the next one
+pub record AreScripts (scripts : List (List ℕ)) : Type 0 where
+  pub few : length scripts ≤ 10000
+  pub each : AllByRecursion IsScript scripts
+  pub rise : ScriptsRise scripts
+
+-- targets that have shape stand at these positions
+abbrev pub HasTargets : ℕ → List ℕ → Type 0
+HasTargets n positions = (ts : List Place) × AreTargets n positions ts
+
+-- the text of a level as a node keeps it
+abbrev pub kept_text : CachedLevel → List ℕ
+kept_text l = level_text (level_in l)
+
+-- what was made of a level that was read
+pub record IsMadeLevel (H : List ℕ → Digest) (scripts : List (List ℕ)) (l : LevelValue) (made : CachedLevel) : Type 0 where
+  pub sound : IsLevel H scripts l
+  pub same : level_in made ≡ l
+  pub filled : IsFilled H made
+
+pub record AreMadeLevels (H : List ℕ → Digest) (scripts : List (List ℕ)) (ls : List LevelValue) (made : List CachedLevel) : Type 0 where
+  pub sound : AllByRecursion (IsLevel H scripts) ls
+  pub same : map level_in made ≡ ls
+  pub filled : AllByRecursion (IsFilled H) made

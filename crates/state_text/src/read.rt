@@ -1,0 +1,69 @@
+//! Reading a state.
+ghost use Rattle.std.specs.List.{AllByRecursion};
+ghost use Rattle.std.specs.Prelude.{◌≡◌, ◌↔◌, ◌<◌, ◌^◌, ◌∷◌, ℕ, List, IfOk, IsErrOf, MatchOption, MatchResult};
+ghost use Rattle.state_text.specs.Stored.{StateValue, IsOfVersion, body_text, state_text};
+ghost use Rattle.state_text.specs.Fits.{IsState, HasBody};
+ghost use Rattle.state_text.specs.Cached.{state_in, IsFilled};
+ghost use Rattle.state_text.specs.Reading.{claims};
+
+use crate::fault::StateFault;
+use crate::judging::judge_state;
+use crate::reading::read_body;
+use crate::state::StoredState;
+use std::alloc::Global;
+use std::sync::ledger::Ledger;
+use uo_digest::{Digester, Steps};
+
+// The version and what follows it, where the text begins with `UTXS` and a version.
+fn split_version(text: &[u8]) -> Option<(u8, &[u8])>
+    ensures { MatchOption result
+        ((v : ℕ) (body : List ℕ) → text.now ≡ 85 ∷ 84 ∷ 88 ∷ 83 ∷ v ∷ body → ⊥)
+        (λ parts. text.now ≡ 85 ∷ 84 ∷ 88 ∷ 83 ∷ parts.0 ∷ parts.1.now) }
+{
+    if text.len() < 5 {
+        return None;
+    }
+    if text[0] != b'U' || text[1] != b'T' || text[2] != b'X' || text[3] != b'S' {
+        return None;
+    }
+    Some((text[4], &text[5..]))
+}
+
+// What follows the version 1.
+fn read_first<D: Digester, L: Ledger>(
+    alloc: Global,
+    body: &[u8],
+    most: u64,
+    steps: &mut Steps<L>,
+) -> Result<StoredState<D>, StateFault>
+    requires { most < 2 ^ 40 }
+    ensures { MatchResult result
+        (λ s. IsState D.digest_of most (state_in s) × (body.now ≡ body_text (state_in s)) × AllByRecursion (IsFilled D.digest_of) s.levels)
+        (λ e. claims e (HasBody D.digest_of most body.now → ⊥)) }
+{
+    let state = read_body(alloc, body, most)?;
+    judge_state(alloc, state, most, steps)
+}
+
+/// Reads the state of a node of at most `most` entries, by the digester `D`: the whole text is that of a state. The lists of each
+/// level's cache are what its kept entries and hashes tell.
+pub fn read_state<D: Digester, L: Ledger>(
+    alloc: Global,
+    text: &[u8],
+    most: u64,
+    steps: &mut Steps<L>,
+) -> Result<StoredState<D>, StateFault>
+    requires { most < 2 ^ 40 }
+    ensures found { IfOk result (λ s. IsState D.digest_of most (state_in s) × (text.now ≡ state_text (state_in s))) }
+    ensures filled { IfOk result (λ s. AllByRecursion (IsFilled D.digest_of) s.levels) }
+    ensures none { IsErrOf result StateFault.NotAState → (s : StateValue) → IsState D.digest_of most s → text.now ≡ state_text s → ⊥ }
+    ensures version { (v : ℕ) → IsErrOf result (StateFault.Version v) ↔ IsOfVersion v text.now }
+{
+    let Some((version, body)) = split_version(text) else {
+        return Err(StateFault::NotAState);
+    };
+    if version != 1 {
+        return Err(StateFault::Version(version));
+    }
+    read_first(alloc, body, most, steps)
+}
