@@ -1,15 +1,17 @@
 -- What a mark gives back of the kept entries, number by number.
-use Rattle.std.proofs.Common.{◌≡◌, ℕ, Bool, true, false, cond, List, [], ◌∷◌, map, Option, Some, None, refl, sym, ap, ◌∙◌, ⊎_elim}
+use Rattle.std.proofs.Common.{◌≡◌, ℕ, Bool, true, false, cond, List, [], ◌∷◌, ◌++◌, map, Option, Some, None, refl, sym, ap, ◌∙◌, ⊎_elim}
 use Rattle.std.specs.Prelude.{option_map}
 use Rattle.std.specs.List.{list_any}
-use Rattle.std.specs.Option.{option_or}
+use Rattle.std.specs.Option.{option_or, option_to_list}
 use Rattle.std.proofs.lemmas.Bool.{cases_Bool}
+use Rattle.std.proofs.lemmas.List.{map-append}
 use Rattle.std.proofs.lemmas.Option.{none-some, same_Some}
 use Rattle.forest_place.specs.declared.place.Place.{Place}
 use Rattle.cache_model.specs.declared.kept.Kept.{Kept}
 use Rattle.cache_model.specs.Lists.{leaf_key, AscendByNumber}
-use Rattle.cache_model.specs.Undo.{find, Ascends, undo, back, KeepKeys, is_same_number, is_before_number}
+use Rattle.cache_model.specs.Undo.{find, change, undo, back, KeepKeys, is_same_number, is_before_number}
 use Rattle.cache_model.proofs.Undoing.{number_order, undone, same_found}
+use Rattle.cache_update.proofs.Undone.{undo_append}
 use Rattle.cache_update.specs.Given.{entry_was, at_place, entry_stood, entry_none, undo_entries, kept_given}
 
 abbrev pub found : ℕ → List Kept → Option Kept
@@ -91,3 +93,12 @@ pub given_back : (taken : List Kept) (stood : List (ℕ × Place)) (added : List
 given_back taken stood added ks old a b h =
     let x = given_is taken stood added ks a in
     same_found is_same_number is_before_number leaf_key number_order _ _ x.0 b (λ i. x.1 i ∙ h i)
+
+-- the last that was taken out comes back first
+pub taken_on : (all : List Kept) (taken rest : List Kept) (ks now : List Kept) (k : Kept) (last : Option Kept) → taken ≡ rest ++ option_to_list last → last ≡ Some k → now ≡ change is_same_number is_before_number leaf_key k.number (λ x. Some k) ks →
+    all ≡ undo_entries (map entry_was taken) ks → all ≡ undo_entries (map entry_was rest) now
+taken_on all taken rest ks now k last e f g h =
+    h ∙ (ap (λ (ys : List Kept). undo_entries (map entry_was ys) ks) (e ∙ ap (λ (x : Option Kept). rest ++ option_to_list x) f)
+    ∙ (ap (λ log. undo_entries log ks) (map-append entry_was rest (k ∷ []))
+    ∙ (undo_append is_same_number is_before_number leaf_key (map entry_was rest) (entry_was k ∷ []) ks
+    ∙ ap (undo_entries (map entry_was rest)) (sym g))))

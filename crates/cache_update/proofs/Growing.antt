@@ -26,9 +26,11 @@ use Rattle.forest_model.proofs.Ones.{slot_below, joined_slots_are, joined_slots_
 use Rattle.proof_shape.specs.Survey.{IsCoverOf}
 use Rattle.cache_model.specs.declared.kept.Kept.{Kept}
 use Rattle.cache_model.specs.Known.{is_known}
-use Rattle.cache_model.specs.Lists.{AscendByPlace, moved_leaf, moved_leaves, raised_leaves, leaves_more}
-use Rattle.cache_model.specs.Undo.{find, is_same_place, is_before_place, held_key}
+use Rattle.cache_model.specs.Lists.{AscendByPlace, leaf_key, moved_leaf, moved_leaves, raised_leaves, leaves_more}
+use Rattle.cache_model.specs.Undo.{find, is_same_place, is_before_place, held_key, is_same_number, is_before_number}
 use Rattle.cache_model.proofs.Undoing.{place_order}
+use Rattle.cache_update.specs.Given.{entry_was, entry_stood, entry_none, digest_was, digest_none, undo_entries, undo_digests, kept_given, held_given}
+use Rattle.cache_update.proofs.Undone.{undo_short, undo_no_longer}
 use Rattle.cache_update.specs.Marks.{growth, IsKnownIn, HoldKnown}
 
 -- there is a row that is no slot, above rows that all are
@@ -85,7 +87,7 @@ hold_known n ps cs c hs a known =
           (or_cases (is_some (cover ps q.row q.off)) (is_needed n ps q) w.1),
           omega arith, refl)) in
     let long = length-append cs (need n ps) in
-    let same = length-map held_key hs in
+    let same = length-map hs held_key in
     omega (arith, few, long, same)
 
 -- lengths of the kept entries
@@ -100,10 +102,24 @@ passed_length f (x ∷ xs) = cons_length (f x) (filter_map f xs) (length xs) (pa
 pub more_length : (e : ℕ → Bool) (n m : ℕ) (watched : Option Leaf) (d : Digest) (ks : List Kept) (b : ℕ) → (is_some watched ≡ true → b ≡ 1) → length (leaves_more e n m watched d ks) ≤ length ks + b
 more_length e n m None d ks b h =
     let long = length-append (raised_leaves e n m ks) [] in
-    let same : length (raised_leaves e n m ks) ≡ length ks = length-map _ ks in
+    let same : length (raised_leaves e n m ks) ≡ length ks = length-map ks _ in
     omega (arith, long, same)
 more_length e n m (Some leaf) d ks b h =
     let long = length-append (raised_leaves e n m ks) (option_to_list (option_map _ (Some leaf))) in
-    let same : length (raised_leaves e n m ks) ≡ length ks = length-map _ ks in
+    let same : length (raised_leaves e n m ks) ≡ length ks = length-map ks _ in
     let one = h refl in
     omega (arith, long, same, one)
+
+-- what a mark gives back is no longer than what there is and what it puts back
+pub kept_short : (taken : List Kept) (stood : List (ℕ × Place)) (added : List ℕ) (ks : List Kept) → length (kept_given taken stood added ks) ≤ length ks + length taken
+kept_short taken stood added ks =
+    let a = undo_no_longer is_same_number is_before_number leaf_key entry_none (λ i. refl) added ks in
+    let b = undo_no_longer is_same_number is_before_number leaf_key entry_stood (λ s. refl) stood (undo_entries (map entry_none added) ks) in
+    let c = undo_short is_same_number is_before_number leaf_key entry_was taken (undo_entries (map entry_stood stood) (undo_entries (map entry_none added) ks)) in
+    omega (arith, a, b, c)
+
+pub held_short : (lost : List (Place × Digest)) (gained : List Place) (hs : List (Place × Digest)) → length (held_given lost gained hs) ≤ length hs + length lost
+held_short lost gained hs =
+    let a = undo_no_longer is_same_place is_before_place held_key digest_none (λ p. refl) gained hs in
+    let b = undo_short is_same_place is_before_place held_key digest_was lost (undo_digests (map digest_none gained) hs) in
+    omega (arith, a, b)

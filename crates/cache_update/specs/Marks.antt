@@ -28,6 +28,11 @@ held_from (Some r) lost gained hs = r.before.items
 abbrev pub held_back : Mark → List (Place × Digest) → List (Place × Digest)
 held_back m hs = held_from m.room m.lost.items m.gained.items hs
 
+-- what is given back of the held digests ascends
+abbrev pub GivesInOrder : Option Room → Type 0
+GivesInOrder None = Unit {0}
+GivesInOrder (Some r) = AscendByPlace r.before.items
+
 -- how many digests additions to n entries can put, at most
 abbrev pub growth : ℕ → ℕ → ℕ
 growth n adds = 3 * adds + 2 * count_ones n

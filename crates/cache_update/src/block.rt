@@ -106,10 +106,9 @@ impl Mark {
         ensures watched { self.new.watched + (if is_watched then 1 else 0) ≡ self.old.watched }
         ensures added { self.new.added.items ≡ self.old.added.items ++ (if is_watched then self.old.leaves ∷ [] else []) }
         ensures added_room { vec_len self.new.added + self.new.watched + vec_capacity self.old.added ≤ vec_len self.old.added + self.old.watched + vec_capacity self.new.added }
-        ensures taken { self.new.taken ≡ self.old.taken }
-        ensures stood { self.new.stood ≡ self.old.stood }
-        ensures lost { self.new.lost ≡ self.old.lost }
-        ensures gained { self.new.gained ≡ self.old.gained }
+        ensures taken { self.new.taken.items ≡ self.old.taken.items }
+        ensures stood { self.new.stood.items ≡ self.old.stood.items }
+        ensures stood_len { vec_len self.new.stood ≡ vec_len self.old.stood }
     {
         if is_watched {
             let _ = self.added.push(self.leaves);

@@ -5,10 +5,10 @@ ghost use Rattle.std.specs.Bool.{OnTrue};
 ghost use Rattle.forest_place.specs.Forest.{InForest};
 ghost use Rattle.forest_place.specs.Position.{positions_of};
 ghost use Rattle.cache_model.specs.Lists.{moved_leaves, leaf_places};
-ghost use Rattle.leaf_cache.specs.Parted.{HaveSameLists};
+ghost use Rattle.leaf_cache.specs.Parted.{HaveSameLists, IsParted};
 ghost use Rattle.cache_update.specs.Differences.{where_stood};
 ghost use Rattle.cache_update.specs.Begun.{IsRoom, IsMark, new_position};
-ghost use Rattle.cache_update.specs.Marks.{Fits, WasBegun, HoldKnown, growth, kept_back, held_back};
+ghost use Rattle.cache_update.specs.Marks.{AreOfForest, Fits, WasBegun, HoldKnown, growth, kept_back, held_back};
 
 use crate::known::is_within;
 use crate::mark::{Mark, Room, Scratch};
@@ -44,6 +44,15 @@ fn are_held_in(n: u64, held: &[(Place, Digest)]) -> bool
         }
     }
     true
+}
+
+// Whether the lists are those of a forest over `n` entries.
+fn is_of_forest(n: u64, parts: &Parts) -> bool
+    requires { n < 2 ^ 40 }
+    ensures forest { OnTrue result (AreOfForest n parts.now) }
+    ensures ordered { IsParted parts.now }
+{
+    are_kept_in(n, &parts.kept) && are_held_in(n, &parts.held)
 }
 
 // Notes the position to which what stands at a place goes, if it stays.
@@ -182,8 +191,7 @@ fn begin_in(
     ensures held_back { IfOk result (λ m. held_back m parts.new.held ≡ parts.old.held) }
     ensures left { IfOk result (λ m. (m.leaves ≡ targets.now.leaves) × (m.adds ≡ adds) × (m.watched ≡ watched)) }
 {
-    let n = targets.leaves();
-    if !are_kept_in(n, &parts.kept) || !are_held_in(n, &parts.held) {
+    if !is_of_forest(targets.leaves(), parts) {
         return Err(NoMemory);
     }
     let Some(entries) = (watched as usize).checked_add(1) else {
@@ -192,7 +200,8 @@ fn begin_in(
     let room = room_for(alloc, parts, targets, adds)?;
     parts.kept.reserve(entries)?;
     parts.held.reserve(room.most)?;
-    mark_for(alloc, parts, targets, adds, watched, room)
+    let mark = mark_for(alloc, parts, targets, adds, watched, room)?;
+    Ok(mark)
 }
 
 /// Takes all memory for one block: the deletion of `targets`, then `adds` additions of which `watched` are watched. What the

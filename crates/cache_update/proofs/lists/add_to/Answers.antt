@@ -25,3 +25,11 @@ returns-clause-forest c =
           (subst (All (IsHeldIn _)) (sym c.add_held.ensures.held)
           (added_in c.args.joins.now c.args.digest c.args.n _ _ c.requires.slots forest.held));
     }
+
+pub returns-clause-ordered : goal.returns-clause-ordered
+returns-clause-ordered c =
+    let forest = rw (← c.parts.view_is) at c.requires.forest in (
+      subst AscendByNumber (sym c.add_kept.ensures.items)
+          (more_ascend (is_empty_of c.args.joins.now) c.args.n (length c.args.joins.now) c.args.leaf c.args.digest _ c.parts.invariant.0 forest.numbers),
+      c.add_held.ensures.ascends,
+    )

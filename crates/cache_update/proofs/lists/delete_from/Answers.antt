@@ -14,5 +14,8 @@ returns-clause-forest c =
     record {
       numbers = subst (All (IsNumbered c.args.targets.now.leaves)) (sym c.move_kept.ensures.kept) (numbers_moved c.args.targets.now.leaves c.args.targets.now.targets c.args.targets.now.leaves _ forest.numbers);
       kept = subst (All (IsKeptIn c.args.targets.now.leaves)) (sym c.move_kept.ensures.kept) (moved_in c.args.targets.now.leaves c.args.targets.now.targets _ forest.kept);
-      held = known_held c.args.targets.now.leaves c.args.kept.now.targets _ (subst (λ (n : ℕ). All (IsKnownIn n c.args.kept.now.targets) _) c.requires.same c.delete_held.ensures.known);
+      held = known_held c.args.targets.now.leaves c.args.kept.now.targets _ (subst (λ (n : ℕ). All (IsKnownIn n c.args.kept.now.targets) c.delete_held.new.held.items) c.requires.same c.delete_held.ensures.known);
     }
+
+pub returns-clause-ordered : goal.returns-clause-ordered
+returns-clause-ordered c = (subst AscendByNumber (sym c.move_kept.ensures.kept) (moved_ascend c.args.targets.now.leaves c.args.targets.now.targets _ c.parts.invariant.0), c.delete_held.ensures.ascends)

@@ -6,6 +6,7 @@ use Rattle.leaf_cache.specs.Parted.{Parted}
 use Rattle.cache_update.specs.Differences.{lost, gained, moved_since}
 use Rattle.cache_update.specs.Given.{held_given}
 use Rattle.cache_update.proofs.Differing.{differences_give}
+use Rattle.cache_update.proofs.Passes.{from_nothing}
 use Rattle.cache_update.proofs.Marking.{settling_keeps}
 use Rattle.cache_update.proofs.mark.Mark.settle.Goals as goal
 
@@ -18,8 +19,8 @@ returns-clause-kept c =
 pub returns-clause-held : goal.returns-clause-held
 returns-clause-held c =
     ap₂ (λ (x : List (Place × Digest)) (y : List Place). held_given x y c.args.parts.now.held)
-    (c.shrink_to_fit.ensures.items ∙ (c.note_all_lost.ensures ∙ (ap (λ (s : List (Place × Digest)). s ++ _) c.requires.room.empty.0
-    ∙ ap₂ (λ (x : List (Place × Digest)) (y : List (Place × Digest)). filter_map (lost x) y) (c.deref.ensures.value ∙ ap (λ (p : Parted). p.held) c.parts.view_is) c.deref-2.ensures.value)))
-    (c.shrink_to_fit-2.ensures.items ∙ (c.note_all_gained.ensures ∙ (ap (λ (s : List Place). s ++ _) c.requires.room.empty.1
-    ∙ ap₂ (λ (x : List (Place × Digest)) (y : List (Place × Digest)). filter_map (gained y) x) (c.deref-3.ensures.value ∙ ap (λ (p : Parted). p.held) c.parts.view_is) c.deref-4.ensures.value)))
+    (c.shrink_to_fit.ensures.items ∙ (from_nothing (lost c.deref.result.now) c.args.room.lost.items _ c.deref-2.result.now c.requires.room.empty.0 c.note_all_lost.ensures
+    ∙ ap₂ (λ (x : List (Place × Digest)) (y : List (Place × Digest)). filter_map (lost x) y) (c.deref.ensures.value ∙ ap (λ (p : Parted). p.held) c.parts.view_is) c.deref-2.ensures.value))
+    (c.shrink_to_fit-2.ensures.items ∙ (from_nothing (gained c.deref-4.result.now) c.args.room.gained.items _ c.deref-3.result.now c.requires.room.empty.1 c.note_all_gained.ensures
+    ∙ ap₂ (λ (x : List (Place × Digest)) (y : List (Place × Digest)). filter_map (gained y) x) (c.deref-3.ensures.value ∙ ap (λ (p : Parted). p.held) c.parts.view_is) c.deref-4.ensures.value))
     ∙ differences_give c.args.parts.now.held c.args.room.before.items c.requires.room.ordered.1 c.requires.room.before
