@@ -1,8 +1,7 @@
 -- How many digests additions put, and how many known places there are.
 use Rattle.std.proofs.Common.{◌≡◌, ℕ, zero, suc, ◌+◌, ◌-◌, ◌*◌, ◌<◌, ◌≤◌, Bool, true, false, ◌||◌, List, [], ◌∷◌, ◌++◌, map, filter_map, length, Option, Some, None, is_some, refl, sym, ap, ◌∙◌, subst, ⊎_elim, All, arith}
-use Rattle.std.specs.Prelude.{count_ones, option_map}
+use Rattle.std.specs.Prelude.{count_ones}
 use Rattle.std.specs.List.{cons_option, AllByRecursion, IsDistinct}
-use Rattle.std.specs.Option.{option_to_list}
 use Rattle.std.specs.Cmp.{IsEquivalence}
 use Rattle.std.proofs.lemmas.Bool.{cases_Bool, cases_lt, true≢false, and_from, or_left, or_right, or_cases}
 use Rattle.std.proofs.lemmas.List.{length-append, length-map}
@@ -17,7 +16,7 @@ use Rattle.forest_place.specs.Places.{is_at, has_place, IsDistinct as HasNoRepea
 use Rattle.forest_place.proofs.Counted.{few_made}
 use Rattle.forest_place.proofs.Listed.{same_from_is_at}
 use Rattle.forest_place.proofs.Parts.{row_below}
-use Rattle.forest_model.specs.Addition.{all_slots, joined_slots}
+use Rattle.forest_model.specs.Addition.{all_slots, joined_slots, carried_place}
 use Rattle.forest_model.specs.Cover.{cover, is_needed, need}
 use Rattle.forest_model.specs.Deletion.{moved}
 use Rattle.forest_model.proofs.Adding.{parts_more}
@@ -105,7 +104,8 @@ more_length e n m None d ks b h =
     let same : length (raised_leaves e n m ks) ≡ length ks = length-map ks _ in
     omega (arith, long, same)
 more_length e n m (Some leaf) d ks b h =
-    let long = length-append (raised_leaves e n m ks) (option_to_list (option_map _ (Some leaf))) in
+    let new : Kept = record { number = n; leaf = leaf; place = carried_place e n m 0; digest = d } in
+    let long = length-append (raised_leaves e n m ks) (new ∷ []) in
     let same : length (raised_leaves e n m ks) ≡ length ks = length-map ks _ in
     let one = h refl in
     omega (arith, long, same, one)

@@ -1,5 +1,5 @@
 //! A cache, and lists of one, as they were.
-ghost use Rattle.std.specs.Prelude.{◌≡◌, ◌+◌, ◌<◌, ◌≤◌, length, OnOk, OnErr, vec_capacity};
+ghost use Rattle.std.specs.Prelude.{◌≡◌, ◌+◌, ◌^◌, ◌<◌, ◌≤◌, length, OnOk, OnErr, vec_capacity};
 ghost use Rattle.cache_model.specs.Lists.{AscendByPlace};
 ghost use Rattle.leaf_cache.specs.Parted.{HaveSameLists};
 ghost use Rattle.cache_update.specs.Marks.{Fits, GivesInOrder, kept_back, held_back, held_from};
@@ -68,7 +68,8 @@ pub fn undo<D>(cache: &mut Cache<D>, mark: Mark)
 
 // How many digests the mark puts back, at most.
 fn more_held(mark: &Mark) -> usize
-    ensures { (hs : _) → length (held_back mark.now hs) ≤ length hs + result }
+    ensures most { (hs : _) → length (held_back mark.now hs) ≤ length hs + result }
+    ensures small { result < 2 ^ 63 }
 {
     match &mark.room {
         Some(room) => room.before.len(),

@@ -198,9 +198,10 @@ fn begin_in(
         return Err(NoMemory);
     };
     let room = room_for(alloc, parts, targets, adds)?;
-    parts.kept.reserve(entries)?;
-    parts.held.reserve(room.most)?;
+    let most = room.most;
     let mark = mark_for(alloc, parts, targets, adds, watched, room)?;
+    parts.kept.reserve(entries)?;
+    parts.held.reserve(most)?;
     Ok(mark)
 }
 
