@@ -139,3 +139,15 @@ module _ (t : Targeted) (p q : Parted) (adds watched : ℕ) (r : Room) (m : Mark
         taken_room = omega (arith, long, mark.taken_room);
         moves = room.moves;
       })
+
+-- a mark with no block fits where there is room for what it gives back
+pub between_fits : (m : Mark) (p newer older : Parted) → m.room ≡ None → m.adds ≡ 0 → kept_back m newer.kept ≡ older.kept → held_back m newer.held ≡ older.held → (p.kept ≡ newer.kept) × (p.held ≡ newer.held) →
+    length older.kept < p.kept_room → length older.held < p.held_room → Fits m p
+between_fits m p newer older none done kept held same kept_room held_room =
+    let a = ap length (ap (kept_back m) same.0 ∙ kept) in
+    let b = ap length (ap (held_back m) same.1 ∙ held) in
+    record {
+      kept_room = omega (arith, a, kept_room);
+      held_room = omega (arith, b, held_room);
+      left = subst (HasRoomLeft m p) (sym none) done;
+    }

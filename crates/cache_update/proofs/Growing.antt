@@ -33,7 +33,7 @@ use Rattle.cache_update.proofs.Undone.{undo_short, undo_no_longer}
 use Rattle.cache_update.specs.Marks.{growth, IsKnownIn, HoldKnown}
 
 -- there is a row that is no slot, above rows that all are
-free_above : (n k r : ℕ) → all_slots n r ≡ true → suc n - r ≡ k → (m : ℕ) × (r ≤ m) × (all_slots n m ≡ true) × (is_slot n m ≡ false)
+pub free_above : (n k r : ℕ) → all_slots n r ≡ true → suc n - r ≡ k → (m : ℕ) × (r ≤ m) × (all_slots n m ≡ true) × (is_slot n m ≡ false)
 free_above n zero r all e =
     let few = row_below (suc n) r 0 (let m = parts_more n r all in omega (arith, m)) in
     absurd (omega arith)

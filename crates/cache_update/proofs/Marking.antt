@@ -267,3 +267,23 @@ stood_names ks = stood_by ks [] (λ k f. ap is_some (find_map is_same_number lea
     still : (y : Option Kept) → is_some y ≡ true → is_some (option_map where_stood y) ≡ true
     still None f = f
     still (Some k) f = refl
+
+-- other entries in place of all
+among_found : (i : ℕ) (ks : List Kept) (k : Kept) → found i ks ≡ Some k → is_among i (map leaf_key ks) ≡ true
+among_found i [] k e = absurd (none-some k e)
+among_found i (x ∷ ks) k e = ⊎_elim (λ t. rw t refl) (λ t. rw t (among_found i ks k (rw t at e))) (cases_Bool (is_same_number i x.number))
+
+pub replaced_back : (newer older : List Kept) → AscendByNumber newer → AscendByNumber older → kept_given older [] (map leaf_key newer) newer ≡ older
+replaced_back newer older a b = given_back older [] (map leaf_key newer) newer older a b (λ i. by_older i (found i older))
+  where
+    by_newer : (i : ℕ) (y : Option Kept) → found i newer ≡ y → cond (is_among i (map leaf_key newer)) None y ≡ None
+    by_newer i None e = by_test (is_among i (map leaf_key newer))
+      where
+        by_test : (b : Bool) → cond b None None ≡ (let x : Option Kept = None in x)
+        by_test true = refl
+        by_test false = refl
+    by_newer i (Some k) e = rw (among_found i newer k e) refl
+
+    by_older : (i : ℕ) (y : Option Kept) → option_or y (cond (is_among i (map leaf_key newer)) None (found i newer)) ≡ y
+    by_older i None = by_newer i (found i newer) refl
+    by_older i (Some k) = refl
