@@ -78,13 +78,17 @@ all_has P (x ∷ hs) a q h =
 pub hold_known : (n : ℕ) (ps cs : List Place) → IsCoverOf n ps cs → HoldKnown n ps (length cs + length (need n ps))
 hold_known n ps cs c hs a known =
     let few = few_made (λ k p. p) 1 (cs ++ need n ps) (map held_key hs) (held_once hs a) (λ q h.
-        let w = all_has (λ (p : Place). InForest n p.row p.off × (is_known n ps p ≡ true)) hs known q h in
-        (q, 0, list_any-append (is_at q.row q.off) cs (need n ps) ∙
+    let w = all_has (λ (p : Place). InForest n p.row p.off × (is_known n ps p ≡ true)) hs known q h in (
+      q,
+      0,
+      list_any-append (is_at q.row q.off) cs (need n ps) ∙
           ⊎_elim
           (λ t. or_left (has_place cs q.row q.off) (has_place (need n ps) q.row q.off) (c.covered q w.0 ∙ t))
           (λ t. or_right (has_place cs q.row q.off) (has_place (need n ps) q.row q.off) (need_has n ps q.row q.off w.0 t))
           (or_cases (is_some (cover ps q.row q.off)) (is_needed n ps q) w.1),
-          omega arith, refl)) in
+      omega arith,
+      refl,
+    )) in
     let long = length-append cs (need n ps) in
     let same = length-map hs held_key in
     omega (arith, few, long, same)

@@ -97,21 +97,25 @@ staying_in n ts ps x y h e =
     (cases_Bool (is_at x.0.row x.0.off q)))
 
 moving_known : (n : ℕ) (ts ps : List Place) (x y : Place × Digest) → IsHeldIn n x → moving n ts ps x ≡ Some y → IsKnownIn n ps y
-moving_known n ts ps x y h e =
-    (moving_in n ts ps x y h e, option_and_then_some (λ q. cond (is_at x.0.row x.0.off q) None (Some (q, x.1))) (destined n ts ps x.0) y e (λ q m k.
-    ⊎_elim
-    (λ t. absurd (none-some y (rw t at k)))
-    (λ t. subst (λ (z : Place × Digest). is_known n ps z.0 ≡ true) (same_Some (q, x.1) y (rw t at k)) (known_there n ts ps x.0 q m))
-    (cases_Bool (is_at x.0.row x.0.off q))))
+moving_known n ts ps x y h e = (
+  moving_in n ts ps x y h e,
+  option_and_then_some (λ q. cond (is_at x.0.row x.0.off q) None (Some (q, x.1))) (destined n ts ps x.0) y e (λ q m k.
+      ⊎_elim
+      (λ t. absurd (none-some y (rw t at k)))
+      (λ t. subst (λ (z : Place × Digest). is_known n ps z.0 ≡ true) (same_Some (q, x.1) y (rw t at k)) (known_there n ts ps x.0 q m))
+      (cases_Bool (is_at x.0.row x.0.off q))),
+)
 
 staying_known : (n : ℕ) (ts ps : List Place) (x y : Place × Digest) → IsHeldIn n x → staying n ts ps x ≡ Some y → IsKnownIn n ps y
-staying_known n ts ps x y h e =
-    (staying_in n ts ps x y h e, option_and_then_some (λ q. cond (is_at x.0.row x.0.off q) (Some x) None) (destined n ts ps x.0) y e (λ q m k.
-    ⊎_elim
-    (λ t. let same : q ≡ x.0 = same_from_is_at x.0.row x.0.off q t in
-    subst (λ (z : Place × Digest). is_known n ps z.0 ≡ true) (same_Some x y (rw t at k)) (ap (is_known n ps) (sym same) ∙ known_there n ts ps x.0 q m))
-    (λ t. absurd (none-some y (rw t at k)))
-    (cases_Bool (is_at x.0.row x.0.off q))))
+staying_known n ts ps x y h e = (
+  staying_in n ts ps x y h e,
+  option_and_then_some (λ q. cond (is_at x.0.row x.0.off q) (Some x) None) (destined n ts ps x.0) y e (λ q m k.
+      ⊎_elim
+      (λ t. let same : q ≡ x.0 = same_from_is_at x.0.row x.0.off q t in
+      subst (λ (z : Place × Digest). is_known n ps z.0 ≡ true) (same_Some x y (rw t at k)) (ap (is_known n ps) (sym same) ∙ known_there n ts ps x.0 q m))
+      (λ t. absurd (none-some y (rw t at k)))
+      (cases_Bool (is_at x.0.row x.0.off q))),
+)
 
 -- what stays or moves is at known places then
 pub sorted_known : (n : ℕ) (ts ps : List Place) (hs : List (Place × Digest)) → All (IsHeldIn n) hs → All (IsKnownIn n ps) (put_all (filter_map (moving n ts ps) hs) (filter_map (staying n ts ps) hs))

@@ -56,11 +56,7 @@ fn is_of_forest(n: u64, parts: &Parts) -> bool
 }
 
 // Notes the position to which what stands at a place goes, if it stays.
-fn note_position(
-    positions: &mut Vec<u64>,
-    targets: &Targets,
-    place: Place,
-) -> Result<(), NoMemory>
+fn note_position(positions: &mut Vec<u64>, targets: &Targets, place: Place) -> Result<(), NoMemory>
     requires { InForest targets.now.leaves place.row place.off }
     ensures { OnOk result (positions.new.items ≡ positions.old.items ++ option_to_list (new_position targets.now.leaves targets.now.targets place)) }
 {

@@ -76,6 +76,7 @@ fn assert_holds(rt: &impl Abort, cache: &Cache<XorFold>, held: &[(u8, u64, u8)],
 }
 
 const GROWN: [(u8, u64, u8); 5] = [(0, 0, 1), (0, 1, 2), (1, 0, 3), (1, 1, 12), (2, 0, 15)];
+
 const SPENT: [(u8, u64, u8); 3] = [(1, 0, 2), (1, 1, 12), (2, 0, 14)];
 
 // Four additions, the second one watched.
@@ -127,7 +128,8 @@ fn spend<L: Ledger>(
     let leaves = [digest(1)];
     assert!(rt; leaves.len() == targets.len() as usize);
     let hashes = [digest(2), digest(12)];
-    let Ok(changes) = check_and_delete(roots, &targets, &leaves, &hashes, &mut scratch, steps) else {
+    let Ok(changes) = check_and_delete(roots, &targets, &leaves, &hashes, &mut scratch, steps)
+    else {
         panic!(rt; "refused")
     };
     after_delete(cache, &mut mark, &targets, &changes);

@@ -55,11 +55,7 @@ fn put_back_lost(held: &mut Vec<(Place, Digest)>, lost: &[(Place, Digest)])
 }
 
 // The held digests as they were, where what was lost and gained since is this.
-pub(crate) fn undo_held(
-    held: &mut Vec<(Place, Digest)>,
-    lost: &[(Place, Digest)],
-    gained: &[Place],
-)
+pub(crate) fn undo_held(held: &mut Vec<(Place, Digest)>, lost: &[(Place, Digest)], gained: &[Place])
     requires ascends { AscendByPlace held.old.items }
     requires room { length (held_given lost.now gained.now held.old.items) < vec_capacity held.old }
     ensures items { held.new.items ≡ held_given lost.now gained.now held.old.items }

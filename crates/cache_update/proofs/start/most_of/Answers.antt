@@ -9,6 +9,8 @@ returns-clause-known c =
     let added = c.in_ok-added.ensures in
     let times = c.in_ok-checked_mul.ensures in
     let most = c.in_ok-most.ensures in
-    let needed = ap length c.needed.ensures in
-    (length c.covered.result.0.now + length (need c.args.kept.now.leaves c.args.kept.now.targets), hold_known c.args.kept.now.leaves c.args.kept.now.targets c.covered.result.0.now c.covered.ensures.is,
-    omega (arith, known.1, added.1, times.1, most.1, c.max.ensures, needed))
+    let needed = ap length c.needed.ensures in (
+      length c.covered.result.0.now + length (need c.args.kept.now.leaves c.args.kept.now.targets),
+      hold_known c.args.kept.now.leaves c.args.kept.now.targets c.covered.result.0.now c.covered.ensures.is,
+      omega (arith, known.1, added.1, times.1, most.1, c.max.ensures, needed),
+    )
