@@ -3,10 +3,10 @@
 ghost use Rattle.std.specs.Prelude.{◌≡◌, ◌+◌, ◌<◌, ◌^◌, true, length, is_some, if◌then◌else◌};
 ghost use Rattle.cache_update.specs.Marks.{Fits};
 
-use crate::{Mark, after_add, after_delete, begin, step_back, undo};
+use crate::{Mark, after_add, after_delete, begin, between, undo};
 use forest_place::Place;
 use forest_roots::Roots;
-use leaf_cache::{Cache, Watch};
+use leaf_cache::{Cache, Parts, Watch};
 use leaf_record::Record;
 use proof_shape::Targets;
 use proof_verify::{Scratch, check_and_delete};
@@ -136,6 +136,17 @@ fn spend<L: Ledger>(
     mark
 }
 
+// Goes to these lists, by a mark between the cache's and them.
+fn leap(rt: &impl Abort, alloc: Global, cache: &mut Cache<XorFold>, older: &Parts) {
+    let Ok(newer) = cache.seen().copy(alloc) else {
+        panic!(rt; "no memory")
+    };
+    let Ok(mark) = between(alloc, cache, &newer, older) else {
+        panic!(rt; "no memory")
+    };
+    undo(cache, mark);
+}
+
 fn check_blocks<L: Ledger>(rt: &impl Abort, alloc: Global, blank: Blank)
     requires name { blank.name ≡ L.name }
     requires parts { blank.parts ≡ L.parts }
@@ -148,8 +159,13 @@ fn check_blocks<L: Ledger>(rt: &impl Abort, alloc: Global, blank: Blank)
     assert_holds(rt, &cache, &GROWN, Place { row: 0, off: 1 });
     let second = spend(rt, alloc, &mut cache, &mut roots, &mut steps);
     assert_holds(rt, &cache, &SPENT, Place { row: 1, off: 0 });
+    let Ok(spent) = cache.seen().copy(alloc) else {
+        panic!(rt; "no memory")
+    };
     undo(&mut cache, second);
     assert_holds(rt, &cache, &GROWN, Place { row: 0, off: 1 });
+    leap(rt, alloc, &mut cache, &spent);
+    assert_holds(rt, &cache, &SPENT, Place { row: 1, off: 0 });
     drop(first);
 }
 
