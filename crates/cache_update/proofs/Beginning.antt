@@ -1,5 +1,5 @@
 -- The places of the kept entries behind a deletion, and a mark right after it was made.
-use Rattle.std.proofs.Common.{◌≡◌, ℕ, ◌+◌, ◌<◌, ◌≤◌, Bool, true, false, List, [], ◌∷◌, map, filter_map, length, Option, Some, None, refl, sym, ap, ap₂, ◌∙◌, subst, ⊎_elim, All, arith}
+use Rattle.std.proofs.Common.{◌≡◌, ℕ, ◌+◌, ◌<◌, ◌≤◌, List, [], ◌∷◌, map, filter_map, length, Option, Some, None, refl, sym, ap, ap₂, ◌∙◌, subst, ⊎_elim, All, arith}
 use Rattle.std.specs.Prelude.{option_map, count_ones}
 use Rattle.std.specs.List.{cons_option}
 use Rattle.std.proofs.lemmas.Bool.{cases_Bool, true≢false, or_left, or_right}
@@ -22,7 +22,7 @@ use Rattle.cache_update.specs.declared.mark.Room.{Room}
 use Rattle.cache_update.specs.Begun.{new_position, IsRoom, IsMark}
 use Rattle.cache_update.specs.Differences.{where_stood}
 use Rattle.cache_update.specs.Given.{kept_given}
-use Rattle.cache_update.specs.Marks.{AreOfForest, HasRoomFor, HasRoomLeft, Fits, IsUnused, IsUnusedIn, WasBegun, kept_back, held_back, held_from, HoldKnown}
+use Rattle.cache_update.specs.Marks.{AreOfForest, HasRoomFor, HasRoomLeft, Fits, IsUnusedIn, WasBegun, kept_back, held_back, held_from, HoldKnown}
 use Rattle.cache_update.proofs.Marking.{fresh_back, stood_ascends, stood_names, IsNamed}
 use Rattle.cache_update.proofs.Giving.{stood_key}
 use Rattle.cache_model.specs.Undo.{Ascends, is_same_number, is_before_number}

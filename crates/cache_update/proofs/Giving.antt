@@ -1,5 +1,5 @@
 -- What a mark gives back of the kept entries, number by number.
-use Rattle.std.proofs.Common.{◌≡◌, ℕ, Bool, true, false, cond, List, [], ◌∷◌, ◌++◌, map, Option, Some, None, refl, sym, ap, ◌∙◌, ⊎_elim}
+use Rattle.std.proofs.Common.{◌≡◌, ℕ, Bool, cond, List, [], ◌∷◌, ◌++◌, map, Option, Some, None, refl, sym, ap, ◌∙◌, ⊎_elim}
 use Rattle.std.specs.Prelude.{option_map}
 use Rattle.std.specs.List.{list_any}
 use Rattle.std.specs.Option.{option_or, option_to_list}
@@ -9,7 +9,7 @@ use Rattle.std.proofs.lemmas.Option.{none-some, same_Some}
 use Rattle.forest_place.specs.declared.place.Place.{Place}
 use Rattle.cache_model.specs.declared.kept.Kept.{Kept}
 use Rattle.cache_model.specs.Lists.{leaf_key, AscendByNumber}
-use Rattle.cache_model.specs.Undo.{find, change, undo, back, KeepKeys, is_same_number, is_before_number}
+use Rattle.cache_model.specs.Undo.{find, change, back, KeepKeys, is_same_number, is_before_number}
 use Rattle.cache_model.proofs.Undoing.{number_order, undone, same_found}
 use Rattle.cache_update.proofs.Undone.{undo_append}
 use Rattle.cache_update.specs.Given.{entry_was, at_place, entry_stood, entry_none, undo_entries, kept_given}

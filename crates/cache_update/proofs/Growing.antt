@@ -1,13 +1,11 @@
 -- How many digests additions put, and how many known places there are.
-use Rattle.std.proofs.Common.{◌≡◌, ℕ, zero, suc, ◌+◌, ◌-◌, ◌*◌, ◌<◌, ◌≤◌, Bool, true, false, ◌||◌, List, [], ◌∷◌, ◌++◌, map, filter_map, length, Option, Some, None, is_some, refl, sym, ap, ◌∙◌, subst, ⊎_elim, All, arith}
+use Rattle.std.proofs.Common.{◌≡◌, ℕ, zero, suc, ◌+◌, ◌-◌, ◌*◌, ◌≤◌, Bool, true, false, List, [], ◌∷◌, ◌++◌, map, filter_map, length, Option, Some, None, is_some, refl, sym, ap, ◌∙◌, subst, ⊎_elim, All, arith}
 use Rattle.std.specs.Prelude.{count_ones}
-use Rattle.std.specs.List.{cons_option, AllByRecursion, IsDistinct}
-use Rattle.std.specs.Cmp.{IsEquivalence}
-use Rattle.std.proofs.lemmas.Bool.{cases_Bool, cases_lt, true≢false, and_from, or_left, or_right, or_cases}
+use Rattle.std.specs.List.{cons_option}
+use Rattle.std.proofs.lemmas.Bool.{cases_Bool, true≢false, and_from, or_left, or_right, or_cases}
 use Rattle.std.proofs.lemmas.List.{length-append, length-map}
 use Rattle.std.proofs.lemmas.List.Folds.{list_any-append}
 use Rattle.std.proofs.lemmas.List.Elements.{All-head, All-tail}
-use Rattle.std.proofs.lemmas.Option.{none-some}
 use Rattle.uo_digest.specs.declared.digest.Digest.{Digest}
 use Rattle.leaf_record.specs.Leaf.{Leaf}
 use Rattle.forest_place.specs.declared.place.Place.{Place}
@@ -18,19 +16,18 @@ use Rattle.forest_place.proofs.Listed.{same_from_is_at}
 use Rattle.forest_place.proofs.Parts.{row_below}
 use Rattle.forest_model.specs.Addition.{all_slots, joined_slots, carried_place}
 use Rattle.forest_model.specs.Cover.{cover, is_needed, need}
-use Rattle.forest_model.specs.Deletion.{moved}
 use Rattle.forest_model.proofs.Adding.{parts_more}
 use Rattle.forest_model.proofs.Lists.{need_has}
-use Rattle.forest_model.proofs.Ones.{slot_below, joined_slots_are, joined_slots_ones}
+use Rattle.forest_model.proofs.Ones.{joined_slots_are, joined_slots_ones}
 use Rattle.proof_shape.specs.Survey.{IsCoverOf}
 use Rattle.cache_model.specs.declared.kept.Kept.{Kept}
 use Rattle.cache_model.specs.Known.{is_known}
-use Rattle.cache_model.specs.Lists.{AscendByPlace, leaf_key, moved_leaf, moved_leaves, raised_leaves, leaves_more}
+use Rattle.cache_model.specs.Lists.{AscendByPlace, leaf_key, raised_leaves, leaves_more}
 use Rattle.cache_model.specs.Undo.{find, is_same_place, is_before_place, held_key, is_same_number, is_before_number}
 use Rattle.cache_model.proofs.Undoing.{place_order}
 use Rattle.cache_update.specs.Given.{entry_was, entry_stood, entry_none, digest_was, digest_none, undo_entries, undo_digests, kept_given, held_given}
 use Rattle.cache_update.proofs.Undone.{undo_short, undo_no_longer}
-use Rattle.cache_update.specs.Marks.{growth, IsKnownIn, HoldKnown}
+use Rattle.cache_update.specs.Marks.{growth, HoldKnown}
 
 -- there is a row that is no slot, above rows that all are
 pub free_above : (n k r : ℕ) → all_slots n r ≡ true → suc n - r ≡ k → (m : ℕ) × (r ≤ m) × (all_slots n m ≡ true) × (is_slot n m ≡ false)

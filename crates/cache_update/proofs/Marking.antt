@@ -1,9 +1,8 @@
 -- What the steps of a block leave of what a mark gives back of the kept entries.
-use Rattle.std.proofs.Common.{◌≡◌, ℕ, ◌<◌, Bool, true, false, cond, ◌||◌, not, List, [], ◌∷◌, ◌++◌, map, filter, filter_map, Option, Some, None, is_some, is_none, refl, sym, ap, ap₂, ◌∙◌, subst, ⊎_elim, All, arith, ne_eqb}
+use Rattle.std.proofs.Common.{◌≡◌, ℕ, ◌<◌, Bool, true, false, cond, ◌||◌, not, List, [], ◌∷◌, ◌++◌, map, filter, filter_map, Option, Some, None, is_some, is_none, refl, sym, ap, ap₂, ◌∙◌, subst, ⊎_elim, All, arith}
 use Rattle.std.specs.Prelude.{option_map, option_and_then}
-use Rattle.std.specs.List.{list_any}
 use Rattle.std.specs.Option.{option_or, option_to_list}
-use Rattle.std.proofs.lemmas.Bool.{cases_Bool, true≢false, false≢true, eqb-true}
+use Rattle.std.proofs.lemmas.Bool.{cases_Bool, false≢true}
 use Rattle.std.proofs.lemmas.List.{append-nil, append_assoc}
 use Rattle.std.proofs.lemmas.List.Folds.{list_any-append}
 use Rattle.std.proofs.lemmas.List.Elements.{All-nil, All-cons, All-head, All-tail, All-append}
@@ -17,7 +16,7 @@ use Rattle.forest_model.specs.Addition.{carried_place}
 use Rattle.cache_model.specs.declared.kept.Kept.{Kept}
 use Rattle.cache_model.specs.Cache.{raised}
 use Rattle.cache_model.specs.Lists.{leaf_key, AscendByNumber, moved_leaf, moved_leaves, raised_leaves, leaves_more}
-use Rattle.cache_model.specs.Undo.{find, Ascends, is_same_number, is_before_number, is_same_place}
+use Rattle.cache_model.specs.Undo.{Ascends, is_same_number, is_before_number, is_same_place}
 use Rattle.cache_model.proofs.Logs.{found_key}
 use Rattle.cache_model.proofs.Undoing.{number_order}
 use Rattle.cache_update.specs.Given.{at_place, kept_given}

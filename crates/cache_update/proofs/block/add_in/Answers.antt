@@ -1,4 +1,4 @@
-use Rattle.std.proofs.Common.{◌≡◌, ◌≤◌, ◌<◌, ◌+◌, ◌*◌, ◌++◌, ℕ, Bool, true, false, List, ◌∷◌, [], length, map, Option, Some, None, is_some, refl, sym, ap, ap₂, ◌∙◌, subst, All, arith, cond}
+use Rattle.std.proofs.Common.{◌≡◌, ◌<◌, ◌+◌, ◌++◌, ℕ, Bool, List, ◌∷◌, [], length, Option, Some, None, is_some, refl, sym, ap, ap₂, ◌∙◌, subst, All, arith, cond}
 use Rattle.leaf_record.specs.Leaf.{Leaf}
 use Rattle.std.specs.Prelude.{option_map, count_ones}
 use Rattle.std.specs.Option.{option_to_list}

@@ -1,4 +1,4 @@
-use Rattle.std.proofs.Common.{◌≡◌, List, length, ◌+◌, ◌^◌, ◌<◌, suc, sym, ap, ◌∙◌, is_some, arith}
+use Rattle.std.proofs.Common.{List, length, ◌^◌, ◌<◌, suc, ap, ◌∙◌, is_some, arith}
 use Rattle.forest_model.proofs.Adding.{all_slots_small}
 use Rattle.forest_roots.specs.declared.joins.Join.{Join}
 use Rattle.cache_model.specs.Lists.{leaves_more}

@@ -1,5 +1,4 @@
-use Rattle.std.proofs.Common.{◌≡◌, ◌≤◌, ◌<◌, ◌+◌, ℕ, List, ◌∷◌, [], length, map, Option, Some, sym, ap, ◌∙◌, subst, All, arith}
-use Rattle.cache_model.specs.declared.kept.Kept.{Kept}
+use Rattle.std.proofs.Common.{ℕ, length, Option, sym, ap, ◌∙◌, subst, All, arith}
 use Rattle.cache_model.specs.Lists.{moved_leaf}
 use Rattle.cache_update.specs.declared.mark.Room.{Room}
 use Rattle.cache_update.specs.Marks.{HasRoomLeft, HasRoomFor, AreOfForest, IsUnused, IsUnusedIn, IsKnownIn, held_from}

@@ -1,4 +1,4 @@
-use Rattle.std.proofs.Common.{◌≡◌, ◌≤◌, ◌<◌, length, arith}
+use Rattle.std.proofs.Common.{arith}
 use Rattle.cache_update.proofs.Beginning.{between_fits}
 use Rattle.cache_update.proofs.compare.between.Goals as goal
 

@@ -1,4 +1,4 @@
-use Rattle.std.proofs.Common.{◌≡◌, ◌<◌, ◌≤◌, ◌/◌, ◌^◌, ◌∙◌, nat_lt, true, false, sym, ⊎_elim, arith, ltb-true}
+use Rattle.std.proofs.Common.{◌≡◌, ◌/◌, ◌^◌, ◌∙◌, nat_lt, false, sym, ⊎_elim, arith, ltb-true}
 use Rattle.std.proofs.lemmas.Bool.{cases_Bool}
 use Rattle.forest_place.proofs.Positions.{row_small}
 use Rattle.cache_update.proofs.known.is_within.Goals as goal

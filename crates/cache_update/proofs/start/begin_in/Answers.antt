@@ -1,4 +1,4 @@
-use Rattle.std.proofs.Common.{ℕ, ◌+◌, length, vec_capacity, ap, ◌∙◌, subst, arith}
+use Rattle.std.proofs.Common.{ℕ, length, vec_capacity, ap, ◌∙◌, subst, arith}
 use Rattle.leaf_cache.specs.Parted.{Parted}
 use Rattle.cache_update.specs.Marks.{AreOfForest}
 use Rattle.cache_update.proofs.Beginning.{begun_kept, begun_fits, was_begun}

@@ -1,4 +1,4 @@
-use Rattle.std.proofs.Common.{length, ap, ◌+◌, ◌<◌, ◌≤◌, subst, arith}
+use Rattle.std.proofs.Common.{length, ap, ◌+◌, arith}
 use Rattle.forest_model.specs.Cover.{need}
 use Rattle.cache_update.proofs.Growing.{hold_known}
 use Rattle.cache_update.proofs.start.most_of.Goals as goal

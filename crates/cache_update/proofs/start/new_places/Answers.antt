@@ -1,4 +1,4 @@
-use Rattle.std.proofs.Common.{sym, ap, ◌∙◌, subst, refl}
+use Rattle.std.proofs.Common.{◌∙◌}
 use Rattle.cache_update.proofs.Beginning.{places_are}
 use Rattle.cache_update.proofs.start.new_places.Goals as goal
 

@@ -1,4 +1,4 @@
-use Rattle.std.proofs.Common.{◌≡◌, List, ◌++◌, filter_map, sym, ap, ap₂, ◌∙◌, subst}
+use Rattle.std.proofs.Common.{List, ◌++◌, filter_map, ap, ap₂, ◌∙◌}
 use Rattle.uo_digest.specs.declared.digest.Digest.{Digest}
 use Rattle.forest_place.specs.declared.place.Place.{Place}
 use Rattle.cache_model.specs.declared.kept.Kept.{Kept}
