@@ -4,6 +4,7 @@ use Rattle.std.specs.Prelude.{option_map}
 use Rattle.std.specs.List.{cons_option}
 use Rattle.std.proofs.lemmas.Bool.{cases_Bool, false≢true, true≢false, or_right}
 use Rattle.std.proofs.lemmas.List.Elements.{All-nil, All-cons, All-head, All-tail, All-append}
+use Rattle.std.proofs.lemmas.List.{map-append}
 use Rattle.std.proofs.lemmas.Option.{none-some, same_Some}
 use Rattle.std.proofs.lemmas.Slice.Eq.{bytes_eq-Decides}
 use Rattle.uo_digest.specs.declared.digest.Digest.{Digest}
@@ -17,8 +18,23 @@ use Rattle.cache_model.specs.Undo.{find, undo, had, held_key, is_same_place, is_
 use Rattle.cache_model.proofs.Logs.{formers, formers_keep, formers_give}
 use Rattle.cache_model.proofs.Undoing.{place_order, undo_gives}
 use Rattle.cache_model.proofs.Stepping.{find_is}
-use Rattle.cache_update.specs.Differences.{is_digest, lost, gained, differences_of}
-use Rattle.cache_update.proofs.Backs.{as_log}
+use Rattle.cache_update.specs.Differences.{is_digest, lost as lost_of, gained as gained_of}
+use Rattle.cache_update.specs.Given.{digest_was, digest_none, held_given}
+use Rattle.cache_update.proofs.Undone.{undo_append}
+
+-- both kinds of change as one log
+
+abbrev as_log : List (Place × Option Digest) → List (Place × (Option (Place × Digest) → Option (Place × Digest)))
+as_log log = map (λ c. had c.0 c.1) log
+
+abbrev lost : List (Place × Digest) → Place × Digest → Option (Place × Option Digest)
+lost newer x = cond (is_digest (look newer x.0.row x.0.off) x.1) None (Some (x.0, Some x.1))
+
+abbrev gained : List (Place × Digest) → Place × Digest → Option (Place × Option Digest)
+gained older x = cond (is_some (look older x.0.row x.0.off)) None (Some (x.0, None))
+
+abbrev differences_of : List (Place × Digest) → List (Place × Digest) → List (Place × Option Digest)
+differences_of newer older = filter_map (lost newer) older ++ filter_map (gained older) newer
 
 -- each element is what is looked up at its place
 
@@ -66,7 +82,7 @@ gained_former older (x ∷ xs) = by_test (is_some (look older x.0.row x.0.off)) 
     by_test true e rest = rest
     by_test false e rest = All-cons (HasFormer older) (x.0, None) (filter_map (gained older) xs) (sym (some_not (look older x.0.row x.0.off) e)) rest
 
-abbrev pub log_places : List (Place × Option Digest) → List Place
+abbrev log_places : List (Place × Option Digest) → List Place
 log_places log = map (λ c. c.0) log
 
 as_formers : (older : List (Place × Digest)) (log : List (Place × Option Digest)) → All (HasFormer older) log → as_log log ≡ formers older (log_places log)
@@ -118,7 +134,7 @@ is_digest-same : (x : Option Digest) (d : Digest) → is_digest x d ≡ true →
 is_digest-same None d e = absurd (false≢true e)
 is_digest-same (Some x) d e = ap Some (digest_is x d.0 ((bytes_eq-Decides x.0 d.0).0 e))
 
-pub differences_lead_back : (newer older : List (Place × Digest)) → AscendByPlace newer → AscendByPlace older → undo is_same_place is_before_place held_key (as_log (differences_of newer older)) newer ≡ older
+differences_lead_back : (newer older : List (Place × Digest)) → AscendByPlace newer → AscendByPlace older → undo is_same_place is_before_place held_key (as_log (differences_of newer older)) newer ≡ older
 differences_lead_back newer older a b =
     ap (λ log. undo is_same_place is_before_place held_key log newer) (as_formers older (differences_of newer older) formers_of)
     ∙ undo_gives is_same_place is_before_place held_key place_order (formers older (log_places (differences_of newer older))) newer older a b (formers_keep older (log_places (differences_of newer older)))
@@ -136,3 +152,27 @@ differences_lead_back newer older a b =
         (λ t. e ∙ sym (is_digest-same (look newer p.row p.off) d t))
         (λ t. absurd (true≢false (sym (has_append_left (filter_map (lost newer) older) (filter_map (gained older) newer) p.row p.off (lost_has newer older p.row p.off d e t)) ∙ h)))
         (cases_Bool (is_digest (look newer p.row p.off) d))
+
+lost_log : (newer older : List (Place × Digest)) → map digest_was (filter_map (lost_of newer) older) ≡ as_log (filter_map (lost newer) older)
+lost_log newer [] = refl
+lost_log newer (x ∷ xs) = by_test (is_digest (look newer x.0.row x.0.off) x.1) (lost_log newer xs)
+  where
+    by_test : (b : Bool) → map digest_was (filter_map (lost_of newer) xs) ≡ as_log (filter_map (lost newer) xs) → map digest_was (cons_option (cond b None (Some x)) (filter_map (lost_of newer) xs)) ≡ as_log (cons_option (cond b None (Some (x.0, Some x.1))) (filter_map (lost newer) xs))
+    by_test true rest = rest
+    by_test false rest = ap (λ log. had x.0 (Some x.1) ∷ log) rest
+
+gained_log : (older newer : List (Place × Digest)) → map digest_none (filter_map (gained_of older) newer) ≡ as_log (filter_map (gained older) newer)
+gained_log older [] = refl
+gained_log older (x ∷ xs) = by_test (is_some (look older x.0.row x.0.off)) (gained_log older xs)
+  where
+    by_test : (b : Bool) → map digest_none (filter_map (gained_of older) xs) ≡ as_log (filter_map (gained older) xs) → map digest_none (cons_option (cond b None (Some x.0)) (filter_map (gained_of older) xs)) ≡ as_log (cons_option (cond b None (Some (x.0, None))) (filter_map (gained older) xs))
+    by_test true rest = rest
+    by_test false rest = ap (λ log. had x.0 None ∷ log) rest
+
+-- what was lost and gained leads back
+pub differences_give : (newer older : List (Place × Digest)) → AscendByPlace newer → AscendByPlace older → held_given (filter_map (lost_of newer) older) (filter_map (gained_of older) newer) newer ≡ older
+differences_give newer older a b =
+    ap₂ (λ log more. undo is_same_place is_before_place held_key log (undo is_same_place is_before_place held_key more newer)) (lost_log newer older) (gained_log older newer)
+    ∙ (sym (undo_append is_same_place is_before_place held_key (as_log (filter_map (lost newer) older)) (as_log (filter_map (gained older) newer)) newer)
+    ∙ (ap (λ log. undo is_same_place is_before_place held_key log newer) (sym (map-append (λ (c : Place × Option Digest). had c.0 c.1) (filter_map (lost newer) older) (filter_map (gained older) newer)))
+    ∙ differences_lead_back newer older a b))

@@ -1,17 +1,17 @@
 -- Places stay in the forest, whatever a proof said.
-use Rattle.std.proofs.Common.{◌≡◌, ℕ, zero, suc, ◌+◌, ◌-◌, ◌*◌, ◌/◌, ◌%◌, ◌<◌, ◌≤◌, Bool, true, false, cond, ◌||◌, List, [], ◌∷◌, filter, filter_map, length, Option, Some, None, refl, sym, ap, ◌∙◌, subst, ⊎_elim, All, arith}
+use Rattle.std.proofs.Common.{◌≡◌, ℕ, zero, suc, ◌+◌, ◌-◌, ◌*◌, ◌/◌, ◌%◌, ◌<◌, ◌≤◌, Bool, true, false, cond, ◌||◌, List, [], ◌∷◌, filter_map, length, Option, Some, None, refl, sym, ap, ◌∙◌, subst, ⊎_elim, All, arith, ◌^◌, ltb-true}
 use Rattle.std.specs.Prelude.{option_map}
 use Rattle.std.specs.List.{cons_option}
-use Rattle.std.proofs.lemmas.Bool.{cases_Bool, cases_lt}
+use Rattle.std.proofs.lemmas.Bool.{cases_Bool, cases_lt, and_parts}
 use Rattle.std.proofs.lemmas.List.{append-nil}
-use Rattle.std.proofs.lemmas.List.Elements.{All-nil, All-cons, All-head, All-tail, All-append, All-filter}
+use Rattle.std.proofs.lemmas.List.Elements.{All-nil, All-cons, All-head, All-tail, All-append}
 use Rattle.std.proofs.lemmas.Option.{none-some, same_Some, option_and_then_some}
 use Rattle.uo_digest.specs.declared.digest.Digest.{Digest}
 use Rattle.leaf_record.specs.Leaf.{Leaf}
 use Rattle.forest_place.specs.declared.place.Place.{Place}
 use Rattle.forest_place.specs.Forest.{InForest, is_root}
 use Rattle.forest_place.specs.Places.{is_at}
-use Rattle.forest_place.proofs.Listed.{place}
+use Rattle.forest_place.proofs.Listed.{place, same_from_is_at}
 use Rattle.forest_place.proofs.Parts.{row_below, InForest-up}
 use Rattle.forest_place.proofs.Slots.{in_forest_iff}
 use Rattle.forest_model.specs.Addition.{all_slots, carried_place}
@@ -22,10 +22,11 @@ use Rattle.cache_model.specs.declared.kept.Kept.{Kept}
 use Rattle.cache_model.specs.Cache.{child, raised, raised_held, noted, is_root_held}
 use Rattle.cache_model.specs.Known.{is_known}
 use Rattle.cache_model.specs.Lists.{moved_leaf, moved_leaves, raised_leaves, leaves_more}
-use Rattle.cache_model.specs.Steps.{put, put_all, staying, moving, destined, held_deleted}
+use Rattle.cache_model.specs.Steps.{put, put_all, staying, moving, destined}
 use Rattle.cache_model.specs.Undo.{is_same_place, is_before_place}
 use Rattle.cache_model.proofs.Raising.{raised-step, raised-joined, raised-same}
 use Rattle.cache_update.specs.Joins.{is_empty_of, root_of, carried_to, shown_by, added_by}
+use Rattle.cache_update.specs.Marks.{IsKnownIn, is_within, is_pair_known}
 use Rattle.cache_update.proofs.Moves.{IsAt, goes_within, child_within}
 
 abbrev pub IsHeldIn : ℕ → Place × Digest → Type 0
@@ -35,24 +36,25 @@ abbrev pub IsKeptIn : ℕ → Kept → Type 0
 IsKeptIn n k = InForest n k.place.row k.place.off
 
 -- what is put in is of one kind with what is there
-put_in : (n : ℕ) (p : Place) (d : Digest) (hs : List (Place × Digest)) → InForest n p.row p.off → All (IsHeldIn n) hs → All (IsHeldIn n) (put p d hs)
-put_in n p d [] h a = All-cons (IsHeldIn n) (p, d) [] h a
-put_in n p d (y ∷ ys) h a =
-    let first = All-head (IsHeldIn n) y ys a in
-    let rest = All-tail (IsHeldIn n) y ys a in
-    ⊎_elim
-    (λ t. let s : is_same_place p y.0 ≡ true = t in rw s (All-cons (IsHeldIn n) (p, d) ys h rest))
-    (λ t. let s : is_same_place p y.0 ≡ false = t in ⊎_elim
-    (λ u. let b : is_before_place p y.0 ≡ true = u in rw (s, b) (All-cons (IsHeldIn n) (p, d) (y ∷ ys) h a))
-    (λ u. let b : is_before_place p y.0 ≡ false = u in rw (s, b) (All-cons (IsHeldIn n) y (put p d ys) first (put_in n p d ys h rest)))
-    (cases_Bool (is_before_place p y.0)))
-    (cases_Bool (is_same_place p y.0))
+module _ (P : Place × Digest → Type 0) where
+  pub put_in : (p : Place) (d : Digest) (hs : List (Place × Digest)) → P (p, d) → All P hs → All P (put p d hs)
+  put_in p d [] h a = All-cons P (p, d) [] h a
+  put_in p d (y ∷ ys) h a =
+      let first = All-head P y ys a in
+      let rest = All-tail P y ys a in
+      ⊎_elim
+      (λ t. let s : is_same_place p y.0 ≡ true = t in rw s (All-cons P (p, d) ys h rest))
+      (λ t. let s : is_same_place p y.0 ≡ false = t in ⊎_elim
+      (λ u. let b : is_before_place p y.0 ≡ true = u in rw (s, b) (All-cons P (p, d) (y ∷ ys) h a))
+      (λ u. let b : is_before_place p y.0 ≡ false = u in rw (s, b) (All-cons P y (put p d ys) first (put_in p d ys h rest)))
+      (cases_Bool (is_before_place p y.0)))
+      (cases_Bool (is_same_place p y.0))
 
-put_all_in : (n : ℕ) (xs hs : List (Place × Digest)) → All (IsHeldIn n) xs → All (IsHeldIn n) hs → All (IsHeldIn n) (put_all xs hs)
-put_all_in n [] hs a b = b
-put_all_in n (x ∷ xs) hs a b = put_all_in n xs (put x.0 x.1 hs) (All-tail (IsHeldIn n) x xs a) (put_in n x.0 x.1 hs (All-head (IsHeldIn n) x xs a) b)
+  pub put_all_in : (xs hs : List (Place × Digest)) → All P xs → All P hs → All P (put_all xs hs)
+  put_all_in [] hs a b = b
+  put_all_in (x ∷ xs) hs a b = put_all_in xs (put x.0 x.1 hs) (All-tail P x xs a) (put_in x.0 x.1 hs (All-head P x xs a) b)
 
-passed : {X Y : Type 0} (P : X → Type 0) (Q : Y → Type 0) (f : X → Option Y) → ((x : X) (y : Y) → P x → f x ≡ Some y → Q y) → (xs : List X) → All P xs → All Q (filter_map f xs)
+pub passed : {X Y : Type 0} (P : X → Type 0) (Q : Y → Type 0) (f : X → Option Y) → ((x : X) (y : Y) → P x → f x ≡ Some y → Q y) → (xs : List X) → All P xs → All Q (filter_map f xs)
 passed P Q f g [] a = All-nil Q
 passed {Y = Y} P Q f g (x ∷ xs) a = by_first (f x) refl (passed P Q f g xs (All-tail P x xs a))
   where
@@ -66,6 +68,15 @@ known_goes n ts ps p q h e =
     option_and_then_some (λ q. cond (is_known n ps q) (Some q) None) (moved n ts p.row p.off) q e (λ u m k.
     ⊎_elim
     (λ t. subst (λ (x : Place). InForest n x.row x.off) (same_Some u q (rw t at k)) (goes_within n ts (n - p.row) p.row p.off u refl h m).1)
+    (λ t. absurd (none-some q (rw t at k)))
+    (cases_Bool (is_known n ps u)))
+
+-- and it is known there
+known_there : (n : ℕ) (ts ps : List Place) (p q : Place) → destined n ts ps p ≡ Some q → is_known n ps q ≡ true
+known_there n ts ps p q e =
+    option_and_then_some (λ q. cond (is_known n ps q) (Some q) None) (moved n ts p.row p.off) q e (λ u m k.
+    ⊎_elim
+    (λ t. subst (λ (x : Place). is_known n ps x ≡ true) (same_Some u q (rw t at k)) t)
     (λ t. absurd (none-some q (rw t at k)))
     (cases_Bool (is_known n ps u)))
 
@@ -85,13 +96,41 @@ staying_in n ts ps x y h e =
     (λ t. absurd (none-some y (rw t at k)))
     (cases_Bool (is_at x.0.row x.0.off q)))
 
-pub deleted_in : (n : ℕ) (ts ps : List Place) (pairs hs : List (Place × Digest)) → All (IsHeldIn n) pairs → All (IsHeldIn n) hs → All (IsHeldIn n) (held_deleted n ts pairs ps hs)
-deleted_in n ts ps pairs hs a b =
-    put_all_in n (filter (λ x. is_known n ps x.0) pairs) (put_all (filter_map (moving n ts ps) hs) (filter_map (staying n ts ps) hs))
-    (All-filter (λ x. is_known n ps x.0) (IsHeldIn n) pairs a)
-    (put_all_in n (filter_map (moving n ts ps) hs) (filter_map (staying n ts ps) hs)
-    (passed (IsHeldIn n) (IsHeldIn n) (moving n ts ps) (moving_in n ts ps) hs b)
-    (passed (IsHeldIn n) (IsHeldIn n) (staying n ts ps) (staying_in n ts ps) hs b))
+moving_known : (n : ℕ) (ts ps : List Place) (x y : Place × Digest) → IsHeldIn n x → moving n ts ps x ≡ Some y → IsKnownIn n ps y
+moving_known n ts ps x y h e = (
+  moving_in n ts ps x y h e,
+  option_and_then_some (λ q. cond (is_at x.0.row x.0.off q) None (Some (q, x.1))) (destined n ts ps x.0) y e (λ q m k.
+      ⊎_elim
+      (λ t. absurd (none-some y (rw t at k)))
+      (λ t. subst (λ (z : Place × Digest). is_known n ps z.0 ≡ true) (same_Some (q, x.1) y (rw t at k)) (known_there n ts ps x.0 q m))
+      (cases_Bool (is_at x.0.row x.0.off q))),
+)
+
+staying_known : (n : ℕ) (ts ps : List Place) (x y : Place × Digest) → IsHeldIn n x → staying n ts ps x ≡ Some y → IsKnownIn n ps y
+staying_known n ts ps x y h e = (
+  staying_in n ts ps x y h e,
+  option_and_then_some (λ q. cond (is_at x.0.row x.0.off q) (Some x) None) (destined n ts ps x.0) y e (λ q m k.
+      ⊎_elim
+      (λ t. let same : q ≡ x.0 = same_from_is_at x.0.row x.0.off q t in
+      subst (λ (z : Place × Digest). is_known n ps z.0 ≡ true) (same_Some x y (rw t at k)) (ap (is_known n ps) (sym same) ∙ known_there n ts ps x.0 q m))
+      (λ t. absurd (none-some y (rw t at k)))
+      (cases_Bool (is_at x.0.row x.0.off q))),
+)
+
+-- what stays or moves is at known places then
+pub sorted_known : (n : ℕ) (ts ps : List Place) (hs : List (Place × Digest)) → All (IsHeldIn n) hs → All (IsKnownIn n ps) (put_all (filter_map (moving n ts ps) hs) (filter_map (staying n ts ps) hs))
+sorted_known n ts ps hs a =
+    put_all_in (IsKnownIn n ps) (filter_map (moving n ts ps) hs) (filter_map (staying n ts ps) hs)
+    (passed (IsHeldIn n) (IsKnownIn n ps) (moving n ts ps) (moving_known n ts ps) hs a)
+    (passed (IsHeldIn n) (IsKnownIn n ps) (staying n ts ps) (staying_known n ts ps) hs a)
+
+pub pair_known : (n : ℕ) (ps : List Place) (p : Place) (d : Digest) → is_pair_known n ps p ≡ true → IsKnownIn n ps (p, d)
+pair_known n ps p d t = let w = and_parts (is_within n p) (is_known n ps p) t in (ltb-true p.off (n / 2 ^ p.row) w.0, w.1)
+
+-- what is known is in the forest
+pub known_held : (n : ℕ) (ps : List Place) (hs : List (Place × Digest)) → All (IsKnownIn n ps) hs → All (IsHeldIn n) hs
+known_held n ps [] a = All-nil (IsHeldIn n)
+known_held n ps (x ∷ hs) a = All-cons (IsHeldIn n) x hs (All-head (IsKnownIn n ps) x hs a).0 (known_held n ps hs (All-tail (IsKnownIn n ps) x hs a))
 
 pub moved_in : (n : ℕ) (ts : List Place) (ks : List Kept) → All (IsKeptIn n) ks → All (IsKeptIn n) (moved_leaves n ts ks)
 moved_in n ts ks a = passed (IsKeptIn n) (IsKeptIn n) (moved_leaf n ts) (λ x y h e. goes x y h (moved n ts x.place.row x.place.off) refl e) ks a
@@ -169,9 +208,9 @@ module _ (js : List Join) (d : Digest) (n : ℕ) (w : ℕ → Bool) (all : all_s
 
 pub added_in : (js : List Join) (d : Digest) (n : ℕ) (watched : Bool) (hs : List (Place × Digest)) → all_slots n (length js) ≡ true → All (IsHeldIn n) hs → All (IsHeldIn (suc n)) (added_by js d n watched hs)
 added_in js d n watched hs all a =
-    put_all_in (suc n) (shown_by js d n (is_root_held n hs) watched (length js) zero) (put_all (raised_held (is_empty_of js) n (length js) hs) [])
+    put_all_in (IsHeldIn (suc n)) (shown_by js d n (is_root_held n hs) watched (length js) zero) (put_all (raised_held (is_empty_of js) n (length js) hs) [])
     (shown_in js d n (is_root_held n hs) all watched (length js) zero (omega arith))
-    (put_all_in (suc n) (raised_held (is_empty_of js) n (length js) hs) [] (raised_held_in (is_empty_of js) n (length js) all hs a) (All-nil (IsHeldIn (suc n))))
+    (put_all_in (IsHeldIn (suc n)) (raised_held (is_empty_of js) n (length js) hs) [] (raised_held_in (is_empty_of js) n (length js) all hs a) (All-nil (IsHeldIn (suc n))))
 
 -- the numbers stay below the count of entries
 abbrev pub IsNumbered : ℕ → Kept → Type 0

@@ -1,93 +1,101 @@
-//! What differs between two lists of held digests, as a log that leads back.
-ghost use Rattle.std.specs.Prelude.{◌≡◌, ◌++◌, map, filter_map, IfOk, OnOk};
+//! What differs between the lists of two caches.
+ghost use Rattle.std.specs.Prelude.{◌≡◌, ◌+◌, ◌<◌, ◌≤◌, ◌++◌, length, filter_map, vec_len, vec_capacity};
 ghost use Rattle.std.specs.Option.{option_to_list};
-ghost use Rattle.cache_model.specs.Lists.{AscendByPlace};
-ghost use Rattle.cache_model.specs.Undo.{undo, had, held_key, is_same_place, is_before_place};
-ghost use Rattle.cache_update.specs.Differences.{lost, gained};
+ghost use Rattle.cache_model.specs.Lists.{AscendByPlace, AscendByNumber};
+ghost use Rattle.cache_update.specs.Differences.{lost as lost_of, gained as gained_of, moved_since};
 
+use crate::put::is_same;
 use forest_place::Place;
-use leaf_cache::digest_in;
-use std::alloc::Global;
-use uo_base::NoMemory;
+use leaf_cache::{Kept, digest_in, place_of};
 use uo_digest::Digest;
 
 // Notes a digest that was held, where the newer list does not have it at its place.
 fn note_lost(
-    log: &mut Vec<(Place, Option<Digest>)>,
+    lost: &mut Vec<(Place, Digest)>,
     newer: &[(Place, Digest)],
     place: Place,
     digest: Digest,
-) -> Result<(), NoMemory>
-    requires { AscendByPlace newer.now }
-    ensures { OnOk result (log.new.items ≡ log.old.items ++ option_to_list (lost newer.now (place, digest))) }
+)
+    requires newer { AscendByPlace newer.now }
+    requires room { vec_len lost.old < vec_capacity lost.old }
+    ensures items { lost.new.items ≡ lost.old.items ++ option_to_list (lost_of newer.now (place, digest)) }
+    ensures len { vec_len lost.new ≤ vec_len lost.old + 1 }
+    ensures capacity { vec_capacity lost.old ≤ vec_capacity lost.new }
 {
     if let Some(found) = digest_in(newer, place) {
         if found == digest {
-            return Ok(());
+            return;
         }
     }
-    Ok(log.push((place, Some(digest)))?)
+    let _ = lost.push((place, digest));
 }
 
 // Notes a place at which the older list has nothing.
-fn note_gained(
-    log: &mut Vec<(Place, Option<Digest>)>,
-    older: &[(Place, Digest)],
-    place: Place,
-    digest: Digest,
-) -> Result<(), NoMemory>
-    requires { AscendByPlace older.now }
-    ensures { OnOk result (log.new.items ≡ log.old.items ++ option_to_list (gained older.now (place, digest))) }
+fn note_gained(gained: &mut Vec<Place>, older: &[(Place, Digest)], place: Place, digest: Digest)
+    requires older { AscendByPlace older.now }
+    requires room { vec_len gained.old < vec_capacity gained.old }
+    ensures items { gained.new.items ≡ gained.old.items ++ option_to_list (gained_of older.now (place, digest)) }
+    ensures len { vec_len gained.new ≤ vec_len gained.old + 1 }
+    ensures capacity { vec_capacity gained.old ≤ vec_capacity gained.new }
 {
     if digest_in(older, place).is_some() {
-        return Ok(());
+        return;
     }
-    Ok(log.push((place, None))?)
+    let _ = gained.push(place);
+}
+
+// Notes where a kept entry stood, if it stands elsewhere now.
+fn note_moved(moved: &mut Vec<(u64, Place)>, kept: &[Kept], number: u64, place: Place)
+    requires kept { AscendByNumber kept.now }
+    requires room { vec_len moved.old < vec_capacity moved.old }
+    ensures items { moved.new.items ≡ moved.old.items ++ option_to_list (moved_since kept.now (number, place)) }
+    ensures len { vec_len moved.new ≤ vec_len moved.old + 1 }
+    ensures capacity { vec_capacity moved.old ≤ vec_capacity moved.new }
+{
+    if let Some(now) = place_of(kept, number) {
+        if !is_same(place, now) {
+            let _ = moved.push((number, place));
+        }
+    }
 }
 
 // Notes all that was held and is so no more.
-fn note_all_lost(
-    log: &mut Vec<(Place, Option<Digest>)>,
+pub(crate) fn note_all_lost(
+    lost: &mut Vec<(Place, Digest)>,
     newer: &[(Place, Digest)],
     older: &[(Place, Digest)],
-) -> Result<(), NoMemory>
-    requires { AscendByPlace newer.now }
-    ensures { OnOk result (log.new.items ≡ log.old.items ++ filter_map (lost newer.now) older.now) }
+)
+    requires newer { AscendByPlace newer.now }
+    requires room { vec_len lost.old + length older.now ≤ vec_capacity lost.old }
+    ensures { lost.new.items ≡ lost.old.items ++ filter_map (lost_of newer.now) older.now }
 {
     for i in 0..older.len() {
-        note_lost(log, newer, older[i].0, older[i].1)?;
+        note_lost(lost, newer, older[i].0, older[i].1);
     }
-    Ok(())
 }
 
 // Notes all places that the older list lacks.
-fn note_all_gained(
-    log: &mut Vec<(Place, Option<Digest>)>,
+pub(crate) fn note_all_gained(
+    gained: &mut Vec<Place>,
     newer: &[(Place, Digest)],
     older: &[(Place, Digest)],
-) -> Result<(), NoMemory>
-    requires { AscendByPlace older.now }
-    ensures { OnOk result (log.new.items ≡ log.old.items ++ filter_map (gained older.now) newer.now) }
+)
+    requires older { AscendByPlace older.now }
+    requires room { vec_len gained.old + length newer.now ≤ vec_capacity gained.old }
+    ensures { gained.new.items ≡ gained.old.items ++ filter_map (gained_of older.now) newer.now }
 {
     for i in 0..newer.len() {
-        note_gained(log, older, newer[i].0, newer[i].1)?;
+        note_gained(gained, older, newer[i].0, newer[i].1);
     }
-    Ok(())
 }
 
-/// The changes that lead from the older held digests to the newer ones, for `undo_held`: over the newer list it gives the older
-/// one. What both have is not among them.
-pub fn differences(
-    alloc: Global,
-    newer: &[(Place, Digest)],
-    older: &[(Place, Digest)],
-) -> Result<Vec<(Place, Option<Digest>)>, NoMemory>
-    requires newer { AscendByPlace newer.now }
-    requires older { AscendByPlace older.now }
-    ensures { IfOk result (λ log. undo is_same_place is_before_place held_key (map (λ c. had c.0 c.1) log.items) newer.now ≡ older.now) }
+// Notes where those stood that are kept and stand elsewhere now.
+pub(crate) fn note_all_moved(moved: &mut Vec<(u64, Place)>, kept: &[Kept], stood: &[(u64, Place)])
+    requires kept { AscendByNumber kept.now }
+    requires room { vec_len moved.old + length stood.now ≤ vec_capacity moved.old }
+    ensures { moved.new.items ≡ moved.old.items ++ filter_map (moved_since kept.now) stood.now }
 {
-    let mut log = Vec::new(alloc);
-    note_all_lost(&mut log, newer, older)?;
-    note_all_gained(&mut log, newer, older)?;
-    Ok(log)
+    for i in 0..stood.len() {
+        note_moved(moved, kept, stood[i].0, stood[i].1);
+    }
 }

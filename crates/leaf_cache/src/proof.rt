@@ -10,8 +10,8 @@ use std::alloc::Global;
 use uo_base::NoMemory;
 use uo_digest::Digest;
 
-// Where the entry with this number stands, if it is kept.
-fn place_of(kept: &[Kept], number: u64) -> Option<Place>
+/// Where the entry with this number stands, if it is kept.
+pub fn place_of(kept: &[Kept], number: u64) -> Option<Place>
     requires { AscendByNumber kept.now }
     ensures { result ≡ kept_place kept.now number }
 {

@@ -2,8 +2,8 @@ use Rattle.std.proofs.Common.{sym, ap, ◌∙◌, arith}
 use Rattle.uo_digest.specs.declared.digest.Digest.{Digest}
 use Rattle.forest_place.specs.declared.place.Place.{Place}
 use Rattle.cache_model.specs.Undo.{is_same_place}
-use Rattle.cache_update.proofs.Backs.{out_there, out_other, out_end, out_ascends}
-use Rattle.cache_update.proofs.undo.take_out.Goals as goal
+use Rattle.cache_update.proofs.Outs.{out_there, out_other, out_end, out_ascends}
+use Rattle.cache_update.proofs.undoing.take_out.Goals as goal
 
 pub returns-then-i-len-clause-items : goal.returns-then-i-len-clause-items
 returns-then-i-len-clause-items c = out_end c.args.held.now.items c.args.place c.index_of_place-i.result (rw c.deref.ensures.value at c.index_of_place-i.ensures) (omega arith)

@@ -1,0 +1,51 @@
+use Rattle.std.proofs.Common.{ℕ, length, Option, sym, ap, ◌∙◌, subst, All, arith}
+use Rattle.cache_model.specs.Lists.{moved_leaf}
+use Rattle.cache_update.specs.declared.mark.Room.{Room}
+use Rattle.cache_update.specs.Marks.{HasRoomLeft, HasRoomFor, AreOfForest, IsUnused, IsUnusedIn, IsKnownIn, held_from}
+use Rattle.proof_shape.specs.Targeted.{Targeted}
+use Rattle.cache_update.proofs.Growing.{passed_length}
+use Rattle.cache_update.proofs.Marking.{IsNamed, deletion_keeps, named_moved}
+use Rattle.cache_update.proofs.block.delete_in.Goals as goal
+
+pub go_on-requires : goal.go_on-requires
+go_on-requires c =
+    let was = sym c.take.ensures.value ∙ c.in-Some.is in
+    let old : HasRoomFor c.args.mark.now c.args.parts.now c.in-Some.left = subst (HasRoomLeft c.args.mark.now c.args.parts.now) was c.requires.fits.left in
+    let begun : IsUnused c.args.targets.now c.args.mark.now c.args.parts.now.kept c.in-Some.left = subst (IsUnusedIn c.args.targets.now c.args.mark.now c.args.parts.now.kept) was c.requires.begun in
+    let shorter = passed_length (moved_leaf c.args.targets.now.leaves c.args.targets.now.targets) c.args.parts.now.kept in
+    let same = ap length c.delete_from.ensures.kept in
+    let few = begun.known.1 c.delete_from.new.parts.held c.delete_from.ensures.ordered.1 (subst (λ (t : Targeted). All (IsKnownIn t.leaves t.targets) c.delete_from.new.parts.held) begun.kept c.delete_from.ensures.known) in
+    record {
+      ordered = c.delete_from.ensures.ordered;
+      forest = subst (λ (n : ℕ). AreOfForest n c.delete_from.new.parts) begun.leaves c.delete_from.ensures.forest;
+      named = subst (All (IsNamed c.args.mark.now.stood.items c.args.mark.now.added.items)) (sym c.delete_from.ensures.kept) (named_moved c.args.targets.now.leaves c.args.targets.now.targets c.args.mark.now.stood.items c.args.mark.now.added.items c.args.parts.now.kept old.named);
+      stood = old.stood;
+      before = old.before;
+      kept_room = omega (arith, old.kept_room, shorter, same, c.delete_from.ensures.kept_room);
+      held_most = omega (arith, few, begun.known.2);
+      held_room = omega (arith, old.held_room, c.delete_from.ensures.held_room);
+      added = old.added;
+      spare = omega (arith, old.spare, c.delete_from.ensures.spare_room);
+      lost = old.lost;
+      gained = old.gained;
+      moved = old.moved;
+      empty = old.empty;
+    }
+
+pub returns-clause-kept_back : goal.returns-clause-kept_back
+returns-clause-kept_back c =
+    let was = sym c.take.ensures.value ∙ c.in-Some.is in
+    let old : HasRoomFor c.args.mark.now c.args.parts.now c.in-Some.left = subst (HasRoomLeft c.args.mark.now c.args.parts.now) was c.requires.fits.left in
+    let begun : IsUnused c.args.targets.now c.args.mark.now c.args.parts.now.kept c.in-Some.left = subst (IsUnusedIn c.args.targets.now c.args.mark.now c.args.parts.now.kept) was c.requires.begun in
+    c.go_on.ensures.kept ∙ deletion_keeps c.args.targets.now.leaves c.args.targets.now.targets c.args.parts.now.kept _ c.args.mark.now.taken.items _ c.args.mark.now.stood.items c.args.mark.now.added.items old.ordered.0 begun.taken.0 begun.taken.2 begun.taken.1 c.delete_from.ensures.taken c.delete_from.ensures.kept
+
+pub returns-clause-fits : goal.returns-clause-fits
+returns-clause-fits c =
+    let was = sym c.take.ensures.value ∙ c.in-Some.is in
+    let kept = ap length (returns-clause-kept_back c) in
+    let held = ap length (c.go_on.ensures.held ∙ sym (ap (λ (r : Option Room). held_from r c.args.mark.now.lost.items c.args.mark.now.gained.items c.args.parts.now.held) was)) in
+    record {
+      kept_room = omega (arith, kept, c.requires.fits.kept_room, c.delete_from.ensures.kept_room);
+      held_room = omega (arith, held, c.requires.fits.held_room, c.delete_from.ensures.held_room);
+      left = c.go_on.ensures.left;
+    }

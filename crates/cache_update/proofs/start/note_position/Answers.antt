@@ -1,0 +1,9 @@
+use Rattle.std.proofs.Common.{◌-◌, refl, sym, ◌∙◌, subst}
+use Rattle.forest_place.specs.Forest.{InForest}
+use Rattle.cache_update.proofs.Moves.{goes_within}
+use Rattle.cache_update.proofs.start.note_position.Goals as goal
+
+pub position-requires-clause-within : goal.position-requires-clause-within
+position-requires-clause-within c =
+    subst (λ n. InForest n c.in-Some.to.row c.in-Some.to.off) (sym c.leaves.ensures.is)
+    (goes_within c.args.targets.now.leaves c.args.targets.now.targets (c.args.targets.now.leaves - c.args.place.row) c.args.place.row c.args.place.off c.in-Some.to refl c.requires (sym c.moved.ensures.is ∙ c.in-Some.is)).1

@@ -1,0 +1,116 @@
+-- What a mark gives back over a cache, and when it fits one.
+use Rattle.std.specs.Prelude.{◌≡◌, ℕ, ◌+◌, ◌*◌, ◌<◌, ◌≤◌, Bool, true, ◌||◌, ◌&&◌, nat_lt, ◌/◌, ◌^◌, List, [], map, filter, length, Option, Some, None, is_some, count_ones, vec_len, vec_capacity, All}
+use Rattle.std.specs.List.{list_any}
+use Rattle.uo_digest.specs.declared.digest.Digest.{Digest}
+use Rattle.forest_place.specs.declared.place.Place.{Place}
+use Rattle.forest_place.specs.Forest.{InForest}
+use Rattle.proof_shape.specs.Targeted.{Targeted}
+use Rattle.cache_model.specs.declared.kept.Kept.{Kept}
+use Rattle.cache_model.specs.Known.{is_known}
+use Rattle.cache_model.specs.Lists.{moved_leaves, leaf_places, AscendByPlace}
+use Rattle.cache_model.specs.Undo.{find, Ascends, is_same_number, is_before_number}
+use Rattle.leaf_cache.specs.Parted.{Parted, IsParted}
+use Rattle.cache_update.specs.Differences.{where_stood}
+use Rattle.cache_update.specs.Given.{kept_given, held_given}
+use Rattle.cache_update.specs.declared.mark.Mark.{Mark}
+use Rattle.cache_update.specs.declared.mark.Room.{Room}
+
+-- the kept entries that a mark gives back over some
+abbrev pub kept_back : Mark → List Kept → List Kept
+kept_back m ks = kept_given m.taken.items m.stood.items m.added.items ks
+
+-- while the block goes on, a mark has the held digests as they were; then it has what differs
+abbrev pub held_from : Option Room → List (Place × Digest) → List Place → List (Place × Digest) → List (Place × Digest)
+held_from None lost gained hs = held_given lost gained hs
+held_from (Some r) lost gained hs = r.before.items
+
+-- the held digests that a mark gives back over some
+abbrev pub held_back : Mark → List (Place × Digest) → List (Place × Digest)
+held_back m hs = held_from m.room m.lost.items m.gained.items hs
+
+-- what is given back of the held digests ascends
+abbrev pub GivesInOrder : Option Room → Type 0
+GivesInOrder None = Unit {0}
+GivesInOrder (Some r) = AscendByPlace r.before.items
+
+-- how many digests additions to n entries can put, at most
+abbrev pub growth : ℕ → ℕ → ℕ
+growth n adds = 3 * adds + 2 * count_ones n
+
+-- the kept entry stood somewhere when the block began, or was added since
+abbrev pub is_named : List (ℕ × Place) → List ℕ → Kept → Bool
+is_named stood added k = is_some (find is_same_number (λ s. s.0) k.number stood) || list_any (is_same_number k.number) added
+
+-- the lists are those of a forest over n entries
+pub record AreOfForest (n : ℕ) (p : Parted) : Type 0 where
+  pub numbers : All (λ k. k.number < n) p.kept
+  pub kept : All (λ k. InForest n k.place.row k.place.off) p.kept
+  pub held : All (λ x. InForest n x.0.row x.0.off) p.held
+
+-- there is room for what is left of the block: m says what is left, and r has the room
+pub record HasRoomFor (m : Mark) (p : Parted) (r : Room) : Type 0 where
+  pub ordered : IsParted p
+  pub forest : AreOfForest m.leaves p
+  pub named : All (λ k. is_named m.stood.items m.added.items k ≡ true) p.kept
+  pub stood : Ascends is_same_number is_before_number (λ s. s.0) m.stood.items
+  pub before : AscendByPlace r.before.items
+  pub kept_room : length p.kept + m.watched < p.kept_room
+  pub held_most : length p.held + growth m.leaves m.adds < r.most
+  pub held_room : r.most ≤ p.held_room
+  pub added : vec_len m.added + m.watched ≤ vec_capacity m.added
+  pub spare : r.most ≤ vec_capacity r.scratch.spare
+  pub lost : vec_len r.before ≤ vec_capacity r.lost
+  pub gained : r.most ≤ vec_capacity r.gained
+  pub moved : vec_len m.stood ≤ vec_capacity r.moved
+  pub empty : (r.lost.items ≡ []) × (r.gained.items ≡ []) × (r.moved.items ≡ [])
+
+-- where no room is left, no addition is
+abbrev pub HasRoomLeft : Mark → Parted → Option Room → Type 0
+HasRoomLeft m p None = m.adds ≡ 0
+HasRoomLeft m p (Some r) = HasRoomFor m p r
+
+-- a mark fits a cache with room for what it gives back, and for what is left of its block
+pub record Fits (m : Mark) (p : Parted) : Type 0 where
+  pub kept_room : length (kept_back m p.kept) < p.kept_room
+  pub held_room : length (held_back m p.held) < p.held_room
+  pub left : HasRoomLeft m p m.room
+
+-- a place of the forest over n entries that is known where kept entries stand at these places
+abbrev pub IsKnownIn : ℕ → List Place → Place × Digest → Type 0
+IsKnownIn n ps x = InForest n x.0.row x.0.off × (is_known n ps x.0 ≡ true)
+
+-- there is room for a digest at each known place
+abbrev pub HoldKnown : ℕ → List Place → ℕ → Type 0
+HoldKnown n ps most = (hs : List (Place × Digest)) → AscendByPlace hs → All (IsKnownIn n ps) hs → length hs ≤ most
+
+-- and for one more
+abbrev pub HoldsKnown : ℕ → List Place → ℕ → Type 0
+HoldsKnown n ps capacity = (most : ℕ) × HoldKnown n ps most × (most < capacity)
+
+-- the mark was begun with these targets over these entries, and not used since
+pub record IsUnused (t : Targeted) (m : Mark) (ks : List Kept) (r : Room) : Type 0 where
+  pub leaves : t.leaves ≡ m.leaves
+  pub kept : r.kept ≡ record { leaves = t.leaves; targets = leaf_places (moved_leaves t.leaves t.targets ks) }
+  pub known : (most : ℕ) × HoldKnown t.leaves (leaf_places (moved_leaves t.leaves t.targets ks)) most × (most + growth m.leaves m.adds < r.most)
+  pub taken : (m.taken.items ≡ []) × (m.added.items ≡ []) × (m.stood.items ≡ map where_stood ks)
+  pub taken_room : length ks ≤ vec_capacity m.taken
+  pub moves : r.most ≤ vec_capacity r.scratch.moves
+
+abbrev pub IsUnusedIn : Targeted → Mark → List Kept → Option Room → Type 0
+IsUnusedIn t m ks None = ⊥
+IsUnusedIn t m ks (Some r) = IsUnused t m ks r
+
+abbrev pub WasBegun : Targeted → Mark → List Kept → Type 0
+WasBegun t m ks = IsUnusedIn t m ks m.room
+
+-- whether the forest over n entries has the place
+abbrev pub is_within : ℕ → Place → Bool
+is_within n p = nat_lt p.off (n / 2 ^ p.row)
+
+-- and it is known where kept entries stand at these places
+abbrev pub is_pair_known : ℕ → List Place → Place → Bool
+is_pair_known n ps p = is_within n p && is_known n ps p
+
+-- the pairs at places of the forest
+abbrev pub pairs_within : ℕ → List (Place × Digest) → List (Place × Digest)
+pairs_within n pairs = filter (λ x. is_within n x.0) pairs

@@ -1,0 +1,58 @@
+//! A mark between the steps of its block, and once the block is done.
+ghost use Rattle.std.specs.Prelude.{◌≡◌};
+ghost use Rattle.cache_update.specs.Marks.{kept_back, held_back, HasRoomFor, HasRoomLeft};
+
+use crate::differ::{note_all_gained, note_all_lost, note_all_moved};
+use crate::mark::{Mark, Room};
+use leaf_cache::Parts;
+
+impl Mark {
+    // Goes on with the block. Once no addition is left the mark has what differs, and the room is freed.
+    pub(crate) fn go_on(&mut self, room: Room, parts: &Parts)
+        requires { HasRoomFor self.old parts.now room }
+        ensures kept { kept_back self.new parts.now.kept ≡ kept_back self.old parts.now.kept }
+        ensures held { held_back self.new parts.now.held ≡ room.before.items }
+        ensures left { HasRoomLeft self.new parts.now self.new.room }
+        ensures leaves { self.new.leaves ≡ self.old.leaves }
+        ensures adds { self.new.adds ≡ self.old.adds }
+        ensures watched { self.new.watched ≡ self.old.watched }
+    {
+        if self.adds == 0 {
+            self.settle(room, parts);
+        } else {
+            self.room = Some(room);
+        }
+    }
+
+    // What differs from the lists when the block began, and nothing else.
+    fn settle(&mut self, room: Room, parts: &Parts)
+        requires room { HasRoomFor self.old parts.now room }
+        requires done { self.old.adds ≡ 0 }
+        ensures kept { kept_back self.new parts.now.kept ≡ kept_back self.old parts.now.kept }
+        ensures held { held_back self.new parts.now.held ≡ room.before.items }
+        ensures left { HasRoomLeft self.new parts.now self.new.room }
+        ensures leaves { self.new.leaves ≡ self.old.leaves }
+        ensures adds { self.new.adds ≡ self.old.adds }
+        ensures watched { self.new.watched ≡ self.old.watched }
+    {
+        let Room {
+            before,
+            mut lost,
+            mut gained,
+            mut moved,
+            ..
+        } = room;
+        note_all_lost(&mut lost, &parts.held, &before);
+        note_all_gained(&mut gained, &parts.held, &before);
+        note_all_moved(&mut moved, &parts.kept, &self.stood);
+        lost.shrink_to_fit();
+        gained.shrink_to_fit();
+        moved.shrink_to_fit();
+        self.taken.shrink_to_fit();
+        self.added.shrink_to_fit();
+        self.lost = lost;
+        self.gained = gained;
+        self.stood = moved;
+        self.room = None;
+    }
+}

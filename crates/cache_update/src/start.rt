@@ -1,0 +1,227 @@
+//! A mark for one block, with all the memory that the block takes.
+ghost use Rattle.std.specs.Prelude.{◌≡◌, ◌+◌, ◌<◌, ◌≤◌, ◌^◌, [], length, map, ◌++◌, All, IfOk, IfSome, OnOk};
+ghost use Rattle.std.specs.Option.{option_to_list};
+ghost use Rattle.std.specs.Bool.{OnTrue};
+ghost use Rattle.forest_place.specs.Forest.{InForest};
+ghost use Rattle.forest_place.specs.Position.{positions_of};
+ghost use Rattle.cache_model.specs.Lists.{moved_leaves, leaf_places};
+ghost use Rattle.leaf_cache.specs.Parted.{HaveSameLists, IsParted};
+ghost use Rattle.cache_update.specs.Differences.{where_stood};
+ghost use Rattle.cache_update.specs.Begun.{IsRoom, IsMark, new_position};
+ghost use Rattle.cache_update.specs.Marks.{AreOfForest, Fits, WasBegun, HoldKnown, growth, kept_back, held_back};
+
+use crate::known::is_within;
+use crate::mark::{Mark, Room, Scratch};
+use forest_place::{Place, position};
+use leaf_cache::{Cache, Kept, Parts};
+use proof_shape::Targets;
+use std::alloc::Global;
+use uo_base::NoMemory;
+use uo_digest::Digest;
+
+// Whether the entries are of a forest over `n` entries.
+fn are_kept_in(n: u64, kept: &[Kept]) -> bool
+    requires { n < 2 ^ 40 }
+    ensures numbers { OnTrue result (All (λ k. k.number < n) kept.now) }
+    ensures places { OnTrue result (All (λ k. InForest n k.place.row k.place.off) kept.now) }
+{
+    for i in 0..kept.len() {
+        if kept[i].number >= n || !is_within(n, kept[i].place) {
+            return false;
+        }
+    }
+    true
+}
+
+// Whether the digests are held at places of the forest over `n` entries.
+fn are_held_in(n: u64, held: &[(Place, Digest)]) -> bool
+    requires { n < 2 ^ 40 }
+    ensures { OnTrue result (All (λ x. InForest n x.0.row x.0.off) held.now) }
+{
+    for i in 0..held.len() {
+        if !is_within(n, held[i].0) {
+            return false;
+        }
+    }
+    true
+}
+
+// Whether the lists are those of a forest over `n` entries.
+fn is_of_forest(n: u64, parts: &Parts) -> bool
+    requires { n < 2 ^ 40 }
+    ensures forest { OnTrue result (AreOfForest n parts.now) }
+    ensures ordered { IsParted parts.now }
+{
+    are_kept_in(n, &parts.kept) && are_held_in(n, &parts.held)
+}
+
+// Notes the position to which what stands at a place goes, if it stays.
+fn note_position(positions: &mut Vec<u64>, targets: &Targets, place: Place) -> Result<(), NoMemory>
+    requires { InForest targets.now.leaves place.row place.off }
+    ensures { OnOk result (positions.new.items ≡ positions.old.items ++ option_to_list (new_position targets.now.leaves targets.now.targets place)) }
+{
+    let Some(to) = targets.moved(place) else {
+        return Ok(());
+    };
+    Ok(positions.push(position(to, targets.leaves()))?)
+}
+
+// The positions at which the kept entries stand once the targets are gone.
+fn new_positions(alloc: Global, targets: &Targets, kept: &[Kept]) -> Result<Vec<u64>, NoMemory>
+    requires { All (λ k. InForest targets.now.leaves k.place.row k.place.off) kept.now }
+    ensures { IfOk result (λ v. v.items ≡ positions_of targets.now.leaves (leaf_places (moved_leaves targets.now.leaves targets.now.targets kept.now))) }
+{
+    let mut positions = Vec::with_capacity(alloc, kept.len())?;
+    for i in 0..kept.len() {
+        note_position(&mut positions, targets, kept[i].place)?;
+    }
+    Ok(positions)
+}
+
+// Where the kept entries stand once the targets are gone. No places of a forest's entries stand above each other, so other
+// lists of them have none.
+fn new_places(alloc: Global, targets: &Targets, kept: &[Kept]) -> Result<Targets, NoMemory>
+    requires { All (λ k. InForest targets.now.leaves k.place.row k.place.off) kept.now }
+    ensures { IfOk result (λ t. t ≡ record { leaves = targets.now.leaves; targets = leaf_places (moved_leaves targets.now.leaves targets.now.targets kept.now) }) }
+{
+    let positions = new_positions(alloc, targets, kept)?;
+    if positions.len() >= 1 << 32 {
+        return Err(NoMemory);
+    }
+    match Targets::new(alloc, targets.leaves(), &positions) {
+        Ok(places) => Ok(places),
+        Err(_) => Err(NoMemory),
+    }
+}
+
+// More than a cache that holds this many digests has to hold at any time in the block, where the kept entries stand at these
+// places once the targets are gone.
+fn most_of(kept: &Targets, held: usize, n: u64, adds: u64) -> Option<usize>
+    ensures held { IfSome result (λ most. held + growth n adds < most) }
+    ensures known { IfSome result (λ most. (m : _) × HoldKnown kept.now.leaves kept.now.targets m × (m + growth n adds < most)) }
+{
+    let (covered, _) = kept.covered();
+    let known = covered.len().checked_add(kept.needed().len())?;
+    let added = (adds as usize)
+        .checked_mul(3)?
+        .checked_add(2 * n.count_ones() as usize + 1)?;
+    let most = held.max(known).checked_add(added)?;
+    Some(most)
+}
+
+// The entry's number, and where it stands.
+fn stands_at(entry: &Kept) -> (u64, Place)
+    ensures { result ≡ where_stood entry.now }
+{
+    (entry.number, entry.place)
+}
+
+// Where each kept entry stands.
+fn places_of(alloc: Global, kept: &[Kept]) -> Result<Vec<(u64, Place)>, NoMemory>
+    ensures { IfOk result (λ v. v.items ≡ map where_stood kept.now) }
+{
+    Ok(kept.iter().map(|entry| stands_at(entry)).collect(alloc)?)
+}
+
+// Room for a block of these targets and this many additions.
+fn room_for(alloc: Global, parts: &Parts, targets: &Targets, adds: u64) -> Result<Room, NoMemory>
+    requires { All (λ k. InForest targets.now.leaves k.place.row k.place.off) parts.now.kept }
+    ensures { IfOk result (λ r. IsRoom targets.now parts.now adds r) }
+{
+    let kept = new_places(alloc, targets, &parts.kept)?;
+    let Some(most) = most_of(&kept, parts.held.len(), targets.leaves(), adds) else {
+        return Err(NoMemory);
+    };
+    Ok(Room {
+        most,
+        kept,
+        before: Vec::from_slice(alloc, &parts.held)?,
+        scratch: Scratch {
+            spare: Vec::with_capacity(alloc, most)?,
+            moves: Vec::with_capacity(alloc, most)?,
+        },
+        lost: Vec::with_capacity(alloc, parts.held.len())?,
+        gained: Vec::with_capacity(alloc, most)?,
+        moved: Vec::with_capacity(alloc, parts.kept.len())?,
+    })
+}
+
+// A mark for a block of these targets and additions.
+fn mark_for(
+    alloc: Global,
+    parts: &Parts,
+    targets: &Targets,
+    adds: u64,
+    watched: u64,
+    room: Room,
+) -> Result<Mark, NoMemory>
+    ensures { IfOk result (λ m. IsMark targets.now parts.now adds watched room m) }
+{
+    Ok(Mark {
+        leaves: targets.leaves(),
+        adds,
+        watched,
+        taken: Vec::with_capacity(alloc, parts.kept.len())?,
+        stood: places_of(alloc, &parts.kept)?,
+        added: Vec::with_capacity(alloc, watched as usize)?,
+        lost: Vec::new(alloc),
+        gained: Vec::new(alloc),
+        room: Some(room),
+    })
+}
+
+// A mark for a block, and room in the lists for what the block adds to them.
+fn begin_in(
+    alloc: Global,
+    parts: &mut Parts,
+    targets: &Targets,
+    adds: u64,
+    watched: u64,
+) -> Result<Mark, NoMemory>
+    ensures lists { HaveSameLists parts.new parts.old }
+    ensures kept_room { parts.old.kept_room ≤ parts.new.kept_room }
+    ensures held_room { parts.old.held_room ≤ parts.new.held_room }
+    ensures fits { IfOk result (λ m. Fits m parts.new) }
+    ensures begun { IfOk result (λ m. WasBegun targets.now m parts.new.kept) }
+    ensures kept_back { IfOk result (λ m. kept_back m parts.new.kept ≡ parts.old.kept) }
+    ensures held_back { IfOk result (λ m. held_back m parts.new.held ≡ parts.old.held) }
+    ensures left { IfOk result (λ m. (m.leaves ≡ targets.now.leaves) × (m.adds ≡ adds) × (m.watched ≡ watched)) }
+{
+    if !is_of_forest(targets.leaves(), parts) {
+        return Err(NoMemory);
+    }
+    let Some(entries) = (watched as usize).checked_add(1) else {
+        return Err(NoMemory);
+    };
+    let room = room_for(alloc, parts, targets, adds)?;
+    let most = room.most;
+    let mark = mark_for(alloc, parts, targets, adds, watched, room)?;
+    parts.kept.reserve(entries)?;
+    parts.held.reserve(most)?;
+    Ok(mark)
+}
+
+/// Takes all memory for one block: the deletion of `targets`, then `adds` additions of which `watched` are watched. What the
+/// cache keeps and holds stays. The mark gives back this cache, through the deletion and the additions.
+///
+/// The cache is one of the forest over as many entries as the targets are of. There is no mark for another one, whose places
+/// that forest lacks, or where one stands above another: the answer is want of memory then.
+pub fn begin<D>(
+    alloc: Global,
+    cache: &mut Cache<D>,
+    targets: &Targets,
+    adds: u64,
+    watched: u64,
+) -> Result<Mark, NoMemory>
+    ensures lists { HaveSameLists cache.new.parts cache.old.parts }
+    ensures watch { cache.new.watch ≡ cache.old.watch }
+    ensures kept_room { cache.old.parts.kept_room ≤ cache.new.parts.kept_room }
+    ensures held_room { cache.old.parts.held_room ≤ cache.new.parts.held_room }
+    ensures fits { IfOk result (λ m. Fits m cache.new.parts) }
+    ensures begun { IfOk result (λ m. WasBegun targets.now m cache.new.parts.kept) }
+    ensures kept_back { IfOk result (λ m. kept_back m cache.new.parts.kept ≡ cache.old.parts.kept) }
+    ensures held_back { IfOk result (λ m. held_back m cache.new.parts.held ≡ cache.old.parts.held) }
+    ensures left { IfOk result (λ m. (m.leaves ≡ targets.now.leaves) × (m.adds ≡ adds) × (m.watched ≡ watched)) }
+{
+    begin_in(alloc, cache.parts(), targets, adds, watched)
+}

@@ -1,0 +1,177 @@
+//! Undoing what a mark says.
+ghost use Rattle.std.specs.Prelude.{◌≡◌, ◌+◌, ◌<◌, ◌≤◌, None, Some, map, length, option_map, vec_len, vec_capacity};
+ghost use Rattle.cache_model.specs.Lists.{AscendByNumber, AscendByPlace, leaf_key};
+ghost use Rattle.cache_model.specs.Undo.{change, held_key, is_same_place, is_before_place, is_same_number, is_before_number};
+ghost use Rattle.cache_update.specs.Given.{entry_was, entry_stood, entry_none, at_place, digest_was, digest_none, undo_entries, undo_digests, kept_given, held_given};
+
+use crate::put::{is_same, put};
+use forest_place::Place;
+use leaf_cache::{Kept, index_of_number, index_of_place};
+use uo_digest::Digest;
+
+// Takes out what is held at a place, if anything is.
+fn take_out(held: &mut Vec<(Place, Digest)>, place: Place)
+    requires { AscendByPlace held.old.items }
+    ensures items { held.new.items ≡ change is_same_place is_before_place held_key place (λ now. None) held.old.items }
+    ensures ascends { AscendByPlace held.new.items }
+    ensures capacity { vec_capacity held.old ≤ vec_capacity held.new }
+{
+    let i = index_of_place(held, place);
+    if i == held.len() {
+        return;
+    }
+    if is_same(place, held[i].0) {
+        held.remove(i);
+    }
+}
+
+// Takes out what is held at these places.
+fn take_out_gained(held: &mut Vec<(Place, Digest)>, gained: &[Place])
+    requires { AscendByPlace held.old.items }
+    ensures items { held.new.items ≡ undo_digests (map digest_none gained.now) held.old.items }
+    ensures ascends { AscendByPlace held.new.items }
+    ensures capacity { vec_capacity held.old ≤ vec_capacity held.new }
+{
+    let mut i = gained.len();
+    while i > 0 {
+        i -= 1;
+        take_out(held, gained[i]);
+    }
+}
+
+// Puts back what was held at these places.
+fn put_back_lost(held: &mut Vec<(Place, Digest)>, lost: &[(Place, Digest)])
+    requires ascends { AscendByPlace held.old.items }
+    requires room { length (undo_digests (map digest_was lost.now) held.old.items) < vec_capacity held.old }
+    ensures items { held.new.items ≡ undo_digests (map digest_was lost.now) held.old.items }
+    ensures ascends { AscendByPlace held.new.items }
+    ensures capacity { vec_capacity held.old ≤ vec_capacity held.new }
+{
+    let mut i = lost.len();
+    while i > 0 {
+        i -= 1;
+        put(held, lost[i].0, lost[i].1);
+    }
+}
+
+// The held digests as they were, where what was lost and gained since is this.
+pub(crate) fn undo_held(held: &mut Vec<(Place, Digest)>, lost: &[(Place, Digest)], gained: &[Place])
+    requires ascends { AscendByPlace held.old.items }
+    requires room { length (held_given lost.now gained.now held.old.items) < vec_capacity held.old }
+    ensures items { held.new.items ≡ held_given lost.now gained.now held.old.items }
+    ensures ascends { AscendByPlace held.new.items }
+    ensures capacity { vec_capacity held.old ≤ vec_capacity held.new }
+{
+    take_out_gained(held, gained);
+    put_back_lost(held, lost);
+}
+
+// Takes out the entry with this number, if it is kept.
+fn take_out_entry(kept: &mut Vec<Kept>, number: u64)
+    requires { AscendByNumber kept.old.items }
+    ensures items { kept.new.items ≡ change is_same_number is_before_number leaf_key number (λ now. None) kept.old.items }
+    ensures ascends { AscendByNumber kept.new.items }
+    ensures capacity { vec_capacity kept.old ≤ vec_capacity kept.new }
+{
+    let i = index_of_number(kept, number);
+    if i == kept.len() {
+        return;
+    }
+    if number == kept[i].number {
+        let _ = kept.remove(i);
+    }
+}
+
+// The entry with this number stands here, if it is kept.
+fn set_place(kept: &mut Vec<Kept>, number: u64, place: Place)
+    requires { AscendByNumber kept.old.items }
+    ensures items { kept.new.items ≡ change is_same_number is_before_number leaf_key number (λ now. option_map (at_place (number, place)) now) kept.old.items }
+    ensures ascends { AscendByNumber kept.new.items }
+    ensures capacity { vec_capacity kept.old ≤ vec_capacity kept.new }
+{
+    let i = index_of_number(kept, number);
+    if i == kept.len() {
+        return;
+    }
+    if number == kept[i].number {
+        kept[i].place = place;
+    }
+}
+
+// Keeps an entry.
+fn put_entry(kept: &mut Vec<Kept>, entry: Kept)
+    requires ascends { AscendByNumber kept.old.items }
+    requires room { vec_len kept.old < vec_capacity kept.old }
+    ensures items { kept.new.items ≡ change is_same_number is_before_number leaf_key entry.number (λ now. Some entry) kept.old.items }
+    ensures ascends { AscendByNumber kept.new.items }
+    ensures capacity { vec_capacity kept.old ≤ vec_capacity kept.new }
+{
+    let i = index_of_number(kept, entry.number);
+    if i == kept.len() {
+        let _ = kept.push(entry);
+    } else if entry.number == kept[i].number {
+        kept[i] = entry;
+    } else {
+        let _ = kept.insert(i, entry);
+    }
+}
+
+// Takes out the entries with these numbers.
+fn take_out_added(kept: &mut Vec<Kept>, added: &[u64])
+    requires { AscendByNumber kept.old.items }
+    ensures items { kept.new.items ≡ undo_entries (map entry_none added.now) kept.old.items }
+    ensures ascends { AscendByNumber kept.new.items }
+    ensures capacity { vec_capacity kept.old ≤ vec_capacity kept.new }
+{
+    let mut i = added.len();
+    while i > 0 {
+        i -= 1;
+        take_out_entry(kept, added[i]);
+    }
+}
+
+// The entries with these numbers stand where they stood.
+fn set_places(kept: &mut Vec<Kept>, stood: &[(u64, Place)])
+    requires { AscendByNumber kept.old.items }
+    ensures items { kept.new.items ≡ undo_entries (map entry_stood stood.now) kept.old.items }
+    ensures ascends { AscendByNumber kept.new.items }
+    ensures capacity { vec_capacity kept.old ≤ vec_capacity kept.new }
+{
+    let mut i = stood.len();
+    while i > 0 {
+        i -= 1;
+        set_place(kept, stood[i].0, stood[i].1);
+    }
+}
+
+// Puts back the entries that were taken out.
+fn put_back_taken(kept: &mut Vec<Kept>, taken: Vec<Kept>)
+    requires ascends { AscendByNumber kept.old.items }
+    requires room { length (undo_entries (map entry_was taken.items) kept.old.items) < vec_capacity kept.old }
+    ensures items { kept.new.items ≡ undo_entries (map entry_was taken.items) kept.old.items }
+    ensures ascends { AscendByNumber kept.new.items }
+    ensures capacity { vec_capacity kept.old ≤ vec_capacity kept.new }
+{
+    let mut left = taken;
+    while let Some(entry) = left.pop() {
+        put_entry(kept, entry);
+    }
+}
+
+// The kept entries as they were, where these were taken out, stood elsewhere and were added since.
+pub(crate) fn undo_kept(
+    kept: &mut Vec<Kept>,
+    taken: Vec<Kept>,
+    stood: &[(u64, Place)],
+    added: &[u64],
+)
+    requires ascends { AscendByNumber kept.old.items }
+    requires room { length (kept_given taken.items stood.now added.now kept.old.items) < vec_capacity kept.old }
+    ensures items { kept.new.items ≡ kept_given taken.items stood.now added.now kept.old.items }
+    ensures ascends { AscendByNumber kept.new.items }
+    ensures capacity { vec_capacity kept.old ≤ vec_capacity kept.new }
+{
+    take_out_added(kept, added);
+    set_places(kept, stood);
+    put_back_taken(kept, taken);
+}
