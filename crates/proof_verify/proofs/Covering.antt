@@ -9,21 +9,18 @@ use Rattle.std.proofs.lemmas.List.FromFn.{get_or-map-range_with_len, length-map-
 use Rattle.std.proofs.lemmas.Option.{same_Some}
 use Rattle.uo_digest.specs.declared.digest.Digest.{Digest}
 use Rattle.forest_place.specs.declared.place.Place.{Place}
-use Rattle.forest_place.specs.Forest.{InForest}
 use Rattle.forest_place.specs.Places.{has_place}
 use Rattle.forest_place.proofs.Listed.{place}
-use Rattle.forest_model.specs.Cover.{Cover, target, given, both, cover, need, HasShape}
-use Rattle.forest_model.specs.Evaluation.{evaluation, nothing_known}
+use Rattle.forest_model.specs.Cover.{Cover, target, cover, need, HasShape}
 use Rattle.forest_place.specs.Places.{place_in}
 use Rattle.proof_shape.specs.Survey.{has, IsCoverOf}
 use Rattle.proof_shape.proofs.Longer.{place_where}
 use Rattle.proof_verify.specs.Origins.{origin_at, AreHalves, IsTargetAt}
-use Rattle.proof_verify.specs.Nodes.{node_at, IsWithin, IsHalfWithin, CanEvaluate, AreEvaluated}
+use Rattle.proof_verify.specs.Nodes.{IsWithin, IsHalfWithin, CanEvaluate, AreEvaluated}
 use Rattle.proof_verify.specs.Room.{IsPlan}
 use Rattle.proof_verify.specs.Evaluation.{IsMade, IsEvaluatedAt, AreEvaluatedAt}
 use Rattle.proof_verify.specs.Gathered.{made_from, item_from, AreHalvesWithin, AreHalfwise}
 use Rattle.proof_verify.specs.declared.evaluation.CoveredPlace.{CoveredPlace}
-use Rattle.proof_verify.specs.declared.evaluation.Made.{Made}
 use Rattle.proof_verify.specs.declared.node.Node.{Node}
 use Rattle.proof_verify.specs.declared.origin.Half.{Half}
 use Rattle.proof_verify.specs.declared.origin.Half.TheVariants.{Covered, Needed}
