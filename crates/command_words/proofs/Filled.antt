@@ -10,13 +10,14 @@ use Rattle.command_words.specs.declared.options.OptionName.TheVariants as Name
 use Rattle.command_words.specs.declared.words.Command.{Command}
 use Rattle.command_words.specs.declared.words.WordFault.{WordFault}
 use Rattle.command_words.specs.Options.{word_of, takes, is_option, excludes, Given, are_given, words_of}
-use Rattle.command_words.specs.Words.{Asked, Task, Following, Generating, IsInRange, front_of, options_of, Asks, Means, asked_in, read_as}
+use Rattle.command_words.specs.Words.{Asked, Task, Following, Proving, Generating, IsInRange, front_of, options_of, Asks, Means, asked_in, read_as}
 
 abbrev IsFilled : List ℕ → Type 0
 IsFilled word = 0 < length word
 
 some_front : (task : Task) → IsInRange task → All IsFilled (front_of task)
 some_front Following r = All-cons IsFilled (codes "follow") [] (omega arith) (All-nil IsFilled)
+some_front Proving r = All-cons IsFilled (codes "prove") [] (omega arith) (All-nil IsFilled)
 some_front (Generating number blocks) r =
     let few : blocks < 2 ^ 64 = omega (arith, r.1) in
     All-cons IsFilled (codes "gen") (decimal number ∷ decimal blocks ∷ []) (omega arith)

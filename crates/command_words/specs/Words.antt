@@ -5,7 +5,7 @@ use Rattle.uo_base.specs.declared.event.Net.TheVariants.{Main}
 use Rattle.command_words.specs.declared.options.OptionName.{OptionName}
 use Rattle.command_words.specs.declared.options.OptionName.TheVariants as Name
 use Rattle.command_words.specs.declared.words.Command.{Command}
-use Rattle.command_words.specs.declared.words.Command.TheVariants.{Follow, Gen}
+use Rattle.command_words.specs.declared.words.Command.TheVariants.{Follow, Prove, Gen}
 use Rattle.command_words.specs.declared.words.WordFault.{WordFault}
 use Rattle.command_words.specs.Numbers.{number_in}
 use Rattle.command_words.specs.Options.{Given, are_given, words_of, Settings, settings_of, nothing, refused_at, needs, settings_from}
@@ -14,6 +14,8 @@ use Rattle.command_words.specs.Options.{Given, are_given, words_of, Settings, se
 pub data Asked : Type 0 where
   -- to follow a feed: the network and the feed's file, where they are named
   AskedFollow : Option Net → Option (List ℕ) → Asked
+  -- to prove a feed's blocks: its network, the feed's file and the file that takes what is written, where they are named
+  AskedProve : Net → (feed to : Option (List ℕ)) → Asked
   -- to generate a feed: its network, its number, its count of blocks, and the file that takes it, where one is named
   AskedGen : Net → (number blocks : ℕ) → Option (List ℕ) → Asked
 
@@ -25,24 +27,29 @@ net_for net = unwrap_or net Main
 
 pub data Task : Type 0 where
   Following : Task
+  Proving : Task
   Generating : (number blocks : ℕ) → Task
 
 -- the words in front of the options
 abbrev pub front_of : Task → List (List ℕ)
 front_of Following = codes "follow" ∷ []
+front_of Proving = codes "prove" ∷ []
 front_of (Generating number blocks) = codes "gen" ∷ decimal number ∷ decimal blocks ∷ []
 
 -- the numbers that a command takes
 abbrev pub IsInRange : Task → Type 0
 IsInRange Following = Unit {0}
+IsInRange Proving = Unit {0}
 IsInRange (Generating number blocks) = (number < 2 ^ 64) × (blocks ≤ 100000)
 
 abbrev pub options_of : Task → List OptionName
 options_of Following = Name.Net ∷ Name.Feed ∷ []
+options_of Proving = Name.Net ∷ Name.Feed ∷ Name.To ∷ []
 options_of (Generating number blocks) = Name.Net ∷ Name.To ∷ []
 
 abbrev pub asked_by : Task → Settings → Asked
 asked_by Following s = AskedFollow s.net s.feed
+asked_by Proving s = AskedProve (net_for s.net) s.feed s.to
 asked_by (Generating number blocks) s = AskedGen (net_for s.net) number blocks s.to
 
 -- ---- which words are accepted
@@ -97,6 +104,7 @@ unfoldable pub command_of : List (List ℕ) → Result Asked WordFault
 command_of [] = refused_at 0
 command_of (name ∷ rest) =
     if bytes_eq name (codes "follow") then options_for Following 1 rest
+    else if bytes_eq name (codes "prove") then options_for Proving 1 rest
     else if bytes_eq name (codes "gen") then gen_for rest
     else refused_at 0
 
@@ -104,6 +112,7 @@ command_of (name ∷ rest) =
 
 abbrev pub asked_in : Command → Asked
 asked_in (Follow net feed) = AskedFollow net (option_copied feed)
+asked_in (Prove net feed to) = AskedProve net (option_copied feed) (option_copied to)
 asked_in (Gen net number blocks to) = AskedGen net number blocks (option_copied to)
 
 abbrev pub read_as : Result Command WordFault → Result Asked WordFault

@@ -17,7 +17,7 @@ struct BadRow {
     at: u64,
 }
 
-const ROWS: [Row; 10] = [
+const ROWS: [Row; 13] = [
     Row {
         words: &["follow"],
         asked: Command::Follow {
@@ -76,6 +76,31 @@ const ROWS: [Row; 10] = [
             feed: Some("--net"),
         },
     },
+    // feeds to prove, with options in several orders
+    Row {
+        words: &["prove"],
+        asked: Command::Prove {
+            net: Net::Main,
+            feed: None,
+            to: None,
+        },
+    },
+    Row {
+        words: &["prove", "--to", "x", "--net", "regtest", "--feed", "f"],
+        asked: Command::Prove {
+            net: Net::Regtest,
+            feed: Some("f"),
+            to: Some("x"),
+        },
+    },
+    Row {
+        words: &["prove", "--feed", "--to", "--net", "main"],
+        asked: Command::Prove {
+            net: Net::Main,
+            feed: Some("--to"),
+            to: None,
+        },
+    },
     // feeds to generate, with the greatest numbers
     Row {
         words: &["gen", "1", "0"],
@@ -105,7 +130,7 @@ const ROWS: [Row; 10] = [
     },
 ];
 
-const BAD_ROWS: [BadRow; 26] = [
+const BAD_ROWS: [BadRow; 33] = [
     // a command that is none, or behind another word
     BadRow {
         words: &["fly"],
@@ -210,6 +235,35 @@ const BAD_ROWS: [BadRow; 26] = [
     BadRow {
         words: &["follow", "--feed", "a", "--Net", "main"],
         at: 3,
+    },
+    // of `prove`
+    BadRow {
+        words: &["proves"],
+        at: 0,
+    },
+    BadRow {
+        words: &["prove", "--watch", "w"],
+        at: 1,
+    },
+    BadRow {
+        words: &["prove", "--from", "s"],
+        at: 1,
+    },
+    BadRow {
+        words: &["prove", "--to"],
+        at: 2,
+    },
+    BadRow {
+        words: &["prove", "--net", "main", "--to", ""],
+        at: 4,
+    },
+    BadRow {
+        words: &["prove", "--to", "a", "--feed", "f", "--to", "b"],
+        at: 5,
+    },
+    BadRow {
+        words: &["prove", "7"],
+        at: 1,
     },
     // none
     BadRow { words: &[], at: 0 },

@@ -17,6 +17,15 @@ pub enum Command<'a> {
         /// The file of the feed, where it is named; else standard input.
         feed: Option<&'a str>,
     },
+    /// Prove a feed's blocks, and write them with their proofs.
+    Prove {
+        /// The network, mainnet where none is named.
+        net: Net,
+        /// The file of the feed, where it is named; else standard input.
+        feed: Option<&'a str>,
+        /// The file that takes the blocks with their proofs, where it is named.
+        to: Option<&'a str>,
+    },
     /// Generate a feed.
     Gen {
         /// The network, mainnet where none is named.
@@ -39,6 +48,8 @@ pub struct WordFault {
 }
 
 const FOLLOW: [OptionName; 2] = [OptionName::Net, OptionName::Feed];
+
+const PROVE: [OptionName; 3] = [OptionName::Net, OptionName::Feed, OptionName::To];
 
 const GEN: [OptionName; 2] = [OptionName::Net, OptionName::To];
 
@@ -70,6 +81,14 @@ fn command_in(words: &[String]) -> Result<Command<'_>, WordFault>
             Ok(Command::Follow {
                 net: given.net,
                 feed: given.feed,
+            })
+        }
+        "prove" => {
+            let given = read_options(&PROVE, 1, Options::none(), rest)?;
+            Ok(Command::Prove {
+                net: given.net.unwrap_or(Net::Main),
+                feed: given.feed,
+                to: given.to,
             })
         }
         "gen" => gen_in(rest),
