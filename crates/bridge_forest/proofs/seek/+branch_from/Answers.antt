@@ -35,7 +35,7 @@ branch_from-above-requires g t c κs within =
     let some = kept_above_some es parts same p.row p.off c.requires.within up c.requires.some in
     let up' : InForest (length es) c.parent.result.row c.parent.result.off = rw (c.parent.ensures.row, c.parent.ensures.off) up in
     let some' : kept es parts c.parent.result.row c.parent.result.off ≡ None → ⊥ = rw (c.parent.ensures.row, c.parent.ensures.off) some in
-    (omega (arith, c.decreases, small, c.parent.ensures.row), (within, (c.requires.small, (c.requires.room, (c.requires.right, (up', (some', c.requires.none)))))))
+    (omega (arith, c.decreases, small, c.parent.ensures.row), (within.0, (within.1, (c.requires.small, (c.requires.room, (c.requires.right, (up', (some', c.requires.none))))))))
 
 pub child-here-requires-clause-row : goal.child-here-requires-clause-row
 child-here-requires-clause-row g t c =
