@@ -30,15 +30,15 @@ use Rattle.bridge_prover.specs.Standing.{IsBridge}
 use Rattle.bridge_prover.proofs.Gathering.{somes-map}
 use Rattle.bridge_prover.proofs.Next.{ready, shaped_so}
 
-first-in : (xs ys : List (Option Refusal)) (fault : RuleFault) → IsFirst (first_of xs) fault → IsFirst (first_of (xs ++ ys)) fault
+pub first-in : (xs ys : List (Option Refusal)) (fault : RuleFault) → IsFirst (first_of xs) fault → IsFirst (first_of (xs ++ ys)) fault
 first-in xs ys (Refused why) e = first_of-append xs ys ∙ ap (λ x. option_or x (first_of ys)) e
 first-in xs ys NoMemory e = tt
 
-first-behind : (xs ys : List (Option Refusal)) (fault : RuleFault) → first_of xs ≡ None → IsFirst (first_of ys) fault → IsFirst (first_of (xs ++ ys)) fault
+pub first-behind : (xs ys : List (Option Refusal)) (fault : RuleFault) → first_of xs ≡ None → IsFirst (first_of ys) fault → IsFirst (first_of (xs ++ ys)) fault
 first-behind xs ys (Refused why) passes e = first_of-append xs ys ∙ (ap (λ x. option_or x (first_of ys)) passes ∙ e)
 first-behind xs ys NoMemory passes e = tt
 
-all_pass : (xs ys : List (Option Refusal)) → first_of xs ≡ None → first_of ys ≡ None → first_of (xs ++ ys) ≡ None
+pub all_pass : (xs ys : List (Option Refusal)) → first_of xs ≡ None → first_of ys ≡ None → first_of (xs ++ ys) ≡ None
 all_pass xs ys a b = first_of-append xs ys ∙ (ap (λ x. option_or x (first_of ys)) a ∙ b)
 
 one_first : (x : Option Refusal) (fault : RuleFault) → IsFirst x fault → IsFirst (first_of (x ∷ [])) fault

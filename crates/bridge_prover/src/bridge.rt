@@ -104,6 +104,20 @@ impl<D: Digester> Bridge<D> {
         self.chain
     }
 
+    /// The network whose rules it keeps.
+    pub fn net(&self) -> Net
+        ensures { result ≡ self.now.rules.net }
+    {
+        self.net
+    }
+
+    /// The limits that it keeps.
+    pub fn limits(&self) -> Limits
+        ensures { result ≡ self.now.rules.limits }
+    {
+        self.limits
+    }
+
     /// By how many blocks the bridge can go back.
     pub fn kept_levels(&self) -> u32
         ensures { result ≡ length self.now.undo }

@@ -16,14 +16,16 @@ use uo_base::{Event, NoMemory};
 use uo_digest::{Digest, Digester, Steps};
 
 // The entries that a right message shows, and what the rules on money ask of them.
+#[derive(Drop)]
 struct Shown {
     numbers: Vec<u64>,
     found: Vec<Found>,
 }
 
 impl<D: Digester> Bridge<D> {
-    ghost use Rattle.block_codec.specs.Block.{block_hash_of};
+    ghost use Rattle.block_codec.specs.Block.{BlockFits, block_hash_of};
     ghost use Rattle.block_rules.specs.declared.verdict.Verdict.TheVariants as Said;
+    ghost use Rattle.node_rules.specs.Fitting.{EventFits};
     ghost use Rattle.node_rules.specs.Machine.{BlockCame, event_in};
     ghost use Rattle.node_rules.specs.Reading.{handed_in};
     ghost use Rattle.compact_node.specs.Node.{IsShort};
@@ -43,6 +45,9 @@ impl<D: Digester> Bridge<D> {
         ensures verdict { IfOk result (λ j. verdict_in j ≡ judged_on D.digest_of leaf_text self.old (event_in (event_of event.entry))) }
         ensures next { OnOk result (self.new ≡ next_judged D.digest_of leaf_text self.old (event_in (event_of event.entry))) }
         ensures stays { OnErr result (self.new ≡ self.old) }
+
+        // The block has a text.
+        ensures fits { IfOk result (λ j. EventFits (event_in (event_of event.entry))) }
 
         // Which levels it can go back to then.
         ensures levels { IfOk result (λ j. LevelsJudged self.old (verdict_in j) self.new) }
@@ -70,6 +75,7 @@ impl<D: Digester> Bridge<D> {
         ensures verdict { IfOk result (λ j. verdict_in j ≡ judged_on D.digest_of leaf_text self.old (BlockCame (block_in bytes.now) (handed_in (option_copied message.entry)))) }
         ensures next { OnOk result (self.new ≡ next_judged D.digest_of leaf_text self.old (BlockCame (block_in bytes.now) (handed_in (option_copied message.entry)))) }
         ensures stays { OnErr result (self.new ≡ self.old) }
+        ensures fits { IfOk result (λ j. EventFits (BlockCame (block_in bytes.now) (handed_in (option_copied message.entry)))) }
     {
         match read_block(self.alloc, bytes) {
             Ok(block) => self.judge_block(&block, message, steps),
@@ -87,7 +93,10 @@ impl<D: Digester> Bridge<D> {
         ensures verdict { IfOk result (λ j. verdict_in j ≡ judged_on D.digest_of leaf_text self.old (BlockCame (Some block.now) (handed_in (option_copied message.entry)))) }
         ensures next { OnOk result (self.new ≡ next_judged D.digest_of leaf_text self.old (BlockCame (Some block.now) (handed_in (option_copied message.entry)))) }
         ensures stays { OnErr result (self.new ≡ self.old) }
+        ensures fits { BlockFits block.now }
     {
+        // That it has a text.
+        let _bytes = block.bytes();
         let height = self.chain.blocks;
         let hash = block_hash(block);
         match self.take(block, hash, message, steps) {
