@@ -1,5 +1,5 @@
 -- What holds of auditors, whatever the digest function and the leaf text.
-use Rattle.std.specs.Prelude.{◌≡◌, ℕ, ◌<◌, ◌^◌, true, not, List, [], ◌∷◌, Option, Some, None}
+use Rattle.std.specs.Prelude.{◌≡◌, ℕ, ◌<◌, ◌^◌, false, not, List, [], ◌∷◌, Option, Some, None}
 use Rattle.uo_base.specs.declared.event.Limits.{Limits}
 use Rattle.uo_base.specs.declared.event.Net.{Net}
 use Rattle.uo_digest.specs.declared.digest.Digest.{Digest}
@@ -38,7 +38,7 @@ pub record AuditsThroughout (H : List ℕ → Digest) (text : Leaf → List ℕ)
 
 -- each that stands for that node and has not ended does so
 abbrev pub AuditIsFullThroughout : Type 0
-AuditIsFullThroughout = (H : List ℕ → Digest) (text : Leaf → List ℕ) (t : State) (s : AuditState) (events : List ChainEvent) → IsBridge H text s.bridge → Stands H text t s.bridge → not s.ended ≡ true →
+AuditIsFullThroughout = (H : List ℕ → Digest) (text : Leaf → List ℕ) (t : State) (s : AuditState) (events : List ChainEvent) → IsBridge H text s.bridge → Stands H text t s.bridge → s.ended ≡ false →
     AuditsThroughout H text s.bridge.rules t s events
 
 -- and each from its start
