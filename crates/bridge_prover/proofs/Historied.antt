@@ -22,7 +22,7 @@ by-index : {X : Type 0} (f : ℕ → Option X) (xs : List (Option X)) (k : ℕ) 
 by-index f [] k h = refl
 by-index f (x ∷ xs) k h =
     let here : f k ≡ x = ap f (let e : k ≡ k + 0 = omega arith in e) ∙ h 0 (omega arith) in
-    ap₂ (λ y ys. y ∷ ys) here (by-index f xs (suc k) (λ i lt. ap f (let e : suc k + i ≡ k + suc i = omega arith in e) ∙ h (suc i) (omega (arith, lt))))
+    ap₂ (λ y ys. y ∷ ys) here (by-index f xs (k + 1) (λ i lt. ap f (let e : k + 1 + i ≡ k + suc i = omega arith in e) ∙ h (suc i) (omega (arith, lt))))
 
 module _ (hs : List Held) (us : History) (rise : NumbersRise hs) (index : IsIndexOf hs us) where
   live-leaf : (i : ℕ) → live_leaf hs i ≡ get_or us i None
@@ -48,7 +48,7 @@ module _ (hs : List Held) (us : History) (rise : NumbersRise hs) (index : IsInde
           ap (λ b. if b then leaf_at i hs else None) there.0 ∙ there.1
 
   pub held-history : map (live_leaf hs) (range_with_len 0 (length us)) ≡ us
-  held-history = by-index (live_leaf hs) us 0 (λ i lt. live-leaf i)
+  held-history = by-index (live_leaf hs) us 0 (λ i lt. ap (live_leaf hs) (let e : 0 + i ≡ i = omega arith in e) ∙ live-leaf i)
 
 pub is_history : (H : List ℕ → Digest) (text : Leaf → List ℕ) (s : BridgeState) (us : History) → IsHistory H text s.entries s.held us → history_of s ≡ us
 is_history H text s us is =

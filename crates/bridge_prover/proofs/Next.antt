@@ -239,36 +239,36 @@ module _ (H : List ℕ → Digest) (text : Leaf → List ℕ) (t : State) (s : B
   own_apart = apart s.held t.now.history at.rise at.stands.index H text s.rules s.chain b passes
 
 module _ (H : List ℕ → Digest) (text : Leaf → List ℕ) (s : BridgeState) (b : Block) (is : IsBridge H text s) (passes : refusal_on s b ≡ None) where
-  abbrev t : State
-  t = is.levels
+  abbrev was : State
+  was = is.levels
 
-  abbrev here : IsAt H text t s
-  here = at_level H text t s is is.stands
+  abbrev stood : IsAt H text was s
+  stood = at_level H text was s is is.stands
 
-  same : own_in s.held (external b s.chain.blocks) ≡ own t.now.history (external b s.chain.blocks)
-  same = own_same s.held t.now.history is.rise is.stands.index (external b s.chain.blocks)
+  same : own_in s.held (external b s.chain.blocks) ≡ own was.now.history (external b s.chain.blocks)
+  same = own_same s.held was.now.history is.rise is.stands.index (external b s.chain.blocks)
 
-  by_history : refusal s.rules s.chain b (own t.now.history (external b s.chain.blocks)) ≡ None
+  by_history : refusal s.rules s.chain b (own was.now.history (external b s.chain.blocks)) ≡ None
   by_history = subst (λ e. refusal s.rules s.chain b e ≡ None) same passes
 
-  numbers : (own_in s.held (external b s.chain.blocks)).numbers ≡ (own t.now.history (external b s.chain.blocks)).numbers
+  numbers : (own_in s.held (external b s.chain.blocks)).numbers ≡ (own was.now.history (external b s.chain.blocks)).numbers
   numbers = ap (λ (e : Evidence). e.numbers) same
 
   abbrev fits : (s.chain.blocks < 2 ^ 31) × (s.chain.leaves + length (new_records b s.chain.blocks) ≤ s.rules.limits.leaves)
-  fits = room s.rules s.chain b (own t.now.history (external b s.chain.blocks)) by_history
+  fits = room s.rules s.chain b (own was.now.history (external b s.chain.blocks)) by_history
 
   -- a block that passes may be taken
   pub ready : (hash : Digest) (numbers' : List ℕ) → numbers' ≡ (own_in s.held (external b s.chain.blocks)).numbers → length numbers' < 2 ^ 32 → IsReady H text s hash numbers' (new_records b s.chain.blocks)
   ready hash numbers' e short =
-      let ns = (own t.now.history (external b s.chain.blocks)).numbers in
+      let ns = (own was.now.history (external b s.chain.blocks)).numbers in
       let short' : length ns < 2 ^ 32 = subst (λ xs. length xs < 2 ^ 32) (e ∙ numbers) short in
       subst (λ xs. IsReady H text s hash xs (new_records b s.chain.blocks)) (sym (e ∙ numbers))
-      (can_take H text s is ns (new_records b s.chain.blocks) (own_live H text t s here b by_history) (own_apart H text t s here b by_history) fits hash short')
+      (can_take H text s is ns (new_records b s.chain.blocks) (own_live H text was s stood b by_history) (own_apart H text was s stood b by_history) fits hash short')
 
   -- and the places of what it spends have shape
   pub shaped_so : (numbers' : List ℕ) → numbers' ≡ (own_in s.held (external b s.chain.blocks)).numbers → HaveShape s numbers'
   shaped_so numbers' e =
-      let us = t.now.history in
+      let us = was.now.history in
       let es = is.stands.entries in
       subst (HaveShape s) (sym e)
       (subst (λ x. shape_fault (length x) [] 0 (map (place_at (length x)) (targets_of (spends_by x s.held (own_in s.held (external b s.chain.blocks)).numbers))) ≡ None) (sym es)
@@ -277,4 +277,4 @@ module _ (H : List ℕ → Digest) (text : Leaf → List ℕ) (s : BridgeState) 
   pub next_is : (hash : Digest) → IsBridge H text (bridge_with H text s hash (own_in s.held (external b s.chain.blocks)).numbers (new_records b s.chain.blocks))
   next_is hash =
       subst (λ xs. IsBridge H text (bridge_with H text s hash xs (new_records b s.chain.blocks))) (sym numbers)
-      (there H text s is (own t.now.history (external b s.chain.blocks)).numbers (new_records b s.chain.blocks) (own_live H text t s here b by_history) (own_apart H text t s here b by_history) fits hash)
+      (there H text s is (own was.now.history (external b s.chain.blocks)).numbers (new_records b s.chain.blocks) (own_live H text was s stood b by_history) (own_apart H text was s stood b by_history) fits hash)

@@ -187,8 +187,8 @@ module _ (H : List ℕ → Digest) (text : Leaf → List ℕ) (hs : List Held) (
     entry-missing i e = right-is ∙ ap (λ b. b && same_digests m.proof.hashes there) (one-missing t.targets claims i e long)
 
     pub hash-missing : (map Some m.proof.hashes ≡ there → ⊥) → is_right_message H text [] us ext (read m) ≡ false
-    hash-missing no = right-is ∙ and-false _ _ (by (same_digests m.proof.hashes there) refl)
+    hash-missing differ = right-is ∙ and-false _ _ (by (same_digests m.proof.hashes there) refl)
       where
         by : (b : Bool) → same_digests m.proof.hashes there ≡ b → same_digests m.proof.hashes there ≡ false
-        by true e = absurd (no (digests_from m.proof.hashes there e))
+        by true e = absurd (differ (digests_from m.proof.hashes there e))
         by false e = e
