@@ -192,3 +192,34 @@ module _ (H : List ℕ → Digest) (text : Leaf → List ℕ) (hs : List Held) (
         by : (b : Bool) → same_digests m.proof.hashes there ≡ b → same_digests m.proof.hashes there ≡ false
         by true e = absurd (differ (digests_from m.proof.hashes there e))
         by false e = e
+
+-- ---- as the calls answer it
+
+module _ (H : List ℕ → Digest) (text : Leaf → List ℕ) (es' : List (Option Digest)) (hs : List Held) (us : History) (h : IsHistory H text es' hs us) (ext : List Outside) (m : Message) (t : Targeted) (count : length m.proof.spends ≡ length ext)
+    (are : AreNamed (length es') m.proof t) (places : List Place) (at : places ≡ t.targets) where
+  entries-long : length es' ≡ length us
+  entries-long = ap length h.entries_are ∙ length-map us (option_map (λ r. H (text r)))
+
+  named-so : AreNamed (length us) m.proof t
+  named-so = subst (λ n. AreNamed n m.proof t) entries-long are
+
+  shown-so : shown_all es' hs places (claimed (points_of ext) (rests_of m.proof.spends)) ≡ shown_all (entries H text us) hs t.targets (claimed (points_of ext) (rests_of m.proof.spends))
+  shown-so = ap₂ (λ x ps. shown_all x hs ps (claimed (points_of ext) (rests_of m.proof.spends))) h.entries_are at
+
+  pub none_shown : (x : Option (Vec ℕ)) → x ≡ None → AreShown (shown_all es' hs places (claimed (points_of ext) (rests_of m.proof.spends))) x → is_right_message H text [] us ext (read m) ≡ false
+  none_shown x e a =
+      let b = subst (AreShown (shown_all es' hs places (claimed (points_of ext) (rests_of m.proof.spends)))) e a in
+      entry-missing H text hs us h.rise h.index ext m t count named-so b.0 (ap (λ xs. slice_get xs b.0) (sym shown-so) ∙ b.1)
+
+  module _ (needed : List Place) (need_is : needed ≡ need t.leaves t.targets) where
+    there-so : map (λ p. digest_at H es' p.row p.off) needed ≡ map (λ p. digest_at H (entries H text us) p.row p.off) (need (length us) t.targets)
+    there-so = ap₂ (λ x ps. map (λ p. digest_at H x p.row p.off) ps) h.entries_are (need_is ∙ ap (λ n. need n t.targets) (are.leaves ∙ entries-long))
+
+    pub hash_wrong : (map Some m.proof.hashes ≡ map (λ p. digest_at H es' p.row p.off) needed → ⊥) → is_right_message H text [] us ext (read m) ≡ false
+    hash_wrong differ = hash-missing H text hs us h.rise h.index ext m t count named-so (λ e. differ (e ∙ sym there-so))
+
+    pub all_right : (x : Option (Vec ℕ)) (numbers : Vec ℕ) → x ≡ Some numbers → AreShown (shown_all es' hs places (claimed (points_of ext) (rests_of m.proof.spends))) x → map Some m.proof.hashes ≡ map (λ p. digest_at H es' p.row p.off) needed →
+        IsShown H text us ext m (Some numbers)
+    all_right x numbers e a hashes =
+        let b = subst (AreShown (shown_all es' hs places (claimed (points_of ext) (rests_of m.proof.spends)))) e a in
+        is-right H text hs us h.rise h.index ext m t count named-so numbers.items (b ∙ shown-so) (hashes ∙ there-so)
