@@ -32,7 +32,7 @@ use Rattle.bridge_prover.specs.Standing.{Undoes, GiveBack, Stands, IsBridge}
 use Rattle.bridge_prover.specs.Laws.{own_outcome, text_by, own_text, IsAsOwn, BridgeIsOwn, FreshStands, FreshIsBridge, NextIsBridge}
 use Rattle.bridge_prover.proofs.Giving.{length-after, older_few}
 use Rattle.bridge_prover.proofs.Owning.{own_same, proof_same}
-use Rattle.bridge_prover.proofs.Next.{IsAt, at_level, at-then, next_is}
+use Rattle.bridge_prover.proofs.Next.{IsAt, at_level, at-then, own_live, own_apart, next_is}
 use Rattle.bridge_prover.proofs.Undoing.{IsLast, at-undone, can_undo}
 
 pub fresh_stands : FreshStands
@@ -221,7 +221,7 @@ module _ (H : List ℕ → Digest) (text : Leaf → List ℕ) (rules : Rules) (t
           let proof : proof_by H (entries H text us) hs evidence.numbers ≡ proof_of H text None us ext = ap (proof_by H (entries H text us) hs) (sym numbers) ∙ proof_same hs us at.rise at.stands.index H text ext in (
             ap (λ n. Some (Accepted t.now.blocks (block_hash_of b) n)) long,
             ap (message_by ext) proof ∙ same_text ext (proof_of H text None us ext),
-            (at-then H text t bridge at b passes (block_hash_of b)).stands,
+            (at-then H text t bridge at evidence.numbers new (own_live H text t bridge at b passes) (own_apart H text t bridge at b passes) (block_hash_of b)).stands,
           )
 
       at_block : (handed : Handed) → Follows bridge (BlockCame (Some b) handed)

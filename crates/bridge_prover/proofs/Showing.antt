@@ -20,6 +20,7 @@ use Rattle.proof_shape.specs.declared.fault.ShapeFault.{ShapeFault}
 use Rattle.proof_shape.specs.declared.fault.ShapeFault.TheVariants as Shape
 use Rattle.proof_shape.specs.Shape.{IsShapeFault}
 use Rattle.proof_wire.specs.BlockProof.{Spend, BlockProof, targets_of}
+use Rattle.node_rules.specs.Messages.{Message, in_full}
 use Rattle.node_rules.specs.Accepting.{shape_fault}
 use Rattle.node_rules.proofs.Placing.{fault_told}
 use Rattle.output_index.specs.Held.{Held, leaf_at}
@@ -47,17 +48,17 @@ no_fault n numbers (Shape.Beneath i j) passes fault other = none-some _ (sym pas
 no_fault n numbers Shape.NoMemory passes fault other = false≢true other
 
 -- one more spend
-pub record AreShown (es : List (Option Digest)) (hs : List Held) (numbers : List ℕ) (shown : BlockProof) (at : List ℕ) : Type 0 where
-  pub message : shown ≡ record { spends = spends_by es hs numbers; hashes = [] }
+pub record AreShown (es : List (Option Digest)) (hs : List Held) (numbers : List ℕ) (shown : Message) (at : List ℕ) : Type 0 where
+  pub message : shown ≡ in_full (record { spends = spends_by es hs numbers; hashes = [] })
   pub positions : at ≡ targets_of (spends_by es hs numbers)
 
-pub shown_more : (es : List (Option Digest)) (hs : List Held) (numbers : List ℕ) (i : ℕ) (old new : BlockProof) (before after : List ℕ) → i < length numbers → AreShown es hs (take i numbers) old before →
-    new ≡ record { spends = old.spends ++ spends_by es hs (get_or numbers i 0 ∷ []); hashes = old.hashes } → after ≡ before ++ targets_of (spends_by es hs (get_or numbers i 0 ∷ [])) → AreShown es hs (take (i + 1) numbers) new after
+pub shown_more : (es : List (Option Digest)) (hs : List Held) (numbers : List ℕ) (i : ℕ) (old new : Message) (before after : List ℕ) → i < length numbers → AreShown es hs (take i numbers) old before →
+    new ≡ record { lean = old.lean; proof = record { spends = old.proof.spends ++ spends_by es hs (get_or numbers i 0 ∷ []); hashes = old.proof.hashes } } → after ≡ before ++ targets_of (spends_by es hs (get_or numbers i 0 ∷ [])) → AreShown es hs (take (i + 1) numbers) new after
 shown_more es hs numbers i old new before after lt was e f =
     let more : spends_by es hs (take (i + 1) numbers) ≡ spends_by es hs (take i numbers) ++ spends_by es hs (get_or numbers i 0 ∷ []) = gathered_more (λ j. option_map (spend_of es j) (leaf_at j hs)) numbers i 0 lt in
     let one = spends_by es hs (get_or numbers i 0 ∷ []) in
     record {
-      message = e ∙ (ap (λ (m : BlockProof). (let p : BlockProof = record { spends = m.spends ++ one; hashes = m.hashes } in p)) was.message ∙ ap (λ xs. (let p : BlockProof = record { spends = xs; hashes = [] } in p)) (sym more));
+      message = e ∙ (ap (λ (m : Message). (let p : BlockProof = record { spends = m.proof.spends ++ one; hashes = m.proof.hashes } in let q : Message = record { lean = m.lean; proof = p } in q)) was.message ∙ ap (λ xs. (let p : BlockProof = record { spends = xs; hashes = [] } in in_full p)) (sym more));
       positions = f ∙ (ap (λ xs. xs ++ targets_of one) was.positions ∙ (sym (map-append (λ (s : Spend). s.target) (spends_by es hs (take i numbers)) one) ∙ ap targets_of (sym more)));
     }
 
@@ -71,20 +72,20 @@ all_asked (p ∷ ps) = ap (λ qs. p ∷ qs) (all_asked ps)
 asked_all : (n : ℕ) (ts : List Place) → asked n ts nothing_known ≡ need n ts
 asked_all n ts = all_asked (need n ts)
 
-pub whole_proof : (H : List ℕ → Digest) (es : List (Option Digest)) (hs : List Held) (numbers positions : List ℕ) (ts : List Place) (m : BlockProof) → positions ≡ targets_of (spends_by es hs numbers) → map (place_at (length es)) positions ≡ map Some ts →
-    m ≡ record { spends = spends_by es hs numbers; hashes = somes (map (λ p. digest_at H es p.row p.off) (need (length es) ts)) } → m ≡ proof_by H es hs numbers
+pub whole_proof : (H : List ℕ → Digest) (es : List (Option Digest)) (hs : List Held) (numbers positions : List ℕ) (ts : List Place) (m : Message) → positions ≡ targets_of (spends_by es hs numbers) → map (place_at (length es)) positions ≡ map Some ts →
+    m ≡ in_full (record { spends = spends_by es hs numbers; hashes = somes (map (λ p. digest_at H es p.row p.off) (need (length es) ts)) }) → m ≡ in_full (proof_by H es hs numbers)
 whole_proof H es hs numbers positions ts m at named e =
     let same : somes (map (place_at (length es)) (targets_of (spends_by es hs numbers))) ≡ ts = ap (λ xs. somes (map (place_at (length es)) xs)) (sym at) ∙ (ap somes named ∙ somes-map ts) in
-    e ∙ ap (λ ps. (let p : BlockProof = record { spends = spends_by es hs numbers; hashes = somes (map (λ q. digest_at H es q.row q.off) ps) } in p)) (ap (need (length es)) (sym same) ∙ sym (asked_all (length es) (somes (map (place_at (length es)) (targets_of (spends_by es hs numbers))))))
+    e ∙ ap (λ ps. (let p : BlockProof = record { spends = spends_by es hs numbers; hashes = somes (map (λ q. digest_at H es q.row q.off) ps) } in in_full p)) (ap (need (length es)) (sym same) ∙ sym (asked_all (length es) (somes (map (place_at (length es)) (targets_of (spends_by es hs numbers))))))
 
-pub hash_more : (H : List ℕ → Digest) (es : List (Option Digest)) (spends : List Spend) (ps : List Place) (i : ℕ) (d : Place) (old new : BlockProof) → i < length ps → old ≡ record { spends = spends; hashes = somes (map (λ p. digest_at H es p.row p.off) (take i ps)) } →
-    new ≡ record { spends = old.spends; hashes = old.hashes ++ somes (digest_at H es (get_or ps i d).row (get_or ps i d).off ∷ []) } → new ≡ record { spends = spends; hashes = somes (map (λ p. digest_at H es p.row p.off) (take (i + 1) ps)) }
+pub hash_more : (H : List ℕ → Digest) (es : List (Option Digest)) (spends : List Spend) (ps : List Place) (i : ℕ) (d : Place) (old new : Message) → i < length ps → old ≡ in_full (record { spends = spends; hashes = somes (map (λ p. digest_at H es p.row p.off) (take i ps)) }) →
+    new ≡ record { lean = old.lean; proof = record { spends = old.proof.spends; hashes = old.proof.hashes ++ somes (digest_at H es (get_or ps i d).row (get_or ps i d).off ∷ []) } } → new ≡ in_full (record { spends = spends; hashes = somes (map (λ p. digest_at H es p.row p.off) (take (i + 1) ps)) })
 hash_more H es spends ps i d old new lt was e =
     let one = somes (digest_at H es (get_or ps i d).row (get_or ps i d).off ∷ []) in
-    e ∙ (ap (λ (m : BlockProof). (let p : BlockProof = record { spends = m.spends; hashes = m.hashes ++ one } in p)) was
-    ∙ ap (λ xs. (let p : BlockProof = record { spends = spends; hashes = xs } in p)) (sym (gathered_more (λ (p : Place). digest_at H es p.row p.off) ps i d lt)))
+    e ∙ (ap (λ (m : Message). (let p : BlockProof = record { spends = m.proof.spends; hashes = m.proof.hashes ++ one } in let q : Message = record { lean = m.lean; proof = p } in q)) was
+    ∙ ap (λ xs. (let p : BlockProof = record { spends = spends; hashes = xs } in in_full p)) (sym (gathered_more (λ (p : Place). digest_at H es p.row p.off) ps i d lt)))
 
-pub shown_all : (es : List (Option Digest)) (hs : List Held) (numbers : List ℕ) (i : ℕ) (shown : BlockProof) (at : List ℕ) → length numbers ≤ i → AreShown es hs (take i numbers) shown at → AreShown es hs numbers shown at
+pub shown_all : (es : List (Option Digest)) (hs : List Held) (numbers : List ℕ) (i : ℕ) (shown : Message) (at : List ℕ) → length numbers ≤ i → AreShown es hs (take i numbers) shown at → AreShown es hs numbers shown at
 shown_all es hs numbers i shown at le a = subst (λ xs. AreShown es hs xs shown at) (take_all i numbers le) a
 
 -- no more is shown than is spent

@@ -19,7 +19,7 @@ use Rattle.block_rules.specs.declared.refusal.Refusal.TheVariants as Why
 use Rattle.block_rules.specs.declared.verdict.Verdict.{Verdict}
 use Rattle.block_rules.specs.declared.verdict.Verdict.TheVariants.{Refused, TooDeep, Stray}
 use Rattle.block_rules.specs.Blocks.{external, new_records}
-use Rattle.node_rules.specs.Messages.{number_of, targets}
+use Rattle.node_rules.specs.Messages.{number_of, targets, in_full}
 use Rattle.node_rules.specs.Judging.{Rules, refusal}
 use Rattle.node_rules.specs.Machine.{ChainEvent, BlockCame, RollbackCame, StrayCame, no_tip, verdict_by}
 use Rattle.bridge_forest.specs.Blocks.{all_restored}
@@ -149,7 +149,7 @@ proof_by H es hs numbers =
 
 abbrev pub message_by : List Outside → BlockProof → Option (List ℕ)
 message_by [] p = None
-message_by (at ∷ ext) p = Some (message_text p)
+message_by (at ∷ ext) p = Some (message_text (in_full p))
 
 abbrev pub told_if : Option Refusal → Option (List ℕ) → Option (List ℕ)
 told_if None message = message

@@ -6,6 +6,7 @@ ghost use Rattle.forest_model.specs.Standing.{digest_at};
 ghost use Rattle.leaf_record.specs.History.{somes};
 ghost use Rattle.proof_wire.specs.BlockProof.{targets_of};
 ghost use Rattle.node_rules.specs.Accepting.{shape_fault};
+ghost use Rattle.node_rules.specs.Messages.{in_full};
 ghost use Rattle.bridge_forest.specs.State.{is_live};
 ghost use Rattle.output_index.specs.Held.{leaf_at};
 ghost use Rattle.bridge_prover.specs.Bridge.{target_of, spend_of, spends_by, proof_by, message_by};
@@ -37,7 +38,7 @@ fn put_spend<D: Digester>(
     number: u64,
 ) -> Result<(), NoMemory>
     requires { is_live forest.now.entries number ≡ true }
-    ensures message { OnOk result (message.new ≡ record { spends = message.old.spends ++ spends_by forest.now.entries outputs.now (number ∷ []); hashes = message.old.hashes }) }
+    ensures message { OnOk result (message.new ≡ record { lean = message.old.lean; proof = record { spends = message.old.proof.spends ++ spends_by forest.now.entries outputs.now (number ∷ []); hashes = message.old.proof.hashes } }) }
     ensures positions { OnOk result (positions.new.items ≡ positions.old.items ++ targets_of (spends_by forest.now.entries outputs.now (number ∷ []))) }
 {
     match outputs.output(number) {
@@ -56,7 +57,7 @@ fn put_hash<D: Digester>(
     forest: &Forest<D>,
     place: Place,
 ) -> Result<(), NoMemory>
-    ensures { OnOk result (message.new ≡ record { spends = message.old.spends; hashes = message.old.hashes ++ somes (digest_at D.digest_of forest.now.entries place.row place.off ∷ []) }) }
+    ensures { OnOk result (message.new ≡ record { lean = message.old.lean; proof = record { spends = message.old.proof.spends; hashes = message.old.proof.hashes ++ somes (digest_at D.digest_of forest.now.entries place.row place.off ∷ []) } }) }
 {
     match forest.digest_at(place) {
         Some(digest) => message.push_hash(digest)?,
@@ -91,9 +92,9 @@ pub(crate) fn message_of<D: Digester>(
     requires live { All (λ i. is_live forest.now.entries i ≡ true) numbers.now }
     requires short { length numbers.now < 2 ^ 32 }
     requires shape { shape_fault (length forest.now.entries) [] 0 (map (place_at (length forest.now.entries)) (targets_of (spends_by forest.now.entries outputs.now numbers.now))) ≡ None }
-    ensures { IfOk result (λ m. m ≡ proof_by D.digest_of forest.now.entries outputs.now numbers.now) }
+    ensures { IfOk result (λ m. m ≡ in_full (proof_by D.digest_of forest.now.entries outputs.now numbers.now)) }
 {
-    let mut message = Message::new(alloc);
+    let mut message = Message::new(alloc, false);
     let mut positions = Vec::with_capacity(alloc, numbers.len())?;
     for number in numbers {
         put_spend::<D>(&mut message, &mut positions, forest, outputs, *number)?;

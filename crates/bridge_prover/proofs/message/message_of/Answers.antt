@@ -6,6 +6,7 @@ use Rattle.forest_model.specs.Cover.{need}
 use Rattle.forest_model.specs.Standing.{digest_at}
 use Rattle.leaf_record.specs.History.{somes}
 use Rattle.proof_wire.specs.BlockProof.{BlockProof}
+use Rattle.node_rules.specs.Messages.{in_full}
 use Rattle.node_rules.specs.Accepting.{shape_fault}
 use Rattle.bridge_prover.specs.Bridge.{spends_by}
 use Rattle.bridge_prover.proofs.Showing.{shown_more, hash_more, whole_proof, shown_all, shown_few}
@@ -46,5 +47,5 @@ returns g c =
     let n = c.leaves.ensures.is in
     let ts = c.in_ok-targets.targets.targets in
     let needed : c.needed-place-items.result.now ≡ need (length es) ts = c.needed-place-items.ensures ∙ ap (λ m. need m ts) (c.in_ok-targets.ensures.0 ∙ n) in
-    let whole = ap (λ ps. (let p : BlockProof = record { spends = spends_by es c.args.outputs.now c.args.numbers.now; hashes = somes (map (λ q. digest_at g.D.Digester.digest_of es q.row q.off) ps) } in p)) (take_all c.loop-place.place-index c.needed-place-items.result.now (omega (arith, c.loop-place-test.false)) ∙ needed) in
+    let whole = ap (λ ps. (let p : BlockProof = record { spends = spends_by es c.args.outputs.now c.args.numbers.now; hashes = somes (map (λ q. digest_at g.D.Digester.digest_of es q.row q.off) ps) } in in_full p)) (take_all c.loop-place.place-index c.needed-place-items.result.now (omega (arith, c.loop-place-test.false)) ∙ needed) in
     whole_proof g.D.Digester.digest_of es c.args.outputs.now c.args.numbers.now c.deref.result.now ts c.loop-place.message at (subst (λ m. map (place_at m) c.deref.result.now ≡ map Some ts) n c.in_ok-targets.ensures.1) (c.loop-place.invariant ∙ whole)
