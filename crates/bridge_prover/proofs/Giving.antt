@@ -1,12 +1,12 @@
 -- What undoes the newest blocks, while the index changes and records are dropped.
-use Rattle.std.proofs.Common.{◌≡◌, ◌≢◌, ℕ, zero, suc, ◌+◌, ◌<◌, ◌≤◌, Bool, true, false, List, [], ◌∷◌, ◌++◌, map, set, length, take, get_or, Option, Some, None, refl, sym, ap, ap₂, ◌∙◌, subst, ⊎_elim, arith}
-use Rattle.std.specs.Prelude.{slice_get, option_map, unwrap_or, AllPairs, All}
+use Rattle.std.proofs.Common.{◌≡◌, ◌≢◌, ℕ, zero, suc, ◌+◌, ◌<◌, ◌≤◌, true, false, List, [], ◌∷◌, ◌++◌, map, set, length, take, get_or, Option, Some, None, refl, sym, ap, ap₂, ◌∙◌, subst, ⊎_elim, arith}
+use Rattle.std.specs.Prelude.{slice_get, option_map, AllPairs}
 use Rattle.std.specs.List.{AllByRecursion}
-use Rattle.std.proofs.lemmas.Bool.{cases_Bool, false≢true}
+use Rattle.std.proofs.lemmas.Bool.{cases_Bool}
 use Rattle.std.proofs.lemmas.List.{length-set, length-append, length-map}
 use Rattle.std.proofs.lemmas.Option.{none-some, same_Some, slice_get_within}
 use Rattle.leaf_record.specs.Leaf.{Leaf}
-use Rattle.leaf_record.specs.History.{History, spent, added}
+use Rattle.leaf_record.specs.History.{History, spent}
 use Rattle.leaf_record.proofs.HistoryLaws.{get-spent}
 use Rattle.node_rules.specs.Judging.{history_after}
 use Rattle.node_rules.specs.Machine.{Level}
@@ -17,8 +17,7 @@ use Rattle.output_index.proofs.HeldLaws.{leaf-without_other, spent-without_other
 use Rattle.output_index.proofs.Standing.{live_is_there, forgotten_is_spent, unspent_is_live}
 use Rattle.reorg_undo.specs.Undo.{UndoRecord}
 use Rattle.bridge_prover.specs.Own.{forgotten_in, unspent_in}
-use Rattle.bridge_prover.specs.Bridge.{dropped}
-use Rattle.bridge_prover.specs.Standing.{IsLiveIn, Undoes, AreHeld, GiveBack}
+use Rattle.bridge_prover.specs.Standing.{IsLiveIn, Undoes, GiveBack}
 use Rattle.bridge_prover.proofs.Rising.{all_mapped, all_both, rise-filter, rise-with_live, leaf-with_live, spent-with_other}
 
 -- ---- lists

@@ -1,10 +1,10 @@
 -- The index while a block spends and adds, and while it is undone.
 use Rattle.std.proofs.Common.{◌≡◌, ◌≢◌, ℕ, suc, ◌+◌, ◌<◌, ◌≤◌, Bool, true, false, cond, List, [], ◌∷◌, ◌++◌, length, take, drop, get_or, Some, refl, sym, ap, ◌∙◌, subst, ⊎_elim, arith, ne_eqb, eq-eqb}
 use Rattle.std.specs.Prelude.{◌==◌, ◌&&◌, ◌||◌, not, nat_lt, slice_get, AllPairs}
-use Rattle.std.proofs.lemmas.Bool.{cases_Bool, cases_eq, eqb-true, lt-ltb, le-ltb, ltb-true, ltb-false}
+use Rattle.std.proofs.lemmas.Bool.{cases_Bool, cases_eq, lt-ltb, le-ltb, ltb-true, ltb-false}
 use Rattle.std.proofs.lemmas.List.{drop_more}
 use Rattle.leaf_record.specs.Leaf.{Leaf}
-use Rattle.output_index.specs.Held.{Held, is_live, with_live_at, with_live, without, IsAbove}
+use Rattle.output_index.specs.Held.{Held, is_live, with_live, without, IsAbove}
 use Rattle.bridge_prover.specs.Own.{numbered, spent_in, forgotten_in, cut_in, unspent_in}
 use Rattle.bridge_prover.proofs.Gathering.{took_more}
 

@@ -1,8 +1,8 @@
 -- What a verdict tells of the levels, how many there are, and what a rollback costs.
-use Rattle.std.proofs.Common.{◌≡◌, ℕ, zero, suc, ◌+◌, ◌-◌, ◌*◌, ◌≤◌, ◌^◌, Bool, true, false, List, [], ◌∷◌, map, length, take, drop, Option, Some, None, refl, sym, ap, ap₂, ◌∙◌, subst, arith}
-use Rattle.std.specs.Prelude.{nat_le, slice_get, sum_by, Result, Ok, Err, IfOk, OnOk}
+use Rattle.std.proofs.Common.{◌≡◌, ℕ, zero, suc, ◌+◌, ◌*◌, ◌≤◌, Bool, true, false, List, [], ◌∷◌, map, length, take, drop, Option, Some, None, refl, sym, ap, ap₂, ◌∙◌, subst, arith}
+use Rattle.std.specs.Prelude.{nat_le, slice_get, Result, Ok, Err, IfOk, OnOk}
 use Rattle.std.proofs.lemmas.Bool.{leb-true, leb-false}
-use Rattle.std.proofs.lemmas.List.{length-take, length-drop, length-map}
+use Rattle.std.proofs.lemmas.List.{length-take, length-drop}
 use Rattle.std.proofs.lemmas.List.Sums.{sum_by-cons}
 use Rattle.std.proofs.Math.Nat.{mul-le-mul_left}
 use Rattle.uo_base.specs.declared.event.Event.{Event}
@@ -22,12 +22,11 @@ use Rattle.node_rules.specs.Machine.{ChainEvent, BlockCame, RollbackCame, StrayC
 use Rattle.bridge_forest.proofs.Undoing.{length-restored}
 use Rattle.reorg_undo.specs.Undo.{UndoRecord}
 use Rattle.output_index.specs.Held.{Held}
-use Rattle.compact_node.specs.Node.{gone_to}
 use Rattle.bridge_prover.specs.Own.{own_in}
 use Rattle.bridge_prover.specs.Bridge.{BridgeState, chain_before, chain_back, restored_in, undone_by, gone_back, refusal_on, after_block, bridge_by, verdict_on, next_bridge, message_on, spent_by, record_of}
 use Rattle.bridge_prover.specs.Standing.{GiveBack, IsBridge}
-use Rattle.bridge_prover.specs.Laws.{chains_of, LevelsTold}
-use Rattle.bridge_prover.proofs.Next.{IsAt, at_level}
+use Rattle.bridge_prover.specs.Laws.{LevelsTold}
+use Rattle.bridge_prover.proofs.Next.{at_level}
 use Rattle.bridge_prover.proofs.Refining.{chain-back, give_long, at-back, head_of}
 
 pub map_taken : {X Y : Type 0} (f : X → Y) (k : ℕ) (xs : List X) → map f (take k xs) ≡ take k (map f xs)

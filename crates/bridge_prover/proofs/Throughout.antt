@@ -1,15 +1,12 @@
 -- What holds of one event holds of a list of events.
-use Rattle.std.proofs.Common.{◌≡◌, ℕ, zero, suc, ◌<◌, ◌^◌, Bool, true, false, cond, List, [], ◌∷◌, map, length, Option, Some, None, refl, sym, ap, ap₂, subst, ◌∙◌, ⊎_elim}
+use Rattle.std.proofs.Common.{◌≡◌, ℕ, zero, suc, Bool, true, false, List, [], ◌∷◌, map, length, Option, Some, None, refl, sym, ap, ap₂, subst, ◌∙◌, ⊎_elim}
 use Rattle.std.specs.Prelude.{nat_le, if◌then◌else◌}
 use Rattle.std.proofs.lemmas.Bool.{cases_Bool}
 use Rattle.uo_base.specs.FeedEvent.{FeedEvent}
 use Rattle.uo_base.specs.FeedEvent as Feed
 use Rattle.uo_digest.specs.declared.digest.Digest.{Digest}
 use Rattle.leaf_record.specs.Leaf.{Leaf}
-use Rattle.block_codec.specs.Block.{Block}
-use Rattle.block_codec.specs.Reading.{block_in}
 use Rattle.block_rules.specs.declared.refusal.Refusal.{Refusal}
-use Rattle.block_rules.specs.declared.verdict.Verdict.{Verdict}
 use Rattle.node_rules.specs.Judging.{Rules}
 use Rattle.node_rules.specs.Machine.{ChainEvent, BlockCame, RollbackCame, StrayCame, State, start, event_in, own_judge, is_made, verdict_before, goes_on, verdicts, state_after}
 use Rattle.node_rules.specs.Proving.{passed_on, proved_events}

@@ -1,33 +1,32 @@
 -- The newest block undone: the bridge stands for the levels without the newest.
-use Rattle.std.proofs.Common.{◌≡◌, ◌≢◌, ℕ, zero, suc, ◌+◌, ◌<◌, ◌≤◌, Bool, true, false, List, [], ◌∷◌, ◌++◌, map, length, take, get_or, Option, Some, None, refl, sym, ap, ◌∙◌, subst, arith}
-use Rattle.std.specs.Prelude.{◌==◌, ◌||◌, slice_get, option_map, is_some, All, AllPairs}
+use Rattle.std.proofs.Common.{◌≡◌, ℕ, zero, suc, ◌+◌, ◌<◌, ◌≤◌, Bool, true, false, List, [], ◌∷◌, ◌++◌, map, length, take, get_or, Option, Some, None, refl, sym, ap, ◌∙◌, subst, arith}
+use Rattle.std.specs.Prelude.{◌==◌, ◌||◌, slice_get, option_map, is_some}
 use Rattle.std.specs.List.{AllByRecursion, list_any}
 use Rattle.std.proofs.lemmas.List.{length-map, length-append, length-take, append-nil, get_or-take}
-use Rattle.std.proofs.lemmas.Option.{none-some, same_Some, slice_get_within}
+use Rattle.std.proofs.lemmas.Option.{same_Some, slice_get_within}
 use Rattle.uo_digest.specs.declared.digest.Digest.{Digest}
 use Rattle.forest_model.specs.Right.{entries}
 use Rattle.forest_model.specs.Deletion.{entries_without}
 use Rattle.leaf_record.specs.Leaf.{Leaf}
 use Rattle.leaf_record.specs.History.{History, somes, spent}
 use Rattle.block_rules.specs.declared.chain.Chain.{Chain}
-use Rattle.node_rules.specs.Judging.{history_after}
-use Rattle.node_rules.specs.Machine.{Level, State, back}
+use Rattle.node_rules.specs.Machine.{Level}
 use Rattle.node_rules.proofs.Righting.{got_back, got_entry}
 use Rattle.bridge_forest.specs.State as forest
 use Rattle.bridge_forest.specs.Blocks.{all_restored}
 use Rattle.bridge_forest.proofs.Undoing.{undone}
-use Rattle.output_index.specs.Held.{Held, IsAbove, is_live, is_spent, leaf_at, NumbersRise}
+use Rattle.output_index.specs.Held.{Held, IsAbove, is_spent, leaf_at, NumbersRise}
 use Rattle.output_index.specs.Indexed.{IsIndexOf}
 use Rattle.output_index.proofs.Standing.{taken_back_is_gone, there_is_live}
 use Rattle.reorg_undo.specs.Undo.{UndoRecord}
-use Rattle.bridge_prover.specs.Own.{cut_in, unspent_in}
-use Rattle.bridge_prover.specs.Bridge.{BridgeState, chain_back, restored_at, restored_in, undone_by, gone_back}
+use Rattle.bridge_prover.specs.Own.{cut_in}
+use Rattle.bridge_prover.specs.Bridge.{BridgeState, restored_at, restored_in, undone_by}
 use Rattle.bridge_prover.specs.Judged.{CanUndo}
-use Rattle.bridge_prover.specs.Standing.{IsLiveIn, Undoes, AreHeld, GiveBack, Stands, IsBridge}
+use Rattle.bridge_prover.specs.Standing.{IsLiveIn, Undoes, AreHeld, GiveBack}
 use Rattle.bridge_prover.proofs.Indexing.{append_same, cut_all, cut_above, cut_step}
 use Rattle.bridge_prover.proofs.Owning.{all_index}
 use Rattle.bridge_prover.proofs.Rising.{all_mapped, all_both, rise-filter, rise-unspent, above-unspent, leaf-unspent, leaf-cut}
-use Rattle.bridge_prover.proofs.Giving.{length-spent, length-after, differ_from, IsGone, spent_gone, all_gone, give_held, spent_there, WasLive, index-unspent, older_few}
+use Rattle.bridge_prover.proofs.Giving.{length-spent, length-after, differ_from, IsGone, spent_gone, all_gone, give_held, spent_there, WasLive, index-unspent}
 use Rattle.bridge_prover.proofs.Next.{IsAt, entries-then}
 
 -- ---- lists

@@ -16,7 +16,7 @@ use Rattle.bridge_forest.specs.State as forest
 use Rattle.output_index.specs.Held.{Held, is_live, is_spent}
 use Rattle.reorg_undo.specs.Undo.{UndoRecord}
 use Rattle.bridge_prover.specs.Own.{newest_in, missing_in, leaves_in, own_in, numbered, spent_in, cut_in}
-use Rattle.bridge_prover.specs.Bridge.{BridgeState, refusal_on, spends_by, proof_by, message_by, bridge_with, after_block, dropped, undone_by}
+use Rattle.bridge_prover.specs.Bridge.{BridgeState, refusal_on, spends_by, proof_by, message_by, bridge_with, after_block, dropped}
 use Rattle.bridge_prover.specs.Standing.{IsBridge}
 
 -- the first external input of which no live entry is held

@@ -7,7 +7,7 @@ use Rattle.uo_digest.specs.declared.digest.Digest.{Digest}
 use Rattle.leaf_record.specs.Leaf.{Leaf}
 use Rattle.block_rules.specs.declared.verdict.Verdict.{Verdict}
 use Rattle.node_rules.specs.Judging.{Rules}
-use Rattle.node_rules.specs.Machine.{ChainEvent, State, start, event_in, own_judge, is_made, chain_of, verdicts, state_after}
+use Rattle.node_rules.specs.Machine.{ChainEvent, State, start, event_in, own_judge, is_made, verdicts, state_after}
 use Rattle.node_rules.specs.Proving.{proved_events}
 use Rattle.bridge_prover.specs.Bridge.{BridgeState, fresh_bridge, verdict_on, next_bridge, message_on}
 use Rattle.bridge_prover.specs.Standing.{IsBridge, Stands}

@@ -1,4 +1,4 @@
-use Rattle.std.proofs.Common.{◌≡◌, ◌+◌, ◌*◌, ◌<◌, ◌≤◌, ◌∷◌, [], length, get_or, ap, sym, ◌∙◌, subst, arith}
+use Rattle.std.proofs.Common.{◌≡◌, ◌+◌, ◌≤◌, ◌∷◌, [], length, get_or, ap, ◌∙◌, subst, arith}
 use Rattle.forest_place.specs.Position.{rows}
 use Rattle.leaf_record.specs.Leaf.{leaf_text}
 use Rattle.bridge_forest.specs.State.{is_live}
