@@ -11,7 +11,3 @@ pub mod Deciding
 pub mod Refining
 pub mod Telling
 pub mod Throughout
-pub mod Righted
-pub mod Historied
-pub mod Taking
-pub mod Fully

@@ -1,6 +1,6 @@
 -- A bridge says and does what the proving node says and does, and stays a bridge.
-use Rattle.std.proofs.Common.{◌≡◌, ℕ, zero, suc, ◌+◌, ◌<◌, ◌≤◌, ◌^◌, Bool, true, false, List, [], ◌∷◌, length, Option, Some, None, refl, sym, ap, ap₂, ◌∙◌, subst, ⊎_elim, arith}
-use Rattle.std.specs.Prelude.{nat_le, option_map, slice_get, take, drop, if◌then◌else◌}
+use Rattle.std.proofs.Common.{◌≡◌, ℕ, zero, suc, ◌<◌, ◌≤◌, ◌^◌, Bool, true, false, List, [], ◌∷◌, length, Option, Some, None, refl, sym, ap, ap₂, ◌∙◌, subst, ⊎_elim, arith}
+use Rattle.std.specs.Prelude.{nat_le, slice_get, take, drop, if◌then◌else◌}
 use Rattle.std.proofs.lemmas.Bool.{cases_Bool, leb-true}
 use Rattle.std.proofs.lemmas.Option.{none-some, same_Some}
 use Rattle.uo_base.specs.declared.event.Limits.{Limits}
@@ -18,7 +18,7 @@ use Rattle.block_rules.specs.declared.verdict.Verdict.{Verdict}
 use Rattle.block_rules.specs.declared.verdict.Verdict.TheVariants.{Accepted, RolledBack, TooDeep}
 use Rattle.block_rules.specs.Blocks.{external, new_records}
 use Rattle.node_rules.specs.Reading.{Handed}
-use Rattle.node_rules.specs.Judging.{Rules, Evidence, own, refusal, message_of, proof_of}
+use Rattle.node_rules.specs.Judging.{Rules, Evidence, own, refusal, proof_of}
 use Rattle.node_rules.specs.Machine.{ChainEvent, BlockCame, RollbackCame, StrayCame, Level, State, Outcome, chain_of, height_of, back, by_refusal, is_made, verdict_by}
 use Rattle.node_rules.specs.Proving.{written_text, text_beside}
 use Rattle.bridge_forest.specs.Blocks.{all_restored}
@@ -28,12 +28,12 @@ use Rattle.compact_node.specs.Node.{gone_to}
 use Rattle.bridge_prover.specs.Own.{own_in, cut_in, unspent_in}
 use Rattle.bridge_prover.specs.Bridge.{BridgeState, fresh_bridge, refusal_on, chain_before, chain_back, restored_in, verdict_on, bridge_with, bridge_by, after_block, undone_by, gone_back, next_bridge, proof_by, message_by, told_if, message_on}
 use Rattle.bridge_prover.specs.Judged.{CanUndo}
-use Rattle.bridge_prover.specs.Standing.{Undoes, GiveBack, Stands, IsBridge}
-use Rattle.bridge_prover.specs.Laws.{own_outcome, text_by, own_text, IsAsOwn, BridgeIsOwn, FreshStands, FreshIsBridge, NextIsBridge}
+use Rattle.bridge_prover.specs.Standing.{GiveBack, Stands, IsBridge}
+use Rattle.bridge_prover.specs.Laws.{own_outcome, text_by, BridgeIsOwn, FreshStands, FreshIsBridge, NextIsBridge}
 use Rattle.bridge_prover.proofs.Giving.{length-after, older_few}
 use Rattle.bridge_prover.proofs.Owning.{own_same, proof_same}
-use Rattle.bridge_prover.proofs.Next.{IsAt, at_level, at-then, own_live, own_apart, next_is}
-use Rattle.bridge_prover.proofs.Undoing.{IsLast, at-undone, can_undo}
+use Rattle.bridge_prover.proofs.Next.{IsAt, at_level, at-then, next_is}
+use Rattle.bridge_prover.proofs.Undoing.{at-undone, can_undo}
 
 pub fresh_stands : FreshStands
 fresh_stands H text net limits = record { chain = refl; entries = refl; index = refl; undo = tt }
@@ -221,7 +221,7 @@ module _ (H : List ℕ → Digest) (text : Leaf → List ℕ) (rules : Rules) (t
           let proof : proof_by H (entries H text us) hs evidence.numbers ≡ proof_of H text None us ext = ap (proof_by H (entries H text us) hs) (sym numbers) ∙ proof_same hs us at.rise at.stands.index H text ext in (
             ap (λ n. Some (Accepted t.now.blocks (block_hash_of b) n)) long,
             ap (message_by ext) proof ∙ same_text ext (proof_of H text None us ext),
-            (at-then H text t bridge at evidence.numbers new (own_live H text t bridge at b passes) (own_apart H text t bridge at b passes) (block_hash_of b)).stands,
+            (at-then H text t bridge at b passes (block_hash_of b)).stands,
           )
 
       at_block : (handed : Handed) → Follows bridge (BlockCame (Some b) handed)

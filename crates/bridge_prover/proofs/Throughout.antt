@@ -28,7 +28,7 @@ module _ (H : List ℕ → Digest) (text : Leaf → List ℕ) where
   back_rules zero s = refl
   back_rules (suc k) s = back_rules k (undone_by H text s.undo s) ∙ undone_rules s.undo s
 
-  pub kept_rules : (s : BridgeState) (e : ChainEvent) → (next_bridge H text s e).rules ≡ s.rules
+  kept_rules : (s : BridgeState) (e : ChainEvent) → (next_bridge H text s e).rules ≡ s.rules
   kept_rules s (BlockCame None handed) = refl
   kept_rules s (BlockCame (Some b) handed) = by (refusal_on s b)
     where

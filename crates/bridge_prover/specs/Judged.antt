@@ -29,16 +29,14 @@ pub record AreFound (hs : List Held) (ext : List Outside) (numbers : List ℕ) (
   pub passes : first_missing hs ext ≡ None
   pub are : found ≡ map (λ leaf. found_of leaf.rest) (leaves_in hs numbers)
 
--- the places of these entries have shape
-abbrev pub HaveShape : BridgeState → List ℕ → Type 0
-HaveShape s numbers = shape_fault (length s.entries) [] 0 (map (place_at (length s.entries)) (targets_of (spends_by s.entries s.held numbers))) ≡ None
-
--- all that has to hold so that a block may be taken which spends these entries: they are live and different, there is room, what can be forgotten then is spent, and what the bridge keeps then is again what a bridge keeps
+-- all that has to hold so that a block may be taken which spends these entries: they are live and different, their places have
+-- shape, there is room, what can be forgotten then is spent, and what the bridge keeps then is again what a bridge keeps
 pub record IsReady (H : List ℕ → Digest) (text : Leaf → List ℕ) (s : BridgeState) (hash : Digest) (numbers : List ℕ) (new : List Leaf) : Type 0 where
   pub live : All (λ i. forest.is_live s.entries i ≡ true) numbers
   pub held : All (λ i. is_live i s.held ≡ true) numbers
   pub apart : AllPairs (λ i j. i ≢ j) numbers
   pub short : length numbers < 2 ^ 32
+  pub shape : shape_fault (length s.entries) [] 0 (map (place_at (length s.entries)) (targets_of (spends_by s.entries s.held numbers))) ≡ None
   pub counted : length s.entries ≡ s.chain.leaves
   pub few : s.chain.leaves + length new < 2 ^ 40
   pub low : s.chain.blocks < 2 ^ 31

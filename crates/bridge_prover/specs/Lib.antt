@@ -3,9 +3,6 @@ pub mod Own
 pub mod Bridge
 pub mod Standing
 pub mod Laws
-pub mod Full
 pub mod Throughout
 -- what only this crate's own proofs and private functions cite
 pub mod Judged
-pub mod Shown
-pub mod Taken

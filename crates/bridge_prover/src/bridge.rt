@@ -6,8 +6,6 @@ ghost use Rattle.leaf_record.specs.Leaf.{leaf_text};
 ghost use Rattle.node_rules.specs.Machine.{height_of};
 ghost use Rattle.uo_base.specs.FeedEvent.{event_of};
 
-mod judge;
-
 use crate::entries::{digests_of, restore_all};
 use crate::find::{found_by, numbers_of};
 use crate::held::{cut, insert_all, keep, spend_all, undo_of, unspend_all};
@@ -71,7 +69,7 @@ impl<D: Digester> Bridge<D> {
     ghost use Rattle.compact_node.specs.Judged.{IsFirst};
     ghost use Rattle.compact_node.specs.Node.{IsShort, gone_to};
     ghost use Rattle.bridge_prover.specs.Bridge.{bridge_with, fresh_bridge, gone_back, message_by, message_on, most_steps, next_bridge, proof_by, refusal_on, spent_by, undone_by, verdict_on};
-    ghost use Rattle.bridge_prover.specs.Judged.{AreFound, HaveShape, IsProved, IsReady, first_missing};
+    ghost use Rattle.bridge_prover.specs.Judged.{AreFound, IsProved, IsReady, first_missing};
     ghost use Rattle.bridge_prover.specs.Laws.{LevelsTold, SaysAsOwn};
     ghost use Rattle.bridge_prover.specs.Standing.{IsBridge};
 
@@ -102,20 +100,6 @@ impl<D: Digester> Bridge<D> {
         ensures bridge { IsBridge D.digest_of leaf_text self.now }
     {
         self.chain
-    }
-
-    /// The network whose rules it keeps.
-    pub fn net(&self) -> Net
-        ensures { result ≡ self.now.rules.net }
-    {
-        self.net
-    }
-
-    /// The limits that it keeps.
-    pub fn limits(&self) -> Limits
-        ensures { result ≡ self.now.rules.limits }
-    {
-        self.limits
     }
 
     /// By how many blocks the bridge can go back.
@@ -233,8 +217,7 @@ impl<D: Digester> Bridge<D> {
         };
     }
 
-    // Goes on by a block that spends these entries, and answers the message that shows them, or leaves all as it was where there
-    // is no memory.
+    // Goes on by a block that spends these entries, or leaves all as it was where there is no memory.
     fn extend<L: Ledger>(
         &mut self,
         hash: Digest,
@@ -242,8 +225,7 @@ impl<D: Digester> Bridge<D> {
         numbers: Vec<u64>,
         steps: &mut Steps<L>,
     ) -> Result<Option<Vec<u8>>, NoMemory>
-        requires ready { IsReady D.digest_of leaf_text self.old hash numbers.items spends.now.new }
-        requires shape { HaveShape self.old numbers.items }
+        requires { IsReady D.digest_of leaf_text self.old hash numbers.items spends.now.new }
         ensures says { IfOk result (λ m. option_map (λ bytes. bytes.items) m ≡ message_by spends.now.external (proof_by D.digest_of self.old.entries self.old.held numbers.items)) }
         ensures next { OnOk result (self.new ≡ bridge_with D.digest_of leaf_text self.old hash numbers.items spends.now.new) }
         ensures stays { OnErr result (self.new ≡ self.old) }
@@ -256,23 +238,6 @@ impl<D: Digester> Bridge<D> {
             spends.external(),
             &numbers,
         )?;
-        self.take_in(hash, spends, numbers, steps)?;
-        Ok(message)
-    }
-
-    // The same with no message.
-    fn take_in<L: Ledger>(
-        &mut self,
-        hash: Digest,
-        spends: &Spends<'_>,
-        numbers: Vec<u64>,
-        steps: &mut Steps<L>,
-    ) -> Result<(), NoMemory>
-        requires { IsReady D.digest_of leaf_text self.old hash numbers.items spends.now.new }
-        ensures next { OnOk result (self.new ≡ bridge_with D.digest_of leaf_text self.old hash numbers.items spends.now.new) }
-        ensures stays { OnErr result (self.new ≡ self.old) }
-        ensures steps { steps.new ≤ steps.old + length numbers.items * rows (length self.old.entries) + 2 * length spends.now.new + 40 }
-    {
         let digests = digests_of::<D, L>(self.alloc, &mut self.room, spends, steps)?;
         self.forest.reserve(digests.len() as u64)?;
         insert_all(self.alloc, &mut self.outputs, self.chain.leaves, spends)?;
@@ -286,7 +251,7 @@ impl<D: Digester> Bridge<D> {
             tip: hash,
             leaves: self.chain.leaves + digests.len() as u64,
         };
-        Ok(())
+        Ok(message)
     }
 
     // Judges a block, and goes on where it breaks no rule.

@@ -14,15 +14,12 @@ mod bridge;
 mod entries;
 mod find;
 mod held;
-mod judged;
 mod laws;
 mod message;
-mod shown;
 #[cfg(test)]
 mod tests;
 
 pub use bridge::{Bridge, Proved};
-pub use judged::Judged;
 pub use laws::{
     bridge_is_own, bridge_proves_throughout, fresh_proves_throughout, fresh_stands, next_is_bridge,
     verdicts_tell_levels,

@@ -1,4 +1,0 @@
-pub mod Throughout
-pub mod Supplying
-pub mod Auditing
-pub mod Clashing
