@@ -2,13 +2,21 @@ use Rattle.std.proofs.Common.{◌≡◌, None, sym, ap, ◌∙◌, subst, length
 use Rattle.leaf_record.specs.Leaf.{leaf_text}
 use Rattle.block_rules.specs.Steps.{first_of}
 use Rattle.block_rules.specs.Money.{money_steps}
+use Rattle.compact_node.specs.Judged.{IsFirst}
 use Rattle.compact_node.proofs.Deciding.{handed_on}
-use Rattle.bridge_prover.specs.Judged.{AreFound}
-use Rattle.bridge_prover.proofs.Deciding.{shape_refused, money_refused_by, found_count, ready_by, proved_by, steps_by}
+use Rattle.bridge_prover.specs.Judged.{AreFound, first_missing}
+use Rattle.bridge_prover.proofs.Deciding.{shape_refused, missing_refused, money_refused_by, found_count, ready_by, proved_by, steps_by}
 use Rattle.bridge_prover.proofs.bridge.Bridge.pass.Goals as goal
 
 pub returns-in_err-spends-clause-err : goal.returns-in_err-spends-clause-err
 returns-in_err-spends-clause-err g c = handed_on _ _ c.in_err-spends.field-0.0 c.from_residual.ensures.1 (shape_refused c.args.self.now c.args.block.now c.in_err-spends.field-0.0 c.in_err-spends.ensures.judged)
+
+pub returns-in_err-numbers-clause-err : goal.returns-in_err-numbers-clause-err
+returns-in_err-numbers-clause-err g c =
+    let fault = c.in_err-numbers.field-0.0 in
+    handed_on _ _ fault c.from_residual-in_err-numbers.ensures.1
+    (missing_refused c.args.self.now c.args.block.now c.in_ok-spends.spends c.in_ok-spends.ensures.judged fault
+    (subst (λ ext. IsFirst (first_missing c.args.self.now.held ext) fault) c.external.ensures c.in_err-numbers.ensures.err))
 
 pub money_rules-requires : goal.money_rules-requires
 money_rules-requires g c =
