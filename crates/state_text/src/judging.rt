@@ -41,7 +41,7 @@ fn judge_kept(watch: &Watch, n: u64, kept: &[StoredEntry]) -> Result<(), StateFa
 
 fn leaves_of<D: Digester, L: Ledger>(
     alloc: Global,
-    room: &mut LeafBuf,
+    room: &mut LeafBuf<D>,
     kept: &[StoredEntry],
     steps: &mut Steps<L>,
 ) -> Result<Vec<Digest>, NoMemory>
@@ -94,7 +94,7 @@ fn judge_level<D: Digester, L: Ledger>(
     alloc: Global,
     watch: &Watch,
     level: SpelledLevel<D>,
-    room: &mut LeafBuf,
+    room: &mut LeafBuf<D>,
     steps: &mut Steps<L>,
 ) -> Result<StoredLevel<D>, StateFault>
     ensures { MatchResult result (λ l. IsMadeLevel D.digest_of watch.now level l) (λ e. claims e (IsLevel D.digest_of watch.now level → ⊥)) }

@@ -1,5 +1,5 @@
 -- What `prove` writes of a feed is what a bridge says and passes on, and that is what the proving node says and passes on.
-use Rattle.std.proofs.Common.{◌≡◌, ℕ, suc, ◌+◌, ◌<◌, ◌^◌, Bool, true, false, cond, ◌||◌, List, [], ◌∷◌, ◌++◌, length, map, Option, Some, None, Result, Ok, Err, IfOk, refl, sym, ap, subst, ◌∙◌, arith}
+use Rattle.std.proofs.Common.{◌≡◌, ℕ, suc, ◌+◌, ◌<◌, ◌^◌, Bool, true, false, cond, ◌||◌, List, [], ◌∷◌, ◌++◌, length, map, Option, Some, None, Result, Ok, Err, IfOk, OnOk, refl, sym, ap, subst, ◌∙◌, arith}
 use Rattle.std.specs.List.{flat_map, list_any, AllByRecursion}
 use Rattle.std.specs.Io.KnownBytes.{Appends}
 use Rattle.std.proofs.lemmas.List.{map-append}
@@ -53,23 +53,24 @@ module _ (H : List ℕ → Digest) where
   said-told [] p = refl
   said-told (event ∷ events) p = ap (λ l. proved_line p event ++ l) (said-told events (next_prover H p event))
 
-  -- the frames of one event
-  one_sent : (p : ProverState) (event : FeedEvent) (later : List FeedEvent) (made : Bool) → is_made (Some (verdict_on p.bridge (event_in event))) ≡ made
-      → proved_frames H p event ++ feed_text p.net later ≡ feed_text p.net (cond made (passed_by H p.bridge event ∷ later) later)
-  unfolding proved_frames proved_of
-  one_sent p (BlockCame block handed) later true e = rw e refl
-  one_sent p (RollbackCame count) later true e = rw e refl
-  one_sent p StrayCame later true e = rw e refl
-  one_sent p (BlockCame block handed) later false e = rw e refl
-  one_sent p (RollbackCame count) later false e = rw e refl
-  one_sent p StrayCame later false e = rw e refl
+  passed-beside : (s : BridgeState) (event : FeedEvent) → passed_by H s event ≡ beside (message_on H s (event_in event)) event
+  passed-beside s (BlockCame block handed) = refl
+  passed-beside s (RollbackCame count) = refl
+  passed-beside s StrayCame = refl
+
+  -- the frames of one event, before those of later ones
+  frames-if : (made : Bool) (net : Net) (written passed : FeedEvent) (later : List FeedEvent) → event_text net written ≡ event_text net passed
+      → cond made (event_text net written) [] ++ feed_text net later ≡ feed_text net (cond made (passed ∷ later) later)
+  frames-if true net written passed later e = ap (λ w. w ++ feed_text net later) e
+  frames-if false net written passed later e = refl
 
   sent-told : (events : List FeedEvent) (p : ProverState) → sent_by (prove_machine H) p events ≡ feed_text p.net (passed_by_bridge H leaf_text p.bridge events)
-  unfolding next_prover
+  unfolding next_prover proved_frames proved_of
   sent-told [] p = refl
   sent-told (event ∷ events) p =
       ap (λ w. proved_frames H p event ++ w) (sent-told events (next_prover H p event))
-      ∙ one_sent p event (passed_by_bridge H leaf_text (next_bridge H leaf_text p.bridge (event_in event)) events) _ refl
+      ∙ frames-if (is_made (Some (verdict_on p.bridge (event_in event)))) p.net (beside (message_on H p.bridge (event_in event)) event) (passed_by H p.bridge event)
+      (passed_by_bridge H leaf_text (next_bridge H leaf_text p.bridge (event_in event)) events) (ap (event_text p.net) (sym (passed-beside p.bridge event)))
 
   module _ (limits : Limits) (net : Net) (few : limits.leaves < 2 ^ 40) where
     served-fresh : (feed : List ℕ) → served_feed (prove_machine H) (fresh_prover net limits) net limits.bytes feed ≡ prove_answer H limits net feed
@@ -132,11 +133,6 @@ module _ (H : List ℕ → Digest) where
         behind true first later h = h.1
         behind false first later h = h
 
-  passed-beside : (s : BridgeState) (event : FeedEvent) → passed_by H s event ≡ beside (message_on H s (event_in event)) event
-  passed-beside s (BlockCame block handed) = refl
-  passed-beside s (RollbackCame count) = refl
-  passed-beside s StrayCame = refl
-
   pub passed-short : ((x : List ℕ) → length (H x).0 ≡ 32) → (p : ProverState) (event : FeedEvent) → AreEventBytes event → IsReached H p → is_made (Some (proved_of p event)) ≡ true
       → CanBeWritten (beside (message_on H p.bridge (event_in event)) event)
   unfolding proved_of
@@ -164,3 +160,9 @@ module _ (served of_feed : List ℕ → Answer) (is : (feed : List ℕ) → serv
 
   pub StaysWithin-same : StaysWithin served feed report report' out out' → StaysWithin of_feed feed report report' out out'
   StaysWithin-same e = record { text = e.text; told = e.told; reported = subst (λ a. AppendsPart report report' a.report) (is e.text) e.reported; sent = subst (λ a. AppendsPart out out' a.out) (is e.text) e.sent }
+
+-- ---- what a call gives where it succeeds
+
+pub OnOk-map : {T E P Q : Type 0} (r : Result T E) → (P → Q) → OnOk r P → OnOk r Q
+OnOk-map (Ok x) f p = f p
+OnOk-map (Err e) f p = tt

@@ -1,11 +1,12 @@
 //! What a run of `prove` keeps from event to event.
 ghost use Rattle.std.specs.Prelude.{◌≡◌, ◌<◌, ◌≤◌, ◌^◌, ◌+◌, ◌++◌, true, map, option_map, Some, None, IfOk, OnOk};
-ghost use Rattle.uo_base.specs.FeedEvent.{event_of};
+ghost use Rattle.uo_base.specs.FeedEvent.{event_of, BlockCame};
 ghost use Rattle.feed_frame.specs.FeedText.{event_text, proof_frame_text};
 ghost use Rattle.compact_node.specs.Node.{IsShort};
 ghost use Rattle.node_rules.specs.Fitting.{AreEventBytes};
 ghost use Rattle.node_rules.specs.Machine.{event_in, is_made};
-ghost use Rattle.node_rules.specs.Proving.{CanBeWritten};
+ghost use Rattle.node_rules.specs.Proving.{CanBeWritten, IsShortMessage};
+ghost use Rattle.uo_base.specs.Reading.{IsBytes};
 ghost use Rattle.bridge_prover.specs.Bridge.{message_on};
 ghost use Rattle.utreexo.specs.Prover.{ProverState, fresh_prover, proved_of, next_prover, beside, made_frames, prove_machine};
 
@@ -98,6 +99,7 @@ impl<D: Digester> EventHandler for Prover<D> {
 
     ghost machine = { prove_machine D.digest_of };
 
+    #[tactic(auto, unfolding(crate::specs::Prover::proved_line))]
     fn take<L: Ledger>(
         &mut self,
         event: Event<'_>,
@@ -105,10 +107,11 @@ impl<D: Digester> EventHandler for Prover<D> {
         said: &mut Vec<u8>,
         steps: &mut Steps<L>,
     ) -> Result<(), NoMemory> {
+        let (alloc, net) = (self.alloc, self.net);
         check_bytes(&event);
         let proved = self.tell(event, steps)?;
-        push_made(self.net, event, &proved, sent)?;
-        line_of(self.alloc, &proved.verdict, said)
+        push_made(net, event, &proved, sent)?;
+        line_of(alloc, &proved.verdict, said)
     }
 
     fn is_over(&self) -> bool {
@@ -127,8 +130,14 @@ fn check_bytes(event: &Event<'_>)
     ensures { AreEventBytes (event_of event.now) }
 {
     if let Event::Block { block, .. } = event {
-        let _length = block.len();
+        check_block(block);
     }
+}
+
+fn check_block(block: &[u8])
+    ensures { IsBytes block.now }
+{
+    let _length = block.len();
 }
 
 // Appends the frames of an event that was accepted or made.
@@ -141,11 +150,25 @@ fn push_made(
     requires { is_made (Some proved.now.verdict) ≡ true → CanBeWritten (beside (option_map (λ bytes. bytes.items) proved.now.message) (event_of event)) }
     ensures { OnOk result (sent.new.bytes.items ≡ sent.old.bytes.items ++ made_frames net proved.now.verdict (option_map (λ bytes. bytes.items) proved.now.message) (event_of event.entry)) }
 {
-    if !is_made(&proved.verdict) {
-        return Ok(());
+    if is_made(&proved.verdict) {
+        push_event(net, event, proved, sent)
+    } else {
+        Ok(())
     }
+}
+
+// Appends the frames of an event, with the message of the bridge.
+fn push_event(
+    net: Net,
+    event: Event<'_>,
+    proved: &Proved,
+    sent: &mut Piece,
+) -> Result<(), NoMemory>
+    requires { CanBeWritten (beside (option_map (λ bytes. bytes.items) proved.now.message) (event_of event)) }
+    ensures { OnOk result (sent.new.bytes.items ≡ sent.old.bytes.items ++ event_text net (beside (option_map (λ bytes. bytes.items) proved.now.message) (event_of event.entry))) }
+{
     match event {
-        Event::Block { block, .. } => push_proved(net, block, proved.message.as_ref(), sent),
+        Event::Block { block, .. } => push_proved(net, block, proved, sent),
         Event::Rollback { count } => sent.push_rollback(count),
         Event::Stray => Ok(()),
     }
@@ -155,16 +178,25 @@ fn push_made(
 fn push_proved(
     net: Net,
     block: &[u8],
-    message: Option<&Vec<u8>>,
+    proved: &Proved,
     sent: &mut Piece,
 ) -> Result<(), NoMemory>
-    requires { CanBeWritten (BlockCame block.now (option_map (λ bytes. bytes.now.items) message)) }
-    ensures { OnOk result (sent.new.bytes.items ≡ sent.old.bytes.items ++ event_text net (BlockCame block.now (option_map (λ bytes. bytes.now.items) message.entry))) }
+    requires { CanBeWritten (BlockCame block.now (option_map (λ bytes. bytes.items) proved.now.message)) }
+    ensures { OnOk result (sent.new.bytes.items ≡ sent.old.bytes.items ++ event_text net (BlockCame block.now (option_map (λ bytes. bytes.items) proved.now.message))) }
 {
-    if let Some(message) = message {
-        sent.push_proof(message)?;
-    }
+    push_message(proved, sent)?;
     sent.push_block(net, block)
+}
+
+// Appends the frame of the message, where there is one.
+fn push_message(proved: &Proved, sent: &mut Piece) -> Result<(), NoMemory>
+    requires { IsShortMessage (option_map (λ bytes. bytes.items) proved.now.message) }
+    ensures { OnOk result (sent.new.bytes.items ≡ sent.old.bytes.items ++ proof_frame_text (option_map (λ bytes. bytes.items) proved.now.message)) }
+{
+    match &proved.message {
+        Some(message) => sent.push_proof(message),
+        None => Ok(()),
+    }
 }
 
 // What was asked for was done.

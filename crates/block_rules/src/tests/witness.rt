@@ -1,4 +1,8 @@
 //! Blocks that commit to their witnesses, and neighbours of them. The hashes were made by an independent program.
+ghost use Rattle.std.specs.Prelude.{◌≡◌, ◌<◌, ◌≤◌, ◌^◌, length, IfOk};
+ghost use Rattle.std.specs.List.{AllByRecursion};
+ghost use Rattle.tx_codec.specs.Transaction.{IsWritable};
+
 use crate::{Chain, Refusal, RuleFault, WitnessFault, shape_rules, witness_height};
 use block_codec::{commitment, read_block, witness_root};
 use block_samples::{block_behind, coinbase, legacy_tx, witnessed};
@@ -48,7 +52,9 @@ const ROWS: [Row; 13] = [
     Row(&[], &[b"\x51"], None),
 ];
 
-fn tx_of(alloc: Global, row: &Row) -> Result<Tx, NoMemory> {
+fn tx_of(alloc: Global, row: &Row) -> Result<Tx, NoMemory>
+    ensures { IfOk result IsWritable }
+{
     let mut outputs = Vec::new(alloc);
     for script in row.1 {
         outputs.push(OutView { amount: 0, script })?;
@@ -61,20 +67,23 @@ fn tx_of(alloc: Global, row: &Row) -> Result<Tx, NoMemory> {
     }
 }
 
-fn first_chain(blocks: u32) -> Chain {
-    Chain {
+fn fault_of(alloc: Global, text: &[u8], blocks: u32, net: Net) -> Result<Option<RuleFault>, Fail>
+    requires { blocks ≤ 2 ^ 31 }
+{
+    if text.len() >= 4_294_967_296 {
+        return Err("too long".into());
+    }
+    let block = read_block(alloc, text)?;
+    let chain = Chain {
         blocks,
         tip: Digest([7; 32]),
         leaves: 0,
-    }
-}
-
-fn fault_of(alloc: Global, text: &[u8], blocks: u32, net: Net) -> Result<Option<RuleFault>, Fail> {
-    if blocks > 2_147_483_648 || text.len() >= 4_294_967_296 {
-        return Err("a height".into());
-    }
-    let block = read_block(alloc, text)?;
-    Ok(shape_rules(alloc, &block, &first_chain(blocks), net, Limits::standard()).err())
+    };
+    let limits = Limits {
+        leaves: 100,
+        bytes: 0,
+    };
+    Ok(shape_rules(alloc, &block, &chain, net, limits).err())
 }
 
 #[test]
@@ -94,7 +103,9 @@ fn commitments(rt: HostRuntime) -> Result<(), Fail> {
     Ok(())
 }
 
-fn spend_of(alloc: Global, number: u8) -> Result<Tx, NoMemory> {
+fn spend_of(alloc: Global, number: u8) -> Result<Tx, NoMemory>
+    ensures { IfOk result IsWritable }
+{
     let input = InView {
         txid: Digest([number; 32]),
         index: 0,
@@ -113,14 +124,23 @@ fn spend_of(alloc: Global, number: u8) -> Result<Tx, NoMemory> {
     }
 }
 
-#[test]
-fn one_witness_of_many(rt: HostRuntime) -> Result<(), Fail> {
-    let alloc = rt.alloc();
+// A coinbase, and 252 transactions of which the seventh has a witness.
+fn many_txs(alloc: Global) -> Result<Vec<Tx>, Fail>
+    ensures some { IfOk result (λ txs. 0 < length txs.items) }
+    ensures writable { IfOk result (λ txs. AllByRecursion IsWritable txs.items) }
+{
     let mut txs = Vec::new(alloc);
     txs.push(coinbase(alloc, 0, &[])?)?;
     for number in 1..=252u8 {
         txs.push(spend_of(alloc, number)?)?;
     }
+    Ok(txs)
+}
+
+#[test]
+fn one_witness_of_many(rt: HostRuntime) -> Result<(), Fail> {
+    let alloc = rt.alloc();
+    let txs = many_txs(alloc)?;
     let text = block_behind(alloc, Digest([7; 32]), &txs)?.text;
     if text.len() >= 4_294_967_296 {
         return Err("too long".into());

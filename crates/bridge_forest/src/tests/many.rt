@@ -27,6 +27,17 @@ impl Digester for Still {
         Digest([0; 32])
     }
 
+    type Front = ();
+
+    ghost holds = { λ front text. Unit {0} };
+
+    fn front(_text: &[u8]) -> () {}
+
+    fn digest_behind<L: Ledger>(_front: &(), _rest: &[u8], steps: &mut Steps<L>) -> Digest {
+        steps.tick();
+        Digest([0; 32])
+    }
+
     ghost has_32_bytes = { λ text. refl };
 }
 
