@@ -141,12 +141,7 @@ fn check_block(block: &[u8])
 }
 
 // Appends the frames of an event that was accepted or made.
-fn push_made(
-    net: Net,
-    event: Event<'_>,
-    proved: &Proved,
-    sent: &mut Piece,
-) -> Result<(), NoMemory>
+fn push_made(net: Net, event: Event<'_>, proved: &Proved, sent: &mut Piece) -> Result<(), NoMemory>
     requires { is_made (Some proved.now.verdict) ≡ true → CanBeWritten (beside (option_map (λ bytes. bytes.items) proved.now.message) (event_of event)) }
     ensures { OnOk result (sent.new.bytes.items ≡ sent.old.bytes.items ++ made_frames net proved.now.verdict (option_map (λ bytes. bytes.items) proved.now.message) (event_of event.entry)) }
 {
@@ -158,12 +153,7 @@ fn push_made(
 }
 
 // Appends the frames of an event, with the message of the bridge.
-fn push_event(
-    net: Net,
-    event: Event<'_>,
-    proved: &Proved,
-    sent: &mut Piece,
-) -> Result<(), NoMemory>
+fn push_event(net: Net, event: Event<'_>, proved: &Proved, sent: &mut Piece) -> Result<(), NoMemory>
     requires { CanBeWritten (beside (option_map (λ bytes. bytes.items) proved.now.message) (event_of event)) }
     ensures { OnOk result (sent.new.bytes.items ≡ sent.old.bytes.items ++ event_text net (beside (option_map (λ bytes. bytes.items) proved.now.message) (event_of event.entry))) }
 {
@@ -175,12 +165,7 @@ fn push_event(
 }
 
 // Appends the frame of a block, behind that of its message.
-fn push_proved(
-    net: Net,
-    block: &[u8],
-    proved: &Proved,
-    sent: &mut Piece,
-) -> Result<(), NoMemory>
+fn push_proved(net: Net, block: &[u8], proved: &Proved, sent: &mut Piece) -> Result<(), NoMemory>
     requires { CanBeWritten (BlockCame block.now (option_map (λ bytes. bytes.items) proved.now.message)) }
     ensures { OnOk result (sent.new.bytes.items ≡ sent.old.bytes.items ++ event_text net (BlockCame block.now (option_map (λ bytes. bytes.items) proved.now.message))) }
 {

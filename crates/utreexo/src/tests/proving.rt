@@ -2,9 +2,7 @@
 ghost use Rattle.std.specs.Prelude.{◌≡◌, ◌<◌};
 
 use super::blocks::{MAIN, SUBSIDY, coinbase, payment, put_block, put_line};
-use super::proved::{
-    Case, SPENDING, begin_case, make_chain, put_spending, put_spent,
-};
+use super::proved::{Case, SPENDING, begin_case, make_chain, put_spending, put_spent};
 use super::{Outcome, Ports, run_over};
 use feed_run::Status;
 use std::alloc::Global;
@@ -82,10 +80,22 @@ fn spending_case(alloc: Global) -> Result<Proved, Fail> {
 // An outpoint that was never made, a stray, and a rollback that is too deep: nothing of them is stored.
 fn missing_case(alloc: Global) -> Result<Proved, Fail> {
     let mut out = Vec::new(alloc);
-    let first = put_block(alloc, MAIN, &mut out, &Digest([0; 32]), &[coinbase(alloc, 0, SUBSIDY)?])?;
+    let first = put_block(
+        alloc,
+        MAIN,
+        &mut out,
+        &Digest([0; 32]),
+        &[coinbase(alloc, 0, SUBSIDY)?],
+    )?;
     let mut feed = Vec::from_slice(alloc, &out)?;
     let spend = payment(alloc, &[(Digest([9; 32]), 0)], &[1])?;
-    let second = put_block(alloc, MAIN, &mut feed, &first, &[coinbase(alloc, 1, SUBSIDY)?, spend])?;
+    let second = put_block(
+        alloc,
+        MAIN,
+        &mut feed,
+        &first,
+        &[coinbase(alloc, 1, SUBSIDY)?, spend],
+    )?;
     feed.extend_from_slice(b"UTXR\x04\0\0\0\x02\0\0\0UTXP\0\0\0\0")?;
     let mut report = Vec::new(alloc);
     put_line(&mut report, "accepted 0 ", &first, " 0")?;
