@@ -1,7 +1,4 @@
 use Rattle.utreexo.proofs.tests.generated.a_young_chain_is_followed.Given as goal
 
 abbrev pub ghosts-run_on : goal.ghosts-run_on
-ghosts-run_on a = record { name = a.blank.name; parts = a.blank.parts }
-
-abbrev pub ghosts-run_on-2 : goal.ghosts-run_on-2
-ghosts-run_on-2 a = record { name = a.blank.name; parts = a.blank.parts }
+ghosts-run_on g a = record { name = a.blank.name; parts = a.blank.parts }

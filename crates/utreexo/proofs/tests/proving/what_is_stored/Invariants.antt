@@ -2,6 +2,3 @@ use Rattle.utreexo.proofs.tests.proving.what_is_stored.Given as goal
 
 abbrev pub ghosts-check : goal.ghosts-check
 ghosts-check g a = record { name = a.blank.name; parts = a.blank.parts }
-
-abbrev pub ghosts-check-2 : goal.ghosts-check-2
-ghosts-check-2 g a = record { name = a.blank.name; parts = a.blank.parts }
