@@ -18,27 +18,28 @@ use Rattle.block_rules.specs.Money.{BlockSpends, spends_of, money_steps, found_o
 use Rattle.block_rules.specs.Judged.{ShapeJudged, IsShaped}
 use Rattle.block_rules.proofs.Firsts.{first_of-append, each_passes}
 use Rattle.node_rules.specs.Judging.{Evidence, own, newest_of}
+use Rattle.node_rules.specs.Proving.{written_text}
 use Rattle.node_rules.proofs.Newest.{all_found}
 use Rattle.forest_place.specs.Position.{rows}
 use Rattle.bridge_prover.proofs.Owning.{own_same}
 use Rattle.bridge_prover.specs.Own.{own_in, newest_in, leaves_in}
 use Rattle.compact_node.specs.Judged.{IsFirst}
 use Rattle.compact_node.proofs.Deciding.{external_few}
-use Rattle.bridge_prover.specs.Bridge.{BridgeState, refusal_on, message_by, proof_by, bridge_with}
-use Rattle.bridge_prover.specs.Judged.{AreFound, IsReady, IsProved, first_missing}
+use Rattle.bridge_prover.specs.Bridge.{BridgeState, refusal_on, message_by, bridge_with}
+use Rattle.bridge_prover.specs.Judged.{AreFound, HaveShape, IsReady, IsProved, first_missing}
 use Rattle.bridge_prover.specs.Standing.{IsBridge}
 use Rattle.bridge_prover.proofs.Gathering.{somes-map}
-use Rattle.bridge_prover.proofs.Next.{ready}
+use Rattle.bridge_prover.proofs.Next.{ready, shaped_so}
 
-first-in : (xs ys : List (Option Refusal)) (fault : RuleFault) → IsFirst (first_of xs) fault → IsFirst (first_of (xs ++ ys)) fault
+pub first-in : (xs ys : List (Option Refusal)) (fault : RuleFault) → IsFirst (first_of xs) fault → IsFirst (first_of (xs ++ ys)) fault
 first-in xs ys (Refused why) e = first_of-append xs ys ∙ ap (λ x. option_or x (first_of ys)) e
 first-in xs ys NoMemory e = tt
 
-first-behind : (xs ys : List (Option Refusal)) (fault : RuleFault) → first_of xs ≡ None → IsFirst (first_of ys) fault → IsFirst (first_of (xs ++ ys)) fault
+pub first-behind : (xs ys : List (Option Refusal)) (fault : RuleFault) → first_of xs ≡ None → IsFirst (first_of ys) fault → IsFirst (first_of (xs ++ ys)) fault
 first-behind xs ys (Refused why) passes e = first_of-append xs ys ∙ (ap (λ x. option_or x (first_of ys)) passes ∙ e)
 first-behind xs ys NoMemory passes e = tt
 
-all_pass : (xs ys : List (Option Refusal)) → first_of xs ≡ None → first_of ys ≡ None → first_of (xs ++ ys) ≡ None
+pub all_pass : (xs ys : List (Option Refusal)) → first_of xs ≡ None → first_of ys ≡ None → first_of (xs ++ ys) ≡ None
 all_pass xs ys a b = first_of-append xs ys ∙ (ap (λ x. option_or x (first_of ys)) a ∙ b)
 
 one_first : (x : Option Refusal) (fault : RuleFault) → IsFirst x fault → IsFirst (first_of (x ∷ [])) fault
@@ -135,12 +136,15 @@ module _ (H : List ℕ → Digest) (text : Leaf → List ℕ) (s : BridgeState) 
         subst (IsReady H text s hash numbers) (sym (ap (λ (x : BlockSpends). x.new) shaped.spends))
         (ready H text s b is passes_by hash numbers (numbers_are s b spends shaped numbers known.each known.passes) (omega (arith, few, count, same)))
 
-    pub proved_by : (hash : Digest) (message : Option (List ℕ)) (t : BridgeState) → hash ≡ block_hash_of b → message ≡ message_by spends.external (proof_by H s.entries s.held numbers) → t ≡ bridge_with H text s hash numbers spends.new → IsProved H text s b message t
+    pub shaped_by : HaveShape s numbers
+    shaped_by = shaped_so H text s b is passes_by numbers (numbers_are s b spends shaped numbers known.each known.passes)
+
+    pub proved_by : (hash : Digest) (message : Option (List ℕ)) (t : BridgeState) → hash ≡ block_hash_of b → message ≡ written_text spends.external (message_by H s.watch s.entries s.held numbers) → t ≡ bridge_with H text s hash numbers spends.new → IsProved H text s b message t
     proved_by hash message t at says next =
         let are = numbers_are s b spends shaped numbers known.each known.passes in
         record {
           passes = passes_by;
-          says = says ∙ ap₂ (λ ext ns. message_by ext (proof_by H s.entries s.held ns)) (same_external s b spends shaped) are;
+          says = says ∙ ap₂ (λ ext ns. written_text ext (message_by H s.watch s.entries s.held ns)) (same_external s b spends shaped) are;
           next = next ∙ (ap₂ (λ h ns. bridge_with H text s h ns spends.new) at are ∙ ap (bridge_with H text s (block_hash_of b) (own_in s.held (external b s.chain.blocks)).numbers) (ap (λ (x : BlockSpends). x.new) shaped.spends));
         }
 

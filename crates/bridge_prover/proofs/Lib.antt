@@ -4,6 +4,10 @@ pub mod Indexing
 pub mod Showing
 pub mod Restoring
 pub mod Giving
+pub mod Noting
+pub mod Kept
+pub mod Merging
+pub mod Leaving
 pub mod Owning
 pub mod Next
 pub mod Undoing
@@ -11,3 +15,8 @@ pub mod Deciding
 pub mod Refining
 pub mod Telling
 pub mod Throughout
+pub mod Righted
+pub mod Checking
+pub mod Historied
+pub mod Taking
+pub mod Fully

@@ -1,6 +1,6 @@
 -- What a bridge keeps after a block is again what a bridge keeps, and stands for the next level.
-use Rattle.std.proofs.Common.{◌≡◌, ◌≢◌, ℕ, zero, suc, ◌+◌, ◌<◌, ◌≤◌, ◌^◌, true, List, [], ◌∷◌, ◌++◌, map, set, take, length, Option, Some, None, refl, sym, ap, ◌∙◌, subst, arith}
-use Rattle.std.specs.Prelude.{slice_get, nat_lt, nat_le, option_map, unwrap_or, All, AllPairs}
+use Rattle.std.proofs.Common.{◌≡◌, ◌≢◌, ℕ, zero, suc, ◌+◌, ◌<◌, ◌≤◌, ◌^◌, true, List, [], ◌∷◌, ◌++◌, map, set, take, length, Option, Some, None, refl, sym, ap, ap₂, ◌∙◌, subst, arith}
+use Rattle.std.specs.Prelude.{slice_get, is_some, nat_lt, nat_le, option_map, unwrap_or, All, AllPairs}
 use Rattle.std.specs.List.{AllByRecursion}
 use Rattle.std.proofs.lemmas.Bool.{and_parts, ltb-true, leb-true}
 use Rattle.std.proofs.lemmas.List.{length-map, length-append, append-nil, set-append_left, length-take}
@@ -22,10 +22,11 @@ use Rattle.block_rules.specs.Rules.{block_steps, has_room}
 use Rattle.block_rules.specs.Money.{spends_of, money_steps}
 use Rattle.block_rules.proofs.Firsts.{each_passes, append_passes, unless-passed}
 use Rattle.node_rules.specs.Judging.{Rules, Evidence, own, refusal, history_after}
-use Rattle.node_rules.specs.Machine.{Level, State}
+use Rattle.node_rules.specs.Machine.{Level, State, chain_of}
 use Rattle.node_rules.specs.Accepting.{shape_fault}
+use Rattle.node_rules.proofs.Righting.{got_back, got_entry}
 use Rattle.node_rules.proofs.Spending.{entries-after}
-use Rattle.output_index.specs.Held.{Held, IsAbove, is_spent, leaf_at, with_live, NumbersRise}
+use Rattle.output_index.specs.Held.{Held, IsAbove, is_live, is_spent, leaf_at, with_live, NumbersRise}
 use Rattle.output_index.specs.Indexed.{IsIndexOf}
 use Rattle.output_index.proofs.Standing.{inserted_is_added, spent_is_spent, there_is_live}
 use Rattle.output_index.proofs.HeldLaws.{above-with_live}
@@ -33,10 +34,10 @@ use Rattle.reorg_undo.specs.Undo.{UndoRecord}
 use Rattle.bridge_forest.specs.State as forest
 use Rattle.bridge_prover.specs.Own.{own_in, numbered, spent_in}
 use Rattle.bridge_prover.specs.Bridge.{BridgeState, refusal_on, record_of, dropped, bridge_with, spends_by}
-use Rattle.bridge_prover.specs.Judged.{IsReady}
-use Rattle.bridge_prover.specs.Standing.{IsLiveIn, Undoes, GiveBack, Stands, IsBridge}
+use Rattle.bridge_prover.specs.Judged.{HaveShape, IsReady}
+use Rattle.bridge_prover.specs.Standing.{IsLiveIn, Undoes, AreHeld, GiveBack, Stands, IsBridge}
 use Rattle.bridge_prover.proofs.Indexing.{above-numbered, append_same}
-use Rattle.bridge_prover.proofs.Owning.{all_index, own_same, live_held, live_entries, live_each, apart, shaped}
+use Rattle.bridge_prover.proofs.Owning.{all_index, own_same, live_each, apart, shaped}
 use Rattle.bridge_prover.proofs.Rising.{all_mapped, rise-numbered, rise-spent, rise-forgotten, above-forgotten, leaf-append, leaf-spent}
 use Rattle.bridge_prover.proofs.Giving.{length-spent, length-after, differ_from, gone_after, GoneIn, IsOld, all_old, give_held, give_taken, give_forgotten, spent_there, index-forgotten}
 
@@ -108,24 +109,15 @@ room_before rules chain b passed =
     let both = and_parts (nat_lt chain.blocks (2 ^ 31)) (nat_le (chain.leaves + length (new_records b chain.blocks)) rules.limits.leaves) (unless-passed _ _ sixth) in
     (ltb-true _ _ both.0, leb-true _ _ both.1)
 
-room : (rules : Rules) (chain : Chain) (b : Block) (e : Evidence) → refusal rules chain b e ≡ None →
+pub room : (rules : Rules) (chain : Chain) (b : Block) (e : Evidence) → refusal rules chain b e ≡ None →
     (chain.blocks < 2 ^ 31) × (chain.leaves + length (new_records b chain.blocks) ≤ rules.limits.leaves)
 room rules chain b e h = room_before rules chain b (append_passes (block_steps rules.net rules.limits chain b) (e.steps ++ money_steps (spends_of rules.net chain.blocks b) e.found) h).0
 
--- ---- a block that breaks no rule
+-- ---- a block that spends some live entries, and adds some
 
-module _ (H : List ℕ → Digest) (text : Leaf → List ℕ) (t : State) (s : BridgeState) (at : IsAt H text t s) (b : Block) (passes : refusal s.rules s.chain b (own t.now.history (external b s.chain.blocks)) ≡ None) where
+module _ (H : List ℕ → Digest) (text : Leaf → List ℕ) (t : State) (s : BridgeState) (at : IsAt H text t s) (ns : List ℕ) (new : List Leaf) (live : AllByRecursion (IsLiveIn t.now.history) ns) (differ : AllPairs (λ i j. i ≢ j) ns) where
   abbrev us : History
   us = t.now.history
-
-  abbrev ext : List Outside
-  ext = external b s.chain.blocks
-
-  abbrev new : List Leaf
-  new = new_records b s.chain.blocks
-
-  abbrev ns : List ℕ
-  ns = (own us ext).numbers
 
   abbrev after : History
   after = history_after us ns new
@@ -135,9 +127,6 @@ module _ (H : List ℕ → Digest) (text : Leaf → List ℕ) (t : State) (s : B
 
   counted : length us ≡ s.chain.leaves
   counted = sym (ap (λ (c : Chain). c.leaves) at.stands.chain)
-
-  live : AllByRecursion (IsLiveIn us) ns
-  live = live_each s.held us at.rise at.stands.index H text s.rules s.chain b passes
 
   index : IsIndexOf held after
   index = subst (λ n. IsIndexOf (spent_in ns (s.held ++ numbered n new)) after) counted (index-after ns new s.held us live at.stands.index)
@@ -170,7 +159,7 @@ module _ (H : List ℕ → Digest) (text : Leaf → List ℕ) (t : State) (s : B
     then = bridge_with H text s hash ns new
 
     back : Undoes (record_of s.chain ns) level t.now
-    back = record { chain = at.stands.chain; next = refl; new = new; after = refl; live = live; apart = apart s.held us at.rise at.stands.index H text s.rules s.chain b passes }
+    back = record { chain = at.stands.chain; next = refl; new = new; after = refl; live = live; apart = differ }
 
     all_back : GiveBack held level (t.now ∷ t.older) (record_of s.chain ns ∷ s.undo)
     all_back = (
@@ -194,59 +183,113 @@ module _ (H : List ℕ → Digest) (text : Leaf → List ℕ) (t : State) (s : B
       rise = rise-forgotten (dropped s.undo) held rise;
     }
 
-module _ (H : List ℕ → Digest) (text : Leaf → List ℕ) (s : BridgeState) (b : Block) (is : IsBridge H text s) (passes : refusal_on s b ≡ None) where
+module _ (H : List ℕ → Digest) (text : Leaf → List ℕ) (s : BridgeState) (is : IsBridge H text s) (ns : List ℕ) (new : List Leaf) (live : AllByRecursion (IsLiveIn is.levels.now.history) ns) (differ : AllPairs (λ i j. i ≢ j) ns)
+    (fits : (s.chain.blocks < 2 ^ 31) × (s.chain.leaves + length new ≤ s.rules.limits.leaves)) (hash : Digest) where
   abbrev t : State
   t = is.levels
 
   abbrev here : IsAt H text t s
   here = at_level H text t s is is.stands
 
-  same : own_in s.held (external b s.chain.blocks) ≡ own t.now.history (external b s.chain.blocks)
-  same = own_same s.held t.now.history is.rise is.stands.index (external b s.chain.blocks)
-
-  by_history : refusal s.rules s.chain b (own t.now.history (external b s.chain.blocks)) ≡ None
-  by_history = subst (λ e. refusal s.rules s.chain b e ≡ None) same passes
-
-  numbers : (own_in s.held (external b s.chain.blocks)).numbers ≡ (own t.now.history (external b s.chain.blocks)).numbers
-  numbers = ap (λ (e : Evidence). e.numbers) same
-
-  there : (hash : Digest) → IsBridge H text (bridge_with H text s hash (own t.now.history (external b s.chain.blocks)).numbers (new_records b s.chain.blocks))
-  there hash =
-      let fits = room s.rules s.chain b (own t.now.history (external b s.chain.blocks)) by_history in
-      let at = at-then H text t s here b by_history hash in
+  pub there : IsBridge H text (bridge_with H text s hash ns new)
+  there =
+      let at = at-then H text t s here ns new live differ hash in
       record {
         low = omega (arith, fits.0);
         within = fits.1;
         few = is.few;
         below = at.below;
         rise = at.rise;
-        kept = omega (arith, length-take 100 (record_of s.chain (own t.now.history (external b s.chain.blocks)).numbers ∷ s.undo));
+        kept = omega (arith, length-take 100 (record_of s.chain ns ∷ s.undo));
         levels = _;
         stands = at.stands;
       }
 
+  live-held : AllByRecursion (λ n. is_live n s.held ≡ true) ns
+  live-held = all_mapped (IsLiveIn t.now.history) (λ n. is_live n s.held ≡ true) (λ n w. (there_is_live n w.0 s.held t.now.history is.rise is.stands.index w.1).0) ns live
+
+  live-entries : AllByRecursion (λ n. forest.is_live s.entries n ≡ true) ns
+  live-entries =
+      let us = t.now.history in
+      subst (λ es. AllByRecursion (λ n. forest.is_live es n ≡ true) ns) (sym is.stands.entries)
+      (all_mapped (IsLiveIn us) (λ n. forest.is_live (entries H text us) n ≡ true) (λ n w. ap is_some (got_entry (λ r. H (text r)) us n ∙ ap (option_map (λ r. H (text r))) (got_back us n w.0 w.1))) ns live)
+
+  -- it may be taken
+  pub can_take : length ns < 2 ^ 32 → IsReady H text s hash ns new
+  can_take short = record {
+    live = all_index _ _ live-entries;
+    held = all_index _ _ live-held;
+    apart = differ;
+    short = short;
+    counted = ap length is.stands.entries ∙ (length-map t.now.history _ ∙ sym (ap (λ (c : Chain). c.leaves) is.stands.chain));
+    few = omega (arith, fits.1, is.few);
+    low = fits.0;
+    old = all_index _ _ (old_spent H text t s here ns new live differ);
+    old_apart = (old H text t s here ns new live differ).1;
+    next = there;
+  }
+
+-- ---- a block that breaks no rule
+
+module _ (H : List ℕ → Digest) (text : Leaf → List ℕ) (t : State) (s : BridgeState) (at : IsAt H text t s) (b : Block) (passes : refusal s.rules s.chain b (own t.now.history (external b s.chain.blocks)) ≡ None) where
+  pub own_live : AllByRecursion (IsLiveIn t.now.history) (own t.now.history (external b s.chain.blocks)).numbers
+  own_live = live_each s.held t.now.history at.rise at.stands.index H text s.rules s.chain b passes
+
+  pub own_apart : AllPairs (λ i j. i ≢ j) (own t.now.history (external b s.chain.blocks)).numbers
+  own_apart = apart s.held t.now.history at.rise at.stands.index H text s.rules s.chain b passes
+
+module _ (H : List ℕ → Digest) (text : Leaf → List ℕ) (s : BridgeState) (b : Block) (is : IsBridge H text s) (passes : refusal_on s b ≡ None) where
+  abbrev was : State
+  was = is.levels
+
+  abbrev stood : IsAt H text was s
+  stood = at_level H text was s is is.stands
+
+  same : own_in s.held (external b s.chain.blocks) ≡ own was.now.history (external b s.chain.blocks)
+  same = own_same s.held was.now.history is.rise is.stands.index (external b s.chain.blocks)
+
+  by_history : refusal s.rules s.chain b (own was.now.history (external b s.chain.blocks)) ≡ None
+  by_history = subst (λ e. refusal s.rules s.chain b e ≡ None) same passes
+
+  numbers : (own_in s.held (external b s.chain.blocks)).numbers ≡ (own was.now.history (external b s.chain.blocks)).numbers
+  numbers = ap (λ (e : Evidence). e.numbers) same
+
+  abbrev fits : (s.chain.blocks < 2 ^ 31) × (s.chain.leaves + length (new_records b s.chain.blocks) ≤ s.rules.limits.leaves)
+  fits = room s.rules s.chain b (own was.now.history (external b s.chain.blocks)) by_history
+
   -- a block that passes may be taken
   pub ready : (hash : Digest) (numbers' : List ℕ) → numbers' ≡ (own_in s.held (external b s.chain.blocks)).numbers → length numbers' < 2 ^ 32 → IsReady H text s hash numbers' (new_records b s.chain.blocks)
   ready hash numbers' e short =
-      let us = t.now.history in
-      let ns = (own us (external b s.chain.blocks)).numbers in
-      let index = is.stands.index in
-      let fits = room s.rules s.chain b (own us (external b s.chain.blocks)) by_history in
-      let es = is.stands.entries in
+      let ns = (own was.now.history (external b s.chain.blocks)).numbers in
       let short' : length ns < 2 ^ 32 = subst (λ xs. length xs < 2 ^ 32) (e ∙ numbers) short in
-      subst (λ xs. IsReady H text s hash xs (new_records b s.chain.blocks)) (sym (e ∙ numbers)) (record {
-        live = subst (λ x. All (λ i. forest.is_live x i ≡ true) ns) (sym es) (live_entries s.held us is.rise index H text s.rules s.chain b by_history);
-        held = live_held s.held us is.rise index H text s.rules s.chain b by_history;
-        apart = apart s.held us is.rise index H text s.rules s.chain b by_history;
-        short = short';
-        shape = subst (λ x. shape_fault (length x) [] 0 (map (place_at (length x)) (targets_of (spends_by x s.held ns))) ≡ None) (sym es) (subst (λ xs. shape_fault (length (entries H text us)) [] 0 (map (place_at (length (entries H text us))) (targets_of (spends_by (entries H text us) s.held xs))) ≡ None) numbers (shaped s.held us is.rise index H text s.rules s.chain b by_history));
-        counted = ap length es ∙ (length-map us _ ∙ sym (ap (λ (c : Chain). c.leaves) is.stands.chain));
-        few = omega (arith, fits.1, is.few);
-        low = fits.0;
-        old = all_index _ _ (old_spent H text t s here b by_history);
-        old_apart = (old H text t s here b by_history).1;
-        next = there hash;
-      })
+      subst (λ xs. IsReady H text s hash xs (new_records b s.chain.blocks)) (sym (e ∙ numbers))
+      (can_take H text s is ns (new_records b s.chain.blocks) (own_live H text was s stood b by_history) (own_apart H text was s stood b by_history) fits hash short')
+
+  -- and the places of what it spends have shape
+  pub shaped_so : (numbers' : List ℕ) → numbers' ≡ (own_in s.held (external b s.chain.blocks)).numbers → HaveShape s numbers'
+  shaped_so numbers' e =
+      let us = was.now.history in
+      let es = is.stands.entries in
+      subst (HaveShape s) (sym e)
+      (subst (λ x. shape_fault (length x) [] 0 (map (place_at (length x)) (targets_of (spends_by x s.held (own_in s.held (external b s.chain.blocks)).numbers))) ≡ None) (sym es)
+      (shaped s.held us is.rise is.stands.index H text s.rules s.chain b by_history))
 
   pub next_is : (hash : Digest) → IsBridge H text (bridge_with H text s hash (own_in s.held (external b s.chain.blocks)).numbers (new_records b s.chain.blocks))
-  next_is hash = subst (λ xs. IsBridge H text (bridge_with H text s hash xs (new_records b s.chain.blocks))) (sym numbers) (there hash)
+  next_is hash =
+      subst (λ xs. IsBridge H text (bridge_with H text s hash xs (new_records b s.chain.blocks))) (sym numbers)
+      (there H text s is (own was.now.history (external b s.chain.blocks)).numbers (new_records b s.chain.blocks) (own_live H text was s stood b by_history) (own_apart H text was s stood b by_history) fits hash)
+
+-- what the calls leave that take a block is again what a bridge keeps
+module _ (H : List ℕ → Digest) (text : Leaf → List ℕ) (inner s : BridgeState) (same : inner ≡ s) (hash : Digest) (ns : List ℕ) (new : List Leaf) (next : IsBridge H text (bridge_with H text s hash ns new)) where
+  abbrev made : ℕ → ℕ → List (Option Digest) → List Held → List UndoRecord → BridgeState
+  made blocks count es hs undo = record { rules = inner.rules; watch = inner.watch; chain = record { blocks = blocks; tip = hash; leaves = inner.chain.leaves + count }; entries = es; held = hs; undo = undo }
+
+  pub extended_like : (count : ℕ) (es : List (Option Digest)) (hs : List Held) (undo : List UndoRecord) → count ≡ length new → es ≡ (bridge_with H text inner hash ns new).entries → hs ≡ (bridge_with H text inner hash ns new).held → undo ≡ (bridge_with H text inner hash ns new).undo →
+      IsBridge H text (made (inner.chain.blocks + 1) count es hs undo)
+  extended_like count es hs undo c e h u =
+      let blocks : inner.chain.blocks + 1 ≡ suc inner.chain.blocks = omega arith in
+      let after = bridge_with H text inner hash ns new in
+      let whole : made (inner.chain.blocks + 1) count es hs undo ≡ after =
+      ap (λ n. made n count es hs undo) blocks ∙ (ap (λ n. made (suc inner.chain.blocks) n es hs undo) c
+      ∙ (ap (λ x. made (suc inner.chain.blocks) (length new) x hs undo) e ∙ (ap (λ x. made (suc inner.chain.blocks) (length new) after.entries x undo) h ∙ ap (λ x. made (suc inner.chain.blocks) (length new) after.entries after.held x) u))) in
+      subst (IsBridge H text) (sym (whole ∙ ap (λ (x : BridgeState). bridge_with H text x hash ns new) same)) next

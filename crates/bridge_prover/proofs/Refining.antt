@@ -1,6 +1,6 @@
 -- A bridge says and does what the proving node says and does, and stays a bridge.
 use Rattle.std.proofs.Common.{◌≡◌, ℕ, zero, suc, ◌<◌, ◌≤◌, ◌^◌, Bool, true, false, List, [], ◌∷◌, length, Option, Some, None, refl, sym, ap, ap₂, ◌∙◌, subst, ⊎_elim, arith}
-use Rattle.std.specs.Prelude.{nat_le, slice_get, take, drop, if◌then◌else◌}
+use Rattle.std.specs.Prelude.{nat_le, slice_get, take, drop, is_some, if◌then◌else◌}
 use Rattle.std.proofs.lemmas.Bool.{cases_Bool, leb-true}
 use Rattle.std.proofs.lemmas.Option.{none-some, same_Some}
 use Rattle.uo_base.specs.declared.event.Limits.{Limits}
@@ -18,7 +18,7 @@ use Rattle.block_rules.specs.declared.verdict.Verdict.{Verdict}
 use Rattle.block_rules.specs.declared.verdict.Verdict.TheVariants.{Accepted, RolledBack, TooDeep}
 use Rattle.block_rules.specs.Blocks.{external, new_records}
 use Rattle.node_rules.specs.Reading.{Handed}
-use Rattle.node_rules.specs.Judging.{Rules, Evidence, own, refusal, proof_of}
+use Rattle.node_rules.specs.Judging.{Rules, Evidence, own, refusal, message_of, proof_of}
 use Rattle.node_rules.specs.Machine.{ChainEvent, BlockCame, RollbackCame, StrayCame, Level, State, Outcome, chain_of, height_of, back, by_refusal, is_made, verdict_by}
 use Rattle.node_rules.specs.Proving.{written_text, text_beside}
 use Rattle.bridge_forest.specs.Blocks.{all_restored}
@@ -28,18 +28,18 @@ use Rattle.compact_node.specs.Node.{gone_to}
 use Rattle.bridge_prover.specs.Own.{own_in, cut_in, unspent_in}
 use Rattle.bridge_prover.specs.Bridge.{BridgeState, fresh_bridge, refusal_on, chain_before, chain_back, restored_in, verdict_on, bridge_with, bridge_by, after_block, undone_by, gone_back, next_bridge, proof_by, message_by, told_if, message_on}
 use Rattle.bridge_prover.specs.Judged.{CanUndo}
-use Rattle.bridge_prover.specs.Standing.{GiveBack, Stands, IsBridge}
-use Rattle.bridge_prover.specs.Laws.{own_outcome, text_by, BridgeIsOwn, FreshStands, FreshIsBridge, NextIsBridge}
+use Rattle.bridge_prover.specs.Standing.{Undoes, GiveBack, Stands, IsBridge}
+use Rattle.bridge_prover.specs.Laws.{own_outcome, text_by, own_text, IsAsOwn, BridgeIsOwn, FreshStands, FreshIsBridge, NextIsBridge}
 use Rattle.bridge_prover.proofs.Giving.{length-after, older_few}
 use Rattle.bridge_prover.proofs.Owning.{own_same, proof_same}
-use Rattle.bridge_prover.proofs.Next.{IsAt, at_level, at-then, next_is}
-use Rattle.bridge_prover.proofs.Undoing.{at-undone, can_undo}
+use Rattle.bridge_prover.proofs.Next.{IsAt, at_level, at-then, own_live, own_apart, next_is}
+use Rattle.bridge_prover.proofs.Undoing.{IsLast, at-undone, can_undo}
 
 pub fresh_stands : FreshStands
-fresh_stands H text net limits = record { chain = refl; entries = refl; index = refl; undo = tt }
+fresh_stands H text net limits watch = record { chain = refl; entries = refl; index = refl; undo = tt }
 
 pub fresh_is_bridge : FreshIsBridge
-fresh_is_bridge H text net limits few = record {
+fresh_is_bridge H text net limits watch few = record {
   low = omega arith;
   within = omega arith;
   few = few;
@@ -47,17 +47,17 @@ fresh_is_bridge H text net limits few = record {
   rise = tt;
   kept = omega arith;
   levels = _;
-  stands = fresh_stands H text net limits;
+  stands = fresh_stands H text net limits watch;
 }
 
 -- as made
-pub fresh_like : (H : List ℕ → Digest) (text : Leaf → List ℕ) (net : Net) (limits : Limits) (es : List (Option Digest)) (hs : List Held) (undo : List UndoRecord) → es ≡ [] → hs ≡ [] → undo ≡ [] → limits.leaves < 2 ^ 40 →
-    let s = fresh_bridge net limits in IsBridge H text (record { rules = s.rules; chain = s.chain; entries = es; held = hs; undo = undo })
-fresh_like H text net limits es hs undo e h u few =
-    let s = fresh_bridge net limits in
-    subst (λ x. IsBridge H text (record { rules = s.rules; chain = s.chain; entries = x; held = hs; undo = undo })) (sym e)
-    (subst (λ x. IsBridge H text (record { rules = s.rules; chain = s.chain; entries = []; held = x; undo = undo })) (sym h)
-    (subst (λ x. IsBridge H text (record { rules = s.rules; chain = s.chain; entries = []; held = []; undo = x })) (sym u) (fresh_is_bridge H text net limits few)))
+pub fresh_like : (H : List ℕ → Digest) (text : Leaf → List ℕ) (net : Net) (limits : Limits) (watch : Option (List (List ℕ))) (es : List (Option Digest)) (hs : List Held) (undo : List UndoRecord) → es ≡ [] → hs ≡ [] → undo ≡ [] → limits.leaves < 2 ^ 40 →
+    let s = fresh_bridge net limits watch in IsBridge H text (record { rules = s.rules; watch = s.watch; chain = s.chain; entries = es; held = hs; undo = undo })
+fresh_like H text net limits watch es hs undo e h u few =
+    let s = fresh_bridge net limits watch in
+    subst (λ x. IsBridge H text (record { rules = s.rules; watch = s.watch; chain = s.chain; entries = x; held = hs; undo = undo })) (sym e)
+    (subst (λ x. IsBridge H text (record { rules = s.rules; watch = s.watch; chain = s.chain; entries = []; held = x; undo = undo })) (sym h)
+    (subst (λ x. IsBridge H text (record { rules = s.rules; watch = s.watch; chain = s.chain; entries = []; held = []; undo = x })) (sym u) (fresh_is_bridge H text net limits watch few)))
 
 -- ---- back by k blocks
 
@@ -164,14 +164,14 @@ module _ (H : List ℕ → Digest) (text : Leaf → List ℕ) where
   pub undone_like : (s : BridgeState) (u : UndoRecord) → IsBridge H text s → Some u ≡ slice_get s.undo 0 →
       (es front : List (Option Digest)) (hs left : List Held) (ns ms : List ℕ) (undo : List UndoRecord) → ns ≡ u.spent → front ≡ take u.leaves s.entries → es ≡ all_restored (restored_in H text s.held ns) front →
       ms ≡ u.spent → left ≡ cut_in u.leaves s.held → hs ≡ unspent_in ms left → undo ≡ drop 1 s.undo →
-      IsBridge H text (record { rules = s.rules; chain = chain_before u; entries = es; held = hs; undo = undo })
+      IsBridge H text (record { rules = s.rules; watch = s.watch; chain = chain_before u; entries = es; held = hs; undo = undo })
   undone_like s u is e es front hs left ns ms undo n f x m l h o =
       let gone = subst (λ us. IsBridge H text (undone_by H text us s)) (head_of u s.undo e) (one_back-is s is) in
       let es_are : es ≡ all_restored (restored_in H text s.held u.spent) (take u.leaves s.entries) = x ∙ ap₂ (λ ns front. all_restored (restored_in H text s.held ns) front) n f in
       let hs_are : hs ≡ unspent_in u.spent (cut_in u.leaves s.held) = h ∙ ap₂ unspent_in m l in
-      subst (λ us. IsBridge H text (record { rules = s.rules; chain = chain_before u; entries = es; held = hs; undo = us })) (sym o)
-      (subst (λ y. IsBridge H text (record { rules = s.rules; chain = chain_before u; entries = es; held = y; undo = drop 1 s.undo })) (sym hs_are)
-      (subst (λ y. IsBridge H text (record { rules = s.rules; chain = chain_before u; entries = y; held = unspent_in u.spent (cut_in u.leaves s.held); undo = drop 1 s.undo })) (sym es_are) gone))
+      subst (λ us. IsBridge H text (record { rules = s.rules; watch = s.watch; chain = chain_before u; entries = es; held = hs; undo = us })) (sym o)
+      (subst (λ y. IsBridge H text (record { rules = s.rules; watch = s.watch; chain = chain_before u; entries = es; held = y; undo = drop 1 s.undo })) (sym hs_are)
+      (subst (λ y. IsBridge H text (record { rules = s.rules; watch = s.watch; chain = chain_before u; entries = y; held = unspent_in u.spent (cut_in u.leaves s.held); undo = drop 1 s.undo })) (sym es_are) gone))
 
   pub back-is : (k : ℕ) (s : BridgeState) → IsBridge H text s → IsBridge H text (gone_back H text k s)
   back-is zero s is = is
@@ -183,19 +183,15 @@ module _ (H : List ℕ → Digest) (text : Leaf → List ℕ) where
 abbrev Same : (H : List ℕ → Digest) (text : Leaf → List ℕ) → Outcome → Verdict → Option (List ℕ) → Option (List ℕ) → BridgeState → Type 0
 Same H text o v m own s = (o.verdict ≡ Some v) × (m ≡ (if is_made o.verdict then own else None)) × Stands H text o.state s
 
-same_text : (ext : List Outside) (p : BlockProof) → message_by ext p ≡ written_text ext (record { lean = false; proof = p })
-same_text [] p = refl
-same_text (at ∷ ext) p = refl
-
-module _ (H : List ℕ → Digest) (text : Leaf → List ℕ) (rules : Rules) (t : State) (hs : List Held) (undo : List UndoRecord) where
+module _ (H : List ℕ → Digest) (text : Leaf → List ℕ) (rules : Rules) (watch : Option (List (List ℕ))) (t : State) (hs : List Held) (undo : List UndoRecord) where
   abbrev us : History
   us = t.now.history
 
   abbrev bridge : BridgeState
-  bridge = record { rules = rules; chain = chain_of t.now; entries = entries H text us; held = hs; undo = undo }
+  bridge = record { rules = rules; watch = watch; chain = chain_of t.now; entries = entries H text us; held = hs; undo = undo }
 
   abbrev Follows : BridgeState → ChainEvent → Type 0
-  Follows s e = Same H text (own_outcome rules t e) (verdict_on s e) (message_on H s e) (text_by H text t.now e) (next_bridge H text s e)
+  Follows s e = Same H text (own_outcome rules t e) (verdict_on s e) (message_on H s e) (text_by H text watch t.now e) (next_bridge H text s e)
 
   module _ (at : IsAt H text t bridge) where
     module _ (b : Block) where
@@ -210,7 +206,7 @@ module _ (H : List ℕ → Digest) (text : Leaf → List ℕ) (rules : Rules) (t
 
       abbrev With : Evidence → Option Refusal → Option Refusal → Type 0
       With e x y =
-          Same H text (by_refusal t b evidence x) (verdict_by (chain_of t.now) b (length new) y) (told_if y (message_by ext (proof_by H (entries H text us) hs e.numbers))) (text_beside H text None t.now (Some b))
+          Same H text (by_refusal t b evidence x) (verdict_by (chain_of t.now) b (length new) y) (told_if y (written_text ext (message_by H watch (entries H text us) hs e.numbers))) (text_beside H text watch t.now (Some b))
           (bridge_by y (bridge_with H text bridge (block_hash_of b) e.numbers new) bridge)
 
       by_case : (x : Option Refusal) → refusal rules (chain_of t.now) b evidence ≡ x → With evidence x x
@@ -218,10 +214,10 @@ module _ (H : List ℕ → Digest) (text : Leaf → List ℕ) (rules : Rules) (t
       by_case None passes =
           let long = length-after us evidence.numbers new in
           let numbers : (own_in hs ext).numbers ≡ evidence.numbers = ap (λ (e : Evidence). e.numbers) (own_same hs us at.rise at.stands.index ext) in
-          let proof : proof_by H (entries H text us) hs evidence.numbers ≡ proof_of H text None us ext = ap (proof_by H (entries H text us) hs) (sym numbers) ∙ proof_same hs us at.rise at.stands.index H text ext in (
+          let proof : proof_by H watch (entries H text us) hs evidence.numbers ≡ proof_of H text watch us ext = ap (proof_by H watch (entries H text us) hs) (sym numbers) ∙ proof_same hs us at.rise at.stands.index H text watch ext in (
             ap (λ n. Some (Accepted t.now.blocks (block_hash_of b) n)) long,
-            ap (message_by ext) proof ∙ same_text ext (proof_of H text None us ext),
-            (at-then H text t bridge at b passes (block_hash_of b)).stands,
+            ap (λ (p : BlockProof). written_text ext (record { lean = is_some watch; proof = p })) proof,
+            (at-then H text t bridge at evidence.numbers new (own_live H text t bridge at b passes) (own_apart H text t bridge at b passes) (block_hash_of b)).stands,
           )
 
       at_block : (handed : Handed) → Follows bridge (BlockCame (Some b) handed)
@@ -253,8 +249,8 @@ pub bridge_is_own : BridgeIsOwn
 bridge_is_own H text s e is t stands =
     let chain = stands.chain in
     let es = stands.entries in
-    let written : s ≡ bridge H text s.rules t s.held s.undo = ap₂ (λ c es. (let x : BridgeState = record { rules = s.rules; chain = c; entries = es; held = s.held; undo = s.undo } in x)) chain es in
-    let all = subst (λ x. Follows H text s.rules t s.held s.undo x e) (sym written) (follows H text s.rules t s.held s.undo (subst (IsAt H text t) written (at_level H text t s is stands)) e) in
+    let written : s ≡ bridge H text s.rules s.watch t s.held s.undo = ap₂ (λ c es. (let x : BridgeState = record { rules = s.rules; watch = s.watch; chain = c; entries = es; held = s.held; undo = s.undo } in x)) chain es in
+    let all = subst (λ x. Follows H text s.rules s.watch t s.held s.undo x e) (sym written) (follows H text s.rules s.watch t s.held s.undo (subst (IsAt H text t) written (at_level H text t s is stands)) e) in
     record { said = all.0; passed = all.1; stands = all.2 }
 
 pub next_is_bridge : NextIsBridge

@@ -39,10 +39,10 @@ changed n live h t = rw t refl
 kept : (n : ℕ) (live : Bool) (h : Held) → (h.number == n) ≡ false → with_live_at n live h ≡ h
 kept n live h t = rw t refl
 
-same_number : (n : ℕ) (live : Bool) (h : Held) → (with_live_at n live h).number ≡ h.number
+pub same_number : (n : ℕ) (live : Bool) (h : Held) → (with_live_at n live h).number ≡ h.number
 same_number n live h = ⊎_elim (λ t. ap (λ (x : Held). x.number) (changed n live h t)) (λ t. ap (λ (x : Held). x.number) (kept n live h t)) (cases_Bool (h.number == n))
 
-same_leaf : (n : ℕ) (live : Bool) (h : Held) → (with_live_at n live h).leaf ≡ h.leaf
+pub same_leaf : (n : ℕ) (live : Bool) (h : Held) → (with_live_at n live h).leaf ≡ h.leaf
 same_leaf n live h = ⊎_elim (λ t. ap (λ (x : Held). x.leaf) (changed n live h t)) (λ t. ap (λ (x : Held). x.leaf) (kept n live h t)) (cases_Bool (h.number == n))
 
 pub leaf-with_live : (n q : ℕ) (live : Bool) (hs : List Held) → leaf_at q (with_live n live hs) ≡ leaf_at q hs

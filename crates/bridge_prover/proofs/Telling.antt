@@ -29,7 +29,7 @@ use Rattle.bridge_prover.specs.Laws.{LevelsTold}
 use Rattle.bridge_prover.proofs.Next.{at_level}
 use Rattle.bridge_prover.proofs.Refining.{chain-back, give_long, at-back, head_of}
 
-map_taken : {X Y : Type 0} (f : X → Y) (k : ℕ) (xs : List X) → map f (take k xs) ≡ take k (map f xs)
+pub map_taken : {X Y : Type 0} (f : X → Y) (k : ℕ) (xs : List X) → map f (take k xs) ≡ take k (map f xs)
 map_taken f zero xs = refl
 map_taken f (suc k) [] = refl
 map_taken f (suc k) (x ∷ xs) = ap (λ ys. f x ∷ ys) (map_taken f k xs)

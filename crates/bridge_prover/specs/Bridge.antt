@@ -1,46 +1,49 @@
 -- What a bridge keeps, what it says of an event, what it passes on, and what it keeps then.
-use Rattle.std.specs.Prelude.{ℕ, zero, suc, ◌+◌, ◌*◌, nat_le, List, [], ◌∷◌, ◌++◌, map, take, length, sum_by, slice_get, Option, Some, None, option_map, unwrap_or, if◌then◌else◌}
+use Rattle.std.specs.Prelude.{ℕ, zero, suc, ◌+◌, ◌*◌, nat_le, List, [], ◌∷◌, ◌++◌, map, take, length, sum_by, slice_get, Option, Some, None, is_some, option_map, unwrap_or, if◌then◌else◌}
 use Rattle.uo_base.specs.declared.event.Limits.{Limits}
 use Rattle.uo_base.specs.declared.event.Net.{Net}
 use Rattle.uo_digest.specs.declared.digest.Digest.{Digest}
 use Rattle.forest_place.specs.Position.{rows}
 use Rattle.forest_model.specs.Standing.{digest_at}
 use Rattle.forest_model.specs.EntryPlace.{entry_place}
-use Rattle.forest_model.specs.Evaluation.{asked, nothing_known}
+use Rattle.forest_model.specs.Evaluation.{asked}
 use Rattle.forest_model.specs.Deletion.{entries_without}
 use Rattle.block_codec.specs.Block.{Block, block_hash_of}
 use Rattle.leaf_record.specs.Leaf.{Leaf}
 use Rattle.leaf_record.specs.History.{somes}
-use Rattle.proof_wire.specs.BlockProof.{Spend, BlockProof, message_text}
+use Rattle.proof_wire.specs.BlockProof.{Spend, BlockProof}
 use Rattle.block_rules.specs.declared.chain.Chain.{Chain}
-use Rattle.block_rules.specs.declared.chain.Outside.{Outside}
 use Rattle.block_rules.specs.declared.refusal.Refusal.{Refusal}
 use Rattle.block_rules.specs.declared.refusal.Refusal.TheVariants as Why
 use Rattle.block_rules.specs.declared.verdict.Verdict.{Verdict}
 use Rattle.block_rules.specs.declared.verdict.Verdict.TheVariants.{Refused, TooDeep, Stray}
 use Rattle.block_rules.specs.Blocks.{external, new_records}
-use Rattle.node_rules.specs.Messages.{number_of, targets, in_full}
+use Rattle.node_rules.specs.Messages.{Message, number_of, targets}
 use Rattle.node_rules.specs.Judging.{Rules, refusal}
 use Rattle.node_rules.specs.Machine.{ChainEvent, BlockCame, RollbackCame, StrayCame, no_tip, verdict_by}
+use Rattle.node_rules.specs.Proving.{written_text}
 use Rattle.bridge_forest.specs.Blocks.{all_restored}
 use Rattle.output_index.specs.Held.{Held, leaf_at}
 use Rattle.reorg_undo.specs.Undo.{UndoRecord}
 use Rattle.compact_node.specs.Node.{gone_to}
 use Rattle.bridge_prover.specs.Own.{own_in, numbered, spent_in, forgotten_in, cut_in, unspent_in}
+use Rattle.bridge_prover.specs.Watched.{known_in}
 
--- what contracts see of `Bridge`: what it was told at the start, its chain, the entries of its forest, the outputs that its index
--- holds, and what undoes the newest blocks, a hundred at most, the newest of them first
+-- what contracts see of `Bridge`: what it was told at the start, the watch list of those who get its messages among it, its chain, the
+-- entries of its forest, the outputs that its index holds, and what undoes the newest blocks, a hundred at most, the newest of them first
 pub record BridgeState : Type 0 where
   pub rules : Rules
+  pub watch : Option (List (List ℕ))
   pub chain : Chain
   pub entries : List (Option Digest)
   pub held : List Held
   pub undo : List UndoRecord
 
 -- no block and no output
-abbrev pub fresh_bridge : Net → Limits → BridgeState
-fresh_bridge net limits = record {
+abbrev pub fresh_bridge : Net → Limits → Option (List (List ℕ)) → BridgeState
+fresh_bridge net limits watch = record {
   rules = record { net = net; limits = limits };
+  watch = watch;
   chain = record { blocks = 0; tip = no_tip; leaves = 0 };
   entries = [];
   held = [];
@@ -83,6 +86,7 @@ dropped undo = unwrap_or (option_map (λ u. u.spent) (slice_get undo 99)) []
 abbrev pub bridge_with : (List ℕ → Digest) → (Leaf → List ℕ) → BridgeState → Digest → List ℕ → List Leaf → BridgeState
 bridge_with H text s hash numbers new = record {
   rules = s.rules;
+  watch = s.watch;
   chain = record { blocks = suc s.chain.blocks; tip = hash; leaves = s.chain.leaves + length new };
   entries = entries_without numbers s.entries ++ map Some (map (λ leaf. H (text leaf)) new);
   held = forgotten_in (dropped s.undo) (spent_in numbers (s.held ++ numbered s.chain.leaves new));
@@ -111,6 +115,7 @@ abbrev pub undone_by : (List ℕ → Digest) → (Leaf → List ℕ) → List Un
 undone_by H text [] s = s
 undone_by H text (u ∷ older) s = record {
   rules = s.rules;
+  watch = s.watch;
   chain = chain_before u;
   entries = all_restored (restored_in H text s.held u.spent) (take u.leaves s.entries);
   held = unspent_in u.spent (cut_in u.leaves s.held);
@@ -140,16 +145,16 @@ spend_of es i leaf = record { target = target_of es i; rest = leaf.rest }
 abbrev pub spends_by : List (Option Digest) → List Held → List ℕ → List Spend
 spends_by es hs numbers = somes (map (λ i. option_map (spend_of es i) (leaf_at i hs)) numbers)
 
--- in full
-abbrev pub proof_by : (List ℕ → Digest) → List (Option Digest) → List Held → List ℕ → BlockProof
-proof_by H es hs numbers =
+-- without the hashes that are known to one with the list, if there is one
+abbrev pub proof_by : (List ℕ → Digest) → Option (List (List ℕ)) → List (Option Digest) → List Held → List ℕ → BlockProof
+proof_by H watch es hs numbers =
     let spends = spends_by es hs numbers in
     let ts = targets (length es) (record { spends = spends; hashes = [] }) in
-    record { spends = spends; hashes = somes (map (λ p. digest_at H es p.row p.off) (asked (length es) ts nothing_known)) }
+    record { spends = spends; hashes = somes (map (λ p. digest_at H es p.row p.off) (asked (length es) ts (known_in H watch es hs))) }
 
-abbrev pub message_by : List Outside → BlockProof → Option (List ℕ)
-message_by [] p = None
-message_by (at ∷ ext) p = Some (message_text (in_full p))
+-- lean exactly where there is a list
+abbrev pub message_by : (List ℕ → Digest) → Option (List (List ℕ)) → List (Option Digest) → List Held → List ℕ → Message
+message_by H watch es hs numbers = record { lean = is_some watch; proof = proof_by H watch es hs numbers }
 
 abbrev pub told_if : Option Refusal → Option (List ℕ) → Option (List ℕ)
 told_if None message = message
@@ -159,7 +164,7 @@ abbrev pub message_on : (List ℕ → Digest) → BridgeState → ChainEvent →
 message_on H s (BlockCame None handed) = None
 message_on H s (BlockCame (Some b) handed) =
     let ext = external b s.chain.blocks in
-    told_if (refusal_on s b) (message_by ext (proof_by H s.entries s.held (own_in s.held ext).numbers))
+    told_if (refusal_on s b) (written_text ext (message_by H s.watch s.entries s.held (own_in s.held ext).numbers))
 message_on H s (RollbackCame k) = None
 message_on H s StrayCame = None
 

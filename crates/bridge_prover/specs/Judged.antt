@@ -1,22 +1,31 @@
 -- What the calls on a block answer.
-use Rattle.std.specs.Prelude.{◌≡◌, ◌≢◌, ℕ, ◌+◌, ◌<◌, ◌≤◌, ◌^◌, true, false, List, [], ◌++◌, map, take, length, Option, Some, None, All, AllPairs}
+use Rattle.std.specs.Prelude.{◌≡◌, ◌≢◌, ℕ, ◌+◌, ◌<◌, ◌≤◌, ◌^◌, true, false, not, List, [], ◌∷◌, ◌++◌, map, take, length, Option, Some, None, if◌then◌else◌, All, AllPairs}
+use Rattle.std.specs.List.{filter}
 use Rattle.uo_digest.specs.declared.digest.Digest.{Digest}
+use Rattle.forest_place.specs.declared.place.Place.{Place}
 use Rattle.forest_place.specs.Position.{place_at}
+use Rattle.forest_model.specs.Cover.{need}
+use Rattle.forest_model.specs.Standing.{digest_at}
 use Rattle.block_codec.specs.Block.{Block}
 use Rattle.leaf_record.specs.Leaf.{Leaf}
-use Rattle.proof_wire.specs.BlockProof.{targets_of}
+use Rattle.leaf_record.specs.History.{somes}
+use Rattle.proof_wire.specs.BlockProof.{BlockProof, targets_of}
 use Rattle.block_rules.specs.Blocks.{external}
 use Rattle.block_rules.specs.declared.chain.Found.{Found}
 use Rattle.block_rules.specs.declared.chain.Outside.{Outside}
 use Rattle.block_rules.specs.declared.refusal.Refusal.{Refusal}
 use Rattle.block_rules.specs.Money.{found_of}
 use Rattle.block_rules.specs.Steps.{first_of}
+use Rattle.cache_model.specs.Known.{is_known}
+use Rattle.cache_model.specs.Undo.{is_before_place}
+use Rattle.node_rules.specs.Messages.{targets}
 use Rattle.node_rules.specs.Accepting.{shape_fault}
+use Rattle.node_rules.specs.Proving.{written_text}
 use Rattle.bridge_forest.specs.State as forest
 use Rattle.output_index.specs.Held.{Held, is_live, is_spent}
 use Rattle.reorg_undo.specs.Undo.{UndoRecord}
 use Rattle.bridge_prover.specs.Own.{newest_in, missing_in, leaves_in, own_in, numbered, spent_in, cut_in}
-use Rattle.bridge_prover.specs.Bridge.{BridgeState, refusal_on, spends_by, proof_by, message_by, bridge_with, after_block, dropped}
+use Rattle.bridge_prover.specs.Bridge.{BridgeState, refusal_on, spends_by, message_by, bridge_with, after_block, dropped}
 use Rattle.bridge_prover.specs.Standing.{IsBridge}
 
 -- the first external input of which no live entry is held
@@ -29,14 +38,33 @@ pub record AreFound (hs : List Held) (ext : List Outside) (numbers : List ℕ) (
   pub passes : first_missing hs ext ≡ None
   pub are : found ≡ map (λ leaf. found_of leaf.rest) (leaves_in hs numbers)
 
--- all that has to hold so that a block may be taken which spends these entries: they are live and different, their places have
--- shape, there is room, what can be forgotten then is spent, and what the bridge keeps then is again what a bridge keeps
+-- the places of these entries have shape
+abbrev pub HaveShape : BridgeState → List ℕ → Type 0
+HaveShape s numbers = shape_fault (length s.entries) [] 0 (map (place_at (length s.entries)) (targets_of (spends_by s.entries s.held numbers))) ≡ None
+
+-- the proof of these entries, without the hashes that are known where the kept entries stand at these places
+abbrev pub proof_beside : (List ℕ → Digest) → List Place → List (Option Digest) → List Held → List ℕ → BlockProof
+proof_beside H kept es hs numbers =
+    let spends = spends_by es hs numbers in
+    let ts = targets (length es) (record { spends = spends; hashes = [] }) in
+    record { spends = spends; hashes = somes (map (λ p. digest_at H es p.row p.off) (filter (λ p. not (is_known (length es) kept p)) (need (length es) ts))) }
+
+-- x stands at the head of the one list, of whose others rest makes one list with what it is given
+abbrev pub merged_under : Place → (List Place → List Place) → List Place → List Place
+merged_under x rest [] = x ∷ rest []
+merged_under x rest (y ∷ ys) = if is_before_place x y then x ∷ rest (y ∷ ys) else y ∷ merged_under x rest ys
+
+-- two ascending lists of places as one
+abbrev pub merged : List Place → List Place → List Place
+merged [] ys = ys
+merged (x ∷ xs) ys = merged_under x (merged xs) ys
+
+-- all that has to hold so that a block may be taken which spends these entries: they are live and different, there is room, what can be forgotten then is spent, and what the bridge keeps then is again what a bridge keeps
 pub record IsReady (H : List ℕ → Digest) (text : Leaf → List ℕ) (s : BridgeState) (hash : Digest) (numbers : List ℕ) (new : List Leaf) : Type 0 where
   pub live : All (λ i. forest.is_live s.entries i ≡ true) numbers
   pub held : All (λ i. is_live i s.held ≡ true) numbers
   pub apart : AllPairs (λ i j. i ≢ j) numbers
   pub short : length numbers < 2 ^ 32
-  pub shape : shape_fault (length s.entries) [] 0 (map (place_at (length s.entries)) (targets_of (spends_by s.entries s.held numbers))) ≡ None
   pub counted : length s.entries ≡ s.chain.leaves
   pub few : s.chain.leaves + length new < 2 ^ 40
   pub low : s.chain.blocks < 2 ^ 31
@@ -47,7 +75,7 @@ pub record IsReady (H : List ℕ → Digest) (text : Leaf → List ℕ) (s : Bri
 -- no step fails, this is what is passed on, and this is what the bridge keeps then
 pub record IsProved (H : List ℕ → Digest) (text : Leaf → List ℕ) (s : BridgeState) (b : Block) (message : Option (List ℕ)) (t : BridgeState) : Type 0 where
   pub passes : refusal_on s b ≡ None
-  pub says : message ≡ message_by (external b s.chain.blocks) (proof_by H s.entries s.held (own_in s.held (external b s.chain.blocks)).numbers)
+  pub says : message ≡ written_text (external b s.chain.blocks) (message_by H s.watch s.entries s.held (own_in s.held (external b s.chain.blocks)).numbers)
   pub next : t ≡ after_block H text s b
 
 -- all that has to hold so that the newest block can be undone: what it added is live, and what it spent is spent

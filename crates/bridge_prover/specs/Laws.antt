@@ -4,12 +4,17 @@ use Rattle.uo_base.specs.declared.event.Limits.{Limits}
 use Rattle.uo_base.specs.declared.event.Net.{Net}
 use Rattle.uo_digest.specs.declared.digest.Digest.{Digest}
 use Rattle.leaf_record.specs.Leaf.{Leaf}
+use Rattle.forest_place.specs.declared.place.Place.{Place}
+use Rattle.cache_model.specs.Cache.{look}
+use Rattle.cache_model.specs.Known.{known_at}
+use Rattle.cache_model.specs.Lists.{AscendByPlace}
 use Rattle.block_rules.specs.declared.chain.Chain.{Chain}
 use Rattle.block_rules.specs.declared.verdict.Verdict.{Verdict}
 use Rattle.block_rules.specs.declared.verdict.Verdict.TheVariants.{Accepted, Refused, RolledBack, TooDeep, Stray}
 use Rattle.node_rules.specs.Judging.{Rules}
 use Rattle.node_rules.specs.Machine.{ChainEvent, BlockCame, RollbackCame, StrayCame, Level, State, Outcome, start, own_judge, is_made, height_of, step}
 use Rattle.node_rules.specs.Proving.{text_beside}
+use Rattle.bridge_prover.specs.Watched.{scripts_of, known_list}
 use Rattle.bridge_prover.specs.Bridge.{BridgeState, fresh_bridge, chain_before, verdict_on, next_bridge, message_on}
 use Rattle.bridge_prover.specs.Standing.{IsBridge, Stands}
 
@@ -17,37 +22,47 @@ use Rattle.bridge_prover.specs.Standing.{IsBridge, Stands}
 abbrev pub own_outcome : Rules → State → ChainEvent → Outcome
 own_outcome rules t e = step rules own_judge t e
 
--- the bytes of its message in full beside an event, where it accepts a block that spends from outside
-abbrev pub text_by : (List ℕ → Digest) → (Leaf → List ℕ) → Level → ChainEvent → Option (List ℕ)
-text_by H text l (BlockCame b handed) = text_beside H text None l b
-text_by H text l (RollbackCame k) = None
-text_by H text l StrayCame = None
+-- the bytes of its message beside an event, where it accepts a block that spends from outside: in full, or lean for one with this watch list
+abbrev pub text_by : (List ℕ → Digest) → (Leaf → List ℕ) → Option (List (List ℕ)) → Level → ChainEvent → Option (List ℕ)
+text_by H text watch l (BlockCame b handed) = text_beside H text watch l b
+text_by H text watch l (RollbackCame k) = None
+text_by H text watch l StrayCame = None
 
-abbrev pub own_text : (List ℕ → Digest) → (Leaf → List ℕ) → Rules → State → ChainEvent → Option (List ℕ)
-own_text H text rules t e = if is_made (own_outcome rules t e).verdict then text_by H text t.now e else None
+abbrev pub own_text : (List ℕ → Digest) → (Leaf → List ℕ) → Option (List (List ℕ)) → Rules → State → ChainEvent → Option (List ℕ)
+own_text H text watch rules t e = if is_made (own_outcome rules t e).verdict then text_by H text watch t.now e else None
 
 -- that node says v of the event and passes the message on beside it, and s stands for what it holds then
-pub record IsAsOwn (H : List ℕ → Digest) (text : Leaf → List ℕ) (rules : Rules) (t : State) (e : ChainEvent) (v : Verdict) (message : Option (List ℕ)) (s : BridgeState) : Type 0 where
+pub record IsAsOwn (H : List ℕ → Digest) (text : Leaf → List ℕ) (watch : Option (List (List ℕ))) (rules : Rules) (t : State) (e : ChainEvent) (v : Verdict) (message : Option (List ℕ)) (s : BridgeState) : Type 0 where
   pub said : (own_outcome rules t e).verdict ≡ Some v
-  pub passed : message ≡ own_text H text rules t e
+  pub passed : message ≡ own_text H text watch rules t e
   pub stands : Stands H text (own_outcome rules t e).state s
 
 -- where s stands for what that node holds, it is so
 abbrev pub SaysAsOwn : (List ℕ → Digest) → (Leaf → List ℕ) → BridgeState → ChainEvent → Verdict → Option (List ℕ) → BridgeState → Type 0
-SaysAsOwn H text s e v message s' = (t : State) → Stands H text t s → IsAsOwn H text s.rules t e v message s'
+SaysAsOwn H text s e v message s' = (t : State) → Stands H text t s → IsAsOwn H text s.watch s.rules t e v message s'
 
 -- a bridge does
 abbrev pub BridgeIsOwn : Type 0
 BridgeIsOwn = (H : List ℕ → Digest) (text : Leaf → List ℕ) (s : BridgeState) (e : ChainEvent) → IsBridge H text s →
     SaysAsOwn H text s e (verdict_on s e) (message_on H s e) (next_bridge H text s e)
 
+-- where s stands for what the proving node holds, this is what is known there to one with its watch list
+abbrev pub KnowsAsOwn : (List ℕ → Digest) → (Leaf → List ℕ) → BridgeState → List (Place × Digest) → Type 0
+KnowsAsOwn H text s known = (t : State) → Stands H text t s → (row off : ℕ) → look known row off ≡ known_at H text (scripts_of s.watch) t.now.history row off
+
+-- what a bridge knows is that, each place once, in ascending order
+abbrev pub KnownIsOwn : Type 0
+KnownIsOwn = (H : List ℕ → Digest) (text : Leaf → List ℕ) (s : BridgeState) → IsBridge H text s →
+    let known = known_list H (scripts_of s.watch) s.entries s.held in
+    KnowsAsOwn H text s known × AscendByPlace known
+
 -- at the start it stands for it
 abbrev pub FreshStands : Type 0
-FreshStands = (H : List ℕ → Digest) (text : Leaf → List ℕ) (net : Net) (limits : Limits) → Stands H text start (fresh_bridge net limits)
+FreshStands = (H : List ℕ → Digest) (text : Leaf → List ℕ) (net : Net) (limits : Limits) (watch : Option (List (List ℕ))) → Stands H text start (fresh_bridge net limits watch)
 
 -- and a bridge stays one
 abbrev pub FreshIsBridge : Type 0
-FreshIsBridge = (H : List ℕ → Digest) (text : Leaf → List ℕ) (net : Net) (limits : Limits) → limits.leaves < 2 ^ 40 → IsBridge H text (fresh_bridge net limits)
+FreshIsBridge = (H : List ℕ → Digest) (text : Leaf → List ℕ) (net : Net) (limits : Limits) (watch : Option (List (List ℕ))) → limits.leaves < 2 ^ 40 → IsBridge H text (fresh_bridge net limits watch)
 
 abbrev pub NextIsBridge : Type 0
 NextIsBridge = (H : List ℕ → Digest) (text : Leaf → List ℕ) (s : BridgeState) (e : ChainEvent) → IsBridge H text s → IsBridge H text (next_bridge H text s e)

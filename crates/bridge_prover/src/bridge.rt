@@ -1,22 +1,29 @@
 //! The bridge.
-ghost use Rattle.std.specs.Prelude.{◌≡◌, ◌+◌, ◌*◌, ◌<◌, ◌≤◌, ◌^◌, length, option_map, None, Some, IfOk, IfErr, OnOk, OnErr};
+ghost use Rattle.std.specs.Prelude.{◌≡◌, ◌+◌, ◌*◌, ◌<◌, ◌≤◌, ◌^◌, true, [], map, length, option_map, None, Some, IfOk, IfErr, OnOk, OnErr, All};
 ghost use Rattle.block_codec.specs.Reading.{block_in};
 ghost use Rattle.forest_place.specs.Position.{rows};
 ghost use Rattle.leaf_record.specs.Leaf.{leaf_text};
 ghost use Rattle.node_rules.specs.Machine.{height_of};
 ghost use Rattle.uo_base.specs.FeedEvent.{event_of};
 
+mod judge;
+
 use crate::entries::{digests_of, restore_all};
 use crate::find::{found_by, numbers_of};
 use crate::held::{cut, insert_all, keep, spend_all, undo_of, unspend_all};
-use crate::message::message_for;
+use crate::message::message_of;
+use crate::watched::{append, cut_noted, hashes_of, keep_held, kept_targets, noted_of};
 use block_codec::{BlockFault, BlockView, block_hash, read_block};
 use block_rules::{
     Chain, Found, Outside, Refusal, RuleFault, Spends, Verdict, money_rules, shape_rules,
 };
 use bridge_forest::Forest;
+use forest_place::Place;
+use leaf_cache::Watch;
 use leaf_record::LeafBuf;
 use output_index::Outputs;
+use proof_shape::Targets;
+use proof_wire::Message;
 use reorg_undo::{Ring, Undo};
 use std::alloc::Global;
 use std::marker::Model;
@@ -33,7 +40,8 @@ pub struct Proved {
     pub message: Option<Vec<u8>>,
 }
 
-/// A node that holds every output, by the digester `D`. It judges each block by what it holds, and proves it to others.
+/// A node that holds every output, by the digester `D`. It judges each block by what it holds, and proves it to others. With a watch
+/// list its messages are for those who watch this list: lean, without the hashes that they know.
 #[derive(Drop)]
 pub struct Bridge<D: Digester> {
     alloc: Global,
@@ -44,19 +52,25 @@ pub struct Bridge<D: Digester> {
     outputs: Outputs,
     undo: Ring<Undo>,
     room: LeafBuf<D>,
+    watch: Option<Watch>,
+
+    // The numbers of the held outputs that are watched, ascending.
+    noted: Vec<u64>,
 }
 
 impl<D: Digester> Model for Bridge<D> {
+    ghost use Rattle.std.specs.Prelude.{◌≡◌};
     ghost use Rattle.leaf_record.specs.Leaf.{leaf_text};
     ghost use Rattle.node_rules.specs.Judging.{Rules};
     ghost use Rattle.bridge_prover.specs.Bridge.{BridgeState};
     ghost use Rattle.bridge_prover.specs.Standing.{IsBridge};
+    ghost use Rattle.bridge_prover.specs.Watched.{scripts_of, noted_in};
 
     ghost Value = { BridgeState };
 
-    ghost view = { λ s. record { rules = record { net = s.net; limits = s.limits }; chain = s.chain; entries = s.forest.entries; held = s.outputs; undo = s.undo } };
+    ghost view = { λ s. record { rules = record { net = s.net; limits = s.limits }; watch = s.watch; chain = s.chain; entries = s.forest.entries; held = s.outputs; undo = s.undo } };
 
-    ghost invariant = { λ s. IsBridge D.digest_of leaf_text (record { rules = record { net = s.net; limits = s.limits }; chain = s.chain; entries = s.forest.entries; held = s.outputs; undo = s.undo }) };
+    ghost invariant = { λ s. IsBridge D.digest_of leaf_text (record { rules = record { net = s.net; limits = s.limits }; watch = s.watch; chain = s.chain; entries = s.forest.entries; held = s.outputs; undo = s.undo }) × (s.noted.items ≡ noted_in (scripts_of s.watch) s.outputs) };
 }
 
 impl<D: Digester> Bridge<D> {
@@ -68,15 +82,29 @@ impl<D: Digester> Bridge<D> {
     ghost use Rattle.node_rules.specs.Reading.{nothing};
     ghost use Rattle.compact_node.specs.Judged.{IsFirst};
     ghost use Rattle.compact_node.specs.Node.{IsShort, gone_to};
-    ghost use Rattle.bridge_prover.specs.Bridge.{bridge_with, fresh_bridge, gone_back, message_by, message_on, most_steps, next_bridge, proof_by, refusal_on, spent_by, undone_by, verdict_on};
-    ghost use Rattle.bridge_prover.specs.Judged.{AreFound, IsProved, IsReady, first_missing};
-    ghost use Rattle.bridge_prover.specs.Laws.{LevelsTold, SaysAsOwn};
+    ghost use Rattle.forest_place.specs.Position.{place_at};
+    ghost use Rattle.proof_wire.specs.BlockProof.{targets_of};
+    ghost use Rattle.node_rules.specs.Accepting.{shape_fault};
+    ghost use Rattle.node_rules.specs.Proving.{written_text};
+    ghost use Rattle.cache_model.specs.Cache.{held};
+    ghost use Rattle.cache_model.specs.Lists.{AscendByPlace};
+    ghost use Rattle.bridge_forest.specs.State.{is_live};
+    ghost use Rattle.bridge_prover.specs.Watched.{scripts_of, kept_in, places_in, known_list};
+    ghost use Rattle.bridge_prover.specs.Bridge.{bridge_with, fresh_bridge, gone_back, message_by, message_on, most_steps, next_bridge, refusal_on, spends_by, spent_by, undone_by, verdict_on};
+    ghost use Rattle.bridge_prover.specs.Judged.{AreFound, HaveShape, IsProved, IsReady, first_missing};
+    ghost use Rattle.bridge_prover.specs.Laws.{KnowsAsOwn, LevelsTold, SaysAsOwn};
     ghost use Rattle.bridge_prover.specs.Standing.{IsBridge};
 
-    /// A bridge with no block and no output, and room for what undoes a hundred blocks.
-    pub fn new(alloc: Global, net: Net, limits: Limits) -> Result<Bridge<D>, NoMemory>
+    /// A bridge with no block and no output, and room for what undoes a hundred blocks. Its messages are lean exactly where there
+    /// is a watch list.
+    pub fn new(
+        alloc: Global,
+        net: Net,
+        limits: Limits,
+        watch: Option<Watch>,
+    ) -> Result<Bridge<D>, NoMemory>
         requires { limits.leaves < 2 ^ 40 }
-        ensures { IfOk result (λ bridge. bridge ≡ fresh_bridge net limits) }
+        ensures { IfOk result (λ bridge. bridge ≡ fresh_bridge net limits watch) }
     {
         Ok(Bridge {
             alloc,
@@ -91,6 +119,8 @@ impl<D: Digester> Bridge<D> {
             outputs: Outputs::new(alloc),
             undo: Ring::new(alloc)?,
             room: LeafBuf::new(alloc)?,
+            watch,
+            noted: Vec::new(alloc),
         })
     }
 
@@ -100,6 +130,20 @@ impl<D: Digester> Bridge<D> {
         ensures bridge { IsBridge D.digest_of leaf_text self.now }
     {
         self.chain
+    }
+
+    /// The network whose rules it keeps.
+    pub fn net(&self) -> Net
+        ensures { result ≡ self.now.rules.net }
+    {
+        self.net
+    }
+
+    /// The limits that it keeps.
+    pub fn limits(&self) -> Limits
+        ensures { result ≡ self.now.rules.limits }
+    {
+        self.limits
     }
 
     /// By how many blocks the bridge can go back.
@@ -121,6 +165,20 @@ impl<D: Digester> Bridge<D> {
         ensures { result.now ≡ self.now.held }
     {
         &self.outputs
+    }
+
+    /// The known places with their digests, in ascending position: where watched live outputs stand, all places above these, and
+    /// those that their proofs need. It is what is known to one who watches the list of the bridge; nothing where it has none.
+    pub fn known_hashes(&self) -> Result<Vec<(Place, Digest)>, NoMemory>
+        ensures is { IfOk result (λ known. known.items ≡ known_list D.digest_of (scripts_of self.now.watch) self.now.entries self.now.held) }
+
+        ensures ascends { IfOk result (λ known. AscendByPlace known.items) }
+
+        // Where the bridge stands for what the proving node holds, it is what is known there.
+        ensures own { IfOk result (λ known. KnowsAsOwn D.digest_of leaf_text self.now known.items) }
+    {
+        let kept = self.kept()?;
+        self.hashes_at(&kept)
     }
 
     /// Judges an event by all outputs, and goes on where it is accepted; a message beside a block is not looked at. At a
@@ -210,6 +268,7 @@ impl<D: Digester> Bridge<D> {
         );
         cut(&mut self.outputs, undo.leaves, self.chain.leaves);
         unspend_all(&mut self.outputs, &undo.spent);
+        cut_noted(&mut self.noted, undo.leaves);
         self.chain = Chain {
             blocks: undo.blocks,
             tip: undo.tip,
@@ -217,7 +276,61 @@ impl<D: Digester> Bridge<D> {
         };
     }
 
-    // Goes on by a block that spends these entries, or leaves all as it was where there is no memory.
+    // The places of the watched live outputs, as targets.
+    fn kept(&self) -> Result<Targets, NoMemory>
+        ensures leaves { IfOk result (λ t. t.leaves ≡ length self.now.entries) }
+        ensures targets { IfOk result (λ t. t.targets ≡ places_in self.now.entries (kept_in (scripts_of self.now.watch) self.now.held)) }
+        ensures bridge { IsBridge D.digest_of leaf_text self.now }
+    {
+        kept_targets::<D>(self.alloc, &self.forest, &self.outputs, &self.noted)
+    }
+
+    // The digests of what is known where the kept entries stand at these places.
+    fn hashes_at(&self, kept: &Targets) -> Result<Vec<(Place, Digest)>, NoMemory>
+        requires { kept.now.leaves ≡ length self.now.entries }
+        ensures { IfOk result (λ known. known.items ≡ held D.digest_of self.now.entries kept.now.targets) }
+    {
+        Ok(hashes_of::<D>(self.alloc, &self.forest, kept)?)
+    }
+
+    // The bytes of the message beside a block that spends these entries: none where nothing is spent from outside.
+    fn message(&self, external: &[Outside], numbers: &[u64]) -> Result<Option<Vec<u8>>, NoMemory>
+        requires live { All (λ i. is_live self.now.entries i ≡ true) numbers.now }
+        requires short { length numbers.now < 2 ^ 32 }
+        requires shape { shape_fault (length self.now.entries) [] 0 (map (place_at (length self.now.entries)) (targets_of (spends_by self.now.entries self.now.held numbers.now))) ≡ None }
+        ensures { IfOk result (λ m. option_map (λ bytes. bytes.items) m ≡ written_text external.now (message_by D.digest_of self.now.watch self.now.entries self.now.held numbers.now)) }
+    {
+        if external.is_empty() {
+            return Ok(None);
+        }
+        let kept = self.kept()?;
+        let message = self.message_beside(&kept, numbers)?;
+        let mut bytes = Vec::new(self.alloc);
+        message.write(&mut bytes)?;
+        Ok(Some(bytes))
+    }
+
+    // That message, where the kept entries stand at these places.
+    fn message_beside(&self, kept: &Targets, numbers: &[u64]) -> Result<Message, NoMemory>
+        requires leaves { kept.now.leaves ≡ length self.now.entries }
+        requires targets { kept.now.targets ≡ places_in self.now.entries (kept_in (scripts_of self.now.watch) self.now.held) }
+        requires live { All (λ i. is_live self.now.entries i ≡ true) numbers.now }
+        requires short { length numbers.now < 2 ^ 32 }
+        requires shape { shape_fault (length self.now.entries) [] 0 (map (place_at (length self.now.entries)) (targets_of (spends_by self.now.entries self.now.held numbers.now))) ≡ None }
+        ensures { IfOk result (λ m. m ≡ message_by D.digest_of self.now.watch self.now.entries self.now.held numbers.now) }
+    {
+        message_of::<D>(
+            self.alloc,
+            &self.forest,
+            &self.outputs,
+            kept,
+            self.watch.is_some(),
+            numbers,
+        )
+    }
+
+    // Goes on by a block that spends these entries, and answers the message that shows them, or leaves all as it was where there
+    // is no memory.
     fn extend<L: Ledger>(
         &mut self,
         hash: Digest,
@@ -225,33 +338,49 @@ impl<D: Digester> Bridge<D> {
         numbers: Vec<u64>,
         steps: &mut Steps<L>,
     ) -> Result<Option<Vec<u8>>, NoMemory>
-        requires { IsReady D.digest_of leaf_text self.old hash numbers.items spends.now.new }
-        ensures says { IfOk result (λ m. option_map (λ bytes. bytes.items) m ≡ message_by spends.now.external (proof_by D.digest_of self.old.entries self.old.held numbers.items)) }
+        requires ready { IsReady D.digest_of leaf_text self.old hash numbers.items spends.now.new }
+        requires shape { HaveShape self.old numbers.items }
+        ensures says { IfOk result (λ m. option_map (λ bytes. bytes.items) m ≡ written_text spends.now.external (message_by D.digest_of self.old.watch self.old.entries self.old.held numbers.items)) }
         ensures next { OnOk result (self.new ≡ bridge_with D.digest_of leaf_text self.old hash numbers.items spends.now.new) }
         ensures stays { OnErr result (self.new ≡ self.old) }
         ensures steps { steps.new ≤ steps.old + length numbers.items * rows (length self.old.entries) + 2 * length spends.now.new + 40 }
     {
-        let message = message_for::<D>(
-            self.alloc,
-            &self.forest,
-            &self.outputs,
-            spends.external(),
-            &numbers,
-        )?;
+        let message = self.message(spends.external(), &numbers)?;
+        self.take_in(hash, spends, numbers, steps)?;
+        Ok(message)
+    }
+
+    // The same with no message.
+    fn take_in<L: Ledger>(
+        &mut self,
+        hash: Digest,
+        spends: &Spends<'_>,
+        numbers: Vec<u64>,
+        steps: &mut Steps<L>,
+    ) -> Result<(), NoMemory>
+        requires { IsReady D.digest_of leaf_text self.old hash numbers.items spends.now.new }
+        ensures next { OnOk result (self.new ≡ bridge_with D.digest_of leaf_text self.old hash numbers.items spends.now.new) }
+        ensures stays { OnErr result (self.new ≡ self.old) }
+        ensures steps { steps.new ≤ steps.old + length numbers.items * rows (length self.old.entries) + 2 * length spends.now.new + 40 }
+    {
         let digests = digests_of::<D, L>(self.alloc, &mut self.room, spends, steps)?;
+        let noted = noted_of(self.alloc, &self.watch, self.chain.leaves, spends)?;
         self.forest.reserve(digests.len() as u64)?;
+        self.noted.reserve(noted.len())?;
         insert_all(self.alloc, &mut self.outputs, self.chain.leaves, spends)?;
         // Nothing can fail from here on.
+        append(&mut self.noted, &noted);
         spend_all(&mut self.outputs, &numbers);
         self.forest.apply_block(&numbers, &digests, steps);
         let undo = undo_of(&self.chain, numbers);
         keep(&mut self.undo, &mut self.outputs, undo);
+        keep_held(&mut self.noted, &self.outputs);
         self.chain = Chain {
             blocks: self.chain.blocks + 1,
             tip: hash,
             leaves: self.chain.leaves + digests.len() as u64,
         };
-        Ok(message)
+        Ok(())
     }
 
     // Judges a block, and goes on where it breaks no rule.

@@ -1,11 +1,17 @@
 //! What holds of bridges. There is no code here.
-ghost use Rattle.bridge_prover.specs.Laws.{BridgeIsOwn, FreshIsBridge, FreshStands, NextIsBridge, VerdictsTellLevels};
+ghost use Rattle.bridge_prover.specs.Laws.{BridgeIsOwn, FreshIsBridge, FreshStands, KnownIsOwn, NextIsBridge, VerdictsTellLevels};
 ghost use Rattle.bridge_prover.specs.Throughout.{BridgeProvesThroughout, FreshProvesThroughout};
 
 /// Where a bridge stands for the levels of the proving node, both say the same of each event, rollbacks included, the bridge
-/// passes on the message of that node in full, and what it keeps then stands for what that node holds then, on every level.
+/// passes on the message of that node, in full or for its watch list, and what it keeps then stands for what that node holds then, on
+/// every level.
 pub fn bridge_is_own()
     ensures { BridgeIsOwn }
+{}
+
+/// What a bridge knows is what is known, by the outputs that the proving node holds, to one who watches its list.
+pub fn known_is_own()
+    ensures { KnownIsOwn }
 {}
 
 /// A bridge with no block stands for no output.

@@ -3,7 +3,10 @@
 ghost use Rattle.std.specs.Prelude.{◌≡◌, ◌+◌, ◌<◌, ◌^◌, true, length, is_some, if◌then◌else◌};
 ghost use Rattle.cache_update.specs.Marks.{Fits};
 
-use crate::{Mark, after_add, after_delete, begin, between, undo};
+mod plain;
+mod small;
+
+use crate::{Mark, after_add, after_delete, begin, between, step_back, undo};
 use forest_place::Place;
 use forest_roots::Roots;
 use leaf_cache::{Cache, Parts, Watch};
@@ -147,6 +150,18 @@ fn leap(rt: &impl Abort, alloc: Global, cache: &mut Cache<XorFold>, older: &Part
     undo(cache, mark);
 }
 
+// The lists before a mark's block, and how many digests they hold.
+fn held_before(rt: &impl Abort, alloc: Global, cache: &Cache<XorFold>, mark: &Mark) -> usize
+    requires { Fits mark.now cache.now.parts }
+{
+    let Ok(mut parts) = cache.seen().copy(alloc) else {
+        panic!(rt; "no memory")
+    };
+    assert!(rt; step_back(alloc, &mut parts, mark).is_ok());
+    assert_eq!(rt; parts.kept.len(), 1);
+    parts.held.len()
+}
+
 fn check_blocks<L: Ledger>(rt: &impl Abort, alloc: Global, blank: Blank)
     requires name { blank.name ≡ L.name }
     requires parts { blank.parts ≡ L.parts }
@@ -162,6 +177,7 @@ fn check_blocks<L: Ledger>(rt: &impl Abort, alloc: Global, blank: Blank)
     let Ok(spent) = cache.seen().copy(alloc) else {
         panic!(rt; "no memory")
     };
+    assert_eq!(rt; held_before(rt, alloc, &cache, &second), GROWN.len());
     undo(&mut cache, second);
     assert_holds(rt, &cache, &GROWN, Place { row: 0, off: 1 });
     leap(rt, alloc, &mut cache, &spent);

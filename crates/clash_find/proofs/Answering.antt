@@ -1,15 +1,19 @@
 -- From what the search finds to what it means.
 use Rattle.std.proofs.Common.{◌≡◌, ◌≢◌, ℕ, zero, suc, ◌+◌, ◌-◌, ◌*◌, ◌<◌, Bool, true, false, List, [], ◌∷◌, ◌++◌, map, length, get_or, Option, Some, None, Contains, refl, sym, ap, ◌∙◌, subst, ap₂, ⊎_elim, inl, inr, arith}
-use Rattle.std.specs.Prelude.{◌⊎◌, option_map, option_and_then, slice_get, unwrap_or, All}
+use Rattle.std.specs.Prelude.{◌⊎◌, is_none, option_map, option_and_then, slice_get, unwrap_or, bytes_eq, All, if◌then◌else◌}
 use Rattle.std.specs.List.{AllByRecursion}
-use Rattle.std.proofs.lemmas.Bool.{cases_Bool, false≢true, false_from_ne_true}
+use Rattle.std.specs.Option.{option_or}
+use Rattle.std.proofs.lemmas.Bool.{cases_Bool, cases_eq, cases_lt, false≢true, false_from_ne_true, or_cases, or_left, or_right}
 use Rattle.std.proofs.lemmas.List.{length-map, get_or_default}
 use Rattle.std.proofs.lemmas.Option.{none-some, same_Some, slice_get-map}
 use Rattle.uo_digest.specs.declared.digest.Digest.{Digest}
 use Rattle.forest_place.specs.declared.place.Place.{Place}
 use Rattle.forest_place.specs.Forest.{InForest, is_root, is_slot, root_off}
-use Rattle.forest_place.specs.Places.{is_at, has_place, IsDistinct}
-use Rattle.forest_place.proofs.Listed.{place, is_at-same, same_from_is_at}
+use Rattle.forest_place.specs.Places.{is_at, has_place, places, IsAscending, IsBefore, IsDistinct}
+use Rattle.forest_place.specs.Position.{position}
+use Rattle.forest_place.proofs.Ascending.{before_itself, places_ascending}
+use Rattle.forest_place.proofs.Listed.{place, is_at-same, places_had, places_have, same_from_is_at}
+use Rattle.forest_place.proofs.Positions.{position_rises}
 use Rattle.forest_place.proofs.Parts.{InForest-root, is_root-root_off, root_off-is_root}
 use Rattle.forest_model.specs.Content.{IsDigest, Tree, leaf, inner, content, digest_of, node_texts}
 use Rattle.forest_model.specs.Standing.{tree_at, digest_at, root}
@@ -30,17 +34,21 @@ use Rattle.proof_verify.specs.declared.evaluation.CoveredPlace.{CoveredPlace}
 use Rattle.proof_verify.specs.declared.evaluation.Made.{Made}
 use Rattle.proof_verify.specs.declared.evaluation.Made.TheVariants.{Target, Halves}
 use Rattle.block_rules.specs.declared.chain.Outside.{Outside}
+use Rattle.block_rules.specs.declared.refusal.ProofRefusal.{ProofRefusal}
+use Rattle.block_rules.specs.Steps.{first_of}
 use Rattle.output_index.specs.Held.{Held, leaf_at}
 use Rattle.node_rules.specs.Messages.{Message, point_of, points_of, named, targets, known_to}
 use Rattle.node_rules.specs.Accepting.{leaves_of, proof_fault}
-use Rattle.node_rules.specs.Right.{is_right}
+use Rattle.node_rules.specs.Right.{is_digest, is_right}
 use Rattle.node_rules.proofs.Faults.{length-named, accepted, passes}
 use Rattle.node_rules.proofs.Righting.{right_is_tested}
+use Rattle.node_rules.proofs.Same.{bytes_eq-same, bytes_eq-true, is_same-same, is_same-true}
 use Rattle.node_rules.proofs.Serving.{AreSame, same_value, same_cover, hash_of_all, same_evaluation}
 use Rattle.clash_find.specs.Clashes.{TextClash}
 use Rattle.clash_find.specs.Texts.{tree_text, text_at, claims, claim_text, made_text, AreDigests, IsWithin}
 use Rattle.clash_find.specs.Answers.{StandForHistory, IsClash, IsAnswer}
-use Rattle.clash_find.specs.Searched.{IsReady, DoRootsAgree, IsClashAt, AreCompared}
+use Rattle.clash_find.specs.Found.{text_for, differing, clash_over, clash_at, clash_in}
+use Rattle.clash_find.specs.Searched.{IsReady, DoRootsAgree, IsClashAt, IsCompared, AreCompared}
 use Rattle.clash_find.proofs.Claiming.{claims-long}
 use Rattle.clash_find.proofs.Agreement.{value_of, node_text, cover_text, HasDigests, AgreeAt, found, right_agrees}
 use Rattle.clash_find.proofs.Listing.{node_listed, cover_listed}
@@ -57,6 +65,43 @@ beside_slice none (p ∷ ps) (x ∷ xs) (suc i) u e lt =
     let z : p ≡ q = same_from_is_at q.row q.off p same in
     false≢true (sym u.0 ∙ (ap (λ (y : Place). has_place ps y.row y.off) z ∙ has_at ps i (record { row = 0; off = 0 }) li))) in
     rw other (beside_slice none ps xs i u.1 (omega (arith, e)) li)
+
+-- the first of what is shown at places in ascending order
+first-none : (f : Place → Option TextClash) (ps : List Place) → ((q : Place) → has_place ps q.row q.off ≡ true → f q ≡ None) → first_of (map f ps) ≡ None
+first-none f [] h = refl
+first-none f (p ∷ ps) h =
+    ap (λ x. option_or x (first_of (map f ps))) (h p (or_left (is_at p.row p.off p) (has_place ps p.row p.off) (is_at-same p.row p.off)))
+    ∙ first-none f ps (λ q i. h q (or_right (is_at q.row q.off p) (has_place ps q.row q.off) i))
+
+first-is : (f : Place → Option TextClash) (ps : List Place) (p : Place) (c : TextClash) → IsAscending ps → has_place ps p.row p.off ≡ true → f p ≡ Some c → ((q : Place) → has_place ps q.row q.off ≡ true → IsBefore q p → f q ≡ None) → first_of (map f ps) ≡ Some c
+first-is f [] p c a i e before = absurd (false≢true i)
+first-is f (q ∷ qs) p c a i e before =
+    ⊎_elim
+    (λ (here : is_at p.row p.off q ≡ true). ap (λ x. option_or x (first_of (map f qs))) (ap f (same_from_is_at p.row p.off q here) ∙ e))
+    (λ (later : has_place qs p.row p.off ≡ true).
+    ap (λ x. option_or x (first_of (map f qs))) (before q (or_left (is_at q.row q.off q) (has_place qs q.row q.off) (is_at-same q.row q.off)) (a.0 p later))
+    ∙ first-is f qs p c a.1 later e (λ r j b. before r (or_right (is_at r.row r.off q) (has_place qs r.row r.off) j) b))
+    (or_cases (is_at p.row p.off q) (has_place qs p.row p.off) i)
+
+-- a digest that stands there
+is_there : (d : Digest) (x : Option Digest) → x ≡ Some d → is_digest d x ≡ true
+is_there d x e = ap (is_digest d) e ∙ is_same-same d
+
+there_is : (d : Digest) (x : Option Digest) → is_digest d x ≡ true → x ≡ Some d
+there_is d None h = absurd (false≢true h)
+there_is d (Some e) h = ap Some (sym (is_same-true d e h))
+
+differing-other : (c : TextClash) → c.first ≢ c.second → differing c.first c.second c.digest ≡ Some c
+differing-other c other =
+    ap (λ (b : Bool). if b then None else Some c) (false_from_ne_true (bytes_eq c.first c.second) (λ t. other (bytes_eq-true c.first c.second t)))
+
+differing-same : (x y : List ℕ) (d : Digest) → x ≡ y → differing x y d ≡ None
+differing-same x y d e = ap (λ (b : Bool). if b then None else Some (let c : TextClash = record { first = x; second = y; digest = d } in c)) (subst (λ z. bytes_eq x z ≡ true) e (bytes_eq-same x))
+
+place_of_item : (items : List CoveredPlace) (i : ℕ) → place_in (map (λ (item : CoveredPlace). item.place) items) i ≡ (get_or items i (record { place = record { row = 0; off = 0 }; made = Target 0; digest = record { 0 = [] } })).place
+place_of_item [] i = refl
+place_of_item (x ∷ items) zero = refl
+place_of_item (x ∷ items) (suc i) = place_of_item items i
 
 -- a place that is covered as a target is that target
 target_is : (ts : List Place) (r o a b : ℕ) → cover ts r o ≡ Some (target a b) → (a ≡ r) × (b ≡ o)
@@ -162,7 +207,7 @@ module _ (H : List ℕ → Digest) (long : (x : List ℕ) → IsDigest (H x)) (u
         value-same H (beside (H []) ts (leaves_of H leaf_text (points_of ext) m)) (λ r o. H (leaf_texts r o)) full_hashes (leaves_are H leaf_text ts rs) c
         ∙ sym (same_value H n ts hashes full_hashes same_hash (λ r o. H (leaf_texts r o)) c same)
 
-    blank : CoveredPlace
+    abbrev blank : CoveredPlace
     blank = record { place = record { row = 0; off = 0 }; made = Target 0; digest = record { 0 = [] } }
 
     -- what is said of one item
@@ -279,17 +324,20 @@ module _ (H : List ℕ → Digest) (long : (x : List ℕ) → IsDigest (H x)) (u
     no_fault agree = to_us Passes (passes H leaf_text (record { n = n; roots = root H es; known = known }) (points_of ext) m (accepts agree) ready.named_all)
 
     -- where a root differs, the message is not accepted
-    pub refused : DoRootsAgree H es items false → IsAnswer H us known (points_of ext) m None
-    refused (i, d, lt, top, other) none =
+    pub differs : DoRootsAgree H es items false → Passes n → ⊥
+    differs (i, d, lt, top, other) none =
         let it = item_at i d lt in
         let p = (get_or items i d).place in
-        let w = accepted H leaf_text (record { n = n; roots = root H es; known = known }) (points_of ext) m points_count (to_es Passes none) in
+        let w = accepted H leaf_text (record { n = n; roots = root H es; known = known }) (points_of ext) m points_count none in
         let t = root_off-is_root n p.row p.off top in
         let e : cover ts p.row (root_off n p.row) ≡ Some it.beneath = ap (cover ts p.row) (sym t.0) ∙ it.covered in
         let same = w.0.agrees p.row it.beneath t.1 e in
         let is : evaluation H n ts k (leaves_of H leaf_text (points_of ext) m) hs it.beneath ≡ V it.beneath =
         same_evaluation H n m known ready.full (leaves_of H leaf_text (points_of ext) m) p.row p.off it.beneath ready.hashes it.within it.covered ∙ evaluates it.beneath (same_cover H n ts hashes full_hashes same_hash p.row p.off it.beneath it.within it.covered) in
-        absurd (other (ap (option_map (digest_of H)) (tree_at-root es p.row p.off top) ∙ (ap (λ o. option_map (digest_of H) (content es p.row o)) t.0 ∙ (same ∙ ap Some (is ∙ sym it.digest)))))
+        other (ap (option_map (digest_of H)) (tree_at-root es p.row p.off top) ∙ (ap (λ o. option_map (digest_of H) (content es p.row o)) t.0 ∙ (same ∙ ap Some (is ∙ sym it.digest))))
+
+    pub refused : DoRootsAgree H es items false → IsAnswer H us known (points_of ext) m None
+    refused differ none = absurd (differs differ (to_es Passes none))
 
     -- ---- the texts
 
@@ -341,6 +389,102 @@ module _ (H : List ℕ → Digest) (long : (x : List ℕ) → IsDigest (H x)) (u
     pub right_answer : DoRootsAgree H es items true → AreCompared H es outputs ext m items None → IsAnswer H us known (points_of ext) m None
     right_answer agree compared none =
         (right_is_tested H leaf_text us known (points_of ext) m).1 (to_us RightBy (right agree compared), to_us (λ j. named j m.proof ≡ map Some (targets j m.proof)) ready.named_all, points_count)
+
+    -- ---- which clash is found
+
+    text_same : (c : Cover) → cover_text_of c ≡ text_for H n known ext m c
+    text_same (target a b) = refl
+    text_same (given a b) = refl
+    text_same (both l r) = refl
+
+    abbrev shown_at : Place → Option TextClash
+    shown_at = clash_at H es outputs known ext m
+
+    clash_here : (item : CoveredPlace) → IsItem item → (c : TextClash) → IsClashAt H es outputs ext m item c → shown_at item.place ≡ Some c
+    clash_here item it c w =
+        let p = item.place in
+        let there : is_digest (V it.beneath) (digest_at H es p.row p.off) ≡ true = is_there (V it.beneath) (digest_at H es p.row p.off) (w.same ∙ ap Some it.digest) in
+        let second : c.second ≡ text_for H n known ext m it.beneath = w.second ∙ (it.text ∙ text_same it.beneath) in
+        let digest : c.digest ≡ V it.beneath = w.digest ∙ it.digest in
+        ap (option_and_then (clash_over H es outputs known ext m p)) it.covered
+        ∙ (ap (λ b. if b then option_and_then (λ x. differing x (text_for H n known ext m it.beneath) (V it.beneath)) (text_at H es outputs p.row p.off) else None) there
+        ∙ (ap (option_and_then (λ x. differing x (text_for H n known ext m it.beneath) (V it.beneath))) w.first
+        ∙ (ap₂ (differing c.first) (sym second) (sym digest) ∙ differing-other c w.differ)))
+
+    none_here : (item : CoveredPlace) → IsItem item → IsCompared H es outputs ext m item None → shown_at item.place ≡ None
+    none_here item it w =
+        ap (option_and_then (clash_over H es outputs known ext m item.place)) it.covered
+        ∙ by_digest (is_digest (V it.beneath) (digest_at H es item.place.row item.place.off)) refl
+      where
+        by_text : (x : Option (List ℕ)) → ((y : List ℕ) → x ≡ Some y → y ≡ text_for H n known ext m it.beneath) → option_and_then (λ y. differing y (text_for H n known ext m it.beneath) (V it.beneath)) x ≡ None
+        by_text None f = refl
+        by_text (Some y) f = differing-same y (text_for H n known ext m it.beneath) (V it.beneath) (f y refl)
+
+        by_digest : (b : Bool) → is_digest (V it.beneath) (digest_at H es item.place.row item.place.off) ≡ b →
+            (if b then option_and_then (λ x. differing x (text_for H n known ext m it.beneath) (V it.beneath)) (text_at H es outputs item.place.row item.place.off) else None) ≡ None
+        by_digest false e = refl
+        by_digest true e =
+            by_text (text_at H es outputs item.place.row item.place.off)
+            (λ y s. (w (there_is (V it.beneath) (digest_at H es item.place.row item.place.off) e ∙ ap Some (sym it.digest)) y s).0 ∙ (it.text ∙ text_same it.beneath))
+
+    -- nothing is shown at a place whose item shows nothing
+    abbrev Silent : ℕ → Type 0
+    Silent j = IsCompared H es outputs ext m (get_or items j blank) None
+
+    place_none : (q : Place) → InForest n q.row q.off → ((j : ℕ) → j < length items → (get_or items j blank).place ≡ q → Silent j) → shown_at q ≡ None
+    place_none q h silent = by_cover (cover ts q.row q.off) refl
+      where
+        by_cover : (x : Option Cover) → cover ts q.row q.off ≡ x → option_and_then (clash_over H es outputs known ext m q) x ≡ None
+        by_cover None e = refl
+        by_cover (Some c) e =
+            let w = ready.evaluated.all q.row q.off c h e in
+            let at : (get_or items w.0 blank).place ≡ q = w.2 blank in
+            ap (option_and_then (clash_over H es outputs known ext m q)) (sym e)
+            ∙ subst (λ p. shown_at p ≡ None) at (none_here (get_or items w.0 blank) (item_at w.0 blank w.1) (silent w.0 w.1 at))
+
+    -- items come in the order of their places
+    in_order : (i j : ℕ) → i < length items → j < length items → IsBefore (get_or items j blank).place (get_or items i blank).place → j < i
+    in_order i j li lj before =
+        ⊎_elim
+        (λ less. less)
+        (λ ge. ⊎_elim
+        (λ (same : j ≡ i). absurd (before_itself (get_or items i blank).place (subst (λ k. IsBefore (get_or items k blank).place (get_or items i blank).place) same before)))
+        (λ other.
+        let up : i < j = omega (arith, ge, other) in
+        let long : length (map (λ (item : CoveredPlace). item.place) items) ≡ length items = length-map items (λ (item : CoveredPlace). item.place) in
+        let rises = ready.evaluated.order.rises i j up (omega (arith, lj, long)) in
+        let rises' : position n (get_or items i blank).place.row (get_or items i blank).place.off < position n (get_or items j blank).place.row (get_or items j blank).place.off =
+        subst (λ (p : Place). position n p.row p.off < position n (get_or items j blank).place.row (get_or items j blank).place.off) (place_of_item items i)
+        (subst (λ (p : Place). position n (place_in (map (λ (item : CoveredPlace). item.place) items) i).row (place_in (map (λ (item : CoveredPlace). item.place) items) i).off < position n p.row p.off) (place_of_item items j) rises) in
+        let falls = position_rises n (get_or items j blank).place (get_or items i blank).place (item_at j blank lj).within (item_at i blank li).within before in
+        absurd (omega (arith, rises', falls)))
+        (cases_eq j i))
+        (cases_lt j i)
+
+    abbrev fault_here : Option ProofRefusal
+    fault_here = proof_fault H leaf_text (record { n = n; roots = root H es; known = known }) (points_of ext) m
+
+    passed : DoRootsAgree H es items true → fault_here ≡ None
+    passed agree = passes H leaf_text (record { n = n; roots = root H es; known = known }) (points_of ext) m (accepts agree) ready.named_all
+
+    pub exact : DoRootsAgree H es items true → (r : Option TextClash) → AreCompared H es outputs ext m items r → r ≡ clash_in H es outputs known ext m
+    exact agree None compared =
+        sym (ap (λ x. if is_none x then first_of (map shown_at (places n)) else None) (passed agree)
+        ∙ first-none shown_at (places n) (λ q i. place_none q (places_had n q.row q.off i) (λ j lt at. compared j blank lt)))
+    exact agree (Some c) (i, d, lt, at, before) =
+        let clash = subst (λ (x : CoveredPlace). IsClashAt H es outputs ext m x c) (get_or_default items i d blank lt) at in
+        let it = item_at i blank lt in
+        let p = (get_or items i blank).place in
+        sym (ap (λ x. if is_none x then first_of (map shown_at (places n)) else None) (passed agree)
+        ∙ first-is shown_at (places n) p c (places_ascending n) (places_have n p.row p.off it.within) (clash_here (get_or items i blank) it c clash)
+        (λ q j behind. place_none q (places_had n q.row q.off j) (λ k lk same. before k blank (in_order i k lt lk (subst (λ r. IsBefore r p) (sym same) behind)))))
+
+    pub exact_refused : DoRootsAgree H es items false → None ≡ clash_in H es outputs known ext m
+    exact_refused differ = by_fault fault_here refl
+      where
+        by_fault : (x : Option ProofRefusal) → fault_here ≡ x → None ≡ (if is_none x then first_of (map shown_at (places n)) else None)
+        by_fault None e = absurd (differs differ e)
+        by_fault (Some f) e = refl
 
     module _ (view : IsKnowledge H es known) where
       lean_view : (lean : Bool) → IsKnowledge H es (known_to lean known)
@@ -401,7 +545,7 @@ module _ (H : List ℕ → Digest) (long : (x : List ℕ) → IsDigest (H x)) (u
 
       pub answered : DoRootsAgree H es items true → (r : Option TextClash) → AreCompared H es outputs ext m items r → IsAnswer H us known (points_of ext) m r
       answered agree None compared = right_answer agree compared
-      answered agree (Some c) (i, d, lt, at) =
+      answered agree (Some c) (i, d, lt, at, before) =
           let clash = subst (λ (x : CoveredPlace). IsClashAt H es outputs ext m x c) (get_or_default items i d blank lt) at in
           (no_fault agree, false_from_ne_true _ (not_right c i lt clash), is_clash c i lt clash)
 
@@ -422,6 +566,27 @@ module _ (H : List ℕ → Digest) (long : (x : List ℕ) → IsDigest (H x)) (e
   found_answer items ready agree r compared us s view =
       answered H long us outputs s.held s.fit ext m count known items (subst (λ (e : List (Option Digest)). IsReady H (length e) ext known m items) s.entries_are ready) (subst (λ (e : List (Option Digest)). IsKnowledge H e known) s.entries_are view)
       (subst (λ (e : List (Option Digest)). DoRootsAgree H e items true) s.entries_are agree) r (subst (λ (e : List (Option Digest)). AreCompared H e outputs ext m items r) s.entries_are compared)
+
+  -- which it is
+  pub none_exact : ((roots : ℕ → Option Digest) → proof_fault H leaf_text (record { n = length es0; roots = roots; known = known }) (points_of ext) m ≢ None) → None ≡ clash_in H es0 outputs known ext m
+  none_exact refused = by_fault (proof_fault H leaf_text (record { n = length es0; roots = root H es0; known = known }) (points_of ext) m) refl
+    where
+      by_fault : (x : Option ProofRefusal) → proof_fault H leaf_text (record { n = length es0; roots = root H es0; known = known }) (points_of ext) m ≡ x →
+          None ≡ (if is_none x then first_of (map (clash_at H es0 outputs known ext m) (places (length es0))) else None)
+      by_fault None e = absurd (refused (root H es0) e)
+      by_fault (Some f) e = refl
+
+  pub root_exact : (items : List CoveredPlace) → IsReady H (length es0) ext known m items → DoRootsAgree H es0 items false → (us : History) → StandForHistory H es0 outputs us → None ≡ clash_in H es0 outputs known ext m
+  root_exact items ready agree us s =
+      subst (λ (e : List (Option Digest)). None ≡ clash_in H e outputs known ext m) (sym s.entries_are)
+      (exact_refused H long us outputs s.held s.fit ext m count known items (subst (λ (e : List (Option Digest)). IsReady H (length e) ext known m items) s.entries_are ready) (subst (λ (e : List (Option Digest)). DoRootsAgree H e items false) s.entries_are agree))
+
+  pub found_exact : (items : List CoveredPlace) → IsReady H (length es0) ext known m items → DoRootsAgree H es0 items true → (r : Option TextClash) → AreCompared H es0 outputs ext m items r →
+      (us : History) → StandForHistory H es0 outputs us → r ≡ clash_in H es0 outputs known ext m
+  found_exact items ready agree r compared us s =
+      subst (λ (e : List (Option Digest)). r ≡ clash_in H e outputs known ext m) (sym s.entries_are)
+      (exact H long us outputs s.held s.fit ext m count known items (subst (λ (e : List (Option Digest)). IsReady H (length e) ext known m items) s.entries_are ready)
+      (subst (λ (e : List (Option Digest)). DoRootsAgree H e items true) s.entries_are agree) r (subst (λ (e : List (Option Digest)). AreCompared H e outputs ext m items r) s.entries_are compared))
 
   -- the targets of the items are among the inputs
   pub targets_within : (items : List CoveredPlace) → IsReady H (length es0) ext known m items → (i : ℕ) (d : CoveredPlace) → i < length items → IsWithin (length ext) (get_or items i d).made

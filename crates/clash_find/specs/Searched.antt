@@ -52,7 +52,9 @@ IsCompared H es outputs ext m item (Some c) = IsClashAt H es outputs ext m item 
 IsCompared H es outputs ext m item None =
     digest_at H es item.place.row item.place.off ≡ Some item.digest → (x : List ℕ) → text_at H es outputs item.place.row item.place.off ≡ Some x → (x ≡ made_text ext m item.made) × AreDigests item.made
 
--- at one of the places, or at none of them
+-- at the first of the places, or at none of them
 abbrev pub AreCompared : (List ℕ → Digest) → List (Option Digest) → List Held → List Outside → Message → List CoveredPlace → Option TextClash → Type 0
-AreCompared H es outputs ext m items (Some c) = (i : ℕ) × (d : CoveredPlace) × (i < length items) × IsClashAt H es outputs ext m (get_or items i d) c
+AreCompared H es outputs ext m items (Some c) =
+    (i : ℕ) × (d : CoveredPlace) × (i < length items) × IsClashAt H es outputs ext m (get_or items i d) c
+    × ((j : ℕ) (d' : CoveredPlace) → j < i → IsCompared H es outputs ext m (get_or items j d') None)
 AreCompared H es outputs ext m items None = (i : ℕ) (d : CoveredPlace) → i < length items → IsCompared H es outputs ext m (get_or items i d) None

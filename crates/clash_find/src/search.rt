@@ -6,6 +6,7 @@ ghost use Rattle.node_rules.specs.Messages.{points_of};
 ghost use Rattle.cache_model.specs.Cache.{look};
 ghost use Rattle.cache_model.specs.Lists.{AscendByPlace};
 ghost use Rattle.clash_find.specs.Answers.{StandForHistory, IsAnswer};
+ghost use Rattle.clash_find.specs.Found.{clash_in};
 ghost use Rattle.clash_find.specs.Searched.{IsEvaluated};
 
 use crate::Clash;
@@ -59,7 +60,7 @@ fn evaluated<D: Digester, L: Ledger>(
 
 /// Two different texts with one digest, where the roots of the forest accept the proof in a message and it is not right: the
 /// first is that of a node of the forest, and the second is one that the proof digests. Nothing where the roots do not accept
-/// it, and nothing where it is right.
+/// it, and nothing where it is right. Of several pairs it is the one at the first covered place, from the lowest row up.
 ///
 /// `spends` is what the block beside the message spends, `outputs` has the outputs of the forest's live entries, and `known`
 /// the digests that a lean message leaves out, each place once, in ascending order.
@@ -75,8 +76,12 @@ pub fn find<D: Digester, L: Ledger>(
     requires count { length message.now.proof.spends ≡ length spends.now.external }
     requires few { length message.now.proof.spends < 2 ^ 32 }
     requires ascends { AscendByPlace known.now }
-    ensures { IfOk result (λ clash. (us : History) → StandForHistory D.digest_of forest.now.entries outputs.now us → IsKnowledge D.digest_of forest.now.entries (look known.now) →
+    ensures answer { IfOk result (λ clash. (us : History) → StandForHistory D.digest_of forest.now.entries outputs.now us → IsKnowledge D.digest_of forest.now.entries (look known.now) →
         IsAnswer D.digest_of us (look known.now) (points_of spends.now.external) message.now clash) }
+
+    // Which it is.
+    ensures exact { IfOk result (λ clash. (us : History) → StandForHistory D.digest_of forest.now.entries outputs.now us →
+        clash ≡ clash_in D.digest_of forest.now.entries outputs.now (look known.now) spends.now.external message.now) }
 {
     let external = spends.external();
     let Some(items) = evaluated::<D, L>(alloc, forest.leaves(), external, message, known, steps)?

@@ -28,6 +28,7 @@ some_word : (name : OptionName) → IsFilled (word_of name)
 some_word Name.Net = omega arith
 some_word Name.Feed = omega arith
 some_word Name.To = omega arith
+some_word Name.Watch = omega arith
 
 some_taken : (name : OptionName) (value : List ℕ) → takes name value ≡ true → IsFilled value
 some_taken Name.Net [] e = absurd cc
@@ -36,6 +37,8 @@ some_taken Name.Feed [] e = absurd cc
 some_taken Name.Feed (code ∷ codes) e = omega arith
 some_taken Name.To [] e = absurd cc
 some_taken Name.To (code ∷ codes) e = omega arith
+some_taken Name.Watch [] e = absurd cc
+some_taken Name.Watch (code ∷ codes) e = omega arith
 
 given_filled : (options : List OptionName) (given : List Given) → are_given options given ≡ true → All IsFilled (words_of given)
 given_filled options [] e = All-nil IsFilled

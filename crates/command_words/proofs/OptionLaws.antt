@@ -14,41 +14,58 @@ same_option : (a b : OptionName) → is_option a b ≡ true → a ≡ b
 same_option Name.Net Name.Net e = refl
 same_option Name.Net Name.Feed e = absurd cc
 same_option Name.Net Name.To e = absurd cc
+same_option Name.Net Name.Watch e = absurd cc
 same_option Name.Feed Name.Net e = absurd cc
 same_option Name.Feed Name.Feed e = refl
 same_option Name.Feed Name.To e = absurd cc
+same_option Name.Feed Name.Watch e = absurd cc
 same_option Name.To Name.Net e = absurd cc
 same_option Name.To Name.Feed e = absurd cc
 same_option Name.To Name.To e = refl
+same_option Name.To Name.Watch e = absurd cc
+same_option Name.Watch Name.Net e = absurd cc
+same_option Name.Watch Name.Feed e = absurd cc
+same_option Name.Watch Name.To e = absurd cc
+same_option Name.Watch Name.Watch e = refl
 
 is_itself : (a : OptionName) → is_option a a ≡ true
 is_itself Name.Net = refl
 is_itself Name.Feed = refl
 is_itself Name.To = refl
+is_itself Name.Watch = refl
 
 -- the names are different
 same_word : (a b : OptionName) → bytes_eq (word_of a) (word_of b) ≡ is_option b a
 same_word Name.Net Name.Net = refl
 same_word Name.Net Name.Feed = refl
 same_word Name.Net Name.To = refl
+same_word Name.Net Name.Watch = refl
 same_word Name.Feed Name.Net = refl
 same_word Name.Feed Name.Feed = refl
 same_word Name.Feed Name.To = refl
+same_word Name.Feed Name.Watch = refl
 same_word Name.To Name.Net = refl
 same_word Name.To Name.Feed = refl
 same_word Name.To Name.To = refl
+same_word Name.To Name.Watch = refl
+same_word Name.Watch Name.Net = refl
+same_word Name.Watch Name.Feed = refl
+same_word Name.Watch Name.To = refl
+same_word Name.Watch Name.Watch = refl
 
 -- each option takes some value
 some_value : OptionName → List ℕ
 some_value Name.Net = 109 ∷ 97 ∷ 105 ∷ 110 ∷ []
 some_value Name.Feed = 0 ∷ []
 some_value Name.To = 0 ∷ []
+some_value Name.Watch = 0 ∷ []
 
 takes_some : (name : OptionName) → takes name (some_value name) ≡ true
 unfolding some_value
 takes_some Name.Net = refl
 takes_some Name.Feed = refl
 takes_some Name.To = refl
+takes_some Name.Watch = refl
 
 is_some_map : {A B : Type 0} (f : A → B) (x : Option A) → is_some (option_map f x) ≡ is_some x
 is_some_map f None = refl
@@ -59,6 +76,7 @@ put_takes : (name : OptionName) (value : List ℕ) (s : Settings) → is_some (p
 put_takes Name.Net value s = is_some_map _ (net_of value)
 put_takes Name.Feed value s = is_some_map _ (file_of value)
 put_takes Name.To value s = is_some_map _ (file_of value)
+put_takes Name.Watch value s = is_some_map _ (file_of value)
 
 cond_true : {A : Type 0} (b : Bool) (x y : A) → b ≡ true → cond b x y ≡ x
 cond_true b x y e = ap (λ t. cond t x y) e
@@ -251,6 +269,7 @@ unfolding is_barred
 barred_is before Name.Net e = has_value net_of Name.Net (λ value. refl) before e
 barred_is before Name.Feed e = has_value file_of Name.Feed (λ value. refl) before e
 barred_is before Name.To e = has_value file_of Name.To (λ value. refl) before e
+barred_is before Name.Watch e = has_value file_of Name.Watch (λ value. refl) before e
 
 -- a value that an option takes is said with the others
 made : {A : Type 0} (x : Option A) (with : Option A → Settings) → is_some x ≡ true → option_map (λ value. with (Some value)) x ≡ Some (with x)
@@ -269,28 +288,32 @@ module _ (before : List Given) where
   unfolding behind
   other_value name other value e = ap (λ g. option_map (λ g. g.value) g) (find_other (λ g. is_option g.name other) before _ e)
 
-  -- what is said with one option more, by the values of the three
-  said_with : (a b c : Option (List ℕ)) → Settings
-  said_with a b c = record { net = option_and_then net_of a; feed = option_and_then file_of b; to = option_and_then file_of c }
+  -- what is said with one option more, by the value of each
+  said_with : (a b c d : Option (List ℕ)) → Settings
+  said_with a b c d = record { net = option_and_then net_of a; feed = option_and_then file_of b; to = option_and_then file_of c; watch = option_and_then file_of d }
 
-  same_said : (a a' b b' c c' : Option (List ℕ)) → a ≡ a' → b ≡ b' → c ≡ c' → said_with a b c ≡ said_with a' b' c'
-  same_said a a' b b' c c' e f g = cc
+  same_said : (a a' b b' c c' d d' : Option (List ℕ)) → a ≡ a' → b ≡ b' → c ≡ c' → d ≡ d' → said_with a b c d ≡ said_with a' b' c' d'
+  same_said a a' b b' c c' d d' p q r s = cc
 
   -- putting an option goes on to what is said with it
   put_at : (name : OptionName) (value : List ℕ) → takes name value ≡ true → is_barred before name ≡ false → put name value (settings_of before) ≡ Some (settings_of (behind name value))
   unfolding is_barred said_with
   put_at Name.Net value took free =
       let s = settings_of before in
-      made (net_of value) (λ x. record { net = x; feed = s.feed; to = s.to }) took
-      ∙ ap Some (same_said _ _ _ _ _ _ (sym (last_value Name.Net value free)) (sym (other_value Name.Net Name.Feed value refl)) (sym (other_value Name.Net Name.To value refl)))
+      made (net_of value) (λ x. record { net = x; feed = s.feed; to = s.to; watch = s.watch }) took
+      ∙ ap Some (same_said _ _ _ _ _ _ _ _ (sym (last_value Name.Net value free)) (sym (other_value Name.Net Name.Feed value refl)) (sym (other_value Name.Net Name.To value refl)) (sym (other_value Name.Net Name.Watch value refl)))
   put_at Name.Feed value took free =
       let s = settings_of before in
-      made (file_of value) (λ x. record { net = s.net; feed = x; to = s.to }) took
-      ∙ ap Some (same_said _ _ _ _ _ _ (sym (other_value Name.Feed Name.Net value refl)) (sym (last_value Name.Feed value free)) (sym (other_value Name.Feed Name.To value refl)))
+      made (file_of value) (λ x. record { net = s.net; feed = x; to = s.to; watch = s.watch }) took
+      ∙ ap Some (same_said _ _ _ _ _ _ _ _ (sym (other_value Name.Feed Name.Net value refl)) (sym (last_value Name.Feed value free)) (sym (other_value Name.Feed Name.To value refl)) (sym (other_value Name.Feed Name.Watch value refl)))
   put_at Name.To value took free =
       let s = settings_of before in
-      made (file_of value) (λ x. record { net = s.net; feed = s.feed; to = x }) took
-      ∙ ap Some (same_said _ _ _ _ _ _ (sym (other_value Name.To Name.Net value refl)) (sym (other_value Name.To Name.Feed value refl)) (sym (last_value Name.To value free)))
+      made (file_of value) (λ x. record { net = s.net; feed = s.feed; to = x; watch = s.watch }) took
+      ∙ ap Some (same_said _ _ _ _ _ _ _ _ (sym (other_value Name.To Name.Net value refl)) (sym (other_value Name.To Name.Feed value refl)) (sym (last_value Name.To value free)) (sym (other_value Name.To Name.Watch value refl)))
+  put_at Name.Watch value took free =
+      let s = settings_of before in
+      made (file_of value) (λ x. record { net = s.net; feed = s.feed; to = s.to; watch = x }) took
+      ∙ ap Some (same_said _ _ _ _ _ _ _ _ (sym (other_value Name.Watch Name.Net value refl)) (sym (other_value Name.Watch Name.Feed value refl)) (sym (other_value Name.Watch Name.To value refl)) (sym (last_value Name.Watch value free)))
 
 -- ---- reading
 

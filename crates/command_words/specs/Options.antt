@@ -24,17 +24,20 @@ abbrev pub word_of : OptionName → List ℕ
 word_of Name.Net = codes "--net"
 word_of Name.Feed = codes "--feed"
 word_of Name.To = codes "--to"
+word_of Name.Watch = codes "--watch"
 
 -- the values that an option takes
 abbrev pub takes : OptionName → List ℕ → Bool
 takes Name.Net value = is_some (net_of value)
 takes Name.Feed value = is_some (file_of value)
 takes Name.To value = is_some (file_of value)
+takes Name.Watch value = is_some (file_of value)
 
 abbrev pub is_option : OptionName → OptionName → Bool
 is_option Name.Net Name.Net = true
 is_option Name.Feed Name.Feed = true
 is_option Name.To Name.To = true
+is_option Name.Watch Name.Watch = true
 is_option one other = false
 
 -- two options that can not both be given: none is given twice
@@ -66,29 +69,33 @@ pub record Settings : Type 0 where
   pub net : Option Net
   pub feed : Option (List ℕ)
   pub to : Option (List ℕ)
+  pub watch : Option (List ℕ)
 
 abbrev pub settings_of : List Given → Settings
 settings_of given = record {
   net = option_and_then net_of (value_in given Name.Net);
   feed = option_and_then file_of (value_in given Name.Feed);
   to = option_and_then file_of (value_in given Name.To);
+  watch = option_and_then file_of (value_in given Name.Watch);
 }
 
 -- ---- reading them, one after the other
 
 abbrev pub nothing : Settings
-nothing = record { net = None; feed = None; to = None }
+nothing = record { net = None; feed = None; to = None; watch = None }
 
 -- an option can not be given any more
 abbrev pub is_taken : Settings → OptionName → Bool
 is_taken s Name.Net = is_some s.net
 is_taken s Name.Feed = is_some s.feed
 is_taken s Name.To = is_some s.to
+is_taken s Name.Watch = is_some s.watch
 
 abbrev pub put : OptionName → List ℕ → Settings → Option Settings
-put Name.Net value s = option_map (λ net. record { net = Some net; feed = s.feed; to = s.to }) (net_of value)
-put Name.Feed value s = option_map (λ file. record { net = s.net; feed = Some file; to = s.to }) (file_of value)
-put Name.To value s = option_map (λ file. record { net = s.net; feed = s.feed; to = Some file }) (file_of value)
+put Name.Net value s = option_map (λ net. record { net = Some net; feed = s.feed; to = s.to; watch = s.watch }) (net_of value)
+put Name.Feed value s = option_map (λ file. record { net = s.net; feed = Some file; to = s.to; watch = s.watch }) (file_of value)
+put Name.To value s = option_map (λ file. record { net = s.net; feed = s.feed; to = Some file; watch = s.watch }) (file_of value)
+put Name.Watch value s = option_map (λ file. record { net = s.net; feed = s.feed; to = s.to; watch = Some file }) (file_of value)
 
 -- the option of this name, where it can still be given
 abbrev pub free_option : List OptionName → Settings → List ℕ → Option OptionName
@@ -111,7 +118,7 @@ settings_from options at s (name ∷ value ∷ rest) =
 -- ---- as the program holds them
 
 abbrev pub settings_in : Options → Settings
-settings_in given = record { net = given.net; feed = option_copied given.feed; to = option_copied given.to }
+settings_in given = record { net = given.net; feed = option_copied given.feed; to = option_copied given.to; watch = option_copied given.watch }
 
 abbrev pub settings_read : Result Options WordFault → Result Settings WordFault
 settings_read (Ok given) = Ok (settings_in given)

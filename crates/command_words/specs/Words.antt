@@ -14,8 +14,9 @@ use Rattle.command_words.specs.Options.{Given, are_given, words_of, Settings, se
 pub data Asked : Type 0 where
   -- to follow a feed: the network and the feed's file, where they are named
   AskedFollow : Option Net → Option (List ℕ) → Asked
-  -- to prove a feed's blocks: its network, the feed's file and the file that takes what is written, where they are named
-  AskedProve : Net → (feed to : Option (List ℕ)) → Asked
+  -- to prove a feed's blocks: its network, and where they are named the feed's file, the file that takes what is written, and the file of the
+  -- watch list
+  AskedProve : Net → (feed to watch : Option (List ℕ)) → Asked
   -- to generate a feed: its network, its number, its count of blocks, and the file that takes it, where one is named
   AskedGen : Net → (number blocks : ℕ) → Option (List ℕ) → Asked
 
@@ -44,12 +45,12 @@ IsInRange (Generating number blocks) = (number < 2 ^ 64) × (blocks ≤ 100000)
 
 abbrev pub options_of : Task → List OptionName
 options_of Following = Name.Net ∷ Name.Feed ∷ []
-options_of Proving = Name.Net ∷ Name.Feed ∷ Name.To ∷ []
+options_of Proving = Name.Net ∷ Name.Feed ∷ Name.To ∷ Name.Watch ∷ []
 options_of (Generating number blocks) = Name.Net ∷ Name.To ∷ []
 
 abbrev pub asked_by : Task → Settings → Asked
 asked_by Following s = AskedFollow s.net s.feed
-asked_by Proving s = AskedProve (net_for s.net) s.feed s.to
+asked_by Proving s = AskedProve (net_for s.net) s.feed s.to s.watch
 asked_by (Generating number blocks) s = AskedGen (net_for s.net) number blocks s.to
 
 -- ---- which words are accepted
@@ -112,7 +113,7 @@ command_of (name ∷ rest) =
 
 abbrev pub asked_in : Command → Asked
 asked_in (Follow net feed) = AskedFollow net (option_copied feed)
-asked_in (Prove net feed to) = AskedProve net (option_copied feed) (option_copied to)
+asked_in (Prove net feed to watch) = AskedProve net (option_copied feed) (option_copied to) (option_copied watch)
 asked_in (Gen net number blocks to) = AskedGen net number blocks (option_copied to)
 
 abbrev pub read_as : Result Command WordFault → Result Asked WordFault

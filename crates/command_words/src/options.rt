@@ -15,6 +15,8 @@ pub enum OptionName {
     Feed,
     /// The file that takes what is stored.
     To,
+    /// The file of the watch list.
+    Watch,
 }
 
 impl OptionName {
@@ -26,6 +28,7 @@ impl OptionName {
             OptionName::Net => "--net",
             OptionName::Feed => "--feed",
             OptionName::To => "--to",
+            OptionName::Watch => "--watch",
         }
     }
 }
@@ -36,6 +39,7 @@ pub struct Options<'a> {
     pub net: Option<Net>,
     pub feed: Option<&'a str>,
     pub to: Option<&'a str>,
+    pub watch: Option<&'a str>,
 }
 
 impl<'a> Options<'a> {
@@ -47,6 +51,7 @@ impl<'a> Options<'a> {
             net: None,
             feed: None,
             to: None,
+            watch: None,
         }
     }
 
@@ -58,6 +63,7 @@ impl<'a> Options<'a> {
             OptionName::Net => self.net.is_some(),
             OptionName::Feed => self.feed.is_some(),
             OptionName::To => self.to.is_some(),
+            OptionName::Watch => self.watch.is_some(),
         }
     }
 
@@ -76,6 +82,10 @@ impl<'a> Options<'a> {
             },
             OptionName::To => Options {
                 to: Some(file_named(value)?),
+                ..self
+            },
+            OptionName::Watch => Options {
+                watch: Some(file_named(value)?),
                 ..self
             },
         })

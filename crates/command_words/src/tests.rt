@@ -17,7 +17,7 @@ struct BadRow {
     at: u64,
 }
 
-const ROWS: [Row; 13] = [
+const ROWS: [Row; 14] = [
     Row {
         words: &["follow"],
         asked: Command::Follow {
@@ -83,6 +83,7 @@ const ROWS: [Row; 13] = [
             net: Net::Main,
             feed: None,
             to: None,
+            watch: None,
         },
     },
     Row {
@@ -91,6 +92,7 @@ const ROWS: [Row; 13] = [
             net: Net::Regtest,
             feed: Some("f"),
             to: Some("x"),
+            watch: None,
         },
     },
     Row {
@@ -99,6 +101,16 @@ const ROWS: [Row; 13] = [
             net: Net::Main,
             feed: Some("--to"),
             to: None,
+            watch: None,
+        },
+    },
+    Row {
+        words: &["prove", "--watch", "w", "--feed", "f"],
+        asked: Command::Prove {
+            net: Net::Main,
+            feed: Some("f"),
+            to: None,
+            watch: Some("w"),
         },
     },
     // feeds to generate, with the greatest numbers
@@ -130,7 +142,7 @@ const ROWS: [Row; 13] = [
     },
 ];
 
-const BAD_ROWS: [BadRow; 33] = [
+const BAD_ROWS: [BadRow; 35] = [
     // a command that is none, or behind another word
     BadRow {
         words: &["fly"],
@@ -242,7 +254,15 @@ const BAD_ROWS: [BadRow; 33] = [
         at: 0,
     },
     BadRow {
-        words: &["prove", "--watch", "w"],
+        words: &["prove", "--watch"],
+        at: 2,
+    },
+    BadRow {
+        words: &["prove", "--watch", "w", "--watch", "w"],
+        at: 3,
+    },
+    BadRow {
+        words: &["follow", "--watch", "w"],
         at: 1,
     },
     BadRow {

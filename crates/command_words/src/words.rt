@@ -25,6 +25,8 @@ pub enum Command<'a> {
         feed: Option<&'a str>,
         /// The file that takes the blocks with their proofs, where it is named.
         to: Option<&'a str>,
+        /// The file of the watch list for which proofs are lean, where it is named.
+        watch: Option<&'a str>,
     },
     /// Generate a feed.
     Gen {
@@ -49,7 +51,12 @@ pub struct WordFault {
 
 const FOLLOW: [OptionName; 2] = [OptionName::Net, OptionName::Feed];
 
-const PROVE: [OptionName; 3] = [OptionName::Net, OptionName::Feed, OptionName::To];
+const PROVE: [OptionName; 4] = [
+    OptionName::Net,
+    OptionName::Feed,
+    OptionName::To,
+    OptionName::Watch,
+];
 
 const GEN: [OptionName; 2] = [OptionName::Net, OptionName::To];
 
@@ -89,6 +96,7 @@ fn command_in(words: &[String]) -> Result<Command<'_>, WordFault>
                 net: given.net.unwrap_or(Net::Main),
                 feed: given.feed,
                 to: given.to,
+                watch: given.watch,
             })
         }
         "gen" => gen_in(rest),

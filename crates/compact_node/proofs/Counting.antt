@@ -19,18 +19,18 @@ use Rattle.compact_node.specs.Throughout.{verdicts_on, node_after, kept_by}
 
 -- ---- back by k levels
 
-module _ (rules : Rules) where
-  back-kept : (k : ℕ) (l : LevelState) (ls : List LevelState) → k ≤ length ls → length (back_from rules k l ls).older ≡ length ls - k
+module _ (rules : Rules) (scripts : List (List ℕ)) where
+  back-kept : (k : ℕ) (l : LevelState) (ls : List LevelState) → k ≤ length ls → length (back_from rules scripts k l ls).older ≡ length ls - k
   back-kept zero l ls h = omega arith
   back-kept (suc k) l [] h = absurd (omega (arith, h))
   back-kept (suc k) l (m ∷ ls) h = let e = back-kept k m ls (omega (arith, h)) in omega (arith, e)
 
-  back-drops : (k : ℕ) (l : LevelState) (ls : List LevelState) → k ≤ length ls → let s = back_from rules k l ls in s.newest ∷ s.older ≡ drop k (l ∷ ls)
+  back-drops : (k : ℕ) (l : LevelState) (ls : List LevelState) → k ≤ length ls → let s = back_from rules scripts k l ls in s.newest ∷ s.older ≡ drop k (l ∷ ls)
   back-drops zero l ls h = refl
   back-drops (suc k) l [] h = absurd (omega (arith, h))
   back-drops (suc k) l (m ∷ ls) h = back-drops k m ls (omega (arith, h))
 
-  back-blocks : (k : ℕ) (l : LevelState) (ls : List LevelState) → k ≤ length ls → AreOlder rules l.chain ls → (back_from rules k l ls).newest.chain.blocks + k ≡ l.chain.blocks
+  back-blocks : (k : ℕ) (l : LevelState) (ls : List LevelState) → k ≤ length ls → AreOlder rules l.chain ls → (back_from rules scripts k l ls).newest.chain.blocks + k ≡ l.chain.blocks
   back-blocks zero l ls h are = omega arith
   back-blocks (suc k) l [] h are = absurd (omega (arith, h))
   back-blocks (suc k) l (m ∷ ls) h are = let e = back-blocks k m ls (omega (arith, h)) are.3 in omega (arith, e, are.0)
@@ -49,7 +49,7 @@ module _ (H : List ℕ → Digest) (text : Leaf → List ℕ) where
   next_kept s (RollbackCame k) = by_test (nat_le k (length s.older)) refl
     where
       by_test : (t : Bool) → nat_le k (length s.older) ≡ t → length (next_node H text s (RollbackCame k)).older ≡ kept_after (Some (verdict_on H text s (RollbackCame k))) (length s.older)
-      by_test true e = rw e (back-kept s.rules k s.newest s.older (leb-true k (length s.older) e))
+      by_test true e = rw e (back-kept s.rules s.scripts k s.newest s.older (leb-true k (length s.older) e))
       by_test false e = rw e refl
   next_kept s StrayCame = refl
 
@@ -69,7 +69,7 @@ module _ (H : List ℕ → Digest) (text : Leaf → List ℕ) where
       by_test : (t : Bool) → nat_le k (length s.older) ≡ t → LevelsTold s (verdict_on H text s (RollbackCame k)) (next_node H text s (RollbackCame k))
       by_test true e =
           let few = leb-true k (length s.older) e in
-          rw e (few, back-drops s.rules k s.newest s.older few, back-blocks s.rules k s.newest s.older few is.older, refl, refl, refl)
+          rw e (few, back-drops s.rules s.scripts k s.newest s.older few, back-blocks s.rules s.scripts k s.newest s.older few is.older, refl, refl, refl)
       by_test false e = let many = leb-false k (length s.older) e in rw e (refl, many, refl)
   levels_told s StrayCame is = refl
 

@@ -3,7 +3,7 @@ use Rattle.std.specs.Prelude.{ℕ, List, ◌∷◌, [], ◌++◌, Some, None, co
 use Rattle.hex.specs.Hex.{encode_lower}
 use Rattle.uo_digest.specs.declared.digest.Digest.{Digest}
 use Rattle.report_lines.specs.declared.line.Line.{Line}
-use Rattle.report_lines.specs.declared.line.Line.TheVariants.{Verdict as Told, End, Words, FrameMagic, FrameCut, FrameLong, FrameRollback, LimitFeed, Generated}
+use Rattle.report_lines.specs.declared.line.Line.TheVariants.{Verdict as Told, End, Words, FrameMagic, FrameCut, FrameLong, FrameRollback, LimitFeed, PriorForm, PriorVersion, Watch, LimitPrior, LimitWatch, Supply, Clash, Generated}
 use Rattle.block_rules.specs.declared.refusal.ProofRefusal.{ProofRefusal}
 use Rattle.block_rules.specs.declared.refusal.ProofRefusal.TheVariants.{Outside, Repeated, Beneath, HashCount, EmptyRoot, RootDiffers}
 use Rattle.block_rules.specs.declared.refusal.WitnessFault.{WitnessFault}
@@ -78,8 +78,26 @@ line_text (FrameCut offset missing) = codes "frame cut " ++ decimal offset ++ co
 line_text (FrameLong offset length) = codes "frame long " ++ decimal offset ++ codes " " ++ decimal length
 line_text (FrameRollback offset length) = codes "frame rollback " ++ decimal offset ++ codes " " ++ decimal length
 line_text (LimitFeed bytes) = codes "limit feed " ++ decimal bytes
+line_text PriorForm = codes "prior form"
+line_text (PriorVersion version) = codes "prior version " ++ decimal version
+line_text (Watch number) = codes "watch " ++ decimal number
+line_text (LimitPrior bytes) = codes "limit prior " ++ decimal bytes
+line_text (LimitWatch bytes) = codes "limit watch " ++ decimal bytes
+line_text (Supply live issued) = codes "supply " ++ decimal live ++ codes " issued " ++ decimal issued
+line_text (Clash events) = codes "clash " ++ decimal events
 line_text (Generated blocks rollbacks bytes) = codes "generated " ++ decimal blocks ++ codes " " ++ decimal rollbacks ++ codes " " ++ decimal bytes
 
 -- a line with its end
 unfoldable pub whole_line : Line → List ℕ
 whole_line line = line_text line ++ 10 ∷ []
+
+-- ---- a clash
+
+-- a word, and bytes behind it
+abbrev pub hex_line : List ℕ → List ℕ → List ℕ
+hex_line word bytes = word ++ codes " " ++ encode_lower bytes ++ 10 ∷ []
+
+-- how many events came before it, both texts, and their digest
+unfoldable pub clash_lines : (events : ℕ) → (first second : List ℕ) → Digest → List ℕ
+clash_lines events first second digest =
+    whole_line (Clash events) ++ hex_line (codes "first") first ++ hex_line (codes "second") second ++ hex_line (codes "digest") digest.0

@@ -1,9 +1,10 @@
 //! The lines that the program prints, and how they are written.
 //!
 //! A [`Line`] is a line without the byte that ends it. [`push_line`] and [`line_of`] append it to a text, [`put_line`] and [`say`] write
-//! it to a sink.
+//! it to a sink. [`push_clash`] appends the lines of two texts with one digest.
 #![tactic(auto)]
 
+mod clash;
 mod hash_text;
 mod line;
 mod report;
@@ -11,6 +12,7 @@ mod report;
 mod tests;
 mod verdict;
 
+pub use clash::push_clash;
 pub use hash_text::{HashText, PlainText};
 pub use line::Line;
 pub use report::{line_of, push_line, put_line, say};

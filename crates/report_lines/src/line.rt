@@ -42,6 +42,23 @@ pub enum Line {
     },
     /// The feed has more than this many bytes.
     LimitFeed(u64),
+    /// The prior text is no state.
+    PriorForm,
+    /// The prior text is a state of this version.
+    PriorVersion(u8),
+    /// The watch list has a bad line of this number, from 1 on.
+    Watch(u32),
+    /// The prior text has more than this many bytes.
+    LimitPrior(u64),
+    /// The watch list has more than this many bytes.
+    LimitWatch(u64),
+    /// The sum of all live outputs and of all subsidies so far, in satoshi.
+    Supply {
+        live: u64,
+        issued: u64,
+    },
+    /// A proof is forged, behind so many events.
+    Clash(u64),
     /// A feed was generated: its frames of blocks, its frames of rollbacks, its bytes.
     Generated {
         blocks: u32,
@@ -78,6 +95,13 @@ impl fmt::Display for Line {
                 write!(f, "frame rollback {offset} {length}")
             }
             Line::LimitFeed(bytes) => write!(f, "limit feed {bytes}"),
+            Line::PriorForm => f.write_str("prior form"),
+            Line::PriorVersion(version) => write!(f, "prior version {version}"),
+            Line::Watch(number) => write!(f, "watch {number}"),
+            Line::LimitPrior(bytes) => write!(f, "limit prior {bytes}"),
+            Line::LimitWatch(bytes) => write!(f, "limit watch {bytes}"),
+            Line::Supply { live, issued } => write!(f, "supply {live} issued {issued}"),
+            Line::Clash(events) => write!(f, "clash {events}"),
             Line::Generated {
                 blocks,
                 rollbacks,

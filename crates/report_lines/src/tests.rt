@@ -1,5 +1,5 @@
 //! Lines as they are printed, and how they are written where a sink fails.
-use crate::{Line, line_of, push_line, say};
+use crate::{Line, line_of, push_clash, push_line, say};
 use block_rules::{ProofRefusal, Refusal, Verdict, WitnessFault};
 use feed_run::{Status, Stop};
 use std::alloc::Global;
@@ -135,7 +135,7 @@ struct Row {
     text: &'static str,
 }
 
-const LINES: [Row; 15] = [
+const LINES: [Row; 22] = [
     Row {
         line: Line::Verdict(Verdict::Accepted {
             height: 7,
@@ -234,6 +234,37 @@ const LINES: [Row; 15] = [
         text: "limit feed 281474976710656\n",
     },
     Row {
+        line: Line::PriorForm,
+        text: "prior form\n",
+    },
+    Row {
+        line: Line::PriorVersion(9),
+        text: "prior version 9\n",
+    },
+    Row {
+        line: Line::Watch(10_001),
+        text: "watch 10001\n",
+    },
+    Row {
+        line: Line::LimitPrior(8),
+        text: "limit prior 8\n",
+    },
+    Row {
+        line: Line::LimitWatch(0),
+        text: "limit watch 0\n",
+    },
+    Row {
+        line: Line::Supply {
+            live: 240_000_000_000,
+            issued: 245_000_000_000,
+        },
+        text: "supply 240000000000 issued 245000000000\n",
+    },
+    Row {
+        line: Line::Clash(3),
+        text: "clash 3\n",
+    },
+    Row {
         line: Line::Generated {
             blocks: 51,
             rollbacks: 1,
@@ -301,5 +332,25 @@ fn a_line_is_begun_where_the_sink_fails(rt: HostRuntime) -> Result<(), Fail> {
     let outcome = say(alloc, &mut report, Status::Words, Line::Words(2));
     assert!(rt; outcome == Err(Stop::WriteFault));
     assert!(rt; report.held() == b"words ".as_slice());
+    Ok(())
+}
+
+// Bytes of both texts and of the digest stand in their order.
+#[test]
+fn a_clash_has_four_lines(rt: HostRuntime) -> Result<(), Fail> {
+    let alloc = rt.alloc();
+    let mut said = Vec::from_slice(alloc, b"before\n".as_slice())?;
+    push_clash(
+        alloc,
+        3,
+        b"\x0a\xff".as_slice(),
+        b"".as_slice(),
+        &HASH,
+        &mut said,
+    )?;
+    let front = b"before\nclash 3\nfirst 0aff\nsecond \ndigest 1f1f".as_slice();
+    assert!(rt; said.as_slice().starts_with(front));
+    assert!(rt; said.as_slice().ends_with(b"1f1f0f\n".as_slice()));
+    assert!(rt; said.len() == 106);
     Ok(())
 }

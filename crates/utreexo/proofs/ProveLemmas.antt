@@ -1,5 +1,5 @@
 -- What `prove` writes of a feed is what a bridge says and passes on, and that is what the proving node says and passes on.
-use Rattle.std.proofs.Common.{◌≡◌, ℕ, suc, ◌+◌, ◌<◌, ◌^◌, Bool, true, false, cond, ◌||◌, List, [], ◌∷◌, ◌++◌, length, map, Option, Some, None, Result, Ok, Err, IfOk, OnOk, refl, sym, ap, subst, ◌∙◌, arith}
+use Rattle.std.proofs.Common.{◌≡◌, ℕ, suc, ◌+◌, ◌<◌, ◌^◌, Bool, true, false, cond, ◌||◌, List, [], ◌∷◌, ◌++◌, length, map, Option, Some, None, Result, Ok, Err, IfOk, OnOk, refl, sym, ap, subst, ◌∙◌, arith, length-append}
 use Rattle.std.specs.List.{flat_map, list_any, AllByRecursion}
 use Rattle.std.specs.Io.KnownBytes.{Appends}
 use Rattle.std.proofs.lemmas.List.{map-append}
@@ -13,9 +13,10 @@ use Rattle.block_rules.specs.declared.chain.Chain.{Chain}
 use Rattle.block_rules.specs.declared.verdict.Verdict.{Verdict}
 use Rattle.feed_frame.specs.Events.{events_of}
 use Rattle.feed_frame.specs.FeedText.{event_text, feed_text}
+use Rattle.feed_frame.specs.Streamed.{SendsFirst}
 use Rattle.feed_run.specs.declared.status.Status.{Status}
 use Rattle.feed_run.specs.Answer.{Answer}
-use Rattle.feed_run.specs.Machine.{left_by, said_by, sent_by}
+use Rattle.feed_run.specs.Machine.{goes, says, sends, left_by, said_by, sent_by}
 use Rattle.node_rules.specs.Fitting.{AreEventBytes}
 use Rattle.node_rules.specs.Judging.{Rules}
 use Rattle.node_rules.specs.Machine.{ChainEvent, start, event_in, is_made, own_judge}
@@ -24,13 +25,17 @@ use Rattle.node_rules.proofs.Proving.{events_short}
 use Rattle.bridge_prover.specs.Bridge.{BridgeState, fresh_bridge, verdict_on, next_bridge, message_on}
 use Rattle.bridge_prover.specs.Throughout.{verdicts_on, bridge_after, passed_by, passed_by_bridge}
 use Rattle.bridge_prover.proofs.Throughout.{fresh_proves_throughout}
+use Rattle.report_lines.specs.declared.line.Line.TheVariants as Line
+use Rattle.report_lines.specs.Lines.{line_text, whole_line}
 use Rattle.utreexo.specs.Answers.{answer_with, served_feed}
 use Rattle.utreexo.specs.Within.{Ends, StaysWithin}
 use Rattle.utreexo.specs.Follow.{line_of, rules_of}
 use Rattle.utreexo.specs.Machine.{follow_end, is_refused}
+use Rattle.utreexo.specs.Order.{ProvesFirst}
 use Rattle.utreexo.specs.Proving.{proving_text, proving_verdicts, proving_chain}
 use Rattle.utreexo.specs.Prover.{ProverState, fresh_prover, proved_of, next_prover, proved_line, beside, made_frames, proved_frames, prove_machine, prove_answer, IsReached}
 use Rattle.utreexo.proofs.FollowLemmas.{or_none, or_again}
+use Rattle.utreexo.proofs.OrderLemmas.{stores-first, StoresFirst-same}
 
 module _ (H : List ℕ → Digest) where
   abbrev verdicts : ProverState → List FeedEvent → List Verdict
@@ -72,19 +77,24 @@ module _ (H : List ℕ → Digest) where
       ∙ frames-if (is_made (Some (verdict_on p.bridge (event_in event)))) p.net (beside (message_on H p.bridge (event_in event)) event) (passed_by H p.bridge event)
       (passed_by_bridge H leaf_text (next_bridge H leaf_text p.bridge (event_in event)) events) (ap (event_text p.net) (sym (passed-beside p.bridge event)))
 
-  module _ (limits : Limits) (net : Net) (few : limits.leaves < 2 ^ 40) where
-    served-fresh : (feed : List ℕ) → served_feed (prove_machine H) (fresh_prover net limits) net limits.bytes feed ≡ prove_answer H limits net feed
+  -- each event has a line
+  some_line : (p : ProverState) (event : FeedEvent) → 0 < length (proved_line p event)
+  unfolding proved_line whole_line
+  some_line p event = omega (arith, length-append (line_text (Line.Verdict (proved_of p event))) (10 ∷ []))
+
+  module _ (limits : Limits) (net : Net) (watch : Option (List (List ℕ))) (few : limits.leaves < 2 ^ 40) where
+    served-fresh : (feed : List ℕ) → served_feed (prove_machine H) (fresh_prover net limits watch) net limits.bytes feed ≡ prove_answer H limits net watch feed
     unfolding served_feed prove_answer proving_text
     served-fresh feed =
         let m = prove_machine H in
-        let p = fresh_prover net limits in
+        let p = fresh_prover net limits watch in
         let rules = rules_of limits net in
         let events = events_of net limits.bytes feed in
         let es = events.events in
-        let t = fresh_proves_throughout H leaf_text net limits few es in
+        let t = fresh_proves_throughout H leaf_text net limits watch few es in
         let bridge = bridge_after H leaf_text p.bridge (map event_in es) in
         let told = proving_verdicts rules es in
-        let text = proving_text H None rules es in
+        let text = proving_text H watch rules es in
         let said = said-told es p ∙ ap (flat_map line_of) t.said in
         let sent = sent-told es p ∙ ap (feed_text net) t.passed in
         let count : 0 + length es ≡ length es = omega arith in
@@ -95,7 +105,26 @@ module _ (H : List ℕ → Digest) where
         ∙ ap (λ v. answer_with (flat_map line_of told) text (follow_end (list_any is_refused v) (length es) bridge.chain) events.ending) t.said
         ∙ ap (λ c. answer_with (flat_map line_of told) text (follow_end (list_any is_refused told) (length es) c) events.ending) t.stands.chain
 
-    pub served-prove : (p : ProverState) → p ≡ fresh_prover net limits → (feed : List ℕ) → served_feed (prove_machine H) p net limits.bytes feed ≡ prove_answer H limits net feed
+    said-by : (events : List FeedEvent) → said_by (prove_machine H) (fresh_prover net limits watch) events ≡ flat_map line_of (proving_verdicts (rules_of limits net) events)
+    said-by events =
+        let t = fresh_proves_throughout H leaf_text net limits watch few events in
+        said-told events (fresh_prover net limits watch) ∙ ap (flat_map line_of) t.said
+
+    sent-by : (events : List FeedEvent) → sent_by (prove_machine H) (fresh_prover net limits watch) events ≡ proving_text H watch (rules_of limits net) events
+    unfolding proving_text
+    sent-by events =
+        let t = fresh_proves_throughout H leaf_text net limits watch few events in
+        sent-told events (fresh_prover net limits watch) ∙ ap (feed_text net) t.passed
+
+    -- whatever the loop wrote, frames come before their lines
+    pub proves-first : (p : ProverState) → p ≡ fresh_prover net limits watch → (feed report report' out out' : Option (List ℕ))
+        → SendsFirst (goes (prove_machine H)) (says (prove_machine H)) (sends (prove_machine H)) p net limits.bytes feed report report' out out' → ProvesFirst H limits net watch feed report report' out out'
+    proves-first p e feed report report' out out' w =
+        let m = prove_machine H in
+        StoresFirst-same said-by sent-by
+        (stores-first m some_line (subst (λ q. SendsFirst (goes m) (says m) (sends m) q net limits.bytes feed report report' out out') e w))
+
+    pub served-prove : (p : ProverState) → p ≡ fresh_prover net limits watch → (feed : List ℕ) → served_feed (prove_machine H) p net limits.bytes feed ≡ prove_answer H limits net watch feed
     served-prove p e feed = ap (λ s. served_feed (prove_machine H) s net limits.bytes feed) e ∙ served-fresh feed
 
   -- ---- what is passed on is no longer than its frames may be
@@ -108,19 +137,20 @@ module _ (H : List ℕ → Digest) where
   all-more P [] e all p = (p, tt)
   all-more P (f ∷ es) e all p = (all.0, all-more P es e all.1 p)
 
-  pub reached-fresh : (net : Net) (limits : Limits) → limits.leaves < 2 ^ 40 → IsReached H (fresh_prover net limits)
-  reached-fresh net limits few = record { limits = limits; few = few; events = []; bytes = tt; is = refl }
+  pub reached-fresh : (net : Net) (limits : Limits) (watch : Option (List (List ℕ))) → limits.leaves < 2 ^ 40 → IsReached H (fresh_prover net limits watch)
+  reached-fresh net limits watch few = record { limits = limits; few = few; watch = watch; events = []; bytes = tt; is = refl }
 
   pub reached-next : (p : ProverState) (event : FeedEvent) → AreEventBytes event → IsReached H p → IsReached H (next_prover H p event)
   unfolding next_prover
   reached-next p event bytes r = record {
     limits = r.limits;
     few = r.few;
+    watch = r.watch;
     events = r.events ++ event ∷ [];
     bytes = all-more AreEventBytes r.events event r.bytes bytes;
     is =
         ap (λ s. next_bridge H leaf_text s (event_in event)) r.is
-        ∙ sym (ap (bridge_after H leaf_text (fresh_bridge p.net r.limits)) (map-append event_in r.events (event ∷ [])) ∙ after-more (fresh_bridge p.net r.limits) (map event_in r.events) (event_in event));
+        ∙ sym (ap (bridge_after H leaf_text (fresh_bridge p.net r.limits r.watch)) (map-append event_in r.events (event ∷ [])) ∙ after-more (fresh_bridge p.net r.limits r.watch) (map event_in r.events) (event_in event));
   }
 
   -- the last of them can be written
@@ -139,10 +169,10 @@ module _ (H : List ℕ → Digest) where
   passed-short long p event bytes r made =
       let rules : Rules = record { net = p.net; limits = r.limits } in
       let es = r.events ++ event ∷ [] in
-      let t = fresh_proves_throughout H leaf_text p.net r.limits r.few es in
-      let short = events_short H leaf_text long rules r.few None es (all-more AreEventBytes r.events event r.bytes bytes) in
+      let t = fresh_proves_throughout H leaf_text p.net r.limits r.watch r.few es in
+      let short = events_short H leaf_text long rules r.few r.watch es (all-more AreEventBytes r.events event r.bytes bytes) in
       let passed = subst (AllByRecursion CanBeWritten) (sym t.passed) short in
-      let there = last-passed (fresh_bridge p.net r.limits) r.events event passed (ap (λ s. is_made (Some (verdict_on s (event_in event)))) (sym r.is) ∙ made) in
+      let there = last-passed (fresh_bridge p.net r.limits r.watch) r.events event passed (ap (λ s. is_made (Some (verdict_on s (event_in event)))) (sym r.is) ∙ made) in
       subst CanBeWritten (ap (λ s. passed_by H s event) (sym r.is) ∙ passed-beside p.bridge event) there
 
 -- ---- the answer of the machine, by another name

@@ -77,12 +77,12 @@ strays_said : (H : List ℕ → Digest) (s : NodeState) (strays : List FeedEvent
 strays_said H s strays (inl e) = inl (ap (λ es. verdicts_on H leaf_text s (map event_in es)) e)
 strays_said H s strays (inr e) = inr (ap (λ es. verdicts_on H leaf_text s (map event_in es)) e)
 
-strays_honest : (H : List ℕ → Digest) (rules : Rules) (strays : List FeedEvent) → (strays ≡ []) ⊎ (strays ≡ Feed.StrayCame ∷ []) → (t : State) → AreHonest H leaf_text rules t (map event_in strays)
-strays_honest H rules strays (inl e) t = subst (λ es. AreHonest H leaf_text rules t (map event_in es)) (sym e) refl
-strays_honest H rules strays (inr e) t = subst (λ es. AreHonest H leaf_text rules t (map event_in es)) (sym e) refl
+strays_honest : (H : List ℕ → Digest) (rules : Rules) (strays : List FeedEvent) → (strays ≡ []) ⊎ (strays ≡ Feed.StrayCame ∷ []) → (t : State) → AreHonest H leaf_text [] rules t (map event_in strays)
+strays_honest H rules strays (inl e) t = subst (λ es. AreHonest H leaf_text [] rules t (map event_in es)) (sym e) refl
+strays_honest H rules strays (inr e) t = subst (λ es. AreHonest H leaf_text [] rules t (map event_in es)) (sym e) refl
 
 honest_to : (H : List ℕ → Digest) (rules : Rules) (front later : List ChainEvent) (strays : List FeedEvent) → (strays ≡ []) ⊎ (strays ≡ Feed.StrayCame ∷ []) → (t : State)
-    → AreHonest H leaf_text rules t (front ++ later) → AreHonest H leaf_text rules t (front ++ map event_in strays)
+    → AreHonest H leaf_text [] rules t (front ++ later) → AreHonest H leaf_text [] rules t (front ++ map event_in strays)
 honest_to H rules [] later strays one t h = strays_honest H rules strays one t
 honest_to H rules (e ∷ es) later strays one t h =
     let o = step rules (full_judge H leaf_text [] rules) t e in
@@ -131,7 +131,7 @@ module _ (net : Net) (limits : Limits) (most : ℕ) where
 
 module _ (H : List ℕ → Digest) (long : (x : List ℕ) → length (H x).0 ≡ 32) (limits : Limits) (net : Net) (few : limits.leaves < 2 ^ 40) (short : limits.bytes ≤ 2 ^ 48) where
   abbrev node : NodeState
-  node = Node.fresh_node net limits
+  node = Node.fresh_node net limits []
 
   module _ (events : List FeedEvent) (all : AllByRecursion AreEventBytes events) (feed : List ℕ) where
     abbrev proved : List FeedEvent
@@ -151,8 +151,8 @@ module _ (H : List ℕ → Digest) (long : (x : List ℕ) → length (H x).0 ≡
     again : map event_in proved ≡ came
     again = events_again H leaf_text long (rules_of limits net) few None events all
 
-    follows : Fresh.SaysAsProving H leaf_text (rules_of limits net) node (map event_in events)
-    follows = fresh_follows_proving H leaf_text net limits few short (map event_in events)
+    follows : Fresh.SaysAsProving H leaf_text None (rules_of limits net) node (map event_in events)
+    follows = fresh_follows_proving H leaf_text net limits [] few short None tt (map event_in events)
 
     as_many : length proved ≡ length made
     as_many = sym (length-map proved event_in) ∙ ap length again ∙ sym (verdicts-long H node came) ∙ ap length follows.said
@@ -172,7 +172,7 @@ module _ (H : List ℕ → Digest) (long : (x : List ℕ) → length (H x).0 ≡
         let chain = proving_chain (rules_of limits net) events in
         let last = (node_after H leaf_text node came).newest.chain in
         record {
-          honest = subst (λ es. AreTrue H limits net es) (sym r.all) (subst (AreHonest H leaf_text (rules_of limits net) start) (sym again) f.honest);
+          honest = subst (λ es. AreTrue H limits net es) (sym r.all) (subst (AreHonest H leaf_text [] (rules_of limits net) start) (sym again) f.honest);
           answer =
               ap (λ es. answer_to (map event_in es) (length es) ending) r.all ∙ ap (answer_to (map event_in proved) (length proved)) r.ends
               ∙ ap (λ es. answer_to es (length proved) None) again
@@ -202,8 +202,8 @@ module _ (H : List ℕ → Digest) (long : (x : List ℕ) → length (H x).0 ≡
           let halves : came ≡ front ++ later = sym again ∙ ap (map event_in) r.split ∙ map-append event_in r.front r.later in
           record {
             honest = subst (λ es. AreTrue H limits net es) (sym r.all)
-                (subst (AreHonest H leaf_text (rules_of limits net) start) (sym (map-append event_in r.front r.strays))
-                (honest_to H (rules_of limits net) front later r.strays r.one start (subst (AreHonest H leaf_text (rules_of limits net) start) halves f.honest)));
+                (subst (AreHonest H leaf_text [] (rules_of limits net) start) (sym (map-append event_in r.front r.strays))
+                (honest_to H (rules_of limits net) front later r.strays r.one start (subst (AreHonest H leaf_text [] (rules_of limits net) start) halves f.honest)));
             front = verdicts_on H leaf_text node front;
             later = verdicts_on H leaf_text then later;
             split = sym f.said ∙ ap (verdicts_on H leaf_text node) halves ∙ verdicts_on-append H leaf_text node front later;

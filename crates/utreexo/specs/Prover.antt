@@ -22,6 +22,7 @@ use Rattle.utreexo.specs.Answers.{answer_with}
 use Rattle.utreexo.specs.Follow.{line_of, rules_of}
 use Rattle.utreexo.specs.Machine.{is_refused, follow_end}
 use Rattle.utreexo.specs.Proving.{proving_text, proving_verdicts, proving_chain}
+use Rattle.utreexo.specs.Watching.{list_in, with_list}
 
 -- what contracts see of `Prover`
 pub record ProverState : Type 0 where
@@ -30,8 +31,9 @@ pub record ProverState : Type 0 where
   pub events : ℕ
   pub refused : Bool
 
-abbrev pub fresh_prover : Net → Limits → ProverState
-fresh_prover net limits = record { net = net; bridge = fresh_bridge net limits; events = 0; refused = false }
+-- which passes on messages in full, or lean ones for those with this watch list
+abbrev pub fresh_prover : Net → Limits → Option (List (List ℕ)) → ProverState
+fresh_prover net limits watch = record { net = net; bridge = fresh_bridge net limits watch; events = 0; refused = false }
 
 -- what the bridge says of an event
 unfoldable pub proved_of : ProverState → FeedEvent → Verdict
@@ -76,13 +78,17 @@ prove_machine H = record {
 
 -- ---- what `prove` answers to a feed: what the proving node says of each event, and what it writes of them
 
-unfoldable pub prove_answer : (List ℕ → Digest) → Limits → Net → List ℕ → Answer
-prove_answer H limits net feed =
+unfoldable pub prove_answer : (List ℕ → Digest) → Limits → Net → Option (List (List ℕ)) → List ℕ → Answer
+prove_answer H limits net watch feed =
     let events = events_of net limits.bytes feed in
     let rules = rules_of limits net in
     let told = proving_verdicts rules events.events in
-    answer_with (flat_map line_of told) (proving_text H None rules events.events)
+    answer_with (flat_map line_of told) (proving_text H watch rules events.events)
     (follow_end (list_any is_refused told) (length events.events) (proving_chain rules events.events)) events.ending
+
+-- the same with the watch list that may be named
+abbrev pub prove_for : (List ℕ → Digest) → Limits → Net → (named : Bool) → (list feed : List ℕ) → Answer
+prove_for H limits net named list feed = with_list (list_in named limits.bytes list) (λ watch. prove_answer H limits net watch feed)
 
 -- ---- within the program
 
@@ -90,6 +96,7 @@ prove_answer H limits net feed =
 pub record IsReached (H : List ℕ → Digest) (p : ProverState) : Type 0 where
   pub limits : Limits
   pub few : limits.leaves < 2 ^ 40
+  pub watch : Option (List (List ℕ))
   pub events : List FeedEvent
   pub bytes : AllByRecursion AreEventBytes events
-  pub is : p.bridge ≡ bridge_after H leaf_text (fresh_bridge p.net limits) (map event_in events)
+  pub is : p.bridge ≡ bridge_after H leaf_text (fresh_bridge p.net limits watch) (map event_in events)

@@ -22,6 +22,6 @@ IsFileOrQuiet name sink = ⊥
 -- what is stored goes to the file that the words name, and nowhere else
 abbrev pub IsOutOf : {R F D : Type 0} → Result Asked WordFault → AnySink R F D → Type 0
 IsOutOf (Ok (AskedFollow net feed)) sink = IsFileOrQuiet None sink
-IsOutOf (Ok (AskedProve net feed to)) sink = IsFileOrQuiet to sink
+IsOutOf (Ok (AskedProve net feed to watch)) sink = IsFileOrQuiet to sink
 IsOutOf (Ok (AskedGen net number blocks to)) sink = IsFileOrQuiet to sink
 IsOutOf (Err fault) sink = IsFileOrQuiet None sink

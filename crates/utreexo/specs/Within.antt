@@ -28,6 +28,25 @@ pub record StaysWithin (answer : List ℕ → Answer) (feed report report' out o
   pub reported : AppendsPart report report' (answer text).report
   pub sent : AppendsPart out out' (answer text).out
 
+-- ---- of an answer to a feed and an input that is read whole before it
+
+pub record EndsOver (answer : (whole feed : List ℕ) → Answer) (whole feed report report' out out' : Option (List ℕ)) (status : Status) : Type 0 where
+  pub first : List ℕ
+  pub told_first : Tells whole first
+  pub text : List ℕ
+  pub told : Tells feed text
+  pub answered : status ≡ (answer first text).status
+  pub reported : Appends report report' (answer first text).report
+  pub sent : Appends out out' (answer first text).out
+
+pub record StaysOver (answer : (whole feed : List ℕ) → Answer) (whole feed report report' out out' : Option (List ℕ)) : Type 0 where
+  pub first : List ℕ
+  pub told_first : Tells whole first
+  pub text : List ℕ
+  pub told : Tells feed text
+  pub reported : AppendsPart report report' (answer first text).report
+  pub sent : AppendsPart out out' (answer first text).out
+
 -- ---- of an answer to all inputs
 
 -- the call gave the whole answer

@@ -14,6 +14,7 @@ use crate::ending::{end_line, is_refused, status_of};
 use block_rules::Verdict;
 use bridge_prover::{Bridge, Proved};
 use feed_run::{EventHandler, Piece, Status, Stop};
+use leaf_cache::Watch;
 use report_lines::{line_of, push_line};
 use std::alloc::Global;
 use std::marker::Model;
@@ -53,15 +54,20 @@ impl<D: Digester> Model for Prover<D> {
 }
 
 impl<D: Digester> Prover<D> {
-    /// A bridge that was told nothing yet.
-    pub fn new(alloc: Global, net: Net, limits: Limits) -> Result<Prover<D>, NoMemory>
+    /// A bridge that was told nothing yet. What it passes on is lean exactly where there is a watch list.
+    pub fn new(
+        alloc: Global,
+        net: Net,
+        limits: Limits,
+        watch: Option<Watch>,
+    ) -> Result<Prover<D>, NoMemory>
         requires leaves { limits.leaves < 2 ^ 40 }
-        ensures { IfOk result (λ p. p ≡ fresh_prover net limits) }
+        ensures { IfOk result (λ p. p ≡ fresh_prover net limits watch) }
     {
         Ok(Prover {
             alloc,
             net,
-            bridge: Bridge::new(alloc, net, limits)?,
+            bridge: Bridge::new(alloc, net, limits, watch)?,
             events: 0,
             refused: false,
         })

@@ -1,4 +1,4 @@
-//! Blocks with outputs that anyone can spend.
+//! Blocks with outputs that anyone can spend: the coinbase of height 41 by another script than all the rest.
 ghost use Rattle.std.specs.Prelude.{IfOk};
 ghost use Rattle.tx_codec.specs.Transaction.{IsWritable};
 
@@ -12,12 +12,21 @@ use uo_digest::Digest;
 #[derive(Clone, Copy)]
 pub struct Sketch<'a>(pub Digest, pub u32, pub &'a [u64]);
 
-fn outputs_of(alloc: Global, amounts: &[u64]) -> Result<Vec<OutView<'static>>, Fail> {
+/// The script of the outputs that a block of this height makes.
+fn script_of(height: u32) -> &'static [u8] {
+    if height == 41 { b"\x52" } else { b"\x51" }
+}
+
+fn outputs_of(
+    alloc: Global,
+    amounts: &[u64],
+    script: &'static [u8],
+) -> Result<Vec<OutView<'static>>, Fail> {
     let mut outputs = Vec::new(alloc);
     for amount in amounts {
         outputs.push(OutView {
             amount: *amount,
-            script: b"\x51",
+            script,
         })?;
     }
     Ok(outputs)
@@ -32,7 +41,7 @@ fn tx_of(alloc: Global, sketch: &Sketch<'_>) -> Result<Tx, Fail>
         script: &[],
         sequence: 0,
     };
-    let outputs = outputs_of(alloc, sketch.2)?;
+    let outputs = outputs_of(alloc, sketch.2, b"\x51")?;
     Ok(legacy_tx(alloc, &[input], &outputs, 0)?)
 }
 
@@ -45,7 +54,8 @@ pub fn build(
     sketches: &[Sketch<'_>],
 ) -> Result<Sample, Fail> {
     let mut txs = Vec::new(alloc);
-    txs.push(coinbase(alloc, height, &outputs_of(alloc, &[pays])?)?)?;
+    let outputs = outputs_of(alloc, &[pays], script_of(height))?;
+    txs.push(coinbase(alloc, height, &outputs)?)?;
     for sketch in sketches {
         txs.push(tx_of(alloc, sketch)?)?;
     }

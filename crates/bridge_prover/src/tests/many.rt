@@ -53,7 +53,7 @@ fn check_many<L: Ledger>(rt: &impl Abort, alloc: Global, blank: Blank) -> Result
     requires some { 0 < blank.parts }
 {
     let mut steps = Steps::<L>::new(blank);
-    let mut pair = Pair::new(alloc, Net::Main)?;
+    let mut pair = Pair::new(alloc, Net::Main, b"52")?;
     let _ = pair.act(rt, Act::Plain(1), &mut steps)?;
     let tip = pair.hashes.last().copied().unwrap_or(NONE);
     let _ = pair.pass(rt, &wide(alloc, tip, 1)?, &mut steps)?;

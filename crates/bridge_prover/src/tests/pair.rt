@@ -1,9 +1,11 @@
-//! A bridge, and a compact node beside it that gets what the bridge passes on.
+//! A bridge, a compact node beside it that gets what the bridge passes on, and a bridge with a watch list.
 use super::build::{Sketch, build};
+use super::lean::{is_filled, list};
 use crate::{Bridge, Proved};
 use block_rules::{Refusal, Verdict};
 use block_samples::Sample;
 use compact_node::Node;
+use leaf_cache::Watch;
 use std::alloc::Global;
 use std::process::Abort;
 use std::sync::ledger::Ledger;
@@ -56,13 +58,14 @@ impl End {
 }
 
 /// What the bridge said of the last block: of the message that it passed on, the length, the lowest byte of the first target, and
-/// the lowest byte of what tells its height.
+/// the lowest byte of what tells its height. And the length of the lean message.
 #[derive(Clone, Copy)]
 pub struct Told {
     pub height: u32,
     pub hash: Digest,
     pub verdict: Verdict,
     pub front: (usize, u8, u8),
+    pub lean: usize,
 }
 
 fn prove<L: Ledger>(
@@ -101,22 +104,24 @@ fn front_of(message: Option<&[u8]>) -> (usize, u8, u8) {
     }
 }
 
-/// Both, and of each block the hash and the id of its coinbase.
+/// All three, and of each block the hash and the id of its coinbase.
 #[derive(Drop)]
 pub struct Pair {
     pub alloc: Global,
     pub bridge: Bridge<Sha512t256>,
+    pub lean: Bridge<Sha512t256>,
     pub node: Node<Sha512t256>,
     pub hashes: Vec<Digest>,
     pub ids: Vec<Digest>,
 }
 
 impl Pair {
-    pub fn new(alloc: Global, net: Net) -> Result<Pair, Fail> {
+    pub fn new(alloc: Global, net: Net, watched: &[u8]) -> Result<Pair, Fail> {
         Ok(Pair {
             alloc,
-            bridge: Bridge::new(alloc, net, Limits::standard())?,
-            node: Node::new(alloc, net, Limits::standard())?,
+            bridge: Bridge::new(alloc, net, Limits::standard(), None)?,
+            lean: Bridge::new(alloc, net, Limits::standard(), list(alloc, watched)?)?,
+            node: Node::new(alloc, net, Limits::standard(), Watch::empty(alloc))?,
             hashes: Vec::new(alloc),
             ids: Vec::new(alloc),
         })
@@ -130,7 +135,32 @@ impl Pair {
         Ok(*self.ids.get(height as usize).ok_or("a block")?)
     }
 
-    /// Gives a block to the bridge, and what that passes on to the node.
+    /// Gives a block to the bridge with the list, which says of it what the other one said. What it leaves out of its message is what
+    /// it knew before the block.
+    fn pass_lean<L: Ledger>(
+        &mut self,
+        rt: &impl Abort,
+        block: &Sample,
+        proved: &Proved,
+        steps: &mut Steps<L>,
+    ) -> Result<usize, Fail> {
+        let known = self.lean.known_hashes()?;
+        let leaves = self.lean.forest().leaves();
+        let told = prove(&mut self.lean, &block.text, steps)?;
+        assert_eq!(rt; told.verdict, proved.verdict);
+        match (told.message.as_deref(), proved.message.as_deref()) {
+            (Some(lean), Some(full)) => {
+                assert!(rt; is_filled(self.alloc, leaves, lean, full, &known)?);
+                Ok(lean.len())
+            }
+            (lean, full) => {
+                assert!(rt; lean.is_none() && full.is_none());
+                Ok(0)
+            }
+        }
+    }
+
+    /// Gives a block to the bridges, and what the one without a list passes on to the node.
     pub fn pass<L: Ledger>(
         &mut self,
         rt: &impl Abort,
@@ -139,6 +169,7 @@ impl Pair {
     ) -> Result<Told, Fail> {
         let height = self.bridge.chain().blocks;
         let proved = prove(&mut self.bridge, &block.text, steps)?;
+        let lean = self.pass_lean(rt, block, &proved, steps)?;
         let verdict = proved.verdict;
         let message = proved.message.as_deref();
         if let Verdict::Accepted { .. } = verdict {
@@ -152,6 +183,7 @@ impl Pair {
             hash: block.hash,
             verdict,
             front: front_of(message),
+            lean,
         })
     }
 
@@ -198,7 +230,7 @@ impl Pair {
         self.pass(rt, &block, steps)
     }
 
-    /// Takes both back by so many blocks.
+    /// Takes all back by so many blocks.
     pub fn go_back<L: Ledger>(
         &mut self,
         rt: &impl Abort,
@@ -210,6 +242,7 @@ impl Pair {
         assert!(rt; proved.message.is_none());
         let verdict = proved.verdict;
         assert_eq!(rt; self.node.step(event, steps)?, verdict);
+        assert_eq!(rt; self.lean.step(event, steps)?.verdict, verdict);
         if let Verdict::RolledBack { .. } = verdict {
             let left = self.hashes.len().saturating_sub(count as usize);
             self.hashes.truncate(left);

@@ -21,12 +21,13 @@ enum Move {
     Deep(u32, u32),
 }
 
-/// A way with rollbacks, and one without that comes to the same chain.
-struct Ways(&'static [Move], &'static [Act]);
+/// A watch list, a way with rollbacks, and one without that comes to the same chain.
+struct Ways(&'static [u8], &'static [Move], &'static [Act]);
 
 const WAYS: [Ways; 5] = [
     // A spend is undone, and made again.
     Ways(
+        b"51",
         &[
             Move::On(Act::Plain(101)),
             Move::On(Act::Halves(1)),
@@ -37,6 +38,7 @@ const WAYS: [Ways; 5] = [
     ),
     // So are two blocks, of which the second spends what the first made; then another output is spent.
     Ways(
+        b"51\n52",
         &[
             Move::On(Act::Plain(102)),
             Move::On(Act::Spend(1, &[FULL])),
@@ -48,6 +50,7 @@ const WAYS: [Ways; 5] = [
     ),
     // A hundred blocks, with spends at both ends, and no more.
     Ways(
+        b"51",
         &[
             Move::On(Act::Plain(110)),
             Move::On(Act::Spend(1, &[FULL])),
@@ -66,6 +69,7 @@ const WAYS: [Ways; 5] = [
     ),
     // The newer of two outputs with one outpoint is live again.
     Ways(
+        b"52",
         &[
             Move::On(Act::Plain(2)),
             Move::On(Act::Twin(1)),
@@ -83,6 +87,7 @@ const WAYS: [Ways; 5] = [
     ),
     // All of a short chain.
     Ways(
+        b"",
         &[
             Move::On(Act::Plain(3)),
             Move::Back(3, 0),
@@ -129,6 +134,8 @@ fn make<L: Ledger>(
 fn check_same(rt: &impl Abort, back: &Pair, straight: &Pair) -> Result<(), Fail> {
     assert_eq!(rt; back.bridge.chain(), straight.bridge.chain());
     assert_eq!(rt; back.node.chain(), straight.bridge.chain());
+    let known = straight.lean.known_hashes()?;
+    assert!(rt; back.lean.known_hashes()?.as_slice() == known.as_slice());
     for row in 0..8 {
         let root = straight.bridge.forest().root(row);
         assert_eq!(rt; back.bridge.forest().root(row), root);
@@ -152,12 +159,12 @@ fn check_ways<L: Ledger>(
     requires some { 0 < blank.parts }
 {
     let mut steps = Steps::<L>::new(blank);
-    let mut back = Pair::new(alloc, Net::Main)?;
-    for step in ways.0 {
+    let mut back = Pair::new(alloc, Net::Main, ways.0)?;
+    for step in ways.1 {
         make(rt, &mut back, *step, &mut steps)?;
     }
-    let mut straight = Pair::new(alloc, Net::Main)?;
-    for act in ways.1 {
+    let mut straight = Pair::new(alloc, Net::Main, ways.0)?;
+    for act in ways.2 {
         let _ = straight.act(rt, *act, &mut steps)?;
     }
     check_same(rt, &back, &straight)

@@ -3,6 +3,7 @@ ghost use Rattle.std.specs.Prelude.{◌≡◌, ◌<◌};
 
 use super::{Compact, End, FULL, NONE, plain, take};
 use block_rules::{Refusal, Verdict};
+use leaf_cache::Watch;
 use std::alloc::Global;
 use std::marker::Brand;
 use std::process::Abort;
@@ -95,7 +96,7 @@ impl Walker {
     fn new(alloc: Global, net: Net) -> Result<Walker, Fail> {
         Ok(Walker {
             alloc,
-            node: Compact::new(alloc, net, Limits::standard())?,
+            node: Compact::new(alloc, net, Limits::standard(), Watch::empty(alloc))?,
             hashes: Vec::new(alloc),
         })
     }

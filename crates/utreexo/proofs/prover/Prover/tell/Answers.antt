@@ -11,7 +11,7 @@ unfolding next_prover
 invariant_of-self-2 g c =
     let p : ProverState = record { net = c.self.inside.net; bridge = c.self.inside.bridge; events = c.self.inside.events; refused = c.self.inside.refused } in
     let r = reached-next g.D.Digester.digest_of p (event_of c.args.event) c.requires.bytes c.self.invariant in
-    record { limits = r.limits; few = r.few; events = r.events; bytes = r.bytes; is = c.in_ok-proved.ensures.next ∙ r.is }
+    record { limits = r.limits; few = r.few; watch = r.watch; events = r.events; bytes = r.bytes; is = c.in_ok-proved.ensures.next ∙ r.is }
 
 pub returns-clause-verdict : goal.returns-clause-verdict
 unfolding proved_of

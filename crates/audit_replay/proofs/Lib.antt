@@ -1,0 +1,4 @@
+pub mod Throughout
+pub mod Supplying
+pub mod Auditing
+pub mod Forged

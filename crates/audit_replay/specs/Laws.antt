@@ -1,0 +1,52 @@
+-- What holds of auditors, whatever the digest function and the leaf text.
+use Rattle.std.specs.Prelude.{◌≡◌, ℕ, ◌<◌, ◌^◌, false, not, List, [], ◌∷◌, Option, Some, None}
+use Rattle.uo_base.specs.declared.event.Limits.{Limits}
+use Rattle.uo_base.specs.declared.event.Net.{Net}
+use Rattle.uo_digest.specs.declared.digest.Digest.{Digest}
+use Rattle.leaf_record.specs.Leaf.{Leaf}
+use Rattle.leaf_record.specs.History.{supply}
+use Rattle.block_rules.specs.declared.verdict.Verdict.{Verdict}
+use Rattle.node_rules.specs.Judging.{Rules}
+use Rattle.node_rules.specs.Machine.{ChainEvent, State, start, issued, full_judge, verdict_before, verdicts, state_after, never_stops}
+use Rattle.bridge_prover.specs.Bridge.{BridgeState}
+use Rattle.bridge_prover.specs.Standing.{IsBridge, Stands}
+use Rattle.bridge_prover.specs.Full.{history_of, judged_on, watched_by}
+use Rattle.audit_replay.specs.Audit.{AuditState, fresh_audit, next_audit}
+
+-- ---- a list of events, of which none is judged behind a forged one
+
+abbrev pub verdicts_on : (List ℕ → Digest) → (Leaf → List ℕ) → AuditState → List ChainEvent → List Verdict
+verdicts_on H text s [] = []
+verdicts_on H text s (e ∷ es) = verdict_before (judged_on H text s.bridge e) (verdicts_on H text (next_audit H text s e) es)
+
+-- the one that is next after an event, or the last where that was forged
+abbrev pub ends_at : Option Verdict → AuditState → AuditState → AuditState
+ends_at None next later = next
+ends_at (Some v) next later = later
+
+abbrev pub audit_after : (List ℕ → Digest) → (Leaf → List ℕ) → AuditState → List ChainEvent → AuditState
+audit_after H text s [] = s
+audit_after H text s (e ∷ es) = ends_at (judged_on H text s.bridge e) (next_audit H text s e) (audit_after H text (next_audit H text s e) es)
+
+-- the auditor says of each what the node says that holds every output, has ended exactly where that one has no verdict on one of them, which
+-- is the first forged one, and stands for what it holds then
+pub record AuditsThroughout (H : List ℕ → Digest) (text : Leaf → List ℕ) (scripts : List (List ℕ)) (rules : Rules) (t : State) (s : AuditState) (events : List ChainEvent) : Type 0 where
+  pub said : verdicts_on H text s events ≡ verdicts rules (full_judge H text scripts rules) t events
+  pub ended : (audit_after H text s events).ended ≡ not (never_stops rules (full_judge H text scripts rules) t events)
+  pub stands : Stands H text (state_after rules (full_judge H text scripts rules) t events) (audit_after H text s events).bridge
+
+-- each that stands for that node and has not ended does so
+abbrev pub AuditIsFullThroughout : Type 0
+AuditIsFullThroughout = (H : List ℕ → Digest) (text : Leaf → List ℕ) (t : State) (s : AuditState) (events : List ChainEvent) → IsBridge H text s.bridge → Stands H text t s.bridge → s.ended ≡ false →
+    AuditsThroughout H text (watched_by s.bridge) s.bridge.rules t s events
+
+-- and each from its start
+abbrev pub FreshIsFull : Type 0
+FreshIsFull = (H : List ℕ → Digest) (text : Leaf → List ℕ) (net : Net) (limits : Limits) (scripts : List (List ℕ)) → limits.leaves < 2 ^ 40 →
+    let rules : Rules = record { net = net; limits = limits } in
+    (events : List ChainEvent) → AuditsThroughout H text scripts rules start (fresh_audit net limits scripts) events
+
+-- what is live and what was issued are those of the newest level
+abbrev pub SupplyIsOfLevel : Type 0
+SupplyIsOfLevel = (H : List ℕ → Digest) (text : Leaf → List ℕ) (t : State) (s : BridgeState) → IsBridge H text s → Stands H text t s →
+    (supply (history_of s) ≡ supply t.now.history) × (issued s.rules.net s.chain.blocks ≡ issued s.rules.net t.now.blocks)

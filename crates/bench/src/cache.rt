@@ -1,0 +1,362 @@
+//! Blocks over a cache of watched outputs.
+ghost use Rattle.std.specs.Prelude.{◌≡◌, ◌+◌, ◌^◌, ◌<◌, ◌≤◌, IfSome};
+ghost use Rattle.cache_update.specs.Marks.{Fits};
+
+use crate::stopwatch::Stopwatch;
+use bridge_forest::Forest;
+use cache_update::{Mark, after_add, after_delete, begin, undo};
+use forest_place::position;
+use forest_roots::{Joins, Roots};
+use leaf_cache::{Cache, Kept, Parts, Watch};
+use leaf_record::Record;
+use proof_shape::Targets;
+use proof_verify::{Scratch, check_and_delete};
+use std::alloc::Global;
+use std::io;
+use std::sync::ledger::{Blank, Ledger};
+use std::time::{CpuClock, Duration};
+use uo_digest::{Digest, Sha512t256, Steps};
+
+const ENTRIES: u64 = 1 << 20;
+
+const BLOCK: u64 = 1_000;
+
+const ROUNDS: u32 = 10;
+
+/// Microseconds of a block of a thousand deletions and a thousand additions over a forest of 2^20 entries, with and without a
+/// cache that keeps none, a hundred and ten thousand of them, and the bytes of its mark.
+pub fn measure_cache<R: CpuClock + Print + AllocGlobal, L: Ledger>(
+    rt: &R,
+    blank: Blank,
+) -> io::Result<()>
+    requires name { blank.name ≡ L.name }
+    requires parts { blank.parts ≡ L.parts }
+    requires some { 0 < blank.parts }
+{
+    let mut steps = Steps::<L>::new(blank);
+    for kept in [0, 100, 10_000] {
+        measure(rt, rt.alloc(), kept, &mut steps)?;
+    }
+    Ok(())
+}
+
+// The digest of the leaf with this number.
+fn leaf_of(number: u64) -> Digest {
+    let mut bytes = [5; 32];
+    for (i, byte) in number.to_le_bytes().iter().enumerate() {
+        bytes[i] = *byte;
+    }
+    Digest(bytes)
+}
+
+// An output with a script of 25 bytes, if its number is among the kept ones.
+fn kept_output(alloc: Global, number: u64, kept: u64) -> Option<Record> {
+    let every = ENTRIES / kept.max(1);
+    if kept == 0 || number % every.max(1) != 0 {
+        return None;
+    }
+    let script = vec![in alloc; 7; 25].ok()?;
+    Some(Record {
+        block: Digest([9; 32]),
+        txid: leaf_of(number),
+        index: 0,
+        height: 0,
+        coinbase: false,
+        amount: 50,
+        script,
+    })
+}
+
+// Additions to the roots and to the cache.
+fn add_all<L: Ledger>(
+    alloc: Global,
+    cache: &mut Cache<Sha512t256>,
+    mark: &mut Mark,
+    roots: &mut Roots<Sha512t256>,
+    adds: u64,
+    kept: u64,
+    steps: &mut Steps<L>,
+)
+    requires fits { Fits mark.old cache.old.parts }
+    requires adds { adds ≤ mark.old.adds }
+    requires watched { adds ≤ mark.old.watched }
+    requires count { roots.old.leaves ≡ mark.old.leaves }
+    requires few { roots.old.leaves + adds < 2 ^ 40 }
+    ensures { Fits mark.new cache.new.parts }
+{
+    let mut joins = Joins::new();
+    let mut left = adds;
+    while left > 0 {
+        let n = roots.leaves();
+        let leaf = kept_output(alloc, n, kept);
+        let digest = leaf_of(n);
+        roots.add_into(digest, &mut joins, steps);
+        after_add(cache, mark, n, digest, &joins, leaf);
+        left -= 1;
+    }
+}
+
+// What spends a thousand entries.
+#[derive(Drop)]
+struct Proof {
+    positions: Vec<u64>,
+    leaves: Vec<Digest>,
+    hashes: Vec<Digest>,
+}
+
+fn prove(alloc: Global, forest: &Forest<Sha512t256>) -> io::Result<Proof> {
+    let mut proof = Proof {
+        positions: Vec::new(alloc),
+        leaves: Vec::new(alloc),
+        hashes: Vec::new(alloc),
+    };
+    let n = forest.leaves();
+    for i in 0..BLOCK {
+        let number = i * (ENTRIES / BLOCK) + 3;
+        if forest.live(number) {
+            let at = forest.place(number);
+            if n < 1 << 40 && at.row < 40 && at.off < n >> at.row {
+                proof.positions.push(position(at, n))?;
+                proof.leaves.push(leaf_of(number))?;
+            }
+        }
+    }
+    show_hashes(alloc, forest, &mut proof)?;
+    Ok(proof)
+}
+
+fn show_hashes(alloc: Global, forest: &Forest<Sha512t256>, proof: &mut Proof) -> io::Result<()> {
+    let n = forest.leaves();
+    let positions = proof.positions.as_slice();
+    if n < 1 << 40 && positions.len() < 1 << 32 {
+        if let Ok(targets) = Targets::new(alloc, n, positions) {
+            for at in targets.needed() {
+                let hash = forest.digest_at(*at);
+                proof.hashes.push(hash.unwrap_or(Digest([0; 32])))?;
+            }
+        }
+    }
+    Ok(())
+}
+
+// A block without a cache.
+fn bare_block<L: Ledger>(
+    alloc: Global,
+    roots: &mut Roots<Sha512t256>,
+    proof: &Proof,
+    scratch: &mut Scratch,
+    steps: &mut Steps<L>,
+) -> bool {
+    let positions = proof.positions.as_slice();
+    if positions.len() >= 1 << 32 {
+        return false;
+    }
+    let Ok(targets) = Targets::new(alloc, roots.leaves(), positions) else {
+        return false;
+    };
+    let leaves = proof.leaves.as_slice();
+    if scratch.reserve(&targets).is_err() || leaves.len() != targets.len() as usize {
+        return false;
+    }
+    let hashes = proof.hashes.as_slice();
+    if check_and_delete(roots, &targets, leaves, hashes, scratch, steps).is_err() {
+        return false;
+    }
+    let mut joins = Joins::new();
+    for _ in 0..BLOCK {
+        let n = roots.leaves();
+        if n < 1 << 39 {
+            roots.add_into(leaf_of(n), &mut joins, steps);
+        }
+    }
+    true
+}
+
+// The same with a cache.
+fn cached_block<L: Ledger>(
+    alloc: Global,
+    cache: &mut Cache<Sha512t256>,
+    roots: &mut Roots<Sha512t256>,
+    proof: &Proof,
+    scratch: &mut Scratch,
+    kept: u64,
+    steps: &mut Steps<L>,
+) -> Option<Mark>
+    ensures { IfSome result (λ m. Fits m cache.new.parts) }
+{
+    let positions = proof.positions.as_slice();
+    if positions.len() >= 1 << 32 {
+        return None;
+    }
+    let Ok(targets) = Targets::new(alloc, roots.leaves(), positions) else {
+        return None;
+    };
+    let leaves = proof.leaves.as_slice();
+    if scratch.reserve(&targets).is_err() || leaves.len() != targets.len() as usize {
+        return None;
+    }
+    let Ok(mut mark) = begin(alloc, cache, &targets, BLOCK, BLOCK) else {
+        return None;
+    };
+    let hashes = proof.hashes.as_slice();
+    let Ok(changes) = check_and_delete(roots, &targets, leaves, hashes, scratch, steps) else {
+        return None;
+    };
+    after_delete(cache, &mut mark, &targets, &changes);
+    let n = roots.leaves();
+    if n != targets.leaves() || n >= 1 << 39 {
+        return None;
+    }
+    add_all(alloc, cache, &mut mark, roots, BLOCK, kept, steps);
+    Some(mark)
+}
+
+// A block of additions alone.
+fn grow_by<L: Ledger>(
+    alloc: Global,
+    cache: &mut Cache<Sha512t256>,
+    roots: &mut Roots<Sha512t256>,
+    adds: u64,
+    kept: u64,
+    steps: &mut Steps<L>,
+) {
+    let n = roots.leaves();
+    if n >= 1 << 39 || adds >= 1 << 20 {
+        return;
+    }
+    let Ok(none) = Targets::new(alloc, n, &[]) else {
+        return;
+    };
+    if let Ok(mut mark) = begin(alloc, cache, &none, adds, adds) {
+        add_all(alloc, cache, &mut mark, roots, adds, kept, steps);
+    }
+}
+
+// The forest of all entries.
+fn grown<L: Ledger>(alloc: Global, steps: &mut Steps<L>) -> Forest<Sha512t256> {
+    let mut forest = Forest::<Sha512t256>::new(alloc);
+    let _ = forest.reserve(ENTRIES);
+    for i in 0..ENTRIES {
+        if 0 < forest.spare() && forest.leaves() < 1 << 39 {
+            let _ = forest.add(leaf_of(i), steps);
+        }
+    }
+    forest
+}
+
+// How many kept entries stand elsewhere than they stood.
+fn moved_between(older: &[Kept], newer: &[Kept]) -> u64 {
+    let mut moved: u64 = 0;
+    for entry in older {
+        if let Ok(i) = newer.binary_search_by_key(&entry.number, |other| other.number) {
+            if newer[i].place != entry.place {
+                moved = moved.saturating_add(1);
+            }
+        }
+    }
+    moved
+}
+
+// The digests that a cache has otherwise, or not at all, and how many are at places where it has none.
+fn others(cache: &Cache<Sha512t256>, parts: &Parts) -> (u64, u64) {
+    let mut other: u64 = 0;
+    let mut none: u64 = 0;
+    for (place, digest) in parts.held.iter() {
+        let known = cache.known(*place);
+        if known != Some(*digest) {
+            other = other.saturating_add(1);
+        }
+        if known.is_none() {
+            none = none.saturating_add(1);
+        }
+    }
+    (other, none)
+}
+
+// What a mark has: the digests that the block changed, and places that had none or where kept entries stood.
+fn measure_mark<R: Print, L: Ledger>(
+    rt: &R,
+    alloc: Global,
+    cache: &mut Cache<Sha512t256>,
+    roots: &Roots<Sha512t256>,
+    proof: &Proof,
+    kept: u64,
+    steps: &mut Steps<L>,
+) -> io::Result<()> {
+    let mut scratch = Scratch::new(alloc);
+    let Ok(older) = cache.seen().copy(alloc) else {
+        return println!(rt; "  no memory");
+    };
+    let mut then = roots.copy();
+    let Some(mark) = cached_block(alloc, cache, &mut then, proof, &mut scratch, kept, steps) else {
+        return println!(rt; "  no block");
+    };
+    let Ok(newer) = cache.seen().copy(alloc) else {
+        return println!(rt; "  no memory");
+    };
+    let (lost, _) = others(cache, &older);
+    let moved = moved_between(&older.kept, cache.kept());
+    undo(cache, mark);
+    let (_, gained) = others(cache, &newer);
+    let bytes = 48 * lost.min(1 << 40) + 16 * gained.min(1 << 40) + 24 * moved.min(1 << 40);
+    println!(rt;
+        "  {} kept, {} digests; a mark has {lost} digests, {gained} places and {moved} of entries, {bytes} bytes",
+        older.kept.len(),
+        older.held.len()
+    )
+}
+
+fn measure_blocks<R: CpuClock + Print, L: Ledger>(
+    rt: &R,
+    alloc: Global,
+    cache: &mut Cache<Sha512t256>,
+    roots: &Roots<Sha512t256>,
+    proof: &Proof,
+    kept: u64,
+    steps: &mut Steps<L>,
+) -> io::Result<()> {
+    let mut scratch = Scratch::new(alloc);
+    let mut bare = Duration::ZERO;
+    let mut cached = Duration::ZERO;
+    let mut back = Duration::ZERO;
+    let mut done: u64 = 0;
+    let mut watch = Stopwatch::start(rt)?;
+    for _ in 0..ROUNDS {
+        let mut then = roots.copy();
+        let _ = watch.lap(rt)?;
+        let accepted = bare_block(alloc, &mut then, proof, &mut scratch, steps);
+        bare = bare.saturating_add(watch.lap(rt)?);
+        let mut then = roots.copy();
+        let _ = watch.lap(rt)?;
+        let mark = cached_block(alloc, cache, &mut then, proof, &mut scratch, kept, steps);
+        cached = cached.saturating_add(watch.lap(rt)?);
+        if let Some(mark) = mark {
+            undo(cache, mark);
+            back = back.saturating_add(watch.lap(rt)?);
+            done = done.saturating_add(u64::from(accepted));
+        }
+    }
+    println!(rt;
+        "{BLOCK} deletions and additions, {done} times: {} us, with a cache {} us, back {} us",
+        bare.as_micros(),
+        cached.as_micros(),
+        back.as_micros()
+    )
+}
+
+fn measure<R: CpuClock + Print, L: Ledger>(
+    rt: &R,
+    alloc: Global,
+    kept: u64,
+    steps: &mut Steps<L>,
+) -> io::Result<()> {
+    let forest = grown(alloc, steps);
+    let proof = prove(alloc, &forest)?;
+    let mut cache = Cache::<Sha512t256>::new(alloc, Watch::empty(alloc));
+    let mut roots = Roots::<Sha512t256>::new();
+    for _ in 0..ENTRIES / 1_024 {
+        grow_by(alloc, &mut cache, &mut roots, 1_024, kept, steps);
+    }
+    measure_blocks(rt, alloc, &mut cache, &roots, &proof, kept, steps)?;
+    measure_mark(rt, alloc, &mut cache, &roots, &proof, kept, steps)
+}

@@ -1,0 +1,307 @@
+-- What a bridge says of a block by the message beside it, from what each call answered.
+use Rattle.std.proofs.Common.{◌≡◌, ◌≢◌, ℕ, ◌+◌, ◌<◌, ◌≤◌, ◌^◌, Bool, true, false, List, [], ◌∷◌, ◌++◌, map, length, Option, Some, None, refl, sym, ap, ap₂, ◌∙◌, subst, arith}
+use Rattle.std.specs.Prelude.{not, ◌&&◌, is_none, option_map, AllPairs, Result, Ok, Err, IfErr}
+use Rattle.std.specs.Global.{Vec}
+use Rattle.std.specs.List.{AllByRecursion}
+use Rattle.std.specs.Option.{option_or}
+use Rattle.std.proofs.lemmas.Bool.{false≢true}
+use Rattle.std.proofs.lemmas.List.{length-map}
+use Rattle.std.proofs.lemmas.Option.{none-some}
+use Rattle.uo_digest.specs.declared.digest.Digest.{Digest}
+use Rattle.forest_place.specs.declared.place.Place.{Place}
+use Rattle.forest_model.specs.Cover.{need}
+use Rattle.block_codec.specs.Block.{Block, BlockFits, block_hash_of}
+use Rattle.leaf_record.specs.Leaf.{Leaf}
+use Rattle.leaf_record.specs.History.{History}
+use Rattle.proof_wire.specs.BlockProof.{rests_of}
+use Rattle.proof_shape.specs.Targeted.{Targeted}
+use Rattle.block_rules.specs.declared.chain.Outside.{Outside}
+use Rattle.block_rules.specs.declared.fault.RuleFault.{RuleFault}
+use Rattle.block_rules.specs.declared.fault.RuleFault.TheVariants.{Refused, NoMemory}
+use Rattle.block_rules.specs.declared.refusal.Refusal.{Refusal}
+use Rattle.block_rules.specs.declared.refusal.Refusal.TheVariants as Why
+use Rattle.block_rules.specs.declared.refusal.ProofRefusal.{ProofRefusal}
+use Rattle.block_rules.specs.Steps.{first_of}
+use Rattle.block_rules.specs.Blocks.{external, new_records}
+use Rattle.block_rules.specs.Rules.{block_steps}
+use Rattle.block_rules.specs.Money.{BlockSpends, found_of, spends_of, money_steps}
+use Rattle.block_rules.specs.Judged.{ShapeJudged, IsShaped}
+use Rattle.block_rules.proofs.Firsts.{first_of-append, append_passes, each_passes}
+use Rattle.cache_model.specs.Cache.{look}
+use Rattle.cache_model.specs.Known.{known_at}
+use Rattle.node_rules.specs.Messages.{Message, points_of}
+use Rattle.node_rules.specs.Accepting.{View, proof_fault}
+use Rattle.node_rules.specs.Judged.{AreHashes, MessageJudged}
+use Rattle.node_rules.specs.Known.{view_of}
+use Rattle.node_rules.specs.Reading.{Handed, nothing, unread, read, handed_in}
+use Rattle.node_rules.specs.Judging.{Evidence, message_steps, view_step, compact, full, refusal, is_accepted, is_right_message, entries_shown, found_by, is_forged}
+use Rattle.node_rules.specs.Machine.{SpendEach}
+use Rattle.node_rules.proofs.Judging.{view_judges}
+use Rattle.node_rules.proofs.Value.{middle, once, full_pays}
+use Rattle.compact_node.specs.Judged.{IsFirst}
+use Rattle.compact_node.proofs.Deciding.{external_few, found_long}
+use Rattle.bridge_prover.specs.declared.bridge.judge.Shown.{Shown}
+use Rattle.bridge_prover.specs.Bridge.{BridgeState, bridge_with}
+use Rattle.bridge_prover.specs.Standing.{IsLiveIn, IsBridge}
+use Rattle.bridge_prover.specs.Judged.{IsReady}
+use Rattle.bridge_prover.specs.Shown.{IsHistory, AreKnown, IsChecked, IsShown, IsShownBy, fault_in}
+use Rattle.bridge_prover.specs.Full.{watched_by, history_of}
+use Rattle.bridge_prover.specs.Taken.{IsRightOf, IsWrongOf, IsAcceptedBy, AreRight, AreNotTaken, IsGone, IsCaught, IsNotTaken, fault_for}
+use Rattle.bridge_prover.proofs.Checking.{same_known, fault_same}
+use Rattle.bridge_prover.proofs.Deciding.{first-in, first-behind, all_pass}
+use Rattle.bridge_prover.proofs.Historied.{is_history, own_history, newest_history}
+use Rattle.bridge_prover.proofs.Next.{room, can_take}
+
+and-false : (a b : Bool) → b ≡ false → (a && b) ≡ false
+and-false true b e = e
+and-false false b e = refl
+
+pub each_live : (us : History) (is : List Outside) (ns : List ℕ) → SpendEach us is ns → AllByRecursion (IsLiveIn us) ns
+each_live us [] [] s = tt
+each_live us [] (n ∷ ns) s = absurd s
+each_live us (i ∷ is) [] s = absurd s
+each_live us (i ∷ is) (n ∷ ns) s = ((s.0.leaf, s.0.live), each_live us is ns s.1)
+
+each_long : (us : History) (is : List Outside) (ns : List ℕ) → SpendEach us is ns → length ns ≡ length is
+each_long us [] [] s = refl
+each_long us [] (n ∷ ns) s = absurd s
+each_long us (i ∷ is) [] s = absurd s
+each_long us (i ∷ is) (n ∷ ns) s = let e = each_long us is ns s.1 in omega (arith, e)
+
+module _ (H : List ℕ → Digest) (text : Leaf → List ℕ) (s : BridgeState) (b : Block) (handed : Handed) where
+  abbrev before : List (Option Refusal)
+  before = block_steps s.rules.net s.rules.limits s.chain b
+
+  abbrev ext : List Outside
+  ext = external b s.chain.blocks
+
+  abbrev scripts : List (List ℕ)
+  scripts = watched_by s
+
+  module _ (us : History) where
+    abbrev by_view : Evidence
+    by_view = compact H text (view_of H text scripts us) ext handed
+
+    abbrev by_all : Evidence
+    by_all = full H text scripts us ext handed
+
+    abbrev on_money : List (Option Refusal)
+    on_money = money_steps (spends_of s.rules.net s.chain.blocks b) (found_by handed)
+
+    abbrev forged : Bool
+    forged = is_forged H text scripts s.rules s.chain us b handed
+
+    -- what is right is not forged
+    pub honest : is_right_message H text scripts us ext handed ≡ true → forged ≡ false
+    honest right = and-false (is_none (first_of (before ++ message_steps ext handed))) _ (and-false (is_accepted H text (view_of H text scripts us) ext handed) _ (ap not right))
+
+    by_all_passes : forged ≡ false → first_of before ≡ None → first_of by_view.steps ≡ None → first_of on_money ≡ None → refusal s.rules s.chain b by_all ≡ None
+    by_all_passes f shape steps money = view_judges H text scripts us s.rules s.chain b handed f ∙ all_pass before (by_view.steps ++ on_money) shape (all_pass by_view.steps on_money steps money)
+
+    by_money : (why : Refusal) → forged ≡ false → first_of before ≡ None → first_of by_view.steps ≡ None → first_of on_money ≡ Some why → refusal s.rules s.chain b by_all ≡ Some why
+    by_money why f shape steps money =
+        view_judges H text scripts us s.rules s.chain b handed f ∙ first-behind before (by_view.steps ++ on_money) (Refused why) shape (first-behind by_view.steps on_money (Refused why) steps money)
+
+    by_step : (why : Refusal) → forged ≡ false → first_of before ≡ None → first_of by_view.steps ≡ Some why → refusal s.rules s.chain b by_all ≡ Some why
+    by_step why f shape steps =
+        view_judges H text scripts us s.rules s.chain b handed f ∙ first-behind before (by_view.steps ++ on_money) (Refused why) shape (first-in by_view.steps on_money (Refused why) steps)
+
+    by_shape : (why : Refusal) → forged ≡ false → first_of before ≡ Some why → refusal s.rules s.chain b by_all ≡ Some why
+    by_shape why f shape = view_judges H text scripts us s.rules s.chain b handed f ∙ first-in before (by_view.steps ++ on_money) (Refused why) shape
+
+  -- a block that does not pass by itself is not forged
+  shape_honest : (us : History) (why : Refusal) → first_of before ≡ Some why → forged us ≡ false
+  shape_honest us why e =
+      let first : first_of (before ++ message_steps ext handed) ≡ Some why = first-in before (message_steps ext handed) (Refused why) e in
+      ap (λ x. is_none x && (is_accepted H text (view_of H text scripts us) ext handed && not (is_right_message H text scripts us ext handed))) first
+
+option_or-none : (x : Option Refusal) (why : Refusal) → option_or x None ≡ Some why → x ≡ Some why
+option_or-none None why e = e
+option_or-none (Some y) why e = e
+
+mapped-none : (x : Option ProofRefusal) → option_map Why.Proof x ≡ None → x ≡ None
+mapped-none None e = refl
+mapped-none (Some f) e = absurd (none-some _ (sym e))
+
+module _ (H : List ℕ → Digest) (text : Leaf → List ℕ) (s : BridgeState) (b : Block) (us : History) (shape : first_of (block_steps s.rules.net s.rules.limits s.chain b) ≡ None) where
+  -- nor is one whose message the roots do not accept
+  pub refused_honest : (handed : Handed) (why : Refusal) → first_of (compact H text (view_of H text (watched_by s) us) (external b s.chain.blocks) handed).steps ≡ Some why → is_forged H text (watched_by s) s.rules s.chain us b handed ≡ false
+  refused_honest nothing why e = and-false (is_none (first_of (before H text s b nothing ++ message_steps (external b s.chain.blocks) nothing))) _ refl
+  refused_honest (unread f) why e = and-false (is_none (first_of (before H text s b (unread f) ++ message_steps (external b s.chain.blocks) (unread f)))) _ refl
+  refused_honest (read m) why e = by (proof_fault H text (view_of H text (watched_by s) us) (points_of (external b s.chain.blocks)) m) refl e
+    where
+      ahead : List (Option Refusal)
+      ahead = block_steps s.rules.net s.rules.limits s.chain b ++ message_steps (external b s.chain.blocks) (read m)
+
+      right : Bool
+      right = is_right_message H text (watched_by s) us (external b s.chain.blocks) (read m)
+
+      by : (fault : Option ProofRefusal) → proof_fault H text (view_of H text (watched_by s) us) (points_of (external b s.chain.blocks)) m ≡ fault →
+          first_of (message_steps (external b s.chain.blocks) (read m) ++ (option_map Why.Proof fault ∷ [])) ≡ Some why → (is_none (first_of ahead) && (is_none fault && not right)) ≡ false
+      by None is e =
+          let first : first_of (message_steps (external b s.chain.blocks) (read m)) ≡ Some why = option_or-none _ why (sym (first_of-append (message_steps (external b s.chain.blocks) (read m)) (None ∷ [])) ∙ e) in
+          ap (λ x. is_none x && (true && not right)) (first-behind (block_steps s.rules.net s.rules.limits s.chain b) (message_steps (external b s.chain.blocks) (read m)) (Refused why) shape first)
+      by (Some fault) is e = and-false (is_none (first_of ahead)) _ refl
+
+  -- one that the roots accept and that is not right is
+  pub wrong_forged : (handed : Handed) → IsWrongOf H text (watched_by s) us (external b s.chain.blocks) handed → is_forged H text (watched_by s) s.rules s.chain us b handed ≡ true
+  wrong_forged nothing w = absurd (false≢true (sym w.wrong))
+  wrong_forged (unread why) w = absurd (false≢true (sym w.wrong))
+  wrong_forged (read m) w =
+      let ms = message_steps (external b s.chain.blocks) (read m) in
+      let parts = append_passes ms (view_step H text (view_of H text (watched_by s) us) (external b s.chain.blocks) (read m) ∷ []) w.passes in
+      let fault : proof_fault H text (view_of H text (watched_by s) us) (points_of (external b s.chain.blocks)) m ≡ None = mapped-none _ (each_passes (view_step H text (view_of H text (watched_by s) us) (external b s.chain.blocks) (read m) ∷ []) 0 parts.1) in
+      let first = all_pass (block_steps s.rules.net s.rules.limits s.chain b) ms shape parts.0 in
+      forged-so _ _ _ first fault w.wrong
+    where
+      forged-so : (x : Option Refusal) (fault : Option ProofRefusal) (right : Bool) → x ≡ None → fault ≡ None → right ≡ false → (is_none x && (is_none fault && not right)) ≡ true
+      forged-so x fault right e f g = rw (e, f, g) refl
+
+module _ (H : List ℕ → Digest) (text : Leaf → List ℕ) (s : BridgeState) (b : Block) (handed : Handed) where
+  -- a block that does not pass by itself
+  pub unshaped : (fault : RuleFault) → ShapeJudged s.rules.net s.rules.limits s.chain b (Err fault) → IsNotTaken H text s b handed fault
+  unshaped (Refused why) e =
+      let f = shape_honest H text s b handed (history_of s) why e in
+      (f, by_shape H text s b handed (history_of s) why f e)
+  unshaped NoMemory e = tt
+
+  module _ (spends : BlockSpends) (shaped : IsShaped s.rules.net s.rules.limits s.chain b spends) where
+    same_external : spends.external ≡ external b s.chain.blocks
+    same_external = ap (λ (x : BlockSpends). x.external) shaped.spends
+
+    -- a message that is not accepted
+    pub not_shown : (fault : RuleFault) → AreNotTaken H text s spends.external handed fault → IsNotTaken H text s b handed fault
+    not_shown NoMemory a = tt
+    not_shown (Refused why) a =
+        let us = history_of s in
+        let first : first_of (compact H text (view_of H text (watched_by s) us) (external b s.chain.blocks) handed).steps ≡ Some why =
+        subst (λ ext. first_of (compact H text (view_of H text (watched_by s) us) ext handed).steps ≡ Some why) same_external a in
+        let f = refused_honest H text s b us shaped.passes handed why first in
+        (f, by_step H text s b handed us why f shaped.passes first)
+
+    -- one that is accepted and not right
+    pub caught : (t : BridgeState) → AreRight H text s spends.external handed None → t ≡ s → IsCaught H text s b handed t
+    caught t a same =
+        let us = history_of s in
+        let wrong : IsWrongOf H text (watched_by s) us (external b s.chain.blocks) handed = subst (λ ext. IsWrongOf H text (watched_by s) us ext handed) same_external a in
+        record { forged = wrong_forged H text s b us shaped.passes handed wrong; next = same }
+
+    -- and one that is right
+    module _ (shown : Shown) (are : AreRight H text s spends.external handed (Some shown)) where
+      right_so : IsRightOf H text (watched_by s) (history_of s) (external b s.chain.blocks) handed shown
+      right_so = subst (λ ext. IsRightOf H text (watched_by s) (history_of s) ext handed shown) same_external are
+
+      pub found_many : length shown.found.items ≡ length spends.external
+      found_many =
+        let ext = external b s.chain.blocks in
+        let by_view = view_step H text (view_of H text (watched_by s) (history_of s)) ext handed ∷ [] in
+        let passes : first_of (message_steps ext handed) ≡ None = (append_passes (message_steps ext handed) by_view right_so.passes).0 in
+        ap length right_so.found ∙ (found_long ext handed passes ∙ ap length (sym same_external))
+
+      same_money : money_steps spends shown.found.items ≡ on_money H text s b handed (history_of s)
+      same_money = ap₂ money_steps shaped.spends right_so.found
+
+      not_forged : is_forged H text (watched_by s) s.rules s.chain (history_of s) b handed ≡ false
+      not_forged = honest H text s b handed (history_of s) right_so.right
+
+      pub unpaid : (why : Refusal) → first_of (money_steps spends shown.found.items) ≡ Some why → IsNotTaken H text s b handed (Refused why)
+      unpaid why e = (not_forged, by_money H text s b handed (history_of s) why not_forged shaped.passes right_so.passes (ap first_of (sym same_money) ∙ e))
+
+      module _ (paid : first_of (money_steps spends shown.found.items) ≡ None) where
+        accepted : refusal s.rules s.chain b (by_all H text s b handed (history_of s)) ≡ None
+        accepted = by_all_passes H text s b handed (history_of s) not_forged shaped.passes right_so.passes (ap first_of (sym same_money) ∙ paid)
+
+        pub shown_ready : IsBridge H text s → BlockFits b → (hash : Digest) → IsReady H text s hash shown.numbers.items spends.new
+        shown_ready is fits hash =
+            let us = is.levels.now.history in
+            let same : history_of s ≡ us = is_history H text s us (newest_history H text is.levels s is is.stands) in
+            let passes : refusal s.rules s.chain b (by_all H text s b handed us) ≡ None = subst (λ h. refusal s.rules s.chain b (by_all H text s b handed h) ≡ None) same accepted in
+            let e = by_all H text s b handed us in
+            let each = once us s.rules s.chain b e passes (full_pays H text us (watched_by s) (external b s.chain.blocks) handed (middle us s.rules s.chain b e passes).1) in
+            let few = external_few s.rules.net s.rules.limits s.chain b spends fits shaped in
+            let long = each_long us (external b s.chain.blocks) e.numbers each.0 in
+            let many = ap length same_external in
+            subst (λ ns. IsReady H text s hash ns spends.new) (sym (right_so.numbers ∙ ap (λ h. entries_shown H text h handed) same))
+            (subst (IsReady H text s hash e.numbers) (sym (ap (λ (x : BlockSpends). x.new) shaped.spends))
+            (can_take H text s is e.numbers (new_records b s.chain.blocks) (each_live us (external b s.chain.blocks) e.numbers each.0) each.1 (room s.rules s.chain b e passes) hash (omega (arith, few, long, many))))
+
+        pub gone : (hash : Digest) (t : BridgeState) → hash ≡ block_hash_of b → t ≡ bridge_with H text s hash shown.numbers.items spends.new → IsGone H text s b handed t
+        gone hash t at next =
+            record {
+              honest = not_forged;
+              passes = accepted;
+              next = next ∙ (ap₂ (λ h ns. bridge_with H text s h ns spends.new) at right_so.numbers ∙ ap (bridge_with H text s (block_hash_of b) (entries_shown H text (history_of s) handed)) (ap (λ (x : BlockSpends). x.new) shaped.spends));
+            }
+
+-- what holds at a fault
+pub err_weaker : {T : Type 0} (P Q : RuleFault → Type 0) (result : Result T RuleFault) → ((fault : RuleFault) → P fault → Q fault) → IfErr result P → IfErr result Q
+err_weaker P Q (Ok x) f h = tt
+err_weaker P Q (Err e) f h = f e h
+
+-- ---- what stands beside a block
+
+module _ (H : List ℕ → Digest) (text : Leaf → List ℕ) (v : View) (ext : List Outside) where
+  -- what was handed in is refused
+  pub unread_first : (bytes : Option (List ℕ)) (fault : RuleFault) → MessageJudged ext bytes (Err fault) → IsFirst (first_of (compact H text v ext (handed_in bytes)).steps) fault
+  unread_first bytes (Refused why) e = first-in (message_steps ext (handed_in bytes)) (view_step H text v ext (handed_in bytes) ∷ []) (Refused why) e
+  unread_first bytes NoMemory e = tt
+
+  -- or the proof of a message
+  pub proof_first : (handed : Handed) (m : Message) (fault : RuleFault) → handed ≡ read m → first_of (message_steps ext handed) ≡ None → IsFirst (option_map Why.Proof (proof_fault H text v (points_of ext) m)) fault → IsFirst (first_of (compact H text v ext handed).steps) fault
+  proof_first handed m NoMemory is passes e = tt
+  proof_first handed m (Refused why) is passes e =
+      first-behind (message_steps ext handed) (view_step H text v ext handed ∷ []) (Refused why) passes
+      (ap (λ h. first_of (view_step H text v ext h ∷ [])) is ∙ ap (λ x. option_or x None) e)
+
+module _ (H : List ℕ → Digest) (text : Leaf → List ℕ) (s : BridgeState) (ext : List Outside) where
+  abbrev seen : View
+  seen = view_of H text (watched_by s) (history_of s)
+
+  read_right : (m : Message) (shown : Option Shown) → first_of (message_steps ext (read m)) ≡ None → IsAcceptedBy H text s ext m shown → AreRight H text s ext (read m) shown
+  read_right m None passes a = record { passes = all_pass (message_steps ext (read m)) (view_step H text seen ext (read m) ∷ []) passes (ap (λ x. option_or (option_map Why.Proof x) None) a.0); wrong = a.1 }
+  read_right m (Some shown) passes a =
+      record { passes = all_pass (message_steps ext (read m)) (view_step H text seen ext (read m) ∷ []) passes (ap (λ x. option_or (option_map Why.Proof x) None) a.passes); right = a.right; numbers = a.numbers; found = a.found }
+
+  -- a message that was read
+  pub message_right : (handed : Handed) (m : Message) (shown : Option Shown) → handed ≡ read m → first_of (message_steps ext handed) ≡ None → IsAcceptedBy H text s ext m shown → AreRight H text s ext handed shown
+  message_right handed m shown is passes a =
+      subst (λ h. AreRight H text s ext h shown) (sym is) (read_right m shown (subst (λ h. first_of (message_steps ext h) ≡ None) is passes) a)
+
+  -- and nothing at all
+  pub nothing_right : (handed : Handed) (shown : Shown) → handed ≡ nothing → first_of (message_steps ext handed) ≡ None → shown.numbers.items ≡ [] → shown.found.items ≡ [] → AreRight H text s ext handed (Some shown)
+  nothing_right handed shown is passes numbers found =
+      subst (λ h. IsRightOf H text (watched_by s) (history_of s) ext h shown) (sym is)
+      (let p : first_of (message_steps ext nothing) ≡ None = subst (λ h. first_of (message_steps ext h) ≡ None) is passes in
+      record { passes = all_pass (message_steps ext nothing) (None ∷ []) p refl; right = refl; numbers = numbers; found = found })
+
+-- ---- a message, by forest and index
+
+module _ (H : List ℕ → Digest) (text : Leaf → List ℕ) (s : BridgeState) (is : IsBridge H text s) (ext : List Outside) (m : Message) (known : List (Place × Digest)) (are : AreKnown H text (watched_by s) (history_of s) known) where
+  here : IsHistory H text s.entries s.held (history_of s)
+  here = own_history H text s is
+
+  fault-same : fault_in H text s.entries (look known) ext m ≡ fault_for H text s ext m
+  fault-same = fault_same H text (watched_by s) s.entries (history_of s) known ext m here.entries_are are
+
+  pub refused_for : (fault : RuleFault) → IsFirst (option_map Why.Proof (fault_in H text s.entries (look known) ext m)) fault → IsFirst (option_map Why.Proof (fault_for H text s ext m)) fault
+  refused_for (Refused why) e = ap (option_map Why.Proof) (sym fault-same) ∙ e
+  refused_for NoMemory e = tt
+
+  module _ (t : Targeted) (hashes : List Digest) (checked : IsChecked H text s.entries (look known) ext m t hashes) where
+    pub hashes_many : (hashes' : List Digest) → hashes' ≡ hashes → length hashes' ≡ length (need t.leaves t.targets)
+    hashes_many hashes' e = ap length (e ∙ checked.full.hashes_are H) ∙ length-map (need t.leaves t.targets) _
+
+    shown-so : (hashes' : List Digest) (numbers : Option (Vec ℕ)) → hashes' ≡ hashes → IsShownBy H text s.entries s.held ext m t hashes' numbers → IsShown H text (watched_by s) (history_of s) ext m numbers
+    shown-so hashes' numbers e by =
+        by (history_of s) (watched_by s) here
+        (subst (λ xs. AreHashes m t (known_at H text (watched_by s) (history_of s)) xs) (sym e)
+        (subst (λ k. AreHashes m t k hashes) (same_known H text (watched_by s) (history_of s) known are) checked.full))
+
+    pub accepted_right : (hashes' : List Digest) (x : Option (Vec ℕ)) (numbers : Vec ℕ) (shown : Shown) → hashes' ≡ hashes → IsShownBy H text s.entries s.held ext m t hashes' x → x ≡ Some numbers → shown.numbers.items ≡ numbers.items →
+        shown.found.items ≡ map found_of (rests_of m.proof.spends) → IsAcceptedBy H text s ext m (Some shown)
+    accepted_right hashes' x numbers shown e by at same found =
+        let w = subst (IsShown H text (watched_by s) (history_of s) ext m) at (shown-so hashes' x e by) in
+        record { passes = sym fault-same ∙ checked.passes; right = w.0; numbers = same ∙ w.1; found = found }
+
+    pub accepted_wrong : (hashes' : List Digest) (x : Option (Vec ℕ)) → hashes' ≡ hashes → IsShownBy H text s.entries s.held ext m t hashes' x → x ≡ None → IsAcceptedBy H text s ext m None
+    accepted_wrong hashes' x e by at = (sym fault-same ∙ checked.passes, subst (IsShown H text (watched_by s) (history_of s) ext m) at (shown-so hashes' x e by))

@@ -1,0 +1,68 @@
+//! Whether the roots of the forest accept the proof in a message.
+ghost use Rattle.std.specs.Prelude.{◌≡◌, ◌^◌, ◌<◌, length, option_map, IfOk, IfErr};
+ghost use Rattle.leaf_record.specs.Leaf.{leaf_text};
+ghost use Rattle.block_rules.specs.declared.refusal.Refusal.TheVariants as Why;
+ghost use Rattle.cache_model.specs.Cache.{look};
+ghost use Rattle.cache_model.specs.Lists.{AscendByPlace};
+ghost use Rattle.compact_node.specs.Judged.{IsFirst, proof_refusal};
+ghost use Rattle.bridge_prover.specs.Shown.{IsChecked, fault_in};
+
+use crate::claims::claimed_leaves;
+use block_rules::{Outside, ProofRefusal, Refusal, RuleFault};
+use bridge_forest::Forest;
+use forest_place::Place;
+use leaf_record::LeafBuf;
+use node_rules::{full_hashes, targets_of};
+use proof_shape::Targets;
+use proof_verify::{ProofFault, Scratch, check_and_delete};
+use proof_wire::MessageView;
+use std::alloc::Global;
+use std::sync::ledger::Ledger;
+use uo_digest::{Digest, Digester, Steps};
+
+/// The places that a message names, and the hashes of all places that its proof needs.
+#[derive(Drop)]
+pub(crate) struct Checked {
+    pub(crate) targets: Targets,
+    pub(crate) hashes: Vec<Digest>,
+}
+
+// How a fault of a proof is told: the digests of a root that differs are left out.
+fn refusal_of(fault: ProofFault) -> ProofRefusal
+    ensures { result ≡ proof_refusal fault }
+{
+    match fault {
+        ProofFault::HashCount { want, got } => ProofRefusal::HashCount { want, got },
+        ProofFault::EmptyRoot { row } => ProofRefusal::EmptyRoot { row },
+        ProofFault::RootDiffers { row, .. } => ProofRefusal::RootDiffers { row },
+    }
+}
+
+/// Checks the proof in a message against the roots of the forest. `known` has the digests that a lean message leaves out. The
+/// first thing that is wrong is the fault: where the targets stand, how many hashes there are, or a root.
+pub(crate) fn check_proof<D: Digester, L: Ledger>(
+    alloc: Global,
+    forest: &Forest<D>,
+    room: &mut LeafBuf<D>,
+    external: &[Outside],
+    message: &MessageView<'_>,
+    known: &[(Place, Digest)],
+    steps: &mut Steps<L>,
+) -> Result<Checked, RuleFault>
+    requires shown { length message.now.proof.spends ≡ length external.now }
+    requires few { length external.now < 2 ^ 32 }
+    requires ascends { AscendByPlace known.now }
+    ensures ok { IfOk result (λ checked. IsChecked D.digest_of leaf_text forest.now.entries (look known.now) external.now message.now checked.targets checked.hashes.items) }
+    ensures err { IfErr result (λ fault. IsFirst (option_map Why.Proof (fault_in D.digest_of leaf_text forest.now.entries (look known.now) external.now message.now)) fault) }
+{
+    let targets = targets_of(alloc, forest.leaves(), message)?;
+    let hashes = full_hashes(alloc, message, &targets, known)?;
+    let mut scratch = Scratch::new(alloc);
+    scratch.reserve(&targets)?;
+    let leaves = claimed_leaves::<D, L>(alloc, room, external, message, steps)?;
+    let mut roots = forest.roots();
+    match check_and_delete(&mut roots, &targets, &leaves, &hashes, &mut scratch, steps) {
+        Ok(_) => Ok(Checked { targets, hashes }),
+        Err(fault) => Err(RuleFault::Refused(Refusal::Proof(refusal_of(fault)))),
+    }
+}

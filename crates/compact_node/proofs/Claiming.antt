@@ -1,0 +1,314 @@
+-- What was judged of a message: what it claims, the check of its proof, and what is deleted.
+use Rattle.std.proofs.Common.{◌≡◌, ◌≢◌, ℕ, zero, suc, ◌+◌, ◌*◌, ◌≤◌, Bool, true, false, List, [], ◌∷◌, ◌++◌, map, length, Option, Some, None, Err, refl, sym, ap, ap₂, ◌∙◌, subst, arith, is_some}
+use Rattle.std.specs.Prelude.{filter, option_map}
+use Rattle.std.specs.Option.{option_or}
+use Rattle.std.proofs.lemmas.List.{length-map}
+use Rattle.std.proofs.lemmas.Nat.{mul-le}
+use Rattle.std.proofs.lemmas.Option.{none-some}
+use Rattle.uo_digest.specs.declared.digest.Digest.{Digest}
+use Rattle.forest_place.specs.declared.place.Place.{Place}
+use Rattle.forest_place.specs.Forest.{is_slot, root_off}
+use Rattle.forest_place.specs.Places.{places}
+use Rattle.forest_place.specs.Position.{place_at, rows}
+use Rattle.forest_model.specs.Cover.{Cover, cover, is_needed, need}
+use Rattle.forest_model.specs.Evaluation.{IsAccepted, asked, hash_of, nothing_known}
+use Rattle.forest_roots.specs.Stump.{Stump, IsStump, root_in}
+use Rattle.proof_shape.specs.Targeted.{Targeted}
+use Rattle.proof_verify.specs.declared.fault.ProofFault.{ProofFault}
+use Rattle.proof_verify.specs.declared.fault.ProofFault.TheVariants as Found
+use Rattle.proof_verify.specs.Verified.{IsProofFault, IsDeleted}
+use Rattle.leaf_record.specs.Leaf.{Leaf}
+use Rattle.leaf_record.specs.History.{somes}
+use Rattle.proof_wire.specs.BlockProof.{BlockProof, targets_of}
+use Rattle.cache_model.specs.Cache.{look}
+use Rattle.block_rules.specs.declared.chain.Found.{Found as FoundOutput}
+use Rattle.block_rules.specs.declared.chain.Outside.{Outside}
+use Rattle.block_rules.specs.declared.fault.RuleFault.{RuleFault}
+use Rattle.block_rules.specs.declared.fault.RuleFault.TheVariants.{Refused, NoMemory}
+use Rattle.block_rules.specs.declared.refusal.Refusal.{Refusal}
+use Rattle.block_rules.specs.declared.refusal.Refusal.TheVariants as Why
+use Rattle.block_rules.specs.declared.refusal.ProofRefusal.{ProofRefusal}
+use Rattle.block_rules.specs.declared.refusal.ProofRefusal.TheVariants as Fault
+use Rattle.block_rules.specs.Steps.{first_of}
+use Rattle.node_rules.specs.Messages.{Message, in_full, named, targets, points_of, known_to}
+use Rattle.node_rules.specs.Accepting.{View, shape_fault, leaves_of, proof_fault}
+use Rattle.node_rules.specs.Reading.{Handed, nothing, unread, read, handed_in}
+use Rattle.node_rules.specs.Judged.{AreNamed, AreHashes, IsOtherCount, TargetsJudged, HashesJudged, IsMessageRead}
+use Rattle.node_rules.specs.Judging.{message_steps, view_step, compact, found_by}
+use Rattle.node_rules.proofs.Faults.{passes}
+use Rattle.node_rules.proofs.Serving.{same_fault}
+use Rattle.node_rules.proofs.Telling.{count_told, empty_told, other_told}
+use Rattle.compact_node.specs.After.{without, changes_of}
+use Rattle.compact_node.specs.Node.{view_by, places_spent, hashes_over, hashes_spent}
+use Rattle.compact_node.specs.Judged.{IsFirst, proof_refusal, steps_over, IsFilledOut, Claims, IsClaim}
+use Rattle.std.specs.Prelude.{Result, Ok, IfErr}
+use Rattle.forest_model.specs.Cover.{IsGreatest}
+use Rattle.forest_model.specs.Evaluation.{evaluation}
+use Rattle.proof_verify.specs.Verified.{AreRootsAfter, AreChanges}
+use Rattle.proof_wire.specs.BlockProof.{rests_of}
+use Rattle.block_rules.specs.Money.{found_of}
+use Rattle.block_rules.proofs.Firsts.{first_of-append}
+use Rattle.compact_node.proofs.Firsts.{first-in, first-behind}
+use Rattle.compact_node.proofs.Changes.{changes_are}
+use Rattle.compact_node.proofs.Deletions.{is_without}
+use Rattle.compact_node.proofs.Spending.{cover-none, needed-none}
+use Rattle.compact_node.proofs.Taking.{leaves-long}
+
+somes-map : {X : Type 0} (xs : List X) → somes (map Some xs) ≡ xs
+somes-map [] = refl
+somes-map (x ∷ xs) = ap (λ ys. x ∷ ys) (somes-map xs)
+
+-- the targets are those of the message
+pub targets_are : (n : ℕ) (p : BlockProof) (t : Targeted) → AreNamed n p t → t ≡ record { leaves = n; targets = targets n p }
+targets_are n p t a =
+    ap₂ (λ (k : ℕ) (ps : List Place). let x : Targeted = record { leaves = k; targets = ps } in x) a.leaves (sym (somes-map t.targets) ∙ ap somes (sym a.places))
+
+named_all : (n : ℕ) (p : BlockProof) (t : Targeted) → AreNamed n p t → named n p ≡ map Some (targets n p)
+named_all n p t a = a.places ∙ ap (map Some) (sym (somes-map t.targets) ∙ ap somes (sym a.places))
+
+filter-all : {X : Type 0} (xs : List X) → filter (λ x. true) xs ≡ xs
+filter-all [] = refl
+filter-all (x ∷ xs) = ap (λ ys. x ∷ ys) (filter-all xs)
+
+filter-none : {X : Type 0} (t : X → Bool) (xs : List X) → ((x : X) → t x ≡ false) → filter t xs ≡ []
+filter-none t [] none = refl
+filter-none t (x ∷ xs) none = rw (none x) (filter-none t xs none)
+
+need-none : (n : ℕ) → need n [] ≡ []
+need-none n = filter-none (is_needed n []) (places n) (λ p. needed-none n p.row p.off)
+
+-- ---- what targets and hashes are refused for
+
+module _ (H : List ℕ → Digest) (text : Leaf → List ℕ) (v : View) (ext : List Outside) (m : Message) where
+  abbrev fault : Option ProofRefusal
+  fault = proof_fault H text v (points_of ext) m
+
+  abbrev IsFaulted : RuleFault → Type 0
+  IsFaulted e = IsFirst (option_map Why.Proof fault) e
+
+  shape_first : (e : ProofRefusal) → shape_fault v.n [] 0 (named v.n m.proof) ≡ Some e → fault ≡ Some e
+  shape_first e h = rw h refl
+
+  pub targets_told : (e : RuleFault) → TargetsJudged v.n m.proof (Err e) → IsFaulted e
+  targets_told NoMemory h = tt
+  targets_told (Refused Why.Block) h = absurd h
+  targets_told (Refused Why.Link) h = absurd h
+  targets_told (Refused Why.MerkleRoot) h = absurd h
+  targets_told (Refused (Why.MerkleRepeated level place)) h = absurd h
+  targets_told (Refused (Why.Witness f)) h = absurd h
+  targets_told (Refused (Why.Weight w)) h = absurd h
+  targets_told (Refused (Why.Coinbase x)) h = absurd h
+  targets_told (Refused (Why.Value x)) h = absurd h
+  targets_told (Refused (Why.Double x i)) h = absurd h
+  targets_told (Refused Why.Full) h = absurd h
+  targets_told (Refused Why.NoProof) h = absurd h
+  targets_told (Refused Why.MessageForm) h = absurd h
+  targets_told (Refused (Why.MessageVersion v)) h = absurd h
+  targets_told (Refused (Why.Spends got want)) h = absurd h
+  targets_told (Refused (Why.Proof e)) h = let first : fault ≡ Some e = shape_first e h in ap (option_map Why.Proof) first
+  targets_told (Refused (Why.Missing x i)) h = absurd h
+  targets_told (Refused (Why.Immature x i)) h = absurd h
+  targets_told (Refused (Why.Overspend x)) h = absurd h
+  targets_told (Refused (Why.Subsidy c a)) h = absurd h
+
+  module _ (t : Targeted) (judged : AreNamed v.n m.proof t) where
+    other_count : (want got : ℕ) → IsOtherCount m t v.known want got → fault ≡ Some (Fault.HashCount want got)
+    other_count want got o =
+        let e = targets_are v.n m.proof t judged in
+        let wanted : want ≡ length (asked v.n (targets v.n m.proof) (known_to m.lean v.known)) = o.want_is ∙ ap (λ (x : Targeted). length (asked x.leaves x.targets (known_to m.lean v.known))) e in
+        count_told H text v (points_of ext) m judged.passes (λ same. o.differ (o.got_is ∙ (same ∙ sym wanted)))
+        ∙ ap₂ (λ a b. Some (Fault.HashCount a b)) (sym wanted) (sym o.got_is)
+
+    pub hashes_told : (e : RuleFault) → HashesJudged m t v.known (Err e) → IsFaulted e
+    hashes_told NoMemory h = tt
+    hashes_told (Refused Why.Block) h = absurd h
+    hashes_told (Refused Why.Link) h = absurd h
+    hashes_told (Refused Why.MerkleRoot) h = absurd h
+    hashes_told (Refused (Why.MerkleRepeated level place)) h = absurd h
+    hashes_told (Refused (Why.Witness f)) h = absurd h
+    hashes_told (Refused (Why.Weight w)) h = absurd h
+    hashes_told (Refused (Why.Coinbase x)) h = absurd h
+    hashes_told (Refused (Why.Value x)) h = absurd h
+    hashes_told (Refused (Why.Double x i)) h = absurd h
+    hashes_told (Refused Why.Full) h = absurd h
+    hashes_told (Refused Why.NoProof) h = absurd h
+    hashes_told (Refused Why.MessageForm) h = absurd h
+    hashes_told (Refused (Why.MessageVersion v)) h = absurd h
+    hashes_told (Refused (Why.Spends got want)) h = absurd h
+    hashes_told (Refused (Why.Proof (Fault.Outside i))) h = absurd h
+    hashes_told (Refused (Why.Proof (Fault.Repeated i j))) h = absurd h
+    hashes_told (Refused (Why.Proof (Fault.Beneath i j))) h = absurd h
+    hashes_told (Refused (Why.Proof (Fault.HashCount want got))) h = ap (option_map Why.Proof) (other_count want got h)
+    hashes_told (Refused (Why.Proof (Fault.EmptyRoot row))) h = absurd h
+    hashes_told (Refused (Why.Proof (Fault.RootDiffers row))) h = absurd h
+    hashes_told (Refused (Why.Missing x i)) h = absurd h
+    hashes_told (Refused (Why.Immature x i)) h = absurd h
+    hashes_told (Refused (Why.Overspend x)) h = absurd h
+    hashes_told (Refused (Why.Subsidy c a)) h = absurd h
+
+-- ---- the check of the proof of a message that was read, over roots and held digests
+
+module _ (H : List ℕ → Digest) (text : Leaf → List ℕ) (f : Stump) (hs : List (Place × Digest)) (ext : List Outside) (m : Message) (t : Targeted) (leaves hashes : List Digest) where
+  abbrev v : View
+  v = view_by f hs
+
+  abbrev p : BlockProof
+  p = m.proof
+
+  abbrev ts : List Place
+  ts = targets f.leaves p
+
+  -- the message with the hashes of all needed places
+  abbrev full : BlockProof
+  full = record { spends = p.spends; hashes = hashes }
+
+  module _ (c : IsFilledOut H text v ext m t leaves hashes) where
+    same_targets : t ≡ record { leaves = f.leaves; targets = ts }
+    same_targets = targets_are f.leaves p t c.named
+
+    read_hashes : hashes ≡ hashes_over H v m
+    read_hashes = c.filled.hashes_are H ∙ ap (λ (x : Targeted). map (λ q. hash_of H x.leaves x.targets (known_to m.lean v.known) p.hashes q.row q.off) (need x.leaves x.targets)) same_targets
+
+    same_leaves : leaves ≡ leaves_of H text (points_of ext) (in_full full)
+    same_leaves = c.leaves_are
+
+    read_count : length t.targets ≡ length ext
+    read_count =
+        sym (length-map t.targets Some)
+        ∙ (ap length (sym c.named.places) ∙ (length-map (targets_of p.spends) (place_at f.leaves) ∙ (length-map p.spends (λ s. s.target) ∙ c.count)))
+
+    read_leaves : length leaves ≡ length t.targets
+    read_leaves = ap length same_leaves ∙ (leaves-long H text ext full c.count ∙ sym read_count)
+
+    -- it is judged as in full
+    serves : proof_fault H text v (points_of ext) m ≡ proof_fault H text v (points_of ext) (in_full full)
+    serves = same_fault H text v (points_of ext) m hashes (subst (λ x. AreHashes m x v.known hashes) same_targets c.filled)
+
+    all_asked : length (asked f.leaves ts nothing_known) ≡ length (need f.leaves ts)
+    all_asked = ap length (filter-all (need f.leaves ts))
+
+    -- a fault of the proof is that of the message
+    full_fault : (fault : ProofFault) → IsProofFault H f ts leaves hashes fault → proof_fault H text v (points_of ext) (in_full full) ≡ Some (proof_refusal fault)
+    full_fault (Found.HashCount want got) (wanted, given, other) =
+        let w : length (asked f.leaves ts nothing_known) ≡ want = all_asked ∙ sym wanted in
+        count_told H text v (points_of ext) (in_full full) c.named.passes (λ e. other (given ∙ (e ∙ w)))
+        ∙ ap₂ (λ a b. Some (Fault.HashCount a b)) w (sym given)
+    full_fault (Found.EmptyRoot row) (count, greatest) =
+        empty_told H text v (points_of ext) (in_full full) c.named.passes row (count ∙ sym all_asked) greatest
+    full_fault (Found.RootDiffers row had computed) (count, never, greatest, was, is) =
+        other_told H text v (points_of ext) (in_full full) c.named.passes row (count ∙ sym all_asked) never
+        (subst (λ xs. IsGreatest f.leaves ts (λ row c. root_in f row ≢ Some (evaluation H f.leaves ts nothing_known xs hashes c)) row) same_leaves greatest)
+
+    read_fault : (fault : ProofFault) → IsProofFault H f t.targets leaves hashes fault → proof_fault H text v (points_of ext) m ≡ Some (proof_refusal fault)
+    read_fault fault is = serves ∙ full_fault fault (subst (λ (x : Targeted). IsProofFault H f x.targets leaves hashes fault) same_targets is)
+
+    read_passes : IsAccepted H f.leaves (root_in f) t.targets nothing_known leaves hashes → proof_fault H text v (points_of ext) m ≡ None
+    read_passes a =
+        serves
+        ∙ passes H text v (points_of ext) (in_full full)
+        (subst (λ xs. IsAccepted H f.leaves (root_in f) ts nothing_known xs hashes) same_leaves (subst (λ (x : Targeted). IsAccepted H f.leaves (root_in f) x.targets nothing_known leaves hashes) same_targets a))
+        (named_all f.leaves p t c.named)
+
+-- ---- of whatever was handed in
+
+first-append : (xs : List (Option Refusal)) (y : Option Refusal) → first_of xs ≡ None → first_of (xs ++ y ∷ []) ≡ option_or y None
+first-append xs y e = first_of-append xs (y ∷ []) ∙ ap (λ z. option_or z (option_or y None)) e
+
+alone : (x : Option Refusal) (why : Refusal) → x ≡ Some why → option_or x None ≡ Some why
+alone x why e = ap (λ z. option_or z None) e
+
+-- nothing is wrong with a proof of nothing
+nothing_wrong : (H : List ℕ → Digest) (f : Stump) (fault : ProofFault) → IsProofFault H f [] [] [] fault → ⊥
+nothing_wrong H f (Found.HashCount want got) (wanted, given, other) = other (given ∙ sym (wanted ∙ ap length (need-none f.leaves)))
+nothing_wrong H f (Found.EmptyRoot row) (count, greatest) = none-some greatest.beneath (sym (cover-none row (root_off f.leaves row)) ∙ greatest.covered)
+nothing_wrong H f (Found.RootDiffers row had computed) (count, never, greatest, was, is) = none-some greatest.beneath (sym (cover-none row (root_off f.leaves row)) ∙ greatest.covered)
+
+-- the steps on the message pass, and this is left of the roots, with these changes
+pub record IsTaken (H : List ℕ → Digest) (text : Leaf → List ℕ) (v : View) (f : Stump) (ext : List Outside) (handed : Handed) (pairs : List (Place × Digest)) (g : Stump) : Type 0 where
+  pub passes : first_of (steps_over H text v ext handed) ≡ None
+  pub roots : g ≡ without H f (places_spent f.leaves handed) (hashes_spent H v handed)
+  pub changes : pairs ≡ changes_of H f.leaves (places_spent f.leaves handed) (hashes_spent H v handed)
+
+module _ (H : List ℕ → Digest) (text : Leaf → List ℕ) (f : Stump) (hs : List (Place × Digest)) (ext : List Outside) (found : List FoundOutput) (t : Targeted) (leaves hashes : List Digest) where
+  abbrev view : View
+  view = view_by f hs
+
+  abbrev IsClaimed : Handed → Type 0
+  IsClaimed handed = IsClaim H text view ext handed found t leaves hashes
+
+  pub claim_targets : (handed : Handed) → IsClaimed handed → t ≡ record { leaves = f.leaves; targets = places_spent f.leaves handed }
+  claim_targets nothing c = c.claims.0
+  claim_targets (unread why) c = absurd c.claims
+  claim_targets (read m) c = same_targets H text f hs ext m t leaves hashes c.claims
+
+  claim_hashes : (handed : Handed) → IsClaimed handed → hashes ≡ hashes_spent H view handed
+  claim_hashes nothing c = c.claims.2
+  claim_hashes (unread why) c = absurd c.claims
+  claim_hashes (read m) c = read_hashes H text f hs ext m t leaves hashes c.claims
+
+  pub claim_leaves : (handed : Handed) → IsClaimed handed → length leaves ≡ length t.targets
+  claim_leaves nothing c = ap length c.claims.1 ∙ sym (ap (λ (x : Targeted). length x.targets) c.claims.0)
+  claim_leaves (unread why) c = absurd c.claims
+  claim_leaves (read m) c = read_leaves H text f hs ext m t leaves hashes c.claims
+
+  pub claim_few : (handed : Handed) → IsClaimed handed → length t.targets ≤ length ext
+  claim_few nothing c = let e = ap (λ (x : Targeted). length x.targets) c.claims.0 in omega (arith, e)
+  claim_few (unread why) c = absurd c.claims
+  claim_few (read m) c = let e = read_count H text f hs ext m t leaves hashes c.claims in omega (arith, e)
+
+  -- a fault of the proof is the first step that fails
+  pub claim_refused : (handed : Handed) → IsClaimed handed → (fault : ProofFault) → IsProofFault H f t.targets leaves hashes fault → first_of (steps_over H text view ext handed) ≡ Some (Why.Proof (proof_refusal fault))
+  claim_refused nothing c fault is =
+      absurd (nothing_wrong H f fault
+      (subst (λ xs. IsProofFault H f [] [] xs fault) c.claims.2 (subst (λ xs. IsProofFault H f [] xs hashes fault) c.claims.1 (subst (λ (x : Targeted). IsProofFault H f x.targets leaves hashes fault) c.claims.0 is))))
+  claim_refused (unread why) c fault is = absurd c.claims
+  claim_refused (read m) c fault is =
+      first-append (message_steps ext (read m)) (view_step H text view ext (read m)) c.passes
+      ∙ alone (view_step H text view ext (read m)) (Why.Proof (proof_refusal fault)) (ap (option_map Why.Proof) (read_fault H text f hs ext m t leaves hashes c.claims fault is))
+
+  claim_passes : (handed : Handed) → IsClaimed handed → IsAccepted H f.leaves (root_in f) t.targets nothing_known leaves hashes → first_of (steps_over H text view ext handed) ≡ None
+  claim_passes nothing c a = first-append (message_steps ext nothing) (view_step H text view ext nothing) c.passes
+  claim_passes (unread why) c a = absurd c.claims
+  claim_passes (read m) c a =
+      first-append (message_steps ext (read m)) (view_step H text view ext (read m)) c.passes
+      ∙ ap (λ z. option_or z None) (ap (option_map Why.Proof) (read_passes H text f hs ext m t leaves hashes c.claims a))
+
+  -- an accepted proof deletes what was handed in
+  pub claim_taken : (handed : Handed) → IsClaimed handed → (pairs : List (Place × Digest)) (g : Stump) → IsStump f → IsStump g → IsDeleted H f t.targets leaves hashes pairs g → IsTaken H text view f ext handed pairs g
+  claim_taken handed c pairs g s u d =
+      let ts = claim_targets handed c in
+      let same = λ (X : List Place → List Digest → Type 0) (x : X t.targets hashes). subst (λ ys. X (places_spent f.leaves handed) ys) (claim_hashes handed c) (subst (λ (y : Targeted). X y.targets hashes) ts x) in
+      record {
+        passes = claim_passes handed c d.accepted;
+        roots = is_without H f (places_spent f.leaves handed) (hashes_spent H view handed) g s u (same (λ xs ys. AreRootsAfter H f xs ys g) d.roots);
+        changes = changes_are H f.leaves (places_spent f.leaves handed) (hashes_spent H view handed) pairs (same (λ xs ys. AreChanges H f.leaves xs ys pairs) d.changes);
+      }
+
+  -- a step for each leaf, and two a row
+  pub claim_steps : (handed : Handed) → IsClaimed handed → (start before after : ℕ) → before ≤ start + length ext → after ≤ before + 2 * (length t.targets * rows t.leaves) →
+      after ≤ start + length ext + 2 * (length ext * rows f.leaves)
+  claim_steps handed c start before after le more =
+      let n : t.leaves ≡ f.leaves = ap (λ (x : Targeted). x.leaves) (claim_targets handed c) in
+      let same : length t.targets * rows t.leaves ≡ length t.targets * rows f.leaves = ap (λ k. length t.targets * rows k) n in
+      let less : length t.targets * rows f.leaves ≤ length ext * rows f.leaves = mul-le (length t.targets) (rows f.leaves) (length ext) (rows f.leaves) (claim_few handed c) (let z : rows f.leaves ≤ rows f.leaves = omega arith in z) in
+      omega (arith, le, more, same, less)
+
+-- ---- what claims are refused for
+
+-- or that on its proof
+proof_first : (H : List ℕ → Digest) (text : Leaf → List ℕ) (v : View) (ext : List Outside) (bytes : Option (List ℕ)) (m : Message) (fault : RuleFault) → IsMessageRead ext bytes (Some m) →
+    IsFirst (option_map Why.Proof (proof_fault H text v (points_of ext) m)) fault → IsFirst (first_of (steps_over H text v ext (handed_in bytes))) fault
+proof_first H text v ext bytes m fault judged e =
+    first-behind (message_steps ext (handed_in bytes)) (view_step H text v ext (handed_in bytes) ∷ []) fault judged.passes
+    (only (view_step H text v ext (handed_in bytes)) fault (subst (λ h. IsFirst (view_step H text v ext h) fault) (sym judged.is) e))
+  where
+    only : (x : Option Refusal) (fault : RuleFault) → IsFirst x fault → IsFirst (first_of (x ∷ [])) fault
+    only x (Refused why) e = ap (λ z. option_or z None) e
+    only x NoMemory e = tt
+
+pub proof_errs : {T : Type 0} (H : List ℕ → Digest) (text : Leaf → List ℕ) (v : View) (ext ext' : List Outside) (bytes : Option (List ℕ)) (message : Option Message) (m : Message) (result : Result T RuleFault) →
+    IsMessageRead ext bytes message → message ≡ Some m → ext' ≡ ext → IfErr result (λ fault. IsFirst (option_map Why.Proof (proof_fault H text v (points_of ext') m)) fault) →
+    IfErr result (λ fault. IsFirst (first_of (steps_over H text v ext (handed_in bytes))) fault)
+proof_errs H text v ext ext' bytes message m (Ok x) judged is same e = tt
+proof_errs H text v ext ext' bytes message m (Err fault) judged is same e =
+    proof_first H text v ext bytes m fault (subst (λ x. IsMessageRead ext bytes x) is judged) (subst (λ x. IsFirst (option_map Why.Proof (proof_fault H text v (points_of x) m)) fault) same e)

@@ -1,0 +1,5 @@
+use Rattle.compact_node.proofs.Throughout.{fresh-stands}
+use Rattle.compact_node.proofs.laws.fresh_stands.Goals as goal
+
+pub returns : goal.returns
+returns c = λ H text net limits scripts. fresh-stands H text net limits scripts

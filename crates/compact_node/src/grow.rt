@@ -1,0 +1,167 @@
+//! The roots and the cache behind a block.
+ghost use Rattle.std.specs.Prelude.{◌≡◌, ◌+◌, ◌*◌, ◌<◌, ◌≤◌, ◌^◌, ◌∷◌, [], true, length, map, count_by, count_ones, is_some, IfOk, OnOk, OnErr};
+ghost use Rattle.leaf_record.specs.Leaf.{leaf_text};
+ghost use Rattle.forest_roots.specs.Joined.{joins_of};
+ghost use Rattle.cache_model.specs.Lists.{moved_leaves, leaf_places, leaves_more};
+ghost use Rattle.cache_model.specs.Steps.{held_deleted};
+ghost use Rattle.leaf_cache.specs.Parted.{HaveSameLists};
+ghost use Rattle.cache_update.specs.Joins.{is_empty_of, added_by};
+ghost use Rattle.cache_update.specs.Marks.{Fits, kept_back, held_back, pairs_within};
+ghost use Rattle.compact_node.specs.After.{with_leaf, with_leaves, kept_with_all, held_with_all};
+ghost use Rattle.compact_node.specs.Judged.{watched_leaf};
+ghost use Rattle.compact_node.specs.Marked.{GoesOn};
+
+use block_rules::Spends;
+use cache_update::{Mark, after_add, after_delete, begin};
+use forest_roots::{Joins, Roots};
+use leaf_cache::{Cache, Watch};
+use leaf_record::{LeafBuf, Record, RecordView, leaf_digest};
+use proof_shape::Targets;
+use proof_verify::Changes;
+use std::alloc::Global;
+use std::sync::ledger::Ledger;
+use uo_base::NoMemory;
+use uo_digest::{Digest, Digester, Steps};
+
+// The output, where it is watched.
+fn record_if(
+    alloc: Global,
+    watch: &Watch,
+    leaf: &RecordView<'_>,
+) -> Result<Option<Record>, NoMemory>
+    ensures { IfOk result (λ kept. kept ≡ watched_leaf watch.now leaf.now) }
+{
+    let rest = leaf.rest();
+    if watch.has(rest.script) {
+        Ok(Some(leaf.to_record(alloc)?))
+    } else {
+        Ok(None)
+    }
+}
+
+// Each new output of a block, where it is watched.
+fn watched_in(
+    alloc: Global,
+    watch: &Watch,
+    spends: &Spends<'_>,
+) -> Result<Vec<Option<Record>>, NoMemory>
+    ensures { IfOk result (λ leaves. leaves.items ≡ map (watched_leaf watch.now) spends.now.new) }
+{
+    let mut leaves = Vec::with_capacity(alloc, spends.new_count() as usize)?;
+    for i in 0..spends.new_count() {
+        let leaf = spends.new_output(i);
+        let kept = record_if(alloc, watch, &leaf)?;
+        leaves.push(kept)?;
+    }
+    Ok(leaves)
+}
+
+// How many are watched.
+fn watched_count(leaves: &[Option<Record>]) -> u64
+    ensures { result ≡ count_by is_some leaves.now }
+{
+    leaves.iter().filter(|leaf| leaf.is_some()).count() as u64
+}
+
+// Adds an entry, which is kept where it is watched.
+fn add<D: Digester, L: Ledger>(
+    cache: &mut Cache<D>,
+    mark: &mut Mark,
+    roots: &mut Roots<D>,
+    joins: &mut Joins,
+    digest: Digest,
+    leaf: Option<Record>,
+    steps: &mut Steps<L>,
+)
+    requires fits { Fits mark.old cache.old.parts }
+    requires left { 0 < mark.old.adds }
+    requires watched { is_some leaf ≡ true → 0 < mark.old.watched }
+    requires count { mark.old.leaves ≡ roots.old.leaves }
+    requires few { roots.old.leaves + 1 < 2 ^ 40 }
+    ensures roots { roots.new ≡ with_leaf D.digest_of roots.old digest }
+    ensures kept { cache.new.parts.kept ≡ leaves_more (is_empty_of (joins_of D.digest_of roots.old digest)) roots.old.leaves (length (joins_of D.digest_of roots.old digest)) leaf digest cache.old.parts.kept }
+    ensures held { cache.new.parts.held ≡ added_by (joins_of D.digest_of roots.old digest) digest roots.old.leaves (is_some leaf) cache.old.parts.held }
+    ensures watch { cache.new.watch ≡ cache.old.watch }
+    ensures on { GoesOn mark.old cache.old.parts mark.new cache.new.parts }
+    ensures leaves { mark.new.leaves ≡ mark.old.leaves + 1 }
+    ensures adds { mark.new.adds + 1 ≡ mark.old.adds }
+    ensures watched { mark.new.watched + count_by is_some (leaf ∷ []) ≡ mark.old.watched }
+    ensures steps { steps.new + count_ones roots.new.leaves ≤ steps.old + 1 + count_ones roots.old.leaves }
+{
+    let n = roots.leaves();
+    roots.add_into(digest, joins, steps);
+    // That these are roots again.
+    let _after = roots.leaves();
+    after_add(cache, mark, n, digest, joins, leaf);
+}
+
+// Adds the block's new records, in their order. Each has a place in `leaves`, with the record where it is watched.
+fn append<D: Digester, L: Ledger>(
+    cache: &mut Cache<D>,
+    mark: &mut Mark,
+    roots: &mut Roots<D>,
+    room: &mut LeafBuf<D>,
+    joins: &mut Joins,
+    spends: &Spends<'_>,
+    leaves: Vec<Option<Record>>,
+    steps: &mut Steps<L>,
+)
+    requires fits { Fits mark.old cache.old.parts }
+    requires leaves { leaves.items ≡ map (watched_leaf cache.old.watch) spends.now.new }
+    requires adds { mark.old.adds ≡ length spends.now.new }
+    requires watched { mark.old.watched ≡ count_by is_some leaves.items }
+    requires count { mark.old.leaves ≡ roots.old.leaves }
+    requires few { roots.old.leaves + length spends.now.new < 2 ^ 40 }
+    ensures roots { roots.new ≡ with_leaves D.digest_of roots.old (map (λ leaf. D.digest_of (leaf_text leaf)) spends.now.new) }
+    ensures kept { cache.new.parts.kept ≡ kept_with_all D.digest_of leaf_text cache.old.watch roots.old spends.now.new cache.old.parts.kept }
+    ensures held { cache.new.parts.held ≡ held_with_all D.digest_of leaf_text cache.old.watch roots.old spends.now.new cache.old.parts.held }
+    ensures watch { cache.new.watch ≡ cache.old.watch }
+    ensures on { GoesOn mark.old cache.old.parts mark.new cache.new.parts }
+    ensures steps { steps.new ≤ steps.old + 2 * length spends.now.new + 40 }
+{
+    let _count = roots.leaves();
+    let mut i = 0;
+    for watched in leaves {
+        let leaf = spends.new_output(i);
+        let digest = leaf_digest::<D, L>(room, &leaf, steps);
+        add(cache, mark, roots, joins, digest, watched, steps);
+        i += 1;
+    }
+}
+
+/// The roots, from which the targets are gone, and the cache behind a block: the targets go, with these changes, and the new
+/// records come. The mark gives the cache back. All memory is taken before the first change; where there is none, the cache keeps
+/// and holds what it did.
+pub(crate) fn grow<D: Digester, L: Ledger>(
+    alloc: Global,
+    cache: &mut Cache<D>,
+    roots: &mut Roots<D>,
+    room: &mut LeafBuf<D>,
+    joins: &mut Joins,
+    targets: &Targets,
+    changes: &Changes<'_>,
+    spends: &Spends<'_>,
+    steps: &mut Steps<L>,
+) -> Result<Mark, NoMemory>
+    requires entries { targets.now.leaves ≡ roots.old.leaves }
+    requires few { roots.old.leaves + length spends.now.new < 2 ^ 40 }
+    ensures roots { OnOk result (roots.new ≡ with_leaves D.digest_of roots.old (map (λ leaf. D.digest_of (leaf_text leaf)) spends.now.new)) }
+    ensures kept { OnOk result (cache.new.parts.kept ≡ kept_with_all D.digest_of leaf_text cache.old.watch roots.old spends.now.new (moved_leaves targets.now.leaves targets.now.targets cache.old.parts.kept)) }
+    ensures held { OnOk result (cache.new.parts.held ≡ held_with_all D.digest_of leaf_text cache.old.watch roots.old spends.now.new
+        (held_deleted targets.now.leaves targets.now.targets (pairs_within targets.now.leaves changes.now) (leaf_places (moved_leaves targets.now.leaves targets.now.targets cache.old.parts.kept)) cache.old.parts.held)) }
+    ensures fits { IfOk result (λ mark. Fits mark cache.new.parts) }
+    ensures kept_back { IfOk result (λ mark. kept_back mark cache.new.parts.kept ≡ cache.old.parts.kept) }
+    ensures held_back { IfOk result (λ mark. held_back mark cache.new.parts.held ≡ cache.old.parts.held) }
+    ensures stays { OnErr result (HaveSameLists cache.new.parts cache.old.parts) }
+    ensures watch { cache.new.watch ≡ cache.old.watch }
+    ensures kept_room { cache.old.parts.kept_room ≤ cache.new.parts.kept_room }
+    ensures held_room { cache.old.parts.held_room ≤ cache.new.parts.held_room }
+    ensures steps { steps.new ≤ steps.old + 2 * length spends.now.new + 40 }
+{
+    let leaves = watched_in(alloc, cache.watch(), spends)?;
+    let watched = watched_count(&leaves);
+    let mut mark = begin(alloc, cache, targets, spends.new_count(), watched)?;
+    after_delete(cache, &mut mark, targets, changes);
+    append(cache, &mut mark, roots, room, joins, spends, leaves, steps);
+    Ok(mark)
+}
