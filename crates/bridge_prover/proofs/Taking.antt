@@ -193,10 +193,10 @@ module _ (H : List ℕ → Digest) (text : Leaf → List ℕ) (s : BridgeState) 
 
       pub found_many : length shown.found.items ≡ length spends.external
       found_many =
-        let ext = external b s.chain.blocks in
-        let by_view = view_step H text (view_of H text (watched_by s) (history_of s)) ext handed ∷ [] in
-        let passes : first_of (message_steps ext handed) ≡ None = (append_passes (message_steps ext handed) by_view right_so.passes).0 in
-        ap length right_so.found ∙ (found_long ext handed passes ∙ ap length (sym same_external))
+          let ext = external b s.chain.blocks in
+          let by_view = view_step H text (view_of H text (watched_by s) (history_of s)) ext handed ∷ [] in
+          let passes : first_of (message_steps ext handed) ≡ None = (append_passes (message_steps ext handed) by_view right_so.passes).0 in
+          ap length right_so.found ∙ (found_long ext handed passes ∙ ap length (sym same_external))
 
       same_money : money_steps spends shown.found.items ≡ on_money H text s b handed (history_of s)
       same_money = ap₂ money_steps shaped.spends right_so.found
