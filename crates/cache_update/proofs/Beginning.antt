@@ -138,6 +138,7 @@ module _ (t : Targeted) (p q : Parted) (adds watched : ℕ) (r : Room) (m : Mark
         taken = (mark.taken, mark.added, mark.stood ∙ ap (map where_stood) (sym kept));
         taken_room = omega (arith, long, mark.taken_room);
         moves = room.moves;
+        goals = room.goals;
       })
 
 -- a mark with no block fits where there is room for what it gives back

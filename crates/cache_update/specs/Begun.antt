@@ -23,6 +23,7 @@ pub record IsRoom (t : Targeted) (p : Parted) (adds : ℕ) (r : Room) : Type 0 w
   pub known : (m : ℕ) × HoldKnown t.leaves (leaf_places (moved_leaves t.leaves t.targets p.kept)) m × (m + growth t.leaves adds < r.most)
   pub spare : r.most ≤ vec_capacity r.scratch.spare
   pub moves : r.most ≤ vec_capacity r.scratch.moves
+  pub goals : r.most ≤ vec_capacity r.scratch.goals
   pub lost : length p.held ≤ vec_capacity r.lost
   pub gained : r.most ≤ vec_capacity r.gained
   pub moved : length p.kept ≤ vec_capacity r.moved

@@ -1,11 +1,11 @@
 -- What differs between the lists of two caches.
-use Rattle.std.specs.Prelude.{ℕ, not, Bool, false, List, Option, Some, None, is_some, bytes_eq, if◌then◌else◌}
+use Rattle.std.specs.Prelude.{◌≡◌, ℕ, ◌<◌, ◌≤◌, not, Bool, true, false, List, length, get_or, Option, Some, None, is_some, bytes_eq, if◌then◌else◌}
 use Rattle.uo_digest.specs.declared.digest.Digest.{Digest}
 use Rattle.forest_place.specs.declared.place.Place.{Place}
 use Rattle.cache_model.specs.declared.kept.Kept.{Kept}
 use Rattle.cache_model.specs.Cache.{look}
 use Rattle.cache_model.specs.Climbed.{kept_place}
-use Rattle.cache_model.specs.Undo.{is_same_place}
+use Rattle.cache_model.specs.Undo.{is_same_place, is_before_place}
 
 abbrev pub is_digest : Option Digest → Digest → Bool
 is_digest None d = false
@@ -30,3 +30,8 @@ is_elsewhere p (Some q) = not (is_same_place p q)
 -- where an entry stood that is kept and stands elsewhere now
 abbrev pub moved_since : List Kept → ℕ × Place → Option (ℕ × Place)
 moved_since ks s = if is_elsewhere s.1 (kept_place ks s.0) then Some s else None
+
+-- all that are held up to an index come before the place
+pub record AreBefore (hs : List (Place × Digest)) (at : ℕ) (p : Place) : Type 0 where
+  pub within : at ≤ length hs
+  pub each : (j : ℕ) (d : Place × Digest) → j < at → is_before_place (get_or hs j d).0 p ≡ true

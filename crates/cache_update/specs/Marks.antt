@@ -95,6 +95,7 @@ pub record IsUnused (t : Targeted) (m : Mark) (ks : List Kept) (r : Room) : Type
   pub taken : (m.taken.items ≡ []) × (m.added.items ≡ []) × (m.stood.items ≡ map where_stood ks)
   pub taken_room : length ks ≤ vec_capacity m.taken
   pub moves : r.most ≤ vec_capacity r.scratch.moves
+  pub goals : r.most ≤ vec_capacity r.scratch.goals
 
 abbrev pub IsUnusedIn : Targeted → Mark → List Kept → Option Room → Type 0
 IsUnusedIn t m ks None = ⊥

@@ -2,27 +2,65 @@
 ghost use Rattle.std.specs.Prelude.{◌≡◌, ◌+◌, ◌<◌, ◌≤◌, ◌++◌, length, filter_map, vec_len, vec_capacity};
 ghost use Rattle.std.specs.Option.{option_to_list};
 ghost use Rattle.cache_model.specs.Lists.{AscendByPlace, AscendByNumber};
-ghost use Rattle.cache_update.specs.Differences.{lost as lost_of, gained as gained_of, moved_since};
+ghost use Rattle.cache_model.specs.Cache.{look};
+ghost use Rattle.cache_model.specs.Search.{IsSplit};
+ghost use Rattle.cache_model.specs.Undo.{is_before_place, held_key};
+ghost use Rattle.cache_update.specs.Differences.{AreBefore, lost as lost_of, gained as gained_of, moved_since};
 
-use crate::put::is_same;
+use crate::put::{is_before, is_same};
 use forest_place::Place;
-use leaf_cache::{Kept, digest_in, place_of};
+use leaf_cache::{Kept, place_of};
 use uo_digest::Digest;
 
-// Notes a digest that was held, where the newer list does not have it at its place.
+// How many held places come before this one, where those up to an index do.
+fn index_on(held: &[(Place, Digest)], from: usize, place: Place) -> usize
+    requires ascends { AscendByPlace held.now }
+    requires before { AreBefore held.now from place }
+    ensures { IsSplit is_before_place held_key place held.now result }
+{
+    let mut at = from;
+    while at < held.len() {
+        if !is_before(held[at].0, place) {
+            return at;
+        }
+        at += 1;
+    }
+    at
+}
+
+// The digest that is held at a place, which stands, or would stand, at the index.
+fn digest_at(held: &[(Place, Digest)], at: usize, place: Place) -> Option<Digest>
+    requires ascends { AscendByPlace held.now }
+    requires split { IsSplit is_before_place held_key place held.now at }
+    ensures { result ≡ look held.now place.row place.off }
+{
+    if at == held.len() {
+        return None;
+    }
+    if is_same(place, held[at].0) {
+        Some(held[at].1)
+    } else {
+        None
+    }
+}
+
+// Notes a digest that was held, where the newer list does not have it at its place, which stands, or would stand, there at the
+// index.
 fn note_lost(
     lost: &mut Vec<(Place, Digest)>,
     newer: &[(Place, Digest)],
+    at: usize,
     place: Place,
     digest: Digest,
 )
     requires newer { AscendByPlace newer.now }
+    requires split { IsSplit is_before_place held_key place newer.now at }
     requires room { vec_len lost.old < vec_capacity lost.old }
     ensures items { lost.new.items ≡ lost.old.items ++ option_to_list (lost_of newer.now (place, digest)) }
     ensures len { vec_len lost.new ≤ vec_len lost.old + 1 }
     ensures capacity { vec_capacity lost.old ≤ vec_capacity lost.new }
 {
-    if let Some(found) = digest_in(newer, place) {
+    if let Some(found) = digest_at(newer, at, place) {
         if found == digest {
             return;
         }
@@ -30,15 +68,22 @@ fn note_lost(
     let _ = lost.push((place, digest));
 }
 
-// Notes a place at which the older list has nothing.
-fn note_gained(gained: &mut Vec<Place>, older: &[(Place, Digest)], place: Place, digest: Digest)
+// Notes a place at which the older list has nothing, where it would stand at the index.
+fn note_gained(
+    gained: &mut Vec<Place>,
+    older: &[(Place, Digest)],
+    at: usize,
+    place: Place,
+    digest: Digest,
+)
     requires older { AscendByPlace older.now }
+    requires split { IsSplit is_before_place held_key place older.now at }
     requires room { vec_len gained.old < vec_capacity gained.old }
     ensures items { gained.new.items ≡ gained.old.items ++ option_to_list (gained_of older.now (place, digest)) }
     ensures len { vec_len gained.new ≤ vec_len gained.old + 1 }
     ensures capacity { vec_capacity gained.old ≤ vec_capacity gained.new }
 {
-    if digest_in(older, place).is_some() {
+    if digest_at(older, at, place).is_some() {
         return;
     }
     let _ = gained.push(place);
@@ -66,11 +111,14 @@ pub(crate) fn note_all_lost(
     older: &[(Place, Digest)],
 )
     requires newer { AscendByPlace newer.now }
+    requires older { AscendByPlace older.now }
     requires room { vec_len lost.old + length older.now ≤ vec_capacity lost.old }
     ensures { lost.new.items ≡ lost.old.items ++ filter_map (lost_of newer.now) older.now }
 {
+    let mut at = 0;
     for i in 0..older.len() {
-        note_lost(lost, newer, older[i].0, older[i].1);
+        at = index_on(newer, at, older[i].0);
+        note_lost(lost, newer, at, older[i].0, older[i].1);
     }
 }
 
@@ -80,12 +128,15 @@ pub(crate) fn note_all_gained(
     newer: &[(Place, Digest)],
     older: &[(Place, Digest)],
 )
+    requires newer { AscendByPlace newer.now }
     requires older { AscendByPlace older.now }
     requires room { vec_len gained.old + length newer.now ≤ vec_capacity gained.old }
     ensures { gained.new.items ≡ gained.old.items ++ filter_map (gained_of older.now) newer.now }
 {
+    let mut at = 0;
     for i in 0..newer.len() {
-        note_gained(gained, older, newer[i].0, newer[i].1);
+        at = index_on(older, at, newer[i].0);
+        note_gained(gained, older, at, newer[i].0, newer[i].1);
     }
 }
 

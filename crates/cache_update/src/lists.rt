@@ -36,6 +36,7 @@ pub(crate) fn delete_from(
     requires spare_room { HoldsKnown kept.now.leaves kept.now.targets (vec_capacity scratch.old.spare) }
     requires spare_held { length parts.old.held ≤ vec_capacity scratch.old.spare }
     requires moves_held { length parts.old.held ≤ vec_capacity scratch.old.moves }
+    requires goals_held { length parts.old.held ≤ vec_capacity scratch.old.goals }
     requires taken_room { vec_len taken.old + length parts.old.kept ≤ vec_capacity taken.old }
     ensures kept { parts.new.kept ≡ moved_leaves targets.now.leaves targets.now.targets parts.old.kept }
     ensures held { parts.new.held ≡ held_deleted targets.now.leaves targets.now.targets (pairs_within targets.now.leaves pairs.now) kept.now.targets parts.old.held }

@@ -47,9 +47,11 @@ pub(crate) struct Room {
     pub(crate) moved: Vec<(u64, Place)>,
 }
 
-// The held digests are built anew in the first list, and those that go elsewhere are gathered in the second.
+// The held digests are built anew in the first list, and those that go elsewhere are gathered in the second. The third tells
+// where all of them go.
 #[derive(Drop)]
 pub(crate) struct Scratch {
     pub(crate) spare: Vec<(Place, Digest)>,
     pub(crate) moves: Vec<(Place, Digest)>,
+    pub(crate) goals: Vec<Option<Place>>,
 }

@@ -139,6 +139,7 @@ fn room_for(alloc: Global, parts: &Parts, targets: &Targets, adds: u64) -> Resul
         scratch: Scratch {
             spare: Vec::with_capacity(alloc, most)?,
             moves: Vec::with_capacity(alloc, most)?,
+            goals: Vec::with_capacity(alloc, most)?,
         },
         lost: Vec::with_capacity(alloc, parts.held.len())?,
         gained: Vec::with_capacity(alloc, most)?,
