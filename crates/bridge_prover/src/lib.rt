@@ -21,8 +21,6 @@ mod judged;
 mod laws;
 mod message;
 mod shown;
-#[cfg(test)]
-mod tests;
 mod watched;
 
 pub use bridge::{Bridge, Proved};

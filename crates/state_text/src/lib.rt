@@ -18,8 +18,6 @@ mod spelled;
 mod state;
 mod targets;
 mod telling;
-#[cfg(test)]
-mod tests;
 mod writing;
 
 pub use fault::StateFault;
