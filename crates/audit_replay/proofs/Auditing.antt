@@ -1,22 +1,19 @@
 -- What an auditor keeps after an event is again what an auditor keeps.
 use Rattle.std.proofs.Common.{◌≡◌, ℕ, Bool, true, false, List, [], ◌∷◌, Option, Some, None, refl, sym, ap, ◌∙◌, subst, ◌<◌, ◌^◌}
-use Rattle.std.specs.Prelude.{slice_get, is_none}
 use Rattle.uo_base.specs.declared.event.Limits.{Limits}
 use Rattle.uo_base.specs.declared.event.Net.{Net}
 use Rattle.uo_digest.specs.declared.digest.Digest.{Digest}
-use Rattle.block_codec.specs.Block.{Block}
 use Rattle.leaf_record.specs.Leaf.{Leaf}
 use Rattle.block_rules.specs.declared.refusal.Refusal.{Refusal}
 use Rattle.block_rules.specs.declared.verdict.Verdict.{Verdict}
-use Rattle.node_rules.specs.Reading.{Handed}
 use Rattle.node_rules.specs.Judging.{Rules}
-use Rattle.node_rules.specs.Machine.{ChainEvent, BlockCame, RollbackCame, StrayCame, State, start, full_judge, goes_on, state_after}
+use Rattle.node_rules.specs.Machine.{ChainEvent, BlockCame, RollbackCame, StrayCame, start, full_judge, goes_on, state_after}
 use Rattle.node_rules.specs.Fitting.{EventFits, StateFits}
 use Rattle.node_rules.specs.Laws.{IsSoundState}
 use Rattle.node_rules.proofs.Fitting.{after_fits, start_fits}
 use Rattle.node_rules.proofs.Value.{after_sound, start_sound, full_judge-pays}
 use Rattle.bridge_prover.specs.Bridge.{BridgeState, fresh_bridge, bridge_by}
-use Rattle.bridge_prover.specs.Standing.{Stands, IsBridge}
+use Rattle.bridge_prover.specs.Standing.{IsBridge}
 use Rattle.bridge_prover.specs.Watched.{scripts_of}
 use Rattle.bridge_prover.specs.Full.{watched_by, full_outcome, is_forged_on, full_refusal_on, judged_on, after_shown, kept_if, next_judged, LevelsJudged}
 use Rattle.bridge_prover.proofs.Fully.{bridge_is_full, next_judged_is_bridge, levels_judged}

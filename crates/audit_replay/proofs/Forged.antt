@@ -1,5 +1,5 @@
 -- What a forged event shows.
-use Rattle.std.proofs.Common.{◌≡◌, ℕ, ◌<◌, ◌^◌, Bool, true, false, List, [], ◌∷◌, ◌++◌, length, Option, Some, None, Err, refl, sym, ap, ◌∙◌, subst, arith}
+use Rattle.std.proofs.Common.{◌≡◌, ℕ, ◌<◌, ◌^◌, Bool, true, false, List, ◌++◌, length, Option, Some, None, Err, refl, sym, ap, ◌∙◌, subst, arith}
 use Rattle.std.specs.Prelude.{not, ◌&&◌, ◌==◌, is_none, is_some}
 use Rattle.std.proofs.lemmas.Bool.{and_parts, eqb-true, false≢true}
 use Rattle.std.proofs.lemmas.Option.{none-some}
@@ -10,7 +10,6 @@ use Rattle.forest_place.specs.declared.place.Place.{Place}
 use Rattle.forest_model.specs.Right.{IsKnowledge, entries}
 use Rattle.block_codec.specs.Block.{Block}
 use Rattle.leaf_record.specs.Leaf.{leaf_text}
-use Rattle.leaf_record.specs.History.{History}
 use Rattle.block_rules.specs.declared.chain.Chain.{Chain}
 use Rattle.block_rules.specs.declared.chain.Outside.{Outside}
 use Rattle.block_rules.specs.declared.fault.RuleFault.{RuleFault}

@@ -2,3 +2,5 @@ pub mod Throughout
 pub mod Supplying
 pub mod Auditing
 pub mod Forged
+pub mod Shown
+pub mod Showing

@@ -1,5 +1,5 @@
 -- Sums over all entries, and over all heights.
-use Rattle.std.proofs.Common.{◌≡◌, ℕ, zero, suc, ◌+◌, ◌-◌, ◌*◌, ◌<◌, ◌≤◌, ◌^◌, ◌/◌, Bool, true, false, List, [], ◌∷◌, ◌++◌, map, length, Option, Some, None, refl, sym, ap, ◌∙◌, subst, arith}
+use Rattle.std.proofs.Common.{◌≡◌, ℕ, zero, suc, ◌+◌, ◌-◌, ◌*◌, ◌<◌, ◌≤◌, ◌^◌, ◌/◌, Bool, true, false, List, [], ◌∷◌, map, length, Option, Some, None, refl, sym, ap, ◌∙◌, subst, arith}
 use Rattle.std.specs.Prelude.{nat_lt, if◌then◌else◌}
 use Rattle.std.specs.List.{range_with_len}
 use Rattle.std.proofs.lemmas.List.FromFn.{map-range_with_len_more}
@@ -14,7 +14,6 @@ use Rattle.node_rules.specs.Machine.{issued}
 use Rattle.output_index.specs.Held.{Held}
 use Rattle.bridge_prover.specs.Bridge.{BridgeState}
 use Rattle.bridge_prover.specs.Full.{live_leaf, history_of}
-use Rattle.bridge_prover.proofs.Historied.{is_history, newest_history}
 use Rattle.audit_replay.specs.Audit.{IsAudit, amount_if, amount_at}
 use Rattle.audit_replay.proofs.Throughout.{supply_is_of_level}
 

@@ -1,5 +1,5 @@
 -- What holds of one event holds of a list of events.
-use Rattle.std.proofs.Common.{◌≡◌, ℕ, Bool, true, false, List, [], ◌∷◌, Option, Some, None, refl, sym, ap, ap₂, ◌∙◌, subst}
+use Rattle.std.proofs.Common.{◌≡◌, ℕ, false, List, [], ◌∷◌, Option, Some, None, refl, sym, ap, ◌∙◌, subst}
 use Rattle.std.specs.Prelude.{not, ◌&&◌, is_some, is_none}
 use Rattle.uo_digest.specs.declared.digest.Digest.{Digest}
 use Rattle.leaf_record.specs.Leaf.{Leaf}
@@ -8,7 +8,6 @@ use Rattle.block_rules.specs.declared.chain.Chain.{Chain}
 use Rattle.block_rules.specs.declared.verdict.Verdict.{Verdict}
 use Rattle.node_rules.specs.Judging.{Rules}
 use Rattle.node_rules.specs.Machine.{ChainEvent, State, start, issued, full_judge, verdict_before, verdicts, goes_on, state_after, never_stops}
-use Rattle.bridge_prover.specs.Bridge.{BridgeState, fresh_bridge}
 use Rattle.bridge_prover.specs.Standing.{Stands, IsBridge}
 use Rattle.bridge_prover.specs.Full.{watched_by, full_outcome, judged_on, next_judged}
 use Rattle.bridge_prover.proofs.Fully.{bridge_is_full, next_judged_is_bridge}

@@ -1,5 +1,5 @@
 -- What an auditor keeps, what it says of an event, and what it shows at a forged one.
-use Rattle.std.specs.Prelude.{◌≡◌, ℕ, ◌≤◌, Bool, true, false, List, Option, Some, None, is_none}
+use Rattle.std.specs.Prelude.{◌≡◌, ℕ, Bool, false, List, Option, Some, None, is_none}
 use Rattle.uo_base.specs.declared.event.Limits.{Limits}
 use Rattle.uo_base.specs.declared.event.Net.{Net}
 use Rattle.uo_digest.specs.declared.digest.Digest.{Digest}

@@ -1,17 +1,28 @@
 -- What holds of auditors, whatever the digest function and the leaf text.
-use Rattle.std.specs.Prelude.{◌≡◌, ℕ, ◌<◌, ◌^◌, false, not, List, [], ◌∷◌, Option, Some, None}
+use Rattle.std.specs.Prelude.{◌≡◌, ℕ, ◌<◌, ◌^◌, true, false, not, List, [], ◌∷◌, ◌++◌, Option, Some, None}
+use Rattle.std.specs.List.{AllByRecursion}
 use Rattle.uo_base.specs.declared.event.Limits.{Limits}
 use Rattle.uo_base.specs.declared.event.Net.{Net}
 use Rattle.uo_digest.specs.declared.digest.Digest.{Digest}
-use Rattle.leaf_record.specs.Leaf.{Leaf}
+use Rattle.forest_model.specs.Content.{IsDigest}
+use Rattle.block_codec.specs.Block.{Block, BlockFits}
+use Rattle.leaf_record.specs.Leaf.{Leaf, leaf_text}
 use Rattle.leaf_record.specs.History.{supply}
 use Rattle.block_rules.specs.declared.verdict.Verdict.{Verdict}
-use Rattle.node_rules.specs.Judging.{Rules}
-use Rattle.node_rules.specs.Machine.{ChainEvent, State, start, issued, full_judge, verdict_before, verdicts, state_after, never_stops}
+use Rattle.proof_wire.specs.BlockProof.{ProofFits}
+use Rattle.block_rules.specs.Blocks.{external}
+use Rattle.cache_model.specs.Known.{known_at}
+use Rattle.node_rules.specs.Messages.{Message, points_of}
+use Rattle.node_rules.specs.Reading.{read}
+use Rattle.node_rules.specs.Fitting.{EventFits}
+use Rattle.node_rules.specs.Judging.{Rules, is_forged}
+use Rattle.node_rules.specs.Machine.{ChainEvent, BlockCame, Level, State, start, chain_of, issued, full_judge, verdict_before, verdicts, state_after, never_stops}
 use Rattle.bridge_prover.specs.Bridge.{BridgeState}
 use Rattle.bridge_prover.specs.Standing.{IsBridge, Stands}
 use Rattle.bridge_prover.specs.Full.{history_of, judged_on, watched_by}
-use Rattle.audit_replay.specs.Audit.{AuditState, fresh_audit, next_audit}
+use Rattle.clash_find.specs.Clashes.{TextClash}
+use Rattle.clash_find.specs.Answers.{IsClash}
+use Rattle.audit_replay.specs.Audit.{AuditState, fresh_audit, next_audit, clash_on}
 
 -- ---- a list of events, of which none is judged behind a forged one
 
@@ -45,6 +56,37 @@ abbrev pub FreshIsFull : Type 0
 FreshIsFull = (H : List ℕ → Digest) (text : Leaf → List ℕ) (net : Net) (limits : Limits) (scripts : List (List ℕ)) → limits.leaves < 2 ^ 40 →
     let rules : Rules = record { net = net; limits = limits } in
     (events : List ChainEvent) → AuditsThroughout H text scripts rules start (fresh_audit net limits scripts) events
+
+-- ---- what is shown
+
+-- which two texts are shown at the first forged event of a list
+abbrev pub shown_or : Option Verdict → (here later : Option TextClash) → Option TextClash
+shown_or None here later = here
+shown_or (Some v) here later = later
+
+abbrev pub shown_on : (List ℕ → Digest) → AuditState → List ChainEvent → Option TextClash
+shown_on H s [] = None
+shown_on H s (e ∷ es) = shown_or (judged_on H leaf_text s.bridge e) (clash_on H s.bridge e) (shown_on H (next_audit H leaf_text s e) es)
+
+-- two texts are shown, and they are different and have one digest: one is that of a node of this history, and the proof in the message
+-- digests the other
+pub record AreShown (H : List ℕ → Digest) (shown : Option TextClash) (scripts : List (List ℕ)) (l : Level) (b : Block) (m : Message) : Type 0 where
+  pub clash : TextClash
+  pub shows : shown ≡ Some clash
+  pub is : IsClash H l.history (known_at H leaf_text scripts l.history) (points_of (external b l.blocks)) m clash
+
+-- where an event is forged to the node that holds every output, behind events of which none is, an auditor shows two such texts, whatever
+-- comes later
+abbrev pub FreshShowsForged : Type 0
+FreshShowsForged = (H : List ℕ → Digest) → ((x : List ℕ) → IsDigest (H x)) → (net : Net) (limits : Limits) (scripts : List (List ℕ)) → limits.leaves < 2 ^ 40 →
+    let rules : Rules = record { net = net; limits = limits } in
+    (front later : List ChainEvent) (b : Block) (m : Message) → AllByRecursion EventFits front → BlockFits b → ProofFits m.proof →
+    let l = (state_after rules (full_judge H leaf_text scripts rules) start front).now in
+    never_stops rules (full_judge H leaf_text scripts rules) start front ≡ true →
+    is_forged H leaf_text scripts rules (chain_of l) l.history b (read m) ≡ true →
+    AreShown H (shown_on H (fresh_audit net limits scripts) (front ++ BlockCame (Some b) (read m) ∷ later)) scripts l b m
+
+-- ---- value
 
 -- what is live and what was issued are those of the newest level
 abbrev pub SupplyIsOfLevel : Type 0

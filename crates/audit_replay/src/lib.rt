@@ -12,4 +12,4 @@ mod laws;
 mod supply;
 
 pub use audit::{Audit, AuditLine};
-pub use laws::{audit_is_full_throughout, fresh_is_full, supply_is_of_level};
+pub use laws::{audit_is_full_throughout, fresh_is_full, fresh_shows_forged, supply_is_of_level};

@@ -10,7 +10,7 @@ use Rattle.command_words.specs.declared.options.OptionName.TheVariants as Name
 use Rattle.command_words.specs.declared.words.Command.{Command}
 use Rattle.command_words.specs.declared.words.WordFault.{WordFault}
 use Rattle.command_words.specs.Options.{word_of, takes, is_option, excludes, Given, are_given, words_of}
-use Rattle.command_words.specs.Words.{Asked, Task, Following, Proving, Generating, IsInRange, front_of, options_of, Asks, Means, asked_in, read_as}
+use Rattle.command_words.specs.Words.{Asked, Task, Following, Proving, Auditing, Generating, IsInRange, front_of, options_of, Asks, Means, asked_in, read_as}
 
 abbrev IsFilled : List ℕ → Type 0
 IsFilled word = 0 < length word
@@ -18,6 +18,7 @@ IsFilled word = 0 < length word
 some_front : (task : Task) → IsInRange task → All IsFilled (front_of task)
 some_front Following r = All-cons IsFilled (codes "follow") [] (omega arith) (All-nil IsFilled)
 some_front Proving r = All-cons IsFilled (codes "prove") [] (omega arith) (All-nil IsFilled)
+some_front Auditing r = All-cons IsFilled (codes "audit") [] (omega arith) (All-nil IsFilled)
 some_front (Generating number blocks) r =
     let few : blocks < 2 ^ 64 = omega (arith, r.1) in
     All-cons IsFilled (codes "gen") (decimal number ∷ decimal blocks ∷ []) (omega arith)
@@ -27,6 +28,7 @@ some_front (Generating number blocks) r =
 some_word : (name : OptionName) → IsFilled (word_of name)
 some_word Name.Net = omega arith
 some_word Name.Feed = omega arith
+some_word Name.From = omega arith
 some_word Name.To = omega arith
 some_word Name.Watch = omega arith
 
@@ -35,6 +37,8 @@ some_taken Name.Net [] e = absurd cc
 some_taken Name.Net (code ∷ codes) e = omega arith
 some_taken Name.Feed [] e = absurd cc
 some_taken Name.Feed (code ∷ codes) e = omega arith
+some_taken Name.From [] e = absurd cc
+some_taken Name.From (code ∷ codes) e = omega arith
 some_taken Name.To [] e = absurd cc
 some_taken Name.To (code ∷ codes) e = omega arith
 some_taken Name.Watch [] e = absurd cc

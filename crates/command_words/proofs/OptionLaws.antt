@@ -13,24 +13,34 @@ use Rattle.command_words.specs.Options.{net_of, file_of, word_of, takes, is_opti
 same_option : (a b : OptionName) → is_option a b ≡ true → a ≡ b
 same_option Name.Net Name.Net e = refl
 same_option Name.Net Name.Feed e = absurd cc
+same_option Name.Net Name.From e = absurd cc
 same_option Name.Net Name.To e = absurd cc
 same_option Name.Net Name.Watch e = absurd cc
 same_option Name.Feed Name.Net e = absurd cc
 same_option Name.Feed Name.Feed e = refl
+same_option Name.Feed Name.From e = absurd cc
 same_option Name.Feed Name.To e = absurd cc
 same_option Name.Feed Name.Watch e = absurd cc
+same_option Name.From Name.Net e = absurd cc
+same_option Name.From Name.Feed e = absurd cc
+same_option Name.From Name.From e = refl
+same_option Name.From Name.To e = absurd cc
+same_option Name.From Name.Watch e = absurd cc
 same_option Name.To Name.Net e = absurd cc
 same_option Name.To Name.Feed e = absurd cc
+same_option Name.To Name.From e = absurd cc
 same_option Name.To Name.To e = refl
 same_option Name.To Name.Watch e = absurd cc
 same_option Name.Watch Name.Net e = absurd cc
 same_option Name.Watch Name.Feed e = absurd cc
+same_option Name.Watch Name.From e = absurd cc
 same_option Name.Watch Name.To e = absurd cc
 same_option Name.Watch Name.Watch e = refl
 
 is_itself : (a : OptionName) → is_option a a ≡ true
 is_itself Name.Net = refl
 is_itself Name.Feed = refl
+is_itself Name.From = refl
 is_itself Name.To = refl
 is_itself Name.Watch = refl
 
@@ -38,18 +48,27 @@ is_itself Name.Watch = refl
 same_word : (a b : OptionName) → bytes_eq (word_of a) (word_of b) ≡ is_option b a
 same_word Name.Net Name.Net = refl
 same_word Name.Net Name.Feed = refl
+same_word Name.Net Name.From = refl
 same_word Name.Net Name.To = refl
 same_word Name.Net Name.Watch = refl
 same_word Name.Feed Name.Net = refl
 same_word Name.Feed Name.Feed = refl
+same_word Name.Feed Name.From = refl
 same_word Name.Feed Name.To = refl
 same_word Name.Feed Name.Watch = refl
+same_word Name.From Name.Net = refl
+same_word Name.From Name.Feed = refl
+same_word Name.From Name.From = refl
+same_word Name.From Name.To = refl
+same_word Name.From Name.Watch = refl
 same_word Name.To Name.Net = refl
 same_word Name.To Name.Feed = refl
+same_word Name.To Name.From = refl
 same_word Name.To Name.To = refl
 same_word Name.To Name.Watch = refl
 same_word Name.Watch Name.Net = refl
 same_word Name.Watch Name.Feed = refl
+same_word Name.Watch Name.From = refl
 same_word Name.Watch Name.To = refl
 same_word Name.Watch Name.Watch = refl
 
@@ -57,6 +76,7 @@ same_word Name.Watch Name.Watch = refl
 some_value : OptionName → List ℕ
 some_value Name.Net = 109 ∷ 97 ∷ 105 ∷ 110 ∷ []
 some_value Name.Feed = 0 ∷ []
+some_value Name.From = 0 ∷ []
 some_value Name.To = 0 ∷ []
 some_value Name.Watch = 0 ∷ []
 
@@ -64,6 +84,7 @@ takes_some : (name : OptionName) → takes name (some_value name) ≡ true
 unfolding some_value
 takes_some Name.Net = refl
 takes_some Name.Feed = refl
+takes_some Name.From = refl
 takes_some Name.To = refl
 takes_some Name.Watch = refl
 
@@ -75,6 +96,7 @@ is_some_map f (Some x) = refl
 put_takes : (name : OptionName) (value : List ℕ) (s : Settings) → is_some (put name value s) ≡ takes name value
 put_takes Name.Net value s = is_some_map _ (net_of value)
 put_takes Name.Feed value s = is_some_map _ (file_of value)
+put_takes Name.From value s = is_some_map _ (file_of value)
 put_takes Name.To value s = is_some_map _ (file_of value)
 put_takes Name.Watch value s = is_some_map _ (file_of value)
 
@@ -263,13 +285,53 @@ module _ {A : Type 0} (f : List ℕ → Option A) (n : OptionName) (is : (value 
           let it = ap (λ b. is_some (option_and_then f (option_map (λ g. g.value) (cond b (Some g) (find (λ g. is_option g.name n) gs))))) t in
           it ∙ more ∙ sym (ap (λ b. b || list_any (λ h. is_option h.name n) gs) t)
 
--- an option is taken exactly where one that excludes it is given
-barred_is : (before : List Given) (n : OptionName) → all_take before ≡ true → is_taken (settings_of before) n ≡ is_barred before n
+-- one of two tests that holds of some
+any_or : {A : Type 0} (p q : A → Bool) (xs : List A) → list_any (λ x. p x || q x) xs ≡ (list_any p xs || list_any q xs)
+any_or p q [] = refl
+any_or p q (x ∷ xs) = ap (λ r. (p x || q x) || r) (any_or p q xs) ∙ by (p x) (q x) (list_any p xs) (list_any q xs)
+  where
+    by : (a b c d : Bool) → ((a || b) || (c || d)) ≡ ((a || c) || (b || d))
+    by true b c d = refl
+    by false true true d = refl
+    by false true false d = refl
+    by false false c d = refl
+
+abbrev given_as : OptionName → List Given → Bool
+given_as n before = list_any (λ h. is_option h.name n) before
+
+module _ (before : List Given) (e : all_take before ≡ true) where
+  net_given : is_some (settings_of before).net ≡ given_as Name.Net before
+  net_given = has_value net_of Name.Net (λ value. refl) before e
+
+  from_given : is_some (settings_of before).from ≡ given_as Name.From before
+  from_given = has_value file_of Name.From (λ value. refl) before e
+
+  watch_given : is_some (settings_of before).watch ≡ given_as Name.Watch before
+  watch_given = has_value file_of Name.Watch (λ value. refl) before e
+
+  -- an option is taken exactly where one that excludes it is given
+  barred_is : (n : OptionName) → is_taken (settings_of before) n ≡ is_barred before n
+  unfolding is_barred
+  barred_is Name.Net = ap₂ (λ a b. a || b) net_given from_given ∙ sym (any_or (λ h. is_option h.name Name.Net) (λ h. is_option h.name Name.From) before)
+  barred_is Name.Feed = has_value file_of Name.Feed (λ value. refl) before e
+  barred_is Name.From =
+      ap₂ (λ a b. a || b) (ap₂ (λ a b. a || b) from_given net_given ∙ sym (any_or (λ h. is_option h.name Name.From) (λ h. is_option h.name Name.Net) before)) watch_given
+      ∙ sym (any_or (λ h. is_option h.name Name.From || is_option h.name Name.Net) (λ h. is_option h.name Name.Watch) before)
+  barred_is Name.To = has_value file_of Name.To (λ value. refl) before e
+  barred_is Name.Watch = ap₂ (λ a b. a || b) watch_given from_given ∙ sym (any_or (λ h. is_option h.name Name.Watch) (λ h. is_option h.name Name.From) before)
+
+-- what is not barred is not given
+not_given : (n : OptionName) (before : List Given) → is_barred before n ≡ false → given_as n before ≡ false
 unfolding is_barred
-barred_is before Name.Net e = has_value net_of Name.Net (λ value. refl) before e
-barred_is before Name.Feed e = has_value file_of Name.Feed (λ value. refl) before e
-barred_is before Name.To e = has_value file_of Name.To (λ value. refl) before e
-barred_is before Name.Watch e = has_value file_of Name.Watch (λ value. refl) before e
+not_given Name.Net before e = (or_parts (given_as Name.Net before) _ (sym (any_or (λ h. is_option h.name Name.Net) (λ h. is_option h.name Name.From) before) ∙ e)).0
+not_given Name.Feed before e = e
+not_given Name.From before e =
+    (or_parts (given_as Name.From before) _
+    (sym (any_or (λ h. is_option h.name Name.From) (λ h. is_option h.name Name.Net) before)
+    ∙ (or_parts (list_any (λ h. is_option h.name Name.From || is_option h.name Name.Net) before) _
+    (sym (any_or (λ h. is_option h.name Name.From || is_option h.name Name.Net) (λ h. is_option h.name Name.Watch) before) ∙ e)).0)).0
+not_given Name.To before e = e
+not_given Name.Watch before e = (or_parts (given_as Name.Watch before) _ (sym (any_or (λ h. is_option h.name Name.Watch) (λ h. is_option h.name Name.From) before) ∙ e)).0
 
 -- a value that an option takes is said with the others
 made : {A : Type 0} (x : Option A) (with : Option A → Settings) → is_some x ≡ true → option_map (λ value. with (Some value)) x ≡ Some (with x)
@@ -289,31 +351,40 @@ module _ (before : List Given) where
   other_value name other value e = ap (λ g. option_map (λ g. g.value) g) (find_other (λ g. is_option g.name other) before _ e)
 
   -- what is said with one option more, by the value of each
-  said_with : (a b c d : Option (List ℕ)) → Settings
-  said_with a b c d = record { net = option_and_then net_of a; feed = option_and_then file_of b; to = option_and_then file_of c; watch = option_and_then file_of d }
+  said_with : (a b c d e : Option (List ℕ)) → Settings
+  said_with a b c d e = record { net = option_and_then net_of a; feed = option_and_then file_of b; from = option_and_then file_of c; to = option_and_then file_of d; watch = option_and_then file_of e }
 
-  same_said : (a a' b b' c c' d d' : Option (List ℕ)) → a ≡ a' → b ≡ b' → c ≡ c' → d ≡ d' → said_with a b c d ≡ said_with a' b' c' d'
-  same_said a a' b b' c c' d d' p q r s = cc
+  same_said : (a a' b b' c c' d d' e e' : Option (List ℕ)) → a ≡ a' → b ≡ b' → c ≡ c' → d ≡ d' → e ≡ e' → said_with a b c d e ≡ said_with a' b' c' d' e'
+  same_said a a' b b' c c' d d' e e' p q r s t = cc
 
   -- putting an option goes on to what is said with it
   put_at : (name : OptionName) (value : List ℕ) → takes name value ≡ true → is_barred before name ≡ false → put name value (settings_of before) ≡ Some (settings_of (behind name value))
-  unfolding is_barred said_with
-  put_at Name.Net value took free =
+  unfolding said_with
+  put_at Name.Net value took barred =
       let s = settings_of before in
-      made (net_of value) (λ x. record { net = x; feed = s.feed; to = s.to; watch = s.watch }) took
-      ∙ ap Some (same_said _ _ _ _ _ _ _ _ (sym (last_value Name.Net value free)) (sym (other_value Name.Net Name.Feed value refl)) (sym (other_value Name.Net Name.To value refl)) (sym (other_value Name.Net Name.Watch value refl)))
-  put_at Name.Feed value took free =
+      let free = not_given Name.Net before barred in
+      made (net_of value) (λ x. record { net = x; feed = s.feed; from = s.from; to = s.to; watch = s.watch }) took
+      ∙ ap Some (same_said _ _ _ _ _ _ _ _ _ _ (sym (last_value Name.Net value free)) (sym (other_value Name.Net Name.Feed value refl)) (sym (other_value Name.Net Name.From value refl)) (sym (other_value Name.Net Name.To value refl)) (sym (other_value Name.Net Name.Watch value refl)))
+  put_at Name.Feed value took barred =
       let s = settings_of before in
-      made (file_of value) (λ x. record { net = s.net; feed = x; to = s.to; watch = s.watch }) took
-      ∙ ap Some (same_said _ _ _ _ _ _ _ _ (sym (other_value Name.Feed Name.Net value refl)) (sym (last_value Name.Feed value free)) (sym (other_value Name.Feed Name.To value refl)) (sym (other_value Name.Feed Name.Watch value refl)))
-  put_at Name.To value took free =
+      let free = not_given Name.Feed before barred in
+      made (file_of value) (λ x. record { net = s.net; feed = x; from = s.from; to = s.to; watch = s.watch }) took
+      ∙ ap Some (same_said _ _ _ _ _ _ _ _ _ _ (sym (other_value Name.Feed Name.Net value refl)) (sym (last_value Name.Feed value free)) (sym (other_value Name.Feed Name.From value refl)) (sym (other_value Name.Feed Name.To value refl)) (sym (other_value Name.Feed Name.Watch value refl)))
+  put_at Name.From value took barred =
       let s = settings_of before in
-      made (file_of value) (λ x. record { net = s.net; feed = s.feed; to = x; watch = s.watch }) took
-      ∙ ap Some (same_said _ _ _ _ _ _ _ _ (sym (other_value Name.To Name.Net value refl)) (sym (other_value Name.To Name.Feed value refl)) (sym (last_value Name.To value free)) (sym (other_value Name.To Name.Watch value refl)))
-  put_at Name.Watch value took free =
+      let free = not_given Name.From before barred in
+      made (file_of value) (λ x. record { net = s.net; feed = s.feed; from = x; to = s.to; watch = s.watch }) took
+      ∙ ap Some (same_said _ _ _ _ _ _ _ _ _ _ (sym (other_value Name.From Name.Net value refl)) (sym (other_value Name.From Name.Feed value refl)) (sym (last_value Name.From value free)) (sym (other_value Name.From Name.To value refl)) (sym (other_value Name.From Name.Watch value refl)))
+  put_at Name.To value took barred =
       let s = settings_of before in
-      made (file_of value) (λ x. record { net = s.net; feed = s.feed; to = s.to; watch = x }) took
-      ∙ ap Some (same_said _ _ _ _ _ _ _ _ (sym (other_value Name.Watch Name.Net value refl)) (sym (other_value Name.Watch Name.Feed value refl)) (sym (other_value Name.Watch Name.To value refl)) (sym (last_value Name.Watch value free)))
+      let free = not_given Name.To before barred in
+      made (file_of value) (λ x. record { net = s.net; feed = s.feed; from = s.from; to = x; watch = s.watch }) took
+      ∙ ap Some (same_said _ _ _ _ _ _ _ _ _ _ (sym (other_value Name.To Name.Net value refl)) (sym (other_value Name.To Name.Feed value refl)) (sym (other_value Name.To Name.From value refl)) (sym (last_value Name.To value free)) (sym (other_value Name.To Name.Watch value refl)))
+  put_at Name.Watch value took barred =
+      let s = settings_of before in
+      let free = not_given Name.Watch before barred in
+      made (file_of value) (λ x. record { net = s.net; feed = s.feed; from = s.from; to = s.to; watch = x }) took
+      ∙ ap Some (same_said _ _ _ _ _ _ _ _ _ _ (sym (other_value Name.Watch Name.Net value refl)) (sym (other_value Name.Watch Name.Feed value refl)) (sym (other_value Name.Watch Name.From value refl)) (sym (other_value Name.Watch Name.To value refl)) (sym (last_value Name.Watch value free)))
 
 -- ---- reading
 
@@ -325,7 +396,7 @@ module _ (options : List OptionName) where
   reads_all [] before at fit = ap (λ b. Ok (settings_of b)) (sym (append-nil before))
   reads_all (g ∷ gs) before at fit =
       let w = stands_at options before g gs fit in
-      let free = finds (settings_of before) g.name options w.had (barred_is before g.name w.front_takes ∙ w.free) in
+      let free = finds (settings_of before) g.name options w.had (barred_is before w.front_takes g.name ∙ w.free) in
       let puts = put_at before g.name g.value w.taken w.free in
       let assoc : (before ++ g ∷ []) ++ gs ≡ before ++ g ∷ gs = append_assoc before (g ∷ []) gs in
       let more = reads_all gs (before ++ g ∷ []) (at + 2) (subst (λ l. are_given options l ≡ true) (sym assoc) fit) in
@@ -382,7 +453,7 @@ module _ (options : List OptionName) where
     unfolding behind
     may_stand n value name e took =
         let found = is_free (settings_of before) n name options e in
-        let free = sym (barred_is before n (takes_of options before front)) ∙ found.free in
+        let free = sym (barred_is before (takes_of options before front) n) ∙ found.free in
         (given_more options before _ front found.had took free, found.named, free)
 
     stops_at_value : (n : OptionName) (name : List ℕ) (rest : List (List ℕ)) → free_option options (settings_of before) name ≡ Some n

@@ -7,7 +7,7 @@ use Rattle.uo_base.specs.declared.event.Net.{Net}
 use Rattle.command_words.specs.declared.words.WordFault.{WordFault}
 use Rattle.command_words.specs.Numbers.{number_in}
 use Rattle.command_words.specs.Options.{words_of, Settings, settings_of, nothing, needs, settings_from}
-use Rattle.command_words.specs.Words.{Asked, AskedGen, Task, Following, Proving, Generating, front_of, IsInRange, options_of, asked_by, Asks, Begins, Means, read_for, options_for, blocks_for, gen_for, command_of}
+use Rattle.command_words.specs.Words.{Asked, AskedGen, Task, Following, Proving, Auditing, Generating, front_of, IsInRange, options_of, asked_by, Asks, Begins, Means, read_for, options_for, blocks_for, gen_for, command_of}
 use Rattle.command_words.proofs.NumberLaws.{number_is, number_again}
 use Rattle.command_words.proofs.OptionLaws.{Sound, sound, reads_all}
 
@@ -185,6 +185,15 @@ follow_not_gen e = absurd (true≢false (ap (λ n. bytes_eq n (codes "follow")) 
 prove_not_gen : codes "prove" ≡ codes "gen" → ⊥
 prove_not_gen e = absurd (true≢false (ap (λ n. bytes_eq n (codes "prove")) e))
 
+audit_not_follow : codes "audit" ≡ codes "follow" → ⊥
+audit_not_follow e = absurd (true≢false (ap (λ n. bytes_eq n (codes "audit")) e))
+
+audit_not_prove : codes "audit" ≡ codes "prove" → ⊥
+audit_not_prove e = absurd (true≢false (ap (λ n. bytes_eq n (codes "audit")) e))
+
+audit_not_gen : codes "audit" ≡ codes "gen" → ⊥
+audit_not_gen e = absurd (true≢false (ap (λ n. bytes_eq n (codes "audit")) e))
+
 -- what begins with `follow`
 following : (words : List (List ℕ)) (asked : Asked) (a : Asks (front_of Following ++ words) asked) → IsOf Following words asked a
 following words asked a = by a.task refl a.spelled
@@ -192,6 +201,7 @@ following words asked a = by a.task refl a.spelled
     by : (task : Task) → a.task ≡ task → codes "follow" ∷ words ≡ front_of task ++ words_of a.given → IsOf Following words asked a
     by Following same e = record { same = same; rest = tail_is _ _ _ _ e }
     by Proving same e = absurd (follow_not_prove (head_is _ _ _ _ e))
+    by Auditing same e = absurd (audit_not_follow (sym (head_is _ _ _ _ e)))
     by (Generating number blocks) same e = absurd (follow_not_gen (head_is _ _ _ _ e))
 
 -- what begins with `prove`
@@ -201,7 +211,18 @@ proving words asked a = by a.task refl a.spelled
     by : (task : Task) → a.task ≡ task → codes "prove" ∷ words ≡ front_of task ++ words_of a.given → IsOf Proving words asked a
     by Following same e = absurd (follow_not_prove (sym (head_is _ _ _ _ e)))
     by Proving same e = record { same = same; rest = tail_is _ _ _ _ e }
+    by Auditing same e = absurd (audit_not_prove (sym (head_is _ _ _ _ e)))
     by (Generating number blocks) same e = absurd (prove_not_gen (head_is _ _ _ _ e))
+
+-- what begins with `audit`
+auditing : (words : List (List ℕ)) (asked : Asked) (a : Asks (front_of Auditing ++ words) asked) → IsOf Auditing words asked a
+auditing words asked a = by a.task refl a.spelled
+  where
+    by : (task : Task) → a.task ≡ task → codes "audit" ∷ words ≡ front_of task ++ words_of a.given → IsOf Auditing words asked a
+    by Following same e = absurd (audit_not_follow (head_is _ _ _ _ e))
+    by Proving same e = absurd (audit_not_prove (head_is _ _ _ _ e))
+    by Auditing same e = record { same = same; rest = tail_is _ _ _ _ e }
+    by (Generating number blocks) same e = absurd (audit_not_gen (head_is _ _ _ _ e))
 
 -- what begins with `gen`
 record IsGen (words : List (List ℕ)) (asked : Asked) (a : Asks (codes "gen" ∷ words) asked) : Type 0 where
@@ -217,6 +238,7 @@ gen_is words asked a = by a.task refl a.in_range a.spelled
     by : (task : Task) → a.task ≡ task → IsInRange task → codes "gen" ∷ words ≡ front_of task ++ words_of a.given → IsGen words asked a
     by Following same r e = absurd (follow_not_gen (sym (head_is _ _ _ _ e)))
     by Proving same r e = absurd (prove_not_gen (sym (head_is _ _ _ _ e)))
+    by Auditing same r e = absurd (audit_not_gen (sym (head_is _ _ _ _ e)))
     by (Generating number blocks) same r e = record { number = number; blocks = blocks; in_range = r; same = same; rest = tail_is _ _ _ _ e }
 
 -- ---- `gen`, with its numbers
@@ -274,13 +296,15 @@ means_gen (word ∷ rest) = by (number_in (2 ^ 64 - 1) word) refl
 -- ---- all words
 
 -- words that begin with no command
-module _ (name : List ℕ) (no_follow : bytes_eq name (codes "follow") ≡ false) (no_prove : bytes_eq name (codes "prove") ≡ false) (no_gen : bytes_eq name (codes "gen") ≡ false) where
+module _ (name : List ℕ) (no_follow : bytes_eq name (codes "follow") ≡ false) (no_prove : bytes_eq name (codes "prove") ≡ false) (no_audit : bytes_eq name (codes "audit") ≡ false)
+    (no_gen : bytes_eq name (codes "gen") ≡ false) where
   no_command : IsBarred (name ∷ [])
   no_command rest asked a = by a.task a.spelled
     where
       by : (task : Task) → name ∷ rest ≡ front_of task ++ words_of a.given → ⊥
       by Following e = absurd (true≢false (sym (ap (λ n. bytes_eq n (codes "follow")) (head_is _ _ _ _ e)) ∙ no_follow))
       by Proving e = absurd (true≢false (sym (ap (λ n. bytes_eq n (codes "prove")) (head_is _ _ _ _ e)) ∙ no_prove))
+      by Auditing e = absurd (true≢false (sym (ap (λ n. bytes_eq n (codes "audit")) (head_is _ _ _ _ e)) ∙ no_audit))
       by (Generating number blocks) e = absurd (true≢false (sym (ap (λ n. bytes_eq n (codes "gen")) (head_is _ _ _ _ e)) ∙ no_gen))
 
 no_words_at_all : (asked : Asked) → Asks [] asked → ⊥
@@ -289,6 +313,7 @@ no_words_at_all asked a = by a.task a.spelled
     by : (task : Task) → [] ≡ front_of task ++ words_of a.given → ⊥
     by Following e = absurd cc
     by Proving e = absurd cc
+    by Auditing e = absurd cc
     by (Generating number blocks) e = absurd cc
 
 pub means : (words : List (List ℕ)) → Means words (command_of words)
@@ -296,20 +321,31 @@ unfolding command_of
 means [] = missing [] begins_none no_words_at_all
 means (name ∷ rest) = by (bytes_eq name (codes "follow")) refl
   where
-    by_gen : bytes_eq name (codes "follow") ≡ false → bytes_eq name (codes "prove") ≡ false → (b : Bool) → bytes_eq name (codes "gen") ≡ b
+    by_gen : bytes_eq name (codes "follow") ≡ false → bytes_eq name (codes "prove") ≡ false → bytes_eq name (codes "audit") ≡ false → (b : Bool) → bytes_eq name (codes "gen") ≡ b
         → Means (name ∷ rest) (if b then gen_for rest else Err (record { at = 0 }))
-    by_gen f p true e = subst (λ n. Means (n ∷ rest) (gen_for rest)) (sym (same_text _ _ (sym e))) (means_gen rest)
-    by_gen f p false e = bad_word [] name rest begins_none (no_command name f p e)
+    by_gen f p a true e = subst (λ n. Means (n ∷ rest) (gen_for rest)) (sym (same_text _ _ (sym e))) (means_gen rest)
+    by_gen f p a false e = bad_word [] name rest begins_none (no_command name f p a e)
+
+    by_audit : bytes_eq name (codes "follow") ≡ false → bytes_eq name (codes "prove") ≡ false → (b : Bool) → bytes_eq name (codes "audit") ≡ b
+        → Means (name ∷ rest) (if b then options_for Auditing 1 rest else if bytes_eq name (codes "gen") then gen_for rest else Err (record { at = 0 }))
+    by_audit f p true e = subst (λ n. Means (n ∷ rest) (options_for Auditing 1 rest)) (sym (same_text _ _ (sym e))) (means_options Auditing tt auditing rest)
+    by_audit f p false e = by_gen f p e (bytes_eq name (codes "gen")) refl
 
     by_prove : bytes_eq name (codes "follow") ≡ false → (b : Bool) → bytes_eq name (codes "prove") ≡ b
-        → Means (name ∷ rest) (if b then options_for Proving 1 rest else if bytes_eq name (codes "gen") then gen_for rest else Err (record { at = 0 }))
+        → Means (name ∷ rest) (
+        if b then options_for Proving 1 rest
+        else if bytes_eq name (codes "audit") then options_for Auditing 1 rest
+        else if bytes_eq name (codes "gen") then gen_for rest
+        else Err (record { at = 0 })
+        )
     by_prove f true e = subst (λ n. Means (n ∷ rest) (options_for Proving 1 rest)) (sym (same_text _ _ (sym e))) (means_options Proving tt proving rest)
-    by_prove f false e = by_gen f e (bytes_eq name (codes "gen")) refl
+    by_prove f false e = by_audit f e (bytes_eq name (codes "audit")) refl
 
     by : (b : Bool) → bytes_eq name (codes "follow") ≡ b
         → Means (name ∷ rest) (
         if b then options_for Following 1 rest
         else if bytes_eq name (codes "prove") then options_for Proving 1 rest
+        else if bytes_eq name (codes "audit") then options_for Auditing 1 rest
         else if bytes_eq name (codes "gen") then gen_for rest
         else Err (record { at = 0 })
         )
@@ -326,4 +362,5 @@ most_blocks words net number blocks to m = by m.0.task m.0.in_range m.0.is
     by : (task : Task) → IsInRange task → AskedGen net number blocks to ≡ asked_by task (settings_of m.0.given) → blocks ≤ 100000
     by Following r e = absurd cc
     by Proving r e = absurd cc
+    by Auditing r e = absurd cc
     by (Generating number' blocks') r e = subst (λ b. b ≤ 100000) (sym (same _ _ _ _ _ _ _ _ e)) r.1

@@ -5,18 +5,29 @@ use Rattle.uo_base.specs.declared.event.Net.TheVariants.{Main}
 use Rattle.command_words.specs.declared.options.OptionName.{OptionName}
 use Rattle.command_words.specs.declared.options.OptionName.TheVariants as Name
 use Rattle.command_words.specs.declared.words.Command.{Command}
-use Rattle.command_words.specs.declared.words.Command.TheVariants.{Follow, Prove, Gen}
+use Rattle.command_words.specs.declared.words.Command.TheVariants.{Follow, Prove, Audit, Gen}
 use Rattle.command_words.specs.declared.words.WordFault.{WordFault}
 use Rattle.command_words.specs.Numbers.{number_in}
 use Rattle.command_words.specs.Options.{Given, are_given, words_of, Settings, settings_of, nothing, refused_at, needs, settings_from}
 
+-- what is named for a feed to follow: its network, its file, the file of the state to go on from, the file that takes the state at the end, and
+-- the file of the watch list
+pub record ToFollow : Type 0 where
+  pub net : Option Net
+  pub feed : Option (List ℕ)
+  pub from : Option (List ℕ)
+  pub to : Option (List ℕ)
+  pub watch : Option (List ℕ)
+
 -- what words ask for
 pub data Asked : Type 0 where
-  -- to follow a feed: the network and the feed's file, where they are named
-  AskedFollow : Option Net → Option (List ℕ) → Asked
+  -- to follow a feed
+  AskedFollow : ToFollow → Asked
   -- to prove a feed's blocks: its network, and where they are named the feed's file, the file that takes what is written, and the file of the
   -- watch list
   AskedProve : Net → (feed to watch : Option (List ℕ)) → Asked
+  -- to audit a feed: its network, and where they are named the feed's file and the file of the watch list
+  AskedAudit : Net → (feed watch : Option (List ℕ)) → Asked
   -- to generate a feed: its network, its number, its count of blocks, and the file that takes it, where one is named
   AskedGen : Net → (number blocks : ℕ) → Option (List ℕ) → Asked
 
@@ -29,28 +40,33 @@ net_for net = unwrap_or net Main
 pub data Task : Type 0 where
   Following : Task
   Proving : Task
+  Auditing : Task
   Generating : (number blocks : ℕ) → Task
 
 -- the words in front of the options
 abbrev pub front_of : Task → List (List ℕ)
 front_of Following = codes "follow" ∷ []
 front_of Proving = codes "prove" ∷ []
+front_of Auditing = codes "audit" ∷ []
 front_of (Generating number blocks) = codes "gen" ∷ decimal number ∷ decimal blocks ∷ []
 
 -- the numbers that a command takes
 abbrev pub IsInRange : Task → Type 0
 IsInRange Following = Unit {0}
 IsInRange Proving = Unit {0}
+IsInRange Auditing = Unit {0}
 IsInRange (Generating number blocks) = (number < 2 ^ 64) × (blocks ≤ 100000)
 
 abbrev pub options_of : Task → List OptionName
-options_of Following = Name.Net ∷ Name.Feed ∷ []
+options_of Following = Name.Net ∷ Name.Feed ∷ Name.From ∷ Name.To ∷ Name.Watch ∷ []
 options_of Proving = Name.Net ∷ Name.Feed ∷ Name.To ∷ Name.Watch ∷ []
+options_of Auditing = Name.Net ∷ Name.Feed ∷ Name.Watch ∷ []
 options_of (Generating number blocks) = Name.Net ∷ Name.To ∷ []
 
 abbrev pub asked_by : Task → Settings → Asked
-asked_by Following s = AskedFollow s.net s.feed
+asked_by Following s = AskedFollow (record { net = s.net; feed = s.feed; from = s.from; to = s.to; watch = s.watch })
 asked_by Proving s = AskedProve (net_for s.net) s.feed s.to s.watch
+asked_by Auditing s = AskedAudit (net_for s.net) s.feed s.watch
 asked_by (Generating number blocks) s = AskedGen (net_for s.net) number blocks s.to
 
 -- ---- which words are accepted
@@ -106,14 +122,16 @@ command_of [] = refused_at 0
 command_of (name ∷ rest) =
     if bytes_eq name (codes "follow") then options_for Following 1 rest
     else if bytes_eq name (codes "prove") then options_for Proving 1 rest
+    else if bytes_eq name (codes "audit") then options_for Auditing 1 rest
     else if bytes_eq name (codes "gen") then gen_for rest
     else refused_at 0
 
 -- ---- as the program holds them
 
 abbrev pub asked_in : Command → Asked
-asked_in (Follow net feed) = AskedFollow net (option_copied feed)
+asked_in (Follow net feed from to watch) = AskedFollow (record { net = net; feed = option_copied feed; from = option_copied from; to = option_copied to; watch = option_copied watch })
 asked_in (Prove net feed to watch) = AskedProve net (option_copied feed) (option_copied to) (option_copied watch)
+asked_in (Audit net feed watch) = AskedAudit net (option_copied feed) (option_copied watch)
 asked_in (Gen net number blocks to) = AskedGen net number blocks (option_copied to)
 
 abbrev pub read_as : Result Command WordFault → Result Asked WordFault

@@ -17,12 +17,15 @@ struct BadRow {
     at: u64,
 }
 
-const ROWS: [Row; 14] = [
+const ROWS: [Row; 18] = [
     Row {
         words: &["follow"],
         asked: Command::Follow {
             net: None,
             feed: None,
+            from: None,
+            to: None,
+            watch: None,
         },
     },
     Row {
@@ -30,6 +33,9 @@ const ROWS: [Row; 14] = [
         asked: Command::Follow {
             net: Some(Net::Main),
             feed: None,
+            from: None,
+            to: None,
+            watch: None,
         },
     },
     Row {
@@ -37,6 +43,9 @@ const ROWS: [Row; 14] = [
         asked: Command::Follow {
             net: Some(Net::Regtest),
             feed: None,
+            from: None,
+            to: None,
+            watch: None,
         },
     },
     // in both orders
@@ -45,6 +54,9 @@ const ROWS: [Row; 14] = [
         asked: Command::Follow {
             net: Some(Net::Regtest),
             feed: Some("blocks"),
+            from: None,
+            to: None,
+            watch: None,
         },
     },
     Row {
@@ -52,6 +64,9 @@ const ROWS: [Row; 14] = [
         asked: Command::Follow {
             net: Some(Net::Main),
             feed: Some("blocks"),
+            from: None,
+            to: None,
+            watch: None,
         },
     },
     // a file's name that begins with a dash, and one that is an option's
@@ -60,6 +75,9 @@ const ROWS: [Row; 14] = [
         asked: Command::Follow {
             net: None,
             feed: Some("-"),
+            from: None,
+            to: None,
+            watch: None,
         },
     },
     Row {
@@ -67,6 +85,9 @@ const ROWS: [Row; 14] = [
         asked: Command::Follow {
             net: None,
             feed: Some("--feed"),
+            from: None,
+            to: None,
+            watch: None,
         },
     },
     Row {
@@ -74,6 +95,29 @@ const ROWS: [Row; 14] = [
         asked: Command::Follow {
             net: Some(Net::Main),
             feed: Some("--net"),
+            from: None,
+            to: None,
+            watch: None,
+        },
+    },
+    Row {
+        words: &["follow", "--watch", "w", "--net", "regtest", "--to", "s"],
+        asked: Command::Follow {
+            net: Some(Net::Regtest),
+            feed: None,
+            from: None,
+            to: Some("s"),
+            watch: Some("w"),
+        },
+    },
+    Row {
+        words: &["follow", "--from", "s", "--feed", "f", "--to", "s"],
+        asked: Command::Follow {
+            net: None,
+            feed: Some("f"),
+            from: Some("s"),
+            to: Some("s"),
+            watch: None,
         },
     },
     // feeds to prove, with options in several orders
@@ -113,6 +157,23 @@ const ROWS: [Row; 14] = [
             watch: Some("w"),
         },
     },
+    // feeds to audit
+    Row {
+        words: &["audit"],
+        asked: Command::Audit {
+            net: Net::Main,
+            feed: None,
+            watch: None,
+        },
+    },
+    Row {
+        words: &["audit", "--watch", "w", "--net", "regtest", "--feed", "f"],
+        asked: Command::Audit {
+            net: Net::Regtest,
+            feed: Some("f"),
+            watch: Some("w"),
+        },
+    },
     // feeds to generate, with the greatest numbers
     Row {
         words: &["gen", "1", "0"],
@@ -142,7 +203,7 @@ const ROWS: [Row; 14] = [
     },
 ];
 
-const BAD_ROWS: [BadRow; 35] = [
+const BAD_ROWS: [BadRow; 39] = [
     // a command that is none, or behind another word
     BadRow {
         words: &["fly"],
@@ -217,10 +278,6 @@ const BAD_ROWS: [BadRow; 35] = [
     },
     // an option that is none, and words that are no option
     BadRow {
-        words: &["follow", "--from", "state"],
-        at: 1,
-    },
-    BadRow {
         words: &["follow", "--network", "main"],
         at: 1,
     },
@@ -262,8 +319,8 @@ const BAD_ROWS: [BadRow; 35] = [
         at: 3,
     },
     BadRow {
-        words: &["follow", "--watch", "w"],
-        at: 1,
+        words: &["follow", "--watch", "w", "--watch", "w"],
+        at: 3,
     },
     BadRow {
         words: &["prove", "--from", "s"],
@@ -285,11 +342,59 @@ const BAD_ROWS: [BadRow; 35] = [
         words: &["prove", "7"],
         at: 1,
     },
+    // of `audit`, which stores nothing
+    BadRow {
+        words: &["audits"],
+        at: 0,
+    },
+    BadRow {
+        words: &["audit", "--to", "a"],
+        at: 1,
+    },
+    BadRow {
+        words: &["audit", "--from", "s"],
+        at: 1,
+    },
+    BadRow {
+        words: &["audit", "--feed", "f", "--watch"],
+        at: 4,
+    },
+    BadRow {
+        words: &["audit", "--watch", "w", "--watch", "w"],
+        at: 3,
+    },
     // none
     BadRow { words: &[], at: 0 },
 ];
 
 /// Words that generate no feed, and where they go wrong.
+const BAD_STARTS: [BadRow; 6] = [
+    BadRow {
+        words: &["follow", "--from"],
+        at: 2,
+    },
+    BadRow {
+        words: &["follow", "--from", "s", "--from", "s"],
+        at: 3,
+    },
+    BadRow {
+        words: &["follow", "--from", "s", "--net", "main"],
+        at: 3,
+    },
+    BadRow {
+        words: &["follow", "--net", "main", "--from", "s"],
+        at: 3,
+    },
+    BadRow {
+        words: &["follow", "--from", "s", "--watch", "w"],
+        at: 3,
+    },
+    BadRow {
+        words: &["follow", "--watch", "w", "--from", "s"],
+        at: 3,
+    },
+];
+
 const BAD_NUMBERS: [BadRow; 20] = [
     BadRow {
         words: &["gen"],
@@ -368,8 +473,8 @@ const BAD_NUMBERS: [BadRow; 20] = [
         at: 5,
     },
     BadRow {
-        words: &["follow", "--to", "a"],
-        at: 1,
+        words: &["follow", "--to", "a", "--to"],
+        at: 3,
     },
 ];
 
@@ -404,6 +509,14 @@ fn accepted_words(rt: HostRuntime) -> Result<(), Fail> {
 #[test]
 fn refused_words(rt: HostRuntime) -> Result<(), Fail> {
     for row in &BAD_ROWS {
+        check_bad_row(&rt, rt.alloc(), row)?;
+    }
+    Ok(())
+}
+
+#[test]
+fn words_with_a_state_and_more(rt: HostRuntime) -> Result<(), Fail> {
+    for row in &BAD_STARTS {
         check_bad_row(&rt, rt.alloc(), row)?;
     }
     Ok(())

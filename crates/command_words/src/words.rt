@@ -16,6 +16,12 @@ pub enum Command<'a> {
         net: Option<Net>,
         /// The file of the feed, where it is named; else standard input.
         feed: Option<&'a str>,
+        /// The file of the state to go on from, where it is named. Network and watch list are those of the state then.
+        from: Option<&'a str>,
+        /// The file that takes the state at the end, where it is named.
+        to: Option<&'a str>,
+        /// The file of the watch list, where it is named; else nothing is watched.
+        watch: Option<&'a str>,
     },
     /// Prove a feed's blocks, and write them with their proofs.
     Prove {
@@ -26,6 +32,15 @@ pub enum Command<'a> {
         /// The file that takes the blocks with their proofs, where it is named.
         to: Option<&'a str>,
         /// The file of the watch list for which proofs are lean, where it is named.
+        watch: Option<&'a str>,
+    },
+    /// Judge a feed by all outputs and the proofs beside its blocks, up to the first forged one.
+    Audit {
+        /// The network, mainnet where none is named.
+        net: Net,
+        /// The file of the feed, where it is named; else standard input.
+        feed: Option<&'a str>,
+        /// The file of the watch list by which lean proofs are read, where it is named.
         watch: Option<&'a str>,
     },
     /// Generate a feed.
@@ -49,7 +64,13 @@ pub struct WordFault {
     pub at: u64,
 }
 
-const FOLLOW: [OptionName; 2] = [OptionName::Net, OptionName::Feed];
+const FOLLOW: [OptionName; 5] = [
+    OptionName::Net,
+    OptionName::Feed,
+    OptionName::From,
+    OptionName::To,
+    OptionName::Watch,
+];
 
 const PROVE: [OptionName; 4] = [
     OptionName::Net,
@@ -57,6 +78,8 @@ const PROVE: [OptionName; 4] = [
     OptionName::To,
     OptionName::Watch,
 ];
+
+const AUDIT: [OptionName; 3] = [OptionName::Net, OptionName::Feed, OptionName::Watch];
 
 const GEN: [OptionName; 2] = [OptionName::Net, OptionName::To];
 
@@ -88,6 +111,9 @@ fn command_in(words: &[String]) -> Result<Command<'_>, WordFault>
             Ok(Command::Follow {
                 net: given.net,
                 feed: given.feed,
+                from: given.from,
+                to: given.to,
+                watch: given.watch,
             })
         }
         "prove" => {
@@ -96,6 +122,14 @@ fn command_in(words: &[String]) -> Result<Command<'_>, WordFault>
                 net: given.net.unwrap_or(Net::Main),
                 feed: given.feed,
                 to: given.to,
+                watch: given.watch,
+            })
+        }
+        "audit" => {
+            let given = read_options(&AUDIT, 1, Options::none(), rest)?;
+            Ok(Command::Audit {
+                net: given.net.unwrap_or(Net::Main),
+                feed: given.feed,
                 watch: given.watch,
             })
         }

@@ -1,19 +1,22 @@
 -- From the order in which the loop over a feed writes to what is stored before what is printed.
-use Rattle.std.proofs.Common.{◌≡◌, ◌⊎◌, inl, inr, ℕ, ◌+◌, ◌<◌, ◌≤◌, true, List, [], ◌∷◌, ◌++◌, length, Option, Some, None, is_some, refl, sym, ap, subst, ◌∙◌, arith, append_assoc, append-nil, length-append}
+use Rattle.std.proofs.Common.{◌≡◌, ◌⊎◌, inl, inr, ℕ, ◌<◌, true, List, [], ◌∷◌, ◌++◌, length, Option, Some, None, is_some, refl, sym, ap, subst, ◌∙◌, arith, append_assoc, append-nil, length-append}
 use Rattle.std.specs.Io.KnownBytes.{Appends}
 use Rattle.std.proofs.KnownBytes.{Appends-nil, Appends-trans}
 use Rattle.std.proofs.lemmas.List.{append_cancel_left}
 use Rattle.uo_base.specs.declared.event.Net.{Net}
 use Rattle.uo_base.specs.FeedEvent.{FeedEvent}
 use Rattle.uo_base.specs.Moved.{AppendsPart}
-use Rattle.uo_base.proofs.PortLemmas.{told_text, Tells-told_text, AppendsPart-none}
+use Rattle.uo_base.proofs.PortLemmas.{told_text, Tells-told_text, AppendsPart-none, AppendsPart-whole}
 use Rattle.feed_frame.specs.declared.fault.FeedFault.{FeedFault}
 use Rattle.feed_frame.specs.Events.{events_of}
 use Rattle.feed_frame.specs.Machine.{after, written}
-use Rattle.feed_frame.specs.Streamed.{SendsFirst}
+use Rattle.feed_frame.specs.Streamed.{SendsFirst, WritesPart}
 use Rattle.feed_frame.proofs.Progress.{written-append}
+use Rattle.feed_run.specs.Answer.{Answer}
 use Rattle.feed_run.specs.Machine.{Machine, goes, says, sends, said_by, sent_by, TakesAll}
-use Rattle.utreexo.specs.Order.{GrowsFrom, StoresFirst}
+use Rattle.utreexo.specs.Answers.{bad_end, last_of, served_feed}
+use Rattle.utreexo.specs.Order.{GrowsFrom, StoresFirst, StoresAtEnd}
+use Rattle.utreexo.proofs.ServeLemmas.{sent_is}
 
 -- ---- fronts of one list
 
@@ -136,3 +139,41 @@ sends-none m start net limit feed report out = record {
   reported = inl (AppendsPart-none report []);
   sent = Appends-nil out;
 }
+
+-- ---- what is stored at the end of a feed, before what is printed there
+
+-- not all events were taken
+pub part-last : {S : Type 0} (m : Machine S) (start : S) (net : Net) (limit : ℕ) (feed report report' out out' : Option (List ℕ)) → WritesPart (goes m) (says m) (sends m) start net limit feed report report' out out'
+    → StoresAtEnd (λ text. said_by m start (events_of net limit text).events) (served_feed m start net limit) feed report report' out out'
+part-last m start net limit feed report report' out out' w = record { text = w.text; told = w.told; order = inl w.reported }
+
+module _ {S : Type 0} (m : Machine S) (start : S) (net : Net) (limit : ℕ) (feed report report' report'' out out' out'' : Option (List ℕ)) where
+  abbrev lines_of_all : List ℕ → List ℕ
+  lines_of_all text = said_by m start (events_of net limit text).events
+
+  -- all were
+  module _ (state : S) (ending : Option FeedFault) (t : TakesAll m start net limit state feed report report' out out' ending) (is : Answer) (e : is ≡ last_of (m.at_end state) (bad_end ending)) where
+    pub took-last : Appends report' report'' [] ⊎ Appends out' out'' is.out → StoresAtEnd lines_of_all (served_feed m start net limit) feed report report'' out out''
+    took-last (inl none) = record {
+      text = t.text;
+      told = t.told;
+      order = inl (AppendsPart-whole report report'' _ (subst (Appends report report'') (append-nil _) (Appends-trans report report' report'' _ _ t.reported none)));
+    }
+    took-last (inr all) = record {
+      text = t.text;
+      told = t.told;
+      order = inr (subst (Appends out out'') (sym (sent_is m start net limit feed report report' report'' out out' out'' state ending t is e)) (Appends-trans out out' out'' _ _ t.sent all));
+    }
+
+-- nothing was written
+pub last-none : (lines : List ℕ → List ℕ) (answer : List ℕ → Answer) (feed report out : Option (List ℕ)) → StoresAtEnd lines answer feed report report out out
+last-none lines answer feed report out = record { text = told_text feed; told = Tells-told_text feed; order = inl (AppendsPart-none report _) }
+
+-- by other names of what is printed and stored
+pub last-same : (lines lines' : List ℕ → List ℕ) (answer answer' : List ℕ → Answer) (feed report report' out out' : Option (List ℕ)) → ((text : List ℕ) → lines text ≡ lines' text)
+    → ((text : List ℕ) → answer text ≡ answer' text) → StoresAtEnd lines answer feed report report' out out' → StoresAtEnd lines' answer' feed report report' out out'
+last-same lines lines' answer answer' feed report report' out out' same_lines same_answer s = record { text = s.text; told = s.told; order = by s.order }
+  where
+    by : AppendsPart report report' (lines s.text) ⊎ Appends out out' (answer s.text).out → AppendsPart report report' (lines' s.text) ⊎ Appends out out' (answer' s.text).out
+    by (inl part) = inl (subst (AppendsPart report report') (same_lines s.text) part)
+    by (inr all) = inr (subst (λ a. Appends out out' a.out) (same_answer s.text) all)

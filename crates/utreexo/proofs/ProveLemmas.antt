@@ -1,5 +1,5 @@
 -- What `prove` writes of a feed is what a bridge says and passes on, and that is what the proving node says and passes on.
-use Rattle.std.proofs.Common.{◌≡◌, ℕ, suc, ◌+◌, ◌<◌, ◌^◌, Bool, true, false, cond, ◌||◌, List, [], ◌∷◌, ◌++◌, length, map, Option, Some, None, Result, Ok, Err, IfOk, OnOk, refl, sym, ap, subst, ◌∙◌, arith, length-append}
+use Rattle.std.proofs.Common.{◌≡◌, ℕ, suc, ◌+◌, ◌<◌, ◌^◌, Bool, true, false, cond, ◌||◌, List, [], ◌∷◌, ◌++◌, length, map, Option, Some, Result, Ok, Err, IfOk, OnOk, refl, sym, ap, subst, ◌∙◌, arith, length-append}
 use Rattle.std.specs.List.{flat_map, list_any, AllByRecursion}
 use Rattle.std.specs.Io.KnownBytes.{Appends}
 use Rattle.std.proofs.lemmas.List.{map-append}
@@ -9,7 +9,6 @@ use Rattle.uo_base.specs.FeedEvent.{FeedEvent, BlockCame, RollbackCame, StrayCam
 use Rattle.uo_base.specs.Moved.{AppendsPart}
 use Rattle.uo_digest.specs.declared.digest.Digest.{Digest}
 use Rattle.leaf_record.specs.Leaf.{leaf_text}
-use Rattle.block_rules.specs.declared.chain.Chain.{Chain}
 use Rattle.block_rules.specs.declared.verdict.Verdict.{Verdict}
 use Rattle.feed_frame.specs.Events.{events_of}
 use Rattle.feed_frame.specs.FeedText.{event_text, feed_text}
@@ -19,8 +18,8 @@ use Rattle.feed_run.specs.Answer.{Answer}
 use Rattle.feed_run.specs.Machine.{goes, says, sends, left_by, said_by, sent_by}
 use Rattle.node_rules.specs.Fitting.{AreEventBytes}
 use Rattle.node_rules.specs.Judging.{Rules}
-use Rattle.node_rules.specs.Machine.{ChainEvent, start, event_in, is_made, own_judge}
-use Rattle.node_rules.specs.Proving.{proved_events, CanBeWritten}
+use Rattle.node_rules.specs.Machine.{ChainEvent, event_in, is_made}
+use Rattle.node_rules.specs.Proving.{CanBeWritten}
 use Rattle.node_rules.proofs.Proving.{events_short}
 use Rattle.bridge_prover.specs.Bridge.{BridgeState, fresh_bridge, verdict_on, next_bridge, message_on}
 use Rattle.bridge_prover.specs.Throughout.{verdicts_on, bridge_after, passed_by, passed_by_bridge}
@@ -32,8 +31,8 @@ use Rattle.utreexo.specs.Within.{Ends, StaysWithin}
 use Rattle.utreexo.specs.Follow.{line_of, rules_of}
 use Rattle.utreexo.specs.Machine.{follow_end, is_refused}
 use Rattle.utreexo.specs.Order.{ProvesFirst}
-use Rattle.utreexo.specs.Proving.{proving_text, proving_verdicts, proving_chain}
-use Rattle.utreexo.specs.Prover.{ProverState, fresh_prover, proved_of, next_prover, proved_line, beside, made_frames, proved_frames, prove_machine, prove_answer, IsReached}
+use Rattle.utreexo.specs.Proving.{proving_text, proving_verdicts}
+use Rattle.utreexo.specs.Prover.{ProverState, fresh_prover, proved_of, next_prover, proved_line, beside, proved_frames, prove_machine, prove_answer, IsReached}
 use Rattle.utreexo.proofs.FollowLemmas.{or_none, or_again}
 use Rattle.utreexo.proofs.OrderLemmas.{stores-first, StoresFirst-same}
 

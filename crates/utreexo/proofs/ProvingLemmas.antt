@@ -1,5 +1,6 @@
 -- What a proving node writes is followed.
 use Rattle.std.proofs.Common.{◌≡◌, ◌⊎◌, inl, inr, ℕ, suc, ◌<◌, ◌≤◌, ◌^◌, Bool, false, cond, is_some, List, [], ◌∷◌, ◌++◌, length, map, Option, Some, None, refl, sym, ap, subst, ◌∙◌, arith}
+use Rattle.std.specs.Prelude.{unwrap_or}
 use Rattle.std.specs.List.{flat_map, list_any, AllByRecursion}
 use Rattle.std.proofs.lemmas.Bool.{and_parts}
 use Rattle.std.proofs.lemmas.List.{length-map, map-append}
@@ -22,21 +23,23 @@ use Rattle.feed_run.specs.Answer.{Answer}
 use Rattle.feed_run.specs.declared.status.Status.TheVariants.{InputLimit}
 use Rattle.node_rules.specs.Fitting.{AreEventBytes}
 use Rattle.node_rules.specs.Judging.{Rules}
+use Rattle.node_rules.specs.Laws.{Serves}
 use Rattle.node_rules.specs.Machine.{ChainEvent, BlockCame, RollbackCame, StrayCame, Outcome, State, start, chain_of, event_in, own_judge, full_judge, step, verdict_before, goes_on, verdicts, state_after, never_stops, is_made, proof_feed, kept_verdicts}
 use Rattle.node_rules.specs.Proving.{passed_on, proved_events, IsShortMessage, CanBeWritten}
 use Rattle.node_rules.proofs.Proving.{events_again, events_short}
 use Rattle.compact_node.specs.Node.{NodeState, next_node}
-use Rattle.compact_node.specs.Node as Node
 use Rattle.compact_node.specs.Throughout.{verdicts_on, node_after, AreHonest}
 use Rattle.compact_node.specs.Following as Fresh
 use Rattle.compact_node.proofs.Following.{fresh_follows_proving}
-use Rattle.compact_node.proofs.Throughout.{verdicts_on-append}
+use Rattle.compact_node.specs.State.{stored_text}
+use Rattle.compact_node.proofs.Throughout.{verdicts_on-append, fresh-node}
 use Rattle.report_lines.specs.declared.line.Line.TheVariants as Line
 use Rattle.utreexo.specs.Answers.{answer_with}
-use Rattle.utreexo.specs.Follow.{line_of, follow_answer, rules_of, AreTrue}
+use Rattle.utreexo.specs.Follow.{line_of, follow_answer, full_text, fresh_for, rules_of, AreTrue}
 use Rattle.report_lines.specs.Lines.{whole_line}
-use Rattle.utreexo.specs.Machine.{follow_end, is_refused}
-use Rattle.utreexo.specs.Proving.{proving_text, proving_verdicts, proving_chain, answer_made, IsFollowed, IsFollowedTo, IsWritten, FollowsProving}
+use Rattle.utreexo.specs.Machine.{end_by, is_refused}
+use Rattle.utreexo.specs.Proving.{proving_text, proving_verdicts, proving_chain, proving_state, answer_made, IsFollowed, IsFollowedTo, IsWritten, FollowsProving}
+use Rattle.utreexo.proofs.FollowLemmas.{stores_full}
 
 -- ---- what can be written has frames
 
@@ -77,17 +80,17 @@ strays_said : (H : List ℕ → Digest) (s : NodeState) (strays : List FeedEvent
 strays_said H s strays (inl e) = inl (ap (λ es. verdicts_on H leaf_text s (map event_in es)) e)
 strays_said H s strays (inr e) = inr (ap (λ es. verdicts_on H leaf_text s (map event_in es)) e)
 
-strays_honest : (H : List ℕ → Digest) (rules : Rules) (strays : List FeedEvent) → (strays ≡ []) ⊎ (strays ≡ Feed.StrayCame ∷ []) → (t : State) → AreHonest H leaf_text [] rules t (map event_in strays)
-strays_honest H rules strays (inl e) t = subst (λ es. AreHonest H leaf_text [] rules t (map event_in es)) (sym e) refl
-strays_honest H rules strays (inr e) t = subst (λ es. AreHonest H leaf_text [] rules t (map event_in es)) (sym e) refl
+strays_honest : (H : List ℕ → Digest) (scripts : List (List ℕ)) (rules : Rules) (strays : List FeedEvent) → (strays ≡ []) ⊎ (strays ≡ Feed.StrayCame ∷ []) → (t : State) → AreHonest H leaf_text scripts rules t (map event_in strays)
+strays_honest H scripts rules strays (inl e) t = subst (λ es. AreHonest H leaf_text scripts rules t (map event_in es)) (sym e) refl
+strays_honest H scripts rules strays (inr e) t = subst (λ es. AreHonest H leaf_text scripts rules t (map event_in es)) (sym e) refl
 
-honest_to : (H : List ℕ → Digest) (rules : Rules) (front later : List ChainEvent) (strays : List FeedEvent) → (strays ≡ []) ⊎ (strays ≡ Feed.StrayCame ∷ []) → (t : State)
-    → AreHonest H leaf_text [] rules t (front ++ later) → AreHonest H leaf_text [] rules t (front ++ map event_in strays)
-honest_to H rules [] later strays one t h = strays_honest H rules strays one t
-honest_to H rules (e ∷ es) later strays one t h =
-    let o = step rules (full_judge H leaf_text [] rules) t e in
-    let parts = and_parts (is_some o.verdict) (never_stops rules (full_judge H leaf_text [] rules) o.state (es ++ later)) h in
-    rw parts.0 (honest_to H rules es later strays one o.state parts.1)
+honest_to : (H : List ℕ → Digest) (scripts : List (List ℕ)) (rules : Rules) (front later : List ChainEvent) (strays : List FeedEvent) → (strays ≡ []) ⊎ (strays ≡ Feed.StrayCame ∷ []) → (t : State)
+    → AreHonest H leaf_text scripts rules t (front ++ later) → AreHonest H leaf_text scripts rules t (front ++ map event_in strays)
+honest_to H scripts rules [] later strays one t h = strays_honest H scripts rules strays one t
+honest_to H scripts rules (e ∷ es) later strays one t h =
+    let o = step rules (full_judge H leaf_text scripts rules) t e in
+    let parts = and_parts (is_some o.verdict) (never_stops rules (full_judge H leaf_text scripts rules) o.state (es ++ later)) h in
+    rw parts.0 (honest_to H scripts rules es later strays one o.state parts.1)
 
 -- what is answered where the feed goes on past the limit
 abbrev answer_to_limit : ℕ → List Verdict → Answer
@@ -95,7 +98,7 @@ answer_to_limit most vs = record { status = InputLimit; report = flat_map line_o
 
 -- ---- how many bytes it may read changes nothing of what a proving node does
 
-module _ (net : Net) (limits : Limits) (most : ℕ) where
+module _ (watch : Option (List (List ℕ))) (net : Net) (limits : Limits) (most : ℕ) where
   abbrev mine : Rules
   mine = rules_of limits net
 
@@ -120,25 +123,28 @@ module _ (net : Net) (limits : Limits) (most : ℕ) where
       let o = step mine own_judge s e in
       ap (λ (x : Outcome). goes_on x.verdict s (state_after other own_judge x.state es)) (same_step s e) ∙ ap (goes_on o.verdict s) (same_state es o.state)
 
-  same_proved : (H : List ℕ → Digest) (events : List FeedEvent) (s : State) → proved_events H leaf_text None other s events ≡ proved_events H leaf_text None mine s events
+  same_proved : (H : List ℕ → Digest) (events : List FeedEvent) (s : State) → proved_events H leaf_text watch other s events ≡ proved_events H leaf_text watch mine s events
   same_proved H [] s = refl
   same_proved H (event ∷ events) s =
       let o = step mine own_judge s (event_in event) in
-      let made = λ (x : Outcome) (later : List FeedEvent). cond (is_made x.verdict) (passed_on H leaf_text None s.now event ∷ later) later in
-      ap (λ (x : Outcome). made x (proved_events H leaf_text None other x.state events)) (same_step s (event_in event)) ∙ ap (made o) (same_proved H events o.state)
+      let made = λ (x : Outcome) (later : List FeedEvent). cond (is_made x.verdict) (passed_on H leaf_text watch s.now event ∷ later) later in
+      ap (λ (x : Outcome). made x (proved_events H leaf_text watch other x.state events)) (same_step s (event_in event)) ∙ ap (made o) (same_proved H events o.state)
 
 -- ---- the run
 
-module _ (H : List ℕ → Digest) (long : (x : List ℕ) → length (H x).0 ≡ 32) (limits : Limits) (net : Net) (few : limits.leaves < 2 ^ 40) (short : limits.bytes ≤ 2 ^ 48) where
-  abbrev node : NodeState
-  node = Node.fresh_node net limits []
+module _ (H : List ℕ → Digest) (long : (x : List ℕ) → length (H x).0 ≡ 32) (limits : Limits) (net : Net) (few : limits.leaves < 2 ^ 40) (short : limits.bytes ≤ 2 ^ 48) (list : Option (List (List ℕ))) where
+  abbrev scripts : List (List ℕ)
+  scripts = unwrap_or list []
 
-  module _ (events : List FeedEvent) (all : AllByRecursion AreEventBytes events) (feed : List ℕ) where
+  abbrev node : NodeState
+  node = fresh_for limits net list
+
+  module _ (watch : Option (List (List ℕ))) (serves : Serves watch scripts) (events : List FeedEvent) (all : AllByRecursion AreEventBytes events) (feed : List ℕ) where
     abbrev proved : List FeedEvent
-    proved = proved_events H leaf_text None (rules_of limits net) start events
+    proved = proved_events H leaf_text watch (rules_of limits net) start events
 
     abbrev came : List ChainEvent
-    came = proof_feed H leaf_text None (rules_of limits net) start (map event_in events)
+    came = proof_feed H leaf_text watch (rules_of limits net) start (map event_in events)
 
     abbrev made : List Verdict
     made = kept_verdicts (proving_verdicts (rules_of limits net) events)
@@ -146,40 +152,51 @@ module _ (H : List ℕ → Digest) (long : (x : List ℕ) → length (H x).0 ≡
     read : length feed ≤ limits.bytes → feed ≡ feed_text net proved → HasEvents net limits.bytes feed proved
     read room is =
         subst (λ f. HasEvents net limits.bytes f proved) (sym is)
-        (feed_read net limits.bytes proved (all_framed proved (events_short H leaf_text long (rules_of limits net) few None events all)) (subst (λ f. length f ≤ limits.bytes) is room))
+        (feed_read net limits.bytes proved (all_framed proved (events_short H leaf_text long (rules_of limits net) few watch events all)) (subst (λ f. length f ≤ limits.bytes) is room))
 
     again : map event_in proved ≡ came
-    again = events_again H leaf_text long (rules_of limits net) few None events all
+    again = events_again H leaf_text long (rules_of limits net) few watch events all
 
-    follows : Fresh.SaysAsProving H leaf_text None (rules_of limits net) node (map event_in events)
-    follows = fresh_follows_proving H leaf_text net limits [] few short None tt (map event_in events)
+    follows : Fresh.SaysAsProving H leaf_text watch (rules_of limits net) node (map event_in events)
+    follows = fresh_follows_proving H leaf_text net limits scripts few short watch serves (map event_in events)
 
     as_many : length proved ≡ length made
     as_many = sym (length-map proved event_in) ∙ ap length again ∙ sym (verdicts-long H node came) ∙ ap length follows.said
 
-    abbrev answer_by : List Verdict → Chain → (count : ℕ) → (refused : Bool) → Option FeedFault → Answer
-    answer_by vs chain count refused ending = answer_with (flat_map line_of vs) [] (follow_end refused count chain) ending
+    abbrev answer_by : List Verdict → Chain → (stored : List ℕ) → (count : ℕ) → (refused : Bool) → Option FeedFault → Answer
+    answer_by vs chain stored count refused ending = answer_with (flat_map line_of vs) [] (end_by refused count chain stored) ending
 
     abbrev answer_to : List ChainEvent → (count : ℕ) → Option FeedFault → Answer
-    answer_to es count ending = let vs = verdicts_on H leaf_text node es in answer_by vs (node_after H leaf_text node es).newest.chain count (list_any is_refused vs) ending
+    answer_to es count ending =
+        let vs = verdicts_on H leaf_text node es in
+        let last = node_after H leaf_text node es in
+        answer_by vs last.newest.chain (stored_text last) count (list_any is_refused vs) ending
 
-    followed : length feed ≤ limits.bytes → feed ≡ feed_text net proved → IsFollowed H limits net (rules_of limits net) events feed
+    abbrev then : State
+    then = proving_state (rules_of limits net) events
+
+    stored : stored_text (node_after H leaf_text node came) ≡ full_text H scripts (rules_of limits net) then
+    stored = stores_full H node came then (fresh-node H leaf_text net limits scripts few short) follows.stands
+
+    followed : length feed ≤ limits.bytes → feed ≡ feed_text net proved → IsFollowed H node (rules_of limits net) events feed
     unfolding follow_answer
     followed room is =
         let r = read room is in
         let f = follows in
         let ending = (events_of net limits.bytes feed).ending in
         let chain = proving_chain (rules_of limits net) events in
-        let last = (node_after H leaf_text node came).newest.chain in
+        let last = node_after H leaf_text node came in
+        let text = full_text H scripts (rules_of limits net) then in
         record {
-          honest = subst (λ es. AreTrue H limits net es) (sym r.all) (subst (AreHonest H leaf_text [] (rules_of limits net) start) (sym again) f.honest);
+          honest = subst (λ es. AreTrue H scripts (rules_of limits net) start es) (sym r.all) (subst (AreHonest H leaf_text scripts (rules_of limits net) start) (sym again) f.honest);
           answer =
               ap (λ es. answer_to (map event_in es) (length es) ending) r.all ∙ ap (answer_to (map event_in proved) (length proved)) r.ends
               ∙ ap (λ es. answer_to es (length proved) None) again
-              ∙ ap (λ vs. answer_by vs last (length proved) (list_any is_refused vs) None) f.said
-              ∙ ap (λ c. answer_by made c (length proved) (list_any is_refused made) None) f.stands.newest.chain
-              ∙ ap (λ n. answer_by made chain n (list_any is_refused made) None) as_many
-              ∙ ap (λ b. answer_by made chain (length made) b None) (none_refused (proving_verdicts (rules_of limits net) events));
+              ∙ ap (λ vs. answer_by vs last.newest.chain (stored_text last) (length proved) (list_any is_refused vs) None) f.said
+              ∙ ap (λ c. answer_by made c (stored_text last) (length proved) (list_any is_refused made) None) f.stands.newest.chain
+              ∙ ap (λ w. answer_by made chain w (length proved) (list_any is_refused made) None) stored
+              ∙ ap (λ n. answer_by made chain text n (list_any is_refused made) None) as_many
+              ∙ ap (λ b. answer_by made chain text (length made) b None) (none_refused (proving_verdicts (rules_of limits net) events));
         }
 
     -- past the limit
@@ -187,9 +204,9 @@ module _ (H : List ℕ → Digest) (long : (x : List ℕ) → length (H x).0 ≡
       read_to : HasFirstEvents net limits.bytes feed proved
       read_to =
           subst (λ f. HasFirstEvents net limits.bytes f proved) (sym is)
-          (feed_cut net limits.bytes proved (all_framed proved (events_short H leaf_text long (rules_of limits net) few None events all)) (subst (λ f. limits.bytes < length f) is past))
+          (feed_cut net limits.bytes proved (all_framed proved (events_short H leaf_text long (rules_of limits net) few watch events all)) (subst (λ f. limits.bytes < length f) is past))
 
-      followed_to : IsFollowedTo H limits net (rules_of limits net) events feed
+      followed_to : IsFollowedTo H node (rules_of limits net) events feed
       unfolding follow_answer
       followed_to =
           let r = read_to in
@@ -201,9 +218,9 @@ module _ (H : List ℕ → Digest) (long : (x : List ℕ) → length (H x).0 ≡
           let then = node_after H leaf_text node front in
           let halves : came ≡ front ++ later = sym again ∙ ap (map event_in) r.split ∙ map-append event_in r.front r.later in
           record {
-            honest = subst (λ es. AreTrue H limits net es) (sym r.all)
-                (subst (AreHonest H leaf_text [] (rules_of limits net) start) (sym (map-append event_in r.front r.strays))
-                (honest_to H (rules_of limits net) front later r.strays r.one start (subst (AreHonest H leaf_text [] (rules_of limits net) start) halves f.honest)));
+            honest = subst (λ es. AreTrue H scripts (rules_of limits net) start es) (sym r.all)
+                (subst (AreHonest H leaf_text scripts (rules_of limits net) start) (sym (map-append event_in r.front r.strays))
+                (honest_to H scripts (rules_of limits net) front later r.strays r.one start (subst (AreHonest H leaf_text scripts (rules_of limits net) start) halves f.honest)));
             front = verdicts_on H leaf_text node front;
             later = verdicts_on H leaf_text then later;
             split = sym f.said ∙ ap (verdicts_on H leaf_text node) halves ∙ verdicts_on-append H leaf_text node front later;
@@ -217,35 +234,38 @@ module _ (H : List ℕ → Digest) (long : (x : List ℕ) → length (H x).0 ≡
 
   -- ---- whatever the proving node may read
 
-  module _ (proving : Limits) (events : List FeedEvent) (feed : List ℕ) (w : IsWritten H limits net proving events feed) where
+  module _ (proving : Limits) (watch : Option (List (List ℕ))) (events : List FeedEvent) (feed : List ℕ) (w : IsWritten H node proving watch events feed) where
     abbrev mixed : Limits
     mixed = record { leaves = limits.leaves; bytes = proving.bytes }
 
     same_limits : mixed ≡ proving
     same_limits = ap (λ n. let l : Limits = record { leaves = n; bytes = proving.bytes } in l) (sym w.leaves)
 
-    text_is : feed ≡ feed_text net (proved_events H leaf_text None (rules_of limits net) start events)
+    text_is : feed ≡ feed_text net (proved_events H leaf_text watch (rules_of limits net) start events)
     unfolding proving_text
-    text_is = w.text ∙ ap (λ l. feed_text net (proved_events H leaf_text None (rules_of l net) start events)) (sym same_limits) ∙ ap (feed_text net) (same_proved net limits proving.bytes H events start)
+    text_is = w.text ∙ ap (λ l. feed_text net (proved_events H leaf_text watch (rules_of l net) start events)) (sym same_limits) ∙ ap (feed_text net) (same_proved watch net limits proving.bytes H events start)
 
     abbrev kept_by : Limits → List Verdict
     kept_by l = kept_verdicts (proving_verdicts (rules_of l net) events)
 
     kept_is : kept_by limits ≡ kept_by proving
-    kept_is = ap kept_verdicts (sym (same_verdicts net limits proving.bytes (map event_in events) start)) ∙ ap kept_by same_limits
+    kept_is = ap kept_verdicts (sym (same_verdicts watch net limits proving.bytes (map event_in events) start)) ∙ ap kept_by same_limits
 
-    chain_is : proving_chain (rules_of limits net) events ≡ proving_chain (rules_of proving net) events
-    chain_is = ap (λ (t : State). chain_of t.now) (sym (same_state net limits proving.bytes (map event_in events) start)) ∙ ap (λ l. proving_chain (rules_of l net) events) same_limits
+    state_is : proving_state (rules_of limits net) events ≡ proving_state (rules_of proving net) events
+    state_is = sym (same_state watch net limits proving.bytes (map event_in events) start) ∙ ap (λ l. proving_state (rules_of l net) events) same_limits
 
-    whole : length feed ≤ limits.bytes → IsFollowed H limits net (rules_of proving net) events feed
+    abbrev made_by : State → Answer
+    made_by t = answer_made (kept_by proving) (chain_of t.now) (full_text H scripts (rules_of limits net) t)
+
+    whole : length feed ≤ limits.bytes → IsFollowed H node (rules_of proving net) events feed
     whole room =
-        let f = followed events w.bytes feed room text_is in
-        record { honest = f.honest; answer = f.answer ∙ ap (λ vs. answer_made vs (proving_chain (rules_of limits net) events)) kept_is ∙ ap (answer_made (kept_by proving)) chain_is }
+        let f = followed watch w.serves events w.bytes feed room text_is in
+        record { honest = f.honest; answer = f.answer ∙ ap (λ vs. answer_made vs (proving_chain (rules_of limits net) events) (full_text H scripts (rules_of limits net) (proving_state (rules_of limits net) events))) kept_is ∙ ap made_by state_is }
 
-    cut : limits.bytes < length feed → IsFollowedTo H limits net (rules_of proving net) events feed
+    cut : limits.bytes < length feed → IsFollowedTo H node (rules_of proving net) events feed
     cut past =
-        let f = followed_to events w.bytes feed past text_is in
+        let f = followed_to watch w.serves events w.bytes feed past text_is in
         record { honest = f.honest; front = f.front; later = f.later; split = sym kept_is ∙ f.split; strays = f.strays; one = f.one; answer = f.answer }
 
-  pub follows-proving : (feed : List ℕ) → FollowsProving H limits net feed
-  follows-proving feed = record { whole = λ proving events w room. whole proving events feed w room; cut = λ proving events w past. cut proving events feed w past }
+  pub follows-proving : (feed : List ℕ) → FollowsProving H node feed
+  follows-proving feed = record { whole = λ proving watch events w room. whole proving watch events feed w room; cut = λ proving watch events w past. cut proving watch events feed w past }

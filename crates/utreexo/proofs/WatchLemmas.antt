@@ -1,5 +1,5 @@
 -- A watch list that is read, and what is answered with it.
-use Rattle.std.proofs.Common.{◌≡◌, ℕ, ◌<◌, ◌≤◌, nat_lt, ◌-◌, take, Bool, true, false, List, [], ◌++◌, length, Some, None, Result, Ok, Err, IfOk, OnOk, refl, sym, ap, subst, ◌∙◌, arith, if◌then◌else◌}
+use Rattle.std.proofs.Common.{◌≡◌, ℕ, ◌≤◌, ◌-◌, take, Bool, true, false, List, [], ◌++◌, length, None, Result, Ok, Err, IfOk, OnOk, sym, ap, subst, ◌∙◌, arith, if◌then◌else◌}
 use Rattle.std.specs.declared.option.Option.{Option}
 use Rattle.std.specs.Io.KnownBytes.{Appends}
 use Rattle.std.proofs.lemmas.Bool.{lt-ltb, le-ltb}
@@ -57,7 +57,7 @@ lists-read named limit left text e told short (Err fault) is = tt
 
 -- ---- what is answered
 
-IfOk-any : {T E : Type 0} (P : T → Type 0) → ((x : T) → P x) → (r : Result T E) → IfOk r P
+pub IfOk-any : {T E : Type 0} (P : T → Type 0) → ((x : T) → P x) → (r : Result T E) → IfOk r P
 IfOk-any P p (Ok x) = p x
 IfOk-any P p (Err e) = tt
 

@@ -6,7 +6,7 @@ use Rattle.uo_base.specs.Files.{sink_name}
 use Rattle.utreexo.specs.declared.any_sink.AnySink.{AnySink}
 use Rattle.utreexo.specs.declared.any_sink.AnySink.TheVariants.{File, Quiet}
 use Rattle.command_words.specs.declared.words.WordFault.{WordFault}
-use Rattle.command_words.specs.Words.{Asked, AskedFollow, AskedProve, AskedGen}
+use Rattle.command_words.specs.Words.{Asked, AskedFollow, AskedProve, AskedAudit, AskedGen}
 
 -- what is said of the sink that is held
 abbrev pub of_kind : {R F D A : Type 0} → (FileSink R F D → A) → (QuietSink → A) → AnySink R F D → A
@@ -21,7 +21,8 @@ IsFileOrQuiet name sink = ⊥
 
 -- what is stored goes to the file that the words name, and nowhere else
 abbrev pub IsOutOf : {R F D : Type 0} → Result Asked WordFault → AnySink R F D → Type 0
-IsOutOf (Ok (AskedFollow net feed)) sink = IsFileOrQuiet None sink
+IsOutOf (Ok (AskedFollow f)) sink = IsFileOrQuiet f.to sink
 IsOutOf (Ok (AskedProve net feed to watch)) sink = IsFileOrQuiet to sink
+IsOutOf (Ok (AskedAudit net feed watch)) sink = IsFileOrQuiet None sink
 IsOutOf (Ok (AskedGen net number blocks to)) sink = IsFileOrQuiet to sink
 IsOutOf (Err fault) sink = IsFileOrQuiet None sink

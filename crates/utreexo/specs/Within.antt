@@ -2,14 +2,17 @@
 use Rattle.std.specs.Prelude.{◌≡◌, ℕ, List}
 use Rattle.std.specs.declared.option.Option.{Option}
 use Rattle.std.specs.Io.KnownBytes.{Appends}
+use Rattle.uo_base.specs.declared.event.Limits.{Limits}
 use Rattle.uo_base.specs.Moved.{AppendsPart}
 use Rattle.uo_base.specs.Told.{Tells}
+use Rattle.uo_digest.specs.declared.digest.Digest.{Digest}
 use Rattle.chain_gen.specs.declared.fault.GenFault.{GenFault}
 use Rattle.chain_gen.specs.declared.fault.GenFault.TheVariants as Fault
 use Rattle.feed_run.specs.Answer.{Answer}
 use Rattle.feed_run.specs.declared.status.Status.{Status}
 use Rattle.feed_run.specs.declared.stop.Stop.{Stop}
 use Rattle.utreexo.specs.Runs.{Inputs, Agrees, IsGiven, IsBegun}
+use Rattle.utreexo.specs.Starting.{MayStart}
 
 -- ---- of an answer to the feed alone
 
@@ -50,15 +53,17 @@ pub record StaysOver (answer : (whole feed : List ℕ) → Answer) (whole feed r
 -- ---- of an answer to all inputs
 
 -- the call gave the whole answer
-pub record EndsRun (answer : Inputs → Answer) (feed prior watch report report' out out' : Option (List ℕ)) (status : Status) : Type 0 where
+pub record EndsRun (H : List ℕ → Digest) (limits : Limits) (answer : Inputs → Answer) (feed prior watch report report' out out' : Option (List ℕ)) (status : Status) : Type 0 where
   pub inputs : Inputs
   pub told : Agrees feed prior watch inputs
+  pub begins : MayStart H limits inputs.prior inputs.begun
   pub given : IsGiven (answer inputs) report report' out out' status
 
 -- or a part of it
-pub record StaysWithinRun (answer : Inputs → Answer) (feed prior watch report report' out out' : Option (List ℕ)) : Type 0 where
+pub record StaysWithinRun (H : List ℕ → Digest) (limits : Limits) (answer : Inputs → Answer) (feed prior watch report report' out out' : Option (List ℕ)) : Type 0 where
   pub inputs : Inputs
   pub told : Agrees feed prior watch inputs
+  pub begins : MayStart H limits inputs.prior inputs.begun
   pub begun : IsBegun (answer inputs) report report' out out'
 
 -- ---- why it stops

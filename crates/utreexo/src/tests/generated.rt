@@ -50,7 +50,10 @@ const ROWS: [Row; 4] = [
     },
 ];
 
-/// The last line of a follower in Python over the feed of `gen 9 51`.
+/// What is live and what was issued over the feed of `gen 9 51`.
+const SUPPLY_LINE: &[u8] = b"supply 240000000000 issued 245000000000\n";
+
+/// The last line of a follower in Python over it.
 const LAST_LINE: &[u8] =
     b"end 52 48 8e335d39d887cd211aeefd80e4e917b9c601c565a44682ed25df967531521528 48\n";
 
@@ -123,5 +126,20 @@ fn a_young_chain_is_followed(rt: HostRuntime) -> Result<(), Fail> {
     let told = run_on::<Brand>(rt.alloc(), &["follow"], &made.out, &[], Blank::new(1))?;
     assert_eq!(rt; told.status, Status::AllAccepted);
     assert!(rt; told.report.as_slice().ends_with(LAST_LINE));
+    Ok(())
+}
+
+// It is audited with the same lines, and what is live is less than what was issued by the first block's coin.
+#[test]
+fn a_young_chain_is_audited(rt: HostRuntime) -> Result<(), Fail> {
+    let made = run_on::<Brand>(rt.alloc(), &["gen", "9", "51"], &[], &[], Blank::new(1))?;
+    let told = run_on::<Brand>(rt.alloc(), &["audit"], &made.out, &[], Blank::new(1))?;
+    assert_eq!(rt; told.status, Status::AllAccepted);
+    let lines = told
+        .report
+        .as_slice()
+        .strip_suffix(LAST_LINE)
+        .ok_or("a last line")?;
+    assert!(rt; lines.ends_with(SUPPLY_LINE));
     Ok(())
 }

@@ -129,5 +129,28 @@ fn a_generated_chain_is_proved_and_followed(rt: HostRuntime) -> Result<(), Fail>
     assert!(rt; made.out.len() < proved.out.len());
     assert_eq!(rt; told.status, Status::AllAccepted);
     assert!(rt; told.report.as_slice() == proved.report.as_slice());
+    check_audited::<Brand>(&rt, alloc, &proved, Blank::new(1))
+}
+
+// What was proved is audited with the same lines, with one more before the last.
+fn check_audited<L: Ledger>(
+    rt: &impl Abort,
+    alloc: Global,
+    proved: &Outcome,
+    blank: Blank,
+) -> Result<(), Fail>
+    requires name { blank.name ≡ L.name }
+    requires parts { blank.parts ≡ L.parts }
+    requires some { 0 < blank.parts }
+{
+    let told = run_on::<L>(alloc, &["audit"], &proved.out, blank)?;
+    assert_eq!(rt; told.status, Status::AllAccepted);
+    let lines = told.report.as_slice();
+    let same = lines
+        .iter()
+        .zip(proved.report.iter())
+        .take_while(|pair| pair.0 == pair.1)
+        .count();
+    assert!(rt; lines.get(same..).unwrap_or(&[]).starts_with(b"supply "));
     Ok(())
 }

@@ -1,4 +1,4 @@
-use Rattle.std.proofs.Common.{Ok, Err, refl, subst}
+use Rattle.std.proofs.Common.{refl, subst}
 use Rattle.utreexo.specs.Prover.{prove_answer, fresh_prover, prove_machine}
 use Rattle.utreexo.specs.Watching.{IsListOf}
 use Rattle.utreexo.proofs.OrderLemmas.{sends-none}

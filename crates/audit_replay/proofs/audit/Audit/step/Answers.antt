@@ -1,4 +1,4 @@
-use Rattle.std.proofs.Common.{ℕ, Bool, sym, ap, ap₂, ◌∙◌, subst}
+use Rattle.std.proofs.Common.{Bool, sym, ap, ap₂, ◌∙◌, subst}
 use Rattle.std.specs.Prelude.{is_none}
 use Rattle.uo_base.specs.FeedEvent.{event_of}
 use Rattle.leaf_record.specs.Leaf.{leaf_text}

@@ -1,4 +1,4 @@
-use Rattle.std.proofs.Common.{ℕ, List, ◌++◌, ap, ◌∙◌}
+use Rattle.std.proofs.Common.{◌++◌, ap, ◌∙◌}
 use Rattle.std.specs.Prelude.{option_map}
 use Rattle.uo_base.specs.FeedEvent.{event_of}
 use Rattle.utreexo.specs.Prover.{ProverState, made_frames, proved_of, proved_frames}
