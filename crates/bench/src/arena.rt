@@ -108,7 +108,8 @@ fn bare_digests(entries: u64, rounds: u64) -> u64
     digests
 }
 
-fn digest_alone<L: Ledger>(count: u64, steps: &mut Steps<L>) -> Digest {
+/// So many digests, one after the other.
+pub fn digest_alone<L: Ledger>(count: u64, steps: &mut Steps<L>) -> Digest {
     let mut digest = Digest([1; 32]);
     for _ in 0..count {
         digest = pair::<Sha512t256, L>(digest, digest, steps);

@@ -273,6 +273,47 @@ fn others(cache: &Cache<Sha512t256>, parts: &Parts) -> (u64, u64) {
     (other, none)
 }
 
+/// What a block changes in a cache: digests that are other or gone, places that had none, and places of kept entries.
+#[derive(Clone, Copy)]
+struct Changed {
+    kept: usize,
+    held: usize,
+    lost: u64,
+    gained: u64,
+    moved: u64,
+}
+
+impl Changed {
+    fn bytes(self) -> u64 {
+        48 * self.lost.min(1 << 40) + 16 * self.gained.min(1 << 40) + 24 * self.moved.min(1 << 40)
+    }
+}
+
+fn mark_between<L: Ledger>(
+    alloc: Global,
+    cache: &mut Cache<Sha512t256>,
+    roots: &Roots<Sha512t256>,
+    proof: &Proof,
+    kept: u64,
+    steps: &mut Steps<L>,
+) -> Option<Changed> {
+    let older = cache.seen().copy(alloc).ok()?;
+    let mut scratch = Scratch::new(alloc);
+    let mut then = roots.copy();
+    let mark = cached_block(alloc, cache, &mut then, proof, &mut scratch, kept, steps)?;
+    let newer = cache.seen().copy(alloc).ok()?;
+    let (lost, _) = others(cache, &older);
+    undo(cache, mark);
+    let (_, gained) = others(cache, &newer);
+    Some(Changed {
+        kept: older.kept.len(),
+        held: older.held.len(),
+        lost,
+        gained,
+        moved: moved_between(&older.kept, &newer.kept),
+    })
+}
+
 // What a mark has: the digests that the block changed, and places that had none or where kept entries stood.
 fn measure_mark<R: Print, L: Ledger>(
     rt: &R,
@@ -283,27 +324,66 @@ fn measure_mark<R: Print, L: Ledger>(
     kept: u64,
     steps: &mut Steps<L>,
 ) -> io::Result<()> {
-    let mut scratch = Scratch::new(alloc);
-    let Ok(older) = cache.seen().copy(alloc) else {
-        return println!(rt; "  no memory");
-    };
-    let mut then = roots.copy();
-    let Some(mark) = cached_block(alloc, cache, &mut then, proof, &mut scratch, kept, steps) else {
+    let Some(mark) = mark_between(alloc, cache, roots, proof, kept, steps) else {
         return println!(rt; "  no block");
     };
-    let Ok(newer) = cache.seen().copy(alloc) else {
-        return println!(rt; "  no memory");
-    };
-    let (lost, _) = others(cache, &older);
-    let moved = moved_between(&older.kept, cache.kept());
-    undo(cache, mark);
-    let (_, gained) = others(cache, &newer);
-    let bytes = 48 * lost.min(1 << 40) + 16 * gained.min(1 << 40) + 24 * moved.min(1 << 40);
     println!(rt;
-        "  {} kept, {} digests; a mark has {lost} digests, {gained} places and {moved} of entries, {bytes} bytes",
-        older.kept.len(),
-        older.held.len()
+        "  {} kept, {} digests; a mark has {} digests, {} places and {} of entries, {} bytes",
+        mark.kept,
+        mark.held,
+        mark.lost,
+        mark.gained,
+        mark.moved,
+        mark.bytes()
     )
+}
+
+/// How long some blocks took without a cache and with one, and the way back; and how many were accepted.
+#[derive(Clone, Copy)]
+struct Times {
+    bare: Duration,
+    cached: Duration,
+    back: Duration,
+    done: u64,
+}
+
+fn time_bare<R: CpuClock, L: Ledger>(
+    rt: &R,
+    alloc: Global,
+    roots: &Roots<Sha512t256>,
+    proof: &Proof,
+    times: &mut Times,
+    steps: &mut Steps<L>,
+) -> io::Result<()> {
+    let mut scratch = Scratch::new(alloc);
+    let mut then = roots.copy();
+    let mut watch = Stopwatch::start(rt)?;
+    let accepted = bare_block(alloc, &mut then, proof, &mut scratch, steps);
+    times.bare = times.bare.saturating_add(watch.lap(rt)?);
+    times.done = times.done.saturating_add(u64::from(accepted));
+    Ok(())
+}
+
+fn time_cached<R: CpuClock, L: Ledger>(
+    rt: &R,
+    alloc: Global,
+    cache: &mut Cache<Sha512t256>,
+    roots: &Roots<Sha512t256>,
+    proof: &Proof,
+    kept: u64,
+    times: &mut Times,
+    steps: &mut Steps<L>,
+) -> io::Result<()> {
+    let mut scratch = Scratch::new(alloc);
+    let mut then = roots.copy();
+    let mut watch = Stopwatch::start(rt)?;
+    let mark = cached_block(alloc, cache, &mut then, proof, &mut scratch, kept, steps);
+    times.cached = times.cached.saturating_add(watch.lap(rt)?);
+    if let Some(mark) = mark {
+        undo(cache, mark);
+        times.back = times.back.saturating_add(watch.lap(rt)?);
+    }
+    Ok(())
 }
 
 fn measure_blocks<R: CpuClock + Print, L: Ledger>(
@@ -315,32 +395,22 @@ fn measure_blocks<R: CpuClock + Print, L: Ledger>(
     kept: u64,
     steps: &mut Steps<L>,
 ) -> io::Result<()> {
-    let mut scratch = Scratch::new(alloc);
-    let mut bare = Duration::ZERO;
-    let mut cached = Duration::ZERO;
-    let mut back = Duration::ZERO;
-    let mut done: u64 = 0;
-    let mut watch = Stopwatch::start(rt)?;
+    let mut times = Times {
+        bare: Duration::ZERO,
+        cached: Duration::ZERO,
+        back: Duration::ZERO,
+        done: 0,
+    };
     for _ in 0..ROUNDS {
-        let mut then = roots.copy();
-        let _ = watch.lap(rt)?;
-        let accepted = bare_block(alloc, &mut then, proof, &mut scratch, steps);
-        bare = bare.saturating_add(watch.lap(rt)?);
-        let mut then = roots.copy();
-        let _ = watch.lap(rt)?;
-        let mark = cached_block(alloc, cache, &mut then, proof, &mut scratch, kept, steps);
-        cached = cached.saturating_add(watch.lap(rt)?);
-        if let Some(mark) = mark {
-            undo(cache, mark);
-            back = back.saturating_add(watch.lap(rt)?);
-            done = done.saturating_add(u64::from(accepted));
-        }
+        time_bare(rt, alloc, roots, proof, &mut times, steps)?;
+        time_cached(rt, alloc, cache, roots, proof, kept, &mut times, steps)?;
     }
     println!(rt;
-        "{BLOCK} deletions and additions, {done} times: {} us, with a cache {} us, back {} us",
-        bare.as_micros(),
-        cached.as_micros(),
-        back.as_micros()
+        "{BLOCK} deletions and additions, {} times: {} us, with a cache {} us, back {} us",
+        times.done,
+        times.bare.as_micros(),
+        times.cached.as_micros(),
+        times.back.as_micros()
     )
 }
 
