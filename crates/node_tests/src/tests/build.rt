@@ -1,7 +1,8 @@
 //! Blocks with outputs that anyone can spend: the coinbase of height 41 by another script than all the rest.
-ghost use Rattle.std.specs.Prelude.{◌≡◌, length, IfOk};
+ghost use Rattle.std.specs.Prelude.{IfOk};
 ghost use Rattle.tx_codec.specs.Transaction.{IsWritable};
 
+use crate::script_of;
 use block_samples::{Sample, block_behind, coinbase, legacy_tx};
 use std::alloc::Global;
 use std::test::Fail;
@@ -11,13 +12,6 @@ use uo_digest::Digest;
 /// A transaction with one input: the outpoint that it spends, and the amounts of its outputs.
 #[derive(Clone, Copy)]
 pub struct Sketch<'a>(pub Digest, pub u32, pub &'a [u64]);
-
-/// The script of the outputs that a block of this height makes.
-pub fn script_of(height: u32) -> &'static [u8]
-    ensures { length result.now ≡ 1 }
-{
-    if height == 41 { b"\x52" } else { b"\x51" }
-}
 
 fn outputs_of(
     alloc: Global,

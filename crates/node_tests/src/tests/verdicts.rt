@@ -1,8 +1,9 @@
 //! Small chains of blocks, with a proof made from a plain forest.
 ghost use Rattle.std.specs.Prelude.{◌≡◌, ◌<◌, ◌^◌};
 
-use super::build::{Sketch, build, script_of};
+use super::build::{Sketch, build};
 use super::pair::{End, FULL, NONE, follow};
+use crate::script_of;
 use block_rules::{ProofRefusal, Refusal, Verdict};
 use block_samples::{GENESIS, GENESIS_HASH, Sample};
 use compact_node::{Node, compact_is_full, fresh_stands, next_is_node, verdicts_tell_levels};
