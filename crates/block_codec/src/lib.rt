@@ -21,5 +21,3 @@ pub use reading::read_block;
 pub use witness::{commitment, witness_root};
 pub use writing::{one_block, write_block};
 
-#[cfg(test)]
-mod tests;

@@ -24,8 +24,6 @@ mod shape;
 mod spends;
 mod steps;
 mod sums;
-#[cfg(test)]
-mod tests;
 mod verdict;
 mod walk;
 mod witness;

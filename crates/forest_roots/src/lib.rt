@@ -5,8 +5,6 @@ mod inner;
 mod joins;
 mod laws;
 mod roots;
-#[cfg(test)]
-mod tests;
 
 pub use inner::pair;
 pub use joins::{Join, Joins};

@@ -13,8 +13,6 @@ mod order;
 mod shape;
 mod survey;
 mod targets;
-#[cfg(test)]
-mod tests;
 mod wrong;
 
 pub use fault::ShapeFault;

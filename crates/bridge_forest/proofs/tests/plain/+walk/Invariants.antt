@@ -1,4 +1,0 @@
-use Rattle.bridge_forest.proofs.tests.plain.+walk.Given as goal
-
-abbrev pub decreases-walk : goal.decreases-walk
-decreases-walk g l = l.row

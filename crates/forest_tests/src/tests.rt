@@ -1,0 +1,4 @@
+mod arena;
+mod deletions;
+mod roots;
+mod targets;

@@ -1,4 +1,0 @@
-use Rattle.proof_verify.proofs.tests.covers_of_four.Given as goal
-
-abbrev pub ghosts-check_covered : goal.ghosts-check_covered
-ghosts-check_covered g a = record { name = a.blank.name; parts = a.blank.parts }
