@@ -1,0 +1,98 @@
+-- The prior state that the words may name: what is read of it, and how a run goes on from there.
+use Rattle.std.specs.Prelude.{◌≡◌, ◌⊎◌, ℕ, ◌<◌, ◌≤◌, Bool, true, false, List, [], length, map, Some, None, Result, Ok, Err, IfSome}
+use Rattle.std.specs.declared.option.Option.{Option}
+use Rattle.std.specs.List.{AllByRecursion}
+use Rattle.uo_base.specs.declared.event.Limits.{Limits}
+use Rattle.uo_base.specs.declared.event.Net.{Net}
+use Rattle.uo_base.specs.FeedEvent.{FeedEvent}
+use Rattle.uo_base.specs.Told.{Tells}
+use Rattle.uo_digest.specs.declared.digest.Digest.{Digest}
+use Rattle.leaf_record.specs.Leaf.{leaf_text}
+use Rattle.leaf_cache.specs.Watched.{AreWatched}
+use Rattle.node_rules.specs.Fitting.{AreEventBytes}
+use Rattle.node_rules.specs.Machine.{start, event_in}
+use Rattle.state_text.specs.Fits.{IsState}
+use Rattle.state_text.specs.Stored.{StateValue, IsOfVersion, state_text}
+use Rattle.compact_node.specs.Node.{NodeState, IsNode}
+use Rattle.compact_node.specs.State.{IsReadAs}
+use Rattle.compact_node.specs.Throughout.{full_after}
+use Rattle.feed_run.specs.Answer.{Answer}
+use Rattle.feed_run.specs.declared.status.Status.TheVariants as Status
+use Rattle.report_lines.specs.declared.line.Line.TheVariants as Line
+use Rattle.node_commands.specs.declared.bad_input.BadInput.{BadInput}
+use Rattle.node_commands.specs.Answers.{said}
+use Rattle.node_commands.specs.Follow.{follow_answer, full_text, rules_of, AreTrue, IsAsOfFull}
+
+-- ---- what is read
+
+-- a node, or why the text can not be used
+abbrev pub Start : Type 0
+Start = Result NodeState BadInput
+
+-- the node that a text of at most so many bytes says, with these limits
+pub record IsNodeOf (H : List ℕ → Digest) (limits : Limits) (text : List ℕ) (node : NodeState) : Type 0 where
+  pub short : length text ≤ limits.bytes
+  pub reads : IsReadAs H text node
+  pub limits_are : node.rules.limits ≡ limits
+  pub is : IsNode node
+
+-- the text has more bytes
+pub record IsLong (limits : Limits) (text : List ℕ) (bad : BadInput) : Type 0 where
+  pub long : limits.bytes < length text
+  pub is : bad ≡ record { status = Status.InputLimit; line = Line.LimitPrior limits.bytes }
+
+-- it is that of another version
+pub record IsOther (limits : Limits) (text : List ℕ) (bad : BadInput) : Type 0 where
+  pub short : length text ≤ limits.bytes
+  pub version : ℕ
+  pub other : IsOfVersion version text
+  pub is : bad ≡ record { status = Status.Prior; line = Line.PriorVersion version }
+
+-- it is that of no state of any version
+pub record IsNone (H : List ℕ → Digest) (limits : Limits) (text : List ℕ) (bad : BadInput) : Type 0 where
+  pub short : length text ≤ limits.bytes
+  pub none : (s : StateValue) → IsState H limits.leaves s → text ≡ state_text s → ⊥
+  pub no_other : (version : ℕ) → IsOfVersion version text → ⊥
+  pub is : bad ≡ record { status = Status.Prior; line = Line.PriorForm }
+
+abbrev pub IsStart : (List ℕ → Digest) → Limits → List ℕ → Start → Type 0
+IsStart H limits text (Ok node) = IsNodeOf H limits text node
+IsStart H limits text (Err bad) = IsLong limits text bad ⊎ IsOther limits text bad ⊎ IsNone H limits text bad
+
+-- this was made of the text that is told
+pub record IsStartOf (H : List ℕ → Digest) (limits : Limits) (left : Option (List ℕ)) (begun : Start) : Type 0 where
+  pub text : List ℕ
+  pub told : Tells left text
+  pub is : IsStart H limits text begun
+
+-- ---- what is answered
+
+-- by the node, or the one line that says why there is none
+abbrev pub start_answer : (List ℕ → Digest) → Start → List ℕ → Answer
+start_answer H (Ok node) feed = follow_answer H node feed
+start_answer H (Err bad) feed = said bad.status bad.line
+
+-- The same where the run may have been stopped before the state was read: then nothing is written. No run that goes on has this status.
+abbrev pub begun_answer : (List ℕ → Digest) → Option Start → List ℕ → Answer
+begun_answer H None feed = record { status = Status.NoMemory; report = []; out = [] }
+begun_answer H (Some begun) feed = start_answer H begun feed
+
+-- this was read of the prior state, unless the run was stopped before
+abbrev pub MayStart : (List ℕ → Digest) → Limits → List ℕ → Option Start → Type 0
+MayStart H limits text None = Unit {0}
+MayStart H limits text (Some begun) = IsStart H limits text begun
+
+-- of a run that goes on from a prior state, and of one from the start
+abbrev pub Resumed : (resumed : Bool) → (goes_on fresh : Type 0) → Type 0
+Resumed true goes_on fresh = goes_on
+Resumed false goes_on fresh = fresh
+
+-- The state of a node that holds every output and watches these scripts, after any events from its start of which no proof is forged: a run that
+-- goes on from it answers what that node answers.
+abbrev pub ResumesAsFull : (List ℕ → Digest) → Limits → (prior feed : List ℕ) → Option Start → Type 0
+ResumesAsFull H limits prior feed begun =
+    (net : Net) (scripts : List (List ℕ)) (before : List FeedEvent) → AreWatched scripts → AllByRecursion AreEventBytes before →
+    let rules = rules_of limits net in
+    AreTrue H scripts rules start before →
+    let s = full_after H leaf_text scripts rules start (map event_in before) in
+    prior ≡ full_text H scripts rules s → length prior ≤ limits.bytes → IfSome begun (λ b. IsAsOfFull H scripts rules s feed (start_answer H b feed))

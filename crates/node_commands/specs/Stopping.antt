@@ -1,0 +1,61 @@
+-- A run that is stopped between two events, and goes on from what it stored.
+use Rattle.std.specs.Prelude.{◌≡◌, ℕ, ◌<◌, ◌≤◌, ◌^◌, List, [], ◌++◌, length, map, None}
+use Rattle.std.specs.List.{flat_map, AllByRecursion}
+use Rattle.uo_base.specs.declared.event.Limits.{Limits}
+use Rattle.uo_base.specs.declared.event.Net.{Net}
+use Rattle.uo_base.specs.FeedEvent.{FeedEvent}
+use Rattle.uo_digest.specs.declared.digest.Digest.{Digest}
+use Rattle.leaf_record.specs.Leaf.{leaf_text}
+use Rattle.leaf_cache.specs.Watched.{AreWatched}
+use Rattle.node_rules.specs.Fitting.{AreEventBytes}
+use Rattle.node_rules.specs.Judging.{Rules}
+use Rattle.node_rules.specs.Machine.{start, event_in}
+use Rattle.compact_node.specs.Node.{NodeState, IsNode, Stands, fresh_node}
+use Rattle.compact_node.specs.Throughout.{verdicts_on, node_after, full_after}
+use Rattle.node_commands.specs.Follow.{line_of, events_for, chain_events, follow_answer, rules_of, AreTrue}
+use Rattle.node_commands.specs.Starting.{IsNodeOf}
+
+-- a node with these rules and scripts, that stands for what a node that holds every output comes to from its start by these events, none of them
+-- forged
+pub record StandsBehind (H : List ℕ → Digest) (limits : Limits) (net : Net) (scripts : List (List ℕ)) (before : List FeedEvent) (node : NodeState) : Type 0 where
+  pub bytes : AllByRecursion AreEventBytes before
+  pub honest : AreTrue H scripts (rules_of limits net) start before
+  pub is : IsNode node
+  pub rules_are : node.rules ≡ rules_of limits net
+  pub scripts_are : node.scripts ≡ scripts
+  pub stands : Stands H leaf_text (full_after H leaf_text scripts (rules_of limits net) start (map event_in before)) node
+
+-- a feed's events are those of two feeds, the first of which ends behind its last event; and it ends as the second does
+pub record IsParted (rules : Rules) (whole front back : List ℕ) : Type 0 where
+  pub events : (events_for rules whole).events ≡ (events_for rules front).events ++ (events_for rules back).events
+  pub front_ends : (events_for rules front).ending ≡ None
+  pub back_ends : (events_for rules whole).ending ≡ (events_for rules back).ending
+
+-- the lines of a feed's events
+abbrev pub lines_on : (List ℕ → Digest) → NodeState → List ℕ → List ℕ
+lines_on H node feed = flat_map line_of (verdicts_on H leaf_text node (chain_events (events_for node.rules feed)))
+
+-- what a node keeps behind them
+abbrev pub left_on : (List ℕ → Digest) → NodeState → List ℕ → NodeState
+left_on H node feed = node_after H leaf_text node (chain_events (events_for node.rules feed))
+
+-- over the whole feed a node says what it says over the front, and then what this one says over the back; both then keep the same, and store the
+-- same
+pub record GoesOn (H : List ℕ → Digest) (node again : NodeState) (whole front back : List ℕ) : Type 0 where
+  pub lines : lines_on H node whole ≡ lines_on H node front ++ lines_on H again back
+  pub left : left_on H node whole ≡ left_on H again back
+  pub stored : (follow_answer H node whole).out ≡ (follow_answer H again back).out
+
+-- Where a run over the front is done and no proof in it is forged, a node that is read of what it stored goes on from there; and it stands for what a
+-- node that holds every output comes to by all events so far, so it may be stopped again.
+abbrev pub ResumedIsWhole : Type 0
+ResumedIsWhole = (H : List ℕ → Digest) → ((x : List ℕ) → length (H x).0 ≡ 32) → (limits : Limits) → limits.leaves < 2 ^ 40 → (net : Net) (scripts : List (List ℕ)) → AreWatched scripts →
+    (before : List FeedEvent) (node again : NodeState) (whole front back : List ℕ) → StandsBehind H limits net scripts before node →
+    let rules = rules_of limits net in
+    let events = (events_for rules front).events in
+    IsParted rules whole front back → AllByRecursion AreEventBytes events → AreTrue H scripts rules start (before ++ events) → IsNodeOf H limits (follow_answer H node front).out again →
+    GoesOn H node again whole front back × StandsBehind H limits net scripts (before ++ events) again
+
+-- a node with no block stands behind no event
+abbrev pub FreshBegins : Type 0
+FreshBegins = (H : List ℕ → Digest) (limits : Limits) → limits.leaves < 2 ^ 40 → limits.bytes ≤ 2 ^ 48 → (net : Net) (scripts : List (List ℕ)) → StandsBehind H limits net scripts [] (fresh_node net limits scripts)

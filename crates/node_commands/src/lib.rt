@@ -1,0 +1,25 @@
+//! All commands of the program, over any ports and any digest: a compact Bitcoin node that judges a feed of blocks, what proves and audits
+//! such feeds, and what makes feeds to try it on. [`run`] is the one call that the program makes.
+#![tactic(auto)]
+
+mod audit;
+mod auditor;
+mod bad_input;
+mod ending;
+mod follow;
+mod follower;
+mod generating;
+mod inputs;
+mod laws;
+mod prior;
+mod prove;
+mod prover;
+mod run;
+mod serve;
+mod starting;
+
+pub use command_words::{Command, WordFault, read_words};
+pub use feed_run::Status;
+pub use laws::{fresh_begins, resumed_is_whole};
+pub use report_lines::line_of;
+pub use run::run;

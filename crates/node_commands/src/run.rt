@@ -1,0 +1,209 @@
+//! The one call that the program makes: all that it does.
+ghost use Rattle.std.specs.Prelude.{◌≡◌, ◌≤◌, ◌<◌, ◌^◌, ◌⊎◌, map, false, IfOk, OnOk, IsErrOf};
+ghost use Rattle.std.specs.Bool.{OnFalse};
+ghost use Rattle.std.specs.String.{string_bytes};
+ghost use Rattle.uo_base.specs.Faults.{Rose};
+ghost use Rattle.node_commands.specs.Resuming.{ResumedTakes, ResumedStores};
+ghost use Rattle.node_commands.specs.Runs.{uses_of, answer_of, Did, ReportsTaken, StoresBefore, UsedRose};
+ghost use Rattle.node_commands.specs.Within.{EndsRun, StaysWithinRun};
+ghost use Rattle.feed_run.specs.Status.{is_stop};
+ghost use Rattle.command_words.specs.Words.{command_of};
+
+use crate::audit::audit_for;
+use crate::follow::follow_for;
+use crate::generating::store_generated;
+use crate::prior::follow_from;
+use crate::prove::prove_for;
+use command_words::{Command, read_words};
+use feed_run::{Status, Stop};
+use report_lines::{Line, say};
+use std::alloc::Global;
+use std::sync::ledger::Ledger;
+use uo_base::{Limits, Net, Sink, Source};
+use uo_digest::{Digester, Steps};
+
+/// Does all that the words ask for.
+///
+/// `feed`, `prior` and `watch` are the inputs, `out` takes what is stored, and `report` what is printed. A command that
+/// has no use for a port leaves it alone. `D` is the digest of the forest, and `steps` counts its calls.
+pub fn run<D: Digester, F: Source, P: Source, W: Source, O: Sink, R: Sink, L: Ledger>(
+    alloc: Global,
+    words: &[String],
+    limits: Limits,
+    feed: &mut F,
+    prior: &mut P,
+    watch: &mut W,
+    out: &mut O,
+    report: &mut R,
+    steps: &mut Steps<L>,
+) -> Status
+    requires leaves { limits.leaves < 2 ^ 40 }
+    requires bytes { limits.bytes ≤ 2 ^ 48 }
+
+    // There are inputs, which are the told ones where they are told. The report and the output grow by the whole answer to the words and
+    // these inputs, or where a fault or want of memory stops the run by a part of it. Of a feed in which no proof is forged the answer
+    // of `follow` is that of a node that holds every output, rollbacks included, with the state that it stores; and of the events before the
+    // first forged one it prints the same lines. So it is where it goes on from a prior state to which such a node came by any such events.
+    // Where the feed is what a proving node with the same network and leaf limit writes of any events, with proofs in full or lean ones for
+    // the watch list that is named, `follow` accepts from the start each block and makes each rollback of it: its lines are that node's
+    // `accepted` and `rolledback` lines, in their order, and its status is 0; or past the limit of bytes the first of these lines, and a
+    // `stray` behind them where the limit parts a proof from its block.
+    // `prove` prints what the proving node says of each event, and stores what that node writes: each block that it accepts, behind its
+    // message where it spends from outside, which is lean for the watch list that is named, and each rollback that it makes.
+    // `audit` prints what the node says of each event that holds every output, and then what is live and what was issued. At the first event
+    // that is forged to that node, which is one with the same network, leaf limit and watch list, it prints two different texts with one digest:
+    // one is that of a node of the forest, and the proof in the message digests the other. It judges nothing behind that event.
+    // `gen` stores the feed of its number, its count of blocks and its network, and prints how many blocks, rollbacks and bytes it has.
+    ensures did { Did D.digest_of (map string_bytes words.now) limits
+        (F.left feed.old) (P.left prior.old) (W.left watch.old)
+        (R.held report.old) (R.held report.new) (O.held out.old) (O.held out.new) result }
+
+    // Where the feed fails, the lines of all events that were wholly taken are there, and what `prove` stores of them.
+    ensures taken { result ≡ Status.ReadFault → ReportsTaken D.digest_of (command_of (map string_bytes words.now)) limits (W.left watch.old)
+        (F.left feed.old) (F.left feed.new) (R.held report.old) (R.held report.new) (O.held out.old) (O.held out.new) }
+
+    // `prove` stores an event's frames before it prints its line: whenever the report has the lines of some first events, whatever
+    // stops the run then, what is stored has at least their frames. `follow` stores its state before it prints the last line: whenever
+    // the report has more than the lines of the events, all that is to be stored is there.
+    ensures first { StoresBefore D.digest_of (command_of (map string_bytes words.now)) limits (W.left watch.old)
+        (F.left feed.old) (R.held report.old) (R.held report.new) (O.held out.old) (O.held out.new) }
+
+    // The same two of `follow` where it goes on from a prior state.
+    ensures resumed_taken { result ≡ Status.ReadFault → ResumedTakes D.digest_of (command_of (map string_bytes words.now)) limits (P.left prior.old)
+        (F.left feed.old) (F.left feed.new) (R.held report.old) (R.held report.new) (O.held out.old) (O.held out.new) }
+    ensures resumed_first { ResumedStores D.digest_of (command_of (map string_bytes words.now)) limits (P.left prior.old)
+        (F.left feed.old) (R.held report.old) (R.held report.new) (O.held out.old) (O.held out.new) }
+
+    // A fault is answered only where a port failed that the words use.
+    ensures read { result ≡ Status.ReadFault
+        → UsedRose (uses_of (map string_bytes words.now)).feed (F.faults feed.old) (F.faults feed.new)
+        ⊎ UsedRose (uses_of (map string_bytes words.now)).prior (P.faults prior.old) (P.faults prior.new)
+        ⊎ UsedRose (uses_of (map string_bytes words.now)).watch (W.faults watch.old) (W.faults watch.new) }
+    ensures write { result ≡ Status.WriteFault
+        → UsedRose (uses_of (map string_bytes words.now)).out (O.faults out.old) (O.faults out.new)
+        ⊎ Rose (R.faults report.old) (R.faults report.new) }
+
+    // A port that the words do not use stays as it was.
+    ensures feed { OnFalse (uses_of (map string_bytes words.now)).feed (feed.new ≡ feed.old) }
+    ensures prior { OnFalse (uses_of (map string_bytes words.now)).prior (prior.new ≡ prior.old) }
+    ensures watch { OnFalse (uses_of (map string_bytes words.now)).watch (watch.new ≡ watch.old) }
+    ensures out { OnFalse (uses_of (map string_bytes words.now)).out (out.new ≡ out.old) }
+    ensures steps { OnFalse (uses_of (map string_bytes words.now)).feed (steps.new ≡ steps.old) }
+{
+    match run_command::<D, F, P, W, O, R, L>(
+        alloc, words, limits, feed, prior, watch, out, report, steps,
+    ) {
+        Ok(status) => status,
+        Err(Stop::ReadFault) => Status::ReadFault,
+        Err(Stop::WriteFault) => Status::WriteFault,
+        Err(Stop::NoMemory) => Status::NoMemory,
+    }
+}
+
+fn run_command<D: Digester, F: Source, P: Source, W: Source, O: Sink, R: Sink, L: Ledger>(
+    alloc: Global,
+    words: &[String],
+    limits: Limits,
+    feed: &mut F,
+    prior: &mut P,
+    watch: &mut W,
+    out: &mut O,
+    report: &mut R,
+    steps: &mut Steps<L>,
+) -> Result<Status, Stop>
+    requires leaves { limits.leaves < 2 ^ 40 }
+    requires bytes { limits.bytes ≤ 2 ^ 48 }
+    ensures ended { IfOk result (EndsRun D.digest_of limits (answer_of D.digest_of (map string_bytes words.now) limits)
+        (F.left feed.old) (P.left prior.old) (W.left watch.old)
+        (R.held report.old) (R.held report.new) (O.held out.old) (O.held out.new)) }
+    ensures goes_on { IfOk result (λ status. is_stop status ≡ false) }
+    ensures part { StaysWithinRun D.digest_of limits (answer_of D.digest_of (map string_bytes words.now) limits)
+        (F.left feed.old) (P.left prior.old) (W.left watch.old)
+        (R.held report.old) (R.held report.new) (O.held out.old) (O.held out.new) }
+    ensures taken { IsErrOf result Stop.ReadFault → ReportsTaken D.digest_of (command_of (map string_bytes words.now)) limits (W.left watch.old)
+        (F.left feed.old) (F.left feed.new) (R.held report.old) (R.held report.new) (O.held out.old) (O.held out.new) }
+    ensures first { StoresBefore D.digest_of (command_of (map string_bytes words.now)) limits (W.left watch.old)
+        (F.left feed.old) (R.held report.old) (R.held report.new) (O.held out.old) (O.held out.new) }
+    ensures resumed_taken { IsErrOf result Stop.ReadFault → ResumedTakes D.digest_of (command_of (map string_bytes words.now)) limits (P.left prior.old)
+        (F.left feed.old) (F.left feed.new) (R.held report.old) (R.held report.new) (O.held out.old) (O.held out.new) }
+    ensures resumed_first { ResumedStores D.digest_of (command_of (map string_bytes words.now)) limits (P.left prior.old)
+        (F.left feed.old) (R.held report.old) (R.held report.new) (O.held out.old) (O.held out.new) }
+    ensures read { IsErrOf result Stop.ReadFault
+        → UsedRose (uses_of (map string_bytes words.now)).feed (F.faults feed.old) (F.faults feed.new)
+        ⊎ UsedRose (uses_of (map string_bytes words.now)).prior (P.faults prior.old) (P.faults prior.new)
+        ⊎ UsedRose (uses_of (map string_bytes words.now)).watch (W.faults watch.old) (W.faults watch.new) }
+    ensures write { IsErrOf result Stop.WriteFault
+        → UsedRose (uses_of (map string_bytes words.now)).out (O.faults out.old) (O.faults out.new)
+        ⊎ Rose (R.faults report.old) (R.faults report.new) }
+    ensures feed { OnFalse (uses_of (map string_bytes words.now)).feed (feed.new ≡ feed.old) }
+    ensures prior { OnFalse (uses_of (map string_bytes words.now)).prior (prior.new ≡ prior.old) }
+    ensures watch { OnFalse (uses_of (map string_bytes words.now)).watch (watch.new ≡ watch.old) }
+    ensures out { OnFalse (uses_of (map string_bytes words.now)).out (out.new ≡ out.old) }
+    ensures steps { OnFalse (uses_of (map string_bytes words.now)).feed (steps.new ≡ steps.old) }
+{
+    match read_words(words) {
+        Err(fault) => say(alloc, report, Status::Words, Line::Words(fault.at)),
+        Ok(
+            Command::Follow {
+                net,
+                from,
+                watch: list,
+                ..
+            },
+        ) => {
+            match from {
+                Some(_) => {
+                    follow_from::<D, F, P, O, R, L>(alloc, limits, prior, feed, out, report, steps)
+                }
+                None => {
+                    let net = net.unwrap_or(Net::Main);
+                    let named = list.is_some();
+                    follow_for::<D, F, W, O, R, L>(
+                        alloc, limits, net, named, watch, feed, out, report, steps,
+                    )
+                }
+            }
+        }
+        Ok(
+            Command::Prove {
+                net,
+                watch: list,
+                ..
+            },
+        ) => prove_for::<D, F, W, O, R, L>(
+            alloc,
+            limits,
+            net,
+            list.is_some(),
+            watch,
+            feed,
+            out,
+            report,
+            steps,
+        ),
+        Ok(
+            Command::Audit {
+                net,
+                watch: list,
+                ..
+            },
+        ) => audit_for::<D, F, W, R, L>(
+            alloc,
+            limits,
+            net,
+            list.is_some(),
+            watch,
+            feed,
+            report,
+            steps,
+        ),
+        Ok(
+            Command::Gen {
+                net,
+                number,
+                blocks,
+                ..
+            },
+        ) => store_generated(alloc, number, blocks, net, out, report),
+    }
+}

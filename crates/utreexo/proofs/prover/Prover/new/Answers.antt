@@ -1,9 +1,0 @@
-use Rattle.std.proofs.Common.{false, sym, subst}
-use Rattle.utreexo.specs.Prover.{IsReached}
-use Rattle.utreexo.proofs.ProveLemmas.{reached-fresh}
-use Rattle.utreexo.proofs.prover.Prover.new.Goals as goal
-
-pub invariant_of-result : goal.invariant_of-result
-invariant_of-result g c =
-    subst (λ b. IsReached g.D.Digester.digest_of (record { net = c.args.net; bridge = b; events = 0; refused = false })) (sym c.in_ok-new.ensures)
-    (reached-fresh g.D.Digester.digest_of c.args.net c.args.limits c.args.watch c.requires.leaves)
