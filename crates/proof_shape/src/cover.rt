@@ -82,6 +82,14 @@ const ROOM: usize = 40;
 
 const ROOM_EACH: usize = 8;
 
+// For how many places memory is taken at once, where there are so many targets.
+fn room_for(targets: usize) -> usize {
+    if targets == 0 {
+        return 0;
+    }
+    targets.saturating_mul(ROOM_EACH).saturating_add(ROOM)
+}
+
 // All places at these positions and above them.
 pub(crate) fn cover_of(alloc: Global, n: u64, sorted: &[u64]) -> Result<Vec<Place>, AllocError>
     requires small { n < 2 ^ 40 }
@@ -89,8 +97,7 @@ pub(crate) fn cover_of(alloc: Global, n: u64, sorted: &[u64]) -> Result<Vec<Plac
     requires places { ArePositions n sorted.now }
     ensures { IfOk result (λ v. IsSwept n sorted.now v.items) }
 {
-    let room = sorted.len().saturating_mul(ROOM_EACH).saturating_add(ROOM);
-    let mut covered = Vec::with_capacity(alloc, room)?;
+    let mut covered = Vec::with_capacity(alloc, room_for(sorted.len()))?;
     let mut k = 0;
     let mut j = 0;
     while k < covered.len() || j < sorted.len() {
