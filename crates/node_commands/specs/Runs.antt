@@ -133,7 +133,7 @@ pub record Did (H : List ℕ → Digest) (words : List (List ℕ)) (limits : Lim
 -- ---- where the feed failed
 
 -- the lines of all events whose frames were wholly taken are in the report, and of `prove` their frames are stored. Of a run that goes on from a
--- prior state it is said elsewhere
+-- prior state `ResumedTakes` says it
 abbrev pub ReportsTaken : (List ℕ → Digest) → Result Asked WordFault → Limits → (watch feed feed' report report' out out' : Option (List ℕ)) → Type 0
 ReportsTaken H (Err fault) limits watch feed feed' report report' out out' = Unit {0}
 ReportsTaken H (Ok (AskedFollow f)) limits watch feed feed' report report' out out' =

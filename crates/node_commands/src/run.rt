@@ -54,6 +54,8 @@ pub fn run<D: Digester, F: Source, P: Source, W: Source, O: Sink, R: Sink, L: Le
     // that is forged to that node, which is one with the same network, leaf limit and watch list, it prints two different texts with one digest:
     // one is that of a node of the forest, and the proof in the message digests the other. It judges nothing behind that event.
     // `gen` stores the feed of its number, its count of blocks and its network, and prints how many blocks, rollbacks and bytes it has.
+    // Where the words are accepted, the watch list or prior state that they name can be used, the feed has no bad frame, and none has more
+    // bytes than may be read, the status is 0 or 1, or 4 of `audit`, or that of a failed port or of want of memory (`complete`).
     ensures did { Did D.digest_of (map string_bytes words.now) limits
         (F.left feed.old) (P.left prior.old) (W.left watch.old)
         (R.held report.old) (R.held report.new) (O.held out.old) (O.held out.new) result }

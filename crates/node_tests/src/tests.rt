@@ -1,6 +1,7 @@
-//! A bridge, a compact node that follows what it passes on, and a bridge with a watch list.
+//! A bridge, a compact node that follows what it passes on, and a bridge with a watch list; and an auditor.
 ghost use Rattle.std.specs.Prelude.{◌≡◌, ◌<◌};
 
+mod audited;
 mod build;
 mod lean;
 mod many;
