@@ -74,8 +74,8 @@ abbrev pub unknown : (List ℕ → Digest) → List (Option Digest) → List Pla
 unknown H es kept ps = somes (map (at H es) (filter (λ p. not (is_known (length es) kept p)) ps))
 
 -- what was found at one of the places
-pub found_at : {X : Type 0} (f : Place → Option X) (ps : List Place) (xs : List (Option X)) (i : ℕ) (d : Place) → xs ≡ map f ps → i < length ps → get_or xs i None ≡ f (get_or ps i d)
-found_at f ps xs i d e lt = ap (λ ys. get_or ys i None) e ∙ get_or-map f ps i d None lt
+pub found_at : {X : Type 0} (f : Place → Option X) (ps : List Place) (xs : List (Option X)) (i : ℕ) (d : Place) (x : Option X) → xs ≡ map f ps → i < length ps → get_or xs i x ≡ f (get_or ps i d)
+found_at f ps xs i d x e lt = ap (λ ys. get_or ys i x) e ∙ get_or-map f ps i d x lt
 
 pub found_alone : (f : Place → Option Digest) (q : Place → Bool) (p : Place) (x : Option Digest) → x ≡ f p → somes (map (λ _. x) (filter q (p ∷ []))) ≡ somes (map f (filter q (p ∷ [])))
 found_alone f q p x e = by (q p) refl

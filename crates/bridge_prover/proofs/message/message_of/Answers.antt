@@ -51,9 +51,9 @@ loop-i-preserved g c =
     let es = c.args.forest.now.entries in
     let asked = c.needed-asked.result.now in
     let i = c.loop-i.i in
-    let at_i : get_or c.in_ok-found.found.items i None ≡ at H es (get_or asked i d) = found_at (at H es) asked c.in_ok-found.found.items i d c.in_ok-found.ensures c.loop-i-test.true in
-    let put = subst (λ n. c.put_hash.new.message ≡ record { lean = c.loop-i.message.lean; proof = record { spends = c.loop-i.message.proof.spends; hashes = c.loop-i.message.proof.hashes ++ somes (map (λ p. get_or c.in_ok-found.found.items i None) (filter (λ p. not (is_known n c.args.kept.now.targets p)) (get_or asked i d ∷ []))) } }) c.requires.kept c.in_ok-put_hash.ensures in
-    let told = found_alone (at H es) (λ p. not (is_known (length es) c.args.kept.now.targets p)) (get_or asked i d) (get_or c.in_ok-found.found.items i None) at_i in
+    let at_i : c.index.result.now ≡ at H es (get_or asked i d) = c.index.ensures ∙ found_at (at H es) asked c.in_ok-found.found.items i d c.index.result.now c.in_ok-found.ensures c.loop-i-test.true in
+    let put = subst (λ n. c.put_hash.new.message ≡ record { lean = c.loop-i.message.lean; proof = record { spends = c.loop-i.message.proof.spends; hashes = c.loop-i.message.proof.hashes ++ somes (map (λ p. c.index.result.now) (filter (λ p. not (is_known n c.args.kept.now.targets p)) (get_or asked i d ∷ []))) } }) c.requires.kept c.in_ok-put_hash.ensures in
+    let told = found_alone (at H es) (λ p. not (is_known (length es) c.args.kept.now.targets p)) (get_or asked i d) c.index.result.now at_i in
     hash_more H es c.args.kept.now.targets c.args.lean (spends_by es c.args.outputs.now c.args.numbers.now) asked i d c.loop-i.message c.put_hash.new.message c.loop-i-test.true c.loop-i.invariant (with_hashes c.loop-i.message c.put_hash.new.message _ _ told put)
 
 pub returns : goal.returns
