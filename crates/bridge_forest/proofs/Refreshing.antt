@@ -1,7 +1,8 @@
 -- The digests above a written entry, one row after another.
-use Rattle.std.proofs.Common.{◌≡◌, ℕ, zero, suc, ◌+◌, ◌*◌, ◌/◌, ◌%◌, ◌^◌, ◌<◌, ◌≤◌, List, length, get_or, set, Option, Some, None, refl, sym, ap, ap₂, ◌∙◌, subst, ⊎_elim, arith}
+use Rattle.std.proofs.Common.{◌≡◌, ◌≢◌, ℕ, zero, suc, ◌+◌, ◌-◌, ◌*◌, ◌/◌, ◌%◌, ◌^◌, ◌<◌, ◌≤◌, List, length, get_or, set, Option, Some, None, refl, sym, ap, ap₂, ◌∙◌, subst, ⊎_elim, arith}
 use Rattle.std.specs.Prelude.{option_map}
 use Rattle.std.proofs.lemmas.Bool.{cases_eq, cases_lt}
+use Rattle.std.proofs.lemmas.Nat.{shr-shr}
 use Rattle.std.proofs.lemmas.List.{get_or-set_same, get_or-set_other, length-set}
 use Rattle.uo_digest.specs.declared.digest.Digest.{Digest}
 use Rattle.forest_model.specs.Content.{Tree, leaf, join, content, digest_of, join_digests}
@@ -76,8 +77,21 @@ one_found H n leaves found number row digest low e all = record {
       (cases_eq r row);
 }
 
-pub all_found : (H : List ℕ → Digest) (n : ℕ) (leaves found : List (Option Digest)) (number row off : ℕ) → off ≡ number / 2 ^ row → (off / 2 < n / 2 ^ row / 2 → ⊥) → AreFound H n leaves number row found → AreBeside H n leaves number found
-all_found H n leaves found number row off here top all = record { is = λ r h. ⊎_elim (λ lt. all.is r lt h) (λ ge. absurd (top (row_open n number row off r here ge h))) (cases_lt r row) }
+-- where two paths meet, they go on together
+met_above : (number next row off other r : ℕ) → off ≡ number / 2 ^ row → other ≡ next / 2 ^ row → row ≤ r → off / 2 ≡ other / 2 → number / 2 ^ suc r ≡ next / 2 ^ suc r
+met_above number next row off other r here there le e =
+    let k = r - row in
+    let up : suc row + k ≡ suc r = omega arith in
+    let one : number / 2 ^ suc row ≡ next / 2 ^ suc row = parts-suc number row ∙ ap (λ x. x / 2) (sym here) ∙ e ∙ ap (λ x. x / 2) there ∙ sym (parts-suc next row) in
+    ap (λ x. number / 2 ^ x) (sym up) ∙ sym (shr-shr number (suc row) k) ∙ ap (λ x. x / 2 ^ k) one ∙ shr-shr next (suc row) k ∙ ap (λ x. next / 2 ^ x) up
+
+pub all_found : (H : List ℕ → Digest) (n : ℕ) (leaves found : List (Option Digest)) (number next row off other : ℕ) → off ≡ number / 2 ^ row → other ≡ next / 2 ^ row → ((off / 2 < n / 2 ^ row / 2) × (off / 2 ≢ other / 2) → ⊥) → AreFound H n leaves number row found → AreBeside H n leaves number next found
+all_found H n leaves found number next row off other here there stop all = record {
+  is = λ r h apart. ⊎_elim
+      (λ lt. all.is r lt h)
+      (λ ge. absurd (stop (row_open n number row off r here ge h, λ e. apart (met_above number next row off other r here there ge e))))
+      (cases_lt r row);
+}
 
 -- the two halves of the part above
 pub halves_right : (H : List ℕ → Digest) (leaves : List (Option Digest)) (row off : ℕ) (half other left right : Option Digest) → half ≡ part_digest H leaves row off → other ≡ part_digest H leaves row (sibling_off off) →
@@ -140,10 +154,34 @@ module _ (H : List ℕ → Digest) (n : ℕ) (leaves parts : List (Option Digest
             top (row_open n number row off r here low (subst (λ x. InForest n (suc r) x) (sym at) h)));
       }
 
--- an entry is written: all parts without it are right
-pub but_written : (H : List ℕ → Digest) (n : ℕ) (leaves parts : List (Option Digest)) (number : ℕ) (x : Option Digest) → AreParts H n leaves parts → ArePartsBut H n (set leaves number x) parts number 0
-but_written H n leaves parts number x all =
-    record { is = λ r o h off_path. all.is r o h ∙ ap (option_map (digest_of H)) (sym (content-set_other leaves number x (suc r) o (off_path (omega arith)))) }
+-- all rows as far as the parts have the next entry too
+pub rows_met : (H : List ℕ → Digest) (n : ℕ) (leaves parts : List (Option Digest)) (number next row off other : ℕ) → off ≡ number / 2 ^ row → other ≡ next / 2 ^ row → ((off / 2 < n / 2 ^ row / 2) × (off / 2 ≢ other / 2) → ⊥) → ArePartsBut H n leaves parts number row → ArePartsBut H n leaves parts next 0
+rows_met H n leaves parts number next row off other here there stop but = record {
+  is = λ r p h beyond.
+      but.is r p h (λ low at.
+      stop (row_open n number row off r here low (subst (λ x. InForest n (suc r) x) (sym at) h), λ e. beyond (omega arith) (sym (met_above number next row off other r here there low e) ∙ at)));
+}
+
+-- the first part that is left also has the next entry
+pub climb_ends : (n number next row off other : ℕ) → off ≡ number / 2 ^ row → other ≡ next / 2 ^ row → ((off / 2 < n / 2 ^ row / 2) × (off / 2 ≢ other / 2) → ⊥) → InForest n (suc row) (number / 2 ^ suc row) → number / 2 ^ suc row ≡ next / 2 ^ suc row
+climb_ends n number next row off other here there stop h =
+    ⊎_elim
+    (λ e. met_above number next row off other row here there (omega arith) e)
+    (λ ne. absurd (stop (row_open n number row off row here (omega arith) h, ne)))
+    (cases_eq (off / 2) (other / 2))
+
+-- an entry is written: all parts without it stay right
+pub but_written : (H : List ℕ → Digest) (n : ℕ) (leaves parts : List (Option Digest)) (number : ℕ) (x : Option Digest) → ArePartsBut H n leaves parts number 0 → ArePartsBut H n (set leaves number x) parts number 0
+but_written H n leaves parts number x but =
+    record { is = λ r o h off_path. but.is r o h off_path ∙ ap (option_map (digest_of H)) (sym (content-set_other leaves number x (suc r) o (off_path (omega arith)))) }
+
+-- where all are right, so are all without an entry
+pub but_any : (H : List ℕ → Digest) (n : ℕ) (leaves parts : List (Option Digest)) (number : ℕ) → AreParts H n leaves parts → ArePartsBut H n leaves parts number 0
+but_any H n leaves parts number all = record { is = λ r o h off_path. all.is r o h }
+
+-- no part has the entry n
+pub but_none : (H : List ℕ → Digest) (n : ℕ) (leaves parts : List (Option Digest)) → ArePartsBut H n leaves parts n 0 → AreParts H n leaves parts
+but_none H n leaves parts but = record { is = λ r o h. but.is r o h (λ low at. omega (arith, h, at)) }
 
 -- an entry is added
 pub but_added : (H : List ℕ → Digest) (n : ℕ) (leaves parts : List (Option Digest)) (x : Option Digest) → AreParts H n leaves parts → ArePartsBut H (n + 1) (set leaves n x) parts n 0

@@ -20,3 +20,4 @@ pub mod Checking
 pub mod Historied
 pub mod Taking
 pub mod Fully
+pub mod Sorting

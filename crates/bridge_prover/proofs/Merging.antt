@@ -126,6 +126,9 @@ told_of t f (x ∷ xs) = ⊎_elim (λ e. rw e (ap (cons_option (f x)) (told_of t
 abbrev pub with_digest : (List ℕ → Digest) → List (Option Digest) → Place → Option (Place × Digest)
 with_digest H es p = option_map (λ d. (p, d)) (digest_at H es p.row p.off)
 
+pub paired_alone : (H : List ℕ → Digest) (es : List (Option Digest)) (p : Place) (x : Option Digest) → x ≡ digest_at H es p.row p.off → filter_map (λ q. option_map (λ d. (q, d)) x) (p ∷ []) ≡ filter_map (with_digest H es) (p ∷ [])
+paired_alone H es p x e = ap (λ y. cons_option (option_map (λ d. (p, d)) y) []) e
+
 pub held_are : (H : List ℕ → Digest) (es : List (Option Digest)) (ts ps : List Place) (known : List (Place × Digest)) → ps ≡ filter (is_known (length es) ts) (places (length es)) → known ≡ filter_map (with_digest H es) ps → known ≡ held H es ts
 held_are H es ts ps known are is = is ∙ (ap (filter_map (with_digest H es)) are ∙ told_of (is_known (length es) ts) (with_digest H es) (places (length es)))
 

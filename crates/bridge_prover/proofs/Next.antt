@@ -284,12 +284,16 @@ module _ (H : List ℕ → Digest) (text : Leaf → List ℕ) (inner s : BridgeS
   abbrev made : ℕ → ℕ → List (Option Digest) → List Held → List UndoRecord → BridgeState
   made blocks count es hs undo = record { rules = inner.rules; watch = inner.watch; chain = record { blocks = blocks; tip = hash; leaves = inner.chain.leaves + count }; entries = es; held = hs; undo = undo }
 
-  pub extended_like : (count : ℕ) (es : List (Option Digest)) (hs : List Held) (undo : List UndoRecord) → count ≡ length new → es ≡ (bridge_with H text inner hash ns new).entries → hs ≡ (bridge_with H text inner hash ns new).held → undo ≡ (bridge_with H text inner hash ns new).undo →
-      IsBridge H text (made (inner.chain.blocks + 1) count es hs undo)
-  extended_like count es hs undo c e h u =
+  pub extended_is : (count : ℕ) (es : List (Option Digest)) (hs : List Held) (undo : List UndoRecord) → count ≡ length new → es ≡ (bridge_with H text inner hash ns new).entries → hs ≡ (bridge_with H text inner hash ns new).held → undo ≡ (bridge_with H text inner hash ns new).undo →
+      made (inner.chain.blocks + 1) count es hs undo ≡ bridge_with H text s hash ns new
+  extended_is count es hs undo c e h u =
       let blocks : inner.chain.blocks + 1 ≡ suc inner.chain.blocks = omega arith in
       let after = bridge_with H text inner hash ns new in
       let whole : made (inner.chain.blocks + 1) count es hs undo ≡ after =
       ap (λ n. made n count es hs undo) blocks ∙ (ap (λ n. made (suc inner.chain.blocks) n es hs undo) c
       ∙ (ap (λ x. made (suc inner.chain.blocks) (length new) x hs undo) e ∙ (ap (λ x. made (suc inner.chain.blocks) (length new) after.entries x undo) h ∙ ap (λ x. made (suc inner.chain.blocks) (length new) after.entries after.held x) u))) in
-      subst (IsBridge H text) (sym (whole ∙ ap (λ (x : BridgeState). bridge_with H text x hash ns new) same)) next
+      whole ∙ ap (λ (x : BridgeState). bridge_with H text x hash ns new) same
+
+  pub extended_like : (count : ℕ) (es : List (Option Digest)) (hs : List Held) (undo : List UndoRecord) → count ≡ length new → es ≡ (bridge_with H text inner hash ns new).entries → hs ≡ (bridge_with H text inner hash ns new).held → undo ≡ (bridge_with H text inner hash ns new).undo →
+      IsBridge H text (made (inner.chain.blocks + 1) count es hs undo)
+  extended_like count es hs undo c e h u = subst (IsBridge H text) (sym (extended_is count es hs undo c e h u)) next

@@ -2,7 +2,7 @@
 use Rattle.std.proofs.Common.{◌≡◌, ℕ, suc, ◌+◌, ◌<◌, ◌≤◌, Bool, true, false, List, [], ◌∷◌, ◌++◌, map, length, take, get_or, Option, Some, None, refl, sym, ap, ◌∙◌, subst, arith}
 use Rattle.std.specs.Prelude.{option_map, is_some, not}
 use Rattle.std.specs.List.{filter}
-use Rattle.std.proofs.lemmas.List.{take_all, take_more}
+use Rattle.std.proofs.lemmas.List.{get_or-map, take_all, take_more}
 use Rattle.std.proofs.lemmas.List.Elements.{filter-append}
 use Rattle.std.proofs.lemmas.Bool.{false≢true}
 use Rattle.std.proofs.lemmas.Option.{none-some}
@@ -72,6 +72,20 @@ at H es p = digest_at H es p.row p.off
 -- the hashes over these places, less those that are known where the kept entries stand at these
 abbrev pub unknown : (List ℕ → Digest) → List (Option Digest) → List Place → List Place → List Digest
 unknown H es kept ps = somes (map (at H es) (filter (λ p. not (is_known (length es) kept p)) ps))
+
+-- what was found at one of the places
+pub found_at : {X : Type 0} (f : Place → Option X) (ps : List Place) (xs : List (Option X)) (i : ℕ) (d : Place) (x : Option X) → xs ≡ map f ps → i < length ps → get_or xs i x ≡ f (get_or ps i d)
+found_at f ps xs i d x e lt = ap (λ ys. get_or ys i x) e ∙ get_or-map f ps i d x lt
+
+pub found_alone : (f : Place → Option Digest) (q : Place → Bool) (p : Place) (x : Option Digest) → x ≡ f p → somes (map (λ _. x) (filter q (p ∷ []))) ≡ somes (map f (filter q (p ∷ [])))
+found_alone f q p x e = by (q p) refl
+  where
+    by : (b : Bool) → q p ≡ b → somes (map (λ _. x) (filter q (p ∷ []))) ≡ somes (map f (filter q (p ∷ [])))
+    by true t = rw t (ap (λ y. somes (y ∷ [])) e)
+    by false t = rw t refl
+
+pub with_hashes : (old new : Message) (xs ys : List Digest) → xs ≡ ys → new ≡ record { lean = old.lean; proof = record { spends = old.proof.spends; hashes = old.proof.hashes ++ xs } } → new ≡ record { lean = old.lean; proof = record { spends = old.proof.spends; hashes = old.proof.hashes ++ ys } }
+with_hashes old new xs ys e was = was ∙ ap (λ zs. (let p : BlockProof = record { spends = old.proof.spends; hashes = old.proof.hashes ++ zs } in let q : Message = record { lean = old.lean; proof = p } in q)) e
 
 pub whole_proof : (H : List ℕ → Digest) (es : List (Option Digest)) (hs : List Held) (kept : List Place) (lean : Bool) (numbers positions : List ℕ) (ts : List Place) (m : Message) → positions ≡ targets_of (spends_by es hs numbers) → map (place_at (length es)) positions ≡ map Some ts →
     m ≡ record { lean = lean; proof = record { spends = spends_by es hs numbers; hashes = unknown H es kept (need (length es) ts) } } → m ≡ record { lean = lean; proof = proof_beside H kept es hs numbers }

@@ -8,7 +8,7 @@ ghost use Rattle.uo_base.specs.FeedEvent.{event_of};
 
 mod judge;
 
-use crate::entries::{digests_of, restore_all};
+use crate::entries::{digests_of, restore_all, rising};
 use crate::find::{found_by, numbers_of};
 use crate::held::{cut, insert_all, keep, spend_all, undo_of, unspend_all};
 use crate::message::message_of;
@@ -290,7 +290,7 @@ impl<D: Digester> Bridge<D> {
         requires { kept.now.leaves ≡ length self.now.entries }
         ensures { IfOk result (λ known. known.items ≡ held D.digest_of self.now.entries kept.now.targets) }
     {
-        Ok(hashes_of::<D>(self.alloc, &self.forest, kept)?)
+        hashes_of::<D>(self.alloc, &self.forest, kept)
     }
 
     // The bytes of the message beside a block that spends these entries: none where nothing is spent from outside.
@@ -365,13 +365,14 @@ impl<D: Digester> Bridge<D> {
     {
         let digests = digests_of::<D, L>(self.alloc, &mut self.room, spends, steps)?;
         let noted = noted_of(self.alloc, &self.watch, self.chain.leaves, spends)?;
+        let spent = rising(self.alloc, &numbers)?;
         self.forest.reserve(digests.len() as u64)?;
         self.noted.reserve(noted.len())?;
         insert_all(self.alloc, &mut self.outputs, self.chain.leaves, spends)?;
         // Nothing can fail from here on.
         append(&mut self.noted, &noted);
         spend_all(&mut self.outputs, &numbers);
-        self.forest.apply_block(&numbers, &digests, steps);
+        self.forest.apply_block(&spent, &digests, steps);
         let undo = undo_of(&self.chain, numbers);
         keep(&mut self.undo, &mut self.outputs, undo);
         keep_held(&mut self.noted, &self.outputs);

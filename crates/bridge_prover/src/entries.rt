@@ -1,5 +1,6 @@
 //! Digests of outputs for the forest.
 ghost use Rattle.std.specs.Prelude.{◌≡◌, ◌≢◌, ℕ, ◌+◌, ◌*◌, ◌<◌, ◌≤◌, ◌∷◌, [], map, length, false, IfOk, All, AllPairs};
+ghost use Rattle.std.specs.List.Sorted.{IsNonDecreasing, IsPermutation};
 ghost use Rattle.forest_place.specs.Position.{rows};
 ghost use Rattle.leaf_record.specs.Leaf.{leaf_text};
 ghost use Rattle.bridge_forest.specs.State.{is_live};
@@ -30,6 +31,16 @@ pub(crate) fn digests_of<D: Digester, L: Ledger>(
         digests.push(leaf_digest::<D, L>(room, &leaf, steps))?;
     }
     Ok(digests)
+}
+
+// These numbers in ascending order, in which a forest spends them by the fewest digests.
+pub(crate) fn rising(alloc: Global, numbers: &[u64]) -> Result<Vec<u64>, AllocError>
+    ensures same { IfOk result (λ all. IsPermutation numbers.now all.items) }
+    ensures rise { IfOk result (λ all. IsNonDecreasing all.items) }
+{
+    let mut all = numbers.to_vec(alloc)?;
+    all.sort_unstable();
+    Ok(all)
 }
 
 // Makes an entry live again, if it is held.

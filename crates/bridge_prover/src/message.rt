@@ -4,7 +4,6 @@ ghost use Rattle.std.specs.List.{filter};
 ghost use Rattle.forest_place.specs.Forest.{InForest};
 ghost use Rattle.forest_place.specs.Position.{place_at};
 ghost use Rattle.forest_model.specs.Cover.{need};
-ghost use Rattle.forest_model.specs.Standing.{digest_at};
 ghost use Rattle.leaf_record.specs.History.{somes};
 ghost use Rattle.proof_wire.specs.BlockProof.{targets_of};
 ghost use Rattle.node_rules.specs.Accepting.{shape_fault};
@@ -22,7 +21,7 @@ use proof_shape::{ShapeFault, Targets};
 use proof_wire::Message;
 use std::alloc::Global;
 use uo_base::NoMemory;
-use uo_digest::Digester;
+use uo_digest::{Digest, Digester};
 
 // The number of the place at which a live entry stands.
 pub(crate) fn target<D: Digester>(forest: &Forest<D>, number: u64) -> u64
@@ -55,20 +54,20 @@ fn put_spend<D: Digester>(
     Ok(())
 }
 
-// Gives the hash of a place, if it is not known where the kept entries stand at these places.
-fn put_hash<D: Digester>(
+// Gives the hash that was found at a place, if it is not known where the kept entries stand at these places.
+fn put_hash(
     message: &mut Message,
-    forest: &Forest<D>,
     kept: &Targets,
     place: Place,
+    found: Option<Digest>,
 ) -> Result<(), NoMemory>
     requires { InForest kept.now.leaves place.row place.off }
-    ensures { OnOk result (message.new ≡ record { lean = message.old.lean; proof = record { spends = message.old.proof.spends; hashes = message.old.proof.hashes ++ somes (map (λ p. digest_at D.digest_of forest.now.entries p.row p.off) (filter (λ p. not (is_known_of kept.now.leaves kept.now.targets p)) (place ∷ []))) } }) }
+    ensures { OnOk result (message.new ≡ record { lean = message.old.lean; proof = record { spends = message.old.proof.spends; hashes = message.old.proof.hashes ++ somes (map (λ p. found) (filter (λ p. not (is_known_of kept.now.leaves kept.now.targets p)) (place ∷ []))) } }) }
 {
     if is_known(kept, place) {
         return Ok(());
     }
-    match forest.digest_at(place) {
+    match found {
         Some(digest) => message.push_hash(digest)?,
         None => {}
     }
@@ -112,8 +111,11 @@ pub(crate) fn message_of<D: Digester>(
         put_spend::<D>(&mut message, &mut positions, forest, outputs, *number)?;
     }
     let targets = targets_at(alloc, forest.leaves(), &positions)?;
-    for place in targets.needed() {
-        put_hash::<D>(&mut message, forest, kept, *place)?;
+    let (covered, _) = targets.covered();
+    let asked = targets.needed();
+    let found = forest.digests_at(alloc, covered, asked)?;
+    for i in 0..asked.len() {
+        put_hash(&mut message, kept, asked[i], found[i])?;
     }
     Ok(message)
 }

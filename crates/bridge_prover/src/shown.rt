@@ -1,7 +1,6 @@
 //! What the message beside a block shows: the entries at its targets, where they are what it says.
-ghost use Rattle.std.specs.Prelude.{◌≡◌, ◌↔◌, length, map, Some, IfOk, IsTrue};
+ghost use Rattle.std.specs.Prelude.{◌≡◌, ◌↔◌, length, Some, IfOk, IsTrue};
 ghost use Rattle.forest_model.specs.Cover.{need};
-ghost use Rattle.forest_model.specs.Standing.{digest_at};
 ghost use Rattle.leaf_record.specs.Leaf.{leaf_text};
 ghost use Rattle.proof_wire.specs.BlockProof.{rests_of};
 ghost use Rattle.node_rules.specs.Messages.{points_of, claimed};
@@ -84,13 +83,13 @@ fn stands(found: Option<Digest>, digest: Digest) -> bool
     }
 }
 
-// Whether these are the digests that stand at these places.
-fn do_hashes_stand<D: Digester>(forest: &Forest<D>, hashes: &[Digest], places: &[Place]) -> bool
-    requires { length hashes.now ≡ length places.now }
-    ensures { DoHashesStand hashes.now (map (λ p. digest_at D.digest_of forest.now.entries p.row p.off) places.now) result }
+// Whether these are the digests that were found.
+fn do_hashes_stand(hashes: &[Digest], found: &[Option<Digest>]) -> bool
+    requires { length hashes.now ≡ length found.now }
+    ensures { DoHashesStand hashes.now found.now result }
 {
-    for i in 0..places.len() {
-        if !stands(forest.digest_at(places[i]), hashes[i]) {
+    for i in 0..hashes.len() {
+        if !stands(found[i], hashes[i]) {
             return false;
         }
     }
@@ -117,7 +116,9 @@ pub(crate) fn right_entries<D: Digester>(
     else {
         return Ok(None);
     };
-    if do_hashes_stand(forest, hashes, targets.needed()) {
+    let (covered, _) = targets.covered();
+    let found = forest.digests_at(alloc, covered, targets.needed())?;
+    if do_hashes_stand(hashes, &found) {
         Ok(Some(numbers))
     } else {
         Ok(None)

@@ -3,7 +3,6 @@ ghost use Rattle.std.specs.Prelude.{◌≡◌, ℕ, ◌+◌, ◌<◌, ◌≤◌,
 ghost use Rattle.std.specs.List.{filter};
 ghost use Rattle.forest_place.specs.Places.{places};
 ghost use Rattle.forest_model.specs.Cover.{HasShape};
-ghost use Rattle.forest_model.specs.Standing.{digest_at};
 ghost use Rattle.cache_model.specs.Known.{is_watched, is_known};
 ghost use Rattle.cache_model.specs.Cache.{held};
 ghost use Rattle.cache_model.specs.Undo.{is_before_place};
@@ -166,14 +165,15 @@ fn known_places(alloc: Global, kept: &Targets) -> Result<Vec<Place>, AllocError>
     merge(alloc, covered, kept.needed())
 }
 
-fn put_known<D: Digester>(
+// A place with the digest that was found there, if one was.
+fn put_known(
     known: &mut Vec<(Place, Digest)>,
-    forest: &Forest<D>,
     place: Place,
+    found: Option<Digest>,
 ) -> Result<(), AllocError>
-    ensures { OnOk result (known.new.items ≡ known.old.items ++ filter_map (λ p. option_map (λ d. (p, d)) (digest_at D.digest_of forest.now.entries p.row p.off)) (place ∷ [])) }
+    ensures { OnOk result (known.new.items ≡ known.old.items ++ filter_map (λ p. option_map (λ d. (p, d)) found) (place ∷ [])) }
 {
-    match forest.digest_at(place) {
+    match found {
         Some(digest) => known.push((place, digest))?,
         None => {}
     }
@@ -185,14 +185,16 @@ pub(crate) fn hashes_of<D: Digester>(
     alloc: Global,
     forest: &Forest<D>,
     kept: &Targets,
-) -> Result<Vec<(Place, Digest)>, AllocError>
+) -> Result<Vec<(Place, Digest)>, NoMemory>
     requires { kept.now.leaves ≡ length forest.now.entries }
     ensures { IfOk result (λ known. known.items ≡ held D.digest_of forest.now.entries kept.now.targets) }
 {
     let places = known_places(alloc, kept)?;
     let mut known = Vec::with_capacity(alloc, places.len())?;
-    for place in &places {
-        put_known::<D>(&mut known, forest, *place)?;
+    let (covered, _) = kept.covered();
+    let found = forest.digests_at(alloc, covered, &places)?;
+    for i in 0..places.len() {
+        put_known(&mut known, places[i], found[i])?;
     }
     Ok(known)
 }

@@ -4,14 +4,15 @@ use Rattle.bridge_forest.specs.Parts.{ArePartsBut}
 use Rattle.bridge_forest.proofs.Refreshing.{AreFound}
 use Rattle.bridge_forest.proofs.arena.clear_path.Given as goal
 
-abbrev pub invariant-loop-off : goal.invariant-loop-off
-invariant-loop-off g l = record {
+abbrev pub invariant-rows : goal.invariant-rows
+invariant-rows g l = record {
   small : l.row < 40;
   here : l.off ≡ l.number / 2 ^ l.row;
+  there : l.other ≡ l.next / 2 ^ l.row;
   within : InForest l.n l.row l.off;
   right : ArePartsBut g.D.Digester.digest_of l.n l.leaves l.parts l.number 0;
   found : AreFound g.D.Digester.digest_of l.n l.leaves l.number l.row l.found;
 }
 
-abbrev pub decreases-loop-off : goal.decreases-loop-off
-decreases-loop-off g l = 40 - l.row
+abbrev pub decreases-rows : goal.decreases-rows
+decreases-rows g l = 40 - l.row

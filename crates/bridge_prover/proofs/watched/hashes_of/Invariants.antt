@@ -3,5 +3,5 @@ use Rattle.std.specs.Prelude.{filter_map}
 use Rattle.bridge_prover.proofs.Merging.{with_digest}
 use Rattle.bridge_prover.proofs.watched.hashes_of.Given as goal
 
-abbrev pub invariant-loop-place : goal.invariant-loop-place
-invariant-loop-place g l = l.known.items ≡ filter_map (with_digest g.D.Digester.digest_of l.forest.entries) (take l.place-index l.place-items)
+abbrev pub invariant-loop-i : goal.invariant-loop-i
+invariant-loop-i g l = l.known.items ≡ filter_map (with_digest g.D.Digester.digest_of l.forest.entries) (take l.i l.places.items)

@@ -12,10 +12,10 @@ use Rattle.output_index.proofs.chain.link.Goals as goal
 
 pub unreachable-requires : goal.unreachable-requires
 unreachable-requires c =
-    let e : Entry = c.entry.result.now in
+    let e : Entry = c.index.result.now in
     let chains = c.args.chains.now in
-    let at : entry_at c.args.number c.args.entries.now.entries ≡ Some e = c.index.ensures ∙ ap Some (sym c.entry.ensures) in
-    let none : tree.get nat_cmp chains (mark_in e) ≡ None = sym (sym c.in_default.is ∙ (c.copied.ensures ∙ (c.get.ensures.value ∙ ap (λ m. tree.get nat_cmp chains m) c.mark_of_record-mark.ensures))) in
+    let at : entry_at c.args.number c.args.entries.now.entries ≡ Some e = c.index.ensures in
+    let none : tree.get nat_cmp chains (mark_in e) ≡ None = sym (sym c.in_default.is ∙ (c.copied.ensures ∙ (c.get.ensures.value ∙ ap (λ m. tree.get nat_cmp chains m) c.mark-mark.ensures))) in
     false≢true (subst IsSome none (chain-there c.args.number e c.args.entries.now.entries chains at c.requires.chained))
 
 pub set_older-requires-in-Some-newest_above : goal.set_older-requires-in-Some-newest_above
@@ -25,13 +25,13 @@ pub returns-in-Some-newest_above-clause-chained : goal.returns-in-Some-newest_ab
 returns-in-Some-newest_above-clause-chained c =
     let n = c.args.number in
     let k = c.next_above-newer.result in
-    let e : Entry = c.entry.result.now in
-    let d : Entry = c.entry-in-Some-newest_above.result.now in
+    let e : Entry = c.index.result.now in
+    let d : Entry = c.entry.result.now in
     let es = c.args.entries.now.entries in
     let chains = c.args.chains.now in
-    let at : entry_at n es ≡ Some e = c.index.ensures ∙ ap Some (sym c.entry.ensures) in
-    let at_k : entry_at k es ≡ Some d = c.index-in-Some-newest_above.ensures ∙ ap Some (sym c.entry-in-Some-newest_above.ensures) in
-    let got : tree.get nat_cmp chains (mark_in e) ≡ Some c.in-Some.chain = sym (sym c.in-Some.is ∙ (c.copied.ensures ∙ (c.get.ensures.value ∙ ap (λ m. tree.get nat_cmp chains m) c.mark_of_record-mark.ensures))) in
+    let at : entry_at n es ≡ Some e = c.index.ensures in
+    let at_k : entry_at k es ≡ Some d = c.index-in-Some-newest_above.ensures ∙ ap Some (sym c.entry.ensures) in
+    let got : tree.get nat_cmp chains (mark_in e) ≡ Some c.in-Some.chain = sym (sym c.in-Some.is ∙ (c.copied.ensures ∙ (c.get.ensures.value ∙ ap (λ m. tree.get nat_cmp chains m) c.mark-mark.ensures))) in
     let told = subst (TellsAbove n c.in-Some.chain.newest) c.in-Some-newest_above.is c.newest_above.ensures in
     let is : c.set_older-in-Some-newest_above.new.entries.entries ≡ changed n (set_older d.older) (changed k (set_older (Some n)) es) = c.set_older-in-Some-newest_above.ensures ∙ ap (changed n (set_older d.older)) c.set_older.ensures in
     rw is (chained-among n k c.in-Some-newest_above.newest e d es chains at c.requires.spent (ap top_in got ∙ told.0) c.next_above-newer.ensures at_k c.requires.chained)
@@ -39,23 +39,23 @@ returns-in-Some-newest_above-clause-chained c =
 pub returns-in-Some-newest_above-clause-same : goal.returns-in-Some-newest_above-clause-same
 returns-in-Some-newest_above-clause-same c =
     ap held_in c.set_older-in-Some-newest_above.ensures
-    ∙ (held-set_older c.args.number c.entry-in-Some-newest_above.result.now.older c.set_older.new.entries.entries
+    ∙ (held-set_older c.args.number c.entry.result.now.older c.set_older.new.entries.entries
     ∙ (ap held_in c.set_older.ensures ∙ held-set_older c.next_above-newer.result (Some c.args.number) c.args.entries.now.entries))
 
 pub returns-in-Some-newest_above-clause-held : goal.returns-in-Some-newest_above-clause-held
 returns-in-Some-newest_above-clause-held c =
     rw c.set_older-in-Some-newest_above.ensures
-    (held-changed c.args.number c.args.number (set_older c.entry-in-Some-newest_above.result.now.older) c.set_older.new.entries.entries (rw c.set_older.ensures (held-changed c.args.number c.next_above-newer.result (set_older (Some c.args.number)) c.args.entries.now.entries c.requires.held)))
+    (held-changed c.args.number c.args.number (set_older c.entry.result.now.older) c.set_older.new.entries.entries (rw c.set_older.ensures (held-changed c.args.number c.next_above-newer.result (set_older (Some c.args.number)) c.args.entries.now.entries c.requires.held)))
 
 pub returns-in-None-clause-chained : goal.returns-in-None-clause-chained
 returns-in-None-clause-chained c =
     let n = c.args.number in
-    let e : Entry = c.entry.result.now in
+    let e : Entry = c.index.result.now in
     let es = c.args.entries.now.entries in
     let old = c.args.chains.now in
     let new = c.put.new.chains in
-    let at : entry_at n es ≡ Some e = c.index.ensures ∙ ap Some (sym c.entry.ensures) in
-    let mark = c.mark_of_record-mark.ensures in
+    let at : entry_at n es ≡ Some e = c.index.ensures in
+    let mark = c.mark-mark.ensures in
     let got : tree.get nat_cmp old (mark_in e) ≡ Some c.in-Some.chain = sym (sym c.in-Some.is ∙ (c.copied.ensures ∙ (c.get.ensures.value ∙ ap (λ m. tree.get nat_cmp old m) mark))) in
     let put : tree.get nat_cmp new (mark_in e) ≡ Some (record { newest = Some n; others = c.in-Some.chain.others }) = ap (λ m. tree.get nat_cmp new m) (sym mark) ∙ c.put.ensures.here in
     let told = subst (TellsAbove n c.in-Some.chain.newest) c.in-None.is c.newest_above.ensures in

@@ -1,27 +1,23 @@
-use Rattle.std.proofs.Common.{◌≢◌, ◌<◌, length, take, set, get_or, None, sym, ap, ◌∙◌, arith}
-use Rattle.std.specs.Prelude.{is_some}
-use Rattle.std.proofs.lemmas.List.{take_more, length-set, get_or-set_other}
+use Rattle.std.proofs.Common.{◌≡◌, ◌*◌, length, ap, sym, ◌∙◌, arith}
+use Rattle.std.proofs.lemmas.List.{length-take-le}
 use Rattle.forest_place.specs.Position.{rows}
-use Rattle.bridge_forest.specs.State.{is_live}
 use Rattle.forest_model.specs.Deletion.{entries_without}
-use Rattle.bridge_forest.proofs.Undoing.{entries_without-push}
+use Rattle.forest_model.proofs.Deleting.{length-entries_without}
+use Rattle.bridge_forest.proofs.Taking.{emptied_back}
 use Rattle.bridge_forest.proofs.forest.Forest.remove_all.Goals as goal
 
-pub loop-number-preserved : goal.loop-number-preserved
-loop-number-preserved g c =
-    let xs = c.args.spent.now in
-    let k = c.loop-number.number-index in
-    let x = get_or xs k 0 in
-    let old = c.loop-number.self.entries in
-    let first = c.args.self.now.entries in
-    let lt : k < length xs = c.loop-number-test.true in
-    let done = c.remove.ensures.entries in
-    record {
-      entries = done ∙ ap (λ z. set z x None) c.loop-number.invariant.entries ∙ sym (entries_without-push (take k xs) x first) ∙ ap (λ l. entries_without l first) (sym (take_more xs k 0 lt));
-      count = ap length done ∙ length-set old x None ∙ c.loop-number.invariant.count;
-      spare = c.remove.ensures.spare ∙ c.loop-number.invariant.spare;
-      live = λ j le below.
-          let ne : get_or xs j 0 ≢ x = λ e. c.requires.apart k j 0 (omega arith) below (sym e) in
-          ap (λ z. is_live z (get_or xs j 0)) done ∙ ap is_some (get_or-set_other old x (get_or xs j 0) None None ne) ∙ c.loop-number.invariant.live j (omega arith) below;
-      cost = omega (arith, c.remove.ensures.steps, ap rows c.loop-number.invariant.count, c.loop-number.invariant.cost);
-    }
+pub returns-clause-entries : goal.returns-clause-entries
+returns-clause-entries g c =
+    emptied_back c.self.inside.count c.self.inside.leaves.len c.self.inside.leaves.items c.empty_all.new.leaves c.args.self.now.entries c.args.spent.now (ap (λ b. b.entries) c.self.view_is) c.self.inside.leaves.ok.0 (c.empty_all.ensures.leaves ∙ ap (entries_without c.args.spent.now) c.deref_mut.ensures.value)
+
+pub returns-clause-count : goal.returns-clause-count
+returns-clause-count g c =
+    ap length (emptied_back c.self.inside.count c.self.inside.leaves.len c.self.inside.leaves.items c.empty_all.new.leaves c.args.self.now.entries c.args.spent.now (ap (λ b. b.entries) c.self.view_is) c.self.inside.leaves.ok.0 (c.empty_all.ensures.leaves ∙ ap (entries_without c.args.spent.now) c.deref_mut.ensures.value))
+    ∙ length-entries_without c.args.spent.now c.args.self.now.entries
+
+pub returns-clause-steps : goal.returns-clause-steps
+returns-clause-steps g c =
+    let n = c.self.inside.count in
+    let long : length c.args.self.now.entries ≡ n = ap (λ b. length b.entries) (sym c.self.view_is) ∙ length-take-le n c.self.inside.leaves.items (omega arith) in
+    let same : length c.args.spent.now * rows (length c.args.self.now.entries) ≡ length c.args.spent.now * rows n = ap (λ k. length c.args.spent.now * rows k) long in
+    omega (arith, c.empty_all.ensures.cost, same)

@@ -1,0 +1,12 @@
+use Rattle.std.proofs.Common.{◌≡◌, ◌+◌, ◌*◌, ◌≤◌, take, get_or, length}
+use Rattle.forest_place.specs.Position.{rows}
+use Rattle.forest_model.specs.Deletion.{entries_without}
+use Rattle.bridge_forest.specs.Parts.{ArePartsBut}
+use Rattle.bridge_forest.proofs.arena.empty_all.Given as goal
+
+abbrev pub invariant-loop-i : goal.invariant-loop-i
+invariant-loop-i g l = record {
+  entries : l.leaves ≡ entries_without (take l.i l.numbers) l.initial.leaves;
+  right : ArePartsBut g.D.Digester.digest_of l.n l.leaves l.parts (get_or l.numbers l.i l.n) 0;
+  cost : l.steps ≤ l.initial.steps + l.i * rows l.n;
+}
