@@ -112,6 +112,37 @@ fn check_row<D: Digester>(rt: &impl Abort, forest: &Forest<D>, nodes: &[Node], r
     }
 }
 
+// All places of some rows, and one behind the last of each.
+fn all_places(alloc: Global, n: u64) -> Result<Vec<Place>, AllocError> {
+    let mut places = Vec::new(alloc);
+    for row in 0..5u8 {
+        for off in 0..=n >> row {
+            places.push(Place { row, off })?;
+        }
+    }
+    Ok(places)
+}
+
+// Whether a walk over all places answers what the plain forest has, with these places above.
+fn check_walk<D: Digester>(
+    rt: &impl Abort,
+    alloc: Global,
+    forest: &Forest<D>,
+    nodes: &[Node],
+    above: &[Place],
+    places: &[Place],
+) {
+    let Ok(digests) = forest.digests_at(alloc, above, places) else {
+        panic!(rt; "no memory")
+    };
+    for (place, digest) in places.iter().zip(digests.iter()) {
+        assert!(rt;
+            *digest == node_at(nodes, *place).map(|node| node.digest),
+            "the digest at {place:?} in a walk"
+        );
+    }
+}
+
 // Whether a slot has its root.
 fn check_root<D: Digester>(
     rt: &impl Abort,
@@ -196,6 +227,9 @@ fn check<D: Digester, L: Ledger>(
 ) -> Result<(), AllocError> {
     let nodes = nodes_of::<D, L>(rt, alloc, &both.entries, steps)?;
     assert_eq!(rt; both.forest.leaves(), both.entries.len() as u64);
+    let places = all_places(alloc, both.forest.leaves())?;
+    check_walk(rt, alloc, &both.forest, &nodes, &places, &places);
+    check_walk(rt, alloc, &both.forest, &nodes, &[], &places);
     let roots = both.forest.roots();
     for row in 0..5 {
         check_row(rt, &both.forest, &nodes, row);
