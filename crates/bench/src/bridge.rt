@@ -223,12 +223,12 @@ fn measure_alone<R: CpuClock + Print, L: Ledger>(
     let apart = needs.apart.saturating_add(adding);
     let shared = needs.shared.saturating_add(adding);
     let mut watch = Stopwatch::start(rt)?;
-    let last = digest_alone(apart, steps);
+    let last = digest_alone(shared, steps);
     let digesting = watch.lap(rt)?;
     let seen = hash_alone(blocks);
     let hashing = watch.lap(rt)?;
     println!(rt;
-        "  its {apart} digests alone {} us, {shared} where paths are shared; hashing alone {} us; {} bytes of messages; {} {seen}",
+        "  its {shared} digests alone {} us, {apart} where no path is shared; hashing alone {} us; {} bytes of messages; {} {seen}",
         digesting.as_micros(),
         hashing.as_micros(),
         needs.bytes,

@@ -1,11 +1,10 @@
 -- What stands at places, each told from what stands above it.
-use Rattle.std.proofs.Common.{◌≡◌, ℕ, ◌+◌, ◌-◌, ◌*◌, ◌/◌, ◌%◌, ◌<◌, ◌≤◌, Bool, false, ◌↔◌, IsTrue, List, length, get_or, set, Option, Some, None, refl, sym, ap, ◌∙◌, subst, ⊎_elim, arith}
+use Rattle.std.proofs.Common.{◌≡◌, ℕ, ◌+◌, ◌-◌, ◌*◌, ◌/◌, ◌%◌, ◌<◌, ◌≤◌, Bool, false, ◌↔◌, IsTrue, List, length, get_or, set, Option, Some, None, refl, sym, ◌∙◌, subst, ⊎_elim, arith}
 use Rattle.std.proofs.lemmas.Bool.{cases_eq, true≢false}
 use Rattle.std.proofs.lemmas.List.{get_or_default, get_or-set_same, get_or-set_other}
 use Rattle.uo_digest.specs.declared.digest.Digest.{Digest}
 use Rattle.forest_place.specs.declared.place.Place.{Place}
 use Rattle.forest_place.specs.Forest.{InForest}
-use Rattle.forest_model.specs.Content.{content}
 use Rattle.forest_model.specs.Standing.{tree_at}
 use Rattle.bridge_forest.specs.Lookups.{AreAlike, IsSmallest, IsPartAt, IsNodeAt, AreNodes, IsParentAt}
 use Rattle.bridge_forest.proofs.Seeking.{nothing_below, entry_above, node_above}

@@ -201,6 +201,14 @@ fn check_outside<L: Ledger>(rt: &impl Abort, alloc: Global, blank: Blank) -> Res
         let node = forest.digest_at(Place { row, off: 0 });
         assert!(rt; node.is_some_and(|node| hex_plain(&node) == *want));
     }
+
+    // The same by one call, the parent from what stands above it.
+    let top = Place { row: 3, off: 0 };
+    let above = [Place { row: 2, off: 0 }, top];
+    let found = forest.digests_at(alloc, &above, &[Place { row: 1, off: 0 }, top])?;
+    assert!(rt; found.len() == 2);
+    assert!(rt; found[0].is_some_and(|node| hex_plain(&node) == *parent));
+    assert!(rt; found[1].is_some_and(|node| hex_plain(&node) == *root));
     Ok(())
 }
 

@@ -1,4 +1,4 @@
-use Rattle.std.proofs.Common.{◌≡◌, ◌+◌, ◌*◌, ◌≤◌, take, get_or, length}
+use Rattle.std.proofs.Common.{◌≡◌, ◌+◌, ◌*◌, ◌≤◌, take, get_or}
 use Rattle.forest_place.specs.Position.{rows}
 use Rattle.forest_model.specs.Deletion.{entries_without}
 use Rattle.bridge_forest.specs.Parts.{ArePartsBut}

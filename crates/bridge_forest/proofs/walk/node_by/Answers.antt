@@ -1,5 +1,3 @@
-use Rattle.std.proofs.Common.{true, sym, ◌∙◌}
-use Rattle.std.proofs.lemmas.Bool.{true≢false}
 use Rattle.bridge_forest.proofs.Seeking.{outside}
 use Rattle.bridge_forest.proofs.Walking.{not_within}
 use Rattle.bridge_forest.proofs.walk.node_by.Goals as goal
