@@ -47,24 +47,42 @@ fn spending(alloc: Global, prev: Digest, height: u32, id: Digest) -> Result<Samp
     Ok(block_behind(alloc, prev, &txs)?)
 }
 
-fn check_many<L: Ledger>(rt: &impl Abort, alloc: Global, blank: Blank) -> Result<(), Fail>
-    requires name { blank.name ≡ L.name }
-    requires parts { blank.parts ≡ L.parts }
-    requires some { 0 < blank.parts }
-{
-    let mut steps = Steps::<L>::new(blank);
-    let mut pair = Pair::new(alloc, Net::Main, b"52")?;
-    let _ = pair.act(rt, Act::Plain(1), &mut steps)?;
-    let tip = pair.hashes.last().copied().unwrap_or(NONE);
-    let _ = pair.pass(rt, &wide(alloc, tip, 1)?, &mut steps)?;
-    let _ = pair.act(rt, Act::Plain(99), &mut steps)?;
-    let tip = pair.hashes.last().copied().unwrap_or(NONE);
-    let id = *pair.ids.get(1).ok_or("a block")?;
-    let block = spending(alloc, tip, 101, id)?;
-    let told = pair.pass(rt, &block, &mut steps)?;
+fn newest(pair: &Pair) -> Digest {
+    pair.hashes.last().copied().unwrap_or(NONE)
+}
+
+/// 101 blocks, of which the second has so many outputs. It answers the id of its coinbase.
+fn grow<L: Ledger>(
+    rt: &impl Abort,
+    alloc: Global,
+    pair: &mut Pair,
+    steps: &mut Steps<L>,
+) -> Result<Digest, Fail> {
+    let _ = pair.act(rt, Act::Plain(1), steps)?;
+    let block = wide(alloc, newest(pair), 1)?;
+    let _ = pair.pass(rt, &block, steps)?;
+    let _ = pair.act(rt, Act::Plain(99), steps)?;
+    Ok(*pair.ids.get(1).ok_or("a block")?)
+}
+
+fn check_spent<L: Ledger>(
+    rt: &impl Abort,
+    pair: &mut Pair,
+    block: &Sample,
+    steps: &mut Steps<L>,
+) -> Result<(), Fail> {
+    let told = pair.pass(rt, block, steps)?;
     assert!(rt; matches!(told.verdict, Verdict::Accepted { .. }));
     assert_eq!(rt; told.front.0, 1_316_774);
-    let back = pair.go_back(rt, 1, &mut steps)?;
+    Ok(())
+}
+
+fn check_undone<L: Ledger>(
+    rt: &impl Abort,
+    pair: &mut Pair,
+    steps: &mut Steps<L>,
+) -> Result<(), Fail> {
+    let back = pair.go_back(rt, 1, steps)?;
     assert!(rt;
         matches!(
             back,
@@ -75,6 +93,19 @@ fn check_many<L: Ledger>(rt: &impl Abort, alloc: Global, blank: Blank) -> Result
         )
     );
     Ok(())
+}
+
+fn check_many<L: Ledger>(rt: &impl Abort, alloc: Global, blank: Blank) -> Result<(), Fail>
+    requires name { blank.name ≡ L.name }
+    requires parts { blank.parts ≡ L.parts }
+    requires some { 0 < blank.parts }
+{
+    let mut steps = Steps::<L>::new(blank);
+    let mut pair = Pair::new(alloc, Net::Main, b"52")?;
+    let id = grow(rt, alloc, &mut pair, &mut steps)?;
+    let block = spending(alloc, newest(&pair), 101, id)?;
+    check_spent(rt, &mut pair, &block, &mut steps)?;
+    check_undone(rt, &mut pair, &mut steps)
 }
 
 /// They are spent, and the spends are undone.

@@ -241,6 +241,33 @@ fn check_same(rt: &impl Abort, back: &Pair, straight: &Pair) -> Result<(), Fail>
     Ok(())
 }
 
+// All that a way with rollbacks comes to.
+fn back_by<L: Ledger>(
+    rt: &impl Abort,
+    alloc: Global,
+    ways: &Ways,
+    steps: &mut Steps<L>,
+) -> Result<Pair, Fail> {
+    let mut back = Pair::new(alloc, Net::Main, ways.0)?;
+    for step in ways.1 {
+        make(rt, &mut back, *step, steps)?;
+    }
+    Ok(back)
+}
+
+fn straight_by<L: Ledger>(
+    rt: &impl Abort,
+    alloc: Global,
+    ways: &Ways,
+    steps: &mut Steps<L>,
+) -> Result<Pair, Fail> {
+    let mut straight = Pair::new(alloc, Net::Main, ways.0)?;
+    for act in ways.2 {
+        let _ = straight.act(rt, *act, steps)?;
+    }
+    Ok(straight)
+}
+
 fn check_ways<L: Ledger>(
     rt: &impl Abort,
     alloc: Global,
@@ -252,14 +279,8 @@ fn check_ways<L: Ledger>(
     requires some { 0 < blank.parts }
 {
     let mut steps = Steps::<L>::new(blank);
-    let mut back = Pair::new(alloc, Net::Main, ways.0)?;
-    for step in ways.1 {
-        make(rt, &mut back, *step, &mut steps)?;
-    }
-    let mut straight = Pair::new(alloc, Net::Main, ways.0)?;
-    for act in ways.2 {
-        let _ = straight.act(rt, *act, &mut steps)?;
-    }
+    let back = back_by(rt, alloc, ways, &mut steps)?;
+    let straight = straight_by(rt, alloc, ways, &mut steps)?;
     check_same(rt, &back, &straight)
 }
 
