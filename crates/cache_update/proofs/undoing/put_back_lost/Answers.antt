@@ -1,4 +1,4 @@
-use Rattle.std.proofs.Common.{◌≡◌, ◌-◌, ◌≤◌, List, refl, sym, ap, ap₂, take, map, length, arith}
+use Rattle.std.proofs.Common.{◌≡◌, ◌+◌, ◌-◌, ◌<◌, refl, take, map, length, arith}
 use Rattle.cache_model.specs.Undo.{is_same_place, is_before_place, held_key}
 use Rattle.cache_update.specs.Gaps.{around}
 use Rattle.cache_update.specs.Given.{digest_was, undo_digests}
@@ -16,11 +16,14 @@ put_in-now-requires-clause-room c = has_gap c.args.lost.now c.loop-i.now.from c.
 
 pub loop-i-preserved : goal.loop-i-preserved
 loop-i-preserved c =
-    let rest = undo_on is_same_place is_before_place held_key digest_was c.args.lost.now _ (around c.loop-i.now.from c.loop-i.now.to c.loop-i.list) _ c.loop-i.i (c.loop-i.i - 1) _ (omega (arith, c.loop-i-test.true)) (omega (arith, c.loop-i-test.true, c.loop-i.invariant.within)) c.put_in-now.ensures.items in
+    let now = around c.loop-i.now.from c.loop-i.now.to c.loop-i.list in
+    let fewer : c.loop-i.i - 1 + 1 ≡ c.loop-i.i = omega (arith, c.loop-i-test.true) in
+    let inside : c.loop-i.i - 1 < length c.args.lost.now = omega (arith, c.loop-i-test.true, c.loop-i.invariant.within) in
     record {
       gap = c.put_in-now.ensures.gap;
-      rest = rest c.loop-i.invariant.rest;
+      rest = undo_on is_same_place is_before_place held_key digest_was c.args.lost.now _ now _ c.loop-i.i (c.loop-i.i - 1) _ fewer inside c.put_in-now.ensures.items c.loop-i.invariant.rest;
       ascends = c.put_in-now.ensures.ascends;
       within = omega (arith, c.loop-i.invariant.within);
-      room = room_stays c.args.lost.now (around c.loop-i.now.from c.loop-i.now.to c.loop-i.list) _ _ _ _ c.loop-i.i (c.loop-i.i - 1) (omega (arith, c.loop-i-test.true)) c.put_in-now.ensures.items (rest refl) c.loop-i.invariant.room;
+      room = room_stays c.args.lost.now now _ _ _ _ c.loop-i.i (c.loop-i.i - 1) fewer c.put_in-now.ensures.items
+          (undo_on is_same_place is_before_place held_key digest_was c.args.lost.now (undo_digests (map digest_was (take c.loop-i.i c.args.lost.now)) now) now _ c.loop-i.i (c.loop-i.i - 1) _ fewer inside c.put_in-now.ensures.items refl) c.loop-i.invariant.room;
     }
