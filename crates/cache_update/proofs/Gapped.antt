@@ -1,7 +1,7 @@
 -- A list with a gap, where the gap goes, and what is changed at it.
 use Rattle.std.proofs.Common.{◌≡◌, ℕ, zero, suc, ◌+◌, ◌-◌, ◌<◌, ◌≤◌, ◌⊎◌, inl, inr, Bool, true, false, List, [], ◌∷◌, ◌++◌, length, get_or, set, map, take, drop, Some, None, refl, sym, ap, ap₂, ◌∙◌, subst, ⊎_elim, arith}
 use Rattle.std.proofs.lemmas.Bool.{cases_lt}
-use Rattle.std.proofs.lemmas.List.{append-nil, append_assoc, length-append, length-take-le, length-drop, take-set, take-set-le, drop-set, drop-set-lt, take_more, take_more_set, drop_more, drop_all, take_all, get_or-take, get_or-drop, get_or_default}
+use Rattle.std.proofs.lemmas.List.{append-nil, append_assoc, length-append, length-take-le, length-drop, take-set-le, drop-set, drop-set-lt, take_more, take_more_set, drop_more, drop_all, get_or-take, get_or-drop, get_or_default}
 use Rattle.uo_digest.specs.declared.digest.Digest.{Digest}
 use Rattle.forest_place.specs.declared.place.Place.{Place}
 use Rattle.cache_model.specs.Lists.{AscendByPlace}
@@ -13,8 +13,8 @@ use Rattle.cache_model.proofs.Undoing.{place_order}
 use Rattle.cache_update.specs.Gaps.{IsGap, around, EndsBefore}
 use Rattle.cache_update.specs.Given.{digest_was, digest_none, undo_digests, held_given}
 use Rattle.cache_update.proofs.Undone.{undo_long, undo_no_longer, change_short}
-use Rattle.cache_update.proofs.Outs.{out_there, out_other, out_end}
-use Rattle.cache_update.proofs.Puts.{put_there, put_before, put_end}
+use Rattle.cache_update.proofs.Outs.{out_other, out_end}
+use Rattle.cache_update.proofs.Puts.{put_there, put_before}
 
 abbrev pub Cells : Type 0
 Cells = List (Place × Digest)
@@ -222,6 +222,11 @@ room_stays lost now next p x cells i j e f g (inl h) =
     let short = change_short is_same_place is_before_place held_key p (λ y. Some (p, x)) now in
     inl (omega (arith, e, l, short, h))
 room_stays lost now next p x cells i j e f g (inr h) = inr (let l = ap length g in omega (arith, l, h))
+
+-- a list that is written in place is as long as it was
+pub room_kept : (a b cells cells' : ℕ) → cells' ≡ cells → (a ≤ cells) ⊎ (b < cells) → (a ≤ cells') ⊎ (b < cells')
+room_kept a b cells cells' e (inl h) = inl (omega (arith, e, h))
+room_kept a b cells cells' e (inr h) = inr (omega (arith, e, h))
 
 pub room_between : (lost : Cells) (gained : List Place) (hs now : Cells) (cells cells' : ℕ) → now ≡ undo_digests (map digest_none gained) hs → cells' ≡ cells →
     (length hs + length lost ≤ cells) ⊎ (length (held_given lost gained hs) < cells) → (length now + length lost ≤ cells') ⊎ (length (undo_digests (map digest_was lost) now) < cells')

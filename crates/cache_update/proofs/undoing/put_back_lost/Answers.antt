@@ -2,8 +2,8 @@ use Rattle.std.proofs.Common.{◌≡◌, ◌+◌, ◌-◌, ◌<◌, refl, take, 
 use Rattle.cache_model.specs.Undo.{is_same_place, is_before_place, held_key}
 use Rattle.cache_update.specs.Gaps.{around}
 use Rattle.cache_update.specs.Given.{digest_was, undo_digests}
-use Rattle.cache_update.proofs.Undone.{undo_start, undo_on, undo_long}
-use Rattle.cache_update.proofs.Gapped.{has_gap, room_starts, room_stays}
+use Rattle.cache_update.proofs.Undone.{undo_start, undo_on}
+use Rattle.cache_update.proofs.Gapped.{has_gap, room_starts, room_stays, room_kept}
 use Rattle.cache_update.proofs.undoing.put_back_lost.Goals as goal
 
 pub loop-i-init : goal.loop-i-init
@@ -24,6 +24,6 @@ loop-i-preserved c =
       rest = undo_on is_same_place is_before_place held_key digest_was c.args.lost.now _ now _ c.loop-i.i (c.loop-i.i - 1) _ fewer inside c.put_in-now.ensures.items c.loop-i.invariant.rest;
       ascends = c.put_in-now.ensures.ascends;
       within = omega (arith, c.loop-i.invariant.within);
-      room = room_stays c.args.lost.now now _ _ _ _ c.loop-i.i (c.loop-i.i - 1) fewer c.put_in-now.ensures.items
-          (undo_on is_same_place is_before_place held_key digest_was c.args.lost.now (undo_digests (map digest_was (take c.loop-i.i c.args.lost.now)) now) now _ c.loop-i.i (c.loop-i.i - 1) _ fewer inside c.put_in-now.ensures.items refl) c.loop-i.invariant.room;
+      room = room_kept _ _ (length c.loop-i.list) _ (omega (arith, c.put_in-now.auto.list)) (room_stays c.args.lost.now now _ _ _ _ c.loop-i.i (c.loop-i.i - 1) fewer c.put_in-now.ensures.items
+          (undo_on is_same_place is_before_place held_key digest_was c.args.lost.now (undo_digests (map digest_was (take c.loop-i.i c.args.lost.now)) now) now _ c.loop-i.i (c.loop-i.i - 1) _ fewer inside c.put_in-now.ensures.items refl) c.loop-i.invariant.room);
     }
