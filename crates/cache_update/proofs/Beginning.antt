@@ -150,5 +150,5 @@ between_fits m p newer older none done kept held same kept_room held_room =
     record {
       kept_room = omega (arith, a, kept_room);
       held_room = omega (arith, b, held_room);
-      left = subst (HasRoomLeft m p) (sym none) done;
+      left = subst (HasRoomLeft m p) (sym none) (λ lt. absurd (omega (arith, lt, done)));
     }

@@ -1,5 +1,5 @@
 -- What a mark gives back ascends, and a mark fits with more room.
-use Rattle.std.proofs.Common.{◌≡◌, ◌<◌, ◌≤◌, true, List, [], ◌∷◌, map, length, Option, Some, None, sym, ap, subst, All, arith}
+use Rattle.std.proofs.Common.{◌≡◌, ◌<◌, ◌≤◌, true, List, [], ◌∷◌, map, length, Option, Some, None, sym, ap, ◌∙◌, subst, All, arith}
 use Rattle.std.proofs.lemmas.Option.{none-some, same_Some}
 use Rattle.uo_digest.specs.declared.digest.Digest.{Digest}
 use Rattle.forest_place.specs.declared.place.Place.{Place}
@@ -23,7 +23,7 @@ none_keep : (gained : List Place) → KeepKeys held_key (map digest_none gained)
 none_keep [] = tt
 none_keep (p ∷ gained) = (λ now v e. absurd (none-some v e), none_keep gained)
 
-given_ascends : (lost : List (Place × Digest)) (gained : List Place) (hs : List (Place × Digest)) → AscendByPlace hs → AscendByPlace (held_given lost gained hs)
+pub given_ascends : (lost : List (Place × Digest)) (gained : List Place) (hs : List (Place × Digest)) → AscendByPlace hs → AscendByPlace (held_given lost gained hs)
 given_ascends lost gained hs a =
     (undone is_same_place is_before_place held_key place_order (map digest_was lost) (undo_digests (map digest_none gained) hs)
     (undone is_same_place is_before_place held_key place_order (map digest_none gained) hs a (none_keep gained)).0 (was_keep lost)).0
@@ -73,7 +73,7 @@ module _ (m : Mark) (p q : Parted) (kept : q.kept ≡ p.kept) (held : q.held ≡
       }
 
   left_more : (r : Option Room) → HasRoomLeft m p r → HasRoomLeft m q r
-  left_more None h = h
+  left_more None h = λ lt. let idle = h lt in record { kept = kept ∙ idle.kept; held = held ∙ idle.held; watched = idle.watched }
   left_more (Some r) h = room_more r h
 
   pub fits_more : Fits m p → Fits m q

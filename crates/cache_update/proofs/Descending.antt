@@ -76,3 +76,7 @@ told_more n ts hs goals now i x goal t g end m = subst (TellGoals n ts hs) (sym 
 
 pub held_within : (n m : ℕ) (hs : List (Place × Digest)) (i : ℕ) (d : Place × Digest) → m ≡ n → All (λ x. InForest n x.0.row x.0.off) hs → i < length hs → InForest m (get_or hs i d).0.row (get_or hs i d).0.off
 held_within n m hs i d e a lt = subst (λ k. InForest k (get_or hs i d).0.row (get_or hs i d).0.off) (sym e) (a i d lt)
+
+-- the place above, where it is given
+pub free_is : (n : ℕ) (ts : List Place) (p : Place) (free : Option Place) (q : Place) → free ≡ Some q → IfSome free (λ (above : Place). IsFreeAbove n ts p above) → IsFreeAbove n ts p q
+free_is n ts p free q e h = subst (λ (x : Option Place). IfSome x (λ (above : Place). IsFreeAbove n ts p above)) e h

@@ -1,5 +1,5 @@
 -- A mark right after it was made.
-use Rattle.std.specs.Prelude.{◌≡◌, ℕ, ◌+◌, ◌<◌, ◌≤◌, List, [], length, map, Option, Some, option_map, vec_capacity}
+use Rattle.std.specs.Prelude.{◌≡◌, ℕ, ◌+◌, ◌<◌, ◌≤◌, List, [], length, map, Option, Some, None, option_map, vec_capacity}
 use Rattle.forest_place.specs.declared.place.Place.{Place}
 use Rattle.forest_place.specs.Position.{position}
 use Rattle.forest_model.specs.Deletion.{moved}
@@ -40,3 +40,11 @@ pub record IsMark (t : Targeted) (p : Parted) (adds watched : ℕ) (r : Room) (m
   pub taken_room : length p.kept ≤ vec_capacity m.taken
   pub added_room : watched ≤ vec_capacity m.added
   pub room : m.room ≡ Some r
+
+-- a mark without room, over entries of which nothing is known
+pub record IsIdleMark (leaves adds : ℕ) (m : Mark) : Type 0 where
+  pub leaves_are : m.leaves ≡ leaves
+  pub adds_are : m.adds ≡ adds
+  pub watched : m.watched ≡ 0
+  pub nothing : (m.taken.items ≡ []) × (m.stood.items ≡ []) × (m.added.items ≡ []) × (m.lost.items ≡ []) × (m.gained.items ≡ [])
+  pub room : m.room ≡ None

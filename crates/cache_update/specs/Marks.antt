@@ -64,9 +64,15 @@ pub record HasRoomFor (m : Mark) (p : Parted) (r : Room) : Type 0 where
   pub moved : vec_len m.stood ≤ vec_capacity r.moved
   pub empty : (r.lost.items ≡ []) × (r.gained.items ≡ []) × (r.moved.items ≡ [])
 
--- where no room is left, no addition is
+-- nothing is kept or held, and nothing comes that is watched, so no addition changes anything
+pub record IsIdle (m : Mark) (p : Parted) : Type 0 where
+  pub kept : p.kept ≡ []
+  pub held : p.held ≡ []
+  pub watched : m.watched ≡ 0
+
+-- where there is no room, no addition is left, or it changes nothing
 abbrev pub HasRoomLeft : Mark → Parted → Option Room → Type 0
-HasRoomLeft m p None = m.adds ≡ 0
+HasRoomLeft m p None = 0 < m.adds → IsIdle m p
 HasRoomLeft m p (Some r) = HasRoomFor m p r
 
 -- a mark fits a cache with room for what it gives back, and for what is left of its block
@@ -97,8 +103,9 @@ pub record IsUnused (t : Targeted) (m : Mark) (ks : List Kept) (r : Room) : Type
   pub moves : r.most ≤ vec_capacity r.scratch.moves
   pub goals : r.most ≤ vec_capacity r.scratch.goals
 
+-- a mark without room has additions left, so the cache that it fits keeps and holds nothing
 abbrev pub IsUnusedIn : Targeted → Mark → List Kept → Option Room → Type 0
-IsUnusedIn t m ks None = ⊥
+IsUnusedIn t m ks None = 0 < m.adds
 IsUnusedIn t m ks (Some r) = IsUnused t m ks r
 
 abbrev pub WasBegun : Targeted → Mark → List Kept → Type 0

@@ -85,11 +85,11 @@ fn add_in(
     ensures kept_room { parts.old.kept_room ≤ parts.new.kept_room }
     ensures held_room { parts.old.held_room ≤ parts.new.held_room }
 {
+    mark.count_one(leaf.is_some());
     let Some(left) = mark.room.take() else {
         return;
     };
     let mut room = left;
-    mark.count_one(leaf.is_some());
     add_to(parts, &mut room.scratch.spare, n, digest, joins, leaf);
     mark.go_on(room, parts);
 }
@@ -109,6 +109,9 @@ impl Mark {
         ensures taken { self.new.taken.items ≡ self.old.taken.items }
         ensures stood { self.new.stood.items ≡ self.old.stood.items }
         ensures stood_len { vec_len self.new.stood ≡ vec_len self.old.stood }
+        ensures lost { self.new.lost.items ≡ self.old.lost.items }
+        ensures gained { self.new.gained.items ≡ self.old.gained.items }
+        ensures room { self.new.room ≡ self.old.room }
     {
         if is_watched {
             let _ = self.added.push(self.leaves);

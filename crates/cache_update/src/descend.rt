@@ -10,25 +10,28 @@ ghost use Rattle.cache_model.specs.Search.{IsSplit};
 ghost use Rattle.cache_model.specs.Undo.{is_before_place, held_key};
 ghost use Rattle.cache_update.specs.Descent.{IsFreeAbove, NoneBefore, TellGoals};
 
-use crate::known::is_covered;
+use crate::known::covered_near;
 use crate::put::{is_before, is_same};
 use forest_place::{Place, is_root, parent};
 use proof_shape::{Targets, child_of};
 use uo_digest::Digest;
 
-// The place above one, where there is one and no target stands at or beneath it.
-fn free_above(targets: &Targets, place: Place) -> Option<Place>
+// The place above one, where there is one and no target stands at or beneath it. It is sought from an index on; and where the next
+// one is to be sought.
+fn free_above(targets: &Targets, near: usize, place: Place) -> (Option<Place>, usize)
     requires { InForest targets.now.leaves place.row place.off }
-    ensures { IfSome result (λ above. IsFreeAbove targets.now.leaves targets.now.targets place above) }
+    ensures { IfSome result.0 (λ above. IsFreeAbove targets.now.leaves targets.now.targets place above) }
 {
     if is_root(targets.leaves(), place) {
-        return None;
+        return (None, near);
     }
     let next = parent(place);
-    if is_covered(targets, next) {
-        return None;
+    let sought = covered_near(targets, near, next);
+    if sought.0 {
+        (None, sought.1)
+    } else {
+        (Some(next), sought.1)
     }
-    Some(next)
 }
 
 // The place above.
@@ -89,19 +92,22 @@ fn child_goal(n: u64, goal: Option<Place>, side: u64) -> Option<Place>
     }
 }
 
-// Where a place goes, where the goals of the places behind it are told. The one above it stands, or would stand, at the index.
+// Where a place goes, where the goals of the places behind it are told. The one above it stands, or would stand, at the index; it is given where it
+// is free of targets.
 fn goal_of(
     targets: &Targets,
     held: &[(Place, Digest)],
     goals: &[Option<Place>],
     at: usize,
     place: Place,
+    free: Option<Place>,
 ) -> Option<Place>
     requires within { InForest targets.now.leaves place.row place.off }
+    requires free { IfSome free (λ above. IsFreeAbove targets.now.leaves targets.now.targets place above) }
     requires told { TellGoals targets.now.leaves targets.now.targets held.now goals.now }
     ensures { result ≡ moved targets.now.leaves targets.now.targets place.row place.off }
 {
-    let Some(next) = free_above(targets, place) else {
+    let Some(next) = free else {
         return targets.moved(place);
     };
     let Some(goal) = told(held, goals, at, next) else {
@@ -125,11 +131,14 @@ pub(crate) fn tell_goals(
     goals.clear();
     let mut left = held.len();
     let mut at = held.len();
+    let mut near = 0;
     while left > 0 {
         left -= 1;
         let place = held[left].0;
         at = index_back(held, at, above(targets.leaves(), place));
-        let goal = goal_of(targets, held, goals, at, place);
+        let (free, covered_at) = free_above(targets, near, place);
+        let goal = goal_of(targets, held, goals, at, place, free);
+        near = covered_at;
         let _ = goals.push(goal);
     }
 }

@@ -7,7 +7,7 @@ ghost use Rattle.forest_place.specs.Position.{positions_of};
 ghost use Rattle.cache_model.specs.Lists.{moved_leaves, leaf_places};
 ghost use Rattle.leaf_cache.specs.Parted.{HaveSameLists, IsParted};
 ghost use Rattle.cache_update.specs.Differences.{where_stood};
-ghost use Rattle.cache_update.specs.Begun.{IsRoom, IsMark, new_position};
+ghost use Rattle.cache_update.specs.Begun.{IsRoom, IsMark, IsIdleMark, new_position};
 ghost use Rattle.cache_update.specs.Marks.{AreOfForest, Fits, WasBegun, HoldKnown, growth, kept_back, held_back};
 
 use crate::known::is_within;
@@ -171,8 +171,58 @@ fn mark_for(
     })
 }
 
-// A mark for a block, and room in the lists for what the block adds to them.
-fn begin_in(
+// Whether nothing is kept or held, and nothing comes that is watched.
+fn is_idle(parts: &Parts, adds: u64, watched: u64) -> bool
+    ensures { OnTrue result ((0 < adds) × (watched ≡ 0) × (parts.now.kept ≡ []) × (parts.now.held ≡ [])) }
+{
+    adds > 0 && watched == 0 && parts.kept.is_empty() && parts.held.is_empty()
+}
+
+// A mark for additions that change nothing. It takes no memory.
+fn idle_mark(alloc: Global, leaves: u64, adds: u64) -> Mark
+    ensures { IsIdleMark leaves adds result }
+{
+    Mark {
+        leaves,
+        adds,
+        watched: 0,
+        taken: Vec::new(alloc),
+        stood: Vec::new(alloc),
+        added: Vec::new(alloc),
+        lost: Vec::new(alloc),
+        gained: Vec::new(alloc),
+        room: None,
+    }
+}
+
+// A mark for a block that changes nothing of the lists, which are empty.
+fn begin_idle(
+    alloc: Global,
+    parts: &mut Parts,
+    targets: &Targets,
+    adds: u64,
+    watched: u64,
+) -> Result<Mark, NoMemory>
+    requires adds { 0 < adds }
+    requires watched { watched ≡ 0 }
+    requires nothing_kept { parts.old.kept ≡ [] }
+    requires nothing_held { parts.old.held ≡ [] }
+    ensures lists { HaveSameLists parts.new parts.old }
+    ensures kept_room { parts.old.kept_room ≤ parts.new.kept_room }
+    ensures held_room { parts.old.held_room ≤ parts.new.held_room }
+    ensures fits { IfOk result (λ m. Fits m parts.new) }
+    ensures begun { IfOk result (λ m. WasBegun targets.now m parts.new.kept) }
+    ensures kept_back { IfOk result (λ m. kept_back m parts.new.kept ≡ parts.old.kept) }
+    ensures held_back { IfOk result (λ m. held_back m parts.new.held ≡ parts.old.held) }
+    ensures left { IfOk result (λ m. (m.leaves ≡ targets.now.leaves) × (m.adds ≡ adds) × (m.watched ≡ watched)) }
+{
+    parts.kept.reserve(1)?;
+    parts.held.reserve(1)?;
+    Ok(idle_mark(alloc, targets.leaves(), adds))
+}
+
+// A mark for a block, with the room that it takes, and room in the lists for what it adds to them.
+fn begin_changing(
     alloc: Global,
     parts: &mut Parts,
     targets: &Targets,
@@ -200,6 +250,30 @@ fn begin_in(
     parts.kept.reserve(entries)?;
     parts.held.reserve(most)?;
     Ok(mark)
+}
+
+// A mark for a block, and room in the lists for what the block adds to them.
+fn begin_in(
+    alloc: Global,
+    parts: &mut Parts,
+    targets: &Targets,
+    adds: u64,
+    watched: u64,
+) -> Result<Mark, NoMemory>
+    ensures lists { HaveSameLists parts.new parts.old }
+    ensures kept_room { parts.old.kept_room ≤ parts.new.kept_room }
+    ensures held_room { parts.old.held_room ≤ parts.new.held_room }
+    ensures fits { IfOk result (λ m. Fits m parts.new) }
+    ensures begun { IfOk result (λ m. WasBegun targets.now m parts.new.kept) }
+    ensures kept_back { IfOk result (λ m. kept_back m parts.new.kept ≡ parts.old.kept) }
+    ensures held_back { IfOk result (λ m. held_back m parts.new.held ≡ parts.old.held) }
+    ensures left { IfOk result (λ m. (m.leaves ≡ targets.now.leaves) × (m.adds ≡ adds) × (m.watched ≡ watched)) }
+{
+    if is_idle(parts, adds, watched) {
+        begin_idle(alloc, parts, targets, adds, watched)
+    } else {
+        begin_changing(alloc, parts, targets, adds, watched)
+    }
 }
 
 /// Takes all memory for one block: the deletion of `targets`, then `adds` additions of which `watched` are watched. What the

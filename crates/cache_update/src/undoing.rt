@@ -1,60 +1,79 @@
 //! Undoing what a mark says.
-ghost use Rattle.std.specs.Prelude.{◌≡◌, ◌+◌, ◌<◌, ◌≤◌, None, Some, map, length, option_map, vec_len, vec_capacity};
+ghost use Rattle.std.specs.Prelude.{◌≡◌, ◌+◌, ◌<◌, ◌≤◌, ◌⊎◌, None, Some, map, length, option_map, vec_len, vec_capacity};
 ghost use Rattle.cache_model.specs.Lists.{AscendByNumber, AscendByPlace, leaf_key};
-ghost use Rattle.cache_model.specs.Undo.{change, held_key, is_same_place, is_before_place, is_same_number, is_before_number};
+ghost use Rattle.cache_model.specs.Undo.{change, is_same_number, is_before_number};
+ghost use Rattle.cache_update.specs.Gaps.{IsGap, around};
 ghost use Rattle.cache_update.specs.Given.{entry_was, entry_stood, entry_none, at_place, digest_was, digest_none, undo_entries, undo_digests, kept_given, held_given};
 
-use crate::put::{is_same, put};
+use crate::gap::{Gap, close, open, put_in, take_out};
 use forest_place::Place;
-use leaf_cache::{Kept, index_of_number, index_of_place};
+use leaf_cache::{Kept, index_of_number};
 use uo_digest::Digest;
 
-// Takes out what is held at a place, if anything is.
-fn take_out(held: &mut Vec<(Place, Digest)>, place: Place)
-    requires { AscendByPlace held.old.items }
-    ensures items { held.new.items ≡ change is_same_place is_before_place held_key place (λ now. None) held.old.items }
-    ensures ascends { AscendByPlace held.new.items }
-    ensures capacity { vec_capacity held.old ≤ vec_capacity held.new }
-{
-    let i = index_of_place(held, place);
-    if i == held.len() {
-        return;
-    }
-    if is_same(place, held[i].0) {
-        held.remove(i);
-    }
-}
-
 // Takes out what is held at these places.
-fn take_out_gained(held: &mut Vec<(Place, Digest)>, gained: &[Place])
-    requires { AscendByPlace held.old.items }
-    ensures items { held.new.items ≡ undo_digests (map digest_none gained.now) held.old.items }
-    ensures ascends { AscendByPlace held.new.items }
-    ensures capacity { vec_capacity held.old ≤ vec_capacity held.new }
+fn take_out_gained(list: &mut [(Place, Digest)], gap: Gap, gained: &[Place]) -> Gap
+    requires gap { IsGap gap.from gap.to list.old }
+    requires ascends { AscendByPlace (around gap.from gap.to list.old) }
+    ensures gap { IsGap result.from result.to list.new }
+    ensures items { around result.from result.to list.new ≡ undo_digests (map digest_none gained.now) (around gap.from gap.to list.old) }
+    ensures ascends { AscendByPlace (around result.from result.to list.new) }
 {
+    let mut now = gap;
     let mut i = gained.len();
     while i > 0 {
         i -= 1;
-        take_out(held, gained[i]);
+        now = take_out(list, now, gained[i]);
     }
+    now
 }
 
 // Puts back what was held at these places.
-fn put_back_lost(held: &mut Vec<(Place, Digest)>, lost: &[(Place, Digest)])
-    requires ascends { AscendByPlace held.old.items }
-    requires room { length (undo_digests (map digest_was lost.now) held.old.items) < vec_capacity held.old }
-    ensures items { held.new.items ≡ undo_digests (map digest_was lost.now) held.old.items }
-    ensures ascends { AscendByPlace held.new.items }
-    ensures capacity { vec_capacity held.old ≤ vec_capacity held.new }
+fn put_back_lost(list: &mut [(Place, Digest)], gap: Gap, lost: &[(Place, Digest)]) -> Gap
+    requires gap { IsGap gap.from gap.to list.old }
+    requires ascends { AscendByPlace (around gap.from gap.to list.old) }
+    requires room { (length (around gap.from gap.to list.old) + length lost.now ≤ length list.old) ⊎ (length (undo_digests (map digest_was lost.now) (around gap.from gap.to list.old)) < length list.old) }
+    ensures gap { IsGap result.from result.to list.new }
+    ensures items { around result.from result.to list.new ≡ undo_digests (map digest_was lost.now) (around gap.from gap.to list.old) }
+    ensures ascends { AscendByPlace (around result.from result.to list.new) }
 {
+    let mut now = gap;
     let mut i = lost.len();
     while i > 0 {
         i -= 1;
-        put(held, lost[i].0, lost[i].1);
+        now = put_in(list, now, lost[i].0, lost[i].1);
     }
+    now
 }
 
-// The held digests as they were, where what was lost and gained since is this.
+// The list around the gap becomes what it was, where this was lost and gained since.
+fn undo_around(
+    list: &mut [(Place, Digest)],
+    gap: Gap,
+    lost: &[(Place, Digest)],
+    gained: &[Place],
+) -> Gap
+    requires gap { IsGap gap.from gap.to list.old }
+    requires ascends { AscendByPlace (around gap.from gap.to list.old) }
+    requires room { (length (around gap.from gap.to list.old) + length lost.now ≤ length list.old) ⊎ (length (held_given lost.now gained.now (around gap.from gap.to list.old)) < length list.old) }
+    ensures gap { IsGap result.from result.to list.new }
+    ensures items { around result.from result.to list.new ≡ held_given lost.now gained.now (around gap.from gap.to list.old) }
+{
+    let without = take_out_gained(list, gap, gained);
+    put_back_lost(list, without, lost)
+}
+
+fn undo_places(held: &mut Vec<(Place, Digest)>, lost: &[(Place, Digest)], gained: &[Place])
+    requires ascends { AscendByPlace held.old.items }
+    requires room { length (held_given lost.now gained.now held.old.items) < vec_capacity held.old }
+    ensures items { held.new.items ≡ held_given lost.now gained.now held.old.items }
+    ensures capacity { vec_capacity held.old ≤ vec_capacity held.new }
+{
+    let gap = open(held, lost);
+    let whole = undo_around(held, gap, lost, gained);
+    close(held, whole);
+}
+
+// The held digests as they were, where what was lost and gained since is this. It takes no memory.
 pub(crate) fn undo_held(held: &mut Vec<(Place, Digest)>, lost: &[(Place, Digest)], gained: &[Place])
     requires ascends { AscendByPlace held.old.items }
     requires room { length (held_given lost.now gained.now held.old.items) < vec_capacity held.old }
@@ -62,8 +81,7 @@ pub(crate) fn undo_held(held: &mut Vec<(Place, Digest)>, lost: &[(Place, Digest)
     ensures ascends { AscendByPlace held.new.items }
     ensures capacity { vec_capacity held.old ≤ vec_capacity held.new }
 {
-    take_out_gained(held, gained);
-    put_back_lost(held, lost);
+    undo_places(held, lost, gained);
 }
 
 // Takes out the entry with this number, if it is kept.

@@ -11,7 +11,7 @@ ghost use Rattle.compact_node.specs.State.{IsReadAs, cached_state};
 use crate::node::Node;
 use crate::past::Past;
 use block_rules::Chain;
-use cache_update::{between, undo};
+use cache_update::between;
 use forest_roots::{Joins, Roots};
 use leaf_cache::{Cache, Parts, Watch};
 use leaf_record::LeafBuf;
@@ -89,6 +89,18 @@ fn older_of<D: Digester>(
     Ok(past)
 }
 
+// The lists, which have nothing, become those of the copy.
+fn take_over(lists: &mut Parts, copy: &mut Parts) -> Result<(), NoMemory>
+    requires { HasNothing lists.old }
+    ensures lists { OnOk result (HaveSameLists lists.new copy.old) }
+    ensures kept_room { lists.old.kept_room ≤ lists.new.kept_room }
+    ensures held_room { lists.old.held_room ≤ lists.new.held_room }
+{
+    lists.kept.append(&mut copy.kept)?;
+    lists.held.append(&mut copy.held)?;
+    Ok(())
+}
+
 // The cache, which has nothing, gets these lists.
 fn fill<D: Digester>(alloc: Global, cache: &mut Cache<D>, parts: &Parts) -> Result<(), NoMemory>
     requires { HasNothing cache.old.parts }
@@ -97,10 +109,8 @@ fn fill<D: Digester>(alloc: Global, cache: &mut Cache<D>, parts: &Parts) -> Resu
     ensures kept_room { cache.old.parts.kept_room ≤ cache.new.parts.kept_room }
     ensures held_room { cache.old.parts.held_room ≤ cache.new.parts.held_room }
 {
-    let nothing = Parts::new(alloc);
-    let mark = between(alloc, cache, &nothing, parts)?;
-    undo(cache, mark);
-    Ok(())
+    let mut copy = parts.copy(alloc)?;
+    take_over(cache.parts(), &mut copy)
 }
 
 // The node of a state that was read.

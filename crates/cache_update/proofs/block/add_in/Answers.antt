@@ -4,7 +4,8 @@ use Rattle.std.specs.Prelude.{option_map, count_ones}
 use Rattle.std.specs.Option.{option_to_list}
 use Rattle.cache_model.specs.declared.kept.Kept.{Kept}
 use Rattle.cache_update.specs.Joins.{is_empty_of}
-use Rattle.cache_update.specs.Marks.{HasRoomLeft, HasRoomFor, AreOfForest, held_from}
+use Rattle.cache_update.specs.Marks.{HasRoomLeft, HasRoomFor, AreOfForest, IsIdle, held_from}
+use Rattle.cache_update.specs.declared.mark.Mark.{Mark}
 use Rattle.cache_update.specs.declared.mark.Room.{Room}
 use Rattle.cache_update.specs.Given.{kept_given}
 use Rattle.cache_update.proofs.Giving.{stood_key}
@@ -12,6 +13,7 @@ use Rattle.cache_model.specs.Undo.{Ascends, is_same_number, is_before_number}
 use Rattle.forest_place.specs.declared.place.Place.{Place}
 use Rattle.cache_update.proofs.Growing.{growth_step, more_length}
 use Rattle.cache_update.proofs.Marking.{IsNamed, addition_keeps, named_more}
+use Rattle.cache_update.proofs.Idle.{unwatched, none_more, none_added, none_counted, same_back, same_held, idle_on}
 use Rattle.cache_update.proofs.block.add_in.Goals as goal
 
 -- the numbers of the entries that were added
@@ -24,7 +26,7 @@ added_is leaf w n leaves added new e f g = g ∙ (ap (λ b. added ++ cond b (lea
 
 pub add_to-requires-clause-held_room : goal.add_to-requires-clause-held_room
 add_to-requires-clause-held_room c =
-    let was = sym c.take.ensures.value ∙ c.in-Some.is in
+    let was = sym c.count_one.ensures.room ∙ (sym c.take.ensures.value ∙ c.in-Some.is) in
     let old : HasRoomFor c.args.mark.now c.args.parts.now c.in-Some.left = subst (HasRoomLeft c.args.mark.now c.args.parts.now) was c.requires.fits.left in
     let step = growth_step c.args.n (length c.args.joins.now) c.args.mark.now.adds c.count_one.new.self.adds c.requires.slots c.count_one.ensures.adds in
     let ones = ap count_ones c.requires.count in
@@ -32,7 +34,7 @@ add_to-requires-clause-held_room c =
 
 pub go_on-requires : goal.go_on-requires
 go_on-requires c =
-    let was = sym c.take.ensures.value ∙ c.in-Some.is in
+    let was = sym c.count_one.ensures.room ∙ (sym c.take.ensures.value ∙ c.in-Some.is) in
     let old : HasRoomFor c.args.mark.now c.args.parts.now c.in-Some.left = subst (HasRoomLeft c.args.mark.now c.args.parts.now) was c.requires.fits.left in
     let step = growth_step c.args.n (length c.args.joins.now) c.args.mark.now.adds c.count_one.new.self.adds c.requires.slots c.count_one.ensures.adds in
     let ones = ap count_ones c.requires.count in
@@ -64,7 +66,7 @@ go_on-requires c =
 
 pub returns-clause-kept_back : goal.returns-clause-kept_back
 returns-clause-kept_back c =
-    let was = sym c.take.ensures.value ∙ c.in-Some.is in
+    let was = sym c.count_one.ensures.room ∙ (sym c.take.ensures.value ∙ c.in-Some.is) in
     let old : HasRoomFor c.args.mark.now c.args.parts.now c.in-Some.left = subst (HasRoomLeft c.args.mark.now c.args.parts.now) was c.requires.fits.left in
     let added = added_is c.args.leaf c.is_some.result c.args.n c.args.mark.now.leaves c.args.mark.now.added.items _ c.is_some.ensures c.requires.count c.count_one.ensures.added in
     c.go_on.ensures.kept
@@ -74,7 +76,7 @@ returns-clause-kept_back c =
 
 pub returns-clause-fits : goal.returns-clause-fits
 returns-clause-fits c =
-    let was = sym c.take.ensures.value ∙ c.in-Some.is in
+    let was = sym c.count_one.ensures.room ∙ (sym c.take.ensures.value ∙ c.in-Some.is) in
     let kept = ap length (returns-clause-kept_back c) in
     let held = ap length (c.go_on.ensures.held ∙ sym (ap (λ (r : Option Room). held_from r c.args.mark.now.lost.items c.args.mark.now.gained.items c.args.parts.now.held) was)) in
     record {
@@ -82,3 +84,42 @@ returns-clause-fits c =
       held_room = omega (arith, held, c.requires.fits.held_room, c.add_to.ensures.held_room);
       left = c.go_on.ensures.left;
     }
+
+-- where there is no room, nothing is known, and nothing comes that is watched
+pub returns-in_default-clause-kept : goal.returns-in_default-clause-kept
+returns-in_default-clause-kept c =
+    let was : c.args.mark.now.room ≡ None = sym c.count_one.ensures.room ∙ (sym c.take.ensures.value ∙ c.in_default.is) in
+    let idle : IsIdle c.args.mark.now c.args.parts.now = subst (HasRoomLeft c.args.mark.now c.args.parts.now) was c.requires.fits.left c.requires.left in
+    let none = unwatched c.args.leaf c.args.mark.now.watched c.requires.watched idle.watched in
+    none_more (is_empty_of c.args.joins.now) c.args.n (length c.args.joins.now) c.args.leaf c.args.digest c.args.parts.now.kept idle.kept none
+
+pub returns-in_default-clause-held : goal.returns-in_default-clause-held
+returns-in_default-clause-held c =
+    let was : c.args.mark.now.room ≡ None = sym c.count_one.ensures.room ∙ (sym c.take.ensures.value ∙ c.in_default.is) in
+    let idle : IsIdle c.args.mark.now c.args.parts.now = subst (HasRoomLeft c.args.mark.now c.args.parts.now) was c.requires.fits.left c.requires.left in
+    let none = unwatched c.args.leaf c.args.mark.now.watched c.requires.watched idle.watched in
+    none_added c.args.joins.now c.args.digest c.args.n c.args.leaf c.args.parts.now.held idle.held none
+
+pub returns-in_default-clause-kept_back : goal.returns-in_default-clause-kept_back
+returns-in_default-clause-kept_back c =
+    let was : c.args.mark.now.room ≡ None = sym c.count_one.ensures.room ∙ (sym c.take.ensures.value ∙ c.in_default.is) in
+    let idle : IsIdle c.args.mark.now c.args.parts.now = subst (HasRoomLeft c.args.mark.now c.args.parts.now) was c.requires.fits.left c.requires.left in
+    let none = unwatched c.args.leaf c.args.mark.now.watched c.requires.watched idle.watched in
+    let left : Mark = record c.count_one.new.self { room = c.take.new.self } in
+    same_back c.args.mark.now left c.args.parts.now.kept c.count_one.ensures.taken c.count_one.ensures.stood
+    (none_counted c.args.leaf c.args.mark.now.added.items _ c.args.mark.now.leaves c.is_some.result c.is_some.ensures none c.count_one.ensures.added)
+
+pub returns-in_default-clause-held_back : goal.returns-in_default-clause-held_back
+returns-in_default-clause-held_back c =
+    let was : c.args.mark.now.room ≡ None = sym c.count_one.ensures.room ∙ (sym c.take.ensures.value ∙ c.in_default.is) in
+    let left : Mark = record c.count_one.new.self { room = c.take.new.self } in
+    same_held c.args.mark.now left c.args.parts.now.held was c.take.ensures.after c.count_one.ensures.lost c.count_one.ensures.gained
+
+pub returns-in_default-clause-fits : goal.returns-in_default-clause-fits
+returns-in_default-clause-fits c =
+    let was : c.args.mark.now.room ≡ None = sym c.count_one.ensures.room ∙ (sym c.take.ensures.value ∙ c.in_default.is) in
+    let idle : IsIdle c.args.mark.now c.args.parts.now = subst (HasRoomLeft c.args.mark.now c.args.parts.now) was c.requires.fits.left c.requires.left in
+    let none = unwatched c.args.leaf c.args.mark.now.watched c.requires.watched idle.watched in
+    let left : Mark = record c.count_one.new.self { room = c.take.new.self } in
+    idle_on c.args.mark.now left c.args.parts.now c.take.ensures.after (returns-in_default-clause-kept_back c) (returns-in_default-clause-held_back c)
+    (omega (arith, c.count_one.ensures.watched, idle.watched)) idle c.requires.fits

@@ -1,10 +1,12 @@
-use Rattle.std.proofs.Common.{ℕ, length, Option, sym, ap, ◌∙◌, subst, All, arith}
+use Rattle.std.proofs.Common.{◌≡◌, ◌<◌, ℕ, length, Option, None, refl, sym, ap, ◌∙◌, subst, All, arith}
 use Rattle.cache_model.specs.Lists.{moved_leaf}
+use Rattle.cache_update.specs.declared.mark.Mark.{Mark}
 use Rattle.cache_update.specs.declared.mark.Room.{Room}
-use Rattle.cache_update.specs.Marks.{HasRoomLeft, HasRoomFor, AreOfForest, IsUnused, IsUnusedIn, IsKnownIn, held_from}
+use Rattle.cache_update.specs.Marks.{HasRoomLeft, HasRoomFor, AreOfForest, IsUnused, IsUnusedIn, IsKnownIn, IsIdle, held_from, pairs_within}
 use Rattle.proof_shape.specs.Targeted.{Targeted}
 use Rattle.cache_update.proofs.Growing.{passed_length}
 use Rattle.cache_update.proofs.Marking.{IsNamed, deletion_keeps, named_moved}
+use Rattle.cache_update.proofs.Idle.{none_moved, none_deleted, same_held, idle_on}
 use Rattle.cache_update.proofs.block.delete_in.Goals as goal
 
 pub go_on-requires : goal.go_on-requires
@@ -49,3 +51,32 @@ returns-clause-fits c =
       held_room = omega (arith, held, c.requires.fits.held_room, c.delete_from.ensures.held_room);
       left = c.go_on.ensures.left;
     }
+
+-- where there is no room, nothing is known
+pub returns-in_default-clause-kept : goal.returns-in_default-clause-kept
+returns-in_default-clause-kept c =
+    let was : c.args.mark.now.room ≡ None = sym c.take.ensures.value ∙ c.in_default.is in
+    let some : 0 < c.args.mark.now.adds = subst (IsUnusedIn c.args.targets.now c.args.mark.now c.args.parts.now.kept) was c.requires.begun in
+    let idle : IsIdle c.args.mark.now c.args.parts.now = subst (HasRoomLeft c.args.mark.now c.args.parts.now) was c.requires.fits.left some in
+    none_moved c.args.targets.now.leaves c.args.targets.now.targets c.args.parts.now.kept idle.kept
+
+pub returns-in_default-clause-held : goal.returns-in_default-clause-held
+returns-in_default-clause-held c =
+    let was : c.args.mark.now.room ≡ None = sym c.take.ensures.value ∙ c.in_default.is in
+    let some : 0 < c.args.mark.now.adds = subst (IsUnusedIn c.args.targets.now c.args.mark.now c.args.parts.now.kept) was c.requires.begun in
+    let idle : IsIdle c.args.mark.now c.args.parts.now = subst (HasRoomLeft c.args.mark.now c.args.parts.now) was c.requires.fits.left some in
+    none_deleted c.args.targets.now.leaves c.args.targets.now.targets (pairs_within c.args.targets.now.leaves c.args.pairs.now) c.args.parts.now.kept c.args.parts.now.held idle.kept idle.held
+
+pub returns-in_default-clause-held_back : goal.returns-in_default-clause-held_back
+returns-in_default-clause-held_back c =
+    let was : c.args.mark.now.room ≡ None = sym c.take.ensures.value ∙ c.in_default.is in
+    let left : Mark = record c.args.mark.now { room = c.take.new.self } in
+    same_held c.args.mark.now left c.args.parts.now.held was c.take.ensures.after refl refl
+
+pub returns-in_default-clause-fits : goal.returns-in_default-clause-fits
+returns-in_default-clause-fits c =
+    let was : c.args.mark.now.room ≡ None = sym c.take.ensures.value ∙ c.in_default.is in
+    let some : 0 < c.args.mark.now.adds = subst (IsUnusedIn c.args.targets.now c.args.mark.now c.args.parts.now.kept) was c.requires.begun in
+    let idle : IsIdle c.args.mark.now c.args.parts.now = subst (HasRoomLeft c.args.mark.now c.args.parts.now) was c.requires.fits.left some in
+    let left : Mark = record c.args.mark.now { room = c.take.new.self } in
+    idle_on c.args.mark.now left c.args.parts.now c.take.ensures.after refl (returns-in_default-clause-held_back c) idle.watched idle c.requires.fits

@@ -3,8 +3,8 @@ use Rattle.cache_update.specs.Marks.{IsKnownIn}
 use Rattle.cache_update.proofs.Within.{put_in, pair_known}
 use Rattle.cache_update.proofs.delete.put_pair.Goals as goal
 
-pub returns-then-is_known_within-clause-known : goal.returns-then-is_known_within-clause-known
-returns-then-is_known_within-clause-known c =
+pub returns-then-known-clause-known : goal.returns-then-known-clause-known
+returns-then-known-clause-known c =
     subst (All (IsKnownIn c.args.kept.now.leaves c.args.kept.now.targets)) (sym c.put.ensures.items)
     (put_in (IsKnownIn c.args.kept.now.leaves c.args.kept.now.targets) c.args.place c.args.digest c.args.out.now.items
-    (pair_known c.args.kept.now.leaves c.args.kept.now.targets c.args.place c.args.digest (sym c.is_known_within.ensures ∙ c.if-is_known_within.true)) c.requires.known)
+    (pair_known c.args.kept.now.leaves c.args.kept.now.targets c.args.place c.args.digest (sym c.requires.is ∙ c.if-known.true)) c.requires.all_known)

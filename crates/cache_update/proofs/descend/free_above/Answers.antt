@@ -7,8 +7,8 @@ use Rattle.cache_update.proofs.descend.free_above.Goals as goal
 pub parent-next-requires : goal.parent-next-requires
 parent-next-requires c = row_small c.args.targets.now.leaves c.args.place.row c.args.place.off 40 c.requires c.leaves.ensures.targets.few
 
-pub is_covered-requires : goal.is_covered-requires
-is_covered-requires c =
+pub covered_near-sought-requires : goal.covered_near-sought-requires
+covered_near-sought-requires c =
     let inner : is_root c.args.targets.now.leaves c.args.place.row c.args.place.off ≡ false =
     subst (λ n. is_root n c.args.place.row c.args.place.off ≡ false) c.leaves.ensures.is (sym c.is_root.ensures ∙ c.if-is_root.false) in
     subst (λ r. InForest c.args.targets.now.leaves r c.parent-next.result.off) (sym c.parent-next.ensures.row)

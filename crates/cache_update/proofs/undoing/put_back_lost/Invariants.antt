@@ -1,14 +1,16 @@
-use Rattle.std.proofs.Common.{◌≡◌, ◌≤◌, take, length, map, vec_capacity}
+use Rattle.std.proofs.Common.{◌≡◌, ◌+◌, ◌<◌, ◌≤◌, ◌⊎◌, take, length, map}
 use Rattle.cache_model.specs.Lists.{AscendByPlace}
+use Rattle.cache_update.specs.Gaps.{IsGap, around}
 use Rattle.cache_update.specs.Given.{digest_was, undo_digests}
 use Rattle.cache_update.proofs.undoing.put_back_lost.Given as goal
 
 abbrev pub invariant-loop-i : goal.invariant-loop-i
 invariant-loop-i l = record {
-  rest : undo_digests (map digest_was l.lost) l.initial.held.items ≡ undo_digests (map digest_was (take l.i l.lost)) l.held.items;
-  ascends : AscendByPlace l.held.items;
+  gap : IsGap l.now.from l.now.to l.list;
+  rest : undo_digests (map digest_was l.lost) (around l.fn.gap.from l.fn.gap.to l.initial.list) ≡ undo_digests (map digest_was (take l.i l.lost)) (around l.now.from l.now.to l.list);
+  ascends : AscendByPlace (around l.now.from l.now.to l.list);
   within : l.i ≤ length l.lost;
-  room : vec_capacity l.initial.held ≤ vec_capacity l.held;
+  room : (length (around l.now.from l.now.to l.list) + l.i ≤ length l.list) ⊎ (length (undo_digests (map digest_was (take l.i l.lost)) (around l.now.from l.now.to l.list)) < length l.list);
 }
 
 abbrev pub decreases-loop-i : goal.decreases-loop-i

@@ -2,7 +2,7 @@ use Rattle.std.proofs.Common.{ℕ, length, vec_capacity, ap, ◌∙◌, subst, a
 use Rattle.leaf_cache.specs.Parted.{Parted}
 use Rattle.cache_update.specs.Marks.{AreOfForest}
 use Rattle.cache_update.proofs.Beginning.{begun_kept, begun_fits, was_begun}
-use Rattle.cache_update.proofs.start.begin_in.Goals as goal
+use Rattle.cache_update.proofs.start.begin_changing.Goals as goal
 
 pub returns-clause-fits : goal.returns-clause-fits
 returns-clause-fits c = begun_fits c.args.targets.now c.args.parts.now (record { kept = c.reserve.new.self.items; held = c.reserve-2.new.self.items; kept_room = vec_capacity c.reserve.new.self; held_room = vec_capacity c.reserve-2.new.self })
