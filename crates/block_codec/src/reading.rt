@@ -1,20 +1,19 @@
 //! Reading a block.
-ghost use Rattle.std.specs.Prelude.{◌≡◌, ◌<◌, ◌≤◌, ◌^◌, [], length, map, take, IfSome, IfOk, IsErrOf};
-ghost use Rattle.sha2.specs.Sha256.{sha256};
+ghost use Rattle.std.specs.Prelude.{◌≡◌, ◌<◌, ◌≤◌, ◌^◌, [], length, IfSome, IfOk, IsErrOf};
 ghost use Rattle.uo_base.specs.Reading.{Gives, GivesOrFails, Splits, times};
 ghost use Rattle.tx_codec.specs.Reading.{some_count_at, tx_at};
 ghost use Rattle.block_codec.specs.declared.fault.BlockFault.TheVariants.{NotABlock};
-ghost use Rattle.tx_codec.specs.Ids.{txid_of};
 ghost use Rattle.block_codec.specs.Block.{Block, BlockFits, block_of, block_text};
 ghost use Rattle.block_codec.specs.Reading.{header_at, whole_at, block_in, claims, IsWhatWasFound};
 
+use crate::bare_block::BareBlock;
 use crate::block_view::BlockView;
 use crate::fault::BlockFault;
 use crate::header::HeaderView;
-use std::alloc::{AllocError, Global};
+use std::alloc::Global;
 use tx_codec::{TxView, read_tx};
 use uo_base::Cursor;
-use uo_digest::{Digest, sha256d};
+use uo_digest::Digest;
 
 #[tactic(auto, unfolding(crate::specs::Reading::header_at))]
 fn read_header(at: &mut Cursor<'_>) -> Option<HeaderView>
@@ -124,27 +123,25 @@ fn read_parts<'a>(
     Ok((header, txs))
 }
 
-fn id_of(tx: &TxView<'_>) -> Digest
-    ensures { result ≡ txid_of tx.now }
+/// The block that the whole text is, of which nothing is hashed yet. `NotABlock` exactly where it is none, be it for one byte too
+/// many.
+pub fn read_bare(alloc: Global, text: &[u8]) -> Result<BareBlock<'_>, BlockFault>
+    requires { length text.now < 2 ^ 32 }
+    // What is read is a block, and the text is its text.
+    ensures found { IfOk result (λ b. BlockFits b × (text.now ≡ block_text b)) }
+    // It is refused only where it is the text of no block.
+    ensures none { IsErrOf result NotABlock → (b : Block) → BlockFits b → text.now ≡ block_text b → ⊥ }
+    ensures exact { IsWhatWasFound result (block_in text.now) }
 {
-    tx.txid()
+    let (header, txs) = read_parts(alloc, text)?;
+    Ok(BareBlock {
+        bytes: text,
+        header,
+        txs,
+    })
 }
 
-fn ids_of(alloc: Global, txs: &[TxView<'_>]) -> Result<Vec<Digest>, AllocError>
-    ensures { IfOk result (λ ids. ids.items ≡ map txid_of txs.now) }
-{
-    txs.iter().map(|tx| id_of(tx)).collect(alloc)
-}
-
-// The hash of the header in front of a text.
-fn hash_of(text: &[u8]) -> Digest
-    requires { 80 ≤ length text.now }
-    ensures { result.0 ≡ sha256 (sha256 (take 80 text.now)) }
-{
-    sha256d(&text[..80])
-}
-
-/// The block that the whole text is. `NotABlock` exactly where it is none, be it for one byte too many.
+/// The same block with its hash and the ids of its transactions.
 ///
 /// It goes over the text once to read it and once to hash the transactions.
 pub fn read_block(alloc: Global, text: &[u8]) -> Result<BlockView<'_>, BlockFault>
@@ -155,14 +152,6 @@ pub fn read_block(alloc: Global, text: &[u8]) -> Result<BlockView<'_>, BlockFaul
     ensures none { IsErrOf result NotABlock → (b : Block) → BlockFits b → text.now ≡ block_text b → ⊥ }
     ensures exact { IsWhatWasFound result (block_in text.now) }
 {
-    let (header, txs) = read_parts(alloc, text)?;
-    let txids = ids_of(alloc, &txs)?;
-    let hash = hash_of(text);
-    Ok(BlockView {
-        bytes: text,
-        header,
-        txs,
-        txids,
-        hash,
-    })
+    let bare = read_bare(alloc, text)?;
+    Ok(bare.with_ids(alloc)?)
 }

@@ -1,4 +1,3 @@
-use Rattle.std.proofs.Common.{sym, ◌∙◌}
 use Rattle.block_codec.proofs.PairLaws.{last_gives, both_above}
 use Rattle.block_codec.proofs.witness.hash_above.Goals as goal
 

@@ -1,11 +1,12 @@
-use Rattle.std.proofs.Common.{◌≡◌, sym, ap, ◌∙◌, subst}
+use Rattle.std.proofs.Common.{◌≡◌, ◌+◌, refl, sym, ap, ◌∙◌, subst}
 use Rattle.leaf_record.specs.Leaf.{leaf_text}
+use Rattle.block_rules.specs.declared.chain.Chain.{Chain}
 use Rattle.node_rules.specs.Judging.{Rules}
 use Rattle.compact_node.specs.Node.{LevelState, NodeState, IsNode, with_level}
 use Rattle.compact_node.specs.Judged.{level_grown}
 use Rattle.compact_node.specs.Marked.{PastState, node_of}
 use Rattle.compact_node.proofs.Grown.{grown_level}
-use Rattle.compact_node.proofs.Marks.{same_marked, pushed_node, pushed_marks, IsPushed}
+use Rattle.compact_node.proofs.Marks.{same_marked, pushed_node, pushed_marks}
 use Rattle.compact_node.proofs.node.Node.grow.Goals as goal
 
 pub invariant_of-self : goal.invariant_of-self
@@ -14,34 +15,42 @@ invariant_of-self g c =
     same_marked (record { net = i.net; limits = i.limits }) i.cache.watch c.grow.new.cache.watch i.chain i.roots i.cache.parts c.grow.new.cache.parts i.older c.grow.ensures.watch c.in_err-mark.ensures.stays c.grow.ensures.kept_room
     c.grow.ensures.held_room c.self.invariant
 
-next : (g : _) (c : goal.Joined-oldest g) → node_of (record { net = c.self.inside.net; limits = c.self.inside.limits }) c.grow.new.cache.watch c.replace.new.dest c.replace-2.new.dest c.grow.new.cache.parts c.push-oldest.new.self
-    ≡ with_level (level_grown g.D.Digester.digest_of leaf_text c.args.self.now.scripts c.args.self.now.newest c.args.hash c.args.targets.now.targets c.args.changes.now c.args.roots c.args.spends.now.new) c.args.self.now
-next g c =
-    let i = c.self.inside in
-    let H = g.D.Digester.digest_of in
-    let rules : Rules = record { net = i.net; limits = i.limits } in
-    let x : PastState = record { chain = c.replace.result; roots = c.replace-2.result; mark = c.in_ok-mark.mark } in
-    let before = node_of rules i.cache.watch i.chain i.roots i.cache.parts i.older in
-    let leaves : before.newest.roots.leaves ≡ c.args.self.now.newest.roots.leaves = ap (λ (s : NodeState). s.newest.roots.leaves) c.self.view_is in
-    let level = grown_level H leaf_text i.cache.watch before.newest c.args.hash c.args.targets.now.leaves c.args.targets.now.targets c.args.changes.now c.args.roots c.args.spends.now.new c.replace.new.dest c.leaves-leaves.result c.replace-2.new.dest
-    c.grow.new.roots c.grow.new.cache.parts.kept c.grow.new.cache.parts.held (c.requires.entries ∙ sym leaves) (c.requires.same ∙ sym leaves) c.self.invariant.node.newest.counted c.replace.ensures.after c.leaves-leaves.ensures.is
-    c.replace-2.ensures.after c.in_ok-mark.ensures.roots c.in_ok-mark.ensures.kept c.in_ok-mark.ensures.held in
-    pushed_node rules i.cache.watch i.chain c.replace.new.dest i.roots c.replace-2.new.dest i.cache.parts c.grow.new.cache.parts x i.older c.push-oldest.new.self
-    (record { chain_is = c.replace.ensures.value; roots_are = c.replace-2.ensures.value; taken_are = c.push-oldest.ensures.kept; kept = c.in_ok-mark.ensures.kept_back; held = c.in_ok-mark.ensures.held_back }) c.grow.new.cache.watch c.grow.ensures.watch
-    ∙ (ap (λ (l : LevelState). with_level l before) level
-    ∙ ap (λ (s : NodeState). with_level (level_grown H leaf_text s.scripts s.newest c.args.hash c.args.targets.now.targets c.args.changes.now c.args.roots c.args.spends.now.new) s) c.self.view_is)
-
 pub invariant_of-self-2 : goal.invariant_of-self-2
 invariant_of-self-2 g c =
     let i = c.self.inside in
+    let H = g.D.Digester.digest_of in
     let rules : Rules = record { net = i.net; limits = i.limits } in
-    let x : PastState = record { chain = c.replace.result; roots = c.replace-2.result; mark = c.in_ok-mark.mark } in
+    let chain : Chain = record { blocks = i.chain.blocks + 1; tip = c.args.hash; leaves = c.leaves.result } in
+    let x : PastState = record { chain = i.chain; roots = c.copy.result; mark = c.in_ok-mark.mark } in
+    let before = node_of rules i.cache.watch i.chain i.roots i.cache.parts i.older in
+    let leaves : before.newest.roots.leaves ≡ c.args.self.now.newest.roots.leaves = ap (λ (s : NodeState). s.newest.roots.leaves) c.self.view_is in
+    let level = grown_level H leaf_text i.cache.watch before.newest c.args.hash c.args.targets.now.leaves c.args.targets.now.targets c.args.changes.now c.args.roots.now c.args.spends.now.new chain c.leaves.result c.copy-2.result
+    c.grow.new.roots c.grow.new.cache.parts.kept c.grow.new.cache.parts.held (c.requires.entries ∙ sym leaves) (c.requires.same ∙ sym leaves) c.self.invariant.node.newest.counted refl c.leaves.ensures.is
+    c.copy-2.ensures c.in_ok-mark.ensures.roots c.in_ok-mark.ensures.kept c.in_ok-mark.ensures.held in
+    let next = pushed_node rules i.cache.watch i.chain chain i.roots c.copy-2.result i.cache.parts c.grow.new.cache.parts x i.older c.keep.new.self
+    (record { chain_is = refl; roots_are = c.copy.ensures; taken_are = c.keep.ensures; kept = c.in_ok-mark.ensures.kept_back; held = c.in_ok-mark.ensures.held_back }) c.grow.new.cache.watch c.grow.ensures.watch
+    ∙ (ap (λ (l : LevelState). with_level l before) level
+    ∙ ap (λ (s : NodeState). with_level (level_grown H leaf_text s.scripts s.newest c.args.hash c.args.targets.now.targets c.args.changes.now c.args.roots.now c.args.spends.now.new) s) c.self.view_is) in
     record {
-      node = subst IsNode (sym (next g c)) c.requires.next;
-      marks = pushed_marks rules i.cache.watch i.chain c.replace.new.dest i.roots c.replace-2.new.dest i.cache.parts c.grow.new.cache.parts x i.older c.push-oldest.new.self
-          (record { chain_is = c.replace.ensures.value; roots_are = c.replace-2.ensures.value; taken_are = c.push-oldest.ensures.kept; kept = c.in_ok-mark.ensures.kept_back; held = c.in_ok-mark.ensures.held_back }) c.in_ok-mark.ensures.fits
+      node = subst IsNode (sym next) c.requires.next;
+      marks = pushed_marks rules i.cache.watch i.chain chain i.roots c.copy-2.result i.cache.parts c.grow.new.cache.parts x i.older c.keep.new.self
+          (record { chain_is = refl; roots_are = c.copy.ensures; taken_are = c.keep.ensures; kept = c.in_ok-mark.ensures.kept_back; held = c.in_ok-mark.ensures.held_back }) c.in_ok-mark.ensures.fits
           c.grow.ensures.kept_room c.grow.ensures.held_room c.self.invariant.marks;
     }
 
 pub returns-clause-next : goal.returns-clause-next
-returns-clause-next g c = next g c
+returns-clause-next g c =
+    let i = c.self.inside in
+    let H = g.D.Digester.digest_of in
+    let rules : Rules = record { net = i.net; limits = i.limits } in
+    let chain : Chain = record { blocks = i.chain.blocks + 1; tip = c.args.hash; leaves = c.leaves.result } in
+    let x : PastState = record { chain = i.chain; roots = c.copy.result; mark = c.in_ok-mark.mark } in
+    let before = node_of rules i.cache.watch i.chain i.roots i.cache.parts i.older in
+    let leaves : before.newest.roots.leaves ≡ c.args.self.now.newest.roots.leaves = ap (λ (s : NodeState). s.newest.roots.leaves) c.self.view_is in
+    let level = grown_level H leaf_text i.cache.watch before.newest c.args.hash c.args.targets.now.leaves c.args.targets.now.targets c.args.changes.now c.args.roots.now c.args.spends.now.new chain c.leaves.result c.copy-2.result
+    c.grow.new.roots c.grow.new.cache.parts.kept c.grow.new.cache.parts.held (c.requires.entries ∙ sym leaves) (c.requires.same ∙ sym leaves) c.self.invariant.node.newest.counted refl c.leaves.ensures.is
+    c.copy-2.ensures c.in_ok-mark.ensures.roots c.in_ok-mark.ensures.kept c.in_ok-mark.ensures.held in
+    pushed_node rules i.cache.watch i.chain chain i.roots c.copy-2.result i.cache.parts c.grow.new.cache.parts x i.older c.keep.new.self
+    (record { chain_is = refl; roots_are = c.copy.ensures; taken_are = c.keep.ensures; kept = c.in_ok-mark.ensures.kept_back; held = c.in_ok-mark.ensures.held_back }) c.grow.new.cache.watch c.grow.ensures.watch
+    ∙ (ap (λ (l : LevelState). with_level l before) level
+    ∙ ap (λ (s : NodeState). with_level (level_grown H leaf_text s.scripts s.newest c.args.hash c.args.targets.now.targets c.args.changes.now c.args.roots.now c.args.spends.now.new) s) c.self.view_is)
