@@ -83,7 +83,7 @@ external_in-apart : (ss : List Spend) → Apart (map (λ s. s.at) ss) → Outsid
 external_in-apart [] h = tt
 external_in-apart (s ∷ ss) h = ⊎_elim (λ e. rw e (all_external (λ p. s.at.point ≢ p) ss h.0, external_in-apart ss h.1)) (λ e. rw e (external_in-apart ss h.1)) (cases_Bool (is_external s))
 
-external_in-append : (ss rs : List Spend) → external_in (ss ++ rs) ≡ external_in ss ++ external_in rs
+pub external_in-append : (ss rs : List Spend) → external_in (ss ++ rs) ≡ external_in ss ++ external_in rs
 external_in-append [] rs = refl
 external_in-append (s ∷ ss) rs = ⊎_elim (λ e. rw e (ap (λ xs. outside_of s.at ∷ xs) (external_in-append ss rs))) (λ e. rw e (external_in-append ss rs)) (cases_Bool (is_external s))
 

@@ -6,6 +6,10 @@ pub mod Supplied
 pub mod Keyed
 pub mod Numbered
 pub mod Doubles
+pub mod Alike
+pub mod Finding
+pub mod Naming
+pub mod Passing
 pub mod Walking
 pub mod Spending
 pub mod Paid

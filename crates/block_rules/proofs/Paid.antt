@@ -1,10 +1,10 @@
 -- Input by input, and what is counted of a block.
-use Rattle.std.proofs.Common.{◌≡◌, ℕ, zero, suc, ◌+◌, ◌<◌, ◌≤◌, ◌^◌, false, cond, List, [], ◌∷◌, ◌++◌, map, drop, length, Option, Some, None, refl, sym, ap, ◌∙◌, subst, arith, add-one}
+use Rattle.std.proofs.Common.{◌≡◌, ℕ, zero, suc, ◌+◌, ◌<◌, ◌≤◌, ◌^◌, false, cond, List, [], ◌∷◌, ◌++◌, map, drop, length, Option, Some, None, refl, sym, ap, ◌∙◌, arith, add-one}
 use Rattle.std.specs.Prelude.{slice_get, is_none, option_map, not, nat_le}
-use Rattle.std.specs.List.{flat_map, AllByRecursion, list_any}
+use Rattle.std.specs.List.{flat_map, list_any}
 use Rattle.std.specs.Option.{option_or}
 use Rattle.std.proofs.lemmas.Bool.{and_parts, leb-true}
-use Rattle.std.proofs.lemmas.List.{length-append, length-map}
+use Rattle.std.proofs.lemmas.List.{length-append}
 use Rattle.std.proofs.lemmas.List.Sums.{sum_by-cons, sum_by-append}
 use Rattle.std.proofs.lemmas.Option.{none-some, same_Some}
 use Rattle.uo_base.specs.declared.event.Net.{Net}
@@ -12,19 +12,21 @@ use Rattle.uo_digest.specs.declared.digest.Digest.{Digest}
 use Rattle.tx_codec.specs.Transaction.{Transaction}
 use Rattle.block_codec.specs.Block.{Block, block_hash_of}
 use Rattle.leaf_record.specs.Leaf.{Leaf}
-use Rattle.leaf_record.specs.History.{History}
+use Rattle.leaf_record.specs.History.{somes, History}
 use Rattle.block_rules.specs.declared.chain.Found.{Found}
 use Rattle.block_rules.specs.declared.chain.Outside.{Outside}
 use Rattle.block_rules.specs.declared.refusal.Refusal.{Refusal}
 use Rattle.block_rules.specs.Steps.{unless, first_from}
-use Rattle.block_rules.specs.Blocks.{placed_from, placed_of, made_by, made_first, Spend, spends_from, left_from, groups_from, groups, others, external_in, external, new_records}
+use Rattle.block_rules.specs.Blocks.{placed_from, made_by, made_first, Spend, spends_from, left_from, groups_from, groups, others, external_in, external, new_records}
 use Rattle.block_rules.specs.Money.{most_money, output_sum, found_of, Bill, own_found, bills_of, claimed_by, BlockSpends, spends_of, paid_from}
-use Rattle.block_rules.specs.Rules.{has_too_much, has_value, value_fault, double}
-use Rattle.block_rules.specs.Laws.{all_made, all_numbers}
+use Rattle.block_rules.specs.Rules.{has_too_much, has_value, value_fault}
 use Rattle.block_rules.specs.Paying.{outside_count, outside_sum, IsCounted, PaysNext}
-use Rattle.block_rules.specs.Walk.{Walked, new_at}
+use Rattle.block_rules.specs.Walk.{Walked, IsWalked, new_at}
 use Rattle.block_rules.proofs.Firsts.{option_or-none, unless-passed}
-use Rattle.block_rules.proofs.Walking.{Gives, all_below, left_is_new}
+use Rattle.block_rules.specs.declared.origins.Origins.{Origins}
+use Rattle.block_rules.specs.Kept.{Kept}
+use Rattle.block_rules.specs.Known.{leaf_at, history_at}
+use Rattle.block_rules.proofs.Spending.{leaves_of, leaves_left}
 
 -- ---- input by input
 
@@ -78,7 +80,7 @@ few_others : (txs : List Transaction) → length (others txs) ≤ length txs
 few_others [] = omega arith
 few_others (tx ∷ txs) = omega arith
 
-pub counted : (b : Block) (height : ℕ) (w : Walked) → length b.txs < 2 ^ 32 → Gives b height w → IsCounted w.bills w.outsides
+pub counted : (b : Block) (height : ℕ) (w : Walked) → length b.txs < 2 ^ 32 → IsWalked b height w → IsCounted w.bills w.outsides
 counted b height w few g =
     let hash = block_hash_of b in
     let a = few_bills (groups b height) (others b.txs) in
@@ -89,17 +91,13 @@ counted b height w few g =
       same = ap outside_sum g.billed ∙ (count_bills hash height 1 (others b.txs) (map Some (made_first hash height b.txs)) ∙ sym (ap length g.outs));
     }
 
-pub spent_below : (b : Block) (height : ℕ) (w : Walked) → Gives b height w → AllByRecursion (λ n. n < length w.made) w.spent
-spent_below b height w g =
-    let hash = block_hash_of b in
-    let made = all_made hash height (others b.txs) (made_first hash height b.txs) in
-    let l = length-map made (λ x. Some x) in
-    subst (λ ns. AllByRecursion (λ n. n < length w.made) ns) (sym g.numbers)
-    (subst (λ k. AllByRecursion (λ n. n < k) (all_numbers hash height 1 (others b.txs) (made_first hash height b.txs))) (sym (ap length g.all ∙ l)) (all_below hash height 1 (others b.txs) (made_first hash height b.txs)))
+-- the records of what is left are new
+new_are : (b : Block) (height : ℕ) (o : Origins) (outputs : List (Option Kept)) (w : Walked) → w.left ≡ history_at o outputs → IsWalked b height w → map (leaf_at o) (new_at height outputs) ≡ new_records b height
+new_are b zero o outputs w e g = refl
+new_are b (suc h) o outputs w e g = leaves_left o outputs ∙ (ap somes (sym e) ∙ g.left)
 
-pub new_is : (b : Block) (height : ℕ) (w : Walked) → double [] (placed_of 0 b.txs) ≡ None → Gives b height w → new_at height w.spent w.made ≡ new_records b height
-new_is b zero w none g = refl
-new_is b (suc h) w none g = left_is_new b h w none g
+pub new_is : (b : Block) (height : ℕ) (o : Origins) (outputs left : List (Option Kept)) (w : Walked) → w.left ≡ history_at o outputs → IsWalked b height w → left ≡ map Some (new_at height outputs) → history_at o left ≡ map Some (new_records b height)
+new_is b height o outputs left w e g l = ap (history_at o) l ∙ (leaves_of o (new_at height outputs) ∙ ap (map Some) (new_are b height o outputs w e g))
 
 pub claimed_is : (txs : List Transaction) (tx : Transaction) → slice_get txs 0 ≡ Some tx → claimed_by txs ≡ output_sum tx
 claimed_is [] tx e = absurd (none-some tx e)
@@ -113,10 +111,11 @@ claimed_most (c ∷ txs) h =
     let p = and_parts (not (list_any has_too_much c.outputs)) (nat_le (output_sum c) most_money) (unless-passed (has_value c) 0 w.0) in
     leb-true _ _ p.1
 
-pub spends_are : (net : Net) (height : ℕ) (b : Block) (outs : List Outside) (new : List Leaf) (claimed : ℕ) (bills : List Bill) → outs ≡ external b height → new ≡ new_records b height → claimed ≡ claimed_by b.txs → bills ≡ bills_of (groups b height) (others b.txs) →
-    ◌≡◌ {A = BlockSpends} (record { net = net; height = height; external = outs; new = new; claimed = claimed; bills = bills }) (spends_of net height b)
-spends_are net height b outs new claimed bills o n c l =
-    ap (λ (x : List Outside). let s : BlockSpends = record { net = net; height = height; external = x; new = new; claimed = claimed; bills = bills } in s) o
+pub spends_are : (net : Net) (height high : ℕ) (b : Block) (outs : List Outside) (new : List Leaf) (claimed : ℕ) (bills : List Bill) → high ≡ height → outs ≡ external b height → new ≡ new_records b height → claimed ≡ claimed_by b.txs → bills ≡ bills_of (groups b height) (others b.txs) →
+    ◌≡◌ {A = BlockSpends} (record { net = net; height = high; external = outs; new = new; claimed = claimed; bills = bills }) (spends_of net height b)
+spends_are net height high b outs new claimed bills h o n c l =
+    ap (λ (x : ℕ). let s : BlockSpends = record { net = net; height = x; external = outs; new = new; claimed = claimed; bills = bills } in s) h
+    ∙ (ap (λ (x : List Outside). let s : BlockSpends = record { net = net; height = height; external = x; new = new; claimed = claimed; bills = bills } in s) o
     ∙ (ap (λ (x : List Leaf). let s : BlockSpends = record { net = net; height = height; external = external b height; new = x; claimed = claimed; bills = bills } in s) n
     ∙ (ap (λ (x : ℕ). let s : BlockSpends = record { net = net; height = height; external = external b height; new = new_records b height; claimed = x; bills = bills } in s) c
-    ∙ ap (λ (x : List Bill). let s : BlockSpends = record { net = net; height = height; external = external b height; new = new_records b height; claimed = claimed_by b.txs; bills = x } in s) l))
+    ∙ ap (λ (x : List Bill). let s : BlockSpends = record { net = net; height = height; external = external b height; new = new_records b height; claimed = claimed_by b.txs; bills = x } in s) l)))

@@ -8,6 +8,8 @@ pub mod Judged
 pub mod Laws
 -- what only this crate's own proofs and private functions cite
 pub mod Keys
+pub mod Kept
+pub mod Known
 pub mod Walk
 pub mod Seen
 pub mod Paying

@@ -1,77 +1,58 @@
--- One walk over a block in which no outpoint is spent twice: nothing is taken away on the way, and what is spent is noted.
-use Rattle.std.specs.Prelude.{ℕ, zero, suc, false, List, [], ◌∷◌, ◌++◌, map, Option, Some, None, option_map}
-use Rattle.uo_digest.specs.declared.digest.Digest.{Digest}
+-- One walk over a block: what its inputs spend is taken away from what its outputs so far have left.
+use Rattle.std.specs.Prelude.{◌≡◌, ℕ, zero, suc, List, [], ◌∷◌, ◌++◌, map, Option, Some, option_map}
 use Rattle.tx_codec.specs.Transaction.{Input, Transaction}
-use Rattle.leaf_record.specs.Leaf.{Leaf}
+use Rattle.block_codec.specs.Block.{Block, block_hash_of}
 use Rattle.leaf_record.specs.History.{somes, History, newest}
 use Rattle.block_rules.specs.declared.chain.Outside.{Outside}
-use Rattle.block_rules.specs.declared.made.Own.{Own}
-use Rattle.block_rules.specs.declared.made.Maker.{Maker}
+use Rattle.block_rules.specs.declared.origins.Origins.{Origins}
 use Rattle.block_rules.specs.declared.walk.Walk.{Walk}
-use Rattle.block_rules.specs.Blocks.{outpoint_of, Origin, made_by, made_first, others}
-use Rattle.block_rules.specs.Money.{Bill, output_sum}
-use Rattle.block_rules.specs.Laws.{spent_in_order}
-use Rattle.block_rules.specs.Keys.{own_of}
+use Rattle.block_rules.specs.Blocks.{outpoint_of, placed_from, Spend, spends_from, left_from, left_of_all, external_in, external, groups, made_first, others}
+use Rattle.block_rules.specs.Kept.{Kept, kept_from}
+use Rattle.block_rules.specs.Known.{history_at, history}
+use Rattle.block_rules.specs.Money.{Bill, output_sum, own_found, bills_of}
 
-abbrev pub origin_at : Maker → Origin
-origin_at maker = record { block = maker.block; height = maker.height; coinbase = maker.coinbase; txid = maker.txid }
+-- an input of transaction t, and what it spends of the outputs that are left
+abbrev pub spend_at : ℕ → ℕ → Input → History → Spend
+spend_at t i input left = record { at = record { tx = t; input = i; point = outpoint_of input }; own = option_map (λ e. e.leaf) (newest (outpoint_of input) left) }
 
--- what an input spends of the outputs made so far
-abbrev pub own_in : Input → History → Option Own
-own_in input made = option_map own_of (newest (outpoint_of input) made)
-
-abbrev pub owns_in : List Input → History → List (Option Own)
-owns_in inputs made = map (λ input. own_in input made) inputs
-
-abbrev pub numbers_in : List (Option Own) → List ℕ
-numbers_in owns = somes (map (option_map (λ own. own.number)) owns)
-
-abbrev pub outside_at : ℕ → ℕ → Input → Outside
-outside_at t i input = record { tx = t; input = i; txid = record { 0 = input.txid }; index = input.index }
-
-abbrev pub outside_if : Outside → Option Own → List Outside → List Outside
-outside_if outside None outsides = outside ∷ outsides
-outside_if outside (Some own) outsides = outsides
-
--- the inputs that spend nothing of them
-abbrev pub outsides_from : ℕ → ℕ → List Input → List (Option Own) → List Outside
-outsides_from t i [] owns = []
-outsides_from t i (input ∷ inputs) [] = []
-outsides_from t i (input ∷ inputs) (own ∷ owns) = outside_if (outside_at t i input) own (outsides_from t (suc i) inputs owns)
-
--- what was met so far: the outputs made, the numbers of those spent, the external inputs, and the bills
+-- what was met so far: what is left of the outputs, the external inputs, and the bills
 pub record Walked : Type 0 where
-  pub made : History
-  pub spent : List ℕ
+  pub left : History
   pub outsides : List Outside
   pub bills : List Bill
 
-abbrev pub bill_for : Transaction → History → Bill
-bill_for tx made = record { own = map (option_map (λ own. own.found)) (owns_in tx.inputs made); makes = output_sum tx }
+abbrev pub kept_of : Origins → ℕ → Transaction → History
+kept_of o t tx = history_at o (kept_from t 0 tx.outputs)
 
-abbrev pub walked_on : ℕ → Transaction → List Leaf → Walked → Walked
-walked_on t tx leaves w = record {
-  made = w.made ++ map Some leaves;
-  spent = w.spent ++ numbers_in (owns_in tx.inputs w.made);
-  outsides = w.outsides ++ outsides_from t 0 tx.inputs (owns_in tx.inputs w.made);
-  bills = w.bills ++ bill_for tx w.made ∷ [];
+abbrev pub bill_for : ℕ → Transaction → History → Bill
+bill_for t tx left = record { own = map own_found (spends_from (placed_from t 0 tx.inputs) left); makes = output_sum tx }
+
+-- behind transaction t, which makes these
+abbrev pub walked_on : ℕ → Transaction → History → Walked → Walked
+walked_on t tx made w = record {
+  left = left_from (placed_from t 0 tx.inputs) w.left ++ made;
+  outsides = w.outsides ++ external_in (spends_from (placed_from t 0 tx.inputs) w.left);
+  bills = w.bills ++ bill_for t tx w.left ∷ [];
 }
 
-unfoldable pub walked_from : Digest → ℕ → ℕ → List Transaction → Walked → Walked
-walked_from hash height t [] w = w
-walked_from hash height t (tx ∷ txs) w = walked_from hash height (suc t) txs (walked_on t tx (made_by hash height false tx) w)
+abbrev pub first_kept : Origins → List Transaction → History
+first_kept o [] = []
+first_kept o (coinbase ∷ txs) = kept_of o 0 coinbase
 
 -- behind the coinbase
-abbrev pub walked_first : Digest → ℕ → List Transaction → Walked
-walked_first hash height txs = record { made = map Some (made_first hash height txs); spent = []; outsides = []; bills = [] }
+abbrev pub begins : Origins → List Transaction → Walked
+begins o txs = record { left = first_kept o txs; outsides = []; bills = [] }
 
-abbrev pub walked : Digest → ℕ → List Transaction → Walked
-walked hash height txs = walked_from hash height 1 (others txs) (walked_first hash height txs)
+-- behind all of a block
+pub record IsWalked (b : Block) (height : ℕ) (w : Walked) : Type 0 where
+  pub outs : w.outsides ≡ external b height
+  pub billed : w.bills ≡ bills_of (groups b height) (others b.txs)
+  pub left : somes w.left ≡ somes (left_of_all (block_hash_of b) height 1 (others b.txs) (map Some (made_first (block_hash_of b) height b.txs)))
 
 abbrev pub seen : Walk → Walked
-seen w = record { made = w.made.records.items; spent = w.spent.items; outsides = w.external.items; bills = w.bills.items }
+seen w = record { left = history w.made; outsides = w.external.items; bills = w.bills.items }
 
--- what is new at a height: nothing at height 0, else what is left once those of these numbers are spent
-abbrev pub new_at : ℕ → List ℕ → History → List Leaf
-new_at zero spent made = []
-new_at (suc h) spent made = somes (spent_in_order spent made)
+-- what is new at a height: nothing at height 0, else what is left
+abbrev pub new_at : ℕ → List (Option Kept) → List Kept
+new_at zero outputs = []
+new_at (suc h) outputs = somes outputs

@@ -6,7 +6,7 @@ ghost use Rattle.block_rules.specs.Blocks.{outpoint_of, placed_of};
 ghost use Rattle.block_rules.specs.Rules.{double};
 ghost use Rattle.block_rules.specs.Seen.{Sees, mark_of, marks_of};
 
-use crate::outpoint::{OutpointKey, key_of_input};
+use crate::outpoint::{OutpointKey, head_of, key_of_input};
 use crate::refusal::Refusal;
 use block_codec::BlockView;
 use std::alloc::Global;
@@ -57,9 +57,7 @@ fn put_marks(marks: &mut Vec<u64>, tx: &TxView<'_>) -> Result<(), NoMemory>
 fn mark(input: &InView<'_>) -> u64
     ensures { result ≡ mark_of (outpoint_of (input_of input.now)) }
 {
-    let id = input.txid.0;
-    let head = u64::from_le_bytes([id[0], id[1], id[2], id[3], id[4], id[5], id[6], id[7]]);
-    head.wrapping_add(u64::from(input.index))
+    head_of(&input.txid).wrapping_add(u64::from(input.index))
 }
 
 // Whether each number is less than the next.

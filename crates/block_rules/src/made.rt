@@ -1,14 +1,16 @@
 //! The outputs that a block has made so far.
-ghost use Rattle.std.specs.Prelude.{◌≡◌, ◌<◌, ◌≤◌, ◌+◌, ◌++◌, ◌^◌, length, take, map, option_map, Some, [], ◌∷◌, IfOk, OnOk};
+ghost use Rattle.std.specs.Prelude.{◌≡◌, ◌<◌, ◌≤◌, ◌+◌, ◌++◌, ◌^◌, length, option_map, [], IfOk, OnOk};
 ghost use Rattle.tx_codec.specs.Views.{output_of};
 ghost use Rattle.leaf_record.specs.History.{newest};
-ghost use Rattle.leaf_record.specs.Leaf.{longest_script};
-ghost use Rattle.block_rules.specs.Blocks.{is_spendable, leaf_of, made_from};
+ghost use Rattle.block_rules.specs.Blocks.{is_spendable, taken};
+ghost use Rattle.block_rules.specs.Kept.{kept_if, kept_from};
 ghost use Rattle.block_rules.specs.Money.{found_of};
 
 use crate::chain::Found;
-use crate::outpoint::{OutpointKey, key_of_record};
-use leaf_record::{MAX_SCRIPT, RecordView};
+use crate::origins::Origins;
+use crate::outpoint::{TxidKey, key_of_txid};
+use crate::output::MadeOutput;
+use leaf_record::MAX_SCRIPT;
 use std::alloc::Global;
 use std::collections::BTreeMap;
 use tx_codec::{OutView, TxView};
@@ -17,127 +19,171 @@ use uo_digest::Digest;
 
 const OP_RETURN: u8 = 0x6a;
 
-/// An output of the block that an input of it spends: its number among those made so far, and what it is.
-#[derive(Clone, Copy, Debug, PartialEq, Eq)]
-pub(crate) struct Own {
-    pub number: usize,
-    pub found: Found,
-}
-
-/// What makes outputs: the block, its height, whether the transaction is the coinbase, and its id.
+/// Where the outputs of a transaction stand among all, and the newest transaction before it that has its id.
 #[derive(Clone, Copy, Debug)]
-pub(crate) struct Maker {
-    pub block: Digest,
-    pub height: u32,
-    pub coinbase: bool,
-    pub txid: Digest,
+pub(crate) struct Named {
+    pub start: usize,
+    pub end: usize,
+    pub before: Option<usize>,
 }
 
-/// The spendable outputs of the transactions so far. Those that inputs can spend are known by their names, too: the ones of
-/// the last transaction are named when the next one comes.
+/// The outputs of the transactions so far. Those that inputs can spend are found by their names, too: the ones of the last
+/// transaction are named when the next one comes.
 #[derive(Drop)]
 pub(crate) struct Made<'a> {
-    pub records: Vec<Option<RecordView<'a>>>,
-    /// The number of the newest output of each name, among the first `named`.
-    pub newest: BTreeMap<OutpointKey, usize>,
-    pub named: usize,
+    pub origins: Origins,
+    /// In order. One that can not be spent, or is spent, is None.
+    pub outputs: Vec<Option<MadeOutput<'a>>>,
+    /// The transactions whose outputs are named, in order.
+    pub named: Vec<Named>,
+    /// How many outputs they have.
+    pub known: usize,
+    /// The place of the newest of them with an id.
+    pub newest: BTreeMap<TxidKey, usize>,
 }
 
 impl<'a> Made<'a> {
-    ghost use Rattle.block_rules.specs.Keys.{point_of, own_of, own_numbered, IsIndex, Knows};
-    ghost use Rattle.block_rules.specs.Walk.{origin_at};
+    ghost use Rattle.block_rules.specs.Known.{named_point, number_in, found_at, history, Knows, KnowsAll};
 
     /// Nothing, and room for so many outputs.
-    pub fn new(alloc: Global, room: usize) -> Result<Self, NoMemory>
-        ensures none { IfOk result (λ made. made.records.items ≡ []) }
-        ensures known { IfOk result (λ made. Knows made.newest made.named made.records.items) }
+    pub fn new(alloc: Global, origins: Origins, room: usize) -> Result<Self, NoMemory>
+        ensures none { IfOk result (λ made. made.outputs.items ≡ []) }
+        ensures same { IfOk result (λ made. made.origins ≡ origins) }
+        ensures named { IfOk result (λ made. made.named.items ≡ []) }
+        ensures known { IfOk result KnowsAll }
     {
         Ok(Made {
-            records: Vec::with_capacity(alloc, room)?,
+            origins,
+            outputs: Vec::with_capacity(alloc, room)?,
+            named: Vec::new(alloc),
+            known: 0,
             newest: BTreeMap::new(alloc),
-            named: 0,
         })
     }
 
-    /// The newest output of a name.
-    pub fn find(&self, key: OutpointKey) -> Option<Own>
-        requires { IsIndex self.now.newest self.now.records.items }
-        ensures { result ≡ option_map own_of (newest (point_of key) self.now.records.items) }
+    /// Takes away the newest output of a name that is left.
+    pub fn take(&mut self, txid: &Digest, index: u32) -> Option<Found>
+        requires { KnowsAll self.old }
+        ensures found { result ≡ option_map (λ e. found_of e.leaf.rest) (newest (named_point txid.now index) (history self.old)) }
+        ensures left { history self.new ≡ taken (named_point txid.now index) (history self.old) }
+        ensures known { KnowsAll self.new }
+        ensures origins { self.new.origins ≡ self.old.origins }
+        ensures named { self.new.named.items ≡ self.old.named.items }
     {
-        match self.newest.get(&key) {
-            Some(number) => self.own(*number),
+        match self.number(txid, index) {
+            Some(number) => {
+                let found = self.found(number);
+                self.outputs[number] = None;
+                found
+            }
             None => None,
         }
     }
 
-    fn own(&self, number: usize) -> Option<Own>
-        ensures { result ≡ own_numbered number self.now.records.items }
+    // The number of the newest output of a name that is left. Two transactions of one id, which have other outputs, are
+    // asked one after the other.
+    fn number(&self, txid: &Digest, index: u32) -> Option<usize>
+        requires { KnowsAll self.now }
+        ensures { result ≡ option_map (λ e. e.number) (newest (named_point txid.now index) (history self.now)) }
     {
-        match self.records.get(number) {
-            Some(Some(leaf)) => Some(Own {
-                number,
-                found: found_of(leaf),
-            }),
+        let mut next = self.newest.get(&key_of_txid(txid)).copied();
+        while let Some(place) = next {
+            let named = self.named[place];
+            if let Some(number) = self.number_in(&named, index) {
+                return Some(number);
+            }
+            next = named.before;
+        }
+        None
+    }
+
+    // The number of the output of a transaction at a place there, if it is left.
+    fn number_in(&self, named: &Named, index: u32) -> Option<usize>
+        requires ordered { named.now.start ≤ named.now.end }
+        requires within { named.now.end ≤ length self.now.outputs.items }
+        ensures { result ≡ number_in named.now index (history self.now) }
+    {
+        if index as usize >= named.end - named.start {
+            return None;
+        }
+        let number = named.start + index as usize;
+        match &self.outputs[number] {
+            Some(_) => Some(number),
+            None => None,
+        }
+    }
+
+    fn found(&self, number: usize) -> Option<Found>
+        ensures { result ≡ found_at number (history self.now) }
+    {
+        match self.outputs.get(number) {
+            Some(Some(output)) => Some(self.origins.found(output)),
             Some(None) | None => None,
         }
     }
 
-    /// Makes all outputs known by their names.
-    pub fn name_all(&mut self) -> Result<(), NoMemory>
-        requires { Knows self.old.newest self.old.named self.old.records.items }
-        ensures same { OnOk result (self.new.records.items ≡ self.old.records.items) }
-        ensures index { OnOk result (IsIndex self.new.newest self.new.records.items) }
-        ensures known { OnOk result (Knows self.new.newest self.new.named self.new.records.items) }
+    /// Names the outputs of the last transaction.
+    pub fn name_last(&mut self) -> Result<(), NoMemory>
+        requires { Knows self.old }
+        ensures outputs { OnOk result (history self.new ≡ history self.old) }
+        ensures origins { OnOk result (self.new.origins ≡ self.old.origins) }
+        ensures count { OnOk result (length self.new.named.items ≡ length self.old.named.items + 1) }
+        ensures known { OnOk result (KnowsAll self.new) }
     {
-        for number in self.named..self.records.len() {
-            self.name(number)?;
-        }
-        self.named = self.records.len();
+        let place = self.named.len();
+        let key = key_of_txid(&self.origins.txid(place));
+        let before = self.newest.insert(key, place)?;
+        self.named.push(Named {
+            start: self.known,
+            end: self.outputs.len(),
+            before,
+        })?;
+        self.known = self.outputs.len();
         Ok(())
     }
 
-    fn name(&mut self, number: usize) -> Result<(), NoMemory>
-        requires number { number < length self.old.records.items }
-        requires index { IsIndex self.old.newest (take number self.old.records.items) }
-        ensures same { OnOk result (self.new.records.items ≡ self.old.records.items) }
-        ensures index { OnOk result (IsIndex self.new.newest (take (number + 1) self.new.records.items)) }
+    /// Adds the outputs of the transaction at this place, which follows those that are named.
+    pub fn add(&mut self, place: u32, tx: &TxView<'a>) -> Result<(), NoMemory>
+        requires place { place ≡ length self.old.named.items }
+        requires known { KnowsAll self.old }
+        ensures added { OnOk result (self.new.outputs.items ≡ self.old.outputs.items ++ kept_from place 0 tx.now.outputs) }
+        ensures origins { self.new.origins ≡ self.old.origins }
+        ensures named { self.new.named.items ≡ self.old.named.items }
+        ensures known { OnOk result (Knows self.new) }
     {
-        if let Some(leaf) = &self.records[number] {
-            self.newest.insert(key_of_record(leaf), number)?;
-        }
+        self.put_all(place, tx)?;
         Ok(())
     }
 
-    /// Adds the spendable outputs of a transaction.
-    pub fn add(&mut self, maker: &Maker, tx: &TxView<'a>) -> Result<(), NoMemory>
-        requires height { maker.now.height < 2 ^ 31 }
-        requires known { Knows self.old.newest self.old.named self.old.records.items }
-        ensures added { OnOk result (self.new.records.items ≡ self.old.records.items ++ map Some (made_from (origin_at maker.now) 0 tx.now.outputs)) }
-        ensures known { OnOk result (Knows self.new.newest self.new.named self.new.records.items) }
+    fn put_all(&mut self, place: u32, tx: &TxView<'a>) -> Result<(), NoMemory>
+        ensures added { OnOk result (self.new.outputs.items ≡ self.old.outputs.items ++ kept_from place 0 tx.now.outputs) }
+        ensures origins { self.new.origins ≡ self.old.origins }
+        ensures named { self.new.named.items ≡ self.old.named.items }
+        ensures known { self.new.known ≡ self.old.known }
+        ensures newest { self.new.newest ≡ self.old.newest }
     {
         let mut index = 0;
         for output in tx.outputs() {
-            self.add_output(maker, index, &output)?;
+            self.outputs.push(kept(place, index, &output))?;
             index += 1;
         }
         Ok(())
     }
+}
 
-    fn add_output(
-        &mut self,
-        maker: &Maker,
-        index: u32,
-        output: &OutView<'a>,
-    ) -> Result<(), NoMemory>
-        requires height { maker.now.height < 2 ^ 31 }
-        requires known { Knows self.old.newest self.old.named self.old.records.items }
-        ensures added { OnOk result (self.new.records.items ≡ self.old.records.items ++ map Some (made_from (origin_at maker.now) index (output_of output.now ∷ []))) }
-        ensures known { OnOk result (Knows self.new.newest self.new.named self.new.records.items) }
-    {
-        if is_spendable(output) {
-            self.records.push(Some(record_of(maker, index, output)))?;
-        }
-        Ok(())
+// An output that can be spent.
+fn kept<'a>(tx: u32, index: u32, output: &OutView<'a>) -> Option<MadeOutput<'a>>
+    ensures { result ≡ kept_if tx index (output_of output.now) }
+{
+    if is_spendable(output) {
+        Some(MadeOutput {
+            tx,
+            index,
+            amount: output.amount,
+            script: output.script,
+        })
+    } else {
+        None
     }
 }
 
@@ -145,33 +191,4 @@ fn is_spendable(output: &OutView<'_>) -> bool
     ensures { result ≡ is_spendable (output_of output.now) }
 {
     output.script.first() != Some(&OP_RETURN) && output.script.len() <= MAX_SCRIPT
-}
-
-fn record_of<'a>(maker: &Maker, index: u32, output: &OutView<'a>) -> RecordView<'a>
-    requires height { maker.now.height < 2 ^ 31 }
-    requires script { length output.now.script.now ≤ longest_script }
-    ensures { result ≡ record {
-      point = record { txid = maker.now.txid; index = index };
-      rest = record { block = maker.now.block; height = maker.now.height; coinbase = maker.now.coinbase; amount = output.now.amount; script = output.now.script.now };
-    } }
-{
-    RecordView {
-        block: maker.block,
-        txid: maker.txid,
-        index,
-        height: maker.height,
-        coinbase: maker.coinbase,
-        amount: output.amount,
-        script: output.script,
-    }
-}
-
-fn found_of(leaf: &RecordView<'_>) -> Found
-    ensures { result ≡ found_of leaf.now.rest }
-{
-    Found {
-        amount: leaf.amount,
-        height: leaf.height,
-        coinbase: leaf.coinbase,
-    }
 }

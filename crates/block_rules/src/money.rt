@@ -22,14 +22,14 @@ pub fn money_rules(spends: &Spends<'_>, found: &[Found]) -> Result<u128, Refusal
     requires { length found.now ≡ length spends.now.external }
     ensures { MoneyJudged spends.now found.now result }
 {
-    if let Some(why) = immature_step(spends.height, &spends.bills, found) {
+    if let Some(why) = immature_step(spends.origins.height, &spends.bills, found) {
         return Err(why);
     }
     if let Some(why) = overspend_step(&spends.bills, found) {
         return Err(why);
     }
     let fees = fees(&spends.bills, found);
-    let allowed = u128::from(subsidy(spends.height, spends.net)) + fees;
+    let allowed = u128::from(subsidy(spends.origins.height, spends.net)) + fees;
     if u128::from(spends.claimed) > allowed {
         return Err(Refusal::Subsidy {
             claimed: spends.claimed,

@@ -1,24 +1,21 @@
 //! The rules that look at a block by itself.
 ghost use Rattle.std.specs.Prelude.{◌≡◌, ◌<◌, ◌≤◌, ◌^◌, [], length, map, None, Some, IfOk, IfErr, OnOk};
-ghost use Rattle.std.specs.List.{AllByRecursion};
-ghost use Rattle.block_rules.specs.Blocks.{placed_of};
 ghost use Rattle.block_rules.specs.Judged.{ShapeJudged, FullJudged};
 ghost use Rattle.block_rules.specs.Money.{spends_of};
-ghost use Rattle.block_rules.specs.Rules.{value_fault, double};
+ghost use Rattle.block_rules.specs.Rules.{value_fault};
 ghost use Rattle.block_rules.specs.Walk.{new_at};
 
 use crate::chain::Chain;
 use crate::double::double_step;
 use crate::fault::RuleFault;
-use crate::made::Made;
+use crate::output::MadeOutput;
 use crate::refusal::Refusal;
 use crate::spends::Spends;
 use crate::steps::{coinbase_step, link_step, merkle_step, value_step, weight_step};
 use crate::sums::output_sum;
-use crate::walk::{Walk, unspent, walk_over};
+use crate::walk::{Walk, walk_over};
 use crate::witness::witness_step;
 use block_codec::BlockView;
-use leaf_record::RecordView;
 use std::alloc::Global;
 use uo_base::{Limits, Net, NoMemory};
 
@@ -72,7 +69,6 @@ fn full_step<'a>(
     requires blocks { chain.now.blocks ≤ 2 ^ 31 }
     requires some { 0 < length block.now.txs }
     requires value { value_fault block.now.txs ≡ None }
-    requires single { double [] (placed_of 0 block.now.txs) ≡ None }
     ensures { FullJudged net limits chain.now block.now result }
 {
     if chain.blocks >= MOST_BLOCKS {
@@ -95,38 +91,35 @@ fn spends_at<'a>(
     requires height { height < 2 ^ 31 }
     requires some { 0 < length block.now.txs }
     requires value { value_fault block.now.txs ≡ None }
-    requires single { double [] (placed_of 0 block.now.txs) ≡ None }
     ensures { IfOk result (λ spends. spends ≡ spends_of net height block.now) }
 {
     let Walk {
         made,
-        spent,
         external,
         bills,
     } = walk_over(alloc, block, height)?;
     Ok(Spends {
         net,
-        height,
         external,
-        new: new_records(alloc, height, made, &spent),
+        new: new_outputs(alloc, height, made.outputs),
+        origins: made.origins,
         claimed: output_sum(block.tx(0)) as u64,
         bills,
     })
 }
 
-// None at height 0.
-fn new_records<'a>(
+// What is left of the outputs made, and none at height 0.
+fn new_outputs<'a>(
     alloc: Global,
     height: u32,
-    made: Made<'a>,
-    spent: &[usize],
-) -> Vec<Option<RecordView<'a>>>
-    requires { AllByRecursion (λ n. n < length made.records.items) spent.now }
-    ensures { result.items ≡ map Some (new_at height spent.now made.entry.records.items) }
+    mut outputs: Vec<Option<MadeOutput<'a>>>,
+) -> Vec<Option<MadeOutput<'a>>>
+    ensures { result.items ≡ map Some (new_at height outputs.entry.items) }
 {
     if height == 0 {
         Vec::new(alloc)
     } else {
-        unspent(made.records, spent)
+        outputs.retain(|output| output.is_some());
+        outputs
     }
 }

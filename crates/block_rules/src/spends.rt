@@ -2,6 +2,8 @@
 ghost use Rattle.std.specs.Prelude.{◌≡◌, ◌<◌, length, slice_get, Some};
 
 use crate::chain::{Found, Outside};
+use crate::origins::Origins;
+use crate::output::MadeOutput;
 use leaf_record::RecordView;
 use std::marker::Model;
 use uo_base::Net;
@@ -31,10 +33,10 @@ impl Model for TxMoney {
 #[derive(Drop)]
 pub struct Spends<'a> {
     pub(crate) net: Net,
-    pub(crate) height: u32,
+    pub(crate) origins: Origins,
     pub(crate) external: Vec<Outside>,
     // What is left of those that were made: nothing in it is missing.
-    pub(crate) new: Vec<Option<RecordView<'a>>>,
+    pub(crate) new: Vec<Option<MadeOutput<'a>>>,
     // The sum of the coinbase's outputs.
     pub(crate) claimed: u64,
     // Of each transaction behind the coinbase.
@@ -47,19 +49,21 @@ impl<'a> Model for Spends<'a> {
     ghost Value = { BlockSpends };
 
     ghost use Rattle.leaf_record.specs.History.{somes};
+    ghost use Rattle.block_rules.specs.Known.{history_at};
 
     ghost view = { λ s. record {
       net = s.net;
-      height = s.height;
+      height = s.origins.height;
       external = s.external.items;
-      new = somes s.new.items;
+      new = somes (history_at s.origins s.new.items);
       claimed = s.claimed;
       bills = s.bills.items;
     } };
 
+    ghost use Rattle.std.specs.Prelude.{◌<◌, ◌^◌};
     ghost use Rattle.block_rules.specs.Paying.{IsCounted, IsWhole};
 
-    ghost invariant = { λ s. IsCounted s.bills.items s.external.items × IsWhole s.new.items };
+    ghost invariant = { λ s. IsCounted s.bills.items s.external.items × IsWhole (history_at s.origins s.new.items) × (s.origins.height < 2 ^ 31) };
 }
 
 impl<'a> Spends<'a> {
@@ -83,7 +87,7 @@ impl<'a> Spends<'a> {
         ensures { slice_get self.now.new i ≡ Some result }
     {
         match &self.new[i as usize] {
-            Some(record) => record.rest().with_outpoint(record.txid, record.index),
+            Some(output) => self.origins.record(output),
             None => unreachable!(),
         }
     }

@@ -1,33 +1,26 @@
 //! A walk over a block's transactions: what each of them spends, and what is made.
-ghost use Rattle.std.specs.Prelude.{◌≡◌, ◌<◌, ◌++◌, ◌^◌, ◌∷◌, [], true, false, map, length, option_map, Some, IfOk, OnOk};
-ghost use Rattle.std.specs.List.{AllByRecursion};
+ghost use Rattle.std.specs.Prelude.{◌≡◌, ◌<◌, ◌+◌, ◌++◌, ◌^◌, ◌∷◌, [], length, map, IfOk, OnOk};
 ghost use Rattle.tx_codec.specs.Views.{input_of};
-ghost use Rattle.block_codec.specs.Block.{block_hash_of};
-ghost use Rattle.leaf_record.specs.History.{somes};
-ghost use Rattle.block_rules.specs.Blocks.{made_from};
-ghost use Rattle.block_rules.specs.Keys.{IsIndex, Knows};
-ghost use Rattle.block_rules.specs.Laws.{spent_in_order};
-ghost use Rattle.block_rules.specs.Walk.{own_in, owns_in, numbers_in, outside_at, outside_if, outsides_from, origin_at, walked_on, walked_first, walked, seen};
+ghost use Rattle.block_rules.specs.Blocks.{placed_from, external_in, spends_from, left_from, outpoint_of, taken};
+ghost use Rattle.block_rules.specs.Known.{history, Knows, KnowsAll, ArisesFrom};
+ghost use Rattle.block_rules.specs.Money.{own_found};
+ghost use Rattle.block_rules.specs.Walk.{spend_at, kept_of, walked_on, begins, IsWalked, seen};
 
 use crate::chain::{Found, Outside};
-use crate::made::{Made, Maker};
-use crate::outpoint::key_of_input;
+use crate::made::Made;
+use crate::origins::Origins;
 use crate::spends::TxMoney;
 use crate::sums::output_sum;
-use block_codec::{BlockView, block_hash};
-use leaf_record::RecordView;
+use block_codec::BlockView;
 use std::alloc::Global;
 use tx_codec::{InView, TxView};
 use uo_base::NoMemory;
-use uo_digest::Digest;
 
 /// What was met of a block so far.
 #[derive(Drop)]
 pub(crate) struct Walk<'a> {
-    /// What its transactions made.
+    /// What is left of what its transactions made.
     pub made: Made<'a>,
-    /// The numbers of those that its own inputs spend.
-    pub spent: Vec<usize>,
     /// The inputs that spend outputs of other blocks.
     pub external: Vec<Outside>,
     /// What each transaction behind the coinbase spends of the block's own, and makes.
@@ -35,20 +28,19 @@ pub(crate) struct Walk<'a> {
 }
 
 impl<'a> Walk<'a> {
-    // Notes what an input spends, and answers it where the block made it.
+    // Takes away what an input spends, and answers it where the block made it.
     fn spend(&mut self, t: u32, i: u32, input: &InView<'_>) -> Result<Option<Found>, NoMemory>
-        requires { IsIndex self.old.made.newest self.old.made.records.items }
-        ensures made { self.new.made ≡ self.old.made }
-        ensures bills { self.new.bills ≡ self.old.bills }
-        ensures spent { OnOk result (self.new.spent.items ≡ self.old.spent.items ++ numbers_in (own_in (input_of input.now) self.old.made.records.items ∷ [])) }
-        ensures external { OnOk result (self.new.external.items ≡ self.old.external.items ++ outside_if (outside_at t i (input_of input.now)) (own_in (input_of input.now) self.old.made.records.items) []) }
-        ensures found { IfOk result (λ found. found ≡ option_map (λ own. own.found) (own_in (input_of input.now) self.old.made.records.items)) }
+        requires { KnowsAll self.old.made }
+        ensures left { history self.new.made ≡ taken (outpoint_of (input_of input.now)) (history self.old.made) }
+        ensures known { KnowsAll self.new.made }
+        ensures origins { self.new.made.origins ≡ self.old.made.origins }
+        ensures named { self.new.made.named.items ≡ self.old.made.named.items }
+        ensures bills { self.new.bills.items ≡ self.old.bills.items }
+        ensures external { OnOk result (self.new.external.items ≡ self.old.external.items ++ external_in (spend_at t i (input_of input.now) (history self.old.made) ∷ [])) }
+        ensures found { IfOk result (λ found. found ≡ own_found (spend_at t i (input_of input.now) (history self.old.made))) }
     {
-        match self.made.find(key_of_input(input)) {
-            Some(own) => {
-                self.spent.push(own.number)?;
-                Ok(Some(own.found))
-            }
+        match self.made.take(&input.txid, input.index) {
+            Some(found) => Ok(Some(found)),
             None => {
                 self.external.push(Outside {
                     tx: t,
@@ -61,19 +53,21 @@ impl<'a> Walk<'a> {
         }
     }
 
-    // Notes what each input of a transaction spends.
+    // Takes away what each input of a transaction spends.
     fn spend_all(
         &mut self,
         alloc: Global,
         t: u32,
         tx: &TxView<'_>,
     ) -> Result<Vec<Option<Found>>, NoMemory>
-        requires { IsIndex self.old.made.newest self.old.made.records.items }
-        ensures made { self.new.made ≡ self.old.made }
-        ensures bills { self.new.bills ≡ self.old.bills }
-        ensures spent { OnOk result (self.new.spent.items ≡ self.old.spent.items ++ numbers_in (owns_in tx.now.inputs self.old.made.records.items)) }
-        ensures external { OnOk result (self.new.external.items ≡ self.old.external.items ++ outsides_from t 0 tx.now.inputs (owns_in tx.now.inputs self.old.made.records.items)) }
-        ensures found { IfOk result (λ found. found.items ≡ map (option_map (λ own. own.found)) (owns_in tx.now.inputs self.old.made.records.items)) }
+        requires { KnowsAll self.old.made }
+        ensures left { OnOk result (history self.new.made ≡ left_from (placed_from t 0 tx.now.inputs) (history self.old.made)) }
+        ensures known { OnOk result (KnowsAll self.new.made) }
+        ensures origins { self.new.made.origins ≡ self.old.made.origins }
+        ensures named { self.new.made.named.items ≡ self.old.made.named.items }
+        ensures bills { self.new.bills.items ≡ self.old.bills.items }
+        ensures external { OnOk result (self.new.external.items ≡ self.old.external.items ++ external_in (spends_from (placed_from t 0 tx.now.inputs) (history self.old.made))) }
+        ensures found { IfOk result (λ found. found.items ≡ map own_found (spends_from (placed_from t 0 tx.now.inputs) (history self.old.made))) }
         ensures few { length tx.now.inputs < 2 ^ 32 }
     {
         let mut own = Vec::with_capacity(alloc, tx.input_count() as usize)?;
@@ -86,25 +80,22 @@ impl<'a> Walk<'a> {
     }
 
     // Passes one transaction behind the coinbase.
-    fn pass(
-        &mut self,
-        alloc: Global,
-        t: u32,
-        tx: &TxView<'a>,
-        maker: &Maker,
-    ) -> Result<(), NoMemory>
-        requires height { maker.now.height < 2 ^ 31 }
-        requires known { Knows self.old.made.newest self.old.made.named self.old.made.records.items }
-        ensures on { OnOk result (seen self.new ≡ walked_on t tx.now (made_from (origin_at maker.now) 0 tx.now.outputs) (seen self.old)) }
-        ensures known { OnOk result (Knows self.new.made.newest self.new.made.named self.new.made.records.items) }
+    fn pass(&mut self, alloc: Global, t: u32, tx: &TxView<'a>) -> Result<(), NoMemory>
+        requires place { length self.old.made.named.items + 1 ≡ t }
+        requires known { Knows self.old.made }
+        ensures on { OnOk result (seen self.new ≡ walked_on t tx.now (kept_of self.old.made.origins t tx.now) (seen self.old)) }
+        ensures origins { OnOk result (self.new.made.origins ≡ self.old.made.origins) }
+        ensures place { OnOk result (length self.new.made.named.items ≡ t) }
+        ensures known { OnOk result (Knows self.new.made) }
     {
-        self.made.name_all()?;
+        self.made.name_last()?;
         let own = self.spend_all(alloc, t, tx)?;
         self.bills.push(TxMoney {
             own,
             makes: output_sum(tx),
         })?;
-        self.made.add(maker, tx)
+        self.made.add(t, tx)?;
+        Ok(())
     }
 }
 
@@ -114,48 +105,31 @@ pub(crate) fn walk_over<'a>(
     block: &BlockView<'a>,
     height: u32,
 ) -> Result<Walk<'a>, NoMemory>
-    requires some { 0 < length block.now.txs }
-    requires height { height < 2 ^ 31 }
-    ensures walked { IfOk result (λ walk. seen walk ≡ walked (block_hash_of block.now) height block.now.txs) }
+    requires { 0 < length block.now.txs }
+    ensures walked { IfOk result (λ walk. IsWalked block.now height (seen walk)) }
+    ensures origins { IfOk result (λ walk. ArisesFrom block.now height walk.made.origins) }
     ensures few { OnOk result (length block.now.txs < 2 ^ 32) }
 {
-    let hash = block_hash(block);
-    let mut walk = begin(alloc, block, hash, height)?;
+    let mut walk = begin(alloc, block, height)?;
     for t in 1..block.tx_count() {
-        let maker = Maker {
-            block: hash,
-            height,
-            coinbase: false,
-            txid: block.txid(t),
-        };
-        walk.pass(alloc, t, block.tx(t), &maker)?;
+        walk.pass(alloc, t, block.tx(t))?;
     }
     Ok(walk)
 }
 
 // Behind the coinbase.
-fn begin<'a>(
-    alloc: Global,
-    block: &BlockView<'a>,
-    hash: Digest,
-    height: u32,
-) -> Result<Walk<'a>, NoMemory>
-    requires some { 0 < length block.now.txs }
-    requires height { height < 2 ^ 31 }
-    ensures first { IfOk result (λ walk. seen walk ≡ walked_first hash height block.now.txs) }
-    ensures known { IfOk result (λ walk. Knows walk.made.newest walk.made.named walk.made.records.items) }
+fn begin<'a>(alloc: Global, block: &BlockView<'a>, height: u32) -> Result<Walk<'a>, NoMemory>
+    requires { 0 < length block.now.txs }
+    ensures first { IfOk result (λ walk. seen walk ≡ begins walk.made.origins block.now.txs) }
+    ensures origins { IfOk result (λ walk. ArisesFrom block.now height walk.made.origins) }
+    ensures place { IfOk result (λ walk. length walk.made.named.items ≡ 0) }
+    ensures known { IfOk result (λ walk. Knows walk.made) }
 {
-    let maker = Maker {
-        block: hash,
-        height,
-        coinbase: true,
-        txid: block.txid(0),
-    };
-    let mut made = Made::new(alloc, outputs_of(block))?;
-    made.add(&maker, block.tx(0))?;
+    let origins = Origins::new(alloc, block, height)?;
+    let mut made = Made::new(alloc, origins, outputs_of(block))?;
+    made.add(0, block.tx(0))?;
     Ok(Walk {
         made,
-        spent: Vec::new(alloc),
         external: Vec::new(alloc),
         bills: Vec::new(alloc),
     })
@@ -166,19 +140,4 @@ fn outputs_of(block: &BlockView<'_>) -> usize {
     (0..block.tx_count()).fold(0, |count: usize, t| {
         count.saturating_add(block.tx(t).output_count() as usize)
     })
-}
-
-/// What is left of the outputs made once those of these numbers are spent.
-pub(crate) fn unspent<'a>(
-    mut records: Vec<Option<RecordView<'a>>>,
-    spent: &[usize],
-) -> Vec<Option<RecordView<'a>>>
-    requires { AllByRecursion (λ n. n < length records.items) spent.now }
-    ensures { result.items ≡ map Some (somes (spent_in_order spent.now records.entry.items)) }
-{
-    for number in spent {
-        records[*number] = None;
-    }
-    records.retain(|record| record.is_some());
-    records
 }

@@ -1,10 +1,13 @@
-use Rattle.std.proofs.Common.{◌≡◌, drop}
-use Rattle.block_rules.specs.Keys.{Knows}
-use Rattle.block_rules.specs.Walk.{walked_from, walked, seen}
+use Rattle.std.proofs.Common.{◌≡◌, ◌+◌, length}
+use Rattle.block_rules.specs.Known.{ArisesFrom, Knows}
+use Rattle.block_rules.specs.Walk.{seen}
+use Rattle.block_rules.proofs.Walking.{IsWalking}
 use Rattle.block_rules.proofs.walk.walk_over.Given as goal
 
 abbrev pub invariant-loop-t : goal.invariant-loop-t
 invariant-loop-t l = record {
-  walks : walked_from l.hash l.fn.height l.t (drop l.t l.fn.block.txs) (seen l.walk) ≡ walked l.hash l.fn.height l.fn.block.txs;
-  known : Knows l.walk.made.newest l.walk.made.named l.walk.made.records.items;
+  walks : IsWalking l.fn.block l.fn.height l.t (seen l.walk);
+  origins : ArisesFrom l.fn.block l.fn.height l.walk.made.origins;
+  place : length l.walk.made.named.items + 1 ≡ l.t;
+  known : Knows l.walk.made;
 }
