@@ -23,4 +23,3 @@ pub use merkle_tree::{MerkleOutcome, merkle, merkle_root_of};
 pub use reading::{read_bare, read_block};
 pub use witness::{commitment, witness_root};
 pub use writing::{one_block, write_block};
-
