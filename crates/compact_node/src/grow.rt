@@ -1,7 +1,9 @@
 //! The roots and the cache behind a block.
-ghost use Rattle.std.specs.Prelude.{◌≡◌, ◌+◌, ◌*◌, ◌<◌, ◌≤◌, ◌^◌, ◌∷◌, [], true, length, map, count_by, count_ones, is_some, IfOk, OnOk, OnErr};
-ghost use Rattle.leaf_record.specs.Leaf.{leaf_text};
+ghost use Rattle.std.specs.Prelude.{◌≡◌, ℕ, suc, ◌+◌, ◌-◌, ◌*◌, ◌<◌, ◌≤◌, ◌^◌, List, [], ◌∷◌, ◌++◌, true, length, map, get_or, count_by, count_ones, Some, is_some, if◌then◌else◌, IfOk, OnOk, OnErr};
+ghost use Rattle.std.specs.Bool.{OnTrue, OnFalse};
+ghost use Rattle.leaf_record.specs.Leaf.{Leaf, leaf_text};
 ghost use Rattle.forest_roots.specs.Joined.{joins_of};
+ghost use Rattle.cache_model.specs.Known.{is_watched};
 ghost use Rattle.cache_model.specs.Lists.{moved_leaves, leaf_places, leaves_more};
 ghost use Rattle.cache_model.specs.Steps.{held_deleted};
 ghost use Rattle.leaf_cache.specs.Parted.{HaveSameLists};
@@ -10,6 +12,7 @@ ghost use Rattle.cache_update.specs.Marks.{Fits, kept_back, held_back, pairs_wit
 ghost use Rattle.compact_node.specs.After.{with_leaf, with_leaves, kept_with_all, held_with_all};
 ghost use Rattle.compact_node.specs.Judged.{watched_leaf};
 ghost use Rattle.compact_node.specs.Marked.{GoesOn};
+ghost use Rattle.compact_node.specs.Pending.{pending};
 
 use block_rules::Spends;
 use cache_update::{Mark, after_add, after_delete, begin};
@@ -23,44 +26,60 @@ use std::sync::ledger::Ledger;
 use uo_base::NoMemory;
 use uo_digest::{Digest, Digester, Steps};
 
-// The output, where it is watched.
-fn record_if(
+// Notes an output with its index, where it is watched.
+fn note_watched(
     alloc: Global,
+    leaves: &mut Vec<(u64, Record)>,
     watch: &Watch,
+    i: u64,
     leaf: &RecordView<'_>,
-) -> Result<Option<Record>, NoMemory>
-    ensures { IfOk result (λ kept. kept ≡ watched_leaf watch.now leaf.now) }
+) -> Result<(), NoMemory>
+    ensures { OnOk result (leaves.new.items ≡ leaves.old.items ++ (if is_watched watch.now (Some leaf.now) then (i, leaf.now) ∷ [] else [])) }
 {
     let rest = leaf.rest();
     if watch.has(rest.script) {
-        Ok(Some(leaf.to_record(alloc)?))
-    } else {
-        Ok(None)
+        leaves.push((i, leaf.to_record(alloc)?))?;
     }
+    Ok(())
 }
 
-// Each new output of a block, where it is watched.
+// The new outputs of a block that are watched, each with its index, the last one first. It takes memory for these alone.
 fn watched_in(
     alloc: Global,
     watch: &Watch,
     spends: &Spends<'_>,
-) -> Result<Vec<Option<Record>>, NoMemory>
-    ensures { IfOk result (λ leaves. leaves.items ≡ map (watched_leaf watch.now) spends.now.new) }
+) -> Result<Vec<(u64, Record)>, NoMemory>
+    ensures { IfOk result (λ leaves. leaves.items ≡ pending watch.now 0 spends.now.new) }
 {
-    let mut leaves = Vec::with_capacity(alloc, spends.new_count() as usize)?;
-    for i in 0..spends.new_count() {
-        let leaf = spends.new_output(i);
-        let kept = record_if(alloc, watch, &leaf)?;
-        leaves.push(kept)?;
+    let mut leaves = Vec::new(alloc);
+    let mut i = spends.new_count();
+    while i > 0 {
+        i -= 1;
+        note_watched(alloc, &mut leaves, watch, i, &spends.new_output(i))?;
     }
     Ok(leaves)
 }
 
-// How many are watched.
-fn watched_count(leaves: &[Option<Record>]) -> u64
-    ensures { result ≡ count_by is_some leaves.now }
+// Whether the last of these has the index.
+fn is_last(left: &[(u64, Record)], i: u64) -> bool
+    ensures there { OnTrue result ((0 < length left.now) × ((d : _) → (get_or left.now (length left.now - 1) d).0 ≡ i)) }
+    ensures other { OnFalse result (0 < length left.now → (d : _) → (get_or left.now (length left.now - 1) d).0 ≡ i → ⊥) }
 {
-    leaves.iter().filter(|leaf| leaf.is_some()).count() as u64
+    left.len() > 0 && left[left.len() - 1].0 == i
+}
+
+// Takes the new output at an index, where it is watched.
+fn take_watched(left: &mut Vec<(u64, Record)>, i: u64) -> Option<Record>
+    ensures { (scripts : List (List ℕ)) (leaf : Leaf) (later : List Leaf) → left.old.items ≡ pending scripts i (leaf ∷ later) →
+        (result ≡ watched_leaf scripts leaf) × (left.new.items ≡ pending scripts (suc i) later) }
+{
+    if !is_last(left, i) {
+        return None;
+    }
+    match left.pop() {
+        Some((_, leaf)) => Some(leaf),
+        None => None,
+    }
 }
 
 // Adds an entry, which is kept where it is watched.
@@ -95,7 +114,7 @@ fn add<D: Digester, L: Ledger>(
     after_add(cache, mark, n, digest, joins, leaf);
 }
 
-// Adds the block's new records, in their order. Each has a place in `leaves`, with the record where it is watched.
+// Adds the block's new records, in their order. Of those that are watched the records are in `leaves`.
 fn append<D: Digester, L: Ledger>(
     cache: &mut Cache<D>,
     mark: &mut Mark,
@@ -103,13 +122,13 @@ fn append<D: Digester, L: Ledger>(
     room: &mut LeafBuf<D>,
     joins: &mut Joins,
     spends: &Spends<'_>,
-    leaves: Vec<Option<Record>>,
+    leaves: Vec<(u64, Record)>,
     steps: &mut Steps<L>,
 )
     requires fits { Fits mark.old cache.old.parts }
-    requires leaves { leaves.items ≡ map (watched_leaf cache.old.watch) spends.now.new }
+    requires leaves { leaves.items ≡ pending cache.old.watch 0 spends.now.new }
     requires adds { mark.old.adds ≡ length spends.now.new }
-    requires watched { mark.old.watched ≡ count_by is_some leaves.items }
+    requires watched { mark.old.watched ≡ length leaves.items }
     requires count { mark.old.leaves ≡ roots.old.leaves }
     requires few { roots.old.leaves + length spends.now.new < 2 ^ 40 }
     ensures roots { roots.new ≡ with_leaves D.digest_of roots.old (map (λ leaf. D.digest_of (leaf_text leaf)) spends.now.new) }
@@ -120,12 +139,12 @@ fn append<D: Digester, L: Ledger>(
     ensures steps { steps.new ≤ steps.old + 2 * length spends.now.new + 40 }
 {
     let _count = roots.leaves();
-    let mut i = 0;
-    for watched in leaves {
+    let mut left = leaves;
+    for i in 0..spends.new_count() {
         let leaf = spends.new_output(i);
         let digest = leaf_digest::<D, L>(room, &leaf, steps);
+        let watched = take_watched(&mut left, i);
         add(cache, mark, roots, joins, digest, watched, steps);
-        i += 1;
     }
 }
 
@@ -159,7 +178,7 @@ pub(crate) fn grow<D: Digester, L: Ledger>(
     ensures steps { steps.new ≤ steps.old + 2 * length spends.now.new + 40 }
 {
     let leaves = watched_in(alloc, cache.watch(), spends)?;
-    let watched = watched_count(&leaves);
+    let watched = leaves.len() as u64;
     let mut mark = begin(alloc, cache, targets, spends.new_count(), watched)?;
     after_delete(cache, &mut mark, targets, changes);
     append(cache, &mut mark, roots, room, joins, spends, leaves, steps);

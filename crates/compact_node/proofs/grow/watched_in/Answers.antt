@@ -1,9 +1,18 @@
-use Rattle.std.proofs.Common.{ap, sym, ◌∙◌, Some}
-use Rattle.node_rules.proofs.Told.{one_more}
-use Rattle.compact_node.specs.Judged.{watched_leaf}
-use Rattle.compact_node.proofs.Taking.{got-map}
+use Rattle.std.proofs.Common.{◌≡◌, List, ◌-◌, suc, sym, ap, ◌∙◌, drop, arith}
+use Rattle.std.proofs.lemmas.List.{drop_all}
+use Rattle.leaf_record.specs.Leaf.{Leaf}
+use Rattle.compact_node.specs.Pending.{pending}
+use Rattle.compact_node.proofs.Pending.{pending_more}
 use Rattle.compact_node.proofs.grow.watched_in.Goals as goal
 
+pub loop-i-init : goal.loop-i-init
+loop-i-init c = record {
+  within = omega (arith, c.new_count-i.ensures);
+  leaves = c.new-leaves.ensures.items ∙ sym (ap (pending c.args.watch.now c.new_count-i.result) (drop_all c.new_count-i.result c.args.spends.now.new (omega (arith, c.new_count-i.ensures))));
+}
+
 pub loop-i-preserved : goal.loop-i-preserved
-loop-i-preserved c =
-    one_more _ _ _ _ _ (got-map (watched_leaf c.args.watch.now) c.args.spends.now.new c.loop-i.i c.new_output-leaf.result c.new_output-leaf.ensures ∙ ap Some (sym c.in_ok-kept.ensures)) c.loop-i.invariant c.in_ok-push.ensures.items
+loop-i-preserved c = record {
+  within = omega (arith, c.loop-i.invariant.within);
+  leaves = pending_more c.args.watch.now c.args.spends.now.new (c.loop-i.i - 1) c.loop-i.i c.new_output.result c.loop-i.leaves.items _ (omega (arith, c.loop-i-test.true)) c.new_output.ensures c.loop-i.invariant.leaves c.in_ok-note_watched.ensures;
+}
