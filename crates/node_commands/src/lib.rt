@@ -14,7 +14,7 @@ mod laws;
 mod prior;
 mod prove;
 mod prover;
-mod run;
+mod running;
 mod serve;
 mod starting;
 
@@ -22,4 +22,4 @@ pub use command_words::{Command, WordFault, read_words};
 pub use feed_run::Status;
 pub use laws::{fresh_begins, resumed_is_whole};
 pub use report_lines::line_of;
-pub use run::run;
+pub use running::run;

@@ -1,7 +1,7 @@
 use Rattle.std.proofs.Common.{refl}
 use Rattle.feed_run.specs.declared.status.Status.TheVariants.{ReadFault, WriteFault}
 use Rattle.node_commands.proofs.RunLemmas.{did-end, did-stop, not_stopped}
-use Rattle.node_commands.proofs.run.run.Goals as goal
+use Rattle.node_commands.proofs.running.run.Goals as goal
 
 pub returns-in-Ok-clause-did : goal.returns-in-Ok-clause-did
 returns-in-Ok-clause-did g c = did-end _ g.met.D.Digester.has_32_bytes _ _ c.requires.leaves c.requires.bytes _ _ _ _ _ _ _ _ c.in-Ok.ensures.ended c.in-Ok.ensures.goes_on

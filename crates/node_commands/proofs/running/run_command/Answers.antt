@@ -21,7 +21,7 @@ use Rattle.node_commands.proofs.AuditLemmas.{audit_for-stores, EndsOver-quiet, S
 use Rattle.node_commands.proofs.RunLemmas.{copied_some, on-false, watch-follow, read-follow, first-follow, taken-follow, resumed-first, resumed-taken, taken-audit, taken-prove, first-prove, EndsRun-watch, StaysWithinRun-watch, EndsRun-fixed, StaysWithinRun-fixed}
 use Rattle.node_commands.proofs.ServeLemmas.{OnOk-any}
 use Rattle.node_commands.proofs.StartLemmas.{EndsRun-from, StaysWithinRun-from}
-use Rattle.node_commands.proofs.run.run_command.Goals as goal
+use Rattle.node_commands.proofs.running.run_command.Goals as goal
 
 module _ (H : List ℕ → Digest) (words : List (List ℕ)) (limits : Limits) where
   is_refused : (fault : WordFault) → Err fault ≡ command_of words → (inputs : Inputs) → answer_of H words limits inputs ≡ said Words (Line.Words fault.at)
