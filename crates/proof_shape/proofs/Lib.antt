@@ -8,3 +8,4 @@ pub mod Sweeping
 pub mod Needing
 pub mod Gone
 pub mod Goes
+pub mod Freed

@@ -44,7 +44,7 @@ module _ (n : ℕ) (cs : List Place) (rises : (a b : ℕ) → a < b → b < leng
   index_low zero h = omega arith
   index_low (suc a) h = let z = rises a (suc a) (omega arith) h in omega (arith, z, index_low a (omega arith))
 
-  not_last : (p : Place) → ((a : ℕ) → a < length cs → pos n (place_in cs a) ≤ pos n p) → InForest n p.row p.off → AreWithin n cs → (0 < length cs → place_in cs (length cs - 1) ≡ p → ⊥) → (a : ℕ) → a < length cs → pos n (place_in cs a) < pos n p
+  pub not_last : (p : Place) → ((a : ℕ) → a < length cs → pos n (place_in cs a) ≤ pos n p) → InForest n p.row p.off → AreWithin n cs → (0 < length cs → place_in cs (length cs - 1) ≡ p → ⊥) → (a : ℕ) → a < length cs → pos n (place_in cs a) < pos n p
   not_last p high inside within new a h =
       let l = length cs - 1 in
       let some : 0 < length cs = omega arith in

@@ -10,9 +10,13 @@ use Rattle.proof_shape.specs.Survey.{pos, up, is_top, has}
 abbrev pub ArePositions : ℕ → List ℕ → Type 0
 ArePositions n xs = (k : ℕ) → k < length xs → (q : Place) × InForest n q.row q.off × (pos n q ≡ get_or xs k 0)
 
+-- p at the end, where another place stood there or none
+abbrev pub IsAdded : List Place → Place → List Place → Type 0
+IsAdded old p new = (0 < length old → place_in old (length old - 1) ≡ p → ⊥) × (new ≡ old ++ p ∷ [])
+
 -- p at the end, unless it stands there already
 abbrev pub IsPushed : List Place → Place → List Place → Type 0
-IsPushed old p new = ((0 < length old) × (place_in old (length old - 1) ≡ p) × (new ≡ old)) ⊎ ((0 < length old → place_in old (length old - 1) ≡ p → ⊥) × (new ≡ old ++ p ∷ []))
+IsPushed old p new = ((0 < length old) × (place_in old (length old - 1) ≡ p) × (new ≡ old)) ⊎ IsAdded old p new
 
 -- the place above the one at index k, at the end
 pub record IsClimbed (n : ℕ) (old : List Place) (k : ℕ) (new : List Place) : Type 0 where
@@ -26,7 +30,7 @@ pub record ClimbsNext (n : ℕ) (cs : List Place) (k : ℕ) (xs : List ℕ) (j :
 
 -- or else a number does
 pub record NumberNext (n : ℕ) (cs : List Place) (k : ℕ) (xs : List ℕ) (j : ℕ) : Type 0 where
-  pub least : k < length cs → (is_top n (place_in cs k) ≡ false) × (j < length xs) × (get_or xs j 0 ≤ pos n (up (place_in cs k)))
+  pub least : k < length cs → (is_top n (place_in cs k) ≡ false) × (j < length xs) × (get_or xs j 0 < pos n (up (place_in cs k)))
 
 -- a sweep has the places above the first k places, and the first j numbers
 pub record IsSweep (n : ℕ) (xs : List ℕ) (cs : List Place) (k j : ℕ) : Type 0 where
@@ -43,3 +47,8 @@ pub record IsSweep (n : ℕ) (xs : List ℕ) (cs : List Place) (k j : ℕ) : Typ
 -- it is done
 abbrev pub IsSwept : ℕ → List ℕ → List Place → Type 0
 IsSwept n xs cs = IsSweep n xs cs (length cs) (length xs)
+
+-- the first j numbers rise, and none is the position of the place above one of the list
+pub record AreFree (n : ℕ) (xs : List ℕ) (cs : List Place) (j : ℕ) : Type 0 where
+  pub rising : (a b : ℕ) → a < b → b < j → get_or xs a 0 < get_or xs b 0
+  pub clear : (m : ℕ) (c : Place) → m < j → has cs c ≡ true → is_top n c ≡ false → pos n (up c) ≡ get_or xs m 0 → ⊥

@@ -1,25 +1,26 @@
 //! The covered places: the targets and all places above them, in ascending order.
-ghost use Rattle.std.specs.Prelude.{◌≡◌, ◌^◌, ◌<◌, true, false, IfOk, MatchBool, MatchOption, length};
+ghost use Rattle.std.specs.Prelude.{◌≡◌, ◌^◌, ◌<◌, true, false, IfOk, IsTrue, MatchBool, MatchOption, length};
 ghost use Rattle.std.specs.List.Sorted.{IsNonDecreasing};
 ghost use Rattle.forest_place.specs.declared.place.Place.{Place as Placed};
 ghost use Rattle.forest_place.specs.Forest.{InForest};
 ghost use Rattle.forest_place.specs.Places.{AreWithin};
-ghost use Rattle.proof_shape.specs.Swept.{ArePositions, IsPushed, IsClimbed, ClimbsNext, NumberNext, IsSweep, IsSwept};
+ghost use Rattle.proof_shape.specs.Swept.{ArePositions, IsAdded, IsPushed, IsClimbed, ClimbsNext, NumberNext, IsSweep, IsSwept, AreFree};
 ghost use Rattle.proof_shape.specs.Survey.{pos, up, is_top};
 
 use forest_place::{Place, is_root, parent, place_of, position};
 use std::alloc::{AllocError, Global};
 
-// Puts a place at the end, unless it stands there already.
-fn push_new(places: &mut Vec<Place>, place: Place) -> Result<(), AllocError>
-    ensures { IfOk result (λ u. IsPushed places.old.items place places.new.items) }
+// Puts a place at the end, unless it stands there already. Whether it was put.
+fn push_new(places: &mut Vec<Place>, place: Place) -> Result<bool, AllocError>
+    ensures pushed { IfOk result (λ new. IsPushed places.old.items place places.new.items) }
+    ensures added { IfOk result (λ new. MatchBool new (IsAdded places.old.items place places.new.items) (Unit {0})) }
 {
     let len = places.len();
     if len > 0 && places[len - 1] == place {
-        return Ok(());
+        return Ok(false);
     }
     places.push(place)?;
-    Ok(())
+    Ok(true)
 }
 
 // The place above one, unless that is a slot's root.
@@ -35,17 +36,17 @@ pub(crate) fn above(n: u64, place: Place) -> Option<Place>
     }
 }
 
-// Puts the place above the one at an index at the end.
-fn push_parent(n: u64, places: &mut Vec<Place>, k: usize) -> Result<(), AllocError>
+// Puts the place above the one at an index at the end. Whether it was put.
+fn push_parent(n: u64, places: &mut Vec<Place>, k: usize) -> Result<bool, AllocError>
     requires small { n < 2 ^ 40 }
     requires within { AreWithin n places.old.items }
     requires index { k < length places.old.items }
-    ensures { IfOk result (λ u. IsClimbed n places.old.items k places.new.items) }
+    ensures { IfOk result (λ new. IsClimbed n places.old.items k places.new.items) }
 {
     let place = places[k];
     match above(n, place) {
         Some(next) => push_new(places, next),
-        None => Ok(()),
+        None => Ok(false),
     }
 }
 
@@ -90,14 +91,20 @@ fn room_for(targets: usize) -> usize {
     targets.saturating_mul(ROOM_EACH).saturating_add(ROOM)
 }
 
-// All places at these positions and above them.
-pub(crate) fn cover_of(alloc: Global, n: u64, sorted: &[u64]) -> Result<Vec<Place>, AllocError>
+// All places at these positions and above them. Where the answer is true, no position is twice among these, or above another.
+pub(crate) fn cover_of(
+    alloc: Global,
+    n: u64,
+    sorted: &[u64],
+) -> Result<(Vec<Place>, bool), AllocError>
     requires small { n < 2 ^ 40 }
     requires sorted { IsNonDecreasing sorted.now }
     requires places { ArePositions n sorted.now }
-    ensures { IfOk result (λ v. IsSwept n sorted.now v.items) }
+    ensures swept { IfOk result (λ v. IsSwept n sorted.now v.0.items) }
+    ensures free { IfOk result (λ v. IsTrue v.1 → AreFree n sorted.now v.0.items (length sorted.now)) }
 {
     let mut covered = Vec::with_capacity(alloc, room_for(sorted.len()))?;
+    let mut free = true;
     let mut k = 0;
     let mut j = 0;
     while k < covered.len() || j < sorted.len() {
@@ -105,9 +112,10 @@ pub(crate) fn cover_of(alloc: Global, n: u64, sorted: &[u64]) -> Result<Vec<Plac
             push_parent(n, &mut covered, k)?;
             k += 1;
         } else {
-            push_new(&mut covered, place_at(n, sorted[j]))?;
+            let fresh = push_new(&mut covered, place_at(n, sorted[j]))?;
+            free &= fresh;
             j += 1;
         }
     }
-    Ok(covered)
+    Ok((covered, free))
 }

@@ -1,11 +1,11 @@
 //! What tells which places are gone.
 ghost use Rattle.std.specs.Prelude.{◌≡◌, ◌^◌, ◌<◌, IfOk, MatchBool};
-ghost use Rattle.std.specs.List.Sorted.{IsNonDecreasing};
+ghost use Rattle.std.specs.List.Sorted.{IsNonDecreasing, IsPermutation};
 ghost use Rattle.forest_place.specs.Places.{AreWithin};
+ghost use Rattle.forest_place.specs.Position.{positions_of as numbers_of};
 ghost use Rattle.forest_model.specs.Cover.{HasShape, need};
 ghost use Rattle.proof_shape.specs.Moves.{HasNeighbours, AreApart, TellGone, CoversTell};
 
-use crate::order::sorted_positions;
 use crate::survey::{covered_positions, parents_of};
 use forest_place::Place;
 use std::alloc::{AllocError, Global};
@@ -26,23 +26,25 @@ fn have_neighbours(sorted: &[u64]) -> bool
 }
 
 // Two lists of positions: the places that are gone are those of the first which are not of the second. Where no two
-// targets stand side by side, nothing is gone but them. Else it is what is covered, unless something is needed beneath.
+// targets, whose positions are given in ascending order, stand side by side, nothing is gone but them. Else it is what is covered, unless something is needed beneath.
 pub(crate) fn gone_among(
     alloc: Global,
     n: u64,
     targets: &[Place],
+    sorted: Vec<u64>,
     covered: &[u64],
     needed: &[Place],
 ) -> Result<(Vec<u64>, Vec<u64>), AllocError>
     requires small { n < 2 ^ 40 }
     requires within { AreWithin n targets.now }
     requires shape { HasShape n targets.now }
-    requires sorted { IsNonDecreasing covered.now }
+    requires sorted { IsNonDecreasing sorted.items }
+    requires same { IsPermutation (numbers_of n targets.now) sorted.items }
+    requires covered { IsNonDecreasing covered.now }
     requires tell { CoversTell n targets.now covered.now }
     requires needed { needed.now ≡ need n targets.now }
     ensures { IfOk result (λ v. TellGone n targets.now v.0.items v.1.items) }
 {
-    let sorted = sorted_positions(alloc, n, targets)?;
     if have_neighbours(&sorted) {
         let above = parents_of(alloc, n, needed)?;
         let kept = covered_positions(alloc, n, &above)?;

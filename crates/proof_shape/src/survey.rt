@@ -1,7 +1,9 @@
 //! The places at and above others, from one sweep.
-ghost use Rattle.std.specs.Prelude.{◌≡◌, ◌^◌, ◌<◌, IfOk, map};
-ghost use Rattle.std.specs.List.Sorted.{IsNonDecreasing};
+ghost use Rattle.std.specs.Prelude.{◌≡◌, ◌^◌, ◌<◌, IfOk, IsTrue, map};
+ghost use Rattle.std.specs.List.Sorted.{IsNonDecreasing, IsPermutation};
 ghost use Rattle.forest_place.specs.Places.{AreWithin};
+ghost use Rattle.forest_place.specs.Position.{positions_of as numbers_of};
+ghost use Rattle.forest_model.specs.Cover.{HasShape};
 ghost use Rattle.proof_shape.specs.Moves.{CoversTell};
 ghost use Rattle.proof_shape.specs.Survey.{IsCoverOf, up};
 
@@ -10,18 +12,23 @@ use crate::order::{positions_of, sorted_positions};
 use forest_place::{Place, parent};
 use std::alloc::{AllocError, Global};
 
-// The places at and above these.
+// The places at and above these, whose positions are given in ascending order. Where the answer is true, these have the shape
+// of targets.
 pub(crate) fn covered_places(
     alloc: Global,
     n: u64,
     places: &[Place],
-) -> Result<Vec<Place>, AllocError>
+    sorted: &[u64],
+) -> Result<(Vec<Place>, bool), AllocError>
     requires small { n < 2 ^ 40 }
     requires within { AreWithin n places.now }
-    ensures { IfOk result (λ v. IsCoverOf n places.now v.items) }
+    requires sorted { IsNonDecreasing sorted.now }
+    requires same { IsPermutation (numbers_of n places.now) sorted.now }
+    ensures covered { IfOk result (λ v. IsCoverOf n places.now v.0.items) }
+    ensures shape { IfOk result (λ v. IsTrue v.1 → HasShape n places.now) }
 {
-    let sorted = sorted_positions(alloc, n, places)?;
-    cover_of(alloc, n, &sorted)
+    let (covered, free) = cover_of(alloc, n, sorted)?;
+    Ok((covered, free))
 }
 
 // The positions of the places at and above these.
@@ -35,7 +42,8 @@ pub(crate) fn covered_positions(
     ensures sorted { IfOk result (λ v. IsNonDecreasing v.items) }
     ensures tell { IfOk result (λ v. CoversTell n places.now v.items) }
 {
-    let covered = covered_places(alloc, n, places)?;
+    let sorted = sorted_positions(alloc, n, places)?;
+    let (covered, _) = covered_places(alloc, n, places, &sorted)?;
     positions_of(alloc, n, &covered)
 }
 

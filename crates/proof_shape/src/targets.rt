@@ -6,7 +6,7 @@ use crate::leaving::gone_among;
 use crate::locate::locate;
 use crate::moves::moved_from;
 use crate::need::needed_of;
-use crate::order::positions_of;
+use crate::order::{positions_of, sorted_positions};
 use crate::survey::covered_places;
 use crate::wrong::{fault_at, sound_length};
 use forest_place::Place;
@@ -59,17 +59,18 @@ impl Targets {
         ensures { MatchResult result (λ t. (t.leaves ≡ n) × AreTargets n positions.now t.targets) (λ e. IsShapeFault n positions.now e) }
     {
         let places = locate(alloc, n, positions)?;
-        let sound = sound_length(alloc, n, &places)?;
+        let sorted = sorted_positions(alloc, n, &places)?;
+        let (covered, shaped) = covered_places(alloc, n, &places, &sorted)?;
+        let sound = sound_length(alloc, n, &places, shaped)?;
         if sound < places.len() {
             return Err(fault_at(n, &places, sound));
         }
         if sound < positions.len() {
             return Err(ShapeFault::Outside(sound as u32));
         }
-        let covered = covered_places(alloc, n, &places)?;
         let needed = needed_of(alloc, n, &covered)?;
         let numbers = positions_of(alloc, n, &covered)?;
-        let (among, kept) = gone_among(alloc, n, &places, &numbers, &needed)?;
+        let (among, kept) = gone_among(alloc, n, &places, sorted, &numbers, &needed)?;
         Ok(Targets {
             count: n,
             list: places,

@@ -1,5 +1,5 @@
 //! Where a list of places goes wrong.
-ghost use Rattle.std.specs.Prelude.{◌≡◌, ◌≢◌, ℕ, ◌^◌, ◌+◌, ◌<◌, ◌||◌, true, false, IfOk, MatchOption, length, take};
+ghost use Rattle.std.specs.Prelude.{◌≡◌, ◌≢◌, ℕ, ◌^◌, ◌+◌, ◌<◌, ◌||◌, true, false, IfOk, IsTrue, MatchOption, length, take};
 ghost use Rattle.forest_place.specs.Places.{AreWithin, place_in};
 ghost use Rattle.forest_model.specs.Cover.{HasShape, is_above};
 ghost use Rattle.proof_shape.specs.Found.{AreLow, IsSoundLength, IsFirstEqual, IsFirstCrossing, IsFaultAt, crosses as is_crossing};
@@ -9,12 +9,21 @@ use crate::shape::is_shaped;
 use forest_place::Place;
 use std::alloc::{AllocError, Global};
 
-// How many places from the front have the shape of targets.
-pub(crate) fn sound_length(alloc: Global, n: u64, places: &[Place]) -> Result<usize, AllocError>
+// How many places from the front have the shape of targets. All have, where that is known.
+pub(crate) fn sound_length(
+    alloc: Global,
+    n: u64,
+    places: &[Place],
+    shaped: bool,
+) -> Result<usize, AllocError>
     requires small { n < 2 ^ 40 }
     requires within { AreWithin n places.now }
+    requires shaped { IsTrue shaped → HasShape n places.now }
     ensures { IfOk result (λ k. IsSoundLength n places.now k) }
 {
+    if shaped {
+        return Ok(places.len());
+    }
     if is_shaped(alloc, n, places)? {
         return Ok(places.len());
     }

@@ -24,7 +24,7 @@ returns-in_ok-from_slice c =
     let same = sym c.in_ok-from_slice.ensures.items in
     let is : c.deref-then-have_neighbours.result.now ≡ ups (need n ts) = c.deref-then-have_neighbours.ensures.value ∙ (c.in_ok-above.ensures ∙ ap ups c.requires.needed) in
     record {
-      covered_up = subst IsNonDecreasing same c.requires.sorted;
+      covered_up = subst IsNonDecreasing same c.requires.covered;
       kept_up = c.in_ok-kept.ensures.sorted;
       tell = gone_tell n ts c.requires.shape _ _ (subst (CoversTell n ts) same c.requires.tell) (subst (λ l. CoversTell n l c.in_ok-kept.kept.items) is c.in_ok-kept.ensures.tell);
     }
@@ -36,7 +36,7 @@ returns-else-have_neighbours c =
     let apart = subst AreApart c.deref.ensures.value (rw c.if-have_neighbours.false at c.have_neighbours.ensures) in
     let empty = sym c.new.ensures.items in
     record {
-      covered_up = c.in_ok-sorted.ensures.sorted;
+      covered_up = c.requires.sorted;
       kept_up = subst IsNonDecreasing empty (λ i j d le lt. absurd (omega (arith, lt)));
-      tell = subst (GoneTell n ts c.in_ok-sorted.sorted.items) empty (alone_tell n ts c.in_ok-sorted.sorted.items c.requires.within c.in_ok-sorted.ensures.same apart);
+      tell = subst (GoneTell n ts c.args.sorted.items) empty (alone_tell n ts c.args.sorted.items c.requires.within c.requires.same apart);
     }

@@ -1,5 +1,5 @@
 use Rattle.std.proofs.Common.{◌≡◌, sym, subst, ap, ◌∙◌}
-use Rattle.std.specs.List.Sorted.{IsNonDecreasing}
+use Rattle.std.specs.List.Sorted.{IsNonDecreasing, IsPermutation}
 use Rattle.std.proofs.lemmas.Result.{IfOk-weaker}
 use Rattle.forest_place.specs.Position.{positions_of}
 use Rattle.proof_shape.specs.Moves.{CoversTell}
@@ -9,13 +9,20 @@ use Rattle.proof_shape.proofs.survey.covered_positions.Goals as goal
 pub returns-clause-sorted : goal.returns-clause-sorted
 returns-clause-sorted c =
     let cs = c.in_ok-covered.covered.items in
-    IfOk-weaker c.positions_of.result (λ v. v.items ≡ positions_of c.args.n c.deref.result.now) (λ v. IsNonDecreasing v.items)
-    (λ v e. subst IsNonDecreasing (sym (e ∙ ap (positions_of c.args.n) c.deref.ensures.value)) (rises_sorted c.args.n cs c.in_ok-covered.ensures.rises))
+    IfOk-weaker c.positions_of.result (λ v. v.items ≡ positions_of c.args.n c.deref-2.result.now) (λ v. IsNonDecreasing v.items)
+    (λ v e. subst IsNonDecreasing (sym (e ∙ ap (positions_of c.args.n) c.deref-2.ensures.value)) (rises_sorted c.args.n cs c.in_ok-covered.ensures.covered.rises))
     c.positions_of.ensures
 
 pub returns-clause-tell : goal.returns-clause-tell
 returns-clause-tell c =
     let cs = c.in_ok-covered.covered.items in
-    IfOk-weaker c.positions_of.result (λ v. v.items ≡ positions_of c.args.n c.deref.result.now) (λ v. CoversTell c.args.n c.args.places.now v.items)
-    (λ v e. subst (CoversTell c.args.n c.args.places.now) (sym (e ∙ ap (positions_of c.args.n) c.deref.ensures.value)) (positions_tell c.args.n c.args.places.now cs c.in_ok-covered.ensures))
+    IfOk-weaker c.positions_of.result (λ v. v.items ≡ positions_of c.args.n c.deref-2.result.now) (λ v. CoversTell c.args.n c.args.places.now v.items)
+    (λ v e. subst (CoversTell c.args.n c.args.places.now) (sym (e ∙ ap (positions_of c.args.n) c.deref-2.ensures.value)) (positions_tell c.args.n c.args.places.now cs c.in_ok-covered.ensures.covered))
     c.positions_of.ensures
+
+pub covered_places-requires-clause-same : goal.covered_places-requires-clause-same
+covered_places-requires-clause-same c =
+    subst (IsPermutation (positions_of c.args.n c.args.places.now)) (sym c.deref.ensures.value) c.in_ok-sorted.ensures.same
+
+pub covered_places-requires-clause-sorted : goal.covered_places-requires-clause-sorted
+covered_places-requires-clause-sorted c = subst IsNonDecreasing (sym c.deref.ensures.value) c.in_ok-sorted.ensures.sorted

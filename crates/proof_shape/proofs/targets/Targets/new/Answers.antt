@@ -2,7 +2,7 @@ use Rattle.std.proofs.Common.{◌≡◌, ◌<◌, ◌∙◌, sym, ap, subst, len
 use Rattle.forest_place.specs.Places.{AreWithin}
 use Rattle.forest_place.specs.Position.{positions_of}
 use Rattle.forest_model.specs.Cover.{HasShape, need}
-use Rattle.std.specs.List.Sorted.{IsNonDecreasing}
+use Rattle.std.specs.List.Sorted.{IsNonDecreasing, IsPermutation}
 use Rattle.proof_shape.specs.Survey.{IsCoverOf, Rises, needed_of}
 use Rattle.proof_shape.proofs.Needing.{rises_sorted, positions_tell}
 use Rattle.proof_shape.specs.Moves.{TellGone, CoversTell}
@@ -14,7 +14,7 @@ pub returns-then-sound-len : goal.returns-then-sound-len
 returns-then-sound-len c =
     let ps = c.in_ok-places.places.items in
     let k = c.in_ok-sound.sound in
-    let sound = subst (λ l. IsSoundLength c.args.n l k) c.deref.ensures.value c.in_ok-sound.ensures in
+    let sound = subst (λ l. IsSoundLength c.args.n l k) c.deref-4.ensures.value c.in_ok-sound.ensures in
     let found = subst (λ l. IsFaultAt l k c.fault_at.result) c.deref-then-sound-len.ensures.value c.fault_at.ensures in
     let below : k < length ps = omega (arith, c.if-sound-len.true, c.len.ensures) in
     fault_from c.args.n c.args.positions.now ps c.in_ok-places.ensures k c.fault_at.result below sound.sound found
@@ -23,7 +23,7 @@ pub returns-then-sound-positions : goal.returns-then-sound-positions
 returns-then-sound-positions c =
     let ps = c.in_ok-places.places.items in
     let k = c.in_ok-sound.sound in
-    let sound = subst (λ l. IsSoundLength c.args.n l k) c.deref.ensures.value c.in_ok-sound.ensures in
+    let sound = subst (λ l. IsSoundLength c.args.n l k) c.deref-4.ensures.value c.in_ok-sound.ensures in
     let top : k < length ps → ⊥ = λ lt. omega (arith, lt, c.if-sound-len.false, c.len.ensures) in
     outside_from c.args.n c.args.positions.now ps c.in_ok-places.ensures k sound top c.if-sound-positions.true
 
@@ -31,42 +31,42 @@ pub returns : goal.returns
 returns c =
     let ps = c.in_ok-places.places.items in
     let k = c.in_ok-sound.sound in
-    let sound = subst (λ l. IsSoundLength c.args.n l k) c.deref.ensures.value c.in_ok-sound.ensures in
+    let sound = subst (λ l. IsSoundLength c.args.n l k) c.deref-4.ensures.value c.in_ok-sound.ensures in
     let top : k < length ps → ⊥ = λ lt. omega (arith, lt, c.if-sound-len.false, c.len.ensures) in
     (refl, targets_from c.args.n c.args.positions.now ps c.in_ok-places.ensures k sound top (λ lt. omega (arith, lt, c.if-sound-positions.false)))
 
 pub needed_of-requires-clause-within : goal.needed_of-requires-clause-within
-needed_of-requires-clause-within c = subst (AreWithin c.args.n) (sym c.deref-3.ensures.value) c.in_ok-covered.ensures.within
+needed_of-requires-clause-within c = subst (AreWithin c.args.n) (sym c.deref-5.ensures.value) c.in_ok-covered.ensures.covered.within
 
 pub needed_of-requires-clause-rises : goal.needed_of-requires-clause-rises
-needed_of-requires-clause-rises c = subst (Rises c.args.n) (sym c.deref-3.ensures.value) c.in_ok-covered.ensures.rises
+needed_of-requires-clause-rises c = subst (Rises c.args.n) (sym c.deref-5.ensures.value) c.in_ok-covered.ensures.covered.rises
 
 pub positions_of-requires-clause-within : goal.positions_of-requires-clause-within
-positions_of-requires-clause-within c = subst (AreWithin c.args.n) (sym c.deref-4.ensures.value) c.in_ok-covered.ensures.within
+positions_of-requires-clause-within c = subst (AreWithin c.args.n) (sym c.deref-6.ensures.value) c.in_ok-covered.ensures.covered.within
 
 pub gone_among-requires-clause-shape : goal.gone_among-requires-clause-shape
 gone_among-requires-clause-shape c =
     let n = c.args.n in
     let ps = c.in_ok-places.places.items in
     let k = c.in_ok-sound.sound in
-    let sound = subst (λ l. IsSoundLength n l k) c.deref.ensures.value c.in_ok-sound.ensures in
+    let sound = subst (λ l. IsSoundLength n l k) c.deref-4.ensures.value c.in_ok-sound.ensures in
     let top : k < length ps → ⊥ = λ lt. omega (arith, lt, c.if-sound-len.false, c.len.ensures) in
-    subst (HasShape n) (sym c.deref-5.ensures.value) (targets_from n c.args.positions.now ps c.in_ok-places.ensures k sound top (λ lt. omega (arith, lt, c.if-sound-positions.false))).shape
+    subst (HasShape n) (sym c.deref-7.ensures.value) (targets_from n c.args.positions.now ps c.in_ok-places.ensures k sound top (λ lt. omega (arith, lt, c.if-sound-positions.false))).shape
 
-pub gone_among-requires-clause-sorted : goal.gone_among-requires-clause-sorted
-gone_among-requires-clause-sorted c =
+pub gone_among-requires-clause-covered : goal.gone_among-requires-clause-covered
+gone_among-requires-clause-covered c =
     let n = c.args.n in
     let cs = c.in_ok-covered.covered.items in
-    let numbers : c.deref-6.result.now ≡ positions_of n cs = c.deref-6.ensures.value ∙ (c.in_ok-numbers.ensures ∙ ap (positions_of n) c.deref-4.ensures.value) in
-    subst IsNonDecreasing (sym numbers) (rises_sorted n cs c.in_ok-covered.ensures.rises)
+    let numbers : c.deref-8.result.now ≡ positions_of n cs = c.deref-8.ensures.value ∙ (c.in_ok-numbers.ensures ∙ ap (positions_of n) c.deref-6.ensures.value) in
+    subst IsNonDecreasing (sym numbers) (rises_sorted n cs c.in_ok-covered.ensures.covered.rises)
 
 pub gone_among-requires-clause-tell : goal.gone_among-requires-clause-tell
 gone_among-requires-clause-tell c =
     let n = c.args.n in
     let cs = c.in_ok-covered.covered.items in
-    let numbers : c.deref-6.result.now ≡ positions_of n cs = c.deref-6.ensures.value ∙ (c.in_ok-numbers.ensures ∙ ap (positions_of n) c.deref-4.ensures.value) in
-    subst (CoversTell n c.deref-5.result.now) (sym numbers)
-    (subst (λ l. CoversTell n l (positions_of n cs)) (c.deref-2.ensures.value ∙ sym c.deref-5.ensures.value) (positions_tell n c.deref-2.result.now cs c.in_ok-covered.ensures))
+    let numbers : c.deref-8.result.now ≡ positions_of n cs = c.deref-8.ensures.value ∙ (c.in_ok-numbers.ensures ∙ ap (positions_of n) c.deref-6.ensures.value) in
+    subst (CoversTell n c.deref-7.result.now) (sym numbers)
+    (subst (λ l. CoversTell n l (positions_of n cs)) (c.deref-2.ensures.value ∙ sym c.deref-7.ensures.value) (positions_tell n c.deref-2.result.now cs c.in_ok-covered.ensures.covered))
 
 pub invariant_of-result : goal.invariant_of-result
 invariant_of-result c =
@@ -74,14 +74,30 @@ invariant_of-result c =
     let ps = c.in_ok-places.places.items in
     let k = c.in_ok-sound.sound in
     let cs = c.in_ok-covered.covered.items in
-    let sound = subst (λ l. IsSoundLength n l k) c.deref.ensures.value c.in_ok-sound.ensures in
+    let sound = subst (λ l. IsSoundLength n l k) c.deref-4.ensures.value c.in_ok-sound.ensures in
     let top : k < length ps → ⊥ = λ lt. omega (arith, lt, c.if-sound-len.false, c.len.ensures) in
     let shape = (targets_from n c.args.positions.now ps c.in_ok-places.ensures k sound top (λ lt. omega (arith, lt, c.if-sound-positions.false))).shape in
     let fits = c.in_ok-places.ensures.fits in
-    let cover = subst (λ l. IsCoverOf n l cs) c.deref-2.ensures.value c.in_ok-covered.ensures in
-    let needed : c.in_ok-needed.needed.items ≡ need n ps = c.in_ok-needed.ensures ∙ (ap (needed_of n) c.deref-3.ensures.value ∙ cover.needed) in
-    let numbers : c.in_ok-numbers.numbers.items ≡ positions_of n cs = c.in_ok-numbers.ensures ∙ ap (positions_of n) c.deref-4.ensures.value in
-    let gone : TellGone n ps c.in_ok-among.among.items c.in_ok-among.kept.items = subst (λ l. TellGone n l c.in_ok-among.among.items c.in_ok-among.kept.items) c.deref-5.ensures.value c.in_ok-among.ensures in (
+    let cover = subst (λ l. IsCoverOf n l cs) c.deref-2.ensures.value c.in_ok-covered.ensures.covered in
+    let needed : c.in_ok-needed.needed.items ≡ need n ps = c.in_ok-needed.ensures ∙ (ap (needed_of n) c.deref-5.ensures.value ∙ cover.needed) in
+    let numbers : c.in_ok-numbers.numbers.items ≡ positions_of n cs = c.in_ok-numbers.ensures ∙ ap (positions_of n) c.deref-6.ensures.value in
+    let gone : TellGone n ps c.in_ok-among.among.items c.in_ok-among.kept.items = subst (λ l. TellGone n l c.in_ok-among.among.items c.in_ok-among.kept.items) c.deref-7.ensures.value c.in_ok-among.ensures in (
       record { few = c.requires.small; counted = omega (arith, fits, c.requires.few); shape = shape },
       record { needed_is = needed; cover_is = cover; numbers_are = numbers; gone = gone },
     )
+
+pub covered_places-requires-clause-sorted : goal.covered_places-requires-clause-sorted
+covered_places-requires-clause-sorted c = subst IsNonDecreasing (sym c.deref-3.ensures.value) c.in_ok-sorted.ensures.sorted
+
+pub covered_places-requires-clause-same : goal.covered_places-requires-clause-same
+covered_places-requires-clause-same c =
+    let n = c.args.n in
+    subst (λ l. IsPermutation (positions_of n l) c.deref-3.result.now) (c.deref.ensures.value ∙ sym c.deref-2.ensures.value)
+    (subst (IsPermutation (positions_of n c.deref.result.now)) (sym c.deref-3.ensures.value) c.in_ok-sorted.ensures.same)
+
+pub sound_length-requires-clause-shaped : goal.sound_length-requires-clause-shaped
+sound_length-requires-clause-shaped c = λ t. subst (HasShape c.args.n) (c.deref-2.ensures.value ∙ sym c.deref-4.ensures.value) (c.in_ok-covered.ensures.shape t)
+
+pub gone_among-requires-clause-same : goal.gone_among-requires-clause-same
+gone_among-requires-clause-same c =
+    subst (λ l. IsPermutation (positions_of c.args.n l) c.in_ok-sorted.sorted.items) (c.deref.ensures.value ∙ sym c.deref-7.ensures.value) c.in_ok-sorted.ensures.same
