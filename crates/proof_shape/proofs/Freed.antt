@@ -1,16 +1,15 @@
 -- Where a sweep puts each target anew, the targets have shape.
 use Rattle.std.proofs.Common.{◌≡◌, ℕ, zero, suc, ◌+◌, ◌-◌, ◌/◌, ◌^◌, ◌<◌, ◌≤◌, true, false, List, [], ◌∷◌, ◌++◌, length, get_or, refl, sym, ap, ◌∙◌, subst, ⊎_elim, inl, inr, arith, eqb-true, ap₂}
 use Rattle.std.specs.Prelude.{◌⊎◌, ◌==◌, nat_lt}
-use Rattle.std.specs.List.Sorted.{IsNonDecreasing, IsStrictlyIncreasing, IsPermutation}
-use Rattle.std.proofs.lemmas.Bool.{cases_lt, cases_Bool, and_parts, ltb-true, false_from_ne_true, true≢false}
+use Rattle.std.specs.List.Sorted.{IsNonDecreasing, IsPermutation}
+use Rattle.std.proofs.lemmas.Bool.{cases_lt, cases_Bool, and_parts, ltb-true, false_from_ne_true}
 use Rattle.forest_place.specs.declared.place.Place.{Place}
 use Rattle.forest_place.specs.Forest.{InForest, is_root}
 use Rattle.forest_place.specs.Places.{AreWithin, has_place, place_in}
 use Rattle.forest_place.specs.Position.{positions_of}
 use Rattle.forest_place.proofs.Listed.{place}
 use Rattle.forest_place.proofs.Parts.{half_pow, InForest-up}
-use Rattle.forest_model.specs.Cover.{HasShape, is_above}
-use Rattle.proof_shape.specs.Shape.{has_number}
+use Rattle.forest_model.specs.Cover.{HasShape}
 use Rattle.proof_shape.specs.Survey.{pos, up, is_top, has}
 use Rattle.proof_shape.specs.Swept.{ArePositions, IsAdded, IsClimbed, ClimbsNext, NumberNext, IsSweep, IsSwept, AreFree}
 use Rattle.proof_shape.proofs.Ordered.{has_at, has_where, sorted_number_is}
