@@ -9,3 +9,4 @@ pub mod Needing
 pub mod Gone
 pub mod Goes
 pub mod Freed
+pub mod Untargeted

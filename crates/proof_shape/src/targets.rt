@@ -1,5 +1,5 @@
 //! The targets of a deletion.
-ghost use Rattle.std.specs.Prelude.{◌≡◌, ◌↔◌, ◌⊎◌, ◌^◌, ◌<◌, MatchResult, length, true};
+ghost use Rattle.std.specs.Prelude.{◌≡◌, ◌↔◌, ◌⊎◌, ◌^◌, ◌<◌, [], MatchResult, length, true};
 
 use crate::ShapeFault;
 use crate::leaving::gone_among;
@@ -80,6 +80,22 @@ impl Targets {
             among,
             kept,
         })
+    }
+
+    /// No target, in the forest over `n` entries. It takes no memory.
+    pub fn none(alloc: Global, n: u64) -> Targets
+        requires { n < 2 ^ 40 }
+        ensures { result ≡ record { leaves = n; targets = [] } }
+    {
+        Targets {
+            count: n,
+            list: Vec::new(alloc),
+            needed: Vec::new(alloc),
+            covered: Vec::new(alloc),
+            numbers: Vec::new(alloc),
+            among: Vec::new(alloc),
+            kept: Vec::new(alloc),
+        }
     }
 
     /// How many entries the forest has.
