@@ -9,7 +9,7 @@ ghost use Rattle.block_rules.specs.Rules.{merkle_step, is_null, is_coinbase, has
 
 use crate::chain::Chain;
 use crate::refusal::Refusal;
-use crate::sums::{MOST_MONEY, output_sum};
+use crate::sums::MOST_MONEY;
 use block_codec::{BlockView, MerkleOutcome, merkle, weight};
 use std::alloc::Global;
 use tx_codec::{InView, TxView};
@@ -119,20 +119,16 @@ pub(crate) fn value_step(block: &BlockView<'_>) -> Option<Refusal>
     None
 }
 
+// One walk tells both, since a sum in which no output is more than all money has room in its type.
 fn has_value(tx: &TxView<'_>) -> bool
     ensures { result ≡ has_value tx.now }
 {
-    !has_too_much(tx) && output_sum(tx) <= u128::from(MOST_MONEY)
-}
-
-// An output is more than all money.
-fn has_too_much(tx: &TxView<'_>) -> bool
-    ensures { result ≡ list_any has_too_much tx.now.outputs }
-{
+    let mut sum = 0u128;
     for output in tx.outputs() {
         if output.amount > MOST_MONEY {
-            return true;
+            return false;
         }
+        sum += u128::from(output.amount);
     }
-    false
+    sum <= u128::from(MOST_MONEY)
 }

@@ -79,6 +79,14 @@ impl<D: Digester> Roots<D> {
         }
     }
 
+    /// Becomes the same as these roots. A copy that is made and then put here is moved twice, and roots are large.
+    pub fn set(&mut self, roots: &Roots<D>)
+        ensures { self.new ≡ roots.now }
+    {
+        self.count = roots.count;
+        self.slots = roots.slots;
+    }
+
     /// The root of a slot, which is `Some(None)` where it is empty. `None` where `row` is no slot.
     pub fn root(&self, row: u8) -> Option<Option<Digest>>
         ensures { MatchOption result
