@@ -45,9 +45,9 @@ rows-preserved g c =
       there = let t : c.rows.other / 2 ≡ c.args.next / 2 ^ suc row = ap (λ x. x / 2) c.rows.invariant.there ∙ sym (parts-suc c.args.next row) in subst (λ x. c.rows.other / 2 ≡ c.args.next / 2 ^ x) e t;
       within = within';
       right = path_cleared H n leaves parts i row (off / 2) c.middle.result None c.middle.ensures here c.rows.invariant.right;
-      found = one_found H n leaves c.rows.found i row c.part.result c.rows.invariant.small digest c.rows.invariant.found;
+      found = one_found H n leaves c.rows.siblings i row c.part.result c.rows.invariant.small digest c.rows.invariant.found;
     }
 
 pub returns-clause-beside : goal.returns-clause-beside
 returns-clause-beside g c =
-    all_found g.D.Digester.digest_of c.args.n c.args.leaves.now c.rows.found c.args.number c.args.next c.rows.row c.rows.off c.rows.other c.rows.invariant.here c.rows.invariant.there (λ w. true≢false (sym (c.goes_up.ensures.1 w) ∙ c.rows-test.false)) c.rows.invariant.found
+    all_found g.D.Digester.digest_of c.args.n c.args.leaves.now c.rows.siblings c.args.number c.args.next c.rows.row c.rows.off c.rows.other c.rows.invariant.here c.rows.invariant.there (λ w. true≢false (sym (c.goes_up.ensures.1 w) ∙ c.rows-test.false)) c.rows.invariant.found
