@@ -19,5 +19,6 @@ pub mod Righted
 pub mod Checking
 pub mod Historied
 pub mod Taking
+pub mod Linking
 pub mod Fully
 pub mod Sorting

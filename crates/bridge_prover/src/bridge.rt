@@ -13,7 +13,7 @@ use crate::find::{found_by, numbers_of};
 use crate::held::{cut, insert_all, keep, spend_all, undo_of, unspend_all};
 use crate::message::message_of;
 use crate::watched::{append, cut_noted, hashes_of, keep_held, kept_targets, noted_of};
-use block_codec::{BlockFault, BlockView, block_hash, read_block};
+use block_codec::{BareBlock, BlockFault, BlockView, block_hash, read_bare};
 use block_rules::{
     Chain, Found, Outside, Refusal, RuleFault, Spends, Verdict, money_rules, shape_rules,
 };
@@ -429,6 +429,27 @@ impl<D: Digester> Bridge<D> {
         Ok((numbers, found))
     }
 
+    // The first rule is that a block names the tip. Where it does not, none of its transactions is hashed.
+    fn take_bare<L: Ledger>(
+        &mut self,
+        block: BareBlock<'_>,
+        steps: &mut Steps<L>,
+    ) -> Result<Proved, NoMemory>
+        ensures verdict { IfOk result (λ p. p.verdict ≡ verdict_on self.old (BlockCame (Some block.entry) nothing)) }
+        ensures message { IfOk result (λ p. option_map (λ bytes. bytes.items) p.message ≡ message_on D.digest_of self.old (BlockCame (Some block.entry) nothing)) }
+        ensures next { OnOk result (self.new ≡ next_bridge D.digest_of leaf_text self.old (BlockCame (Some block.entry) nothing)) }
+        ensures stays { OnErr result (self.new ≡ self.old) }
+        ensures steps { steps.new ≤ steps.old + most_steps self.old (BlockCame (Some block.entry) nothing) }
+    {
+        let chain = self.chain();
+        if block.prev() == chain.tip {
+            let block = block.with_ids(self.alloc)?;
+            self.take_block(&block, steps)
+        } else {
+            Ok(self.refused(Some(block.hash()), Refusal::Link))
+        }
+    }
+
     fn take_block<L: Ledger>(
         &mut self,
         block: &BlockView<'_>,
@@ -468,8 +489,8 @@ impl<D: Digester> Bridge<D> {
         ensures stays { OnErr result (self.new ≡ self.old) }
         ensures steps { steps.new ≤ steps.old + most_steps self.old (BlockCame (block_in bytes.now) nothing) }
     {
-        match read_block(self.alloc, bytes) {
-            Ok(block) => self.take_block(&block, steps),
+        match read_bare(self.alloc, bytes) {
+            Ok(block) => self.take_bare(block, steps),
             Err(BlockFault::NotABlock) => Ok(self.refused(None, Refusal::Block)),
             Err(BlockFault::NoMemory) => Err(NoMemory),
         }

@@ -9,7 +9,7 @@ use crate::Judged;
 use crate::accept::check_proof;
 use crate::claims::found_shown;
 use crate::shown::right_entries;
-use block_codec::{BlockFault, BlockView, block_hash, read_block};
+use block_codec::{BareBlock, BlockFault, BlockView, block_hash, read_bare};
 use block_rules::{Found, Outside, Refusal, RuleFault, Spends, Verdict, money_rules};
 use forest_place::Place;
 use node_rules::message_rules;
@@ -82,10 +82,32 @@ impl<D: Digester> Bridge<D> {
         ensures stays { OnErr result (self.new ≡ self.old) }
         ensures fits { IfOk result (λ j. EventFits (BlockCame (block_in bytes.now) (handed_in (option_copied message.entry)))) }
     {
-        match read_block(self.alloc, bytes) {
-            Ok(block) => self.judge_block(&block, message, steps),
+        match read_bare(self.alloc, bytes) {
+            Ok(block) => self.judge_bare(block, message, steps),
             Err(BlockFault::NotABlock) => Ok(self.turned_down(None, Refusal::Block)),
             Err(BlockFault::NoMemory) => Err(NoMemory),
+        }
+    }
+
+    // The first rule is that a block names the tip. Where it does not, none of its transactions is hashed.
+    fn judge_bare<L: Ledger>(
+        &mut self,
+        block: BareBlock<'_>,
+        message: Option<&[u8]>,
+        steps: &mut Steps<L>,
+    ) -> Result<Judged, NoMemory>
+        requires { BlockFits block }
+        ensures verdict { IfOk result (λ j. verdict_in j ≡ judged_on D.digest_of leaf_text self.old (BlockCame (Some block.entry) (handed_in (option_copied message.entry)))) }
+        ensures next { OnOk result (self.new ≡ next_judged D.digest_of leaf_text self.old (BlockCame (Some block.entry) (handed_in (option_copied message.entry)))) }
+        ensures stays { OnErr result (self.new ≡ self.old) }
+        ensures fits { BlockFits block.entry }
+    {
+        let chain = self.chain();
+        if block.prev() == chain.tip {
+            let block = block.with_ids(self.alloc)?;
+            self.judge_block(&block, message, steps)
+        } else {
+            Ok(self.turned_down(Some(block.hash()), Refusal::Link))
         }
     }
 

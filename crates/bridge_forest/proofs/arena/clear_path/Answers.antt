@@ -8,8 +8,8 @@ use Rattle.bridge_forest.proofs.Middles.{middle_below}
 use Rattle.bridge_forest.proofs.Refreshing.{up_within, sibling_in, beside_right, path_cleared, one_found, all_found}
 use Rattle.bridge_forest.proofs.arena.clear_path.Goals as goal
 
-pub part-requires-clause-within : goal.part-requires-clause-within
-part-requires-clause-within g c =
+pub part_in-requires-clause-within : goal.part_in-requires-clause-within
+part_in-requires-clause-within g c =
     subst (λ x. InForest c.args.n c.rows.row x) (sym c.sibling.ensures.off) (sibling_in c.args.n c.rows.row c.rows.off (up_within c.args.n c.rows.row c.rows.off (c.goes_up.ensures.0 c.rows-test.true).0))
 
 pub middle-requires-clause-small : goal.middle-requires-clause-small
@@ -37,17 +37,17 @@ rows-preserved g c =
     let e : suc row ≡ row + 1 = omega arith in
     let here : off / 2 ≡ i / 2 ^ suc row = omega (arith, c.rows.invariant.here, parts-suc i row) in
     let within' : InForest n (row + 1) (off / 2) = subst (λ x. InForest n x (off / 2)) e within in
-    let digest : c.part.result ≡ part_digest H leaves row (sibling_off (i / 2 ^ row)) =
-    c.part.ensures ∙ ap (kept leaves parts row) (c.sibling.ensures.off ∙ ap sibling_off c.rows.invariant.here) ∙ beside_right H n leaves parts i row c.rows.invariant.right (subst (λ x. InForest n (suc row) x) here within) in
+    let digest : c.part_in.result.now ≡ part_digest H leaves row (sibling_off (i / 2 ^ row)) =
+    c.part_in.ensures ∙ ap (kept leaves parts row) (c.sibling.ensures.off ∙ ap sibling_off c.rows.invariant.here) ∙ beside_right H n leaves parts i row c.rows.invariant.right (subst (λ x. InForest n (suc row) x) here within) in
     record {
       small = row_small n (row + 1) (off / 2) 40 within' c.requires.small;
       here = subst (λ x. off / 2 ≡ i / 2 ^ x) e here;
       there = let t : c.rows.other / 2 ≡ c.args.next / 2 ^ suc row = ap (λ x. x / 2) c.rows.invariant.there ∙ sym (parts-suc c.args.next row) in subst (λ x. c.rows.other / 2 ≡ c.args.next / 2 ^ x) e t;
       within = within';
       right = path_cleared H n leaves parts i row (off / 2) c.middle.result None c.middle.ensures here c.rows.invariant.right;
-      found = one_found H n leaves c.rows.found i row c.part.result c.rows.invariant.small digest c.rows.invariant.found;
+      found = one_found H n leaves c.rows.siblings i row c.part_in.result.now c.rows.invariant.small digest c.rows.invariant.found;
     }
 
 pub returns-clause-beside : goal.returns-clause-beside
 returns-clause-beside g c =
-    all_found g.D.Digester.digest_of c.args.n c.args.leaves.now c.rows.found c.args.number c.args.next c.rows.row c.rows.off c.rows.other c.rows.invariant.here c.rows.invariant.there (λ w. true≢false (sym (c.goes_up.ensures.1 w) ∙ c.rows-test.false)) c.rows.invariant.found
+    all_found g.D.Digester.digest_of c.args.n c.args.leaves.now c.rows.siblings c.args.number c.args.next c.rows.row c.rows.off c.rows.other c.rows.invariant.here c.rows.invariant.there (λ w. true≢false (sym (c.goes_up.ensures.1 w) ∙ c.rows-test.false)) c.rows.invariant.found

@@ -11,7 +11,7 @@ invariant-rows g l = record {
   there : l.other ≡ l.next / 2 ^ l.row;
   within : InForest l.n l.row l.off;
   right : ArePartsBut g.D.Digester.digest_of l.n l.leaves l.parts l.number 0;
-  found : AreFound g.D.Digester.digest_of l.n l.leaves l.number l.row l.found;
+  found : AreFound g.D.Digester.digest_of l.n l.leaves l.number l.row l.siblings;
 }
 
 abbrev pub decreases-rows : goal.decreases-rows
