@@ -1,13 +1,17 @@
 -- A number sought among others that do not decrease.
-use Rattle.std.proofs.Common.{◌≡◌, ℕ, ◌+◌, ◌<◌, ◌≤◌, true, false, List, length, get_or, min, ⊎_elim, arith, is_some}
+use Rattle.std.proofs.Common.{◌≡◌, ℕ, ◌+◌, ◌-◌, ◌<◌, ◌≤◌, true, false, Bool, not, ◌||◌, ◌&&◌, List, length, get_or, min, ◌⊎◌, inl, inr, ⊎_elim, arith, is_some, sym, ap, ap₂, ◌∙◌, subst}
 use Rattle.std.specs.Prelude.{Ok, Err}
 use Rattle.std.proofs.lemmas.Bool.{cases_lt}
+use Rattle.std.specs.Bool.{OnTrue, OnFalse}
 use Rattle.std.specs.List.Sorted.{IsNonDecreasing}
 use Rattle.forest_place.specs.declared.place.Place.{Place}
-use Rattle.forest_place.specs.Forest.{InForest}
+use Rattle.forest_place.specs.Forest.{InForest, is_root, sibling_off}
+use Rattle.forest_place.proofs.Siblings.{sibling_cases, sibling_within}
 use Rattle.forest_place.specs.Position.{position, positions_of}
-use Rattle.forest_model.specs.Cover.{cover}
+use Rattle.forest_model.specs.Cover.{cover, is_needed}
 use Rattle.proof_shape.specs.Survey.{IsCoverOf}
+use Rattle.proof_shape.proofs.Needing.{rises_sorted}
+use Rattle.cache_model.specs.Known.{is_known}
 use Rattle.cache_update.specs.Brackets.{IsBracket}
 use Rattle.cache_update.proofs.Knowing.{tells}
 
@@ -65,3 +69,67 @@ tells_absent n ts cs xs p x at e s f within b other = tells n ts cs xs p x (Err 
   where
     ne_lt : (a c : ℕ) → x ≤ a → a ≤ c → (a ≡ x → ⊥) → x < c
     ne_lt a c le le' ne = omega (arith, le, le', ne)
+
+-- a number that is one more or one less than an absent one, and stands neither there nor before
+pub beside_absent : (xs : List ℕ) (x y at : ℕ) → IsNonDecreasing xs → IsBracket xs x at at → (at < length xs → get_or xs at 0 ≡ x → ⊥) → (y ≡ x + 1) ⊎ (y + 1 ≡ x) → (at < length xs → get_or xs at 0 ≡ y → ⊥) → (0 < at → get_or xs (at - 1) 0 ≡ y → ⊥) → IsBracket xs y at at
+beside_absent xs x y at sorted b other near here before = record {
+  order = omega arith;
+  within = b.within;
+  below = λ k lt.
+      let w = b.within in
+      let under = b.below (at - 1) (omega (arith, lt)) in
+      let rest = sorted k (at - 1) 0 (omega (arith, lt)) (omega (arith, lt, w)) in
+      ⊎_elim
+      (λ e. omega (arith, e, under, rest))
+      (λ e. lower (get_or xs (at - 1) 0) (get_or xs k 0) e under rest (before (omega (arith, lt))))
+      near;
+  above = λ k from inside.
+      let over = b.above at (omega arith) (omega (arith, from, inside)) in
+      let rest = sorted at k 0 from inside in
+      ⊎_elim
+      (λ e. higher (get_or xs at 0) (get_or xs k 0) e over rest (other (omega (arith, from, inside))))
+      (λ e. omega (arith, e, over, rest))
+      near;
+}
+  where
+    lower : (a c : ℕ) → y + 1 ≡ x → a < x → c ≤ a → (a ≡ y → ⊥) → c < y
+    lower a c e lt le ne = omega (arith, e, lt, le, ne)
+
+    higher : (a c : ℕ) → y ≡ x + 1 → x ≤ a → a ≤ c → (a ≡ x → ⊥) → y ≤ c
+    higher a c e le le' ne = omega (arith, e, le, le', ne)
+
+-- whether a place is known, by what stands near its position
+known_by : (n : ℕ) (ts : List Place) (p : Place) (b : Bool) → false ≡ is_some (cover ts p.row p.off) → is_root n p.row p.off ≡ false → b ≡ is_some (cover ts p.row (sibling_off p.off)) → b ≡ is_known n ts p
+known_by n ts p b a r e =
+    sym (ap₂ (λ x y. x || (not (is_root n p.row p.off) && not x && y)) (sym a) (sym e) ∙ ap (λ t. false || (not t && not false && b)) r)
+
+module _ (n : ℕ) (ts cs : List Place) (xs : List ℕ) (p : Place) (x at : ℕ) (e : x ≡ position n p.row p.off) (s : IsCoverOf n ts cs) (f : xs ≡ positions_of n cs) (within : InForest n p.row p.off) where
+  pub known_there : at < length xs → get_or xs at 0 ≡ x → true ≡ is_known n ts p
+  known_there lt same = ap (λ b. b || is_needed n ts p) (tells_there n ts cs xs p x at e s f within lt same)
+
+  module _ (b : IsBracket xs x at at) (other : at < length xs → get_or xs at 0 ≡ x → ⊥) where
+    absent : false ≡ is_some (cover ts p.row p.off)
+    absent = tells_absent n ts cs xs p x at e s f within b other
+
+    pub known_root : is_root n p.row p.off ≡ true → false ≡ is_known n ts p
+    known_root r = sym (ap₂ (λ z t. z || (not t && not z && is_some (cover ts p.row (sibling_off p.off)))) (sym absent) r)
+
+    module _ (inner : is_root n p.row p.off ≡ false) (y : ℕ) (g : y ≡ position n p.row (sibling_off p.off)) where
+      abbrev beside : Place
+      beside = record { row = p.row; off = sibling_off p.off }
+
+      near : (y ≡ x + 1) ⊎ (y + 1 ≡ x)
+      near = ⊎_elim
+          (λ c. let z = c.1 in inl (omega (arith, e, g, z)))
+          (λ c. let z = c.1 in inr (omega (arith, e, g, z)))
+          (sibling_cases p.off)
+
+      pub known_beside : (k : ℕ) → k < length xs → get_or xs k 0 ≡ y → true ≡ is_known n ts p
+      known_beside k lt same = known_by n ts p true absent inner (tells_there n ts cs xs beside y k g s f (sibling_within n p.row p.off within inner) lt same)
+
+      pub known_before : (t : Bool) → (at < length xs → get_or xs at 0 ≡ y → ⊥) → OnTrue t ((0 < at) × (get_or xs (at - 1) 0 ≡ y)) → OnFalse t (0 < at → get_or xs (at - 1) 0 ≡ y → ⊥) → t ≡ is_known n ts p
+      known_before true here there none = let w = b.within in let some = there.0 in known_beside (at - 1) (omega (arith, w, some)) there.1
+      known_before false here there none =
+          known_by n ts p false absent inner
+          (tells_absent n ts cs xs beside y at g s f (sibling_within n p.row p.off within inner)
+          (beside_absent xs x y at (subst IsNonDecreasing (sym f) (rises_sorted n cs s.rises)) b other near here none) here)

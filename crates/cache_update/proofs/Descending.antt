@@ -1,18 +1,24 @@
--- Where what is held goes: beneath a place with no target each place goes with the one above it.
-use Rattle.std.proofs.Common.{◌≡◌, ℕ, suc, ◌+◌, ◌-◌, ◌*◌, ◌/◌, ◌%◌, ◌<◌, ◌⊎◌, inl, inr, false, List, [], ◌∷◌, ◌++◌, length, get_or, All, Option, Some, None, is_some, refl, sym, ap, ap₂, ◌∙◌, subst, ⊎_elim, arith, add-one}
+-- Where what is held goes: where neither a place nor its sibling is gone, it goes with the one above it.
+use Rattle.std.proofs.Common.{◌≡◌, ℕ, zero, suc, ◌+◌, ◌-◌, ◌*◌, ◌/◌, ◌%◌, ◌^◌, ◌<◌, ◌⊎◌, inl, inr, Bool, true, false, not, List, [], ◌∷◌, ◌++◌, length, get_or, All, Option, Some, None, is_some, refl, sym, ap, ap₂, ◌∙◌, subst, ⊎_elim, arith, add-one}
 use Rattle.std.specs.Prelude.{IfSome}
-use Rattle.std.proofs.lemmas.Bool.{cases_eq, true≢false}
+use Rattle.std.specs.Bool.{OnTrue, OnFalse}
+use Rattle.std.proofs.lemmas.Bool.{cases_eq, true≢false, false_from_ne_true, OnFalse_from}
 use Rattle.std.proofs.lemmas.List.{length-append, get_or_append_left, get_or_push, get_or_default}
 use Rattle.uo_digest.specs.declared.digest.Digest.{Digest}
 use Rattle.forest_place.specs.declared.place.Place.{Place}
 use Rattle.forest_place.specs.Forest.{InForest, is_root, sibling_off}
-use Rattle.forest_place.proofs.Siblings.{sibling_cases}
-use Rattle.forest_model.specs.Cover.{Cover, cover}
+use Rattle.forest_place.specs.Places.{has_place}
+use Rattle.forest_place.proofs.Parts.{half_pow}
+use Rattle.forest_place.proofs.Siblings.{sibling_cases, sibling_half}
+use Rattle.forest_model.specs.Cover.{Cover, cover, need, HasShape}
 use Rattle.forest_model.specs.Deletion.{is_gone, moved, child_place}
-use Rattle.forest_model.proofs.Covers.{uncovered_halves}
+use Rattle.forest_model.proofs.Covers.{uncovered_halves, needed_parts}
+use Rattle.forest_model.proofs.Lists.{need_had}
 use Rattle.forest_model.proofs.Moving.{moved-step}
-use Rattle.proof_verify.proofs.Planned.{uncovered_stays}
-use Rattle.cache_update.specs.Descent.{IsFreeAbove, TellGoals}
+use Rattle.proof_shape.proofs.Ordered.{has_at}
+use Rattle.proof_shape.proofs.Gone.{target_bare, up_in}
+use Rattle.proof_verify.proofs.Planned.{covered_above, uncovered_stays}
+use Rattle.cache_update.specs.Descent.{IsStayingAbove, StandsBeneath, TellGoals}
 use Rattle.cache_update.proofs.Moves.{up_within, goes_within}
 
 no_cover : (x : Option Cover) → is_some x ≡ false → x ≡ None
@@ -29,14 +35,61 @@ half_stays ts r h x free side =
     (λ u. ap (λ y. is_some (cover ts r y)) u ∙ ap is_some halves.1)
     side)
 
-follows : (n : ℕ) (ts : List Place) (r o : ℕ) → InForest n r o → is_root n r o ≡ false → is_some (cover ts (suc r) (o / 2)) ≡ false → moved n ts r o ≡ child_place false (o % 2) (moved n ts (suc r) (o / 2))
-follows n ts r o h inner free =
-    let here : is_gone ts r o ≡ false = half_stays ts r (o / 2) o free (⊎_elim (λ e. let z = e.0 in inl (omega (arith, z))) (λ e. let z = e.0 in inr (omega (arith, z))) (sibling_cases o)) in
-    let beside : is_gone ts r (sibling_off o) ≡ false = half_stays ts r (o / 2) (sibling_off o) free
-    (⊎_elim (λ e. let z = e.0 in let y = e.1 in inr (omega (arith, z, y))) (λ e. let z = e.0 in let y = e.1 in inl (omega (arith, z, y))) (sibling_cases o)) in
-    moved-step n ts r o h ∙ rw (here, inner, beside) refl
+-- neither a place nor its sibling is gone where no target stands at or beneath the one above them
+pub free_here : (ts : List Place) (r o : ℕ) → is_some (cover ts (suc r) (o / 2)) ≡ false → is_gone ts r o ≡ false
+free_here ts r o free = half_stays ts r (o / 2) o free (⊎_elim (λ e. let z = e.0 in inl (omega (arith, z))) (λ e. let z = e.0 in inr (omega (arith, z))) (sibling_cases o))
 
-module _ (n : ℕ) (ts : List Place) (p q : Place) (h : InForest n p.row p.off) (f : IsFreeAbove n ts p q) where
+pub free_beside : (ts : List Place) (r o : ℕ) → is_some (cover ts (suc r) (o / 2)) ≡ false → is_gone ts r (sibling_off o) ≡ false
+free_beside ts r o free =
+    half_stays ts r (o / 2) (sibling_off o) free
+    (⊎_elim (λ e. let z = e.0 in let y = e.1 in inr (omega (arith, z, y))) (λ e. let z = e.0 in let y = e.1 in inl (omega (arith, z, y))) (sibling_cases o))
+
+pub on_free : (ts : List Place) (r o : ℕ) (b : Bool) (P : Type 0) → b ≡ is_some (cover ts (suc r) (o / 2)) → (is_some (cover ts (suc r) (o / 2)) ≡ false → P) → OnFalse b P
+on_free ts r o b P e f = OnFalse_from b P (λ no. f (sym e ∙ no))
+
+pub stays_uncovered : (ts : List Place) (r o : ℕ) (b : Bool) → b ≡ is_some (cover ts r o) → OnTrue (not b) (is_gone ts r o ≡ false)
+stays_uncovered ts r o true e = tt
+stays_uncovered ts r o false e = uncovered_stays ts r o (sym e)
+
+follows : (n : ℕ) (ts : List Place) (r o : ℕ) → InForest n r o → is_root n r o ≡ false → is_gone ts r o ≡ false → is_gone ts r (sibling_off o) ≡ false → moved n ts r o ≡ child_place false (o % 2) (moved n ts (suc r) (o / 2))
+follows n ts r o h inner here beside = moved-step n ts r o h ∙ rw (here, inner, beside) refl
+
+-- what is covered and not gone: no place above it is gone either
+abbrev IsHalf : List Place → ℕ → ℕ → Type 0
+IsHalf ts r o = (is_gone ts r o ≡ false) × (is_some (cover ts r o) ≡ true)
+
+module _ (n : ℕ) (ts : List Place) (shape : HasShape n ts) where
+  half_up : (r o : ℕ) → IsHalf ts r o → IsHalf ts (suc r) (o / 2)
+  half_up r o h = (false_from_ne_true _ (λ gone. true≢false (sym h.1 ∙ target_bare n ts shape r o (up_in n r o ts h.0 gone))), covered_above ts r o h.1)
+
+  half_above : (k r o : ℕ) → IsHalf ts r o → IsHalf ts (r + k) (o / 2 ^ k)
+  half_above zero r o h = let a : r ≡ r + 0 = omega arith in let b : o ≡ o / 2 ^ 0 = omega arith in subst (λ x. IsHalf ts x (o / 2 ^ 0)) a (subst (IsHalf ts r) b h)
+  half_above (suc k) r o h = let a : suc r + k ≡ r + suc k = omega arith in subst (λ x. IsHalf ts x (o / 2 ^ suc k)) a (subst (IsHalf ts (suc r + k)) (sym (half_pow o k)) (half_above k (suc r) (o / 2) (half_up r o h)))
+
+  -- above a needed place nothing is gone
+  needed_half : (r o : ℕ) → has_place (need n ts) r o ≡ true → IsHalf ts (suc r) (o / 2)
+  needed_half r o h =
+      let w = needed_parts n ts r o (need_had n ts r o h).1 in
+      let beside : is_some (cover ts r (sibling_off o)) ≡ true = ap is_some w.2.1 in (
+        false_from_ne_true _ (λ gone.
+            true≢false (sym beside ∙ target_bare n ts shape r (sibling_off o) (ap (has_place ts (suc r)) (sibling_half o) ∙ up_in n r o ts (uncovered_stays ts r o (ap is_some w.1)) gone))),
+        ap (λ x. is_some (cover ts (suc r) x)) (sym (sibling_half o)) ∙ covered_above ts r (sibling_off o) beside,
+      )
+
+  pub stays_above : (q p : Place) → has_place (need n ts) q.row q.off ≡ true → StandsBeneath q p → is_gone ts p.row p.off ≡ false
+  stays_above q p h b =
+      let low = b.low in
+      let k : ℕ = p.row - q.row - 1 in
+      let row : suc q.row + k ≡ p.row = omega (arith, low) in
+      let up : suc k ≡ p.row - q.row = omega (arith, low) in
+      let off : q.off / 2 / 2 ^ k ≡ p.off = sym (half_pow q.off k) ∙ (ap (λ x. q.off / 2 ^ x) up ∙ b.part) in
+      subst (λ x. is_gone ts x p.off ≡ false) row (subst (λ x. is_gone ts (suc q.row + k) x ≡ false) off (half_above k (suc q.row) (q.off / 2) (needed_half q.row q.off h)).0)
+
+  -- a needed place of the list
+  pub stays_by : (needed : List Place) (at : ℕ) (p d : Place) → needed ≡ need n ts → at < length needed → StandsBeneath (get_or needed at d) p → is_gone ts p.row p.off ≡ false
+  stays_by needed at p d e lt b = stays_above (get_or needed at d) p (subst (λ qs. has_place qs (get_or needed at d).row (get_or needed at d).off ≡ true) e (has_at needed at d lt)) b
+
+module _ (n : ℕ) (ts : List Place) (p q : Place) (h : InForest n p.row p.off) (f : IsStayingAbove n ts p q) where
   above_row : q.row ≡ suc p.row
   above_row = f.row ∙ add-one p.row
 
@@ -46,7 +99,7 @@ module _ (n : ℕ) (ts : List Place) (p q : Place) (h : InForest n p.row p.off) 
   pub goes_with : (goal : Option Place) → goal ≡ moved n ts q.row q.off → child_place false (p.off % 2) goal ≡ moved n ts p.row p.off
   goes_with goal e =
       ap (child_place false (p.off % 2)) (e ∙ ap₂ (moved n ts) above_row f.off)
-      ∙ sym (follows n ts p.row p.off h f.inner (ap₂ (λ r o. is_some (cover ts r o)) (sym above_row) (sym f.off) ∙ f.free))
+      ∙ sym (follows n ts p.row p.off h f.inner f.here f.beside)
 
   pub goal_inner : (goal : Option Place) → goal ≡ moved n ts q.row q.off → IfSome goal (λ to. (0 < to.row) × InForest n to.row to.off)
   goal_inner None e = tt
@@ -78,5 +131,5 @@ pub held_within : (n m : ℕ) (hs : List (Place × Digest)) (i : ℕ) (d : Place
 held_within n m hs i d e a lt = subst (λ k. InForest k (get_or hs i d).0.row (get_or hs i d).0.off) (sym e) (a i d lt)
 
 -- the place above, where it is given
-pub free_is : (n : ℕ) (ts : List Place) (p : Place) (free : Option Place) (q : Place) → free ≡ Some q → IfSome free (λ (above : Place). IsFreeAbove n ts p above) → IsFreeAbove n ts p q
-free_is n ts p free q e h = subst (λ (x : Option Place). IfSome x (λ (above : Place). IsFreeAbove n ts p above)) e h
+pub staying_is : (n : ℕ) (ts : List Place) (p : Place) (staying : Option Place) (q : Place) → staying ≡ Some q → IfSome staying (λ (above : Place). IsStayingAbove n ts p above) → IsStayingAbove n ts p q
+staying_is n ts p staying q e h = subst (λ (x : Option Place). IfSome x (λ (above : Place). IsStayingAbove n ts p above)) e h

@@ -1,18 +1,23 @@
 -- Where held digests go, told from the last one back.
-use Rattle.std.specs.Prelude.{◌≡◌, ℕ, ◌+◌, ◌/◌, ◌<◌, ◌≤◌, false, List, length, get_or, Option, is_some}
+use Rattle.std.specs.Prelude.{◌≡◌, ℕ, ◌+◌, ◌-◌, ◌/◌, ◌^◌, ◌<◌, ◌≤◌, false, List, length, get_or, Option}
 use Rattle.uo_digest.specs.declared.digest.Digest.{Digest}
 use Rattle.forest_place.specs.declared.place.Place.{Place}
-use Rattle.forest_place.specs.Forest.{is_root}
-use Rattle.forest_model.specs.Cover.{cover}
-use Rattle.forest_model.specs.Deletion.{moved}
+use Rattle.forest_place.specs.Forest.{is_root, sibling_off}
+use Rattle.forest_model.specs.Deletion.{is_gone, moved}
 use Rattle.cache_model.specs.Undo.{is_before_place}
 
--- q stands right above p, and no target at or beneath it
-pub record IsFreeAbove (n : ℕ) (ts : List Place) (p q : Place) : Type 0 where
+-- q stands right above p, and neither p nor its sibling is gone
+pub record IsStayingAbove (n : ℕ) (ts : List Place) (p q : Place) : Type 0 where
   pub inner : is_root n p.row p.off ≡ false
   pub row : q.row ≡ p.row + 1
   pub off : q.off ≡ p.off / 2
-  pub free : is_some (cover ts q.row q.off) ≡ false
+  pub here : is_gone ts p.row p.off ≡ false
+  pub beside : is_gone ts p.row (sibling_off p.off) ≡ false
+
+-- q stands beneath p
+pub record StandsBeneath (q p : Place) : Type 0 where
+  pub low : q.row < p.row
+  pub part : q.off / 2 ^ (p.row - q.row) ≡ p.off
 
 -- the list tells where the last of the held digests go, the last one first
 abbrev pub TellGoals : ℕ → List Place → List (Place × Digest) → List (Option Place) → Type 0

@@ -48,7 +48,7 @@ pub(crate) fn delete_from(
     ensures held_room { parts.old.held_room ≤ parts.new.held_room }
     ensures spare_room { vec_capacity scratch.old.spare ≤ vec_capacity scratch.new.spare }
 {
-    move_kept(&mut parts.kept, taken, targets);
+    move_kept(&mut parts.kept, taken, targets, kept.places());
     delete_held(&mut parts.held, scratch, targets, kept, pairs);
 }
 
