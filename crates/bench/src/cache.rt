@@ -96,6 +96,31 @@ fn add_all<L: Ledger>(
     }
 }
 
+// Additions of which none is watched.
+fn add_unwatched<L: Ledger>(
+    cache: &mut Cache<Sha512t256>,
+    mark: &mut Mark,
+    roots: &mut Roots<Sha512t256>,
+    adds: u64,
+    steps: &mut Steps<L>,
+)
+    requires fits { Fits mark.old cache.old.parts }
+    requires adds { adds ≤ mark.old.adds }
+    requires count { roots.old.leaves ≡ mark.old.leaves }
+    requires few { roots.old.leaves + adds < 2 ^ 40 }
+    ensures { Fits mark.new cache.new.parts }
+{
+    let mut joins = Joins::new();
+    let mut left = adds;
+    while left > 0 {
+        let n = roots.leaves();
+        let digest = leaf_of(n);
+        roots.add_into(digest, &mut joins, steps);
+        after_add(cache, mark, n, digest, &joins, None);
+        left -= 1;
+    }
+}
+
 // What spends a thousand entries.
 #[derive(Drop)]
 struct Proof {
@@ -172,14 +197,13 @@ fn bare_block<L: Ledger>(
     true
 }
 
-// The same with a cache.
+// The same with a cache, of which it touches nothing that is watched.
 fn cached_block<L: Ledger>(
     alloc: Global,
     cache: &mut Cache<Sha512t256>,
     roots: &mut Roots<Sha512t256>,
     proof: &Proof,
     scratch: &mut Scratch,
-    kept: u64,
     steps: &mut Steps<L>,
 ) -> Option<Mark>
     ensures { IfSome result (λ m. Fits m cache.new.parts) }
@@ -195,7 +219,7 @@ fn cached_block<L: Ledger>(
     if scratch.reserve(&targets).is_err() || leaves.len() != targets.len() as usize {
         return None;
     }
-    let Ok(mut mark) = begin(alloc, cache, &targets, BLOCK, BLOCK) else {
+    let Ok(mut mark) = begin(alloc, cache, &targets, BLOCK, 0) else {
         return None;
     };
     let hashes = proof.hashes.as_slice();
@@ -207,7 +231,7 @@ fn cached_block<L: Ledger>(
     if n != targets.leaves() || n >= 1 << 39 {
         return None;
     }
-    add_all(alloc, cache, &mut mark, roots, BLOCK, kept, steps);
+    add_unwatched(cache, &mut mark, roots, BLOCK, steps);
     Some(mark)
 }
 
@@ -294,13 +318,12 @@ fn mark_between<L: Ledger>(
     cache: &mut Cache<Sha512t256>,
     roots: &Roots<Sha512t256>,
     proof: &Proof,
-    kept: u64,
     steps: &mut Steps<L>,
 ) -> Option<Changed> {
     let older = cache.seen().copy(alloc).ok()?;
     let mut scratch = Scratch::new(alloc);
     let mut then = roots.copy();
-    let mark = cached_block(alloc, cache, &mut then, proof, &mut scratch, kept, steps)?;
+    let mark = cached_block(alloc, cache, &mut then, proof, &mut scratch, steps)?;
     let newer = cache.seen().copy(alloc).ok()?;
     let (lost, _) = others(cache, &older);
     undo(cache, mark);
@@ -321,10 +344,9 @@ fn measure_mark<R: Print, L: Ledger>(
     cache: &mut Cache<Sha512t256>,
     roots: &Roots<Sha512t256>,
     proof: &Proof,
-    kept: u64,
     steps: &mut Steps<L>,
 ) -> io::Result<()> {
-    let Some(mark) = mark_between(alloc, cache, roots, proof, kept, steps) else {
+    let Some(mark) = mark_between(alloc, cache, roots, proof, steps) else {
         return println!(rt; "  no block");
     };
     println!(rt;
@@ -370,14 +392,13 @@ fn time_cached<R: CpuClock, L: Ledger>(
     cache: &mut Cache<Sha512t256>,
     roots: &Roots<Sha512t256>,
     proof: &Proof,
-    kept: u64,
     times: &mut Times,
     steps: &mut Steps<L>,
 ) -> io::Result<()> {
     let mut scratch = Scratch::new(alloc);
     let mut then = roots.copy();
     let mut watch = Stopwatch::start(rt)?;
-    let mark = cached_block(alloc, cache, &mut then, proof, &mut scratch, kept, steps);
+    let mark = cached_block(alloc, cache, &mut then, proof, &mut scratch, steps);
     times.cached = times.cached.saturating_add(watch.lap(rt)?);
     if let Some(mark) = mark {
         undo(cache, mark);
@@ -392,7 +413,6 @@ fn measure_blocks<R: CpuClock + Print, L: Ledger>(
     cache: &mut Cache<Sha512t256>,
     roots: &Roots<Sha512t256>,
     proof: &Proof,
-    kept: u64,
     steps: &mut Steps<L>,
 ) -> io::Result<()> {
     let mut times = Times {
@@ -403,7 +423,7 @@ fn measure_blocks<R: CpuClock + Print, L: Ledger>(
     };
     for _ in 0..ROUNDS {
         time_bare(rt, alloc, roots, proof, &mut times, steps)?;
-        time_cached(rt, alloc, cache, roots, proof, kept, &mut times, steps)?;
+        time_cached(rt, alloc, cache, roots, proof, &mut times, steps)?;
     }
     println!(rt;
         "{BLOCK} deletions and additions, {} times: {} us, with a cache {} us, back {} us",
@@ -427,6 +447,6 @@ fn measure<R: CpuClock + Print, L: Ledger>(
     for _ in 0..ENTRIES / 1_024 {
         grow_by(alloc, &mut cache, &mut roots, 1_024, kept, steps);
     }
-    measure_blocks(rt, alloc, &mut cache, &roots, &proof, kept, steps)?;
-    measure_mark(rt, alloc, &mut cache, &roots, &proof, kept, steps)
+    measure_blocks(rt, alloc, &mut cache, &roots, &proof, steps)?;
+    measure_mark(rt, alloc, &mut cache, &roots, &proof, steps)
 }
