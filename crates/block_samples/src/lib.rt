@@ -7,8 +7,6 @@
 
 mod block;
 mod fault;
-#[cfg(test)]
-mod tests;
 mod txs;
 
 pub use block::{Sample, block_behind};

@@ -5,8 +5,6 @@ mod laws;
 mod lists;
 mod numbering;
 mod place;
-#[cfg(test)]
-mod tests;
 
 pub use laws::{places_are_beneath_roots, places_are_listed, positions_ascend};
 pub use lists::is_near;

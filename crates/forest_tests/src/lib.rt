@@ -1,6 +1,6 @@
-//! Tests of the forest: its roots, the targets of a deletion, the check of proofs, and the whole forest in place.
+//! Tests of the forest, its places, its roots, the targets of a deletion, the check of proofs and the whole forest in place, and of outputs, what undoes their blocks, and watch lists.
 //!
-//! They stand in a crate of their own, so that none of the four crates is proved a second time for them.
+//! They stand in a crate of their own, so that none of these crates is proved a second time for them.
 #![tactic(auto)]
 
 ghost use Rattle.std.specs.Prelude.{◌≡◌, replicate};

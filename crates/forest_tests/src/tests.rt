@@ -1,4 +1,8 @@
 mod arena;
 mod deletions;
+mod outputs;
+mod places;
 mod roots;
 mod targets;
+mod undone;
+mod watched;

@@ -14,8 +14,6 @@ mod laws;
 mod leaf;
 mod record;
 mod rest;
-#[cfg(test)]
-mod tests;
 
 pub use laws::{leaf_text_is_long, one_leaf, one_rest};
 pub use leaf::{LeafBuf, leaf_digest, leaf_text};

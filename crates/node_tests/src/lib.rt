@@ -1,6 +1,6 @@
-//! Tests of the compact node and of the bridge, side by side, and of the auditor.
+//! Tests of the compact node and of the bridge, side by side, of the auditor and of its search for clashes.
 //!
-//! They stand in a crate of their own, so that no node is proved a second time for them.
+//! They stand in a crate of their own, so that none of these crates is proved a second time for them.
 #![tactic(auto)]
 
 ghost use Rattle.std.specs.Prelude.{◌≡◌, ◌∷◌, [], length, if◌then◌else◌, ◌==◌};

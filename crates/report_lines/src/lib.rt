@@ -8,8 +8,6 @@ mod clash;
 mod hash_text;
 mod line;
 mod report;
-#[cfg(test)]
-mod tests;
 mod verdict;
 
 pub use clash::push_clash;

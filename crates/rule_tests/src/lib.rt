@@ -1,6 +1,6 @@
-//! Tests of transactions, blocks, and the rules that a block is judged by.
+//! Tests of transactions, blocks, the rules that a block is judged by, and those that its message is judged by.
 //!
-//! They stand in a crate of their own, so that none of the three crates is proved a second time for them.
+//! They stand in a crate of their own, so that none of these crates is proved a second time for them.
 #![tactic(auto)]
 
 ghost use Rattle.std.specs.Prelude.{◌≡◌, replicate};

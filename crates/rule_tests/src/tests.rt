@@ -1,3 +1,5 @@
 mod blocks;
+mod messages;
 mod rules;
+mod samples;
 mod txs;

@@ -11,8 +11,6 @@ mod ports;
 mod put;
 mod quiet;
 mod system;
-#[cfg(test)]
-mod tests;
 mod transfer;
 mod window;
 

@@ -7,8 +7,6 @@ mod hexes;
 mod sha;
 mod steps;
 mod stream;
-#[cfg(test)]
-mod tests;
 mod xor_fold;
 
 pub use digest::Digest;

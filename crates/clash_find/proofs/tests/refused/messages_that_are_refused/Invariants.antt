@@ -1,4 +1,0 @@
-use Rattle.clash_find.proofs.tests.refused.messages_that_are_refused.Given as goal
-
-abbrev pub ghosts-check_rows : goal.ghosts-check_rows
-ghosts-check_rows g a = record { name = a.blank.name; parts = a.blank.parts }

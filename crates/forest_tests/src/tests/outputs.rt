@@ -1,0 +1,187 @@
+//! Each call once, outpoints that stand more than once, and many outpoints that differ in their last bytes alone.
+ghost use Rattle.std.specs.Prelude.{ℕ, ◌+◌, OnOk};
+ghost use Rattle.output_index.specs.Held.{IsAbove};
+
+mod short_lists;
+
+use leaf_record::Record;
+use output_index::Outputs;
+use std::alloc::{AllocError, Global};
+use std::process::Abort;
+use std::test::Fail;
+use uo_base::NoMemory;
+use uo_digest::Digest;
+
+const MANY: u32 = 400_000;
+
+/// A txid that differs from others of its kind in its last four bytes alone.
+fn txid_of(kind: u8, number: u32) -> Digest {
+    let [a, b, c, d] = number.to_le_bytes();
+    let mut id = [kind; 32];
+    id[28] = a;
+    id[29] = b;
+    id[30] = c;
+    id[31] = d;
+    Digest(id)
+}
+
+fn record_of(alloc: Global, txid: Digest, index: u32) -> Result<Record, AllocError> {
+    Ok(Record {
+        block: Digest([1; 32]),
+        txid,
+        index,
+        height: 7,
+        coinbase: true,
+        amount: 5,
+        script: vec![in alloc; 0x51]?,
+    })
+}
+
+#[test]
+fn each_call_once(rt: HostRuntime) -> Result<(), Fail> {
+    let first = txid_of(2, 0);
+    let second = txid_of(2, 1);
+    let mut outputs = Outputs::new(rt.alloc());
+    assert!(rt; outputs.newest(&first, 0).is_none());
+    assert!(rt; outputs.output(0).is_none());
+    outputs.insert(3, record_of(rt.alloc(), first, 0)?)?;
+    outputs.insert(5, record_of(rt.alloc(), second, 9)?)?;
+    assert!(rt; outputs.newest(&first, 0) == Some(3));
+    assert!(rt; outputs.newest(&second, 9) == Some(5));
+    assert!(rt; outputs.newest(&second, 0).is_none());
+    assert!(rt; outputs.live(3) && outputs.live(5) && !outputs.live(4));
+    let output = outputs.output(5).ok_or("held")?;
+    assert!(rt; output.txid == second && output.index == 9 && output.amount == 5);
+    assert!(rt; output.script == [0x51].as_slice());
+    outputs.spend(3);
+    assert!(rt; outputs.newest(&first, 0).is_none() && !outputs.live(3));
+    assert!(rt; outputs.output(3).is_some());
+    outputs.unspend(3);
+    assert!(rt; outputs.newest(&first, 0) == Some(3));
+    outputs.spend(3);
+    outputs.forget(3);
+    assert!(rt; outputs.output(3).is_none() && outputs.newest(&first, 0).is_none());
+    outputs.take_back(5);
+    assert!(rt; outputs.output(5).is_none() && outputs.newest(&second, 9).is_none());
+    outputs.insert(5, record_of(rt.alloc(), first, 0)?)?;
+    assert!(rt; outputs.newest(&first, 0) == Some(5));
+    Ok(())
+}
+
+/// Spends a live one.
+fn spend(rt: &impl Abort, outputs: &mut Outputs, number: u64)
+    ensures { (n : ℕ) → IsAbove n outputs.old → IsAbove n outputs.new }
+{
+    assert!(rt; outputs.live(number));
+    outputs.spend(number);
+}
+
+/// Makes a spent one live again.
+fn unspend(rt: &impl Abort, outputs: &mut Outputs, number: u64)
+    ensures { (n : ℕ) → IsAbove n outputs.old → IsAbove n outputs.new }
+{
+    assert!(rt; outputs.output(number).is_some());
+    assert!(rt; !outputs.live(number));
+    outputs.unspend(number);
+}
+
+/// Forgets a spent one.
+fn forget(rt: &impl Abort, outputs: &mut Outputs, number: u64)
+    ensures { (n : ℕ) → IsAbove n outputs.old → IsAbove n outputs.new }
+{
+    assert!(rt; outputs.output(number).is_some());
+    assert!(rt; !outputs.live(number));
+    outputs.forget(number);
+}
+
+/// Takes the last one back.
+fn take_back(rt: &impl Abort, outputs: &mut Outputs, number: u64)
+    requires { IsAbove (number + 1) outputs.old }
+    ensures { IsAbove number outputs.new }
+{
+    assert!(rt; outputs.live(number));
+    outputs.take_back(number);
+}
+
+/// Adds one behind all others.
+fn insert(outputs: &mut Outputs, number: u64, leaf: Record) -> Result<(), NoMemory>
+    requires { IsAbove number outputs.old }
+    ensures { OnOk result (IsAbove (number + 1) outputs.new) }
+{
+    outputs.insert(number, leaf)
+}
+
+#[test]
+fn one_outpoint_many_times(rt: HostRuntime) -> Result<(), Fail> {
+    let txid = txid_of(2, 0);
+    let mut outputs = Outputs::new(rt.alloc());
+    for number in 0..1_010 {
+        insert(&mut outputs, number, record_of(rt.alloc(), txid, 0)?)?;
+    }
+    for taken in 0..10 {
+        assert!(rt; outputs.newest(&txid, 0) == Some(1_009 - taken));
+        take_back(&rt, &mut outputs, 1_009 - taken);
+    }
+    // The newest is spent each time, which gives back the one before it.
+    for spent in 0..1_000 {
+        assert!(rt; outputs.newest(&txid, 0) == Some(999 - spent));
+        spend(&rt, &mut outputs, 999 - spent);
+    }
+    assert!(rt; outputs.newest(&txid, 0).is_none());
+    for number in 0..1_000 {
+        unspend(&rt, &mut outputs, number);
+        assert!(rt; outputs.newest(&txid, 0) == Some(number));
+    }
+    // Those of even numbers are forgotten, wherever they stand.
+    for half in 0..500 {
+        spend(&rt, &mut outputs, 2 * half);
+        forget(&rt, &mut outputs, 2 * half);
+        assert!(rt; outputs.newest(&txid, 0) == Some(999));
+    }
+    for half in 0..500 {
+        assert!(rt; outputs.newest(&txid, 0) == Some(999 - 2 * half));
+        spend(&rt, &mut outputs, 999 - 2 * half);
+    }
+    assert!(rt; outputs.newest(&txid, 0).is_none());
+    Ok(())
+}
+
+#[test]
+fn look_ups_do_not_scan(rt: HostRuntime) -> Result<(), Fail> {
+    let mut outputs = Outputs::new(rt.alloc());
+    for number in 0..MANY {
+        insert(
+            &mut outputs,
+            u64::from(number),
+            record_of(rt.alloc(), txid_of(2, number), 0)?,
+        )?;
+    }
+    for number in 0..MANY {
+        assert!(rt; outputs.newest(&txid_of(2, number), 0) == Some(u64::from(number)));
+    }
+    for number in MANY..2 * MANY {
+        assert!(rt; outputs.newest(&txid_of(2, number), 0).is_none());
+    }
+    Ok(())
+}
+
+#[test]
+fn spent_ones_are_not_passed(rt: HostRuntime) -> Result<(), Fail> {
+    let txid = txid_of(2, 0);
+    let mut outputs = Outputs::new(rt.alloc());
+    for number in 0..MANY {
+        let leaf = record_of(rt.alloc(), txid, 0)?;
+        insert(&mut outputs, u64::from(number), leaf)?;
+    }
+    for spent in 0..MANY {
+        let newest = u64::from(MANY - 1 - spent);
+        assert!(rt; outputs.newest(&txid, 0) == Some(newest));
+        spend(&rt, &mut outputs, newest);
+    }
+    assert!(rt; outputs.newest(&txid, 0).is_none());
+    for number in 0..MANY {
+        unspend(&rt, &mut outputs, u64::from(number));
+        assert!(rt; outputs.newest(&txid, 0) == Some(u64::from(number)));
+    }
+    Ok(())
+}

@@ -1,0 +1,9 @@
+mod digests;
+mod events;
+mod feeds;
+mod generated;
+mod leaves;
+mod lines;
+mod messages;
+mod ports;
+mod words;

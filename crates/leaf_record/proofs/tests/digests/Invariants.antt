@@ -1,4 +1,0 @@
-use Rattle.leaf_record.proofs.tests.digests.Given as goal
-
-abbrev pub ghosts-check_digest : goal.ghosts-check_digest
-ghosts-check_digest g a = record { name = a.blank.name; parts = a.blank.parts }
