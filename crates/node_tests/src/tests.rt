@@ -3,7 +3,6 @@ ghost use Rattle.std.specs.Prelude.{◌≡◌, ◌<◌};
 
 mod audited;
 mod build;
-mod clashes;
 mod lean;
 mod many;
 mod pair;

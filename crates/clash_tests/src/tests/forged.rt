@@ -1,8 +1,8 @@
 //! Messages that the roots accept, and that are not right.
 ghost use Rattle.std.specs.Prelude.{◌≡◌, ◌<◌};
 
-use crate::tests::clashes::spending::{block_for, both};
-use crate::tests::clashes::{clash_in, grow, spell};
+use crate::tests::spending::{block_for, both};
+use crate::tests::{clash_in, grow, spell};
 use bridge_forest::Forest;
 use clash_find::Clash;
 use forest_place::Place;

@@ -1,8 +1,8 @@
 //! Messages that are right, and messages that the roots do not accept: nothing is found in them.
 ghost use Rattle.std.specs.Prelude.{◌≡◌, ◌<◌};
 
-use crate::tests::clashes::spending::block_of;
-use crate::tests::clashes::{clash_in, grow, spell};
+use crate::tests::spending::block_of;
+use crate::tests::{clash_in, grow, spell};
 use bridge_forest::Forest;
 use forest_place::Place;
 use output_index::Outputs;

@@ -6,6 +6,7 @@ mod forged;
 mod refused;
 mod spending;
 
+use crate::first_of;
 use block_codec::read_block;
 use block_rules::{Chain, shape_rules};
 use bridge_forest::Forest;
@@ -21,9 +22,6 @@ use std::sync::ledger::Ledger;
 use std::test::Fail;
 use uo_base::{Limits, Net};
 use uo_digest::{Digest, Steps, XorFold};
-
-/// The number of the first place of each row.
-const ROWS: [u64; 4] = [0, 8, 12, 14];
 
 /// Adds an entry with its output.
 fn add<L: Ledger>(
@@ -76,9 +74,8 @@ fn spell(
     block: Digest,
     hashes: &[Digest],
 ) -> Result<Vec<u8>, Fail> {
-    let first = *ROWS.get(target.row as usize).ok_or("a row")?;
     let mut message = Message::new(alloc, lean);
-    message.push_spend(first.wrapping_add(target.off), &claim(block))?;
+    message.push_spend(first_of(target.row).wrapping_add(target.off), &claim(block))?;
     for hash in hashes {
         message.push_hash(*hash)?;
     }

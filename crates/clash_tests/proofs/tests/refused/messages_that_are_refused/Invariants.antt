@@ -1,4 +1,4 @@
-use Rattle.node_tests.proofs.tests.clashes.forged.leaf_meets_leaf.Given as goal
+use Rattle.clash_tests.proofs.tests.refused.messages_that_are_refused.Given as goal
 
 abbrev pub ghosts-check_rows : goal.ghosts-check_rows
 ghosts-check_rows g a = record { name = a.blank.name; parts = a.blank.parts }
