@@ -8,7 +8,6 @@ mod many;
 mod pair;
 mod reads;
 mod rollbacks;
-mod states;
 mod stored;
 mod verdicts;
 

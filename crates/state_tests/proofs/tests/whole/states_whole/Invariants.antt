@@ -1,4 +1,4 @@
-use Rattle.node_tests.proofs.tests.states.whole.states_whole.Given as goal
+use Rattle.state_tests.proofs.tests.whole.states_whole.Given as goal
 
 abbrev pub ghosts-check_state : goal.ghosts-check_state
 ghosts-check_state g a = record { name = a.blank.name; parts = a.blank.parts }

@@ -1,7 +1,8 @@
 //! States that are read, written again, and cut off.
 ghost use Rattle.std.specs.Prelude.{◌≡◌, ◌<◌};
 
-use super::{MOST, genesis, none_kept, one_kept, start, two_kept};
+use super::{genesis, none_kept, one_kept, start, two_kept};
+use crate::most_entries;
 use forest_place::Place;
 use leaf_cache::digest_in;
 use state_text::{StateFault, read_state};
@@ -26,7 +27,7 @@ fn check_state<L: Ledger>(
     requires some { 0 < blank.parts }
 {
     let mut steps = Steps::<L>::new(blank);
-    let state = read_state::<XorFold, L>(alloc, text, MOST, &mut steps)?;
+    let state = read_state::<XorFold, L>(alloc, text, most_entries(), &mut steps)?;
     assert!(rt; state.levels.len() < 256 && state.levels.len() > 0);
     let parts = &state.levels[0].parts;
     assert!(rt; (parts.kept.len(), parts.held.len()) == lists);
@@ -34,7 +35,7 @@ fn check_state<L: Ledger>(
     assert!(rt; state.write(alloc, &mut sink).is_ok());
     assert!(rt; sink.held() == text);
     for cut in 0..text.len() {
-        let read = read_state::<XorFold, L>(alloc, &text[..cut], MOST, &mut steps);
+        let read = read_state::<XorFold, L>(alloc, &text[..cut], most_entries(), &mut steps);
         assert!(rt; matches!(read, Err(StateFault::NotAState)), "cut {cut}");
     }
     Ok(())

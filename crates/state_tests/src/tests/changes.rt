@@ -1,7 +1,8 @@
 //! States of which one byte was changed.
 ghost use Rattle.std.specs.Prelude.{◌≡◌, ◌<◌};
 
-use super::{MOST, two_kept};
+use super::two_kept;
+use crate::most_entries;
 use state_text::{StateFault, read_state};
 use std::alloc::Global;
 use std::marker::Brand;
@@ -130,7 +131,7 @@ fn outcome_of<L: Ledger>(
     text: &[u8],
     steps: &mut Steps<L>,
 ) -> Outcome {
-    match read_state::<XorFold, L>(alloc, text, MOST, steps) {
+    match read_state::<XorFold, L>(alloc, text, most_entries(), steps) {
         Ok(_) => Outcome::Read,
         Err(StateFault::NotAState) => Outcome::NotAState,
         Err(StateFault::Version(9)) => Outcome::OtherVersion,
