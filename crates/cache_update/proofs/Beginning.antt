@@ -5,6 +5,7 @@ use Rattle.std.specs.List.{cons_option}
 use Rattle.std.proofs.lemmas.Bool.{cases_Bool, true≢false, or_left, or_right}
 use Rattle.std.proofs.lemmas.List.{length-map}
 use Rattle.std.proofs.lemmas.List.Elements.{All-head, All-tail}
+use Rattle.uo_digest.specs.declared.digest.Digest.{Digest}
 use Rattle.forest_place.specs.declared.place.Place.{Place}
 use Rattle.forest_place.specs.Forest.{InForest}
 use Rattle.forest_place.specs.Places.{AreWithin, has_place, is_at}
@@ -20,6 +21,7 @@ use Rattle.leaf_cache.specs.Parted.{Parted, IsParted}
 use Rattle.cache_update.specs.declared.mark.Mark.{Mark}
 use Rattle.cache_update.specs.declared.mark.Room.{Room}
 use Rattle.cache_update.specs.Begun.{new_position, IsRoom, IsMark}
+use Rattle.cache_update.specs.Descent.{TellGoals}
 use Rattle.cache_update.specs.Differences.{where_stood}
 use Rattle.cache_update.specs.Given.{kept_given}
 use Rattle.cache_update.specs.Marks.{AreOfForest, HasRoomFor, HasRoomLeft, Fits, IsUnusedIn, WasBegun, kept_back, held_back, held_from, HoldKnown}
@@ -127,18 +129,19 @@ module _ (t : Targeted) (p q : Parted) (adds watched : ℕ) (r : Room) (m : Mark
         left = subst (HasRoomLeft m q) (sym mark.room) begun_room;
       }
 
-  pub was_begun : WasBegun t m q.kept
+  pub was_begun : WasBegun t m q
   was_begun =
       let count = ap count_ones mark.leaves in
       let long = ap length kept in
-      subst (IsUnusedIn t m q.kept) (sym mark.room) (record {
+      subst (IsUnusedIn t m q) (sym mark.room) (record {
         leaves = sym mark.leaves;
         kept = room.kept ∙ ap (λ (ks : List Kept). let x : Targeted = record { leaves = t.leaves; targets = leaf_places (moved_leaves t.leaves t.targets ks) } in x) (sym kept);
         known = (room.known.0, subst (λ (ks : List Kept). HoldKnown t.leaves (leaf_places (moved_leaves t.leaves t.targets ks)) room.known.0) (sym kept) room.known.1, omega (arith, count, mark.adds_are, room.known.2));
         taken = (mark.taken, mark.added, mark.stood ∙ ap (map where_stood) (sym kept));
         taken_room = omega (arith, long, mark.taken_room);
         moves = room.moves;
-        goals = room.goals;
+        goals = subst (λ (hs : List (Place × Digest)). TellGoals t.leaves t.targets hs r.scratch.goals.items) (sym held) room.goals;
+        each = room.each ∙ ap length (sym held);
       })
 
 -- a mark with no block fits where there is room for what it gives back

@@ -90,8 +90,8 @@ module _ (leaves adds : ℕ) (m : Mark) (p q : Parted) (idle : IsIdleMark leaves
         left = subst (HasRoomLeft m q) (sym idle.room) (λ lt. record { kept = kept ∙ no_kept; held = held ∙ no_held; watched = idle.watched });
       }
 
-  pub idle_begun : (t : Targeted) → WasBegun t m q.kept
-  idle_begun t = subst (IsUnusedIn t m q.kept) (sym idle.room) (omega (arith, some, idle.adds_are))
+  pub idle_begun : (t : Targeted) → WasBegun t m q
+  idle_begun t = subst (IsUnusedIn t m q) (sym idle.room) (omega (arith, some, idle.adds_are))
 
 -- a mark that only counts
 pub same_back : (m m' : Mark) (ks : List Kept) → m'.taken.items ≡ m.taken.items → m'.stood.items ≡ m.stood.items → m'.added.items ≡ m.added.items → kept_back m' ks ≡ kept_back m ks

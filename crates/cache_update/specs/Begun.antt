@@ -1,11 +1,12 @@
 -- A mark right after it was made.
-use Rattle.std.specs.Prelude.{◌≡◌, ℕ, ◌+◌, ◌<◌, ◌≤◌, List, [], length, map, Option, Some, None, option_map, vec_capacity}
+use Rattle.std.specs.Prelude.{◌≡◌, ℕ, ◌+◌, ◌<◌, ◌≤◌, List, [], length, map, Option, Some, None, option_map, vec_len, vec_capacity}
 use Rattle.forest_place.specs.declared.place.Place.{Place}
 use Rattle.forest_place.specs.Position.{position}
 use Rattle.forest_model.specs.Deletion.{moved}
 use Rattle.proof_shape.specs.Targeted.{Targeted}
 use Rattle.cache_model.specs.Lists.{moved_leaves, leaf_places}
 use Rattle.leaf_cache.specs.Parted.{Parted}
+use Rattle.cache_update.specs.Descent.{TellGoals}
 use Rattle.cache_update.specs.Differences.{where_stood}
 use Rattle.cache_update.specs.Marks.{HoldKnown, growth}
 use Rattle.cache_update.specs.declared.mark.Mark.{Mark}
@@ -23,7 +24,8 @@ pub record IsRoom (t : Targeted) (p : Parted) (adds : ℕ) (r : Room) : Type 0 w
   pub known : (m : ℕ) × HoldKnown t.leaves (leaf_places (moved_leaves t.leaves t.targets p.kept)) m × (m + growth t.leaves adds < r.most)
   pub spare : r.most ≤ vec_capacity r.scratch.spare
   pub moves : r.most ≤ vec_capacity r.scratch.moves
-  pub goals : r.most ≤ vec_capacity r.scratch.goals
+  pub goals : TellGoals t.leaves t.targets p.held r.scratch.goals.items
+  pub each : vec_len r.scratch.goals ≡ length p.held
   pub lost : length p.held ≤ vec_capacity r.lost
   pub gained : r.most ≤ vec_capacity r.gained
   pub moved : length p.kept ≤ vec_capacity r.moved

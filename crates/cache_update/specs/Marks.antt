@@ -10,6 +10,7 @@ use Rattle.cache_model.specs.Known.{is_known}
 use Rattle.cache_model.specs.Lists.{moved_leaves, leaf_places, AscendByPlace}
 use Rattle.cache_model.specs.Undo.{find, Ascends, is_same_number, is_before_number}
 use Rattle.leaf_cache.specs.Parted.{Parted, IsParted}
+use Rattle.cache_update.specs.Descent.{TellGoals}
 use Rattle.cache_update.specs.Differences.{where_stood}
 use Rattle.cache_update.specs.Given.{kept_given, held_given}
 use Rattle.cache_update.specs.declared.mark.Mark.{Mark}
@@ -93,23 +94,24 @@ HoldKnown n ps most = (hs : List (Place × Digest)) → AscendByPlace hs → All
 abbrev pub HoldsKnown : ℕ → List Place → ℕ → Type 0
 HoldsKnown n ps capacity = (most : ℕ) × HoldKnown n ps most × (most < capacity)
 
--- the mark was begun with these targets over these entries, and not used since
-pub record IsUnused (t : Targeted) (m : Mark) (ks : List Kept) (r : Room) : Type 0 where
+-- the mark was begun with these targets over these lists, and neither it nor they were changed since
+pub record IsUnused (t : Targeted) (m : Mark) (p : Parted) (r : Room) : Type 0 where
   pub leaves : t.leaves ≡ m.leaves
-  pub kept : r.kept ≡ record { leaves = t.leaves; targets = leaf_places (moved_leaves t.leaves t.targets ks) }
-  pub known : (most : ℕ) × HoldKnown t.leaves (leaf_places (moved_leaves t.leaves t.targets ks)) most × (most + growth m.leaves m.adds < r.most)
-  pub taken : (m.taken.items ≡ []) × (m.added.items ≡ []) × (m.stood.items ≡ map where_stood ks)
-  pub taken_room : length ks ≤ vec_capacity m.taken
+  pub kept : r.kept ≡ record { leaves = t.leaves; targets = leaf_places (moved_leaves t.leaves t.targets p.kept) }
+  pub known : (most : ℕ) × HoldKnown t.leaves (leaf_places (moved_leaves t.leaves t.targets p.kept)) most × (most + growth m.leaves m.adds < r.most)
+  pub taken : (m.taken.items ≡ []) × (m.added.items ≡ []) × (m.stood.items ≡ map where_stood p.kept)
+  pub taken_room : length p.kept ≤ vec_capacity m.taken
   pub moves : r.most ≤ vec_capacity r.scratch.moves
-  pub goals : r.most ≤ vec_capacity r.scratch.goals
+  pub goals : TellGoals t.leaves t.targets p.held r.scratch.goals.items
+  pub each : vec_len r.scratch.goals ≡ length p.held
 
 -- a mark without room has additions left, so the cache that it fits keeps and holds nothing
-abbrev pub IsUnusedIn : Targeted → Mark → List Kept → Option Room → Type 0
-IsUnusedIn t m ks None = 0 < m.adds
-IsUnusedIn t m ks (Some r) = IsUnused t m ks r
+abbrev pub IsUnusedIn : Targeted → Mark → Parted → Option Room → Type 0
+IsUnusedIn t m p None = 0 < m.adds
+IsUnusedIn t m p (Some r) = IsUnused t m p r
 
-abbrev pub WasBegun : Targeted → Mark → List Kept → Type 0
-WasBegun t m ks = IsUnusedIn t m ks m.room
+abbrev pub WasBegun : Targeted → Mark → Parted → Type 0
+WasBegun t m p = IsUnusedIn t m p m.room
 
 -- whether the forest over n entries has the place
 abbrev pub is_within : ℕ → Place → Bool

@@ -31,7 +31,7 @@ use uo_digest::Digest;
 // The lists after the deletion of the block.
 fn delete_in(parts: &mut Parts, mark: &mut Mark, targets: &Targets, pairs: &[(Place, Digest)])
     requires fits { Fits mark.old parts.old }
-    requires begun { WasBegun targets.now mark.old parts.old.kept }
+    requires begun { WasBegun targets.now mark.old parts.old }
     ensures kept { parts.new.kept ≡ moved_leaves targets.now.leaves targets.now.targets parts.old.kept }
     ensures held { parts.new.held ≡ held_deleted targets.now.leaves targets.now.targets (pairs_within targets.now.leaves pairs.now) (leaf_places (moved_leaves targets.now.leaves targets.now.targets parts.old.kept)) parts.old.held }
     ensures fits { Fits mark.new parts.new }
@@ -133,7 +133,7 @@ pub fn after_delete<D>(
     changes: &Changes<'_>,
 )
     requires fits { Fits mark.old cache.old.parts }
-    requires begun { WasBegun targets.now mark.old cache.old.parts.kept }
+    requires begun { WasBegun targets.now mark.old cache.old.parts }
     ensures kept { cache.new.parts.kept ≡ moved_leaves targets.now.leaves targets.now.targets cache.old.parts.kept }
     ensures held { cache.new.parts.held ≡ held_deleted targets.now.leaves targets.now.targets (pairs_within targets.now.leaves changes.now) (leaf_places (moved_leaves targets.now.leaves targets.now.targets cache.old.parts.kept)) cache.old.parts.held }
     ensures watch { cache.new.watch ≡ cache.old.watch }

@@ -15,6 +15,7 @@ ghost use Rattle.cache_update.specs.Descent.{IsStayingAbove, NoneBefore, StandsB
 use crate::known::covered_near;
 use crate::put::{is_before, is_same};
 use forest_place::{Place, is_root, parent, sibling};
+use leaf_cache::index_of_place;
 use proof_shape::{Targets, child_of};
 use uo_digest::Digest;
 
@@ -237,6 +238,24 @@ fn goal_of(
         return targets.moved(place);
     };
     child_goal(targets.leaves(), goal, place.off % 2)
+}
+
+// Where a place goes, where the goals of what is held are told: if something is held there, it goes with the place.
+pub(crate) fn goal_at(
+    targets: &Targets,
+    held: &[(Place, Digest)],
+    goals: &[Option<Place>],
+    place: Place,
+) -> Option<Place>
+    requires within { InForest targets.now.leaves place.row place.off }
+    requires ascends { AscendByPlace held.now }
+    requires told { TellGoals targets.now.leaves targets.now.targets held.now goals.now }
+    ensures { result ≡ moved targets.now.leaves targets.now.targets place.row place.off }
+{
+    let Some(goal) = told(held, goals, index_of_place(held, place), place) else {
+        return targets.moved(place);
+    };
+    goal
 }
 
 // Where each held digest goes, the last one first. It takes no memory.

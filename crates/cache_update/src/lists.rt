@@ -4,6 +4,7 @@ ghost use Rattle.forest_model.specs.Addition.{all_slots};
 ghost use Rattle.cache_model.specs.Lists.{moved_leaves, leaf_places, leaves_more};
 ghost use Rattle.cache_model.specs.Steps.{held_deleted};
 ghost use Rattle.leaf_cache.specs.Parted.{IsParted};
+ghost use Rattle.cache_update.specs.Descent.{TellGoals};
 ghost use Rattle.cache_update.specs.Joins.{is_empty_of, added_by};
 ghost use Rattle.cache_update.specs.Kept.{is_gone_leaf};
 ghost use Rattle.cache_update.specs.Marks.{AreOfForest, HoldsKnown, IsKnownIn, pairs_within};
@@ -36,7 +37,8 @@ pub(crate) fn delete_from(
     requires spare_room { HoldsKnown kept.now.leaves kept.now.targets (vec_capacity scratch.old.spare) }
     requires spare_held { length parts.old.held ≤ vec_capacity scratch.old.spare }
     requires moves_held { length parts.old.held ≤ vec_capacity scratch.old.moves }
-    requires goals_held { length parts.old.held ≤ vec_capacity scratch.old.goals }
+    requires goals { TellGoals targets.now.leaves targets.now.targets parts.old.held scratch.old.goals.items }
+    requires each { vec_len scratch.old.goals ≡ length parts.old.held }
     requires taken_room { vec_len taken.old + length parts.old.kept ≤ vec_capacity taken.old }
     ensures kept { parts.new.kept ≡ moved_leaves targets.now.leaves targets.now.targets parts.old.kept }
     ensures held { parts.new.held ≡ held_deleted targets.now.leaves targets.now.targets (pairs_within targets.now.leaves pairs.now) kept.now.targets parts.old.held }

@@ -48,7 +48,7 @@ pub(crate) struct Room {
 }
 
 // The held digests are built anew in the first list, and those that go elsewhere are gathered in the second. The third tells
-// where all of them go.
+// where those that were held when the block began go, the last one first.
 #[derive(Drop)]
 pub(crate) struct Scratch {
     pub(crate) spare: Vec<(Place, Digest)>,

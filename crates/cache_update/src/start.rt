@@ -1,15 +1,17 @@
 //! A mark for one block, with all the memory that the block takes.
-ghost use Rattle.std.specs.Prelude.{◌≡◌, ◌+◌, ◌<◌, ◌≤◌, ◌^◌, [], length, map, ◌++◌, All, IfOk, IfSome, OnOk};
+ghost use Rattle.std.specs.Prelude.{◌≡◌, ◌+◌, ◌<◌, ◌≤◌, ◌^◌, [], length, map, ◌++◌, All, IfOk, IfSome, OnOk, vec_len};
 ghost use Rattle.std.specs.Option.{option_to_list};
 ghost use Rattle.std.specs.Bool.{OnTrue};
 ghost use Rattle.forest_place.specs.Forest.{InForest};
 ghost use Rattle.forest_place.specs.Position.{positions_of};
-ghost use Rattle.cache_model.specs.Lists.{moved_leaves, leaf_places};
+ghost use Rattle.cache_model.specs.Lists.{AscendByPlace, moved_leaves, leaf_places};
 ghost use Rattle.leaf_cache.specs.Parted.{HaveSameLists, IsParted};
+ghost use Rattle.cache_update.specs.Descent.{TellGoals};
 ghost use Rattle.cache_update.specs.Differences.{where_stood};
 ghost use Rattle.cache_update.specs.Begun.{IsRoom, IsMark, IsIdleMark, new_position};
 ghost use Rattle.cache_update.specs.Marks.{AreOfForest, Fits, WasBegun, HoldKnown, growth, kept_back, held_back};
 
+use crate::descend::{goal_at, tell_goals};
 use crate::known::is_within;
 use crate::mark::{Mark, Room, Scratch};
 use forest_place::{Place, position};
@@ -55,36 +57,76 @@ fn is_of_forest(n: u64, parts: &Parts) -> bool
     are_kept_in(n, &parts.kept) && are_held_in(n, &parts.held)
 }
 
+// Where each held digest goes, the last one first.
+fn goals_of(
+    alloc: Global,
+    targets: &Targets,
+    held: &[(Place, Digest)],
+) -> Result<Vec<Option<Place>>, NoMemory>
+    requires within { All (λ x. InForest targets.now.leaves x.0.row x.0.off) held.now }
+    requires ascends { AscendByPlace held.now }
+    ensures goals { IfOk result (λ v. TellGoals targets.now.leaves targets.now.targets held.now v.items) }
+    ensures each { IfOk result (λ v. vec_len v ≡ length held.now) }
+{
+    let mut goals = Vec::with_capacity(alloc, held.len())?;
+    tell_goals(&mut goals, targets, held);
+    Ok(goals)
+}
+
 // Notes the position to which what stands at a place goes, if it stays.
-fn note_position(positions: &mut Vec<u64>, targets: &Targets, place: Place) -> Result<(), NoMemory>
-    requires { InForest targets.now.leaves place.row place.off }
+fn note_position(
+    positions: &mut Vec<u64>,
+    targets: &Targets,
+    held: &[(Place, Digest)],
+    goals: &[Option<Place>],
+    place: Place,
+) -> Result<(), NoMemory>
+    requires within { InForest targets.now.leaves place.row place.off }
+    requires ascends { AscendByPlace held.now }
+    requires told { TellGoals targets.now.leaves targets.now.targets held.now goals.now }
     ensures { OnOk result (positions.new.items ≡ positions.old.items ++ option_to_list (new_position targets.now.leaves targets.now.targets place)) }
 {
-    let Some(to) = targets.moved(place) else {
+    let Some(to) = goal_at(targets, held, goals, place) else {
         return Ok(());
     };
     Ok(positions.push(position(to, targets.leaves()))?)
 }
 
 // The positions at which the kept entries stand once the targets are gone.
-fn new_positions(alloc: Global, targets: &Targets, kept: &[Kept]) -> Result<Vec<u64>, NoMemory>
-    requires { All (λ k. InForest targets.now.leaves k.place.row k.place.off) kept.now }
+fn new_positions(
+    alloc: Global,
+    targets: &Targets,
+    kept: &[Kept],
+    held: &[(Place, Digest)],
+    goals: &[Option<Place>],
+) -> Result<Vec<u64>, NoMemory>
+    requires within { All (λ k. InForest targets.now.leaves k.place.row k.place.off) kept.now }
+    requires ascends { AscendByPlace held.now }
+    requires told { TellGoals targets.now.leaves targets.now.targets held.now goals.now }
     ensures { IfOk result (λ v. v.items ≡ positions_of targets.now.leaves (leaf_places (moved_leaves targets.now.leaves targets.now.targets kept.now))) }
 {
     let mut positions = Vec::with_capacity(alloc, kept.len())?;
     for i in 0..kept.len() {
-        note_position(&mut positions, targets, kept[i].place)?;
+        note_position(&mut positions, targets, held, goals, kept[i].place)?;
     }
     Ok(positions)
 }
 
 // Where the kept entries stand once the targets are gone. No places of a forest's entries stand above each other, so other
 // lists of them have none.
-fn new_places(alloc: Global, targets: &Targets, kept: &[Kept]) -> Result<Targets, NoMemory>
-    requires { All (λ k. InForest targets.now.leaves k.place.row k.place.off) kept.now }
+fn new_places(
+    alloc: Global,
+    targets: &Targets,
+    kept: &[Kept],
+    held: &[(Place, Digest)],
+    goals: &[Option<Place>],
+) -> Result<Targets, NoMemory>
+    requires within { All (λ k. InForest targets.now.leaves k.place.row k.place.off) kept.now }
+    requires ascends { AscendByPlace held.now }
+    requires told { TellGoals targets.now.leaves targets.now.targets held.now goals.now }
     ensures { IfOk result (λ t. t ≡ record { leaves = targets.now.leaves; targets = leaf_places (moved_leaves targets.now.leaves targets.now.targets kept.now) }) }
 {
-    let positions = new_positions(alloc, targets, kept)?;
+    let positions = new_positions(alloc, targets, kept, held, goals)?;
     if positions.len() >= 1 << 32 {
         return Err(NoMemory);
     }
@@ -125,10 +167,13 @@ fn places_of(alloc: Global, kept: &[Kept]) -> Result<Vec<(u64, Place)>, NoMemory
 
 // Room for a block of these targets and this many additions.
 fn room_for(alloc: Global, parts: &Parts, targets: &Targets, adds: u64) -> Result<Room, NoMemory>
-    requires { All (λ k. InForest targets.now.leaves k.place.row k.place.off) parts.now.kept }
+    requires kept { All (λ k. InForest targets.now.leaves k.place.row k.place.off) parts.now.kept }
+    requires held { All (λ x. InForest targets.now.leaves x.0.row x.0.off) parts.now.held }
+    requires ascends { AscendByPlace parts.now.held }
     ensures { IfOk result (λ r. IsRoom targets.now parts.now adds r) }
 {
-    let kept = new_places(alloc, targets, &parts.kept)?;
+    let goals = goals_of(alloc, targets, &parts.held)?;
+    let kept = new_places(alloc, targets, &parts.kept, &parts.held, &goals)?;
     let Some(most) = most_of(&kept, parts.held.len(), targets.leaves(), adds) else {
         return Err(NoMemory);
     };
@@ -139,7 +184,7 @@ fn room_for(alloc: Global, parts: &Parts, targets: &Targets, adds: u64) -> Resul
         scratch: Scratch {
             spare: Vec::with_capacity(alloc, most)?,
             moves: Vec::with_capacity(alloc, most)?,
-            goals: Vec::with_capacity(alloc, most)?,
+            goals,
         },
         lost: Vec::with_capacity(alloc, parts.held.len())?,
         gained: Vec::with_capacity(alloc, most)?,
@@ -211,7 +256,7 @@ fn begin_idle(
     ensures kept_room { parts.old.kept_room ≤ parts.new.kept_room }
     ensures held_room { parts.old.held_room ≤ parts.new.held_room }
     ensures fits { IfOk result (λ m. Fits m parts.new) }
-    ensures begun { IfOk result (λ m. WasBegun targets.now m parts.new.kept) }
+    ensures begun { IfOk result (λ m. WasBegun targets.now m parts.new) }
     ensures kept_back { IfOk result (λ m. kept_back m parts.new.kept ≡ parts.old.kept) }
     ensures held_back { IfOk result (λ m. held_back m parts.new.held ≡ parts.old.held) }
     ensures left { IfOk result (λ m. (m.leaves ≡ targets.now.leaves) × (m.adds ≡ adds) × (m.watched ≡ watched)) }
@@ -233,7 +278,7 @@ fn begin_changing(
     ensures kept_room { parts.old.kept_room ≤ parts.new.kept_room }
     ensures held_room { parts.old.held_room ≤ parts.new.held_room }
     ensures fits { IfOk result (λ m. Fits m parts.new) }
-    ensures begun { IfOk result (λ m. WasBegun targets.now m parts.new.kept) }
+    ensures begun { IfOk result (λ m. WasBegun targets.now m parts.new) }
     ensures kept_back { IfOk result (λ m. kept_back m parts.new.kept ≡ parts.old.kept) }
     ensures held_back { IfOk result (λ m. held_back m parts.new.held ≡ parts.old.held) }
     ensures left { IfOk result (λ m. (m.leaves ≡ targets.now.leaves) × (m.adds ≡ adds) × (m.watched ≡ watched)) }
@@ -264,7 +309,7 @@ fn begin_in(
     ensures kept_room { parts.old.kept_room ≤ parts.new.kept_room }
     ensures held_room { parts.old.held_room ≤ parts.new.held_room }
     ensures fits { IfOk result (λ m. Fits m parts.new) }
-    ensures begun { IfOk result (λ m. WasBegun targets.now m parts.new.kept) }
+    ensures begun { IfOk result (λ m. WasBegun targets.now m parts.new) }
     ensures kept_back { IfOk result (λ m. kept_back m parts.new.kept ≡ parts.old.kept) }
     ensures held_back { IfOk result (λ m. held_back m parts.new.held ≡ parts.old.held) }
     ensures left { IfOk result (λ m. (m.leaves ≡ targets.now.leaves) × (m.adds ≡ adds) × (m.watched ≡ watched)) }
@@ -293,7 +338,7 @@ pub fn begin<D>(
     ensures kept_room { cache.old.parts.kept_room ≤ cache.new.parts.kept_room }
     ensures held_room { cache.old.parts.held_room ≤ cache.new.parts.held_room }
     ensures fits { IfOk result (λ m. Fits m cache.new.parts) }
-    ensures begun { IfOk result (λ m. WasBegun targets.now m cache.new.parts.kept) }
+    ensures begun { IfOk result (λ m. WasBegun targets.now m cache.new.parts) }
     ensures kept_back { IfOk result (λ m. kept_back m cache.new.parts.kept ≡ cache.old.parts.kept) }
     ensures held_back { IfOk result (λ m. held_back m cache.new.parts.held ≡ cache.old.parts.held) }
     ensures left { IfOk result (λ m. (m.leaves ≡ targets.now.leaves) × (m.adds ≡ adds) × (m.watched ≡ watched)) }

@@ -13,7 +13,7 @@ pub go_on-requires : goal.go_on-requires
 go_on-requires c =
     let was = sym c.take.ensures.value ∙ c.in-Some.is in
     let old : HasRoomFor c.args.mark.now c.args.parts.now c.in-Some.left = subst (HasRoomLeft c.args.mark.now c.args.parts.now) was c.requires.fits.left in
-    let begun : IsUnused c.args.targets.now c.args.mark.now c.args.parts.now.kept c.in-Some.left = subst (IsUnusedIn c.args.targets.now c.args.mark.now c.args.parts.now.kept) was c.requires.begun in
+    let begun : IsUnused c.args.targets.now c.args.mark.now c.args.parts.now c.in-Some.left = subst (IsUnusedIn c.args.targets.now c.args.mark.now c.args.parts.now) was c.requires.begun in
     let shorter = passed_length (moved_leaf c.args.targets.now.leaves c.args.targets.now.targets) c.args.parts.now.kept in
     let same = ap length c.delete_from.ensures.kept in
     let few = begun.known.1 c.delete_from.new.parts.held c.delete_from.ensures.ordered.1 (subst (λ (t : Targeted). All (IsKnownIn t.leaves t.targets) c.delete_from.new.parts.held) begun.kept c.delete_from.ensures.known) in
@@ -38,7 +38,7 @@ pub returns-clause-kept_back : goal.returns-clause-kept_back
 returns-clause-kept_back c =
     let was = sym c.take.ensures.value ∙ c.in-Some.is in
     let old : HasRoomFor c.args.mark.now c.args.parts.now c.in-Some.left = subst (HasRoomLeft c.args.mark.now c.args.parts.now) was c.requires.fits.left in
-    let begun : IsUnused c.args.targets.now c.args.mark.now c.args.parts.now.kept c.in-Some.left = subst (IsUnusedIn c.args.targets.now c.args.mark.now c.args.parts.now.kept) was c.requires.begun in
+    let begun : IsUnused c.args.targets.now c.args.mark.now c.args.parts.now c.in-Some.left = subst (IsUnusedIn c.args.targets.now c.args.mark.now c.args.parts.now) was c.requires.begun in
     c.go_on.ensures.kept ∙ deletion_keeps c.args.targets.now.leaves c.args.targets.now.targets c.args.parts.now.kept _ c.args.mark.now.taken.items _ c.args.mark.now.stood.items c.args.mark.now.added.items old.ordered.0 begun.taken.0 begun.taken.2 begun.taken.1 c.delete_from.ensures.taken c.delete_from.ensures.kept
 
 pub returns-clause-fits : goal.returns-clause-fits
@@ -56,14 +56,14 @@ returns-clause-fits c =
 pub returns-in_default-clause-kept : goal.returns-in_default-clause-kept
 returns-in_default-clause-kept c =
     let was : c.args.mark.now.room ≡ None = sym c.take.ensures.value ∙ c.in_default.is in
-    let some : 0 < c.args.mark.now.adds = subst (IsUnusedIn c.args.targets.now c.args.mark.now c.args.parts.now.kept) was c.requires.begun in
+    let some : 0 < c.args.mark.now.adds = subst (IsUnusedIn c.args.targets.now c.args.mark.now c.args.parts.now) was c.requires.begun in
     let idle : IsIdle c.args.mark.now c.args.parts.now = subst (HasRoomLeft c.args.mark.now c.args.parts.now) was c.requires.fits.left some in
     none_moved c.args.targets.now.leaves c.args.targets.now.targets c.args.parts.now.kept idle.kept
 
 pub returns-in_default-clause-held : goal.returns-in_default-clause-held
 returns-in_default-clause-held c =
     let was : c.args.mark.now.room ≡ None = sym c.take.ensures.value ∙ c.in_default.is in
-    let some : 0 < c.args.mark.now.adds = subst (IsUnusedIn c.args.targets.now c.args.mark.now c.args.parts.now.kept) was c.requires.begun in
+    let some : 0 < c.args.mark.now.adds = subst (IsUnusedIn c.args.targets.now c.args.mark.now c.args.parts.now) was c.requires.begun in
     let idle : IsIdle c.args.mark.now c.args.parts.now = subst (HasRoomLeft c.args.mark.now c.args.parts.now) was c.requires.fits.left some in
     none_deleted c.args.targets.now.leaves c.args.targets.now.targets (pairs_within c.args.targets.now.leaves c.args.pairs.now) c.args.parts.now.kept c.args.parts.now.held idle.kept idle.held
 
@@ -76,7 +76,7 @@ returns-in_default-clause-held_back c =
 pub returns-in_default-clause-fits : goal.returns-in_default-clause-fits
 returns-in_default-clause-fits c =
     let was : c.args.mark.now.room ≡ None = sym c.take.ensures.value ∙ c.in_default.is in
-    let some : 0 < c.args.mark.now.adds = subst (IsUnusedIn c.args.targets.now c.args.mark.now c.args.parts.now.kept) was c.requires.begun in
+    let some : 0 < c.args.mark.now.adds = subst (IsUnusedIn c.args.targets.now c.args.mark.now c.args.parts.now) was c.requires.begun in
     let idle : IsIdle c.args.mark.now c.args.parts.now = subst (HasRoomLeft c.args.mark.now c.args.parts.now) was c.requires.fits.left some in
     let left : Mark = record c.args.mark.now { room = c.take.new.self } in
     idle_on c.args.mark.now left c.args.parts.now c.take.ensures.after refl (returns-in_default-clause-held_back c) idle.watched idle c.requires.fits
