@@ -2,6 +2,7 @@
 ghost use Rattle.std.specs.Prelude.{◌≡◌, ◌+◌, ◌^◌, ◌<◌, ◌≤◌, IfSome};
 ghost use Rattle.cache_update.specs.Marks.{Fits};
 
+use crate::names::name_of;
 use crate::stopwatch::Stopwatch;
 use bridge_forest::Forest;
 use cache_update::{Mark, after_add, after_delete, begin, undo};
@@ -40,15 +41,6 @@ pub fn measure_cache<R: CpuClock + Print + AllocGlobal, L: Ledger>(
     Ok(())
 }
 
-// The digest of the leaf with this number.
-fn leaf_of(number: u64) -> Digest {
-    let mut bytes = [5; 32];
-    for (i, byte) in number.to_le_bytes().iter().enumerate() {
-        bytes[i] = *byte;
-    }
-    Digest(bytes)
-}
-
 // An output with a script of 25 bytes, if its number is among the kept ones.
 fn kept_output(alloc: Global, number: u64, kept: u64) -> Option<Record> {
     let every = ENTRIES / kept.max(1);
@@ -58,7 +50,7 @@ fn kept_output(alloc: Global, number: u64, kept: u64) -> Option<Record> {
     let script = vec![in alloc; 7; 25].ok()?;
     Some(Record {
         block: Digest([9; 32]),
-        txid: leaf_of(number),
+        txid: name_of(number as u32),
         index: 0,
         height: 0,
         coinbase: false,
@@ -89,7 +81,7 @@ fn add_all<L: Ledger>(
     while left > 0 {
         let n = roots.leaves();
         let leaf = kept_output(alloc, n, kept);
-        let digest = leaf_of(n);
+        let digest = name_of(n as u32);
         roots.add_into(digest, &mut joins, steps);
         after_add(cache, mark, n, digest, &joins, leaf);
         left -= 1;
@@ -114,7 +106,7 @@ fn add_unwatched<L: Ledger>(
     let mut left = adds;
     while left > 0 {
         let n = roots.leaves();
-        let digest = leaf_of(n);
+        let digest = name_of(n as u32);
         roots.add_into(digest, &mut joins, steps);
         after_add(cache, mark, n, digest, &joins, None);
         left -= 1;
@@ -142,7 +134,7 @@ fn prove(alloc: Global, forest: &Forest<Sha512t256>) -> io::Result<Proof> {
             let at = forest.place(number);
             if n < 1 << 40 && at.row < 40 && at.off < n >> at.row {
                 proof.positions.push(position(at, n))?;
-                proof.leaves.push(leaf_of(number))?;
+                proof.leaves.push(name_of(number as u32))?;
             }
         }
     }
@@ -191,7 +183,7 @@ fn bare_block<L: Ledger>(
     for _ in 0..BLOCK {
         let n = roots.leaves();
         if n < 1 << 39 {
-            roots.add_into(leaf_of(n), &mut joins, steps);
+            roots.add_into(name_of(n as u32), &mut joins, steps);
         }
     }
     true
@@ -262,7 +254,7 @@ fn grown<L: Ledger>(alloc: Global, steps: &mut Steps<L>) -> Forest<Sha512t256> {
     let _ = forest.reserve(ENTRIES);
     for i in 0..ENTRIES {
         if 0 < forest.spare() && forest.leaves() < 1 << 39 {
-            let _ = forest.add(leaf_of(i), steps);
+            let _ = forest.add(name_of(i as u32), steps);
         }
     }
     forest

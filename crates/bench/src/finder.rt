@@ -2,6 +2,7 @@
 ghost use Rattle.std.specs.Prelude.{◌≡◌, ◌+◌, ◌^◌, ◌<◌, OnOk};
 ghost use Rattle.output_index.specs.Held.{IsAbove};
 
+use crate::names::name_of;
 use crate::stopwatch::Stopwatch;
 use block_codec::{BlockView, read_block};
 use block_rules::{Chain, Spends, shape_rules};
@@ -62,16 +63,6 @@ struct Case<D: Digester> {
     message: Vec<u8>,
 }
 
-fn txid_of(number: u32) -> Digest {
-    let [a, b, c, d] = number.to_le_bytes();
-    let mut id = [2; 32];
-    id[28] = a;
-    id[29] = b;
-    id[30] = c;
-    id[31] = d;
-    Digest(id)
-}
-
 fn rest_of(amount: u64) -> RestView<'static> {
     RestView {
         block: Digest([1; 32]),
@@ -124,7 +115,7 @@ fn grow<D: Digester, L: Ledger>(
     forest.reserve(u64::from(entries))?;
     for number in 0..entries {
         let leaf = rest_of(AMOUNT)
-            .with_outpoint(txid_of(number), 0)
+            .with_outpoint(name_of(number), 0)
             .to_record(alloc)?;
         add(forest, outputs, &mut room, u64::from(number), leaf, steps)?;
     }
@@ -133,7 +124,7 @@ fn grow<D: Digester, L: Ledger>(
 
 fn input_of(number: u32) -> InView<'static> {
     InView {
-        txid: txid_of(number),
+        txid: name_of(number),
         index: 0,
         script: &[],
         sequence: 0,

@@ -2,6 +2,7 @@
 ghost use Rattle.std.specs.Prelude.{◌+◌, OnOk};
 ghost use Rattle.output_index.specs.Held.{IsAbove};
 
+use crate::names::name_of;
 use crate::probe::descend;
 use crate::rate::nanoseconds_each;
 use crate::stopwatch::Stopwatch;
@@ -23,20 +24,10 @@ pub fn measure_outputs<R: CpuClock + Print + AllocGlobal>(rt: &R) -> io::Result<
     Ok(())
 }
 
-fn txid_of(number: u32) -> Digest {
-    let [a, b, c, d] = number.to_le_bytes();
-    let mut id = [2; 32];
-    id[28] = a;
-    id[29] = b;
-    id[30] = c;
-    id[31] = d;
-    Digest(id)
-}
-
 fn record_of(alloc: Global, number: u32) -> Result<Record, NoMemory> {
     Ok(Record {
         block: Digest([1; 32]),
-        txid: txid_of(number),
+        txid: name_of(number),
         index: 0,
         height: 7,
         coinbase: false,
@@ -69,7 +60,7 @@ fn chosen(i: u32, entries: u32) -> u32 {
 fn find_all(outputs: &Outputs, entries: u32) -> u64 {
     let mut seen = 0;
     for i in 0..entries {
-        seen ^= outputs.newest(&txid_of(chosen(i, entries)), 0).unwrap_or(0);
+        seen ^= outputs.newest(&name_of(chosen(i, entries)), 0).unwrap_or(0);
     }
     seen
 }
