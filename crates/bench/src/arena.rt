@@ -38,7 +38,7 @@ fn chosen(i: u64, entries: u64) -> u64 {
 fn add_all<L: Ledger>(forest: &mut Forest<Sha512t256>, entries: u64, steps: &mut Steps<L>) {
     for i in 0..entries {
         if 0 < forest.spare() && forest.leaves() < 1 << 39 {
-            let _ = forest.add(name_of(i as u32), steps);
+            let _ = forest.add(name_of(i), steps);
         }
     }
 }
@@ -56,7 +56,7 @@ fn restore_all<L: Ledger>(forest: &mut Forest<Sha512t256>, rounds: u64, steps: &
     for i in 0..rounds {
         let number = chosen(i, forest.leaves());
         if number < forest.leaves() && !forest.live(number) {
-            forest.restore(number, name_of(number as u32), steps);
+            forest.restore(number, name_of(number), steps);
         }
     }
 }

@@ -50,7 +50,7 @@ fn kept_output(alloc: Global, number: u64, kept: u64) -> Option<Record> {
     let script = vec![in alloc; 7; 25].ok()?;
     Some(Record {
         block: Digest([9; 32]),
-        txid: name_of(number as u32),
+        txid: name_of(number),
         index: 0,
         height: 0,
         coinbase: false,
@@ -81,7 +81,7 @@ fn add_all<L: Ledger>(
     while left > 0 {
         let n = roots.leaves();
         let leaf = kept_output(alloc, n, kept);
-        let digest = name_of(n as u32);
+        let digest = name_of(n);
         roots.add_into(digest, &mut joins, steps);
         after_add(cache, mark, n, digest, &joins, leaf);
         left -= 1;
@@ -106,7 +106,7 @@ fn add_unwatched<L: Ledger>(
     let mut left = adds;
     while left > 0 {
         let n = roots.leaves();
-        let digest = name_of(n as u32);
+        let digest = name_of(n);
         roots.add_into(digest, &mut joins, steps);
         after_add(cache, mark, n, digest, &joins, None);
         left -= 1;
@@ -134,7 +134,7 @@ fn prove(alloc: Global, forest: &Forest<Sha512t256>) -> io::Result<Proof> {
             let at = forest.place(number);
             if n < 1 << 40 && at.row < 40 && at.off < n >> at.row {
                 proof.positions.push(position(at, n))?;
-                proof.leaves.push(name_of(number as u32))?;
+                proof.leaves.push(name_of(number))?;
             }
         }
     }
@@ -183,7 +183,7 @@ fn bare_block<L: Ledger>(
     for _ in 0..BLOCK {
         let n = roots.leaves();
         if n < 1 << 39 {
-            roots.add_into(name_of(n as u32), &mut joins, steps);
+            roots.add_into(name_of(n), &mut joins, steps);
         }
     }
     true
@@ -254,7 +254,7 @@ fn grown<L: Ledger>(alloc: Global, steps: &mut Steps<L>) -> Forest<Sha512t256> {
     let _ = forest.reserve(ENTRIES);
     for i in 0..ENTRIES {
         if 0 < forest.spare() && forest.leaves() < 1 << 39 {
-            let _ = forest.add(name_of(i as u32), steps);
+            let _ = forest.add(name_of(i), steps);
         }
     }
     forest

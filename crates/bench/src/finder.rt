@@ -115,7 +115,7 @@ fn grow<D: Digester, L: Ledger>(
     forest.reserve(u64::from(entries))?;
     for number in 0..entries {
         let leaf = rest_of(AMOUNT)
-            .with_outpoint(name_of(number), 0)
+            .with_outpoint(name_of(u64::from(number)), 0)
             .to_record(alloc)?;
         add(forest, outputs, &mut room, u64::from(number), leaf, steps)?;
     }
@@ -124,7 +124,7 @@ fn grow<D: Digester, L: Ledger>(
 
 fn input_of(number: u32) -> InView<'static> {
     InView {
-        txid: name_of(number),
+        txid: name_of(u64::from(number)),
         index: 0,
         script: &[],
         sequence: 0,

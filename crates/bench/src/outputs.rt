@@ -27,7 +27,7 @@ pub fn measure_outputs<R: CpuClock + Print + AllocGlobal>(rt: &R) -> io::Result<
 fn record_of(alloc: Global, number: u32) -> Result<Record, NoMemory> {
     Ok(Record {
         block: Digest([1; 32]),
-        txid: name_of(number),
+        txid: name_of(u64::from(number)),
         index: 0,
         height: 7,
         coinbase: false,
@@ -60,7 +60,9 @@ fn chosen(i: u32, entries: u32) -> u32 {
 fn find_all(outputs: &Outputs, entries: u32) -> u64 {
     let mut seen = 0;
     for i in 0..entries {
-        seen ^= outputs.newest(&name_of(chosen(i, entries)), 0).unwrap_or(0);
+        seen ^= outputs
+            .newest(&name_of(u64::from(chosen(i, entries))), 0)
+            .unwrap_or(0);
     }
     seen
 }
