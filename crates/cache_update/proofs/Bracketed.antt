@@ -1,7 +1,7 @@
 -- A number sought among others that do not decrease.
-use Rattle.std.proofs.Common.{◌≡◌, ℕ, ◌+◌, ◌-◌, ◌<◌, ◌≤◌, true, false, Bool, not, ◌||◌, ◌&&◌, List, length, get_or, min, ◌⊎◌, inl, inr, ⊎_elim, arith, is_some, sym, ap, ap₂, ◌∙◌, subst}
+use Rattle.std.proofs.Common.{◌≡◌, ℕ, ◌+◌, ◌-◌, ◌<◌, ◌≤◌, true, false, Bool, not, ◌||◌, ◌&&◌, List, length, get_or, min, ◌⊎◌, inl, inr, ⊎_elim, arith, is_some, refl, sym, ap, ap₂, ◌∙◌, subst}
 use Rattle.std.specs.Prelude.{Ok, Err}
-use Rattle.std.proofs.lemmas.Bool.{cases_lt}
+use Rattle.std.proofs.lemmas.Bool.{cases_lt, cases_Bool}
 use Rattle.std.specs.Bool.{OnTrue, OnFalse}
 use Rattle.std.specs.List.Sorted.{IsNonDecreasing}
 use Rattle.forest_place.specs.declared.place.Place.{Place}
@@ -133,3 +133,32 @@ module _ (n : ℕ) (ts cs : List Place) (xs : List ℕ) (p : Place) (x at : ℕ)
           known_by n ts p false absent inner
           (tells_absent n ts cs xs beside y at g s f (sibling_within n p.row p.off within inner)
           (beside_absent xs x y at (subst IsNonDecreasing (sym f) (rises_sorted n cs s.rises)) b other near here none) here)
+
+  -- neither the position of the place nor one beside it stands around the index
+  module _ (le : at ≤ length xs) (low : 0 < at → get_or xs (at - 1) 0 + 1 < x) (high : at < length xs → x + 1 < get_or xs at 0) where
+    sorted : IsNonDecreasing xs
+    sorted = subst IsNonDecreasing (sym f) (rises_sorted n cs s.rises)
+
+    apart : IsBracket xs x at at
+    apart = record {
+      order = omega arith;
+      within = le;
+      below = λ k lt. let under = low (omega (arith, lt)) in let rest = sorted k (at - 1) 0 (omega (arith, lt)) (omega (arith, lt, le)) in omega (arith, under, rest);
+      above = λ k from inside. let over = high (omega (arith, from, inside)) in let rest = sorted at k 0 from inside in omega (arith, over, rest);
+    }
+
+    not_there : at < length xs → get_or xs at 0 ≡ x → ⊥
+    not_there lt same = let over = high lt in omega (arith, over, same)
+
+    pub known_apart : false ≡ is_known n ts p
+    known_apart = ⊎_elim (λ r. known_root apart not_there r) (λ r. by_inner r) (cases_Bool (is_root n p.row p.off))
+      where
+        by_inner : is_root n p.row p.off ≡ false → false ≡ is_known n ts p
+        by_inner r =
+            let y = position n p.row (sibling_off p.off) in
+            let beside_is = near apart not_there r y refl in
+            let here : at < length xs → get_or xs at 0 ≡ y → ⊥ = λ lt same. let over = high lt in ⊎_elim (λ z. omega (arith, over, same, z)) (λ z. omega (arith, over, same, z)) beside_is in
+            let before : 0 < at → get_or xs (at - 1) 0 ≡ y → ⊥ = λ lt same. let under = low lt in ⊎_elim (λ z. omega (arith, under, same, z)) (λ z. omega (arith, under, same, z)) beside_is in
+            known_by n ts p false (absent apart not_there) r
+            (tells_absent n ts cs xs (beside apart not_there r y refl) y at refl s f (sibling_within n p.row p.off within r)
+            (beside_absent xs x y at sorted apart not_there beside_is here before) here)

@@ -9,7 +9,7 @@ use Rattle.forest_place.specs.declared.place.Place.{Place}
 use Rattle.forest_place.specs.Forest.{InForest, is_root, sibling_off}
 use Rattle.forest_place.specs.Places.{has_place}
 use Rattle.forest_place.proofs.Parts.{half_pow}
-use Rattle.forest_place.proofs.Siblings.{sibling_cases, sibling_half}
+use Rattle.forest_place.proofs.Siblings.{sibling_cases, sibling_half, sibling_twice}
 use Rattle.forest_model.specs.Cover.{Cover, cover, need, HasShape}
 use Rattle.forest_model.specs.Deletion.{is_gone, moved, child_place}
 use Rattle.forest_model.proofs.Covers.{uncovered_halves, needed_parts}
@@ -18,6 +18,8 @@ use Rattle.forest_model.proofs.Moving.{moved-step}
 use Rattle.proof_shape.proofs.Ordered.{has_at}
 use Rattle.proof_shape.proofs.Gone.{target_bare, up_in}
 use Rattle.proof_verify.proofs.Planned.{covered_above, uncovered_stays}
+use Rattle.cache_model.specs.Undo.{is_same_place}
+use Rattle.cache_model.proofs.Undoing.{place_order}
 use Rattle.cache_update.specs.Descent.{IsStayingAbove, StandsBeneath, TellGoals}
 use Rattle.cache_update.proofs.Moves.{up_within, goes_within}
 
@@ -133,3 +135,18 @@ held_within n m hs i d e a lt = subst (λ k. InForest k (get_or hs i d).0.row (g
 -- the place above, where it is given
 pub staying_is : (n : ℕ) (ts : List Place) (p : Place) (staying : Option Place) (q : Place) → staying ≡ Some q → IfSome staying (λ (above : Place). IsStayingAbove n ts p above) → IsStayingAbove n ts p q
 staying_is n ts p staying q e h = subst (λ (x : Option Place). IfSome x (λ (above : Place). IsStayingAbove n ts p above)) e h
+
+-- what is told for a place is told for its sibling
+pub stays_beside : (n : ℕ) (ts : List Place) (p s last : Place) (staying : Option Place) → s.row ≡ p.row → s.off ≡ sibling_off p.off → is_same_place s last ≡ true → is_root n p.row p.off ≡ false → IfSome staying (λ (above : Place). IsStayingAbove n ts last above) → IfSome staying (λ (above : Place). IsStayingAbove n ts p above)
+stays_beside n ts p s last None row off same inner h = tt
+stays_beside n ts p s last (Some q) row off same inner h =
+    let e : last ≡ s = sym (place_order.same s last same) in
+    let r : last.row ≡ p.row = ap (λ (x : Place). x.row) e ∙ row in
+    let o : last.off ≡ sibling_off p.off = ap (λ (x : Place). x.off) e ∙ off in
+    record {
+      inner = inner;
+      row = h.row ∙ ap (λ k. k + 1) r;
+      off = h.off ∙ (ap (λ k. k / 2) o ∙ sibling_half p.off);
+      here = sym (ap₂ (is_gone ts) r (ap sibling_off o ∙ sibling_twice p.off)) ∙ h.beside;
+      beside = sym (ap₂ (is_gone ts) r o) ∙ h.here;
+    }

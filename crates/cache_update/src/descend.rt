@@ -158,6 +158,27 @@ fn staying_above(targets: &Targets, near: Near, place: Place) -> (Option<Place>,
     }
 }
 
+// The same, where it was told for the last place. What is told for a place is told for its sibling, and so of two it is sought once.
+fn staying_beside(
+    targets: &Targets,
+    near: Near,
+    last: Place,
+    staying: Option<Place>,
+    place: Place,
+) -> (Option<Place>, Near)
+    requires within { InForest targets.now.leaves place.row place.off }
+    requires last { IfSome staying (λ above. IsStayingAbove targets.now.leaves targets.now.targets last above) }
+    ensures { IfSome result.0 (λ above. IsStayingAbove targets.now.leaves targets.now.targets place above) }
+{
+    if is_root(targets.leaves(), place) {
+        return (None, near);
+    }
+    if is_same(sibling(place), last) {
+        return (staying, near);
+    }
+    staying_above(targets, near, place)
+}
+
 // The place above.
 fn above(n: u64, place: Place) -> Place
     requires small { n < 2 ^ 40 }
@@ -278,13 +299,17 @@ pub(crate) fn tell_goals(
         here: 0,
         needed: 0,
     };
+    let mut last = Place { row: 0, off: 0 };
+    let mut staying = None;
     while left > 0 {
         left -= 1;
         let place = held[left].0;
         at = index_back(held, at, above(targets.leaves(), place));
-        let (staying, ended) = staying_above(targets, near, place);
+        let found = staying_beside(targets, near, last, staying, place);
+        last = place;
+        staying = found.0;
+        near = found.1;
         let goal = goal_of(targets, held, goals, at, place, staying);
-        near = ended;
         let _ = goals.push(goal);
     }
 }

@@ -22,6 +22,7 @@ loop-left-preserved c = record {
       (c.push.ensures.items ∙ ap (λ b. cond b (c.loop-left.goals.items ++ c.goal_of-goal.result ∷ []) c.loop-left.goals.items) (c.push.ensures.succeeds (omega (arith, c.loop-left.invariant.each, c.loop-left.invariant.room, c.loop-left-test.true))));
   each = search rules;
   room = search rules;
+  beside = c.staying_beside-found.ensures;
   near = λ i d lt. none_up c.args.held.now c.args.held.now i (c.loop-left.left - 1) c.index_back-at.result _ d c.requires.ascends lt (omega (arith, c.loop-left.invariant.each, c.loop-left-test.true))
       (subst (λ (p : Place). IsSplit is_before_place held_key p c.args.held.now c.index_back-at.result) c.above.ensures c.index_back-at.ensures);
 }

@@ -4,7 +4,7 @@ use Rattle.forest_place.specs.Forest.{is_root}
 use Rattle.forest_place.specs.Position.{position}
 use Rattle.forest_place.proofs.Positions.{row_small}
 use Rattle.proof_shape.proofs.Needing.{rises_sorted}
-use Rattle.cache_update.proofs.Bracketed.{known_there, known_root, known_beside, known_before}
+use Rattle.cache_update.proofs.Bracketed.{known_there, known_root, known_beside, known_before, known_apart}
 use Rattle.cache_update.proofs.known.known_near.Goals as goal
 
 pub index_near-at-requires : goal.index_near-at-requires
@@ -12,6 +12,12 @@ index_near-at-requires c = subst IsNonDecreasing (sym c.covered.ensures.position
 
 pub is_root-requires-clause-low : goal.is_root-requires-clause-low
 is_root-requires-clause-low c = row_small c.args.kept.now.leaves c.args.place.row c.args.place.off 40 c.requires c.leaves-n.ensures.targets.few
+
+pub returns-then-is_apart : goal.returns-then-is_apart
+returns-then-is_apart c =
+    known_apart c.args.kept.now.leaves c.args.kept.now.targets c.covered.result.0.now c.covered.result.1.now c.args.place c.position-number.result c.args.near
+    (c.position-number.ensures.is ∙ ap (λ (n : ℕ). position n c.args.place.row c.args.place.off) c.leaves-n.ensures.is) c.covered.ensures.is c.covered.ensures.positions c.requires
+    c.if-is_apart.ensures.0 c.if-is_apart.ensures.1 c.if-is_apart.ensures.2
 
 pub returns-then-stands_at : goal.returns-then-stands_at
 returns-then-stands_at c =
