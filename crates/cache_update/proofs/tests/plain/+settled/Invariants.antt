@@ -1,4 +1,0 @@
-use Rattle.cache_update.proofs.tests.plain.+settled.Given as goal
-
-abbrev pub decreases-settled : goal.decreases-settled
-decreases-settled g l = l.row
