@@ -2,6 +2,7 @@ mod arena;
 mod deletions;
 mod outputs;
 mod places;
+mod plain;
 mod roots;
 mod targets;
 mod undone;

@@ -2,7 +2,6 @@
 ghost use Rattle.std.specs.Prelude.{◌≡◌, ◌<◌};
 
 mod many;
-mod plain;
 mod small;
 
 use crate::digest;
@@ -87,7 +86,7 @@ fn build<L: Ledger>(
 ) {
     for i in 0..row.entries {
         assert!(rt; i < 8 && 0 < forest.spare() && forest.leaves() < 8);
-        assert_eq!(rt; forest.add(digest(1 << i), steps), i);
+        assert!(rt; forest.add(digest(1 << i), steps) == i);
     }
     for number in row.spent {
         assert!(rt; forest.live(*number));
@@ -101,12 +100,11 @@ fn check_nodes(rt: &impl Abort, forest: &Forest<XorFold>, row: &Row) {
             row: *row,
             off: *off,
         };
-        let node = if *byte == 0 {
-            None
-        } else {
-            Some(digest(*byte))
-        };
-        assert_eq!(rt; forest.digest_at(place), node);
+        let mut node = None;
+        if *byte > 0 {
+            node = Some(digest(*byte));
+        }
+        assert!(rt; forest.digest_at(place) == node);
     }
 }
 
@@ -117,105 +115,104 @@ fn check_places(rt: &impl Abort, forest: &Forest<XorFold>, row: &Row) {
             off: *off,
         };
         assert!(rt; forest.live(*number));
-        assert_eq!(rt; forest.place(*number), place);
-        assert_eq!(rt; forest.number_at(place), Some(*number));
+        assert!(rt; forest.place(*number) == place);
+        assert!(rt; forest.number_at(place) == Some(*number));
     }
 }
 
-fn check_rows<L: Ledger>(rt: &impl Abort, alloc: Global, blank: Blank) -> Result<(), NoMemory>
-    requires name { blank.name ≡ L.name }
-    requires parts { blank.parts ≡ L.parts }
-    requires some { 0 < blank.parts }
-{
-    let mut steps = Steps::<L>::new(blank);
+fn check_row<L: Ledger>(
+    rt: &impl Abort,
+    alloc: Global,
+    row: &Row,
+    steps: &mut Steps<L>,
+) -> Result<(), NoMemory> {
+    let mut forest = Forest::<XorFold>::new(alloc);
+    forest.reserve(row.entries)?;
+    build(rt, &mut forest, row, steps);
+    assert!(rt; forest.leaves() == row.entries && forest.spare() == 0);
+    check_nodes(rt, &forest, row);
+    check_places(rt, &forest, row);
+    Ok(())
+}
+
+fn stands_as_by_hand<L: Ledger>(
+    rt: &impl Abort,
+    alloc: Global,
+    steps: &mut Steps<L>,
+) -> Result<(), NoMemory> {
     for row in &ROWS {
-        let mut forest = Forest::<XorFold>::new(alloc);
-        forest.reserve(row.entries)?;
-        build(rt, &mut forest, row, &mut steps);
-        assert_eq!(rt; [forest.leaves(), forest.spare()], [row.entries, 0]);
-        check_nodes(rt, &forest, row);
-        check_places(rt, &forest, row);
+        check_row(rt, alloc, row, steps)?;
     }
     Ok(())
 }
 
-#[test]
-fn stands_as_by_hand(rt: HostRuntime) -> Result<(), Fail> {
-    check_rows::<Brand>(&rt, rt.alloc(), Blank::new(1))?;
+// No room is left, and asking for more is no want of memory where it is there.
+fn check_room(rt: &impl Abort, forest: &mut Forest<XorFold>) -> Result<(), NoMemory> {
+    assert!(rt; forest.spare() == 0);
+    forest.reserve(2)?;
+    forest.reserve(1)?;
+    assert!(rt; forest.spare() == 2);
+    assert!(rt; forest.reserve(u64::MAX).is_err());
+    assert!(rt; forest.leaves() == 6 && forest.spare() == 2);
     Ok(())
 }
 
 // An addition behind an empty root, and entries that are cut off.
-fn check_edges<L: Ledger>(rt: &impl Abort, alloc: Global, blank: Blank) -> Result<(), NoMemory>
-    requires name { blank.name ≡ L.name }
-    requires parts { blank.parts ≡ L.parts }
-    requires some { 0 < blank.parts }
-{
-    let mut steps = Steps::<L>::new(blank);
+fn meets_edges<L: Ledger>(
+    rt: &impl Abort,
+    alloc: Global,
+    steps: &mut Steps<L>,
+) -> Result<(), NoMemory> {
     let mut forest = Forest::<XorFold>::new(alloc);
     forest.reserve(6)?;
-    build(rt, &mut forest, &ROWS[1], &mut steps);
-    assert_eq!(rt; [forest.root(0), forest.root(1)], [Some(None), None]);
+    build(rt, &mut forest, &ROWS[1], steps);
+    assert!(rt; forest.root(0) == Some(None) && forest.root(1) == None);
     assert!(rt; forest.spare() == 1 && forest.leaves() == 5);
-    let _ = forest.add(digest(99), &mut steps);
-    let place = Place { row: 1, off: 2 };
-    assert_eq!(rt;
-        [forest.root(0), forest.root(1)],
-        [None, Some(Some(digest(99)))]
-    );
-    assert_eq!(rt; forest.number_at(place), Some(5));
-
-    // No room is left, and asking for more is no want of memory where it is there.
-    assert_eq!(rt; forest.spare(), 0);
-    forest.reserve(2)?;
-    forest.reserve(1)?;
-    assert_eq!(rt; forest.spare(), 2);
-    assert!(rt; forest.reserve(u64::MAX).is_err());
-    assert_eq!(rt; [forest.leaves(), forest.spare()], [6, 2]);
-    Ok(())
+    let _ = forest.add(digest(99), steps);
+    assert!(rt; forest.root(0) == None);
+    assert!(rt; forest.root(1) == Some(Some(digest(99))));
+    assert!(rt; forest.number_at(Place { row: 1, off: 2 }) == Some(5));
+    check_room(rt, &mut forest)
 }
 
-#[test]
-fn meets_edges(rt: HostRuntime) -> Result<(), Fail> {
-    check_edges::<Brand>(&rt, rt.alloc(), Blank::new(1))?;
-    Ok(())
+/// The digests that rustreexo and utreexod have for the root of the eight leaves SHA-256 of one byte, 00 to 07, and for the
+/// parent of the first two.
+const ROOT: &[u8; 64] = b"b151a956139bb821d4effa34ea95c17560e0135d1e4661fc23cedc3af49dac42";
+
+const PARENT: &[u8; 64] = b"02242b37d8e851f1e86f46790298c7097df06893d6226b7c1453c213e91717de";
+
+fn is_hex(node: Option<Digest>, want: &[u8; 64]) -> bool {
+    match node {
+        Some(node) => hex_plain(&node) == *want,
+        None => false,
+    }
 }
 
-// The eight leaves SHA-256 of one byte, 00 to 07, and the digests that rustreexo and utreexod have for their root and for
-// the parent of the first two.
-fn check_outside<L: Ledger>(rt: &impl Abort, alloc: Global, blank: Blank) -> Result<(), NoMemory>
-    requires name { blank.name ≡ L.name }
-    requires parts { blank.parts ≡ L.parts }
-    requires some { 0 < blank.parts }
-{
-    let mut steps = Steps::<L>::new(blank);
-    let mut forest = Forest::<Sha512t256>::new(alloc);
-    forest.reserve(8)?;
-    for byte in 0..8 {
-        assert!(rt; 0 < forest.spare() && forest.leaves() < 8);
-        let _ = forest.add(Digest(Sha256::digest(&[byte])), &mut steps);
-    }
-    let root = b"b151a956139bb821d4effa34ea95c17560e0135d1e4661fc23cedc3af49dac42";
-    let parent = b"02242b37d8e851f1e86f46790298c7097df06893d6226b7c1453c213e91717de";
-    for (row, want) in [(3, root), (1, parent)] {
-        let node = forest.digest_at(Place { row, off: 0 });
-        assert!(rt; node.is_some_and(|node| hex_plain(&node) == *want));
-    }
-
-    // The same by one call, the parent from what stands above it.
+// The same by one call, the parent from what stands above it.
+fn check_walk(rt: &impl Abort, alloc: Global, forest: &Forest<Sha512t256>) -> Result<(), NoMemory> {
     let top = Place { row: 3, off: 0 };
     let above = [Place { row: 2, off: 0 }, top];
     let found = forest.digests_at(alloc, &above, &[Place { row: 1, off: 0 }, top])?;
     assert!(rt; found.len() == 2);
-    assert!(rt; found[0].is_some_and(|node| hex_plain(&node) == *parent));
-    assert!(rt; found[1].is_some_and(|node| hex_plain(&node) == *root));
+    assert!(rt; is_hex(found[0], PARENT));
+    assert!(rt; is_hex(found[1], ROOT));
     Ok(())
 }
 
-#[test]
-fn is_as_others_have_it(rt: HostRuntime) -> Result<(), Fail> {
-    check_outside::<Brand>(&rt, rt.alloc(), Blank::new(1))?;
-    Ok(())
+fn is_as_others_have_it<L: Ledger>(
+    rt: &impl Abort,
+    alloc: Global,
+    steps: &mut Steps<L>,
+) -> Result<(), NoMemory> {
+    let mut forest = Forest::<Sha512t256>::new(alloc);
+    forest.reserve(8)?;
+    for byte in 0..8 {
+        assert!(rt; 0 < forest.spare() && forest.leaves() < 8);
+        let _ = forest.add(Digest(Sha256::digest(&[byte])), steps);
+    }
+    assert!(rt; is_hex(forest.digest_at(Place { row: 3, off: 0 }), ROOT));
+    assert!(rt; is_hex(forest.digest_at(Place { row: 1, off: 0 }), PARENT));
+    check_walk(rt, alloc, &forest)
 }
 
 // The positions of the places that a proof of the first of a hundred entries needs.
@@ -229,31 +226,42 @@ fn grow<L: Ledger>(rt: &impl Abort, forest: &mut Forest<Sha512t256>, steps: &mut
 }
 
 // What stands there makes the root, pair by pair.
-fn check_proof<L: Ledger>(rt: &impl Abort, alloc: Global, blank: Blank) -> Result<(), NoMemory>
+fn proves_the_first_entry<L: Ledger>(
+    rt: &impl Abort,
+    alloc: Global,
+    steps: &mut Steps<L>,
+) -> Result<(), NoMemory> {
+    let mut forest = Forest::<Sha512t256>::new(alloc);
+    forest.reserve(100)?;
+    grow(rt, &mut forest, steps);
+    let mut node = digest(0);
+    for number in NEEDED {
+        let Some(place) = place_of(number, 100) else {
+            panic!(rt; "a position is none")
+        };
+        let Some(hash) = forest.digest_at(place) else {
+            panic!(rt; "nothing stands at a place")
+        };
+        node = pair::<Sha512t256, L>(node, hash, steps);
+    }
+    assert!(rt; forest.root(6) == Some(Some(node)));
+    Ok(())
+}
+
+fn check_all<L: Ledger>(rt: &impl Abort, alloc: Global, blank: Blank) -> Result<(), NoMemory>
     requires name { blank.name ≡ L.name }
     requires parts { blank.parts ≡ L.parts }
     requires some { 0 < blank.parts }
 {
     let mut steps = Steps::<L>::new(blank);
-    let mut forest = Forest::<Sha512t256>::new(alloc);
-    forest.reserve(100)?;
-    grow(rt, &mut forest, &mut steps);
-    let mut node = digest(0);
-    for number in NEEDED {
-        let Some(place) = place_of(number, 100) else {
-            panic!(rt; "position {number} is none")
-        };
-        let Some(hash) = forest.digest_at(place) else {
-            panic!(rt; "nothing stands at {place:?}")
-        };
-        node = pair::<Sha512t256, L>(node, hash, &mut steps);
-    }
-    assert_eq!(rt; forest.root(6), Some(Some(node)));
-    Ok(())
+    stands_as_by_hand(rt, alloc, &mut steps)?;
+    meets_edges(rt, alloc, &mut steps)?;
+    is_as_others_have_it(rt, alloc, &mut steps)?;
+    proves_the_first_entry(rt, alloc, &mut steps)
 }
 
 #[test]
-fn proves_the_first_entry(rt: HostRuntime) -> Result<(), Fail> {
-    check_proof::<Brand>(&rt, rt.alloc(), Blank::new(1))?;
+fn forests_by_hand(rt: HostRuntime) -> Result<(), Fail> {
+    check_all::<Brand>(&rt, rt.alloc(), Blank::new(1))?;
     Ok(())
 }

@@ -1,7 +1,6 @@
 //! Proofs that were evaluated by hand.
 ghost use Rattle.std.specs.Prelude.{◌≡◌, ◌<◌};
 
-mod plain;
 mod small;
 mod steps;
 
@@ -32,7 +31,7 @@ pub(crate) fn check<D: Digester, L: Ledger>(
 ) -> Result<Vec<(Place, Digest)>, ProofFault> {
     assert!(rt; positions.len() < 1 << 32);
     let Ok(targets) = Targets::new(alloc, roots.leaves(), positions) else {
-        panic!(rt; "no targets: {positions:?}")
+        panic!(rt; "no targets")
     };
     let mut scratch = Scratch::new(alloc);
     let Ok(()) = scratch.reserve(&targets) else {
@@ -48,171 +47,142 @@ pub(crate) fn check<D: Digester, L: Ledger>(
     }
 }
 
-fn check_four<L: Ledger>(rt: &impl Abort, alloc: Global, blank: Blank)
-    requires name { blank.name ≡ L.name }
-    requires parts { blank.parts ≡ L.parts }
-    requires some { 0 < blank.parts }
-{
-    let mut steps = Steps::<L>::new(blank);
+// Four entries of 01, 02, 04 and 08.
+fn four() -> Roots<XorFold> {
     let mut roots = Roots::<XorFold>::of(4);
     roots.put_root(2, Some(digest(15)));
-    let leaves = [digest(2)];
+    roots
+}
 
-    let wrong = [digest(1), digest(13)];
-    let fault = check(rt, alloc, &mut roots, &[1], &leaves, &wrong, &mut steps).err();
+// Why the second of four entries is not spent with these hashes. The roots stay.
+fn fault_of_four<L: Ledger>(
+    rt: &impl Abort,
+    alloc: Global,
+    hashes: &[Digest],
+    steps: &mut Steps<L>,
+) -> Option<ProofFault> {
+    let mut roots = four();
+    let fault = check(rt, alloc, &mut roots, &[1], &[digest(2)], hashes, steps).err();
+    assert!(rt; roots.root(2) == Some(Some(digest(15))));
+    fault
+}
+
+fn refuses_of_four<L: Ledger>(rt: &impl Abort, alloc: Global, steps: &mut Steps<L>) {
+    let fault = fault_of_four(rt, alloc, &[digest(1), digest(13)], steps);
     let want = ProofFault::RootDiffers {
         row: 2,
         had: digest(15),
         computed: digest(14),
     };
-    assert_eq!(rt; fault, Some(want));
-
-    let fault = check(
-        rt,
-        alloc,
-        &mut roots,
-        &[1],
-        &leaves,
-        &[digest(1)],
-        &mut steps,
-    )
-    .err();
-    assert_eq!(rt; fault, Some(ProofFault::HashCount { want: 2, got: 1 }));
-    assert_eq!(rt; roots.root(2), Some(Some(digest(15))));
-
-    let hashes = [digest(1), digest(12)];
-    match check(rt, alloc, &mut roots, &[1], &leaves, &hashes, &mut steps) {
-        Ok(pairs) => assert_eq!(rt;
-            pairs.as_slice(),
-            [(place(1, 0), digest(1)), (place(2, 0), digest(13))].as_slice()
-        ),
-        Err(fault) => panic!(rt; "{fault}"),
-    }
-    assert_eq!(rt; roots.root(2), Some(Some(digest(13))));
+    assert!(rt; fault == Some(want));
+    let fault = fault_of_four(rt, alloc, &[digest(1)], steps);
+    assert!(rt; fault == Some(ProofFault::HashCount { want: 2, got: 1 }));
 }
 
-fn check_edges<L: Ledger>(rt: &impl Abort, alloc: Global, blank: Blank)
-    requires name { blank.name ≡ L.name }
-    requires parts { blank.parts ≡ L.parts }
-    requires some { 0 < blank.parts }
-{
-    let mut steps = Steps::<L>::new(blank);
+fn deletes_of_four<L: Ledger>(rt: &impl Abort, alloc: Global, steps: &mut Steps<L>) {
+    let mut roots = four();
+    let hashes = [digest(1), digest(12)];
+    let Ok(pairs) = check(rt, alloc, &mut roots, &[1], &[digest(2)], &hashes, steps) else {
+        panic!(rt; "a right proof is refused")
+    };
+    let low = (place(1, 0), digest(1));
+    let high = (place(2, 0), digest(13));
+    assert!(rt; pairs.as_slice() == [low, high].as_slice());
+    assert!(rt; roots.root(2) == Some(Some(digest(13))));
+}
 
-    // The slot of one entry is emptied, and an addition is joined with the empty root.
+// The slot of one entry is emptied, and an addition is joined with the empty root.
+fn empties_a_slot<L: Ledger>(rt: &impl Abort, alloc: Global, steps: &mut Steps<L>) {
     let mut roots = Roots::<XorFold>::of(5);
     roots.put_root(2, Some(digest(9)));
     roots.put_root(0, Some(digest(3)));
-    match check(rt, alloc, &mut roots, &[4], &[digest(3)], &[], &mut steps) {
-        Ok(pairs) => assert!(rt; pairs.is_empty()),
-        Err(fault) => panic!(rt; "{fault}"),
-    }
-    assert_eq!(rt;
-        [roots.root(2), roots.root(0)],
-        [Some(Some(digest(9))), Some(None)]
-    );
+    let Ok(pairs) = check(rt, alloc, &mut roots, &[4], &[digest(3)], &[], steps) else {
+        panic!(rt; "a right proof is refused")
+    };
+    assert!(rt; pairs.is_empty());
+    assert!(rt; roots.root(2) == Some(Some(digest(9))));
+    assert!(rt; roots.root(0) == Some(None));
     assert!(rt; roots.leaves() == 5);
-    let _ = roots.add(digest(7), &mut steps);
-    assert_eq!(rt; roots.leaves(), 6);
-    assert_eq!(rt; roots.root(1), Some(Some(digest(7))));
+    let _ = roots.add(digest(7), steps);
+    assert!(rt; roots.leaves() == 6);
+    assert!(rt; roots.root(1) == Some(Some(digest(7))));
+}
 
-    // No entry is left to spend.
+fn spends_none_of_none<L: Ledger>(rt: &impl Abort, alloc: Global, steps: &mut Steps<L>) {
     let mut roots = Roots::<XorFold>::of(4);
     let hashes = [digest(1), digest(2)];
-    let fault = check(
-        rt,
-        alloc,
-        &mut roots,
-        &[0],
-        &[digest(3)],
-        &hashes,
-        &mut steps,
-    )
-    .err();
-    assert_eq!(rt; fault, Some(ProofFault::EmptyRoot { row: 2 }));
-    assert_eq!(rt; roots.root(2), Some(None));
+    let fault = check(rt, alloc, &mut roots, &[0], &[digest(3)], &hashes, steps).err();
+    assert!(rt; fault == Some(ProofFault::EmptyRoot { row: 2 }));
+    assert!(rt; roots.root(2) == Some(None));
+}
 
-    // The greatest slot is named, and an empty root before one that differs.
+// Why entries of the three slots of seven are not spent, where the last slot has this root.
+fn fault_of_seven<L: Ledger>(
+    rt: &impl Abort,
+    alloc: Global,
+    last: Option<Digest>,
+    steps: &mut Steps<L>,
+) -> Option<ProofFault> {
     let mut roots = Roots::<XorFold>::of(7);
     roots.put_root(2, Some(digest(1)));
     roots.put_root(1, Some(digest(1)));
+    roots.put_root(0, last);
     let leaves = [digest(8), digest(4), digest(2)];
     let hashes = [digest(16), digest(32), digest(64)];
-    let fault = check(
-        rt,
-        alloc,
-        &mut roots,
-        &[6, 4, 0],
-        &leaves,
-        &hashes,
-        &mut steps,
-    )
-    .err();
-    assert_eq!(rt; fault, Some(ProofFault::EmptyRoot { row: 0 }));
-    let mut roots = Roots::<XorFold>::of(7);
-    roots.put_root(2, Some(digest(1)));
-    roots.put_root(1, Some(digest(1)));
-    roots.put_root(0, Some(digest(1)));
-    let fault = check(
-        rt,
-        alloc,
-        &mut roots,
-        &[6, 4, 0],
-        &leaves,
-        &hashes,
-        &mut steps,
-    )
-    .err();
+    check(rt, alloc, &mut roots, &[6, 4, 0], &leaves, &hashes, steps).err()
+}
+
+// The greatest slot is named, and an empty root before one that differs.
+fn names_a_slot<L: Ledger>(rt: &impl Abort, alloc: Global, steps: &mut Steps<L>) {
+    let fault = fault_of_seven(rt, alloc, None, steps);
+    assert!(rt; fault == Some(ProofFault::EmptyRoot { row: 0 }));
+    let fault = fault_of_seven(rt, alloc, Some(digest(1)), steps);
     let want = ProofFault::RootDiffers {
         row: 2,
         had: digest(1),
         computed: digest(82),
     };
-    assert_eq!(rt; fault, Some(want));
+    assert!(rt; fault == Some(want));
 }
 
-#[test]
-fn meets_edges(rt: HostRuntime) {
-    check_edges::<Brand>(&rt, rt.alloc(), Blank::new(1));
-}
-
-// Four entries of 01, 02, 04 and 08, of which the second is spent.
-#[test]
-fn deletes_of_four(rt: HostRuntime) {
-    check_four::<Brand>(&rt, rt.alloc(), Blank::new(1));
+fn is_covered(item: &CoveredPlace, row: u8, made: Made, byte: u8) -> bool {
+    item.place == place(row, u64::from(row == 0))
+        && item.made == made
+        && item.digest == digest(byte)
 }
 
 // The second of four leaves, and what its proof comes to at each place above it.
-fn check_covered<L: Ledger>(rt: &impl Abort, alloc: Global, blank: Blank)
-    requires name { blank.name ≡ L.name }
-    requires parts { blank.parts ≡ L.parts }
-    requires some { 0 < blank.parts }
-{
-    let mut steps = Steps::<L>::new(blank);
+fn covers_of_four<L: Ledger>(rt: &impl Abort, alloc: Global, steps: &mut Steps<L>) {
     let Ok(targets) = Targets::new(alloc, 4, &[1]) else {
         panic!(rt; "no targets")
     };
     assert!(rt; targets.len() == 1 && targets.needed().len() == 2);
     let hashes = [digest(1), digest(12)];
-    let covered = |place, made, digest| CoveredPlace {
-        place,
-        made,
-        digest,
+    let Ok(items) = evaluate_covered::<XorFold, L>(alloc, &targets, &[digest(2)], &hashes, steps)
+    else {
+        panic!(rt; "no memory")
     };
-    match evaluate_covered::<XorFold, L>(alloc, &targets, &[digest(2)], &hashes, &mut steps) {
-        Ok(items) => assert_eq!(rt;
-            items.as_slice(),
-            [
-                covered(place(0, 1), Made::Target(0), digest(2)),
-                covered(place(1, 0), Made::Halves(digest(1), digest(2)), digest(3)),
-                covered(place(2, 0), Made::Halves(digest(3), digest(12)), digest(15)),
-            ]
-            .as_slice()
-        ),
-        Err(_) => panic!(rt; "no memory"),
-    }
+    assert!(rt; items.len() == 3);
+    assert!(rt; is_covered(&items[0], 0, Made::Target(0), 2));
+    assert!(rt; is_covered(&items[1], 1, Made::Halves(digest(1), digest(2)), 3));
+    assert!(rt; is_covered(&items[2], 2, Made::Halves(digest(3), digest(12)), 15));
+}
+
+fn check_all<L: Ledger>(rt: &impl Abort, alloc: Global, blank: Blank)
+    requires name { blank.name ≡ L.name }
+    requires parts { blank.parts ≡ L.parts }
+    requires some { 0 < blank.parts }
+{
+    let mut steps = Steps::<L>::new(blank);
+    refuses_of_four(rt, alloc, &mut steps);
+    deletes_of_four(rt, alloc, &mut steps);
+    empties_a_slot(rt, alloc, &mut steps);
+    spends_none_of_none(rt, alloc, &mut steps);
+    names_a_slot(rt, alloc, &mut steps);
+    covers_of_four(rt, alloc, &mut steps);
 }
 
 #[test]
-fn covers_of_four(rt: HostRuntime) {
-    check_covered::<Brand>(&rt, rt.alloc(), Blank::new(1));
+fn proofs_by_hand(rt: HostRuntime) {
+    check_all::<Brand>(&rt, rt.alloc(), Blank::new(1));
 }

@@ -38,7 +38,7 @@ fn record_of(alloc: Global, txid: Digest, index: u32) -> Result<Record, AllocErr
 }
 
 #[test]
-fn each_call_once(rt: HostRuntime) -> Result<(), Fail> {
+fn finds_the_newest(rt: HostRuntime) -> Result<(), Fail> {
     let first = txid_of(2, 0);
     let second = txid_of(2, 1);
     let mut outputs = Outputs::new(rt.alloc());
@@ -53,6 +53,16 @@ fn each_call_once(rt: HostRuntime) -> Result<(), Fail> {
     let output = outputs.output(5).ok_or("held")?;
     assert!(rt; output.txid == second && output.index == 9 && output.amount == 5);
     assert!(rt; output.script == [0x51].as_slice());
+    Ok(())
+}
+
+#[test]
+fn finds_what_is_left(rt: HostRuntime) -> Result<(), Fail> {
+    let first = txid_of(2, 0);
+    let second = txid_of(2, 1);
+    let mut outputs = Outputs::new(rt.alloc());
+    outputs.insert(3, record_of(rt.alloc(), first, 0)?)?;
+    outputs.insert(5, record_of(rt.alloc(), second, 9)?)?;
     outputs.spend(3);
     assert!(rt; outputs.newest(&first, 0).is_none() && !outputs.live(3));
     assert!(rt; outputs.output(3).is_some());

@@ -1,87 +1,108 @@
-//! Numbers of the forest from a table that was made by hand, and a walk over all places.
+//! Numbers of the forest from tables that were made by hand, and a walk over all places.
 use forest_place::{
     Place, children, parent, parent_position, place_of, position, root_place, rows, sibling,
     slot_of,
 };
 
+/// How many rows a forest of so many entries has.
+const ROWS: [(u64, u8); 11] = [
+    (0, 0),
+    (1, 0),
+    (2, 1),
+    (3, 2),
+    (4, 2),
+    (5, 3),
+    (6, 3),
+    (8, 3),
+    (9, 4),
+    (100, 7),
+    ((1 << 40) - 1, 40),
+];
+
 #[test]
 fn counts_rows(rt: HostRuntime) {
-    for (n, want) in [
-        (0, 0),
-        (1, 0),
-        (2, 1),
-        (3, 2),
-        (4, 2),
-        (5, 3),
-        (6, 3),
-        (8, 3),
-        (9, 4),
-        (100, 7),
-        ((1 << 40) - 1, 40),
-    ] {
+    for (n, want) in ROWS {
         assert!(rt; n < 1 << 40);
-        assert_eq!(rt; rows(n), want, "at {n}");
+        assert!(rt; rows(n) == want);
     }
 }
+
+/// Where the rows of a forest begin: its entries, a row, and the position.
+const STARTS: [(u64, u8, u64); 21] = [
+    (1, 0, 0),
+    (4, 0, 0),
+    (4, 1, 4),
+    (4, 2, 6),
+    (5, 0, 0),
+    (5, 1, 8),
+    (5, 2, 12),
+    (6, 0, 0),
+    (6, 1, 8),
+    (6, 2, 12),
+    (8, 0, 0),
+    (8, 1, 8),
+    (8, 2, 12),
+    (8, 3, 14),
+    (100, 0, 0),
+    (100, 1, 128),
+    (100, 2, 192),
+    (100, 3, 224),
+    (100, 4, 240),
+    (100, 5, 248),
+    (100, 6, 252),
+];
 
 #[test]
 fn begins_rows(rt: HostRuntime) {
-    for (n, starts) in [
-        (1, [0].as_slice()),
-        (4, [0, 4, 6].as_slice()),
-        (5, [0, 8, 12].as_slice()),
-        (6, [0, 8, 12].as_slice()),
-        (8, [0, 8, 12, 14].as_slice()),
-        (100, [0, 128, 192, 224, 240, 248, 252].as_slice()),
-    ] {
-        let mut row = 0;
-        for start in starts {
-            assert!(rt; n < 1 << 40 && row < 40 && n >> row > 0);
-            let first = Place { row, off: 0 };
-            assert_eq!(rt; position(first, n), *start, "row {row} of {n}");
-            row += 1;
-        }
+    for (n, row, start) in STARTS {
+        assert!(rt; n < 1 << 40 && row < 40 && n >> row > 0);
+        assert!(rt; position(Place { row, off: 0 }, n) == start);
     }
 }
 
+/// Roots: the entries, the row, the offset and the position.
+const ROOTS: [(u64, u8, u64, u64); 10] = [
+    (1, 0, 0, 0),
+    (4, 2, 0, 6),
+    (5, 2, 0, 12),
+    (5, 0, 4, 4),
+    (6, 2, 0, 12),
+    (6, 1, 2, 10),
+    (8, 3, 0, 14),
+    (100, 6, 0, 252),
+    (100, 5, 2, 250),
+    (100, 2, 24, 216),
+];
+
 #[test]
 fn numbers_slots(rt: HostRuntime) {
-    for (n, row, off, want) in [
-        (1, 0, 0, 0),
-        (4, 2, 0, 6),
-        (5, 2, 0, 12),
-        (5, 0, 4, 4),
-        (6, 2, 0, 12),
-        (6, 1, 2, 10),
-        (8, 3, 0, 14),
-        (100, 6, 0, 252),
-        (100, 5, 2, 250),
-        (100, 2, 24, 216),
-    ] {
+    for (n, row, off, want) in ROOTS {
         assert!(rt; n < 1 << 40 && row < 40 && (n >> row) % 2 == 1 && off < n >> row);
         let place = Place { row, off };
-        assert_eq!(rt; root_place(row, n), place, "row {row} of {n}");
-        assert_eq!(rt; slot_of(place, n), Some(row), "row {row} of {n}");
-        assert_eq!(rt; position(place, n), want, "row {row} of {n}");
+        assert!(rt; root_place(row, n) == place);
+        assert!(rt; slot_of(place, n) == Some(row));
+        assert!(rt; position(place, n) == want);
     }
 }
 
 #[test]
 fn steps_to_neighbours(rt: HostRuntime) {
     let place = Place { row: 2, off: 5 };
-    assert_eq!(rt; parent(place), Place { row: 3, off: 2 });
-    assert_eq!(rt; sibling(place), Place { row: 2, off: 4 });
-    assert_eq!(rt; sibling(sibling(place)), place);
-    assert_eq!(rt;
-        children(place),
-        (Place { row: 1, off: 10 }, Place { row: 1, off: 11 })
-    );
+    let (left, right) = children(place);
+    assert!(rt; parent(place) == (Place { row: 3, off: 2 }));
+    assert!(rt; sibling(place) == (Place { row: 2, off: 4 }));
+    assert!(rt; sibling(sibling(place)) == place);
+    assert!(rt; left == (Place { row: 1, off: 10 }));
+    assert!(rt; right == (Place { row: 1, off: 11 }));
 }
+
+/// Positions among eight entries, and those of their parents.
+const PARENTS: [(u64, u64); 6] = [(0, 8), (2, 9), (7, 11), (8, 12), (11, 13), (12, 14)];
 
 #[test]
 fn numbers_parents(rt: HostRuntime) {
-    for (number, want) in [(0, 8), (2, 9), (7, 11), (8, 12), (11, 13), (12, 14)] {
-        assert_eq!(rt; parent_position(number, 3), want, "of {number}");
+    for (number, want) in PARENTS {
+        assert!(rt; parent_position(number, 3) == want);
     }
 }
 
@@ -93,14 +114,14 @@ fn walks_all_places(rt: HostRuntime) {
             for off in 0..n >> row {
                 let place = Place { row, off };
                 let number = position(place, n);
-                assert_eq!(rt; place_of(number, n), Some(place), "{place:?} of {n}");
-                assert!(rt; before < Some((number, place)), "{place:?} of {n}");
+                assert!(rt; place_of(number, n) == Some(place));
+                assert!(rt; before < Some((number, place)));
                 before = Some((number, place));
             }
         }
         for number in 0..1100 {
             if let Some(place) = place_of(number, n) {
-                assert_eq!(rt; position(place, n), number, "{place:?} of {n}");
+                assert!(rt; position(place, n) == number);
             }
         }
     }

@@ -22,93 +22,71 @@ const NINE: [(u8, &[u8], u8, u8); 9] = [
     (1, &[], 0, 1),
 ];
 
-fn check_nine<L: Ledger>(rt: &impl Abort, blank: Blank)
-    requires name { blank.name ≡ L.name }
-    requires parts { blank.parts ≡ L.parts }
-    requires some { 0 < blank.parts }
-{
-    let mut steps = Steps::<L>::new(blank);
+// Whether the joins carried these digests on, over roots that were not empty.
+fn check_joins(rt: &impl Abort, joins: &[Join], carried: &[u8]) {
+    assert!(rt; joins.len() == carried.len());
+    for (join, byte) in joins.iter().zip(carried) {
+        assert!(rt; join.result == digest(*byte));
+        assert!(rt; join.left.is_some());
+    }
+}
+
+fn adds_nine<L: Ledger>(rt: &impl Abort, steps: &mut Steps<L>) {
     let mut roots = Roots::<XorFold>::new();
     let mut joins = Joins::new();
     for (n, (byte, carried, row, root)) in NINE.iter().enumerate() {
         assert!(rt; roots.leaves() == n as u64);
-        roots.add_into(digest(*byte), &mut joins, &mut steps);
-        let results = joins.list().iter().map(|join| join.result);
-        assert!(rt;
-            results.eq(carried.iter().map(|byte| digest(*byte))),
-            "the joins of {n}"
-        );
-        assert!(rt;
-            joins.list().iter().all(|join| join.left.is_some()),
-            "the joins of {n}"
-        );
-        assert_eq!(rt;
-            roots.root(*row),
-            Some(Some(digest(*root))),
-            "the root after {n}"
-        );
+        roots.add_into(digest(*byte), &mut joins, steps);
+        check_joins(rt, joins.list(), carried);
+        assert!(rt; roots.root(*row) == Some(Some(digest(*root))));
     }
-    assert_eq!(rt; roots.root(3), Some(Some(digest(255))));
-    assert_eq!(rt; roots.root(1), None);
+    assert!(rt; roots.root(3) == Some(Some(digest(255))));
+    assert!(rt; roots.root(1) == None);
     assert!(rt; roots.copy().root(3) == roots.root(3));
 }
 
-#[test]
-fn adds_nine(rt: HostRuntime) {
-    check_nine::<Brand>(&rt, Blank::new(1));
-}
-
-fn check_edges<L: Ledger>(rt: &impl Abort, blank: Blank)
-    requires name { blank.name ≡ L.name }
-    requires parts { blank.parts ≡ L.parts }
-    requires some { 0 < blank.parts }
-{
-    let mut steps = Steps::<L>::new(blank);
-
-    // An empty root is joined and listed, and the digest is carried on as it is.
+// An empty root is joined and listed, and the digest is carried on as it is.
+fn joins_an_empty_root<L: Ledger>(rt: &impl Abort, steps: &mut Steps<L>) {
     let mut roots = Roots::<XorFold>::of(5);
     roots.put_root(2, Some(digest(9)));
     roots.put_root(0, None);
-    let joins = roots.add(digest(7), &mut steps);
+    let joins = roots.add(digest(7), steps);
     let join = Join {
         row: 0,
         left: None,
         result: digest(7),
     };
-    assert_eq!(rt; joins.list(), [join].as_slice());
-    assert_eq!(rt; roots.leaves(), 6);
-    assert_eq!(rt;
-        [roots.root(0), roots.root(1), roots.root(2)],
-        [None, Some(Some(digest(7))), Some(Some(digest(9)))]
-    );
+    assert!(rt; joins.list() == [join].as_slice());
+    assert!(rt; roots.leaves() == 6);
+    assert!(rt; roots.root(0) == None);
+    assert!(rt; roots.root(1) == Some(Some(digest(7))));
+    assert!(rt; roots.root(2) == Some(Some(digest(9))));
+}
 
-    // The last entry for which there is room.
+// The last entry for which there is room.
+fn adds_the_last<L: Ledger>(rt: &impl Abort, steps: &mut Steps<L>) {
     let mut roots = Roots::<XorFold>::of((1 << 40) - 2);
-    let joins = roots.add(digest(7), &mut steps);
+    let joins = roots.add(digest(7), steps);
     assert!(rt; joins.list().is_empty());
-    assert_eq!(rt; roots.leaves(), (1 << 40) - 1);
-    assert_eq!(rt;
-        [roots.root(0), roots.root(39), roots.root(40)],
-        [Some(Some(digest(7))), Some(None), None]
-    );
+    assert!(rt; roots.leaves() == (1 << 40) - 1);
+    assert!(rt; roots.root(0) == Some(Some(digest(7))));
+    assert!(rt; roots.root(39) == Some(None));
+    assert!(rt; roots.root(40) == None);
+}
 
-    // The left half comes first.
+// The left half comes first.
+fn puts_left_first<L: Ledger>(rt: &impl Abort, steps: &mut Steps<L>) {
     let mut roots = Roots::<Sha512t256>::new();
     for byte in 1..5 {
         assert!(rt; roots.leaves() < 5);
-        let _ = roots.add(digest(byte), &mut steps);
+        let _ = roots.add(digest(byte), steps);
     }
-    let low = pair::<Sha512t256, L>(digest(1), digest(2), &mut steps);
-    let high = pair::<Sha512t256, L>(digest(3), digest(4), &mut steps);
-    let top = pair::<Sha512t256, L>(low, high, &mut steps);
+    let low = pair::<Sha512t256, L>(digest(1), digest(2), steps);
+    let high = pair::<Sha512t256, L>(digest(3), digest(4), steps);
+    let top = pair::<Sha512t256, L>(low, high, steps);
     let want = b"70cecb4f248865cb80bb3d23866d6bf1eefa97e8c82b44940526c1e2d5b4320f";
-    assert_eq!(rt; hex_plain(&top).as_slice(), want.as_slice());
-    assert_eq!(rt; roots.root(2), Some(Some(top)));
-}
-
-#[test]
-fn meets_edges(rt: HostRuntime) {
-    check_edges::<Brand>(&rt, Blank::new(1));
+    assert!(rt; hex_plain(&top) == *want);
+    assert!(rt; roots.root(2) == Some(Some(top)));
 }
 
 /// The leaves of a test vector of rustreexo and utreexod: the SHA-256 of the one byte 00, of 01, and so on to 07.
@@ -131,24 +109,32 @@ const FIRST_TWO: &[u8; 32] =
 const ALL_EIGHT: &[u8; 32] =
     b"\xb1\x51\xa9\x56\x13\x9b\xb8\x21\xd4\xef\xfa\x34\xea\x95\xc1\x75\x60\xe0\x13\x5d\x1e\x46\x61\xfc\x23\xce\xdc\x3a\xf4\x9d\xac\x42";
 
-fn check_published<L: Ledger>(rt: &impl Abort, blank: Blank)
+fn agrees_with_others<L: Ledger>(rt: &impl Abort, steps: &mut Steps<L>) {
+    let mut roots = Roots::<Sha512t256>::new();
+    for (n, leaf) in LEAVES.iter().enumerate() {
+        assert!(rt; roots.leaves() == n as u64);
+        let _ = roots.add(Digest(**leaf), steps);
+        if n == 1 {
+            assert!(rt; roots.root(1) == Some(Some(Digest(*FIRST_TWO))));
+        }
+    }
+    assert!(rt; roots.root(3) == Some(Some(Digest(*ALL_EIGHT))));
+}
+
+fn check_all<L: Ledger>(rt: &impl Abort, blank: Blank)
     requires name { blank.name ≡ L.name }
     requires parts { blank.parts ≡ L.parts }
     requires some { 0 < blank.parts }
 {
     let mut steps = Steps::<L>::new(blank);
-    let mut roots = Roots::<Sha512t256>::new();
-    for (n, leaf) in LEAVES.iter().enumerate() {
-        assert!(rt; roots.leaves() == n as u64);
-        let _ = roots.add(Digest(**leaf), &mut steps);
-        if n == 1 {
-            assert_eq!(rt; roots.root(1), Some(Some(Digest(*FIRST_TWO))));
-        }
-    }
-    assert_eq!(rt; roots.root(3), Some(Some(Digest(*ALL_EIGHT))));
+    adds_nine(rt, &mut steps);
+    joins_an_empty_root(rt, &mut steps);
+    adds_the_last(rt, &mut steps);
+    puts_left_first(rt, &mut steps);
+    agrees_with_others(rt, &mut steps);
 }
 
 #[test]
-fn agrees_with_others(rt: HostRuntime) {
-    check_published::<Brand>(&rt, Blank::new(1));
+fn few_additions(rt: HostRuntime) {
+    check_all::<Brand>(&rt, Blank::new(1));
 }

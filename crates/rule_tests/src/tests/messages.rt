@@ -2,7 +2,7 @@
 ghost use Rattle.cache_model.specs.Lists.{AscendByPlace};
 
 use block_codec::read_block;
-use block_rules::{Chain, ProofRefusal, Refusal, RuleFault, shape_rules};
+use block_rules::{Chain, ProofRefusal, Refusal, RuleFault, Spends, shape_rules};
 use forest_place::Place;
 use genesis_block::GENESIS;
 use leaf_record::RestView;
@@ -24,8 +24,13 @@ const SPENDING: &str =
     5100f90295000000000151000000000100000001af9e13c3f43a27003a6b35e9d6be64bb73d77a5c126824dde288c2595527\
     d9c90000000000000000000100f9029500000000015100000000";
 
-/// A message that names these positions, each for an output of 50 coins that the coinbase of height 1 made, with six hashes.
-fn spell(alloc: Global, positions: &[u64]) -> Result<Vec<u8>, NoMemory> {
+/// A message that names these positions, each for an output of 50 coins that the coinbase of height 1 made.
+fn spell(
+    alloc: Global,
+    lean: bool,
+    positions: &[u64],
+    hashes: &[Digest],
+) -> Result<Vec<u8>, NoMemory> {
     let rest = RestView {
         block: Digest([7; 32]),
         height: 1,
@@ -33,106 +38,129 @@ fn spell(alloc: Global, positions: &[u64]) -> Result<Vec<u8>, NoMemory> {
         amount: 5_000_000_000,
         script: &[0x51],
     };
-    let mut message = Message::new(alloc, false);
+    let mut message = Message::new(alloc, lean);
     for position in positions {
         message.push_spend(*position, &rest)?;
     }
-    for i in 0..6u8 {
-        message.push_hash(Digest([i; 32]))?;
+    for hash in hashes {
+        message.push_hash(*hash)?;
     }
     let mut text = Vec::new(alloc);
     message.write(&mut text)?;
     Ok(text)
 }
 
-/// What is told of a message: how many outputs it shows.
-fn told(answer: Result<Option<MessageView<'_>>, RuleFault>) -> Result<Option<u64>, RuleFault> {
-    match answer {
-        Ok(Some(message)) => Ok(Some(message.spends())),
-        Ok(None) => Ok(None),
-        Err(fault) => Err(fault),
+const SIX: [Digest; 6] = [
+    Digest([0; 32]),
+    Digest([1; 32]),
+    Digest([2; 32]),
+    Digest([3; 32]),
+    Digest([4; 32]),
+    Digest([5; 32]),
+];
+
+/// What comes of a message: how many outputs it shows, if there is one.
+type Told = Result<Option<u64>, Refusal>;
+
+const FORM: Told = Err(Refusal::MessageForm);
+
+const VERSION: Told = Err(Refusal::MessageVersion { version: 9 });
+
+fn wrong(got: u64, want: u64) -> Told {
+    Err(Refusal::Spends { got, want })
+}
+
+fn is_told(answer: &Result<Option<MessageView<'_>>, RuleFault>, told: Told) -> bool {
+    match (answer, told) {
+        (Ok(Some(message)), Ok(Some(spends))) => message.spends() == spends,
+        (Ok(None), Ok(None)) => true,
+        (Err(fault), Err(why)) => *fault == RuleFault::Refused(why),
+        _ => false,
     }
 }
 
+/// What comes of messages of few bytes.
+fn check_short(rt: &impl Abort, alloc: Global, spends: &Spends<'_>, none: Told, empty: Told) {
+    let rows = [
+        (None, none),
+        (Some([].as_slice()), FORM),
+        (Some([9].as_slice()), VERSION),
+        (Some([1, 2, 0, 0].as_slice()), FORM),
+        (Some([1, 1, 0, 0].as_slice()), empty),
+        (Some([1, 0, 0, 0].as_slice()), empty),
+    ];
+    for (message, told) in rows {
+        assert!(rt; is_told(&message_rules(alloc, spends, message), told));
+    }
+}
+
+/// What comes of messages that show one output, two, and one with a byte more.
+fn check_long(
+    rt: &impl Abort,
+    alloc: Global,
+    spends: &Spends<'_>,
+    one: Told,
+    two: Told,
+) -> Result<(), Fail> {
+    let mut text = spell(alloc, false, &[0, 0], &SIX)?;
+    assert!(rt; is_told(&message_rules(alloc, spends, Some(&text)), two));
+    text = spell(alloc, false, &[0], &SIX)?;
+    assert!(rt; text.len() == 250);
+    assert!(rt; is_told(&message_rules(alloc, spends, Some(&text)), one));
+    text.push(0)?;
+    assert!(rt; is_told(&message_rules(alloc, spends, Some(&text)), FORM));
+    Ok(())
+}
+
+/// The first block spends nothing.
 #[test]
-fn messages_beside_blocks(rt: HostRuntime) -> Result<(), Fail> {
-    let alloc = rt.alloc();
+fn messages_beside_nothing(rt: HostRuntime) -> Result<(), Fail> {
     let start = Chain {
         blocks: 0,
         tip: Digest([0; 32]),
         leaves: 0,
     };
-    // The first block spends nothing.
-    let first = read_block(alloc, &GENESIS)?;
-    let nothing = shape_rules(alloc, &first, &start, Net::Main, Limits::standard())?;
-    let mut second = [0; 276];
-    hex::decode_to_slice(SPENDING, &mut second)?;
+    let block = read_block(rt.alloc(), &GENESIS)?;
+    let spends = shape_rules(rt.alloc(), &block, &start, Net::Main, Limits::standard())?;
+    check_short(&rt, rt.alloc(), &spends, Ok(None), Ok(Some(0)));
+    check_long(&rt, rt.alloc(), &spends, wrong(1, 0), wrong(2, 0))
+}
+
+#[test]
+fn messages_beside_one(rt: HostRuntime) -> Result<(), Fail> {
     let late = Chain {
         blocks: 101,
         tip: Digest([5; 32]),
         leaves: 100,
     };
-    let second = read_block(alloc, &second)?;
-    let one = shape_rules(alloc, &second, &late, Net::Main, Limits::standard())?;
-    let shown = spell(alloc, &[0])?;
-    assert_eq!(rt; shown.len(), 250);
-    let twice = spell(alloc, &[0, 0])?;
-    let mut longer = shown.clone()?;
-    longer.push(0)?;
-    let form = Err(Refusal::MessageForm);
-    let version = Err(Refusal::MessageVersion { version: 9 });
-    let wrong = |got, want| Err(Refusal::Spends { got, want });
-    let rows = [
-        (None, Ok(None), Err(Refusal::NoProof)),
-        (Some([].as_slice()), form, form),
-        (Some([9].as_slice()), version, version),
-        (Some([1, 2, 0, 0].as_slice()), form, form),
-        (Some([1, 1, 0, 0].as_slice()), Ok(Some(0)), wrong(0, 1)),
-        (Some([1, 0, 0, 0].as_slice()), Ok(Some(0)), wrong(0, 1)),
-        (Some(shown.as_slice()), wrong(1, 0), Ok(Some(1))),
-        (Some(twice.as_slice()), wrong(2, 0), wrong(2, 1)),
-        (Some(longer.as_slice()), form, form),
-    ];
-    for (message, beside_nothing, beside_one) in rows {
-        let answer = told(message_rules(alloc, &nothing, message));
-        assert!(rt;
-            answer == beside_nothing.map_err(RuleFault::Refused),
-            "{message:?}"
-        );
-        let answer = told(message_rules(alloc, &one, message));
-        assert!(rt;
-            answer == beside_one.map_err(RuleFault::Refused),
-            "{message:?}"
-        );
-    }
-    Ok(())
+    let mut text = [0; 276];
+    hex::decode_to_slice(SPENDING, &mut text)?;
+    let block = read_block(rt.alloc(), &text)?;
+    let spends = shape_rules(rt.alloc(), &block, &late, Net::Main, Limits::standard())?;
+    check_short(&rt, rt.alloc(), &spends, Err(Refusal::NoProof), wrong(0, 1));
+    check_long(&rt, rt.alloc(), &spends, Ok(Some(1)), wrong(2, 1))
 }
+
+/// Entries, positions, and what is wrong with them.
+const NAMED: [(u64, &[u64], Option<ProofRefusal>); 8] = [
+    (8, &[12, 0], Some(ProofRefusal::Beneath(1, 0))),
+    (8, &[3, 3], Some(ProofRefusal::Repeated(1, 0))),
+    (8, &[15], Some(ProofRefusal::Outside(0))),
+    (5, &[10], Some(ProofRefusal::Outside(0))),
+    (8, &[1, 0, 15, 12, 0], Some(ProofRefusal::Outside(2))),
+    (100, &[100], Some(ProofRefusal::Outside(0))),
+    (100, &[0, 99], None),
+    (0, &[], None),
+];
 
 #[test]
 fn targets_named(rt: HostRuntime) -> Result<(), Fail> {
-    let alloc = rt.alloc();
-    for (n, positions, fault) in [
-        (8, [12, 0].as_slice(), Some(ProofRefusal::Beneath(1, 0))),
-        (8, [3, 3].as_slice(), Some(ProofRefusal::Repeated(1, 0))),
-        (8, [15].as_slice(), Some(ProofRefusal::Outside(0))),
-        (5, [10].as_slice(), Some(ProofRefusal::Outside(0))),
-        (
-            8,
-            [1, 0, 15, 12, 0].as_slice(),
-            Some(ProofRefusal::Outside(2)),
-        ),
-        (100, [100].as_slice(), Some(ProofRefusal::Outside(0))),
-        (100, [0, 99].as_slice(), None),
-        (0, [].as_slice(), None),
-    ] {
-        let text = spell(alloc, positions)?;
-        let message = read_message(alloc, &text)?;
-        assert!(rt; message.spends() < 1 << 32);
+    for (n, positions, fault) in &NAMED {
+        let text = spell(rt.alloc(), false, positions, &SIX)?;
+        let message = read_message(rt.alloc(), &text)?;
+        assert!(rt; *n < 1 << 40 && message.spends() < 1 << 32);
         let want = fault.map(|fault| RuleFault::Refused(Refusal::Proof(fault)));
-        assert!(rt;
-            targets_of(alloc, n, &message).err() == want,
-            "{positions:?} of {n}"
-        );
+        assert!(rt; targets_of(rt.alloc(), *n, &message).err() == want);
     }
     Ok(())
 }
@@ -141,13 +169,13 @@ fn targets_named(rt: HostRuntime) -> Result<(), Fail> {
 #[test]
 fn first_of_a_hundred(rt: HostRuntime) -> Result<(), Fail> {
     let alloc = rt.alloc();
-    let text = spell(alloc, &[0])?;
+    let text = spell(alloc, false, &[0], &SIX)?;
     let message = read_message(alloc, &text)?;
     assert!(rt; message.spends() < 1 << 32);
     let targets = targets_of(alloc, 100, &message)?;
-    assert_eq!(rt; targets.len(), 1);
+    assert!(rt; targets.len() == 1);
     let needed = targets.needed();
-    assert_eq!(rt; needed.len(), 6);
+    assert!(rt; needed.len() == 6);
     // Beside the oldest, and beside each place above it: positions 1, 129, 193, 225, 241 and 249.
     for (row, place) in needed.iter().enumerate() {
         assert!(rt;
@@ -171,24 +199,7 @@ fn hashes_with(
 ) -> Result<Vec<Digest>, RuleFault>
     requires { AscendByPlace known.now }
 {
-    let rest = RestView {
-        block: Digest([7; 32]),
-        height: 1,
-        coinbase: false,
-        amount: 5,
-        script: &[],
-    };
-    let mut made = Message::new(alloc, lean);
-    let mut text = Vec::new(alloc);
-    let Ok(()) = made.push_spend(1, &rest) else {
-        return Err(RuleFault::NoMemory);
-    };
-    for hash in given {
-        let Ok(()) = made.push_hash(*hash) else {
-            return Err(RuleFault::NoMemory);
-        };
-    }
-    let Ok(()) = made.write(&mut text) else {
+    let Ok(text) = spell(alloc, lean, &[1], given) else {
         return Err(RuleFault::NoMemory);
     };
     let Ok(message) = read_message(alloc, &text) else {
@@ -199,26 +210,33 @@ fn hashes_with(
     full_hashes(alloc, &message, &targets, known)
 }
 
+const HERE: Digest = Digest([1; 32]);
+
+const THERE: Digest = Digest([13; 32]);
+
+const FAR: Digest = Digest([12; 32]);
+
+const KNOWN: (Place, Digest) = (Place { row: 1, off: 1 }, FAR);
+
 #[test]
 fn hashes_filled_in(rt: HostRuntime) -> Result<(), Fail> {
-    let alloc = rt.alloc();
-    let here = Digest([1; 32]);
-    let there = Digest([13; 32]);
-    let far = Digest([12; 32]);
-    let known = [(Place { row: 1, off: 1 }, far)];
-    let count = |want, got| RuleFault::Refused(Refusal::Proof(ProofRefusal::HashCount {
-        want,
-        got,
-    }));
-    let lean = hashes_with(&rt, alloc, true, &known, &[here])?;
-    assert!(rt; lean.as_slice() == [here, far].as_slice());
-    let lean = hashes_with(&rt, alloc, true, &[], &[here, there])?;
-    assert!(rt; lean.as_slice() == [here, there].as_slice());
-    let full = hashes_with(&rt, alloc, false, &known, &[here, there])?;
-    assert!(rt; full.as_slice() == [here, there].as_slice());
-    let fault = hashes_with(&rt, alloc, true, &known, &[here, there]).err();
-    assert!(rt; fault == Some(count(1, 2)));
-    let fault = hashes_with(&rt, alloc, false, &known, &[here]).err();
-    assert!(rt; fault == Some(count(2, 1)));
+    let lean = hashes_with(&rt, rt.alloc(), true, &[KNOWN], &[HERE])?;
+    assert!(rt; lean.as_slice() == [HERE, FAR].as_slice());
+    let lean = hashes_with(&rt, rt.alloc(), true, &[], &[HERE, THERE])?;
+    assert!(rt; lean.as_slice() == [HERE, THERE].as_slice());
+    let full = hashes_with(&rt, rt.alloc(), false, &[KNOWN], &[HERE, THERE])?;
+    assert!(rt; full.as_slice() == [HERE, THERE].as_slice());
     Ok(())
+}
+
+fn is_count(fault: Option<RuleFault>, want: u64, got: u64) -> bool {
+    fault == Some(RuleFault::Refused(Refusal::Proof(ProofRefusal::HashCount { want, got })))
+}
+
+#[test]
+fn hashes_miscounted(rt: HostRuntime) {
+    let fault = hashes_with(&rt, rt.alloc(), true, &[KNOWN], &[HERE, THERE]).err();
+    assert!(rt; is_count(fault, 1, 2));
+    let fault = hashes_with(&rt, rt.alloc(), false, &[KNOWN], &[HERE]).err();
+    assert!(rt; is_count(fault, 2, 1));
 }

@@ -9,24 +9,26 @@ use std::alloc::AllocError;
 use std::test::Fail;
 use uo_base::Net;
 
+/// A network, a height, and what is issued there.
+const ISSUED: [(Net, u32, u64); 12] = [
+    (Net::Main, 0, 5_000_000_000),
+    (Net::Main, 209_999, 5_000_000_000),
+    (Net::Main, 210_000, 2_500_000_000),
+    (Net::Main, 6_720_000, 1),
+    (Net::Main, 6_929_999, 1),
+    (Net::Main, 6_930_000, 0),
+    (Net::Main, 13_440_000, 0),
+    (Net::Main, 2_147_483_647, 0),
+    (Net::Regtest, 149, 5_000_000_000),
+    (Net::Regtest, 150, 2_500_000_000),
+    (Net::Regtest, 4_800, 1),
+    (Net::Regtest, 9_600, 0),
+];
+
 #[test]
 fn subsidies(rt: HostRuntime) {
-    let rows = [
-        (Net::Main, 0, 5_000_000_000),
-        (Net::Main, 209_999, 5_000_000_000),
-        (Net::Main, 210_000, 2_500_000_000),
-        (Net::Main, 6_720_000, 1),
-        (Net::Main, 6_929_999, 1),
-        (Net::Main, 6_930_000, 0),
-        (Net::Main, 13_440_000, 0),
-        (Net::Main, 2_147_483_647, 0),
-        (Net::Regtest, 149, 5_000_000_000),
-        (Net::Regtest, 150, 2_500_000_000),
-        (Net::Regtest, 4_800, 1),
-        (Net::Regtest, 9_600, 0),
-    ];
-    for (net, height, issued) in rows {
-        assert_eq!(rt; subsidy(height, net), issued, "at {height}");
+    for (net, height, issued) in ISSUED {
+        assert!(rt; subsidy(height, net) == issued);
     }
     internal_is_latest();
     new_is_unspent();
@@ -36,6 +38,6 @@ fn subsidies(rt: HostRuntime) {
 #[test]
 fn faults(rt: HostRuntime) -> Result<(), Fail> {
     let fault = format!(in rt.alloc(); "{}", RuleFault::from(AllocError))?;
-    assert_eq!(rt; fault.as_str(), "out of memory");
+    assert!(rt; fault.as_str() == "out of memory");
     Ok(())
 }

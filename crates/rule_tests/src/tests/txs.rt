@@ -92,28 +92,28 @@ fn unusual_sizes(rt: HostRuntime) -> Result<(), Fail> {
 fn check_inputs(rt: &impl Abort, tx: &TxView<'_>) {
     let inputs = [(0, 73, 4_294_967_278), (1, 0, 4_294_967_295)];
     for (input, (index, length, sequence)) in tx.inputs().zip(inputs) {
-        assert_eq!(rt; input.index, index);
-        assert_eq!(rt; input.script.len(), length);
-        assert_eq!(rt; input.sequence, sequence);
+        assert!(rt; input.index == index);
+        assert!(rt; input.script.len() == length);
+        assert!(rt; input.sequence == sequence);
     }
 }
 
 fn check_outputs(rt: &impl Abort, tx: &TxView<'_>) {
     for (output, amount) in tx.outputs().zip([112_340_000, 223_450_000]) {
-        assert_eq!(rt; output.amount, amount);
-        assert_eq!(rt; output.script.len(), 25);
+        assert!(rt; output.amount == amount);
+        assert!(rt; output.script.len() == 25);
     }
 }
 
 fn check_stacks(rt: &impl Abort, tx: &TxView<'_>) {
     for (stack, empty) in tx.stacks().zip([true, false]) {
-        assert_eq!(rt; stack.is_empty(), empty);
+        assert!(rt; stack.is_empty() == empty);
     }
 }
 
 fn check_items(rt: &impl Abort, items: Items<'_>) {
     for (item, length) in items.zip([71, 33]) {
-        assert_eq!(rt; item.len(), length);
+        assert!(rt; item.len() == length);
     }
 }
 
@@ -123,11 +123,11 @@ fn parts(rt: HostRuntime) -> Result<(), Fail> {
     let text = hex::decode(rt.alloc(), PUBLISHED[0].text)?;
     assert!(rt; text.len() < 1_000_000);
     let tx = read_tx(&mut Cursor::new(&text)).ok_or("it is a transaction")?;
-    assert_eq!(rt; tx.version(), 1);
-    assert_eq!(rt; tx.lock_time(), 17);
+    assert!(rt; tx.version() == 1);
+    assert!(rt; tx.lock_time() == 17);
     assert!(rt; tx.is_segwit());
-    assert_eq!(rt; tx.input_count(), 2);
-    assert_eq!(rt; tx.output_count(), 2);
+    assert!(rt; tx.input_count() == 2);
+    assert!(rt; tx.output_count() == 2);
     check_inputs(&rt, &tx);
     check_outputs(&rt, &tx);
     check_stacks(&rt, &tx);

@@ -64,16 +64,10 @@ fn add_all<L: Ledger>(rt: &impl Abort, forest: &mut Forest<Still>, steps: &mut S
 fn remove_all<L: Ledger>(rt: &impl Abort, forest: &mut Forest<Still>, steps: &mut Steps<L>) {
     for i in 0..ENTRIES {
         let number = scattered(i);
-        assert!(rt; forest.live(number), "entry {number} is spent");
+        assert!(rt; forest.live(number));
         let place = forest.place(number);
-        assert!(rt;
-            forest.number_at(place) == Some(number),
-            "entry {number} stands elsewhere"
-        );
-        assert!(rt;
-            forest.digest_at(place) == Some(leaf(number)),
-            "entry {number} is another"
-        );
+        assert!(rt; forest.number_at(place) == Some(number));
+        assert!(rt; forest.digest_at(place) == Some(leaf(number)));
         assert!(rt; (place == ROOT) == (i == ENTRIES - 1));
         forest.remove(number, steps);
     }
@@ -82,10 +76,7 @@ fn remove_all<L: Ledger>(rt: &impl Abort, forest: &mut Forest<Still>, steps: &mu
 fn restore_all<L: Ledger>(rt: &impl Abort, forest: &mut Forest<Still>, steps: &mut Steps<L>) {
     for i in 0..ENTRIES {
         let number = scattered(i);
-        assert!(rt;
-            number < forest.leaves() && !forest.live(number),
-            "entry {number} is live"
-        );
+        assert!(rt; number < forest.leaves() && !forest.live(number));
         forest.restore(number, leaf(number), steps);
     }
 }

@@ -2,7 +2,7 @@
 ghost use Rattle.std.specs.Prelude.{◌≡◌, ℕ, ◌<◌, ◌≤◌, length, true, IsTrue};
 ghost use Rattle.bridge_forest.specs.State.{is_live};
 
-use super::plain::{Node, nodes_of};
+use crate::tests::plain::{Node, digest_at, nodes_of, number_at};
 use bridge_forest::{Branch, Forest};
 use forest_place::Place;
 use forest_roots::{Roots, pair};
@@ -48,7 +48,7 @@ fn add<D: Digester, L: Ledger>(
     assert!(rt; 0 < both.forest.spare() && both.forest.leaves() < 20);
     let number = both.forest.leaves();
     both.entries.push(Some(leaf(number)))?;
-    assert_eq!(rt; both.forest.add(leaf(number), steps), number);
+    assert!(rt; both.forest.add(leaf(number), steps) == number);
     Ok(())
 }
 
@@ -91,24 +91,13 @@ fn change<D: Digester, L: Ledger>(
     Ok(())
 }
 
-fn node_at(nodes: &[Node], place: Place) -> Option<&Node> {
-    nodes.iter().find(|node| node.place == place)
-}
-
 // Whether the look-ups at the places of a row, and at the one behind them, answer what the plain forest has.
 fn check_row<D: Digester>(rt: &impl Abort, forest: &Forest<D>, nodes: &[Node], row: u8) {
     assert!(rt; row < 40);
     for off in 0..=forest.leaves() >> row {
         let place = Place { row, off };
-        let node = node_at(nodes, place);
-        assert!(rt;
-            forest.digest_at(place) == node.map(|node| node.digest),
-            "the digest at {place:?}"
-        );
-        assert!(rt;
-            forest.number_at(place) == node.and_then(|node| node.number),
-            "the number at {place:?}"
-        );
+        assert!(rt; forest.digest_at(place) == digest_at(nodes, place));
+        assert!(rt; forest.number_at(place) == number_at(nodes, place));
     }
 }
 
@@ -136,10 +125,7 @@ fn check_walk<D: Digester>(
         panic!(rt; "no memory")
     };
     for (place, digest) in places.iter().zip(digests.iter()) {
-        assert!(rt;
-            *digest == node_at(nodes, *place).map(|node| node.digest),
-            "the digest at {place:?} in a walk"
-        );
+        assert!(rt; *digest == digest_at(nodes, *place));
     }
 }
 
@@ -156,10 +142,10 @@ fn check_root<D: Digester>(
     let mut root = None;
     if parts % 2 == 1 {
         let off = parts - 1;
-        root = Some(node_at(nodes, Place { row, off }).map(|node| node.digest));
+        root = Some(digest_at(nodes, Place { row, off }));
     }
-    assert!(rt; forest.root(row) == root, "the root of row {row}");
-    assert!(rt; roots.root(row) == root, "row {row} of the roots");
+    assert!(rt; forest.root(row) == root);
+    assert!(rt; roots.root(row) == root);
 }
 
 // Whether the entries are live or spent as they should be, and stand where the plain forest has them.
@@ -173,11 +159,7 @@ fn check_entries<D: Digester>(
         let entry = entries.get(number as usize).copied().flatten();
         assert!(rt; forest.live(number) == entry.is_some());
         if forest.live(number) {
-            let node = node_at(nodes, forest.place(number));
-            assert!(rt;
-                node.and_then(|node| node.number) == Some(number),
-                "the place of entry {number}"
-            );
+            assert!(rt; number_at(nodes, forest.place(number)) == Some(number));
         }
     }
 }
@@ -211,10 +193,7 @@ fn check_branches<D: Digester, L: Ledger>(
             let branch = both.forest.branch(number);
             let row = branch.place.row.wrapping_add(branch.siblings.len() as u8);
             let root = climb::<D, L>(leaf, &branch, steps);
-            assert!(rt;
-                roots.root(row) == Some(Some(root)),
-                "the branch of entry {number}"
-            );
+            assert!(rt; roots.root(row) == Some(Some(root)));
         }
     }
 }
@@ -226,7 +205,7 @@ fn check<D: Digester, L: Ledger>(
     steps: &mut Steps<L>,
 ) -> Result<(), AllocError> {
     let nodes = nodes_of::<D, L>(rt, alloc, &both.entries, steps)?;
-    assert_eq!(rt; both.forest.leaves(), both.entries.len() as u64);
+    assert!(rt; both.forest.leaves() == both.entries.len() as u64);
     let places = all_places(alloc, both.forest.leaves())?;
     check_walk(rt, alloc, &both.forest, &nodes, &places, &places);
     check_walk(rt, alloc, &both.forest, &nodes, &[], &places);

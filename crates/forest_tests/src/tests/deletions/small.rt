@@ -2,10 +2,10 @@
 ghost use Rattle.std.specs.Prelude.{◌≡◌, ◌<◌};
 ghost use Rattle.forest_place.specs.Forest.{InForest};
 
-use super::plain::{content, digest_at, part_at, value};
-use super::{check, place};
+use super::check;
+use crate::tests::plain::{Node, digest_at, nodes_of};
 use forest_place::{Place, position};
-use forest_roots::Roots;
+use forest_roots::{Roots, pair};
 use proof_shape::Targets;
 use proof_verify::ProofFault;
 use std::alloc::{AllocError, Global};
@@ -56,21 +56,23 @@ fn case_of(alloc: Global, n: usize, number: u32) -> Result<Case, AllocError> {
     })
 }
 
-// The place of an entry.
-fn place_of_entry(rt: &impl Abort, entries: &[Option<Digest>], i: usize) -> Place {
-    let n = entries.len() as u64;
-    for row in 0..4 {
-        for off in 0..n >> row {
-            if part_at(rt, entries, place(row, off)) == Some((0, i as u64)) {
-                return place(row, off);
-            }
+// Where an entry stands.
+fn node_of(rt: &impl Abort, nodes: &[Node], number: u64) -> Node {
+    for node in nodes {
+        if node.number == Some(number) {
+            return *node;
         }
     }
-    panic!(rt; "entry {i} stands nowhere")
+    panic!(rt; "an entry stands nowhere")
 }
 
 // The targets of a proof of the spent entries, with no hashes yet.
-fn targets_of(rt: &impl Abort, alloc: Global, case: &Case) -> Result<Shown, AllocError> {
+fn targets_of(
+    rt: &impl Abort,
+    alloc: Global,
+    case: &Case,
+    nodes: &[Node],
+) -> Result<Shown, AllocError> {
     let n = case.before.len() as u64;
     let mut shown = Shown {
         positions: Vec::new(alloc),
@@ -79,35 +81,33 @@ fn targets_of(rt: &impl Abort, alloc: Global, case: &Case) -> Result<Shown, Allo
         places: Vec::new(alloc),
     };
     for i in case.spent.iter() {
-        let at = place_of_entry(rt, &case.before, *i);
+        let node = node_of(rt, nodes, *i as u64);
+        let at = node.place;
         assert!(rt; n < 1 << 40 && at.row < 40 && at.off < n >> at.row);
         shown.positions.push(position(at, n))?;
         shown.places.push(at)?;
-        let Some(Some(leaf)) = case.before.get(*i) else {
-            panic!(rt; "a spent entry is not live")
-        };
-        shown.leaves.push(*leaf)?;
+        shown.leaves.push(node.digest)?;
     }
     Ok(shown)
 }
 
 // The proof of the spent entries.
-fn shown_of<D: Digester, L: Ledger>(
+fn shown_of(
     rt: &impl Abort,
     alloc: Global,
     case: &Case,
-    steps: &mut Steps<L>,
+    nodes: &[Node],
 ) -> Result<Shown, AllocError> {
     let n = case.before.len() as u64;
-    let mut shown = targets_of(rt, alloc, case)?;
+    let mut shown = targets_of(rt, alloc, case, nodes)?;
     let positions = shown.positions.as_slice();
     assert!(rt; n < 1 << 40 && positions.len() < 1 << 32);
     let Ok(targets) = Targets::new(alloc, n, positions) else {
-        panic!(rt; "no targets: {:?}", shown.positions)
+        panic!(rt; "no targets")
     };
     for at in targets.needed() {
-        let Some(hash) = digest_at::<D, L>(rt, &case.before, *at, steps) else {
-            panic!(rt; "nothing stands at {at:?}")
+        let Some(hash) = digest_at(nodes, *at) else {
+            panic!(rt; "nothing stands at a place")
         };
         shown.hashes.push(hash)?;
         shown.places.push(*at)?;
@@ -115,22 +115,15 @@ fn shown_of<D: Digester, L: Ledger>(
     Ok(shown)
 }
 
-// The roots of entries.
-fn roots_of<D: Digester, L: Ledger>(
-    rt: &impl Abort,
-    entries: &[Option<Digest>],
-    steps: &mut Steps<L>,
-) -> Roots<D> {
-    let n = entries.len() as u64;
+// The roots of so many entries with these nodes.
+fn roots_of<D: Digester>(rt: &impl Abort, n: u64, nodes: &[Node]) -> Roots<D> {
     assert!(rt; n < 16);
     let mut roots = Roots::<D>::of(n);
     for row in 0..4 {
         if roots.root(row).is_some() {
             assert!(rt; 0 < n >> row);
-            roots.put_root(
-                row,
-                content::<D, L>(rt, entries, row, (n >> row) - 1, steps),
-            );
+            let off = (n >> row) - 1;
+            roots.put_root(row, digest_at(nodes, Place { row, off }));
         }
     }
     roots
@@ -146,18 +139,10 @@ fn stands_above(p: Place, q: Place) -> bool {
 }
 
 // Whether the pairs are in order, each with the digest that stands at its place after the deletion.
-fn check_digests<D: Digester, L: Ledger>(
-    rt: &impl Abort,
-    case: &Case,
-    pairs: &[(Place, Digest)],
-    steps: &mut Steps<L>,
-) {
+fn check_digests(rt: &impl Abort, left: &[Node], pairs: &[(Place, Digest)]) {
     assert!(rt; pairs.is_sorted_by(|p, q| p.0 < q.0));
     for (at, digest) in pairs {
-        assert!(rt;
-            digest_at::<D, L>(rt, &case.after, *at, steps) == Some(*digest),
-            "{at:?}"
-        );
+        assert!(rt; digest_at(left, *at) == Some(*digest));
     }
 }
 
@@ -182,7 +167,7 @@ fn pair_of(
     }
     let goes = targets.moved(above)?;
     let Some(k) = pairs.iter().position(|pair| pair.0 == goes) else {
-        panic!(rt; "no pair of {goes:?}")
+        panic!(rt; "no pair of a place")
     };
     Some(k)
 }
@@ -204,7 +189,25 @@ fn check_places(rt: &impl Abort, alloc: Global, n: u64, shown: &Shown, pairs: &[
         }
     }
     let all = found.iter().filter(|mark| **mark == 1).count();
-    assert_eq!(rt; pairs.len(), all);
+    assert!(rt; pairs.len() == all);
+}
+
+// What a proof says of a place: its target's leaf, its hash, or the pair of what it says of the children.
+fn value<D: Digester, L: Ledger>(
+    rt: &impl Abort,
+    shown: &[(Place, Digest)],
+    row: u8,
+    off: u64,
+    steps: &mut Steps<L>,
+) -> Digest {
+    let place = Place { row, off };
+    if let Some((_, digest)) = shown.iter().find(|(at, _)| *at == place) {
+        return *digest;
+    }
+    assert!(rt; row > 0 && off < 1 << 40);
+    let left = value::<D, L>(rt, shown, row - 1, 2 * off, steps);
+    let right = value::<D, L>(rt, shown, row - 1, 2 * off + 1, steps);
+    pair::<D, L>(left, right, steps)
 }
 
 // The fault of a proof by recursion from the greatest slot down, where the roots are those of the entries.
@@ -274,11 +277,37 @@ fn check_changed<D: Digester, L: Ledger>(
         pairs.push((*at, *digest))?;
     }
     let want = plain_fault(rt, case, old, &pairs, steps);
-    assert!(rt;
-        fault == want && want.is_some(),
-        "digest {k}: {fault:?} for {want:?}"
-    );
+    assert!(rt; fault == want && want.is_some());
     assert!(rt; same_roots(&roots, old));
+    Ok(())
+}
+
+// A right proof is accepted: its pairs are where they should be, and the roots are those of what is left.
+fn check_right<D: Digester, L: Ledger>(
+    rt: &impl Abort,
+    alloc: Global,
+    case: &Case,
+    shown: &Shown,
+    old: &Roots<D>,
+    steps: &mut Steps<L>,
+) -> Result<(), AllocError> {
+    let n = case.before.len() as u64;
+    let left = nodes_of::<D, L>(rt, alloc, &case.after, steps)?;
+    let mut roots = old.copy();
+    let Ok(pairs) = check(
+        rt,
+        alloc,
+        &mut roots,
+        &shown.positions,
+        &shown.leaves,
+        &shown.hashes,
+        steps,
+    ) else {
+        panic!(rt; "a right proof is refused")
+    };
+    check_digests(rt, &left, &pairs);
+    check_places(rt, alloc, n, shown, &pairs);
+    assert!(rt; same_roots(&roots, &roots_of::<D>(rt, n, &left)));
     Ok(())
 }
 
@@ -290,30 +319,12 @@ fn check_case<D: Digester, L: Ledger>(
     steps: &mut Steps<L>,
 ) -> Result<(), AllocError> {
     let case = case_of(alloc, n, number)?;
-    let shown = shown_of::<D, L>(rt, alloc, &case, steps)?;
-    let old = roots_of::<D, L>(rt, &case.before, steps);
-    let mut roots = old.copy();
-    match check(
-        rt,
-        alloc,
-        &mut roots,
-        &shown.positions,
-        &shown.leaves,
-        &shown.hashes,
-        steps,
-    ) {
-        Ok(pairs) => {
-            check_digests::<D, L>(rt, &case, &pairs, steps);
-            check_places(rt, alloc, case.before.len() as u64, &shown, &pairs);
-        }
-        Err(fault) => panic!(rt; "case {number} of {n}: {fault:?}"),
-    }
-    assert!(rt;
-        same_roots(&roots, &roots_of::<D, L>(rt, &case.after, steps)),
-        "case {number} of {n}"
-    );
+    let nodes = nodes_of::<D, L>(rt, alloc, &case.before, steps)?;
+    let shown = shown_of(rt, alloc, &case, &nodes)?;
+    let old = roots_of::<D>(rt, case.before.len() as u64, &nodes);
+    check_right(rt, alloc, &case, &shown, &old, steps)?;
     for k in 0..shown.places.len() {
-        check_changed::<D, L>(rt, alloc, &case, &shown, &old, k, steps)?;
+        check_changed(rt, alloc, &case, &shown, &old, k, steps)?;
     }
     Ok(())
 }
@@ -327,10 +338,7 @@ fn check_all<D: Digester, L: Ledger>(rt: &impl Abort, alloc: Global, blank: Blan
     let mut cases = 1;
     for n in 0..10 {
         for number in 0..cases {
-            assert!(rt;
-                check_case::<D, L>(rt, alloc, n, number, &mut steps).is_ok(),
-                "no memory"
-            );
+            assert!(rt; check_case::<D, L>(rt, alloc, n, number, &mut steps).is_ok());
         }
         assert!(rt; cases < 1 << 20);
         cases *= 3;

@@ -27,7 +27,7 @@ fn accept<L: Ledger>(
 {
     assert!(rt; positions.len() < 1 << 32);
     let Ok(targets) = Targets::new(alloc, roots.leaves(), positions) else {
-        panic!(rt; "no targets: {positions:?}")
+        panic!(rt; "no targets")
     };
     let mut scratch = Scratch::new(alloc);
     let Ok(()) = scratch.reserve(&targets) else {

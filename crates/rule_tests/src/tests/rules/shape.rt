@@ -3,10 +3,11 @@ use super::build::{Built, Flaw, NULL, Name, Out, Sketch, build, text_of};
 use crate::chain_of;
 use block_codec::{BlockView, block_hash, read_block};
 use block_rules::{Refusal, RuleFault, Spends, shape_rules};
+use block_samples::{legacy_tx, witnessed};
 use std::alloc::Global;
 use std::process::Abort;
 use std::test::Fail;
-use tx_codec::{Tx, TxIn, TxOut};
+use tx_codec::{InView, OutView};
 use uo_base::{Limits, Net};
 use uo_digest::Digest;
 
@@ -334,10 +335,10 @@ fn check_external(
     block: &BlockView<'_>,
     expected: &[(u32, u32)],
 ) {
-    assert_eq!(rt; spends.external().len(), expected.len());
+    assert!(rt; spends.external().len() == expected.len());
     for (outside, (tx, input)) in spends.external().iter().zip(expected) {
-        assert_eq!(rt; outside.tx, *tx);
-        assert_eq!(rt; outside.input, *input);
+        assert!(rt; outside.tx == *tx);
+        assert!(rt; outside.input == *input);
         assert!(rt; outside.tx < block.tx_count());
         let named = block.tx(outside.tx).inputs().nth(*input as usize);
         assert!(rt;
@@ -354,48 +355,50 @@ fn check_new(
     expected: &[(usize, u32)],
     height: u32,
 ) {
-    assert_eq!(rt; spends.new_count(), expected.len() as u64);
+    assert!(rt; spends.new_count() == expected.len() as u64);
     let mut i = 0u64;
     for (tx, index) in expected {
         assert!(rt; i < spends.new_count());
         let record = spends.new_output(i);
         assert!(rt; record.block == block_hash(block));
         assert!(rt; built.ids.get(*tx) == Some(&record.txid));
-        assert_eq!(rt; record.index, *index);
-        assert_eq!(rt; record.height, height);
-        assert_eq!(rt; record.coinbase, *tx == 0);
+        assert!(rt; record.index == *index);
+        assert!(rt; record.height == height);
+        assert!(rt; record.coinbase == (*tx == 0));
         i = i.wrapping_add(1);
     }
 }
 
-// A block that is a coinbase with a witness, whose output has so long a script.
-fn heavy(alloc: Global, script: usize, witness: usize) -> Result<Vec<u8>, Fail> {
-    let input = TxIn {
+// A block that is a coinbase with a witness, whose output has a long script.
+fn heavy(alloc: Global, witness: &[u8]) -> Result<Vec<u8>, Fail> {
+    let script = vec![in alloc; 0x51; 999_852]?;
+    let input = InView {
         txid: Digest([0; 32]),
         index: 4_294_967_295,
-        script: vec![in alloc; 1, 2]?,
+        script: &[1, 2],
         sequence: 0,
     };
-    let output = TxOut {
+    let output = OutView {
         amount: 0,
-        script: vec![in alloc; 0x51; script]?,
+        script: &script,
     };
-    let tx = Tx {
-        version: 1,
-        inputs: vec![in alloc; input]?,
-        outputs: vec![in alloc; output]?,
-        stacks: vec![in alloc; vec![in alloc; vec![in alloc; 0; witness]?]?]?,
-        lock_time: 0,
-    };
-    text_of(alloc, vec![in alloc; tx]?.as_slice(), Flaw::Nothing)
+    let tx = legacy_tx(alloc, &[input], &[output], 0)?;
+    let tx = witnessed(alloc, tx, &[witness])?;
+    text_of(alloc, &[tx], Flaw::Nothing)
 }
 
 // A coinbase of 64 bytes beside its output's script, 80 of the header, one and five of counts, weigh four times their
 // number; marker, flag and stack weigh their number.
+const WEIGHTS: [(&[u8], Option<u64>); 3] = [
+    (&[], None),
+    (&[0], Some(4_000_001)),
+    (&[0, 0, 0, 0], Some(4_000_004)),
+];
+
 #[test]
 fn weights(rt: HostRuntime) -> Result<(), Fail> {
-    for (witness, refused) in [(0, None), (1, Some(4_000_001)), (4, Some(4_000_004))] {
-        let text = heavy(rt.alloc(), 999_852, witness)?;
+    for (witness, refused) in WEIGHTS {
+        let text = heavy(rt.alloc(), witness)?;
         assert!(rt; text.len() < 4_000_000);
         let block = read_block(rt.alloc(), &text)?;
         let chain = chain_of(1, 0);

@@ -14,6 +14,21 @@ pub struct Node {
     pub digest: Digest,
 }
 
+/// The node at a place.
+pub fn node_at(nodes: &[Node], place: Place) -> Option<&Node> {
+    nodes.iter().find(|node| node.place == place)
+}
+
+/// The digest that stands at a place.
+pub fn digest_at(nodes: &[Node], place: Place) -> Option<Digest> {
+    Some(node_at(nodes, place)?.digest)
+}
+
+/// The number of the entry that stands at a place alone.
+pub fn number_at(nodes: &[Node], place: Place) -> Option<u64> {
+    node_at(nodes, place)?.number
+}
+
 // The digest of the 2^row entries from `first` on.
 fn range_digest<D: Digester, L: Ledger>(
     rt: &impl Abort,

@@ -1,4 +1,4 @@
-use Rattle.forest_tests.proofs.tests.arena.plain.+walk.Given as goal
+use Rattle.forest_tests.proofs.tests.plain.+walk.Given as goal
 
 abbrev pub decreases-walk : goal.decreases-walk
 decreases-walk g l = l.row
