@@ -1,4 +1,4 @@
-//! Tests of the compact node and of the bridge, side by side, and of the auditor.
+//! Tests of the bridge, with the compact node beside it, and of the auditor.
 //!
 //! They stand in a crate of their own, so that none of these crates is proved a second time for them.
 #![tactic(auto)]

@@ -6,10 +6,7 @@ mod build;
 mod lean;
 mod many;
 mod pair;
-mod reads;
 mod rollbacks;
-mod stored;
-mod verdicts;
 
 use block_rules::Refusal;
 use pair::{Act, End, FULL, Pair};

@@ -1,14 +1,8 @@
 //! What `audit` prints. Feeds and texts are those of a program in Python that was written from their description.
-ghost use Rattle.std.specs.Prelude.{◌≡◌, ◌<◌};
 
-use super::{Ports, bytes_of, run_watching};
+use super::{PLAIN, bytes_of, check, outcome_of};
 use feed_run::Status;
-use std::alloc::Global;
-use std::marker::Brand;
-use std::process::Abort;
-use std::sync::ledger::{Blank, Ledger};
 use std::test::Fail;
-use uo_base::{Limits, MemSource};
 use uo_digest::XorFold;
 
 /// Three blocks, of which the last two add an output each.
@@ -81,41 +75,18 @@ const ROWS: [Row; 5] = [
     },
 ];
 
-fn check_row<L: Ledger>(rt: &impl Abort, alloc: Global, row: &Row, blank: Blank) -> Result<(), Fail>
-    requires name { blank.name ≡ L.name }
-    requires parts { blank.parts ≡ L.parts }
-    requires some { 0 < blank.parts }
-{
-    let feed = bytes_of(alloc, row.feed)?;
-    let ports = Ports {
-        words: &["audit", "--watch", "w"],
-        limits: Limits {
-            leaves: 10,
-            bytes: 10_000,
-        },
-        feed: &feed,
-        read_piece: 100,
-        failing_reads: &[],
-        write_piece: 100,
-        failing_writes: &[],
-        failing_stores: &[],
-    };
-    let mut watch = MemSource::new(
-        Vec::from_slice(alloc, row.list.as_bytes())?,
-        10,
-        Vec::new(alloc),
-    );
-    let outcome = run_watching::<XorFold, MemSource, L>(alloc, &ports, &mut watch, blank)?;
-    assert_eq!(rt; outcome.status, row.status);
-    assert!(rt; outcome.report.as_slice() == row.report.concat(alloc)?.as_bytes());
-    assert!(rt; outcome.out.is_empty());
-    Ok(())
-}
+const AUDIT: &[&str] = &["audit", "--watch", "w"];
 
 #[test]
 fn feeds(rt: HostRuntime) -> Result<(), Fail> {
+    let alloc = rt.alloc();
     for row in &ROWS {
-        check_row::<Brand>(&rt, rt.alloc(), row, Blank::new(1))?;
+        let feed = bytes_of(alloc, row.feed)?;
+        let report = row.report.concat(alloc)?;
+        let list = row.list.as_bytes();
+        let outcome = outcome_of::<XorFold>(alloc, &PLAIN, AUDIT, &feed, b"", list)?;
+        check(&rt, &outcome, row.status, report.as_bytes());
+        assert!(rt; outcome.out.is_empty());
     }
     Ok(())
 }

@@ -1,15 +1,11 @@
 //! Feeds that are generated. Their bytes and hashes are those of a program in Python that was written from their description.
-ghost use Rattle.std.specs.Prelude.{◌≡◌, ◌<◌};
 
-use super::{Outcome, Ports, run_over};
+use super::{OUT, Outcome, PLAIN, Setup, check, outcome_of};
 use feed_run::Status;
 use sha2::Sha256;
 use std::alloc::Global;
-use std::marker::Brand;
 use std::process::Abort;
-use std::sync::ledger::{Blank, Ledger};
 use std::test::Fail;
-use uo_base::Limits;
 use uo_digest::XorFold;
 
 /// The words, how the run ends, what is printed, and the SHA-256 of what is stored.
@@ -57,89 +53,65 @@ const SUPPLY_LINE: &[u8] = b"supply 240000000000 issued 245000000000\n";
 const LAST_LINE: &[u8] =
     b"end 52 48 8e335d39d887cd211aeefd80e4e917b9c601c565a44682ed25df967531521528 48\n";
 
-// A run without faults, but for the call of this number on the port that stores.
-fn run_on<L: Ledger>(
+// A run that stores in pieces of a hundred bytes, of which this call fails.
+fn run_on(
     alloc: Global,
     words: &[&'static str],
     feed: &[u8],
-    failing_stores: &[u64],
-    blank: Blank,
-) -> Result<Outcome, Fail>
-    requires name { blank.name ≡ L.name }
-    requires parts { blank.parts ≡ L.parts }
-    requires some { 0 < blank.parts }
-{
-    let ports = Ports {
-        words,
-        limits: Limits {
-            leaves: 100,
-            bytes: 1_000_000,
-        },
-        feed,
-        read_piece: 100,
-        failing_reads: &[],
-        write_piece: 100,
-        failing_writes: &[],
-        failing_stores,
+    call: Option<u64>,
+) -> Result<Outcome, Fail> {
+    let setup = Setup {
+        piece: 100,
+        port: OUT,
+        call,
+        ..PLAIN
     };
-    run_over::<XorFold, L>(alloc, &ports, blank)
-}
-
-fn check_row<L: Ledger>(rt: &impl Abort, alloc: Global, row: &Row, blank: Blank) -> Result<(), Fail>
-    requires name { blank.name ≡ L.name }
-    requires parts { blank.parts ≡ L.parts }
-    requires some { 0 < blank.parts }
-{
-    let outcome = run_on::<L>(alloc, row.words, b"any", &[], blank)?;
-    let hash = <Sha256 as sha2::Digest>::digest(&outcome.out);
-    assert_eq!(rt; outcome.status, row.status);
-    assert!(rt; outcome.report.as_slice() == row.report.as_bytes());
-    assert!(rt; hex::decode(alloc, row.hash)?.as_slice() == hash.as_slice());
-    Ok(())
+    outcome_of::<XorFold>(alloc, &setup, words, feed, b"", b"")
 }
 
 #[test]
 fn rows(rt: HostRuntime) -> Result<(), Fail> {
+    let alloc = rt.alloc();
     for row in &ROWS {
-        check_row::<Brand>(&rt, rt.alloc(), row, Blank::new(1))?;
+        let outcome = run_on(alloc, row.words, b"any", None)?;
+        let hash = <Sha256 as sha2::Digest>::digest(&outcome.out);
+        check(&rt, &outcome, row.status, row.report.as_bytes());
+        assert!(rt; hex::decode(alloc, row.hash)?.as_slice() == hash.as_slice());
     }
     Ok(())
 }
 
+/// A young chain: of its outputs none has ripened yet.
+const YOUNG: &[&str] = &["gen", "9", "51"];
+
 // The port fails at its third call, and no line was begun.
 #[test]
 fn a_front_is_stored(rt: HostRuntime) -> Result<(), Fail> {
-    let words = ["gen", "9", "51"];
-    let whole = run_on::<Brand>(rt.alloc(), &words, &[], &[], Blank::new(1))?;
-    let front = run_on::<Brand>(rt.alloc(), &words, &[], &[2], Blank::new(1))?;
-    assert_eq!(rt; front.status, Status::WriteFault);
+    let whole = run_on(rt.alloc(), YOUNG, b"", None)?;
+    let front = run_on(rt.alloc(), YOUNG, b"", Some(2))?;
+    check(&rt, &front, Status::WriteFault, b"");
     assert!(rt; !front.out.is_empty() && front.out.len() < 300);
     assert!(rt; whole.out.as_slice().starts_with(front.out.as_slice()));
-    assert!(rt; front.report.is_empty());
     Ok(())
 }
 
-// Where no output has ripened yet, each block is accepted without a proof, and each rollback is made.
-#[test]
-fn a_young_chain_is_followed(rt: HostRuntime) -> Result<(), Fail> {
-    let made = run_on::<Brand>(rt.alloc(), &["gen", "9", "51"], &[], &[], Blank::new(1))?;
-    let told = run_on::<Brand>(rt.alloc(), &["follow"], &made.out, &[], Blank::new(1))?;
+// All is accepted, and the last lines are these.
+fn check_lines(rt: &impl Abort, told: &Outcome, line: &[u8]) -> Result<(), Fail> {
     assert_eq!(rt; told.status, Status::AllAccepted);
-    assert!(rt; told.report.as_slice().ends_with(LAST_LINE));
+    let report = told.report.as_slice();
+    let lines = report.strip_suffix(LAST_LINE).ok_or("a last line")?;
+    assert!(rt; lines.ends_with(line));
     Ok(())
 }
 
-// It is audited with the same lines, and what is live is less than what was issued by the first block's coin.
+// Each block of it is accepted without a proof, and each rollback is made. It is audited with the same lines, and what is live is less
+// than what was issued by the first block's coin.
 #[test]
-fn a_young_chain_is_audited(rt: HostRuntime) -> Result<(), Fail> {
-    let made = run_on::<Brand>(rt.alloc(), &["gen", "9", "51"], &[], &[], Blank::new(1))?;
-    let told = run_on::<Brand>(rt.alloc(), &["audit"], &made.out, &[], Blank::new(1))?;
-    assert_eq!(rt; told.status, Status::AllAccepted);
-    let lines = told
-        .report
-        .as_slice()
-        .strip_suffix(LAST_LINE)
-        .ok_or("a last line")?;
-    assert!(rt; lines.ends_with(SUPPLY_LINE));
-    Ok(())
+fn a_young_chain_is_followed_and_audited(rt: HostRuntime) -> Result<(), Fail> {
+    let alloc = rt.alloc();
+    let made = run_on(alloc, YOUNG, b"", None)?;
+    let followed = run_on(alloc, &["follow"], &made.out, None)?;
+    check_lines(&rt, &followed, b"")?;
+    let audited = run_on(alloc, &["audit"], &made.out, None)?;
+    check_lines(&rt, &audited, SUPPLY_LINE)
 }

@@ -1,18 +1,15 @@
 //! Rollbacks: how far a chain goes back, and what comes behind them.
 
-use super::blocks::{MAIN, SUBSIDY, coinbase, put_block, put_line};
-use super::proved::{
-    Case, Chain, HALF, SPENDING, Spending, begin_case, check_case, make_chain, put_spent,
+use super::blocks::{
+    Chain, MAIN, SUBSIDY, coinbase, empty_chain, height_of, put, put_back, put_plain, put_refused,
+    put_rollback, put_tip, tip_of,
 };
+use super::proved::{HALF, RIGHT, Spend, check_followed, make_chain, put_spend};
 use feed_run::Status;
 use std::alloc::Global;
-use std::marker::Brand;
-use std::sync::ledger::Blank;
 use std::test::Fail;
-use uo_digest::Digest;
 
 /// What comes next in a feed, with the line that is printed of a rollback, before and behind the hash of the tip.
-#[derive(Clone, Copy)]
 enum Step {
     /// So many blocks that claim this and are accepted.
     Blocks(u32, u64),
@@ -109,146 +106,67 @@ const ROWS: [Row; 7] = [
     },
 ];
 
-/// A feed, its report, and the hashes of the chain's blocks.
-#[derive(Drop)]
-struct Branch {
-    feed: Vec<u8>,
-    report: Vec<u8>,
-    hashes: Vec<Digest>,
+fn put_rich(alloc: Global, chain: &mut Chain) -> Result<(), Fail> {
+    let tx = coinbase(alloc, height_of(chain), SUBSIDY + 1)?;
+    let tip = tip_of(chain);
+    let why = " subsidy 5000000001 5000000000";
+    put_refused(alloc, chain, &tip, &[tx], why)
 }
 
-fn tip_of(branch: &Branch) -> Digest {
-    branch.hashes.last().copied().unwrap_or(Digest([0; 32]))
-}
-
-// Appends the frame of a block that extends the tip, and answers its hash.
-fn put_next(alloc: Global, branch: &mut Branch, claim: u64) -> Result<Digest, Fail> {
-    let height = u32::try_from(branch.hashes.len()).unwrap_or(0);
-    let tx = coinbase(alloc, height, claim)?;
-    let tip = tip_of(branch);
-    put_block(alloc, MAIN, &mut branch.feed, &tip, &[tx])
-}
-
-fn put_accepted(alloc: Global, branch: &mut Branch, claim: u64) -> Result<(), Fail> {
-    let hash = put_next(alloc, branch, claim)?;
-    let height = branch.hashes.len();
-    branch.hashes.push(hash)?;
-    let front = format!(in alloc; "accepted {height} ")?;
-    let back = format!(in alloc; " {height}")?;
-    put_line(&mut branch.report, front.as_str(), &hash, back.as_str())
-}
-
-fn put_blocks(alloc: Global, branch: &mut Branch, count: u32, claim: u64) -> Result<(), Fail> {
-    for _ in 0..count {
-        put_accepted(alloc, branch, claim)?;
-    }
-    Ok(())
-}
-
-fn put_refused(alloc: Global, branch: &mut Branch) -> Result<(), Fail> {
-    let hash = put_next(alloc, branch, SUBSIDY + 1)?;
-    let front = format!(in alloc; "refused {} ", branch.hashes.len())?;
-    put_line(
-        &mut branch.report,
-        front.as_str(),
-        &hash,
-        " subsidy 5000000001 5000000000",
-    )
-}
-
-// Appends the frame of a rollback.
-fn put_rollback(feed: &mut Vec<u8>, count: u32) -> Result<(), Fail> {
-    feed.extend_from_slice(b"UTXR")?;
-    feed.extend_from_slice(&4u32.to_le_bytes())?;
-    feed.extend_from_slice(&count.to_le_bytes())?;
-    Ok(())
-}
-
-fn put_back(branch: &mut Branch, count: u32, front: &str, back: &str) -> Result<(), Fail> {
-    put_rollback(&mut branch.feed, count)?;
-    let left = branch.hashes.len().saturating_sub(count as usize);
-    branch.hashes.truncate(left);
-    let tip = tip_of(branch);
-    put_line(&mut branch.report, front, &tip, back)
-}
-
-fn put_too_deep(branch: &mut Branch, count: u32, line: &str) -> Result<(), Fail> {
-    put_rollback(&mut branch.feed, count)?;
-    branch.report.extend_from_slice(line.as_bytes())?;
-    Ok(())
-}
-
-fn put_step(alloc: Global, branch: &mut Branch, step: Step) -> Result<(), Fail> {
+fn put_step(alloc: Global, chain: &mut Chain, step: &Step) -> Result<(), Fail> {
     match step {
-        Step::Blocks(count, claim) => put_blocks(alloc, branch, count, claim),
-        Step::Refused => put_refused(alloc, branch),
-        Step::Back(count, front, back) => put_back(branch, count, front, back),
-        Step::TooDeep(count, line) => put_too_deep(branch, count, line),
+        Step::Blocks(count, claim) => {
+            for _ in 0..*count {
+                put_plain(alloc, chain, *claim)?;
+            }
+            Ok(())
+        }
+        Step::Refused => put_rich(alloc, chain),
+        Step::Back(count, front, back) => put_back(chain, *count, front, back),
+        Step::TooDeep(count, line) => {
+            put_rollback(&mut chain.feed, *count)?;
+            put(&mut chain.report, &[line.as_bytes()])
+        }
     }
 }
 
-fn row_case(alloc: Global, row: &Row) -> Result<Case, Fail> {
-    let mut branch = Branch {
-        feed: Vec::new(alloc),
-        report: Vec::new(alloc),
-        hashes: Vec::new(alloc),
-    };
+fn row_chain(alloc: Global, row: &Row) -> Result<Chain, Fail> {
+    let mut chain = empty_chain(alloc, MAIN);
     for step in row.steps {
-        put_step(alloc, &mut branch, *step)?;
+        put_step(alloc, &mut chain, step)?;
     }
-    let tip = tip_of(&branch);
-    put_line(&mut branch.report, row.front, &tip, row.back)?;
-    Ok(Case {
-        feed: branch.feed,
-        status: row.status,
-        report: branch.report,
-        back: row.front,
-    })
+    put_tip(&mut chain, row.front, row.back)?;
+    Ok(chain)
 }
 
 #[test]
 fn rows(rt: HostRuntime) -> Result<(), Fail> {
     for row in &ROWS {
-        let case = row_case(rt.alloc(), row)?;
-        check_case::<Brand>(&rt, rt.alloc(), &case, 1000, Blank::new(1))?;
+        let chain = row_chain(rt.alloc(), row)?;
+        check_followed(&rt, rt.alloc(), &chain, &["follow"], 1_000, row.status)?;
     }
     Ok(())
 }
 
 /// The first coin is spent into one output, and the coinbase claims the rest.
-const OTHERWISE: Spending = Spending {
-    spends: &[0],
+const OTHERWISE: Spend = Spend {
     pays: &[HALF],
     again: false,
     claim: SUBSIDY + HALF,
+    end: Ok(" 102"),
+    ..RIGHT
 };
 
-// Appends a block that spends the first coin, and a rollback that takes it back.
-fn put_taken_back(
-    alloc: Global,
-    chain: &Chain,
-    spending: &Spending,
-    case: &mut Case,
-    back: &str,
-) -> Result<(), Fail> {
-    put_spent(alloc, chain, spending, case, back)?;
-    put_rollback(&mut case.feed, 1)?;
-    put_line(&mut case.report, "rolledback 1 100 ", &chain.tip, " 100")
-}
-
 // One output is spent, again on another branch, and once more as at first.
-fn spent_case(alloc: Global) -> Result<Case, Fail> {
-    let chain = make_chain(alloc)?;
-    let mut case = begin_case(alloc, &chain, Status::AllAccepted, " 103")?;
-    put_taken_back(alloc, &chain, &SPENDING, &mut case, " 103")?;
-    put_taken_back(alloc, &chain, &OTHERWISE, &mut case, " 102")?;
-    let last = put_spent(alloc, &chain, &SPENDING, &mut case, " 103")?;
-    put_line(&mut case.report, "end 106 101 ", &last, " 103")?;
-    Ok(case)
-}
-
 #[test]
 fn spent_on_both_branches(rt: HostRuntime) -> Result<(), Fail> {
-    let case = spent_case(rt.alloc())?;
-    check_case::<Brand>(&rt, rt.alloc(), &case, 1000, Blank::new(1))
+    let alloc = rt.alloc();
+    let mut chain = make_chain(alloc)?;
+    for spend in [&RIGHT, &OTHERWISE] {
+        put_spend(alloc, &mut chain, spend)?;
+        put_back(&mut chain, 1, "rolledback 1 100 ", " 100")?;
+    }
+    put_spend(alloc, &mut chain, &RIGHT)?;
+    put_tip(&mut chain, "end 106 101 ", " 103")?;
+    check_followed(&rt, alloc, &chain, &["follow"], 1_000, Status::AllAccepted)
 }

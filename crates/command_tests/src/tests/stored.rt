@@ -1,14 +1,8 @@
 //! What `follow` stores.
-ghost use Rattle.std.specs.Prelude.{◌≡◌, ◌<◌};
 
-use super::{GENESIS_CORE, GENESIS_HEADER, Outcome, Ports, bytes_of, run_over};
+use super::{GENESIS_CORE, GENESIS_HEADER, PLAIN, bytes_of, outcome_of};
 use feed_run::Status;
-use std::alloc::Global;
-use std::marker::Brand;
-use std::process::Abort;
-use std::sync::ledger::{Blank, Ledger};
 use std::test::Fail;
-use uo_base::Limits;
 use uo_digest::Sha512t256;
 
 /// A feed in pieces of hexadecimal, how the run ends, and what is stored in hexadecimal: a front, and zero bytes behind it.
@@ -69,45 +63,18 @@ const ROWS: [Row; 4] = [
     },
 ];
 
-fn follow<L: Ledger>(alloc: Global, feed: &[u8], blank: Blank) -> Result<Outcome, Fail>
-    requires name { blank.name ≡ L.name }
-    requires parts { blank.parts ≡ L.parts }
-    requires some { 0 < blank.parts }
-{
-    let ports = Ports {
-        words: &["follow", "--to", "s"],
-        limits: Limits {
-            leaves: 100,
-            bytes: 100_000,
-        },
-        feed,
-        read_piece: 100,
-        failing_reads: &[],
-        write_piece: 100,
-        failing_writes: &[],
-        failing_stores: &[],
-    };
-    run_over::<Sha512t256, L>(alloc, &ports, blank)
-}
-
-fn check_row<L: Ledger>(rt: &impl Abort, alloc: Global, row: &Row, blank: Blank) -> Result<(), Fail>
-    requires name { blank.name ≡ L.name }
-    requires parts { blank.parts ≡ L.parts }
-    requires some { 0 < blank.parts }
-{
-    let feed = bytes_of(alloc, row.feed)?;
-    let mut stored = hex::decode(alloc, row.front)?;
-    stored.resize(stored.len().saturating_add(row.zeros), 0)?;
-    let outcome = follow::<L>(alloc, &feed, blank)?;
-    assert_eq!(rt; outcome.status, row.status);
-    assert!(rt; outcome.out.as_slice() == stored.as_slice());
-    Ok(())
-}
+const FOLLOW: &[&str] = &["follow", "--to", "s"];
 
 #[test]
 fn rows(rt: HostRuntime) -> Result<(), Fail> {
+    let alloc = rt.alloc();
     for row in &ROWS {
-        check_row::<Brand>(&rt, rt.alloc(), row, Blank::new(1))?;
+        let feed = bytes_of(alloc, row.feed)?;
+        let mut stored = hex::decode(alloc, row.front)?;
+        stored.resize(stored.len().saturating_add(row.zeros), 0)?;
+        let outcome = outcome_of::<Sha512t256>(alloc, &PLAIN, FOLLOW, &feed, b"", b"")?;
+        assert_eq!(rt; outcome.status, row.status);
+        assert!(rt; outcome.out.as_slice() == stored.as_slice());
     }
     Ok(())
 }

@@ -1,7 +1,7 @@
 //! As many spends as a block can have.
 ghost use Rattle.std.specs.Prelude.{◌≡◌, ◌<◌};
 
-use super::pair::{Act, NONE, Pair};
+use super::pair::{Act, Pair};
 use block_rules::Verdict;
 use block_samples::{Sample, block_behind, coinbase, legacy_tx};
 use std::alloc::Global;
@@ -47,10 +47,6 @@ fn spending(alloc: Global, prev: Digest, height: u32, id: Digest) -> Result<Samp
     Ok(block_behind(alloc, prev, &txs)?)
 }
 
-fn newest(pair: &Pair) -> Digest {
-    pair.hashes.last().copied().unwrap_or(NONE)
-}
-
 /// 101 blocks, of which the second has so many outputs. It answers the id of its coinbase.
 fn grow<L: Ledger>(
     rt: &impl Abort,
@@ -59,7 +55,7 @@ fn grow<L: Ledger>(
     steps: &mut Steps<L>,
 ) -> Result<Digest, Fail> {
     let _ = pair.act(rt, Act::Plain(1), steps)?;
-    let block = wide(alloc, newest(pair), 1)?;
+    let block = wide(alloc, pair.tip(), 1)?;
     let _ = pair.pass(rt, &block, steps)?;
     let _ = pair.act(rt, Act::Plain(99), steps)?;
     Ok(*pair.ids.get(1).ok_or("a block")?)
@@ -103,7 +99,7 @@ fn check_many<L: Ledger>(rt: &impl Abort, alloc: Global, blank: Blank) -> Result
     let mut steps = Steps::<L>::new(blank);
     let mut pair = Pair::new(alloc, Net::Main, b"52")?;
     let id = grow(rt, alloc, &mut pair, &mut steps)?;
-    let block = spending(alloc, newest(&pair), 101, id)?;
+    let block = spending(alloc, pair.tip(), 101, id)?;
     check_spent(rt, &mut pair, &block, &mut steps)?;
     check_undone(rt, &mut pair, &mut steps)
 }

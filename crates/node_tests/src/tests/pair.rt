@@ -11,7 +11,7 @@ use std::process::Abort;
 use std::sync::ledger::Ledger;
 use std::test::Fail;
 use uo_base::{Event, Limits, Net};
-use uo_digest::{Digest, Sha512t256, Steps};
+use uo_digest::{Digest, Digester, Sha512t256, Steps};
 
 pub const NONE: Digest = Digest([0; 32]);
 
@@ -72,8 +72,9 @@ pub struct Told {
     pub lean: usize,
 }
 
-fn prove<L: Ledger>(
-    bridge: &mut Bridge<Sha512t256>,
+/// What a bridge says of a block, with the message that it passes on.
+pub fn prove<D: Digester, L: Ledger>(
+    bridge: &mut Bridge<D>,
     block: &[u8],
     steps: &mut Steps<L>,
 ) -> Result<Proved, Fail> {
@@ -132,7 +133,7 @@ impl Pair {
         })
     }
 
-    fn tip(&self) -> Digest {
+    pub fn tip(&self) -> Digest {
         self.hashes.last().copied().unwrap_or(NONE)
     }
 

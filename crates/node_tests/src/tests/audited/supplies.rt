@@ -3,7 +3,7 @@ ghost use Rattle.std.specs.Prelude.{◌≡◌, ◌<◌};
 
 use super::super::build::{Sketch, build};
 use super::super::lean::list;
-use super::super::pair::NONE;
+use super::super::pair::{NONE, prove};
 use super::{auditor, judged, judged_block};
 use audit_replay::{Audit, AuditLine};
 use block_rules::{Refusal, Verdict};
@@ -137,19 +137,6 @@ struct Court {
     ids: Vec<Digest>,
 }
 
-// What a bridge passes on beside a block.
-fn proved<L: Ledger>(
-    bridge: &mut Bridge<XorFold>,
-    block: &[u8],
-    steps: &mut Steps<L>,
-) -> Result<Option<Vec<u8>>, Fail> {
-    if block.len() > 4_000_000 {
-        return Err("a short block".into());
-    }
-    let message = None;
-    Ok(bridge.step(Event::Block { block, message }, steps)?.message)
-}
-
 fn said(line: Option<AuditLine>) -> Result<Verdict, Fail> {
     match line {
         Some(AuditLine::Verdict(verdict)) => Ok(verdict),
@@ -198,7 +185,7 @@ impl Court {
         steps: &mut Steps<L>,
     ) -> Result<Verdict, Fail> {
         let message = if with_message {
-            proved(&mut self.bridge, &block.text, steps)?
+            prove(&mut self.bridge, &block.text, steps)?.message
         } else {
             None
         };

@@ -1,4 +1,0 @@
-use Rattle.command_tests.proofs.tests.failing.outcome_of.Given as goal
-
-abbrev pub ghosts-run_given : goal.ghosts-run_given
-ghosts-run_given a = record { name = a.blank.name; parts = a.blank.parts }

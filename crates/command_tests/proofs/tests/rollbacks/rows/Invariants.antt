@@ -1,4 +1,0 @@
-use Rattle.command_tests.proofs.tests.rollbacks.rows.Given as goal
-
-abbrev pub ghosts-check_case : goal.ghosts-check_case
-ghosts-check_case g a = record { name = a.blank.name; parts = a.blank.parts }
