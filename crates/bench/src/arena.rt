@@ -1,6 +1,4 @@
 //! A forest that is changed in place.
-ghost use Rattle.std.specs.Prelude.{◌≡◌, ◌^◌, ◌<◌};
-
 use crate::names::name_of;
 use crate::stopwatch::Stopwatch;
 use bridge_forest::Forest;
@@ -8,24 +6,21 @@ use forest_place::{Place, slot_of};
 use forest_roots::pair;
 use std::alloc::Global;
 use std::io;
-use std::sync::ledger::{Blank, Ledger};
-use std::time::CpuClock;
+use std::sync::ledger::Ledger;
+use std::time::{CpuClock, Duration};
 use uo_digest::{Digest, Sha512t256, Steps};
+
+// Calls of one kind that are measured at a stretch. Each kind has its turn within some milliseconds, so that what the machine does
+// beside hits all alike.
+const BATCH: u64 = 500;
 
 /// Nanoseconds of additions, of changes and of look-ups over a hundred thousand to ten million entries.
 pub fn measure_arena<R: CpuClock + Print + AllocGlobal, L: Ledger>(
     rt: &R,
-    blank: Blank,
-) -> io::Result<()>
-    requires name { blank.name ≡ L.name }
-    requires parts { blank.parts ≡ L.parts }
-    requires some { 0 < blank.parts }
-{
-    let mut steps = Steps::<L>::new(blank);
+    steps: &mut Steps<L>,
+) -> io::Result<()> {
     for entries in [100_000, 1_000_000, 10_000_000] {
-        if entries < 1 << 30 {
-            measure(rt, rt.alloc(), entries, &mut steps)?;
-        }
+        measure(rt, rt.alloc(), entries, steps)?;
     }
     Ok(())
 }
@@ -35,27 +30,22 @@ fn chosen(i: u64, entries: u64) -> u64 {
     i.wrapping_mul(0x9e37_79b9_7f4a_7c15) % entries.max(1)
 }
 
-fn add_all<L: Ledger>(forest: &mut Forest<Sha512t256>, entries: u64, steps: &mut Steps<L>) {
-    for i in 0..entries {
-        if 0 < forest.spare() && forest.leaves() < 1 << 39 {
-            let _ = forest.add(name_of(i), steps);
+fn add_some<L: Ledger>(forest: &mut Forest<Sha512t256>, count: u64, steps: &mut Steps<L>) {
+    for _ in 0..count {
+        let number = forest.leaves();
+        if 0 < forest.spare() && number < 1 << 39 {
+            let _ = forest.add(name_of(number), steps);
         }
     }
 }
 
-fn remove_all<L: Ledger>(forest: &mut Forest<Sha512t256>, rounds: u64, steps: &mut Steps<L>) {
-    for i in 0..rounds {
-        let number = chosen(i, forest.leaves());
+// Spends the chosen entries that are live, and makes those live that are spent.
+fn change<L: Ledger>(forest: &mut Forest<Sha512t256>, from: u64, count: u64, steps: &mut Steps<L>) {
+    for i in 0..count {
+        let number = chosen(from.wrapping_add(i), forest.leaves());
         if forest.live(number) {
             forest.remove(number, steps);
-        }
-    }
-}
-
-fn restore_all<L: Ledger>(forest: &mut Forest<Sha512t256>, rounds: u64, steps: &mut Steps<L>) {
-    for i in 0..rounds {
-        let number = chosen(i, forest.leaves());
-        if number < forest.leaves() && !forest.live(number) {
+        } else if number < forest.leaves() {
             forest.restore(number, name_of(number), steps);
         }
     }
@@ -94,17 +84,15 @@ fn digests_at(forest: &Forest<Sha512t256>, rounds: u64) -> u8 {
     seen
 }
 
-// The digests of changing the chosen entries: one for each row up to the root of its slot.
-fn bare_digests(entries: u64, rounds: u64) -> u64
-    requires { entries < 2 ^ 30 }
-{
+// The digests of changing chosen entries: one for each row up to the root of its slot.
+fn bare_digests(forest: &Forest<Sha512t256>, from: u64, count: u64) -> u64 {
     let mut digests: u64 = 0;
-    for i in 0..rounds {
+    for i in 0..count {
         let place = Place {
             row: 0,
-            off: chosen(i, entries),
+            off: chosen(from.wrapping_add(i), forest.leaves()),
         };
-        digests = digests.saturating_add(u64::from(slot_of(place, entries).unwrap_or(0)));
+        digests = digests.saturating_add(u64::from(slot_of(place, forest.leaves()).unwrap_or(0)));
     }
     digests
 }
@@ -124,16 +112,19 @@ fn measure_additions<R: CpuClock + Print, L: Ledger>(
     entries: u64,
     steps: &mut Steps<L>,
 ) -> io::Result<()> {
+    let (mut time, mut bare) = (Duration::ZERO, Duration::ZERO);
+    let mut seen = 0;
     let mut watch = Stopwatch::start(rt)?;
-    add_all(forest, entries, steps);
-    let time = watch.lap(rt)?;
-    let last = digest_alone(entries, steps);
-    let bare = watch.lap(rt)?;
+    for _ in 0..entries / BATCH {
+        add_some(forest, BATCH, steps);
+        time = time.saturating_add(watch.lap(rt)?);
+        seen ^= digest_alone(BATCH, steps).0[0];
+        bare = bare.saturating_add(watch.lap(rt)?);
+    }
     println!(rt;
-        "{entries} additions: {} us, as many digests alone {} us; {}",
+        "{entries} additions: {} us, as many digests alone {} us; {seen}",
         time.as_micros(),
-        bare.as_micros(),
-        last.0[0]
+        bare.as_micros()
     )
 }
 
@@ -157,26 +148,34 @@ fn measure_look_ups<R: CpuClock + Print>(
     )
 }
 
+// What is made live again was spent half of all rounds before, and its memory is no longer at hand.
 fn measure_changes<R: CpuClock + Print, L: Ledger>(
     rt: &R,
     forest: &mut Forest<Sha512t256>,
-    bare: u64,
     rounds: u64,
     steps: &mut Steps<L>,
 ) -> io::Result<()> {
-    let mut watch = Stopwatch::start(rt)?;
-    remove_all(forest, rounds, steps);
-    let removing = watch.lap(rt)?;
-    restore_all(forest, rounds, steps);
-    let restoring = watch.lap(rt)?;
-    let last = digest_alone(bare, steps);
-    let alone = watch.lap(rt)?;
+    let (mut removing, mut restoring, mut alone) = (Duration::ZERO, Duration::ZERO, Duration::ZERO);
+    let (mut bare, mut seen): (u64, u8) = (0, 0);
+    change(forest, rounds / 2, rounds - rounds / 2, steps);
+    for turn in 0..rounds / BATCH {
+        let from = turn.wrapping_mul(BATCH);
+        let far = from.wrapping_add(rounds / 2) % rounds.max(1);
+        let digests = bare_digests(forest, from, BATCH);
+        let mut watch = Stopwatch::start(rt)?;
+        change(forest, from, BATCH, steps);
+        removing = removing.saturating_add(watch.lap(rt)?);
+        change(forest, far, BATCH, steps);
+        restoring = restoring.saturating_add(watch.lap(rt)?);
+        seen ^= digest_alone(digests, steps).0[0];
+        alone = alone.saturating_add(watch.lap(rt)?);
+        bare = bare.saturating_add(digests);
+    }
     println!(rt;
-        "  {rounds} times: remove {} us, restore {} us, the {bare} digests of each alone {} us; {}",
+        "  {rounds} times: remove {} us, restore {} us, the {bare} digests of each alone {} us; {seen}",
         removing.as_micros(),
         restoring.as_micros(),
-        alone.as_micros(),
-        last.0[0]
+        alone.as_micros()
     )
 }
 
@@ -185,9 +184,7 @@ fn measure<R: CpuClock + Print, L: Ledger>(
     alloc: Global,
     entries: u64,
     steps: &mut Steps<L>,
-) -> io::Result<()>
-    requires { entries < 2 ^ 30 }
-{
+) -> io::Result<()> {
     let mut forest = Forest::<Sha512t256>::new(alloc);
     if forest.reserve(entries).is_err() {
         return println!(rt; "{entries} entries: no memory");
@@ -195,11 +192,5 @@ fn measure<R: CpuClock + Print, L: Ledger>(
     let rounds = entries / 50;
     measure_additions(rt, &mut forest, entries, steps)?;
     measure_look_ups(rt, &forest, rounds)?;
-    measure_changes(
-        rt,
-        &mut forest,
-        bare_digests(entries, rounds),
-        rounds,
-        steps,
-    )
+    measure_changes(rt, &mut forest, rounds, steps)
 }

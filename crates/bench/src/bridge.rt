@@ -1,30 +1,33 @@
 //! A bridge that judges blocks and proves them.
-ghost use Rattle.std.specs.Prelude.{◌≡◌, ◌<◌};
-
 use crate::arena::digest_alone;
-use crate::needs::Needs;
+use crate::needs::needs_of;
 use crate::spending::Purse;
 use crate::stopwatch::Stopwatch;
+use block_samples::SampleFault;
 use bridge_prover::Bridge;
 use leaf_cache::Watch;
 use std::alloc::Global;
 use std::io;
-use std::sync::ledger::{Blank, Ledger};
+use std::sync::ledger::Ledger;
 use std::time::CpuClock;
 use uo_base::{Event, Limits, Net, NoMemory};
-use uo_digest::{Digest, Sha512t256, Steps, sha256d};
+use uo_digest::{Sha512t256, Steps, sha256d};
 
-/// So many blocks, each of which spends some of so many entries, for a bridge with a watch list or without one.
-#[derive(Clone, Copy)]
-struct Case {
-    entries: u32,
-    spends: u32,
-    blocks: u32,
-    lean: bool,
-}
-
-/// Bytes that are taken once and given back, as the program does when it begins, so that freed memory is kept.
-const KEPT: usize = 16_777_216;
+/// Entries, spends of each block, blocks, and whether the bridge has a watch list.
+const CASES: [(u32, u32, u32, bool); 12] = [
+    (10_000, 1, 2_000, false),
+    (10_000, 20, 500, false),
+    (10_000, 500, 40, false),
+    (100_000, 1, 2_000, false),
+    (100_000, 1, 2_000, true),
+    (100_000, 20, 500, false),
+    (100_000, 20, 500, true),
+    (100_000, 500, 40, false),
+    (100_000, 500, 40, true),
+    (1_000_000, 1, 2_000, false),
+    (1_000_000, 20, 500, false),
+    (1_000_000, 500, 40, false),
+];
 
 /// Outputs of a block that comes before those that are measured.
 const WIDE: u32 = 10_000;
@@ -33,49 +36,12 @@ const WIDE: u32 = 10_000;
 /// hashing that they need; and the bytes of its messages, over a hundred thousand also where one entry in a hundred is watched.
 pub fn measure_bridge<R: CpuClock + Print + AllocGlobal, L: Ledger>(
     rt: &R,
-    blank: Blank,
-) -> io::Result<()>
-    requires name { blank.name ≡ L.name }
-    requires parts { blank.parts ≡ L.parts }
-    requires some { 0 < blank.parts }
-{
-    drop(Vec::<u8>::with_capacity(rt.alloc(), KEPT));
-    let mut steps = Steps::<L>::new(blank);
-    for entries in [10_000, 100_000, 1_000_000] {
-        for (spends, blocks) in [(1, 2_000), (20, 500), (500, 40)] {
-            measure_both(rt, entries, spends, blocks, &mut steps)?;
-        }
-    }
-    Ok(())
-}
-
-fn measure_both<R: CpuClock + Print + AllocGlobal, L: Ledger>(
-    rt: &R,
-    entries: u32,
-    spends: u32,
-    blocks: u32,
     steps: &mut Steps<L>,
 ) -> io::Result<()> {
-    let case = Case {
-        entries,
-        spends,
-        blocks,
-        lean: false,
-    };
-    measure(rt, rt.alloc(), case, steps)?;
-    if entries == 100_000 {
-        return measure(rt, rt.alloc(), Case { lean: true, ..case }, steps);
+    for case in CASES {
+        measure(rt, rt.alloc(), case, steps)?;
     }
     Ok(())
-}
-
-fn bridge_of(alloc: Global, case: Case) -> Result<Bridge<Sha512t256>, NoMemory> {
-    let watch = if case.lean {
-        Watch::from_list(alloc, b"52").ok()
-    } else {
-        None
-    };
-    Bridge::new(alloc, Net::Main, Limits::standard(), watch)
 }
 
 fn prove<L: Ledger>(
@@ -93,27 +59,29 @@ fn prove<L: Ledger>(
     Ok(bridge.step(event, steps)?.message)
 }
 
-// So many outputs, which can all be spent.
+// So many wide blocks, whose outputs can then all be spent.
 fn fill<L: Ledger>(
     bridge: &mut Bridge<Sha512t256>,
     purse: &mut Purse,
-    entries: u32,
+    wide: u32,
     steps: &mut Steps<L>,
-) -> Result<(), NoMemory> {
-    prove(bridge, &purse.plain_block()?, steps)?;
-    for _ in 0..entries / WIDE {
-        prove(bridge, &purse.wide_block(WIDE)?, steps)?;
-    }
-    for _ in 0..100 {
-        prove(bridge, &purse.plain_block()?, steps)?;
+) -> Result<(), SampleFault> {
+    for i in 0..=wide.saturating_add(100) {
+        let coins = if i > 0 && i <= wide { WIDE } else { 1 };
+        prove(bridge, &purse.block(coins, 0)?, steps)?;
     }
     Ok(())
 }
 
-fn made(alloc: Global, purse: &mut Purse, case: Case) -> Result<Vec<Vec<u8>>, NoMemory> {
+fn spending_blocks(
+    alloc: Global,
+    purse: &mut Purse,
+    spends: u32,
+    count: u32,
+) -> Result<Vec<Vec<u8>>, SampleFault> {
     let mut blocks = Vec::new(alloc);
-    for _ in 0..case.blocks {
-        blocks.push(purse.spending_block(case.spends)?)?;
+    for _ in 0..count {
+        blocks.push(purse.block(1, spends)?)?;
     }
     Ok(blocks)
 }
@@ -134,24 +102,32 @@ fn prove_all<L: Ledger>(
     Ok(messages)
 }
 
-// What the spends of all messages need, where the first is for a forest of so many entries and each block adds some.
-fn needs_of(alloc: Global, entries: u64, added: u64, messages: &[Vec<u8>]) -> Needs {
-    let mut needs = Needs::none();
-    let mut there = entries;
+// The digests of all blocks, whose first is for a forest of `before` entries and of which each adds some: where no path is
+// shared, where paths are, and the bytes of their messages. With each entry comes one for its leaf, and one wherever two trees are joined.
+fn needs_of_all(
+    alloc: Global,
+    before: u64,
+    added: u64,
+    after: u64,
+    messages: &[Vec<u8>],
+) -> (u64, u64, u64) {
+    let leaves = after.saturating_sub(before);
+    let joins = leaves
+        .saturating_add(u64::from(before.count_ones()))
+        .saturating_sub(u64::from(after.count_ones()));
+    let adding = leaves.saturating_add(joins);
+    let mut needs = (adding, adding, 0u64);
+    let mut there = before;
     for message in messages {
-        needs.add(alloc, there, message);
+        let (apart, shared) = needs_of(alloc, there, message).unwrap_or((0, 0));
+        needs = (
+            needs.0.saturating_add(apart),
+            needs.1.saturating_add(shared),
+            needs.2.saturating_add(message.len() as u64),
+        );
         there = there.saturating_add(added);
     }
     needs
-}
-
-// The digests of adding entries: one for the leaf of each, and one wherever two trees are joined.
-fn adding_digests(before: u64, after: u64) -> u64 {
-    let joined = after.saturating_add(u64::from(before.count_ones()));
-    joined
-        .saturating_sub(before)
-        .saturating_sub(u64::from(after.count_ones()))
-        .saturating_add(after.saturating_sub(before))
 }
 
 // The ids of the blocks and of both their transactions, and their merkle roots.
@@ -169,27 +145,44 @@ fn hash_alone(blocks: &[Vec<u8>]) -> u8 {
 fn measure<R: CpuClock + Print, L: Ledger>(
     rt: &R,
     alloc: Global,
-    case: Case,
+    case: (u32, u32, u32, bool),
     steps: &mut Steps<L>,
 ) -> io::Result<()> {
+    let (entries, spends, count, lean) = case;
+    let watch = if lean {
+        Watch::from_list(alloc, b"52").ok()
+    } else {
+        None
+    };
     let mut purse = Purse::new(alloc, 100);
-    let Ok(mut bridge) = bridge_of(alloc, case) else {
+    let Ok(mut bridge) = Bridge::new(alloc, Net::Main, Limits::standard(), watch) else {
         return println!(rt; "no memory");
     };
-    let filled = fill(&mut bridge, &mut purse, case.entries, steps);
-    let Ok(blocks) = made(alloc, &mut purse, case) else {
+    let filled = fill(&mut bridge, &mut purse, entries / WIDE, steps);
+    let Ok(blocks) = spending_blocks(alloc, &mut purse, spends, count) else {
         return println!(rt; "no memory");
     };
     if filled.is_err() {
         return println!(rt; "no memory");
     }
-    measure_blocks(rt, alloc, case, &mut bridge, &blocks, steps)
+    print!(rt;
+        "{entries} entries, {spends} spends, {}: ",
+        if lean { "lean" } else { "full" }
+    )?;
+    measure_blocks(
+        rt,
+        alloc,
+        u64::from(spends) + 1,
+        &mut bridge,
+        &blocks,
+        steps,
+    )
 }
 
 fn measure_blocks<R: CpuClock + Print, L: Ledger>(
     rt: &R,
     alloc: Global,
-    case: Case,
+    added: u64,
     bridge: &mut Bridge<Sha512t256>,
     blocks: &[Vec<u8>],
     steps: &mut Steps<L>,
@@ -200,38 +193,27 @@ fn measure_blocks<R: CpuClock + Print, L: Ledger>(
         return println!(rt; "no memory");
     };
     let proving = watch.lap(rt)?;
-    println!(rt;
-        "{} entries, {} spends, {}: {} blocks in {} us",
-        case.entries,
-        case.spends,
-        if case.lean { "lean" } else { "full" },
-        messages.len(),
-        proving.as_micros()
-    )?;
-    let needs = needs_of(alloc, before, u64::from(case.spends) + 1, &messages);
-    let adding = adding_digests(before, bridge.forest().leaves());
-    measure_alone(rt, needs, adding, blocks, steps)
+    println!(rt; "{} blocks in {} us", messages.len(), proving.as_micros())?;
+    let needs = needs_of_all(alloc, before, added, bridge.forest().leaves(), &messages);
+    measure_alone(rt, needs, blocks, steps)
 }
 
 fn measure_alone<R: CpuClock + Print, L: Ledger>(
     rt: &R,
-    needs: Needs,
-    adding: u64,
+    needs: (u64, u64, u64),
     blocks: &[Vec<u8>],
     steps: &mut Steps<L>,
 ) -> io::Result<()> {
-    let apart = needs.apart.saturating_add(adding);
-    let shared = needs.shared.saturating_add(adding);
+    let (apart, shared, bytes) = needs;
     let mut watch = Stopwatch::start(rt)?;
     let last = digest_alone(shared, steps);
     let digesting = watch.lap(rt)?;
     let seen = hash_alone(blocks);
     let hashing = watch.lap(rt)?;
     println!(rt;
-        "  its {shared} digests alone {} us, {apart} where no path is shared; hashing alone {} us; {} bytes of messages; {} {seen}",
+        "  its {shared} digests alone {} us, {apart} where no path is shared; hashing alone {} us; {bytes} bytes of messages; {} {seen}",
         digesting.as_micros(),
         hashing.as_micros(),
-        needs.bytes,
         last.0[0]
     )
 }

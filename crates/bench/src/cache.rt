@@ -3,7 +3,9 @@ ghost use Rattle.std.specs.Prelude.{◌≡◌, ◌+◌, ◌^◌, ◌<◌, ◌≤
 ghost use Rattle.cache_update.specs.Marks.{Fits};
 
 use crate::names::name_of;
+use crate::outputs::record_of;
 use crate::stopwatch::Stopwatch;
+use crate::targets::{hashes_of, targets_of};
 use bridge_forest::Forest;
 use cache_update::{Mark, after_add, after_delete, begin, undo};
 use forest_place::position;
@@ -14,7 +16,7 @@ use proof_shape::Targets;
 use proof_verify::{Scratch, check_and_delete};
 use std::alloc::Global;
 use std::io;
-use std::sync::ledger::{Blank, Ledger};
+use std::sync::ledger::Ledger;
 use std::time::{CpuClock, Duration};
 use uo_digest::{Digest, Sha512t256, Steps};
 
@@ -22,24 +24,7 @@ const ENTRIES: u64 = 1 << 20;
 
 const BLOCK: u64 = 1_000;
 
-const ROUNDS: u32 = 10;
-
-/// Microseconds of a block of a thousand deletions and a thousand additions over a forest of 2^20 entries, with and without a
-/// cache that keeps none, a hundred and ten thousand of them, and the bytes of its mark.
-pub fn measure_cache<R: CpuClock + Print + AllocGlobal, L: Ledger>(
-    rt: &R,
-    blank: Blank,
-) -> io::Result<()>
-    requires name { blank.name ≡ L.name }
-    requires parts { blank.parts ≡ L.parts }
-    requires some { 0 < blank.parts }
-{
-    let mut steps = Steps::<L>::new(blank);
-    for kept in [0, 100, 10_000] {
-        measure(rt, rt.alloc(), kept, &mut steps)?;
-    }
-    Ok(())
-}
+const ROUNDS: u32 = 100;
 
 // An output with a script of 25 bytes, if its number is among the kept ones.
 fn kept_output(alloc: Global, number: u64, kept: u64) -> Option<Record> {
@@ -47,16 +32,7 @@ fn kept_output(alloc: Global, number: u64, kept: u64) -> Option<Record> {
     if kept == 0 || number % every.max(1) != 0 {
         return None;
     }
-    let script = vec![in alloc; 7; 25].ok()?;
-    Some(Record {
-        block: Digest([9; 32]),
-        txid: name_of(number),
-        index: 0,
-        height: 0,
-        coinbase: false,
-        amount: 50,
-        script,
-    })
+    record_of(alloc, number, &[7; 25]).ok()
 }
 
 // Additions to the roots and to the cache.
@@ -122,38 +98,25 @@ struct Proof {
 }
 
 fn prove(alloc: Global, forest: &Forest<Sha512t256>) -> io::Result<Proof> {
-    let mut proof = Proof {
-        positions: Vec::new(alloc),
-        leaves: Vec::new(alloc),
-        hashes: Vec::new(alloc),
-    };
+    let mut positions = Vec::new(alloc);
+    let mut leaves = Vec::new(alloc);
     let n = forest.leaves();
     for i in 0..BLOCK {
         let number = i * (ENTRIES / BLOCK) + 3;
         if forest.live(number) {
             let at = forest.place(number);
             if n < 1 << 40 && at.row < 40 && at.off < n >> at.row {
-                proof.positions.push(position(at, n))?;
-                proof.leaves.push(name_of(number))?;
+                positions.push(position(at, n))?;
+                leaves.push(name_of(number))?;
             }
         }
     }
-    show_hashes(alloc, forest, &mut proof)?;
-    Ok(proof)
-}
-
-fn show_hashes(alloc: Global, forest: &Forest<Sha512t256>, proof: &mut Proof) -> io::Result<()> {
-    let n = forest.leaves();
-    let positions = proof.positions.as_slice();
-    if n < 1 << 40 && positions.len() < 1 << 32 {
-        if let Ok(targets) = Targets::new(alloc, n, positions) {
-            for at in targets.needed() {
-                let hash = forest.digest_at(*at);
-                proof.hashes.push(hash.unwrap_or(Digest([0; 32])))?;
-            }
-        }
-    }
-    Ok(())
+    let hashes = hashes_of(alloc, forest, &positions).unwrap_or(Vec::new(alloc));
+    Ok(Proof {
+        positions,
+        leaves,
+        hashes,
+    })
 }
 
 // A block without a cache.
@@ -164,15 +127,14 @@ fn bare_block<L: Ledger>(
     scratch: &mut Scratch,
     steps: &mut Steps<L>,
 ) -> bool {
-    let positions = proof.positions.as_slice();
-    if positions.len() >= 1 << 32 {
-        return false;
-    }
-    let Ok(targets) = Targets::new(alloc, roots.leaves(), positions) else {
+    let Some(targets) = targets_of(alloc, roots.leaves(), &proof.positions) else {
         return false;
     };
     let leaves = proof.leaves.as_slice();
-    if scratch.reserve(&targets).is_err() || leaves.len() != targets.len() as usize {
+    if targets.leaves() != roots.leaves()
+        || scratch.reserve(&targets).is_err()
+        || leaves.len() != targets.len() as usize
+    {
         return false;
     }
     let hashes = proof.hashes.as_slice();
@@ -200,15 +162,14 @@ fn cached_block<L: Ledger>(
 ) -> Option<Mark>
     ensures { IfSome result (λ m. Fits m cache.new.parts) }
 {
-    let positions = proof.positions.as_slice();
-    if positions.len() >= 1 << 32 {
-        return None;
-    }
-    let Ok(targets) = Targets::new(alloc, roots.leaves(), positions) else {
+    let Some(targets) = targets_of(alloc, roots.leaves(), &proof.positions) else {
         return None;
     };
     let leaves = proof.leaves.as_slice();
-    if scratch.reserve(&targets).is_err() || leaves.len() != targets.len() as usize {
+    if targets.leaves() != roots.leaves()
+        || scratch.reserve(&targets).is_err()
+        || leaves.len() != targets.len() as usize
+    {
         return None;
     }
     let Ok(mut mark) = begin(alloc, cache, &targets, BLOCK, 0) else {
@@ -227,24 +188,26 @@ fn cached_block<L: Ledger>(
     Some(mark)
 }
 
-// A block of additions alone.
+// So many blocks of additions alone.
 fn grow_by<L: Ledger>(
     alloc: Global,
     cache: &mut Cache<Sha512t256>,
     roots: &mut Roots<Sha512t256>,
-    adds: u64,
+    blocks: u64,
     kept: u64,
     steps: &mut Steps<L>,
 ) {
-    let n = roots.leaves();
-    if n >= 1 << 39 || adds >= 1 << 20 {
-        return;
-    }
-    let Ok(none) = Targets::new(alloc, n, &[]) else {
-        return;
-    };
-    if let Ok(mut mark) = begin(alloc, cache, &none, adds, adds) {
-        add_all(alloc, cache, &mut mark, roots, adds, kept, steps);
+    for _ in 0..blocks {
+        let n = roots.leaves();
+        if n >= 1 << 39 {
+            return;
+        }
+        let Ok(none) = Targets::new(alloc, n, &[]) else {
+            return;
+        };
+        if let Ok(mut mark) = begin(alloc, cache, &none, 1_024, 1_024) {
+            add_all(alloc, cache, &mut mark, roots, 1_024, kept, steps);
+        }
     }
 }
 
@@ -289,46 +252,6 @@ fn others(cache: &Cache<Sha512t256>, parts: &Parts) -> (u64, u64) {
     (other, none)
 }
 
-/// What a block changes in a cache: digests that are other or gone, places that had none, and places of kept entries.
-#[derive(Clone, Copy)]
-struct Changed {
-    kept: usize,
-    held: usize,
-    lost: u64,
-    gained: u64,
-    moved: u64,
-}
-
-impl Changed {
-    fn bytes(self) -> u64 {
-        48 * self.lost.min(1 << 40) + 16 * self.gained.min(1 << 40) + 24 * self.moved.min(1 << 40)
-    }
-}
-
-fn mark_between<L: Ledger>(
-    alloc: Global,
-    cache: &mut Cache<Sha512t256>,
-    roots: &Roots<Sha512t256>,
-    proof: &Proof,
-    steps: &mut Steps<L>,
-) -> Option<Changed> {
-    let older = cache.seen().copy(alloc).ok()?;
-    let mut scratch = Scratch::new(alloc);
-    let mut then = roots.copy();
-    let mark = cached_block(alloc, cache, &mut then, proof, &mut scratch, steps)?;
-    let newer = cache.seen().copy(alloc).ok()?;
-    let (lost, _) = others(cache, &older);
-    undo(cache, mark);
-    let (_, gained) = others(cache, &newer);
-    Some(Changed {
-        kept: older.kept.len(),
-        held: older.held.len(),
-        lost,
-        gained,
-        moved: moved_between(&older.kept, &newer.kept),
-    })
-}
-
 // What a mark has: the digests that the block changed, and places that had none or where kept entries stood.
 fn measure_mark<R: Print, L: Ledger>(
     rt: &R,
@@ -338,65 +261,54 @@ fn measure_mark<R: Print, L: Ledger>(
     proof: &Proof,
     steps: &mut Steps<L>,
 ) -> io::Result<()> {
-    let Some(mark) = mark_between(alloc, cache, roots, proof, steps) else {
+    let Ok(older) = cache.seen().copy(alloc) else {
         return println!(rt; "  no block");
     };
+    let mut scratch = Scratch::new(alloc);
+    let mut then = roots.copy();
+    let Some(mark) = cached_block(alloc, cache, &mut then, proof, &mut scratch, steps) else {
+        return println!(rt; "  no block");
+    };
+    let Ok(newer) = cache.seen().copy(alloc) else {
+        return println!(rt; "  no block");
+    };
+    let (lost, _) = others(cache, &older);
+    undo(cache, mark);
+    let (_, gained) = others(cache, &newer);
+    let moved = moved_between(&older.kept, &newer.kept);
     println!(rt;
-        "  {} kept, {} digests; a mark has {} digests, {} places and {} of entries, {} bytes",
-        mark.kept,
-        mark.held,
-        mark.lost,
-        mark.gained,
-        mark.moved,
-        mark.bytes()
+        "  {} kept, {} digests; a mark has {lost} digests, {gained} places and {moved} of entries, {} bytes",
+        older.kept.len(),
+        older.held.len(),
+        48 * lost.min(1 << 40) + 16 * gained.min(1 << 40) + 24 * moved.min(1 << 40)
     )
 }
 
-/// How long some blocks took without a cache and with one, and the way back; and how many were accepted.
-#[derive(Clone, Copy)]
-struct Times {
-    bare: Duration,
-    cached: Duration,
-    back: Duration,
-    done: u64,
-}
+/// How long a block took without a cache, with one, and the way back; and whether it was accepted.
+type Times = (Duration, Duration, Duration, bool);
 
-fn time_bare<R: CpuClock, L: Ledger>(
-    rt: &R,
-    alloc: Global,
-    roots: &Roots<Sha512t256>,
-    proof: &Proof,
-    times: &mut Times,
-    steps: &mut Steps<L>,
-) -> io::Result<()> {
-    let mut scratch = Scratch::new(alloc);
-    let mut then = roots.copy();
-    let mut watch = Stopwatch::start(rt)?;
-    let accepted = bare_block(alloc, &mut then, proof, &mut scratch, steps);
-    times.bare = times.bare.saturating_add(watch.lap(rt)?);
-    times.done = times.done.saturating_add(u64::from(accepted));
-    Ok(())
-}
-
-fn time_cached<R: CpuClock, L: Ledger>(
+fn time_block<R: CpuClock, L: Ledger>(
     rt: &R,
     alloc: Global,
     cache: &mut Cache<Sha512t256>,
     roots: &Roots<Sha512t256>,
     proof: &Proof,
-    times: &mut Times,
     steps: &mut Steps<L>,
-) -> io::Result<()> {
+) -> io::Result<Times> {
+    let mut scratch = Scratch::new(alloc);
+    let mut then = roots.copy();
+    let mut watch = Stopwatch::start(rt)?;
+    let accepted = bare_block(alloc, &mut then, proof, &mut scratch, steps);
+    let bare = watch.lap(rt)?;
     let mut scratch = Scratch::new(alloc);
     let mut then = roots.copy();
     let mut watch = Stopwatch::start(rt)?;
     let mark = cached_block(alloc, cache, &mut then, proof, &mut scratch, steps);
-    times.cached = times.cached.saturating_add(watch.lap(rt)?);
+    let cached = watch.lap(rt)?;
     if let Some(mark) = mark {
         undo(cache, mark);
-        times.back = times.back.saturating_add(watch.lap(rt)?);
     }
-    Ok(())
+    Ok((bare, cached, watch.lap(rt)?, accepted))
 }
 
 fn measure_blocks<R: CpuClock + Print, L: Ledger>(
@@ -407,38 +319,40 @@ fn measure_blocks<R: CpuClock + Print, L: Ledger>(
     proof: &Proof,
     steps: &mut Steps<L>,
 ) -> io::Result<()> {
-    let mut times = Times {
-        bare: Duration::ZERO,
-        cached: Duration::ZERO,
-        back: Duration::ZERO,
-        done: 0,
-    };
+    let mut without = Duration::ZERO;
+    let mut with = Duration::ZERO;
+    let mut back = Duration::ZERO;
+    let mut done: u64 = 0;
     for _ in 0..ROUNDS {
-        time_bare(rt, alloc, roots, proof, &mut times, steps)?;
-        time_cached(rt, alloc, cache, roots, proof, &mut times, steps)?;
+        let times = time_block(rt, alloc, cache, roots, proof, steps)?;
+        without = without.saturating_add(times.0);
+        with = with.saturating_add(times.1);
+        back = back.saturating_add(times.2);
+        done = done.saturating_add(u64::from(times.3));
     }
     println!(rt;
-        "{BLOCK} deletions and additions, {} times: {} us, with a cache {} us, back {} us",
-        times.done,
-        times.bare.as_micros(),
-        times.cached.as_micros(),
-        times.back.as_micros()
+        "{BLOCK} deletions and additions, {done} times: {} us, with a cache {} us, back {} us",
+        without.as_micros(),
+        with.as_micros(),
+        back.as_micros()
     )
 }
 
-fn measure<R: CpuClock + Print, L: Ledger>(
+/// Microseconds of a block of a thousand deletions and a thousand additions over a forest of 2^20 entries, with and without a
+/// cache that keeps none, a hundred and ten thousand of them, and the bytes of its mark.
+pub fn measure_cache<R: CpuClock + Print + AllocGlobal, L: Ledger>(
     rt: &R,
-    alloc: Global,
-    kept: u64,
     steps: &mut Steps<L>,
 ) -> io::Result<()> {
-    let forest = grown(alloc, steps);
-    let proof = prove(alloc, &forest)?;
-    let mut cache = Cache::<Sha512t256>::new(alloc, Watch::empty(alloc));
-    let mut roots = Roots::<Sha512t256>::new();
-    for _ in 0..ENTRIES / 1_024 {
-        grow_by(alloc, &mut cache, &mut roots, 1_024, kept, steps);
+    let alloc = rt.alloc();
+    for kept in [0, 100, 10_000] {
+        let forest = grown(alloc, steps);
+        let proof = prove(alloc, &forest)?;
+        let mut cache = Cache::<Sha512t256>::new(alloc, Watch::empty(alloc));
+        let mut roots = Roots::<Sha512t256>::new();
+        grow_by(alloc, &mut cache, &mut roots, ENTRIES / 1_024, kept, steps);
+        measure_blocks(rt, alloc, &mut cache, &roots, &proof, steps)?;
+        measure_mark(rt, alloc, &mut cache, &roots, &proof, steps)?;
     }
-    measure_blocks(rt, alloc, &mut cache, &roots, &proof, steps)?;
-    measure_mark(rt, alloc, &mut cache, &roots, &proof, steps)
+    Ok(())
 }

@@ -1,13 +1,21 @@
 //! Generated feeds.
 ghost use Rattle.std.specs.Prelude.{◌≤◌};
 
-use chain_gen::{Made, generate};
+use chain_gen::generate;
 use std::alloc::Global;
 use std::io;
 use std::rt::Clock;
-use std::time::{Duration, Instant};
+use std::time::Instant;
 use uo_base::{MemSink, Net};
 use uo_digest::sha256d;
+
+fn hash_pieces(text: &[u8]) -> u8 {
+    let mut seen = 0;
+    for piece in text.chunks(100) {
+        seen ^= sha256d(piece).0[0];
+    }
+    seen
+}
 
 /// Milliseconds of generating feeds of a thousand to a hundred thousand blocks, and of hashing as many bytes in small pieces.
 pub fn measure_feeds<R: Clock + Print + AllocGlobal>(rt: &R) -> io::Result<()> {
@@ -17,14 +25,6 @@ pub fn measure_feeds<R: Clock + Print + AllocGlobal>(rt: &R) -> io::Result<()> {
         }
     }
     Ok(())
-}
-
-fn hash_pieces(text: &[u8]) -> u8 {
-    let mut seen = 0;
-    for piece in text.chunks(100) {
-        seen ^= sha256d(piece).0[0];
-    }
-    seen
 }
 
 fn measure<R: Clock + Print>(rt: &R, alloc: Global, blocks: u32) -> io::Result<()>
@@ -37,24 +37,14 @@ fn measure<R: Clock + Print>(rt: &R, alloc: Global, blocks: u32) -> io::Result<(
     let start = Instant::now(rt)?;
     let seen = hash_pieces(sink.held());
     let hashing = start.elapsed(rt)?;
-    match made {
-        Ok(made) => report(rt, made, making, hashing, seen),
-        Err(_) => println!(rt; "{blocks} blocks: no memory"),
-    }
-}
-
-fn report<R: Print>(
-    rt: &R,
-    made: Made,
-    making: Duration,
-    hashing: Duration,
-    seen: u8,
-) -> io::Result<()> {
+    let Ok(feed) = made else {
+        return println!(rt; "{blocks} blocks: no memory");
+    };
     println!(rt;
         "{} blocks, {} rollbacks, {} bytes: {} ms, hashing {} ms; {seen}",
-        made.blocks,
-        made.rollbacks,
-        made.bytes,
+        feed.blocks,
+        feed.rollbacks,
+        feed.bytes,
         making.as_millis(),
         hashing.as_millis()
     )

@@ -1,32 +1,32 @@
 //! The auditor's search for two texts with one digest, in a message of as many targets as a block can have.
-ghost use Rattle.std.specs.Prelude.{◌≡◌, ◌+◌, ◌^◌, ◌<◌, OnOk};
 ghost use Rattle.output_index.specs.Held.{IsAbove};
 
 use crate::names::name_of;
+use crate::outputs::{insert, record_of};
+use crate::rules::{TIP, judge};
+use crate::spending::{block_of, input_of};
 use crate::stopwatch::Stopwatch;
-use block_codec::{BlockView, read_block};
-use block_rules::{Chain, Spends, shape_rules};
-use block_samples::{SampleFault, block_behind, coinbase, legacy_tx};
+use crate::targets::{hashes_of, targets_of};
+use block_codec::read_block;
+use block_rules::Spends;
+use block_samples::SampleFault;
 use bridge_forest::Forest;
 use clash_find::{Clash, find};
 use forest_roots::pair;
-use leaf_record::{LeafBuf, Record, RestView, leaf_digest, leaf_text};
+use leaf_record::{LeafBuf, RestView, leaf_digest, leaf_text};
 use output_index::Outputs;
 use proof_shape::Targets;
 use proof_wire::{Message, MessageView, read_message};
 use std::alloc::Global;
 use std::io;
-use std::sync::ledger::{Blank, Ledger};
+use std::sync::ledger::Ledger;
 use std::time::CpuClock;
-use tx_codec::{InView, OutView};
-use uo_base::{Limits, Net, NoMemory};
+use tx_codec::OutView;
+use uo_base::NoMemory;
 use uo_digest::{Digest, Digester, Sha512t256, Steps, XorFold};
 
 /// The most outputs that a block can spend.
 const MOST: u32 = 24_384;
-
-/// The hash of the block before the one that spends them.
-const TIP: Digest = Digest([5; 32]);
 
 /// An amount in satoshi, and another.
 const AMOUNT: u64 = 5;
@@ -40,16 +40,11 @@ const OTHER: u64 = 4;
 /// all digests above them differ, and that of the root does not.
 pub fn measure_finder<R: CpuClock + Print + AllocGlobal, L: Ledger>(
     rt: &R,
-    blank: Blank,
-) -> io::Result<()>
-    requires name { blank.name ≡ L.name }
-    requires parts { blank.parts ≡ L.parts }
-    requires some { 0 < blank.parts }
-{
-    let mut steps = Steps::<L>::new(blank);
+    steps: &mut Steps<L>,
+) -> io::Result<()> {
     for entries in [1 << 17, 1 << 20] {
-        measure::<R, Sha512t256, L>(rt, rt.alloc(), "SHA-512/256", entries, false, &mut steps)?;
-        measure::<R, XorFold, L>(rt, rt.alloc(), "exclusive or", entries, true, &mut steps)?;
+        measure::<R, Sha512t256, L>(rt, rt.alloc(), "SHA-512/256", entries, false, steps)?;
+        measure::<R, XorFold, L>(rt, rt.alloc(), "exclusive or", entries, true, steps)?;
     }
     Ok(())
 }
@@ -59,6 +54,7 @@ pub fn measure_finder<R: CpuClock + Print + AllocGlobal, L: Ledger>(
 struct Case<D: Digester> {
     forest: Forest<D>,
     outputs: Outputs,
+    positions: Vec<u64>,
     block: Vec<u8>,
     message: Vec<u8>,
 }
@@ -73,35 +69,6 @@ fn rest_of(amount: u64) -> RestView<'static> {
     }
 }
 
-// The entry that input i spends: all different, and all over either half of the forest in turn.
-fn chosen(i: u32, entries: u32) -> u32 {
-    let half = (entries / 2).max(1);
-    let within = (i / 2).wrapping_mul(0x9e37_79b1) % half;
-    if i % 2 == 0 {
-        within
-    } else {
-        within.saturating_add(half)
-    }
-}
-
-fn add<D: Digester, L: Ledger>(
-    forest: &mut Forest<D>,
-    outputs: &mut Outputs,
-    room: &mut LeafBuf<D>,
-    number: u64,
-    leaf: Record,
-    steps: &mut Steps<L>,
-) -> Result<(), NoMemory>
-    requires { IsAbove number outputs.old }
-    ensures { OnOk result (IsAbove (number + 1) outputs.new) }
-{
-    let digest = leaf_digest(room, &leaf.view(), steps);
-    if 0 < forest.spare() && forest.leaves() < 1 << 39 {
-        let _ = forest.add(digest, steps);
-    }
-    outputs.insert(number, leaf)
-}
-
 fn grow<D: Digester, L: Ledger>(
     alloc: Global,
     forest: &mut Forest<D>,
@@ -111,79 +78,66 @@ fn grow<D: Digester, L: Ledger>(
 ) -> Result<(), NoMemory>
     requires { IsAbove 0 outputs.old }
 {
-    let mut room = LeafBuf::new(alloc)?;
+    let mut room = LeafBuf::<D>::new(alloc)?;
     forest.reserve(u64::from(entries))?;
     for number in 0..entries {
-        let leaf = rest_of(AMOUNT)
-            .with_outpoint(name_of(u64::from(number)), 0)
-            .to_record(alloc)?;
-        add(forest, outputs, &mut room, u64::from(number), leaf, steps)?;
+        let leaf = record_of(alloc, u64::from(number), b"\x51")?;
+        let digest = leaf_digest(&mut room, &leaf.view(), steps);
+        if 0 < forest.spare() && forest.leaves() < 1 << 39 {
+            let _ = forest.add(digest, steps);
+        }
+        insert(outputs, u64::from(number), leaf)?;
     }
     Ok(())
 }
 
-fn input_of(number: u32) -> InView<'static> {
-    InView {
-        txid: name_of(u64::from(number)),
-        index: 0,
-        script: &[],
-        sequence: 0,
+// The entries that are spent: all different, and all over either half of the forest in turn. While none is spent each stands in the
+// lowest row, so these are their positions too.
+fn chosen(alloc: Global, entries: u32) -> Result<Vec<u64>, NoMemory> {
+    let mut positions = Vec::new(alloc);
+    let half = (entries / 2).max(1);
+    for i in 0..MOST {
+        let within = (i / 2).wrapping_mul(0x9e37_79b1) % half;
+        let first = if i % 2 == 0 { 0 } else { half };
+        positions.push(u64::from(within.saturating_add(first)))?;
     }
+    Ok(positions)
 }
 
-fn block_of(alloc: Global, entries: u32) -> Result<Vec<u8>, SampleFault> {
+fn block_spending(alloc: Global, numbers: &[u64]) -> Result<Vec<u8>, SampleFault> {
     let mut inputs = Vec::new(alloc);
-    inputs.push(input_of(chosen(0, entries)))?;
-    for i in 1..MOST {
-        inputs.push(input_of(chosen(i, entries)))?;
+    for number in numbers {
+        inputs.push(input_of(name_of(*number), 0))?;
     }
     let output = OutView {
         amount: 0,
         script: b"\x51",
     };
-    let txs = [
-        coinbase(alloc, 101, &[output])?,
-        legacy_tx(alloc, &inputs, &[output], 0)?,
-    ];
-    Ok(block_behind(alloc, TIP, &txs)?.text)
+    Ok(block_of(alloc, TIP, 101, &[output], &inputs, &[output])?.text)
 }
 
-// What is shown of each input. While no entry is spent each stands in the lowest row.
-fn show(
-    message: &mut Message,
-    positions: &mut Vec<u64>,
-    entries: u32,
-    forged: bool,
-) -> Result<(), NoMemory> {
-    for i in 0..MOST {
-        let position = u64::from(chosen(i, entries));
-        let amount = if forged && i < 2 { OTHER } else { AMOUNT };
-        message.push_spend(position, &rest_of(amount))?;
-        positions.push(position)?;
+// What is shown of each input, with another amount in the first two of a forged message.
+fn shown(alloc: Global, positions: &[u64], forged: bool) -> Result<Message, NoMemory> {
+    let mut message = Message::new(alloc, false);
+    let mut others: u32 = if forged { 2 } else { 0 };
+    for position in positions {
+        let amount = if others > 0 { OTHER } else { AMOUNT };
+        others = others.saturating_sub(1);
+        message.push_spend(*position, &rest_of(amount))?;
     }
-    Ok(())
-}
-
-fn targets_of(alloc: Global, entries: u64, positions: &[u64]) -> Option<Targets> {
-    if positions.len() >= 1 << 32 || entries >= 1 << 40 {
-        return None;
-    }
-    Targets::new(alloc, entries, positions).ok()
+    Ok(message)
 }
 
 fn message_of<D: Digester>(
     alloc: Global,
     forest: &Forest<D>,
-    entries: u32,
+    positions: &[u64],
     forged: bool,
 ) -> Result<Vec<u8>, NoMemory> {
-    let mut message = Message::new(alloc, false);
-    let mut positions = Vec::new(alloc);
-    show(&mut message, &mut positions, entries, forged)?;
-    if let Some(targets) = targets_of(alloc, forest.leaves(), &positions) {
-        for place in targets.needed() {
-            message.push_hash(forest.digest_at(*place).unwrap_or(TIP))?;
-        }
+    let mut message = shown(alloc, positions, forged)?;
+    let hashes = hashes_of(alloc, forest, positions)?;
+    for hash in hashes.as_slice() {
+        message.push_hash(*hash)?;
     }
     let mut text = Vec::new(alloc);
     message.write(&mut text)?;
@@ -199,22 +153,16 @@ fn case_of<D: Digester, L: Ledger>(
     let mut forest = Forest::new(alloc);
     let mut outputs = Outputs::new(alloc);
     grow(alloc, &mut forest, &mut outputs, entries, steps)?;
-    let message = message_of(alloc, &forest, entries, forged)?;
+    let positions = chosen(alloc, entries)?;
+    let block = block_spending(alloc, &positions)?;
+    let message = message_of(alloc, &forest, &positions, forged)?;
     Ok(Case {
         forest,
         outputs,
-        block: block_of(alloc, entries)?,
+        positions,
+        block,
         message,
     })
-}
-
-fn spends_of<'a>(alloc: Global, block: &BlockView<'a>) -> Option<Spends<'a>> {
-    let chain = Chain {
-        blocks: 101,
-        tip: TIP,
-        leaves: 0,
-    };
-    shape_rules(alloc, block, &chain, Net::Main, Limits::standard()).ok()
 }
 
 fn search<D: Digester, L: Ledger>(
@@ -239,41 +187,22 @@ fn search<D: Digester, L: Ledger>(
     .ok()?
 }
 
-/// The digests of a search: one for the leaf of each target, and one for each covered place above them.
-#[derive(Clone, Copy)]
-struct Needed {
-    leaves: u64,
-    pairs: u64,
-}
-
-fn needed_of(alloc: Global, entries: u32) -> Option<Needed> {
-    let mut positions = Vec::new(alloc);
-    for i in 0..MOST {
-        positions.push(u64::from(chosen(i, entries))).ok()?;
-    }
-    let targets = targets_of(alloc, u64::from(entries), &positions)?;
-    let leaves = u64::from(targets.len());
-    let covered = targets.covered().0.len() as u64;
-    Some(Needed {
-        leaves,
-        pairs: covered.saturating_sub(leaves),
-    })
-}
-
-// As many digests one after the other, each of a text that has the one before in it.
+// As many digests as a search takes, one after the other, each of a text that has the one before in it: one for the leaf of each
+// target, and one for each covered place above them.
 fn digest_alone<D: Digester, L: Ledger>(
     alloc: Global,
-    needed: Needed,
+    leaves: u64,
+    pairs: u64,
     steps: &mut Steps<L>,
 ) -> Result<Digest, NoMemory> {
     let mut last = TIP;
     let mut text = Vec::new(alloc);
-    for _ in 0..needed.leaves {
+    for _ in 0..leaves {
         text.clear();
         leaf_text(&rest_of(AMOUNT).with_outpoint(last, 0), &mut text)?;
         last = D::digest(&text, steps);
     }
-    for _ in 0..needed.pairs {
+    for _ in 0..pairs {
         last = pair::<D, L>(last, last, steps);
     }
     Ok(last)
@@ -290,18 +219,18 @@ fn measure<R: CpuClock + Print, D: Digester, L: Ledger>(
     let Ok(case) = case_of::<D, L>(alloc, entries, forged, steps) else {
         return println!(rt; "no memory");
     };
-    let Some(needed) = needed_of(alloc, entries) else {
+    let Some(targets) = targets_of(alloc, u64::from(entries), &case.positions) else {
         return println!(rt; "no memory");
     };
+    let leaves = u64::from(targets.len());
+    let pairs = (targets.covered().0.len() as u64).saturating_sub(leaves);
     println!(rt; "{MOST} of {entries} outputs, by {name}:")?;
     measure_search(rt, alloc, &case, steps)?;
     let mut watch = Stopwatch::start(rt)?;
-    let last = digest_alone::<D, L>(alloc, needed, steps);
+    let last = digest_alone::<D, L>(alloc, leaves, pairs, steps);
     let time = watch.lap(rt)?;
     println!(rt;
-        "  its {} leaf digests and {} pairs alone {} us; {}",
-        needed.leaves,
-        needed.pairs,
+        "  its {leaves} leaf digests and {pairs} pairs alone {} us; {}",
         time.as_micros(),
         last.map_or(0, |digest| digest.0[0])
     )
@@ -321,7 +250,7 @@ fn measure_search<R: CpuClock + Print, D: Digester, L: Ledger>(
     let Ok(block) = read_block(alloc, bytes) else {
         return println!(rt; "  no block");
     };
-    let Some(spends) = spends_of(alloc, &block) else {
+    let Some(spends) = judge(alloc, &block) else {
         return println!(rt; "  a refused block");
     };
     let Ok(message) = read_message(alloc, &case.message) else {

@@ -1,10 +1,9 @@
 //! Outputs by their names.
-ghost use Rattle.std.specs.Prelude.{◌+◌, OnOk};
+ghost use Rattle.std.specs.Prelude.{◌+◌, ◌≤◌, length, OnOk};
 ghost use Rattle.output_index.specs.Held.{IsAbove};
 
 use crate::names::name_of;
 use crate::probe::descend;
-use crate::rate::nanoseconds_each;
 use crate::stopwatch::Stopwatch;
 use leaf_record::Record;
 use output_index::Outputs;
@@ -24,15 +23,18 @@ pub fn measure_outputs<R: CpuClock + Print + AllocGlobal>(rt: &R) -> io::Result<
     Ok(())
 }
 
-fn record_of(alloc: Global, number: u32) -> Result<Record, NoMemory> {
+/// An output that is named by its number.
+pub fn record_of(alloc: Global, number: u64, script: &[u8]) -> Result<Record, NoMemory>
+    requires { length script.now ≤ 10000 }
+{
     Ok(Record {
         block: Digest([1; 32]),
-        txid: name_of(u64::from(number)),
+        txid: name_of(number),
         index: 0,
         height: 7,
         coinbase: false,
         amount: 5,
-        script: vec![in alloc; 0x51]?,
+        script: Vec::from_slice(alloc, script)?,
     })
 }
 
@@ -40,12 +42,14 @@ fn insert_all(alloc: Global, outputs: &mut Outputs, entries: u32) -> Result<(), 
     requires { IsAbove 0 outputs.old }
 {
     for number in 0..entries {
-        insert(outputs, u64::from(number), record_of(alloc, number)?)?;
+        let leaf = record_of(alloc, u64::from(number), b"\x51")?;
+        insert(outputs, u64::from(number), leaf)?;
     }
     Ok(())
 }
 
-fn insert(outputs: &mut Outputs, number: u64, leaf: Record) -> Result<(), NoMemory>
+/// Adds an output behind all others.
+pub fn insert(outputs: &mut Outputs, number: u64, leaf: Record) -> Result<(), NoMemory>
     requires { IsAbove number outputs.old }
     ensures { OnOk result (IsAbove (number + 1) outputs.new) }
 {
@@ -97,7 +101,7 @@ fn measure_bare<R: CpuClock + Print>(rt: &R, alloc: Global, entries: u32) -> io:
     let time = watch.lap(rt)?;
     println!(rt;
         "  two searches of {levels} bare reads over as many bytes: {} ns; {seen}",
-        nanoseconds_each(u64::from(entries), time)
+        time.as_nanos() / u128::from(entries).max(1)
     )
 }
 
@@ -113,10 +117,11 @@ fn measure<R: CpuClock + Print>(rt: &R, alloc: Global, entries: u32) -> io::Resu
     let finding = watch.lap(rt)?;
     spend_all(&mut outputs, entries);
     let spending = watch.lap(rt)?;
+    let count = u128::from(entries);
     println!(rt;
         "{entries} outputs: insert {} ns, newest {} ns, spend {} ns; {seen}",
-        nanoseconds_each(u64::from(entries), adding),
-        nanoseconds_each(u64::from(entries), finding),
-        nanoseconds_each(u64::from(entries), spending)
+        adding.as_nanos() / count.max(1),
+        finding.as_nanos() / count.max(1),
+        spending.as_nanos() / count.max(1)
     )
 }
