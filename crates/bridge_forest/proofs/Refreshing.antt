@@ -9,8 +9,8 @@ use Rattle.forest_model.specs.Content.{Tree, leaf, join, content, digest_of, joi
 use Rattle.forest_place.specs.Forest.{InForest, sibling_off}
 use Rattle.forest_place.proofs.Parts.{parts-suc, InForest-down, not_root-down}
 use Rattle.forest_place.proofs.Siblings.{sibling_cases, sibling_within}
-use Rattle.bridge_forest.specs.Parts.{middle, kept, part_digest, AreParts, ArePartsBut, AreBeside, pairs, digests_to}
-use Rattle.bridge_forest.proofs.Middles.{middle_below, middle_one}
+use Rattle.bridge_forest.specs.Parts.{seam, kept, part_digest, AreParts, ArePartsBut, AreBeside, pairs, digests_to}
+use Rattle.bridge_forest.proofs.Seams.{seam_below, seam_one}
 use Rattle.bridge_forest.proofs.Entries.{content-set_other, parts_before, path_below}
 
 pub digest-joined : (H : List ℕ → Digest) (x y : Option Tree) → option_map (digest_of H) (join x y) ≡ join_digests H (option_map (digest_of H) x) (option_map (digest_of H) y)
@@ -52,16 +52,6 @@ pub beside_right : (H : List ℕ → Digest) (n : ℕ) (leaves parts : List (Opt
 beside_right H n leaves parts number zero right h = digest-leaf H (sibling_off (number / 1)) (get_or leaves (sibling_off (number / 1)) None)
 beside_right H n leaves parts number (suc row) right h =
     right.is row (sibling_off (number / 2 ^ suc row)) (sibling_in n (suc row) (number / 2 ^ suc row) (subst (λ x. InForest n (suc (suc row)) x) (parts-suc number (suc row)) h)) (λ low same. sibling_apart (number / 2 ^ suc row) (sym same))
-
--- a part that has the entry may be anything
-pub path_cleared : (H : List ℕ → Digest) (n : ℕ) (leaves parts : List (Option Digest)) (number row o at : ℕ) (digest : Option Digest) → at ≡ middle row o → o ≡ number / 2 ^ suc row → ArePartsBut H n leaves parts number 0 → ArePartsBut H n leaves (set parts at digest) number 0
-path_cleared H n leaves parts number row o at digest ae here but = record {
-  is = λ r p h off_path.
-      get_or-set_other parts at (middle r p) digest None (λ same.
-      let w = middle_one r p row o (same ∙ ae) in
-      off_path (omega arith) (ap (λ k. number / 2 ^ suc k) w.0 ∙ sym here ∙ sym w.1))
-      ∙ but.is r p h off_path;
-}
 
 -- the parts beside an entry's, below this row
 pub record AreFound (H : List ℕ → Digest) (n : ℕ) (leaves : List (Option Digest)) (number row : ℕ) (found : List (Option Digest)) : Type 0 where
@@ -117,33 +107,33 @@ joined_right H leaves row o left right digest le re de =
 module _ (H : List ℕ → Digest) (n : ℕ) (leaves parts : List (Option Digest)) (number : ℕ) where
   -- one row more
   pub row_more : (row o : ℕ) (digest : Option Digest) → n ≤ length parts → o ≡ number / 2 ^ suc row → InForest n (suc row) o → ArePartsBut H n leaves parts number row → digest ≡ part_digest H leaves (suc row) o →
-      ArePartsBut H n leaves (set parts (middle row o) digest) number (suc row)
+      ArePartsBut H n leaves (set parts (seam row o) digest) number (suc row)
   row_more row o digest room here within but x =
-      let lt : middle row o < length parts = omega (arith, middle_below n row o within) in
+      let lt : seam row o < length parts = omega (arith, seam_below n row o within) in
       record {
         is = λ r p h off_path.
             ⊎_elim
             (λ same.
-            let w = middle_one r p row o same in
-            let e : get_or (set parts (middle row o) digest) (middle row o) None ≡ part_digest H leaves (suc row) o = get_or-set_same parts (middle row o) digest None lt ∙ x in
-            subst (λ a. get_or (set parts (middle row o) digest) a None ≡ part_digest H leaves (suc r) p) (sym same) (e ∙ ap₂ (λ a b. part_digest H leaves (suc a) b) (sym w.0) (sym w.1)))
+            let w = seam_one r p row o same in
+            let e : get_or (set parts (seam row o) digest) (seam row o) None ≡ part_digest H leaves (suc row) o = get_or-set_same parts (seam row o) digest None lt ∙ x in
+            subst (λ a. get_or (set parts (seam row o) digest) a None ≡ part_digest H leaves (suc r) p) (sym same) (e ∙ ap₂ (λ a b. part_digest H leaves (suc a) b) (sym w.0) (sym w.1)))
             (λ other.
-            get_or-set_other parts (middle row o) (middle r p) digest None other ∙
+            get_or-set_other parts (seam row o) (seam r p) digest None other ∙
             but.is r p h (λ low at.
             ⊎_elim
-            (λ e. let q : p ≡ o = sym at ∙ (ap (λ k. number / 2 ^ suc k) e ∙ sym here) in other (ap₂ middle e q))
+            (λ e. let q : p ≡ o = sym at ∙ (ap (λ k. number / 2 ^ suc k) e ∙ sym here) in other (ap₂ seam e q))
             (λ ne. off_path (omega (arith, ne)) at)
             (cases_eq r row)))
-            (cases_eq (middle r p) (middle row o));
+            (cases_eq (seam r p) (seam row o));
       }
 
   -- the same where the code has written it
-  pub row_written : (row o at : ℕ) (digest : Option Digest) → n ≤ length parts → at ≡ middle row o → o ≡ number / 2 ^ suc row → InForest n (suc row) o → ArePartsBut H n leaves parts number row → digest ≡ part_digest H leaves (suc row) o →
+  pub row_written : (row o at : ℕ) (digest : Option Digest) → n ≤ length parts → at ≡ seam row o → o ≡ number / 2 ^ suc row → InForest n (suc row) o → ArePartsBut H n leaves parts number row → digest ≡ part_digest H leaves (suc row) o →
       ArePartsBut H n leaves (set parts at digest) number (row + 1)
   row_written row o at digest room ae here within but x =
       let e : suc row ≡ row + 1 = omega arith in
       subst (λ k. ArePartsBut H n leaves (set parts k digest) number (row + 1)) (sym ae)
-      (subst (λ k. ArePartsBut H n leaves (set parts (middle row o) digest) number k) e (row_more row o digest room here within but x))
+      (subst (λ k. ArePartsBut H n leaves (set parts (seam row o) digest) number k) e (row_more row o digest room here within but x))
 
   -- all rows
   pub rows_done : (row off : ℕ) → off ≡ number / 2 ^ row → (off / 2 < n / 2 ^ row / 2 → ⊥) → ArePartsBut H n leaves parts number row → AreParts H n leaves parts

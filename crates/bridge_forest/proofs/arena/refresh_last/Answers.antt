@@ -3,21 +3,21 @@ use Rattle.forest_place.specs.Forest.{InForest}
 use Rattle.forest_place.proofs.Parts.{parts-suc, InForest-left, InForest-right}
 use Rattle.forest_place.proofs.Positions.{row_small}
 use Rattle.bridge_forest.specs.Parts.{kept, part_digest, digests_to}
-use Rattle.bridge_forest.proofs.Middles.{middle_below}
+use Rattle.bridge_forest.proofs.Seams.{seam_below}
 use Rattle.bridge_forest.proofs.Refreshing.{up_within, kept_right_but, joined_right, row_written, rows_done, cost_more}
 use Rattle.bridge_forest.proofs.arena.refresh_last.Goals as goal
 
-pub middle-requires-clause-small : goal.middle-requires-clause-small
-middle-requires-clause-small g c =
-    omega (arith, middle_below c.args.n c.loop-off.row (c.loop-off.off / 2) (up_within c.args.n c.loop-off.row c.loop-off.off c.loop-off-test.true), c.requires.small)
+pub seam-requires-clause-small : goal.seam-requires-clause-small
+seam-requires-clause-small g c =
+    omega (arith, seam_below c.args.n c.loop-off.row (c.loop-off.off / 2) (up_within c.args.n c.loop-off.row c.loop-off.off c.loop-off-test.true), c.requires.small)
 
-pub offset_bounds-parts-middle : goal.offset_bounds-parts-middle
-offset_bounds-parts-middle g c =
-    omega (arith, c.middle.ensures, middle_below c.args.n c.loop-off.row (c.loop-off.off / 2) (up_within c.args.n c.loop-off.row c.loop-off.off c.loop-off-test.true), c.requires.small)
+pub offset_bounds-parts-seam : goal.offset_bounds-parts-seam
+offset_bounds-parts-seam g c =
+    omega (arith, c.seam.ensures, seam_below c.args.n c.loop-off.row (c.loop-off.off / 2) (up_within c.args.n c.loop-off.row c.loop-off.off c.loop-off-test.true), c.requires.small)
 
-pub bounds-parts-middle : goal.bounds-parts-middle
-bounds-parts-middle g c =
-    omega (arith, c.middle.ensures, middle_below c.args.n c.loop-off.row (c.loop-off.off / 2) (up_within c.args.n c.loop-off.row c.loop-off.off c.loop-off-test.true), c.requires.parts)
+pub bounds-parts-seam : goal.bounds-parts-seam
+bounds-parts-seam g c =
+    omega (arith, c.seam.ensures, seam_below c.args.n c.loop-off.row (c.loop-off.off / 2) (up_within c.args.n c.loop-off.row c.loop-off.off c.loop-off-test.true), c.requires.parts)
 
 pub loop-off-preserved : goal.loop-off-preserved
 loop-off-preserved g c =
@@ -41,7 +41,7 @@ loop-off-preserved g c =
       small = row_small n (row + 1) (off / 2) 40 within' c.requires.small;
       here = subst (λ x. off / 2 ≡ i / 2 ^ x) e here;
       within = within';
-      right = row_written H n leaves parts i row (off / 2) c.middle.result c.joined-above.result (omega (arith, c.requires.parts)) c.middle.ensures here within c.loop-off.invariant.right digest;
+      right = row_written H n leaves parts i row (off / 2) c.seam.result c.joined-above.result (omega (arith, c.requires.parts)) c.seam.ensures here within c.loop-off.invariant.right digest;
       cost = subst (λ x. c.joined-above.new.steps ≡ c.args.steps.now + digests_to leaves i x) e cost;
     }
 

@@ -1,8 +1,7 @@
 use Rattle.std.proofs.Common.{◌≡◌, ◌-◌, ◌/◌, ◌^◌, ◌<◌}
 use Rattle.forest_place.specs.Forest.{InForest}
-use Rattle.bridge_forest.specs.Parts.{ArePartsBut}
 use Rattle.bridge_forest.proofs.Refreshing.{AreFound}
-use Rattle.bridge_forest.proofs.arena.clear_path.Given as goal
+use Rattle.bridge_forest.proofs.arena.gather.Given as goal
 
 abbrev pub invariant-rows : goal.invariant-rows
 invariant-rows g l = record {
@@ -10,7 +9,6 @@ invariant-rows g l = record {
   here : l.off ≡ l.number / 2 ^ l.row;
   there : l.other ≡ l.next / 2 ^ l.row;
   within : InForest l.n l.row l.off;
-  right : ArePartsBut g.D.Digester.digest_of l.n l.leaves l.parts l.number 0;
   found : AreFound g.D.Digester.digest_of l.n l.leaves l.number l.row l.siblings;
 }
 

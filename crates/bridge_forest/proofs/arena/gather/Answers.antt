@@ -1,28 +1,15 @@
-use Rattle.std.proofs.Common.{◌≡◌, suc, ◌+◌, ◌/◌, ◌^◌, None, sym, ap, ◌∙◌, subst, arith}
+use Rattle.std.proofs.Common.{◌≡◌, suc, ◌+◌, ◌/◌, ◌^◌, sym, ap, ◌∙◌, subst, arith}
 use Rattle.std.proofs.lemmas.Bool.{true≢false}
 use Rattle.forest_place.specs.Forest.{InForest, sibling_off}
 use Rattle.forest_place.proofs.Parts.{parts-suc}
 use Rattle.forest_place.proofs.Positions.{row_small}
 use Rattle.bridge_forest.specs.Parts.{kept, part_digest}
-use Rattle.bridge_forest.proofs.Middles.{middle_below}
-use Rattle.bridge_forest.proofs.Refreshing.{up_within, sibling_in, beside_right, path_cleared, one_found, all_found}
-use Rattle.bridge_forest.proofs.arena.clear_path.Goals as goal
+use Rattle.bridge_forest.proofs.Refreshing.{up_within, sibling_in, beside_right, one_found, all_found}
+use Rattle.bridge_forest.proofs.arena.gather.Goals as goal
 
 pub part_in-requires-clause-within : goal.part_in-requires-clause-within
 part_in-requires-clause-within g c =
     subst (λ x. InForest c.args.n c.rows.row x) (sym c.sibling.ensures.off) (sibling_in c.args.n c.rows.row c.rows.off (up_within c.args.n c.rows.row c.rows.off (c.goes_up.ensures.0 c.rows-test.true).0))
-
-pub middle-requires-clause-small : goal.middle-requires-clause-small
-middle-requires-clause-small g c =
-    omega (arith, middle_below c.args.n c.rows.row (c.rows.off / 2) (up_within c.args.n c.rows.row c.rows.off (c.goes_up.ensures.0 c.rows-test.true).0), c.requires.small)
-
-pub offset_bounds-parts-middle : goal.offset_bounds-parts-middle
-offset_bounds-parts-middle g c =
-    omega (arith, c.middle.ensures, middle_below c.args.n c.rows.row (c.rows.off / 2) (up_within c.args.n c.rows.row c.rows.off (c.goes_up.ensures.0 c.rows-test.true).0), c.requires.small)
-
-pub bounds-parts-middle : goal.bounds-parts-middle
-bounds-parts-middle g c =
-    omega (arith, c.middle.ensures, middle_below c.args.n c.rows.row (c.rows.off / 2) (up_within c.args.n c.rows.row c.rows.off (c.goes_up.ensures.0 c.rows-test.true).0), c.requires.parts)
 
 pub rows-preserved : goal.rows-preserved
 rows-preserved g c =
@@ -32,19 +19,18 @@ rows-preserved g c =
     let off = c.rows.off in
     let i = c.args.number in
     let leaves = c.args.leaves.now in
-    let parts = c.rows.parts in
+    let parts = c.args.parts.now in
     let within = up_within n row off (c.goes_up.ensures.0 c.rows-test.true).0 in
     let e : suc row ≡ row + 1 = omega arith in
     let here : off / 2 ≡ i / 2 ^ suc row = omega (arith, c.rows.invariant.here, parts-suc i row) in
     let within' : InForest n (row + 1) (off / 2) = subst (λ x. InForest n x (off / 2)) e within in
     let digest : c.part_in.result.now ≡ part_digest H leaves row (sibling_off (i / 2 ^ row)) =
-    c.part_in.ensures ∙ ap (kept leaves parts row) (c.sibling.ensures.off ∙ ap sibling_off c.rows.invariant.here) ∙ beside_right H n leaves parts i row c.rows.invariant.right (subst (λ x. InForest n (suc row) x) here within) in
+    c.part_in.ensures ∙ ap (kept leaves parts row) (c.sibling.ensures.off ∙ ap sibling_off c.rows.invariant.here) ∙ beside_right H n leaves parts i row c.requires.right (subst (λ x. InForest n (suc row) x) here within) in
     record {
       small = row_small n (row + 1) (off / 2) 40 within' c.requires.small;
       here = subst (λ x. off / 2 ≡ i / 2 ^ x) e here;
       there = let t : c.rows.other / 2 ≡ c.args.next / 2 ^ suc row = ap (λ x. x / 2) c.rows.invariant.there ∙ sym (parts-suc c.args.next row) in subst (λ x. c.rows.other / 2 ≡ c.args.next / 2 ^ x) e t;
       within = within';
-      right = path_cleared H n leaves parts i row (off / 2) c.middle.result None c.middle.ensures here c.rows.invariant.right;
       found = one_found H n leaves c.rows.siblings i row c.part_in.result.now c.rows.invariant.small digest c.rows.invariant.found;
     }
 
