@@ -1,20 +1,24 @@
 -- Where what is held goes: where neither a place nor its sibling is gone, it goes with the one above it.
-use Rattle.std.proofs.Common.{◌≡◌, ℕ, zero, suc, ◌+◌, ◌-◌, ◌*◌, ◌/◌, ◌%◌, ◌^◌, ◌<◌, ◌⊎◌, inl, inr, Bool, true, false, not, List, [], ◌∷◌, ◌++◌, length, get_or, All, Option, Some, None, is_some, refl, sym, ap, ap₂, ◌∙◌, subst, ⊎_elim, arith, add-one}
+use Rattle.std.proofs.Common.{◌≡◌, ℕ, zero, suc, ◌+◌, ◌-◌, ◌*◌, ◌/◌, ◌%◌, ◌^◌, ◌<◌, ◌≤◌, ◌⊎◌, inl, inr, Bool, true, false, not, List, [], ◌∷◌, ◌++◌, length, get_or, All, Option, Some, None, is_some, refl, sym, ap, ap₂, ◌∙◌, subst, ⊎_elim, arith, add-one}
 use Rattle.std.specs.Prelude.{IfSome}
 use Rattle.std.specs.Bool.{OnTrue, OnFalse}
-use Rattle.std.proofs.lemmas.Bool.{cases_eq, true≢false, false_from_ne_true, OnFalse_from}
+use Rattle.std.proofs.lemmas.Bool.{cases_eq, cases_Bool, true≢false, false_from_ne_true, OnFalse_from}
 use Rattle.std.proofs.lemmas.List.{length-append, get_or_append_left, get_or_push, get_or_default}
 use Rattle.uo_digest.specs.declared.digest.Digest.{Digest}
 use Rattle.forest_place.specs.declared.place.Place.{Place}
 use Rattle.forest_place.specs.Forest.{InForest, is_root, sibling_off}
 use Rattle.forest_place.specs.Places.{has_place}
-use Rattle.forest_place.proofs.Parts.{half_pow}
-use Rattle.forest_place.proofs.Siblings.{sibling_cases, sibling_half, sibling_twice}
+use Rattle.forest_place.specs.Position.{position}
+use Rattle.forest_place.proofs.Listed.{place}
+use Rattle.forest_place.proofs.Parts.{half_pow, row_below, InForest-up}
+use Rattle.forest_place.proofs.Positions.{position_rises}
+use Rattle.forest_place.proofs.Siblings.{sibling_cases, sibling_half, sibling_twice, sibling_within}
 use Rattle.forest_model.specs.Cover.{Cover, cover, need, HasShape}
 use Rattle.forest_model.specs.Deletion.{is_gone, moved, child_place}
 use Rattle.forest_model.proofs.Covers.{uncovered_halves, needed_parts}
 use Rattle.forest_model.proofs.Lists.{need_had}
-use Rattle.forest_model.proofs.Moving.{moved-step}
+use Rattle.forest_model.proofs.Moving.{moved-step, moved-root}
+use Rattle.proof_shape.specs.Targeted.{NoneGonePast}
 use Rattle.proof_shape.proofs.Ordered.{has_at}
 use Rattle.proof_shape.proofs.Gone.{target_bare, up_in}
 use Rattle.proof_verify.proofs.Planned.{covered_above, uncovered_stays}
@@ -55,6 +59,33 @@ stays_uncovered ts r o false e = uncovered_stays ts r o (sym e)
 
 follows : (n : ℕ) (ts : List Place) (r o : ℕ) → InForest n r o → is_root n r o ≡ false → is_gone ts r o ≡ false → is_gone ts r (sibling_off o) ≡ false → moved n ts r o ≡ child_place false (o % 2) (moved n ts (suc r) (o / 2))
 follows n ts r o h inner here beside = moved-step n ts r o h ∙ rw (here, inner, beside) refl
+
+-- the position beside one is at most one less
+beside_past : (n r o last : ℕ) → last + 1 < position n r o → last < position n r (sibling_off o)
+beside_past n r o last lt = ⊎_elim (λ a. let z = a.1 in omega (arith, lt, z)) (λ a. let z = a.1 in omega (arith, lt, z)) (sibling_cases o)
+
+-- what comes behind all that is gone goes with the place above it
+goes_on : (n : ℕ) (ts : List Place) (last : ℕ) → NoneGonePast n ts last → (r o : ℕ) → InForest n r o → last + 1 < position n r o → is_root n r o ≡ false → moved n ts (suc r) (o / 2) ≡ Some (place (suc r) (o / 2)) → moved n ts r o ≡ Some (place r o)
+goes_on n ts last none r o h lt inner above =
+    let here = none r o h (omega (arith, lt)) in
+    let beside = none r (sibling_off o) (sibling_within n r o h inner) (beside_past n r o last lt) in
+    let down : suc r - 1 ≡ r = omega arith in
+    let off : 2 * (o / 2) + o % 2 ≡ o = omega arith in
+    follows n ts r o h inner here beside
+    ∙ (ap (child_place false (o % 2)) above
+    ∙ ap₂ (λ (x y : ℕ). let z : Option Place = Some (place x y) in z) down off)
+
+-- and so stays where it is
+pub settled : (n : ℕ) (ts : List Place) (last : ℕ) → NoneGonePast n ts last → (k r o : ℕ) → n ≤ r + k → InForest n r o → last + 1 < position n r o → moved n ts r o ≡ Some (place r o)
+settled n ts last none zero r o few h lt = let low = row_below n r o h in absurd (omega (arith, low, few))
+settled n ts last none (suc k) r o few h lt =
+    ⊎_elim
+    (λ top. moved-root n ts r o (none r o h (omega (arith, lt))) top)
+    (λ inner.
+    let up = InForest-up n r o h inner in
+    let rise = position_rises n (place r o) (place (suc r) (o / 2)) h up (inl (omega arith)) in
+    goes_on n ts last none r o h lt inner (settled n ts last none k (suc r) (o / 2) (omega (arith, few)) up (omega (arith, lt, rise))))
+    (cases_Bool (is_root n r o))
 
 -- what is covered and not gone: no place above it is gone either
 abbrev IsHalf : List Place → ℕ → ℕ → Type 0

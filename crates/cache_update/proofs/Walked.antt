@@ -44,6 +44,20 @@ module _ (hs : List (Place × Digest)) (p : Place) (at : ℕ) (n : AreBefore hs 
 pub before_first : (hs : List (Place × Digest)) (p : Place) → AreBefore hs 0 p
 before_first hs p = record { within = omega arith; each = λ j d lt. absurd (omega (arith, lt)) }
 
+-- all that comes before an index, where the last of them does
+pub before_last : (hs : List (Place × Digest)) (p : Place) (at : ℕ) (x : Place × Digest) → AscendByPlace hs → 0 < at → at ≤ length hs → is_before_place (get_or hs (at - 1) x).0 p ≡ true → AreBefore hs at p
+before_last hs p at x a some inside b = record {
+  within = inside;
+  each = λ j d below.
+      let last : is_before_place (get_or hs (at - 1) d).0 p ≡ true = ap (λ (y : Place × Digest). is_before_place y.0 p) (get_or_default hs (at - 1) d x (omega (arith, some, inside))) ∙ b in
+      ⊎_elim
+      (λ same. ap (λ i. is_before_place (get_or hs i d).0 p) same ∙ last)
+      (λ other.
+      let step : is_before_place (get_or hs j d).0 (get_or hs (at - 1) d).0 ≡ true = rises is_same_place is_before_place held_key place_order hs j (at - 1) d a (omega (arith, below, other)) (omega (arith, some, inside)) in
+      place_order.further (get_or hs j d).0 (get_or hs (at - 1) d).0 p step last)
+      (cases_eq j (at - 1));
+}
+
 -- what comes before a place comes before the next one of an ascending list
 pub before_next : (hs list : List (Place × Digest)) (i at : ℕ) (x d : Place × Digest) → AscendByPlace list → i + 1 < length list → IsSplit is_before_place held_key (get_or list i x).0 hs at → AreBefore hs at (get_or list (i + 1) d).0
 before_next hs list i at x d a lt s = record {

@@ -1,12 +1,13 @@
 //! Where a deletion moves what is held, told from the top row down: where neither a place nor its sibling goes, it goes with the
 //! one above it.
-ghost use Rattle.std.specs.Prelude.{◌≡◌, ℕ, List, ◌+◌, ◌<◌, ◌≤◌, ◌^◌, false, length, All, IfSome, vec_len, vec_capacity};
+ghost use Rattle.std.specs.Prelude.{◌≡◌, ℕ, List, ◌+◌, ◌<◌, ◌≤◌, ◌^◌, false, [], Some, length, All, IfSome, vec_len, vec_capacity};
 ghost use Rattle.std.specs.Bool.{OnTrue, OnFalse};
 ghost use Rattle.forest_place.specs.declared.place.Place.{Place as Placed};
 ghost use Rattle.forest_place.specs.Forest.{InForest, is_root as is_root_of, sibling_off};
 ghost use Rattle.forest_place.specs.Places.{place_in};
 ghost use Rattle.forest_model.specs.Deletion.{is_gone, moved, child_place};
 ghost use Rattle.proof_shape.specs.Survey.{up};
+ghost use Rattle.proof_shape.specs.Targeted.{NoneGonePast};
 ghost use Rattle.cache_model.specs.Lists.{AscendByPlace};
 ghost use Rattle.cache_model.specs.Search.{IsSplit};
 ghost use Rattle.cache_model.specs.Undo.{is_before_place, held_key};
@@ -14,7 +15,7 @@ ghost use Rattle.cache_update.specs.Descent.{IsStayingAbove, NoneBefore, StandsB
 
 use crate::known::covered_near;
 use crate::put::{is_before, is_same};
-use forest_place::{Place, is_root, parent, sibling};
+use forest_place::{Place, is_root, parent, position, sibling};
 use leaf_cache::index_of_place;
 use proof_shape::{Targets, child_of};
 use uo_digest::Digest;
@@ -279,6 +280,39 @@ pub(crate) fn goal_at(
     goal
 }
 
+// Whether the place comes behind all that is gone, and so stays where it is.
+fn is_settled(targets: &Targets, last_gone: u64, place: Place) -> bool
+    requires within { InForest targets.now.leaves place.row place.off }
+    requires none { NoneGonePast targets.now.leaves targets.now.targets last_gone }
+    ensures { OnTrue result (moved targets.now.leaves targets.now.targets place.row place.off ≡ Some place) }
+{
+    let number = position(place, targets.leaves());
+    number > 0 && number - 1 > last_gone
+}
+
+// Where the last of the held digests go, the last one first: they stay where they are, as far as they come behind all that is gone. How
+// many are left.
+fn tell_settled(
+    goals: &mut Vec<Option<Place>>,
+    targets: &Targets,
+    held: &[(Place, Digest)],
+) -> usize
+    requires within { All (λ x. InForest targets.now.leaves x.0.row x.0.off) held.now }
+    requires empty { goals.old.items ≡ [] }
+    requires room { length held.now ≤ vec_capacity goals.old }
+    ensures goals { TellGoals targets.now.leaves targets.now.targets held.now goals.new.items }
+    ensures each { result + vec_len goals.new ≡ length held.now }
+    ensures room { length held.now ≤ vec_capacity goals.new }
+{
+    let last_gone = targets.last_gone();
+    let mut left = held.len();
+    while left > 0 && is_settled(targets, last_gone, held[left - 1].0) {
+        let _ = goals.push(Some(held[left - 1].0));
+        left -= 1;
+    }
+    left
+}
+
 // Where each held digest goes, the last one first. It takes no memory.
 pub(crate) fn tell_goals(
     goals: &mut Vec<Option<Place>>,
@@ -292,7 +326,7 @@ pub(crate) fn tell_goals(
     ensures each { vec_len goals.new ≡ length held.now }
 {
     goals.clear();
-    let mut left = held.len();
+    let mut left = tell_settled(goals, targets, held);
     let mut at = held.len();
     let mut near = Near {
         above: 0,

@@ -13,7 +13,7 @@ use leaf_cache::{Kept, place_of};
 use uo_digest::Digest;
 
 // How many held places come before this one, where those up to an index do.
-fn index_on(held: &[(Place, Digest)], from: usize, place: Place) -> usize
+pub(crate) fn index_on(held: &[(Place, Digest)], from: usize, place: Place) -> usize
     requires ascends { AscendByPlace held.now }
     requires before { AreBefore held.now from place }
     ensures { IsSplit is_before_place held_key place held.now result }

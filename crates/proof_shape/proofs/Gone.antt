@@ -16,7 +16,7 @@ use Rattle.forest_model.specs.Deletion.{is_gone, moved, child_place}
 use Rattle.forest_model.proofs.Covers.{needed_parts}
 use Rattle.forest_model.proofs.Lists.{need_has, need_had}
 use Rattle.forest_model.proofs.Moving.{moved-step, moved-is_gone}
-use Rattle.proof_shape.specs.Targeted.{IsBeneathTarget}
+use Rattle.proof_shape.specs.Targeted.{IsBeneathTarget, NoneGonePast}
 use Rattle.proof_shape.specs.Shape.{has_number}
 use Rattle.proof_shape.specs.Moves.{GoneTell, HasNeighbours, AreApart, CoversTell}
 use Rattle.proof_shape.proofs.Ordered.{has_where, sorted_number_is}
@@ -332,3 +332,12 @@ module _ (n : ℕ) (ts : List Place) (shape : HasShape n ts) where
 
   pub none_exactly : (p : Place) → InForest n p.row p.off → (moved n ts p.row p.off ≡ None → (is_gone ts p.row p.off ≡ true) ⊎ IsBeneathTarget ts p) × ((is_gone ts p.row p.off ≡ true) ⊎ IsBeneathTarget ts p → moved n ts p.row p.off ≡ None)
   none_exactly p h = (none_from (n - p.row) p.row p.off refl h, none_of (n - p.row) p.row p.off refl h)
+
+covered_kept : (a b : Bool) → (a ≡ true → b ≡ true) → (a && not b) ≡ false
+covered_kept false b h = refl
+covered_kept true b h = rw (h refl) refl
+
+-- nothing is gone past a position where what is covered there is kept
+pub none_past : (n : ℕ) (ts : List Place) (covered kept : List ℕ) (last : ℕ) → GoneTell n ts covered kept → ((x : ℕ) → last < x → has_number covered x ≡ true → has_number kept x ≡ true) → NoneGonePast n ts last
+none_past n ts covered kept last tell has row off h lt =
+    sym (tell row off h) ∙ covered_kept (has_number covered (position n row off)) (has_number kept (position n row off)) (has (position n row off) lt)

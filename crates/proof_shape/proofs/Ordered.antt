@@ -1,5 +1,5 @@
 -- Positions in ascending order.
-use Rattle.std.proofs.Common.{◌≡◌, ℕ, suc, ◌+◌, ◌<◌, ◌≤◌, true, false, ◌||◌, List, [], ◌∷◌, ◌++◌, length, get_or, take, refl, sym, ap, ◌∙◌, ap₂, ⊎_elim, inl, inr, arith, eq-eqb, ne_eqb, eqb-true}
+use Rattle.std.proofs.Common.{◌≡◌, ℕ, suc, ◌+◌, ◌<◌, ◌≤◌, true, false, ◌||◌, List, [], ◌∷◌, ◌++◌, length, get_or, take, refl, sym, ap, ◌∙◌, subst, ap₂, ⊎_elim, inl, inr, arith, eq-eqb, ne_eqb, eqb-true}
 use Rattle.std.specs.Prelude.{◌==◌, ◌⊎◌, Result, Ok, Err, is_ok, MatchResult}
 use Rattle.std.specs.List.{AllByRecursion, IsDistinct}
 use Rattle.std.specs.List.Sorted.{IsNonDecreasing, IsStrictlyIncreasing, IsPermutation}
@@ -24,6 +24,12 @@ has_where (x ∷ xs) y h =
     (λ here. (0, omega arith, eqb-true x y here))
     (λ there. let w = has_where xs y there in (suc w.0, omega (arith, w.1), w.2))
     (or_cases (x == y) (has_number xs y) h)
+
+-- what stands past a bound in a list is in another one that has all from an index on, where what stands before that is not past it
+pub past_has : (xs ys : List ℕ) (i last : ℕ) → ((k : ℕ) → i ≤ k → k < length xs → has_number ys (get_or xs k 0) ≡ true) → ((k : ℕ) → k < length xs → last < get_or xs k 0 → i ≤ k) → (x : ℕ) → last < x → has_number xs x ≡ true → has_number ys x ≡ true
+past_has xs ys i last same behind x lt h =
+    let w = has_where xs x h in
+    subst (λ y. has_number ys y ≡ true) w.2 (same w.0 (behind w.0 w.1 (omega (arith, lt, w.2))) w.1)
 
 -- what a search in ascending numbers answers
 pub found_is : (xs : List ℕ) (x : ℕ) (r : Result ℕ ℕ) → MatchResult r (λ i. (i < length xs) × (get_or xs i 0 ≡ x)) (λ i. (i ≤ length xs) × ((k : ℕ) → k < i → get_or xs k 0 < x) × ((k : ℕ) → i ≤ k → k < length xs → x < get_or xs k 0)) → is_ok r ≡ has_number xs x

@@ -1,8 +1,11 @@
 -- What contracts see of `Targets`.
-use Rattle.std.specs.Prelude.{◌≡◌, ℕ, true, ◌^◌, ◌<◌, List, length}
+use Rattle.std.specs.Prelude.{◌≡◌, ℕ, true, false, ◌^◌, ◌<◌, List, length}
 use Rattle.forest_place.specs.declared.place.Place.{Place}
+use Rattle.forest_place.specs.Forest.{InForest}
 use Rattle.forest_place.specs.Places.{has_place}
+use Rattle.forest_place.specs.Position.{position}
 use Rattle.forest_model.specs.Cover.{is_above, HasShape}
+use Rattle.forest_model.specs.Deletion.{is_gone}
 
 -- how many entries the forest has, and its places that are targets
 pub record Targeted : Type 0 where
@@ -17,3 +20,7 @@ pub record IsTargeted (t : Targeted) : Type 0 where
 -- a target stands above the place
 abbrev pub IsBeneathTarget : List Place → Place → Type 0
 IsBeneathTarget ts p = (t : Place) × (has_place ts t.row t.off ≡ true) × (is_above t p ≡ true)
+
+-- no place past this position is gone
+abbrev pub NoneGonePast : ℕ → List Place → ℕ → Type 0
+NoneGonePast n ts last = (row off : ℕ) → InForest n row off → last < position n row off → is_gone ts row off ≡ false

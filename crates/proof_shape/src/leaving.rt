@@ -1,9 +1,10 @@
 //! What tells which places are gone.
-ghost use Rattle.std.specs.Prelude.{◌≡◌, ◌^◌, ◌<◌, IfOk, MatchBool};
+ghost use Rattle.std.specs.Prelude.{◌≡◌, ◌^◌, ◌<◌, ℕ, true, IfOk, MatchBool};
 ghost use Rattle.std.specs.List.Sorted.{IsNonDecreasing, IsPermutation};
 ghost use Rattle.forest_place.specs.Places.{AreWithin};
 ghost use Rattle.forest_place.specs.Position.{positions_of as numbers_of};
 ghost use Rattle.forest_model.specs.Cover.{HasShape, need};
+ghost use Rattle.proof_shape.specs.Shape.{has_number};
 ghost use Rattle.proof_shape.specs.Moves.{HasNeighbours, AreApart, TellGone, CoversTell};
 
 use crate::survey::{covered_positions, parents_of};
@@ -52,4 +53,18 @@ pub(crate) fn gone_among(
     } else {
         Ok((sorted, Vec::new(alloc)))
     }
+}
+
+// The last number of an ascending list that the end of another one lacks, and 0 where there is none.
+pub(crate) fn last_gone(covered: &[u64], kept: &[u64]) -> u64
+    requires { IsNonDecreasing covered.now }
+    ensures { (number : ℕ) → result < number → has_number covered.now number ≡ true → has_number kept.now number ≡ true }
+{
+    let mut i = covered.len();
+    let mut j = kept.len();
+    while i > 0 && j > 0 && covered[i - 1] == kept[j - 1] {
+        i -= 1;
+        j -= 1;
+    }
+    if i == 0 { 0 } else { covered[i - 1] }
 }

@@ -2,7 +2,7 @@
 ghost use Rattle.std.specs.Prelude.{◌≡◌, ◌↔◌, ◌⊎◌, ◌^◌, ◌<◌, [], MatchResult, length, true};
 
 use crate::ShapeFault;
-use crate::leaving::gone_among;
+use crate::leaving::{gone_among, last_gone};
 use crate::locate::locate;
 use crate::moves::moved_from;
 use crate::need::needed_of;
@@ -49,7 +49,7 @@ impl Targets {
     ghost use Rattle.proof_shape.specs.Laws.{WhatStaysGoes, EntryGoes};
     ghost use Rattle.proof_shape.specs.Shape.{AreTargets, IsShapeFault};
     ghost use Rattle.proof_shape.specs.Survey.{IsCoverOf};
-    ghost use Rattle.proof_shape.specs.Targeted.{IsTargeted, IsBeneathTarget};
+    ghost use Rattle.proof_shape.specs.Targeted.{IsTargeted, IsBeneathTarget, NoneGonePast};
 
     /// The targets at these positions of the forest over `n` entries. A fault names items of the list by `u32`, so the list has
     /// fewer than 2^32.
@@ -155,5 +155,12 @@ impl Targets {
         ensures entries { EntryGoes self.now place result }
     {
         moved_from(self.count, &self.among, &self.kept, place)
+    }
+
+    /// A position past which no place is gone: that of the last place that is, and 0 where none is.
+    pub fn last_gone(&self) -> u64
+        ensures { NoneGonePast self.now.leaves self.now.targets result }
+    {
+        last_gone(&self.among, &self.kept)
     }
 }
