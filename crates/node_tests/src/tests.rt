@@ -9,7 +9,8 @@ mod pair;
 mod rollbacks;
 
 use block_rules::Refusal;
-use pair::{Act, End, FULL, Pair};
+use compact_tests::{End, FULL};
+use pair::{Act, Pair};
 use std::alloc::Global;
 use std::marker::Brand;
 use std::process::Abort;

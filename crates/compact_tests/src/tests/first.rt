@@ -1,7 +1,8 @@
 //! Messages beside the first block, rollbacks, and bytes that are no block.
 ghost use Rattle.std.specs.Prelude.{◌≡◌, ◌<◌};
 
-use super::{Compact, NONE, follow};
+use super::{Compact, follow};
+use crate::NONE;
 use block_rules::{Refusal, Verdict};
 use block_samples::{GENESIS, GENESIS_HASH};
 use leaf_cache::Watch;

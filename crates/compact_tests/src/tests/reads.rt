@@ -1,7 +1,7 @@
 //! Nodes that are read from texts.
 ghost use Rattle.std.specs.Prelude.{◌≡◌, ◌<◌};
 
-use super::NONE;
+use crate::NONE;
 use block_rules::{Chain, Verdict};
 use block_samples::GENESIS_HASH;
 use compact_node::Node;

@@ -2,7 +2,8 @@
 ghost use Rattle.std.specs.Prelude.{◌≡◌, ◌<◌, ◌^◌};
 
 use super::verdicts::chain_of;
-use super::{Compact, End, FULL, NONE, Sketch, build, follow};
+use super::{Compact, build, follow};
+use crate::{End, FULL, NONE, Sketch};
 use block_rules::{ProofRefusal, Refusal, Verdict};
 use block_samples::Sample;
 use leaf_cache::Watch;

@@ -1,7 +1,8 @@
 //! What a node stores, spelled by hand.
 ghost use Rattle.std.specs.Prelude.{◌≡◌, ◌<◌};
 
-use super::{End, follow};
+use super::follow;
+use crate::End;
 use block_samples::{GENESIS, GENESIS_HASH};
 use compact_node::Node;
 use leaf_cache::Watch;

@@ -1,8 +1,8 @@
 //! What coinbases may pay, and how much room there is.
 ghost use Rattle.std.specs.Prelude.{◌≡◌, ◌<◌};
 
-use super::{Compact, End, FULL, NONE, Sketch, build, follow};
-use crate::entries_at;
+use super::{Compact, build, follow};
+use crate::{End, FULL, NONE, Sketch, entries_at};
 use block_rules::Refusal;
 use block_samples::Sample;
 use compact_node::{compact_is_full, fresh_stands, next_is_node, verdicts_tell_levels};

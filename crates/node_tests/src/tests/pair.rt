@@ -1,10 +1,11 @@
 //! A bridge, a compact node beside it that gets what the bridge passes on, and a bridge with a watch list.
-use super::build::{Sketch, build};
+use super::build::build;
 use super::lean::{is_filled, list};
-use block_rules::{Refusal, Verdict};
+use block_rules::Verdict;
 use block_samples::Sample;
 use bridge_prover::{Bridge, Proved};
 use compact_node::Node;
+use compact_tests::{FULL, NONE, Sketch};
 use leaf_cache::Watch;
 use std::alloc::Global;
 use std::process::Abort;
@@ -12,11 +13,6 @@ use std::sync::ledger::Ledger;
 use std::test::Fail;
 use uo_base::{Event, Limits, Net};
 use uo_digest::{Digest, Digester, Sha512t256, Steps};
-
-pub const NONE: Digest = Digest([0; 32]);
-
-/// 50 coins.
-pub const FULL: u64 = 5_000_000_000;
 
 /// A block on top of the chain.
 #[derive(Clone, Copy)]
@@ -35,30 +31,6 @@ pub enum Act {
     Other(u32),
     /// One that does not follow the tip.
     Stranger,
-}
-
-/// What a block comes to.
-#[derive(Clone, Copy)]
-pub enum End {
-    Accepted(u64),
-    Refused(Refusal),
-}
-
-impl End {
-    pub fn verdict(self, height: u32, hash: Digest) -> Verdict {
-        match self {
-            End::Accepted(leaves) => Verdict::Accepted {
-                height,
-                hash,
-                leaves,
-            },
-            End::Refused(why) => Verdict::Refused {
-                height,
-                hash: Some(hash),
-                why,
-            },
-        }
-    }
 }
 
 /// What the bridge said of the last block: of the message that it passed on, the length, the lowest byte of the first target, and

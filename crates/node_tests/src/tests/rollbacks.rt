@@ -1,8 +1,9 @@
 //! Ways with rollbacks, beside ways without that come to the same chain.
 ghost use Rattle.std.specs.Prelude.{◌≡◌, ◌<◌};
 
-use super::pair::{Act, FULL, Pair};
+use super::pair::{Act, Pair};
 use block_rules::{Refusal, Verdict};
+use compact_tests::FULL;
 use std::alloc::Global;
 use std::marker::Brand;
 use std::process::Abort;

@@ -1,13 +1,13 @@
 //! Messages that the roots accept, and that are not right: at the first output's place they show one that was never made.
 ghost use Rattle.std.specs.Prelude.{◌≡◌, ◌<◌};
 
-use super::super::build::{Sketch, build};
-use super::super::pair::{FULL, NONE};
+use super::super::build::build;
 use super::{auditor, judged_block};
 use audit_replay::{Audit, AuditLine};
 use block_rules::{ProofRefusal, Refusal, Verdict};
 use block_samples::Sample;
 use clash_find::Clash;
+use compact_tests::{FULL, NONE, Sketch};
 use leaf_record::{RecordView, RestView, leaf_text};
 use proof_wire::Message;
 use std::alloc::Global;

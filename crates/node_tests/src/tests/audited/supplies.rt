@@ -1,14 +1,15 @@
 //! Chains with right messages: what is live, and what their blocks were allowed to issue. The sums are worked out by hand.
 ghost use Rattle.std.specs.Prelude.{◌≡◌, ◌<◌};
 
-use super::super::build::{Sketch, build};
+use super::super::build::build;
 use super::super::lean::list;
-use super::super::pair::{NONE, prove};
+use super::super::pair::prove;
 use super::{auditor, judged, judged_block};
 use audit_replay::{Audit, AuditLine};
 use block_rules::{Refusal, Verdict};
 use block_samples::Sample;
 use bridge_prover::Bridge;
+use compact_tests::{NONE, Sketch};
 use std::alloc::Global;
 use std::marker::Brand;
 use std::process::Abort;
