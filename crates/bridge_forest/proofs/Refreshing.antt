@@ -9,8 +9,7 @@ use Rattle.forest_model.specs.Content.{Tree, leaf, join, content, digest_of, joi
 use Rattle.forest_place.specs.Forest.{InForest, sibling_off}
 use Rattle.forest_place.proofs.Parts.{parts-suc, InForest-down, not_root-down}
 use Rattle.forest_place.proofs.Siblings.{sibling_cases, sibling_within}
-use Rattle.bridge_forest.specs.Parts.{seam, kept, part_digest, AreParts, ArePartsBut, AreBeside, pairs, digests_to}
-use Rattle.bridge_forest.proofs.Seams.{seam_below, seam_one}
+use Rattle.bridge_forest.specs.Parts.{PartLists, stored, IsPut, kept, part_digest, AreParts, ArePartsBut, AreBeside, pairs, digests_to}
 use Rattle.bridge_forest.proofs.Entries.{content-set_other, parts_before, path_below}
 
 pub digest-joined : (H : List ℕ → Digest) (x y : Option Tree) → option_map (digest_of H) (join x y) ≡ join_digests H (option_map (digest_of H) x) (option_map (digest_of H) y)
@@ -23,7 +22,7 @@ digest-leaf H off None = refl
 digest-leaf H off (Some d) = refl
 
 -- what is kept for a part is its digest
-pub kept_right : (H : List ℕ → Digest) (n : ℕ) (leaves parts : List (Option Digest)) (row off : ℕ) → AreParts H n leaves parts → InForest n row off → kept leaves parts row off ≡ part_digest H leaves row off
+pub kept_right : (H : List ℕ → Digest) (n : ℕ) (leaves : List (Option Digest)) (parts : PartLists) (row off : ℕ) → AreParts H n leaves parts → InForest n row off → kept leaves parts row off ≡ part_digest H leaves row off
 kept_right H n leaves parts zero off right h = digest-leaf H off (get_or leaves off None)
 kept_right H n leaves parts (suc row) off right h = right.is row off h
 
@@ -33,7 +32,7 @@ row_open n number row off r here ge h =
     let up = path_below n number (suc row) (suc r) (omega arith) h in
     omega (arith, up, parts-suc number row, parts-suc n row, here)
 
-pub kept_right_but : (H : List ℕ → Digest) (n : ℕ) (leaves parts : List (Option Digest)) (number row off : ℕ) → ArePartsBut H n leaves parts number row → InForest n row off → kept leaves parts row off ≡ part_digest H leaves row off
+pub kept_right_but : (H : List ℕ → Digest) (n : ℕ) (leaves : List (Option Digest)) (parts : PartLists) (number row off : ℕ) → ArePartsBut H n leaves parts number row → InForest n row off → kept leaves parts row off ≡ part_digest H leaves row off
 kept_right_but H n leaves parts number zero off right h = digest-leaf H off (get_or leaves off None)
 kept_right_but H n leaves parts number (suc row) off right h = right.is row off h (λ le. absurd (omega arith))
 
@@ -48,7 +47,7 @@ sibling_apart : (off : ℕ) → sibling_off off ≡ off → ⊥
 sibling_apart off e = ⊎_elim (λ a. let z : ⊥ = omega (arith, a, e) in z) (λ a. let z : ⊥ = omega (arith, a, e) in z) (sibling_cases off)
 
 -- the part beside one that has the entry is right before anything is digested
-pub beside_right : (H : List ℕ → Digest) (n : ℕ) (leaves parts : List (Option Digest)) (number row : ℕ) → ArePartsBut H n leaves parts number 0 → InForest n (suc row) (number / 2 ^ suc row) → kept leaves parts row (sibling_off (number / 2 ^ row)) ≡ part_digest H leaves row (sibling_off (number / 2 ^ row))
+pub beside_right : (H : List ℕ → Digest) (n : ℕ) (leaves : List (Option Digest)) (parts : PartLists) (number row : ℕ) → ArePartsBut H n leaves parts number 0 → InForest n (suc row) (number / 2 ^ suc row) → kept leaves parts row (sibling_off (number / 2 ^ row)) ≡ part_digest H leaves row (sibling_off (number / 2 ^ row))
 beside_right H n leaves parts number zero right h = digest-leaf H (sibling_off (number / 1)) (get_or leaves (sibling_off (number / 1)) None)
 beside_right H n leaves parts number (suc row) right h =
     right.is row (sibling_off (number / 2 ^ suc row)) (sibling_in n (suc row) (number / 2 ^ suc row) (subst (λ x. InForest n (suc (suc row)) x) (parts-suc number (suc row)) h)) (λ low same. sibling_apart (number / 2 ^ suc row) (sym same))
@@ -104,36 +103,21 @@ pub joined_right : (H : List ℕ → Digest) (leaves : List (Option Digest)) (ro
 joined_right H leaves row o left right digest le re de =
     de ∙ ap₂ (join_digests H) le re ∙ sym (digest-joined H (content leaves row (2 * o)) (content leaves row (2 * o + 1)))
 
-module _ (H : List ℕ → Digest) (n : ℕ) (leaves parts : List (Option Digest)) (number : ℕ) where
+module _ (H : List ℕ → Digest) (n : ℕ) (leaves : List (Option Digest)) (parts : PartLists) (number : ℕ) where
   -- one row more
-  pub row_more : (row o : ℕ) (digest : Option Digest) → n ≤ length parts → o ≡ number / 2 ^ suc row → InForest n (suc row) o → ArePartsBut H n leaves parts number row → digest ≡ part_digest H leaves (suc row) o →
-      ArePartsBut H n leaves (set parts (seam row o) digest) number (suc row)
-  row_more row o digest room here within but x =
-      let lt : seam row o < length parts = omega (arith, seam_below n row o within) in
-      record {
-        is = λ r p h off_path.
-            ⊎_elim
-            (λ same.
-            let w = seam_one r p row o same in
-            let e : get_or (set parts (seam row o) digest) (seam row o) None ≡ part_digest H leaves (suc row) o = get_or-set_same parts (seam row o) digest None lt ∙ x in
-            subst (λ a. get_or (set parts (seam row o) digest) a None ≡ part_digest H leaves (suc r) p) (sym same) (e ∙ ap₂ (λ a b. part_digest H leaves (suc a) b) (sym w.0) (sym w.1)))
-            (λ other.
-            get_or-set_other parts (seam row o) (seam r p) digest None other ∙
-            but.is r p h (λ low at.
-            ⊎_elim
-            (λ e. let q : p ≡ o = sym at ∙ (ap (λ k. number / 2 ^ suc k) e ∙ sym here) in other (ap₂ seam e q))
-            (λ ne. off_path (omega (arith, ne)) at)
-            (cases_eq r row)))
-            (cases_eq (seam r p) (seam row o));
-      }
-
-  -- the same where the code has written it
-  pub row_written : (row o at : ℕ) (digest : Option Digest) → n ≤ length parts → at ≡ seam row o → o ≡ number / 2 ^ suc row → InForest n (suc row) o → ArePartsBut H n leaves parts number row → digest ≡ part_digest H leaves (suc row) o →
-      ArePartsBut H n leaves (set parts at digest) number (row + 1)
-  row_written row o at digest room ae here within but x =
-      let e : suc row ≡ row + 1 = omega arith in
-      subst (λ k. ArePartsBut H n leaves (set parts k digest) number (row + 1)) (sym ae)
-      (subst (λ k. ArePartsBut H n leaves (set parts (seam row o) digest) number k) e (row_more row o digest room here within but x))
+  pub row_written : (row o : ℕ) (parts' : PartLists) (digest : Option Digest) → IsPut parts parts' row o digest → o ≡ number / 2 ^ suc row → ArePartsBut H n leaves parts number row → digest ≡ part_digest H leaves (suc row) o →
+      ArePartsBut H n leaves parts' number (row + 1)
+  row_written row o parts' digest put here but x = record {
+    is = λ r p h off_path.
+        ⊎_elim
+        (λ same.
+        ⊎_elim
+        (λ at. ap₂ (stored parts') same at ∙ put.here ∙ x ∙ ap₂ (λ a b. part_digest H leaves (suc a) b) (sym same) (sym at))
+        (λ beside. put.others r p (λ _. beside) ∙ but.is r p h (λ low at. beside (sym at ∙ (ap (λ k. number / 2 ^ suc k) same ∙ sym here))))
+        (cases_eq p o))
+        (λ other. put.others r p (λ e. absurd (other e)) ∙ but.is r p h (λ low at. off_path (omega (arith, other)) at))
+        (cases_eq r row);
+  }
 
   -- all rows
   pub rows_done : (row off : ℕ) → off ≡ number / 2 ^ row → (off / 2 < n / 2 ^ row / 2 → ⊥) → ArePartsBut H n leaves parts number row → AreParts H n leaves parts
@@ -145,7 +129,7 @@ module _ (H : List ℕ → Digest) (n : ℕ) (leaves parts : List (Option Digest
       }
 
 -- all rows as far as the parts have the next entry too
-pub rows_met : (H : List ℕ → Digest) (n : ℕ) (leaves parts : List (Option Digest)) (number next row off other : ℕ) → off ≡ number / 2 ^ row → other ≡ next / 2 ^ row → ((off / 2 < n / 2 ^ row / 2) × (off / 2 ≢ other / 2) → ⊥) → ArePartsBut H n leaves parts number row → ArePartsBut H n leaves parts next 0
+pub rows_met : (H : List ℕ → Digest) (n : ℕ) (leaves : List (Option Digest)) (parts : PartLists) (number next row off other : ℕ) → off ≡ number / 2 ^ row → other ≡ next / 2 ^ row → ((off / 2 < n / 2 ^ row / 2) × (off / 2 ≢ other / 2) → ⊥) → ArePartsBut H n leaves parts number row → ArePartsBut H n leaves parts next 0
 rows_met H n leaves parts number next row off other here there stop but = record {
   is = λ r p h beyond.
       but.is r p h (λ low at.
@@ -161,26 +145,26 @@ climb_ends n number next row off other here there stop h =
     (cases_eq (off / 2) (other / 2))
 
 -- an entry is written: all parts without it stay right
-pub but_written : (H : List ℕ → Digest) (n : ℕ) (leaves parts : List (Option Digest)) (number : ℕ) (x : Option Digest) → ArePartsBut H n leaves parts number 0 → ArePartsBut H n (set leaves number x) parts number 0
+pub but_written : (H : List ℕ → Digest) (n : ℕ) (leaves : List (Option Digest)) (parts : PartLists) (number : ℕ) (x : Option Digest) → ArePartsBut H n leaves parts number 0 → ArePartsBut H n (set leaves number x) parts number 0
 but_written H n leaves parts number x but =
     record { is = λ r o h off_path. but.is r o h off_path ∙ ap (option_map (digest_of H)) (sym (content-set_other leaves number x (suc r) o (off_path (omega arith)))) }
 
 -- where all are right, so are all without an entry
-pub but_any : (H : List ℕ → Digest) (n : ℕ) (leaves parts : List (Option Digest)) (number : ℕ) → AreParts H n leaves parts → ArePartsBut H n leaves parts number 0
+pub but_any : (H : List ℕ → Digest) (n : ℕ) (leaves : List (Option Digest)) (parts : PartLists) (number : ℕ) → AreParts H n leaves parts → ArePartsBut H n leaves parts number 0
 but_any H n leaves parts number all = record { is = λ r o h off_path. all.is r o h }
 
 -- no part has the entry n
-pub but_none : (H : List ℕ → Digest) (n : ℕ) (leaves parts : List (Option Digest)) → ArePartsBut H n leaves parts n 0 → AreParts H n leaves parts
+pub but_none : (H : List ℕ → Digest) (n : ℕ) (leaves : List (Option Digest)) (parts : PartLists) → ArePartsBut H n leaves parts n 0 → AreParts H n leaves parts
 but_none H n leaves parts but = record { is = λ r o h. but.is r o h (λ low at. omega (arith, h, at)) }
 
 -- an entry is added
-pub but_added : (H : List ℕ → Digest) (n : ℕ) (leaves parts : List (Option Digest)) (x : Option Digest) → AreParts H n leaves parts → ArePartsBut H (n + 1) (set leaves n x) parts n 0
+pub but_added : (H : List ℕ → Digest) (n : ℕ) (leaves : List (Option Digest)) (parts : PartLists) (x : Option Digest) → AreParts H n leaves parts → ArePartsBut H (n + 1) (set leaves n x) parts n 0
 but_added H n leaves parts x all =
     let e : suc n ≡ n + 1 = omega arith in
     subst (λ m. ArePartsBut H m (set leaves n x) parts n 0) e (record { is = λ r o h off_path. all.is r o (parts_before n (suc r) o h (off_path (omega arith))) ∙ ap (option_map (digest_of H)) (sym (content-set_other leaves n x (suc r) o (off_path (omega arith)))) })
 
 -- the last entries are cut off
-pub cut_off : (H : List ℕ → Digest) (n m : ℕ) (leaves parts : List (Option Digest)) → ((r o : ℕ) → InForest m r o → InForest n r o) → AreParts H n leaves parts → AreParts H m leaves parts
+pub cut_off : (H : List ℕ → Digest) (n m : ℕ) (leaves : List (Option Digest)) (parts : PartLists) → ((r o : ℕ) → InForest m r o → InForest n r o) → AreParts H n leaves parts → AreParts H m leaves parts
 cut_off H n m leaves parts fewer all = record { is = λ r o h. all.is r o (fewer (suc r) o h) }
 
 pairs-mapped : (H : List ℕ → Digest) (x y : Option Tree) → pairs (option_map (digest_of H) x) (option_map (digest_of H) y) ≡ pairs x y

@@ -6,6 +6,7 @@ use Rattle.uo_digest.specs.declared.digest.Digest.{Digest}
 use Rattle.forest_place.specs.declared.place.Place.{Place}
 use Rattle.forest_place.specs.Forest.{InForest}
 use Rattle.forest_model.specs.Standing.{tree_at}
+use Rattle.bridge_forest.specs.Parts.{PartLists}
 use Rattle.bridge_forest.specs.Lookups.{AreAlike, IsSmallest, IsPartAt, IsNodeAt, AreNodes, IsParentAt}
 use Rattle.bridge_forest.proofs.Seeking.{nothing_below, entry_above, node_above}
 
@@ -35,7 +36,7 @@ one_told es ps nodes i node d lt long here all = record {
       (cases_eq k i);
 }
 
-module _ (es parts : List (Option Digest)) (right : AreAlike es parts) (ps : List Place) (nodes : List (Option Place)) (at : ℕ) (p : Place) (h : InForest (length es) p.row p.off) (up : IsParentAt (length es) ps at p) (told : AreNodes es ps nodes at) where
+module _ (es : List (Option Digest)) (parts : PartLists) (right : AreAlike es parts) (ps : List Place) (nodes : List (Option Place)) (at : ℕ) (p : Place) (h : InForest (length es) p.row p.off) (up : IsParentAt (length es) ps at p) (told : AreNodes es ps nodes at) where
   told_above : (x : Option Place) → get_or nodes at None ≡ x → IsNodeAt es (p.row + 1) (p.off / 2) x
   told_above x e =
       subst (IsNodeAt es (p.row + 1) (p.off / 2)) e

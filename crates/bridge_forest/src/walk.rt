@@ -7,6 +7,7 @@ ghost use Rattle.bridge_forest.specs.Lookups.{AreAlike, IsPartAt, IsNodeAt, AreN
 ghost use Rattle.bridge_forest.specs.Parts.{AreParts};
 
 use crate::arena::part;
+use crate::parts::Parts;
 use crate::seek::{child, part_at, smallest};
 use forest_place::{Place, is_root, parent};
 use std::alloc::{AllocError, Global};
@@ -67,14 +68,14 @@ fn has_parent(n: u64, above: &[Place], at: usize, place: Place) -> bool
 // root down.
 fn part_by(
     entries: &[Option<Digest>],
-    parts: &[Option<Digest>],
+    parts: &Parts,
     above: &[Place],
     nodes: &[Option<Place>],
     at: usize,
     place: Place,
 ) -> Option<Place>
     requires small { length entries.now < 2 ^ 40 }
-    requires room { length entries.now ≤ length parts.now }
+    requires room { length entries.now ≤ length parts.now.low }
     requires alike { AreAlike entries.now parts.now }
     requires within { InForest (length entries.now) place.row place.off }
     requires told { AreNodes entries.now above.now nodes.now at }
@@ -98,14 +99,14 @@ fn part_by(
 // The node that stands at a place, if one does.
 fn node_by(
     entries: &[Option<Digest>],
-    parts: &[Option<Digest>],
+    parts: &Parts,
     above: &[Place],
     nodes: &[Option<Place>],
     at: usize,
     place: Place,
 ) -> Option<Place>
     requires small { length entries.now < 2 ^ 40 }
-    requires room { length entries.now ≤ length parts.now }
+    requires room { length entries.now ≤ length parts.now.low }
     requires alike { AreAlike entries.now parts.now }
     requires told { AreNodes entries.now above.now nodes.now at }
     requires each { length nodes.now ≡ length above.now }
@@ -133,11 +134,11 @@ fn untold(alloc: Global, len: usize) -> Result<Vec<Option<Place>>, AllocError>
 fn nodes_of(
     alloc: Global,
     entries: &[Option<Digest>],
-    parts: &[Option<Digest>],
+    parts: &Parts,
     places: &[Place],
 ) -> Result<Vec<Option<Place>>, AllocError>
     requires small { length entries.now < 2 ^ 40 }
-    requires room { length entries.now ≤ length parts.now }
+    requires room { length entries.now ≤ length parts.now.low }
     requires alike { AreAlike entries.now parts.now }
     ensures each { IfOk result (λ nodes. length nodes.items ≡ length places.now) }
     ensures are { IfOk result (λ nodes. AreNodes entries.now places.now nodes.items 0) }
@@ -157,14 +158,14 @@ fn nodes_of(
 // The digest that stands at a place, if one does.
 fn digest_by<D: Digester>(
     entries: &[Option<Digest>],
-    parts: &[Option<Digest>],
+    parts: &Parts,
     above: &[Place],
     nodes: &[Option<Place>],
     at: usize,
     place: Place,
 ) -> Option<Digest>
     requires small { length entries.now < 2 ^ 40 }
-    requires room { length entries.now ≤ length parts.now }
+    requires room { length entries.now ≤ length parts.now.low }
     requires right { AreParts D.digest_of (length entries.now) entries.now parts.now }
     requires told { AreNodes entries.now above.now nodes.now 0 }
     requires each { length nodes.now ≡ length above.now }
@@ -184,12 +185,12 @@ fn digest_by<D: Digester>(
 pub(crate) fn digests_of_places<D: Digester>(
     alloc: Global,
     entries: &[Option<Digest>],
-    parts: &[Option<Digest>],
+    parts: &Parts,
     above: &[Place],
     places: &[Place],
 ) -> Result<Vec<Option<Digest>>, AllocError>
     requires small { length entries.now < 2 ^ 40 }
-    requires room { length entries.now ≤ length parts.now }
+    requires room { length entries.now ≤ length parts.now.low }
     requires right { AreParts D.digest_of (length entries.now) entries.now parts.now }
     ensures { IfOk result (λ digests. digests.items ≡ map (λ p. digest_at_of D.digest_of entries.now p.row p.off) places.now) }
 {

@@ -3,21 +3,20 @@ use Rattle.forest_place.specs.Forest.{InForest}
 use Rattle.forest_place.proofs.Parts.{parts-suc, InForest-left, InForest-right}
 use Rattle.forest_place.proofs.Positions.{row_small}
 use Rattle.bridge_forest.specs.Parts.{kept, part_digest, digests_to}
-use Rattle.bridge_forest.proofs.Seams.{seam_below}
 use Rattle.bridge_forest.proofs.Refreshing.{up_within, kept_right_but, joined_right, row_written, rows_done, cost_more}
 use Rattle.bridge_forest.proofs.arena.refresh_last.Goals as goal
 
-pub seam-requires-clause-small : goal.seam-requires-clause-small
-seam-requires-clause-small g c =
-    omega (arith, seam_below c.args.n c.loop-off.row (c.loop-off.off / 2) (up_within c.args.n c.loop-off.row c.loop-off.off c.loop-off-test.true), c.requires.small)
+pub part_in-left-requires-clause-parts : goal.part_in-left-requires-clause-parts
+part_in-left-requires-clause-parts g c = omega (arith, c.requires.parts, c.loop-off.invariant.room)
 
-pub offset_bounds-parts-seam : goal.offset_bounds-parts-seam
-offset_bounds-parts-seam g c =
-    omega (arith, c.seam.ensures, seam_below c.args.n c.loop-off.row (c.loop-off.off / 2) (up_within c.args.n c.loop-off.row c.loop-off.off c.loop-off-test.true), c.requires.small)
+pub part_in-right-requires-clause-parts : goal.part_in-right-requires-clause-parts
+part_in-right-requires-clause-parts g c = omega (arith, c.requires.parts, c.loop-off.invariant.room)
 
-pub bounds-parts-seam : goal.bounds-parts-seam
-bounds-parts-seam g c =
-    omega (arith, c.seam.ensures, seam_below c.args.n c.loop-off.row (c.loop-off.off / 2) (up_within c.args.n c.loop-off.row c.loop-off.off c.loop-off-test.true), c.requires.parts)
+pub put-requires-clause-room : goal.put-requires-clause-room
+put-requires-clause-room g c = omega (arith, c.requires.parts, c.loop-off.invariant.room)
+
+pub put-requires-clause-within : goal.put-requires-clause-within
+put-requires-clause-within g c = up_within c.args.n c.loop-off.row c.loop-off.off c.loop-off-test.true
 
 pub loop-off-preserved : goal.loop-off-preserved
 loop-off-preserved g c =
@@ -41,7 +40,8 @@ loop-off-preserved g c =
       small = row_small n (row + 1) (off / 2) 40 within' c.requires.small;
       here = subst (λ x. off / 2 ≡ i / 2 ^ x) e here;
       within = within';
-      right = row_written H n leaves parts i row (off / 2) c.seam.result c.joined-above.result (omega (arith, c.requires.parts)) c.seam.ensures here within c.loop-off.invariant.right digest;
+      right = row_written H n leaves parts i row (off / 2) c.put.new.self c.joined-above.result c.put.ensures.put here c.loop-off.invariant.right digest;
+      room = c.put.ensures.room ∙ c.loop-off.invariant.room;
       cost = subst (λ x. c.joined-above.new.steps ≡ c.args.steps.now + digests_to leaves i x) e cost;
     }
 

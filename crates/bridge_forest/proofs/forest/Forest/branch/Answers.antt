@@ -7,7 +7,7 @@ use Rattle.bridge_forest.proofs.forest.Forest.branch.Goals as goal
 
 pub branch_from-place-requires-clause-right : goal.branch_from-place-requires-clause-right
 branch_from-place-requires-clause-right g c =
-    parts_taken g.D.Digester.digest_of c.self.inside.count c.self.inside.leaves.items c.self.inside.parts.items (take c.self.inside.count c.deref.result.now) c.deref-2.result.now (omega (arith, c.self.invariant.room, c.self.invariant.longer)) (ap (take c.self.inside.count) c.deref.ensures.value) c.deref-2.ensures.value c.self.invariant.right
+    parts_taken g.D.Digester.digest_of c.self.inside.count c.self.inside.leaves.items (take c.self.inside.count c.deref.result.now) c.self.inside.parts (omega (arith, c.self.invariant.room, c.self.invariant.longer)) (ap (take c.self.inside.count) c.deref.ensures.value) c.self.invariant.right
 
 pub returns-clause-is : goal.returns-clause-is
 returns-clause-is g c =

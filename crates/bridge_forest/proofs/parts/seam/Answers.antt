@@ -1,6 +1,6 @@
 use Rattle.std.proofs.Common.{arith}
 use Rattle.bridge_forest.proofs.Seams.{seam_from, seam_value}
-use Rattle.bridge_forest.proofs.arena.seam.Goals as goal
+use Rattle.bridge_forest.proofs.parts.seam.Goals as goal
 
 pub overflow_add-result : goal.overflow_add-result
 overflow_add-result c = omega (arith, seam_from c.args.row c.args.off, c.requires.small)
