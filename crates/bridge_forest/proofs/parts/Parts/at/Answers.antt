@@ -1,4 +1,4 @@
-use Rattle.std.proofs.Common.{◌≡◌, suc, ◌-◌, ◌<◌, ◌≤◌, ◌/◌, ◌^◌, length, get_or, None, sym, ap, ◌∙◌, arith}
+use Rattle.std.proofs.Common.{suc, ◌-◌, ◌<◌, ◌≤◌, length, get_or, None, sym, ap, ◌∙◌, arith}
 use Rattle.std.proofs.lemmas.List.{get_or_default}
 use Rattle.forest_place.proofs.Positions.{row_small}
 use Rattle.bridge_forest.specs.Parts.{seam}

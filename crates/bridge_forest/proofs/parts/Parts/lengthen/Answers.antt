@@ -1,4 +1,4 @@
-use Rattle.std.proofs.Common.{◌≡◌, ◌/◌, ◌^◌, ◌<◌, ◌≤◌, length, get_or, None, ap, ◌∙◌, arith}
+use Rattle.std.proofs.Common.{length, get_or, None, ap, ◌∙◌, arith}
 use Rattle.bridge_forest.proofs.Seams.{stored_same}
 use Rattle.bridge_forest.proofs.parts.Parts.lengthen.Goals as goal
 

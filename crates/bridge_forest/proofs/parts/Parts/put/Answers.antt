@@ -1,6 +1,5 @@
-use Rattle.std.proofs.Common.{◌≡◌, suc, ◌-◌, ◌<◌, ◌≤◌, ◌/◌, ◌^◌, length, get_or, set, None, sym, ap, ap₂, ◌∙◌, arith}
+use Rattle.std.proofs.Common.{suc, ◌≤◌, length, set, ap, ap₂, arith}
 use Rattle.forest_place.proofs.Positions.{row_small}
-use Rattle.bridge_forest.specs.Parts.{seam}
 use Rattle.bridge_forest.proofs.Seams.{seam_below, seam_high, low_written, high_written}
 use Rattle.bridge_forest.proofs.parts.Parts.put.Goals as goal
 
