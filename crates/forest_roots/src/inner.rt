@@ -6,7 +6,8 @@ ghost use Rattle.forest_model.specs.Addition.{join_root as join_of};
 use std::sync::ledger::Ledger;
 use uo_digest::{Digest, Digester, Steps};
 
-// Writes two texts of 32 bytes one after the other.
+// Writes two texts of 32 bytes one after the other. Where it is called their lengths are known, so no call is made for them.
+#[inline(always)]
 fn put_both(text: &mut [u8], left: &[u8], right: &[u8])
     requires room { length text.old ≡ 64 }
     requires left { length left.now ≡ 32 }
@@ -19,6 +20,9 @@ fn put_both(text: &mut [u8], left: &[u8], right: &[u8])
 }
 
 /// The digest of the 64 bytes of the left digest and the right one.
+///
+/// It is one function for all callers, so that digests alone take as long as they do where they are needed.
+#[inline(never)]
 pub fn pair<D: Digester, L: Ledger>(left: Digest, right: Digest, steps: &mut Steps<L>) -> Digest
     ensures value { result ≡ pair_of D.digest_of left right }
     ensures step { steps.new ≡ steps.old + 1 }
