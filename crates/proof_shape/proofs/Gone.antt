@@ -1,5 +1,5 @@
 -- What is gone, by what is covered and by what is needed.
-use Rattle.std.proofs.Common.{◌≡◌, ℕ, zero, suc, ◌+◌, ◌-◌, ◌*◌, ◌/◌, ◌%◌, ◌^◌, ◌<◌, ◌≤◌, length, get_or, [], Bool, true, false, not, ◌&&◌, ◌||◌, List, Option, Some, None, is_some, refl, sym, ap, ◌∙◌, subst, ap₂, ⊎_elim, inl, inr, arith, eq-eqb, eqb-true}
+use Rattle.std.proofs.Common.{◌≡◌, ℕ, zero, suc, ◌+◌, ◌-◌, ◌*◌, ◌/◌, ◌%◌, ◌^◌, ◌<◌, ◌≤◌, length, get_or, [], Bool, true, false, not, ◌&&◌, ◌||◌, List, ◌∷◌, Option, Some, None, is_some, refl, sym, ap, ◌∙◌, subst, ap₂, ⊎_elim, inl, inr, arith, eq-eqb, eqb-true}
 use Rattle.std.specs.Prelude.{◌⊎◌, ◌==◌, nat_lt}
 use Rattle.std.proofs.lemmas.Bool.{cases_Bool, cases_eq, cases_lt, false≢true, false_from_ne_true, or_cases, or_left, or_right, or_from, and_from, and_parts, lt-ltb, ltb-true}
 use Rattle.std.proofs.lemmas.List.Folds.{list_any_at}
@@ -16,15 +16,17 @@ use Rattle.forest_model.specs.Deletion.{is_gone, moved, child_place}
 use Rattle.forest_model.proofs.Covers.{needed_parts}
 use Rattle.forest_model.proofs.Lists.{need_has, need_had}
 use Rattle.forest_model.proofs.Moving.{moved-step, moved-is_gone}
-use Rattle.proof_shape.specs.Targeted.{IsBeneathTarget, NoneGonePast}
+use Rattle.proof_shape.specs.Targeted.{IsBeneathTarget, NoneGonePast, IsGoneAt}
 use Rattle.proof_shape.specs.Shape.{has_number}
-use Rattle.proof_shape.specs.Moves.{GoneTell, HasNeighbours, AreApart, CoversTell}
-use Rattle.proof_shape.proofs.Ordered.{has_where, sorted_number_is}
+use Rattle.proof_shape.specs.Moves.{GoneTell, TellGone, HasNeighbours, AreApart, HasAll, CoversTell}
+use Rattle.proof_shape.specs.Survey.{pos}
+use Rattle.proof_shape.specs.Swept.{ArePositions}
+use Rattle.proof_shape.proofs.Ordered.{has_first, has_where, sorted_number_is}
 use Rattle.forest_place.specs.Position.{position, positions_of}
 use Rattle.std.specs.List.Sorted.{IsNonDecreasing, IsPermutation}
 use Rattle.proof_shape.proofs.Needing.{covered_up, covered_target}
 use Rattle.proof_shape.proofs.Climbing.{nothing_above}
-use Rattle.proof_shape.proofs.Parents.{ups, cover_above}
+use Rattle.proof_shape.proofs.Parents.{ups, cover_above, above_covered}
 
 -- a target stands at or beneath what is covered
 pub target_beneath : (ts : List Place) (r o : ℕ) → is_some (cover ts r o) ≡ true → (q : Place) × (k : ℕ) × (has_place ts q.row q.off ≡ true) × (q.row + k ≡ r) × (q.off / 2 ^ k ≡ o)
@@ -158,6 +160,14 @@ module _ (n : ℕ) (ts : List Place) (shape : HasShape n ts) where
       where_covered : (a x y : Bool) → (a ≡ true → x ≡ y) → (a && not x) ≡ (a && not y)
       where_covered true x y f = ap not (f refl)
       where_covered false x y f = refl
+
+-- the positions of covered places have those of places above needed ones
+pub has_above : (n : ℕ) (ts : List Place) (cs ks : List ℕ) → CoversTell n ts cs → CoversTell n (ups (need n ts)) ks → ArePositions n ks → HasAll cs ks
+has_above n ts cs ks c k places x h =
+    let w = has_where ks x h in
+    let p = places w.0 w.1 in
+    let at : pos n p.0 ≡ x = p.2 ∙ w.2 in
+    subst (λ y. has_number cs y ≡ true) at (c p.0 p.1 ∙ above_covered n ts p.0.row p.0.off (sym (k p.0 p.1) ∙ subst (λ y. has_number ks y ≡ true) (sym at) h))
 
 -- ---- where no two targets stand side by side
 
@@ -341,3 +351,25 @@ covered_kept true b h = rw (h refl) refl
 pub none_past : (n : ℕ) (ts : List Place) (covered kept : List ℕ) (last : ℕ) → GoneTell n ts covered kept → ((x : ℕ) → last < x → has_number covered x ≡ true → has_number kept x ≡ true) → NoneGonePast n ts last
 none_past n ts covered kept last tell has row off h lt =
     sym (tell row off h) ∙ covered_kept (has_number covered (position n row off)) (has_number kept (position n row off)) (has (position n row off) lt)
+
+-- a place is gone whose position is covered and not kept
+pub gone_at : (n : ℕ) (ts : List Place) (covered kept : List ℕ) (last : ℕ) → ArePositions n covered → GoneTell n ts covered kept → has_number covered last ≡ true → has_number kept last ≡ false → IsGoneAt n ts last
+gone_at n ts covered kept last places tell there lacked =
+    let w = has_where covered last there in
+    let p = places w.0 w.1 in
+    let at : pos n p.0 ≡ last = p.2 ∙ w.2 in
+    let both : (has_number covered last && not (has_number kept last)) ≡ true = rw (there, lacked) refl in
+    (p.0, p.1, at, sym (tell p.0.row p.0.off p.1) ∙ (ap (λ x. has_number covered x && not (has_number kept x)) at ∙ both))
+
+-- there is no target where all that is covered is kept
+pub no_target : (n : ℕ) (ts : List Place) (covered kept : List ℕ) → HasShape n ts → GoneTell n ts covered kept → HasAll kept covered → ts ≡ []
+no_target n [] covered kept shape tell all = refl
+no_target n (p ∷ ps) covered kept shape tell all =
+    let here = has_first p ps in
+    let stays = covered_kept (has_number covered (pos n p)) (has_number kept (pos n p)) (all (pos n p)) in
+    absurd (false≢true (sym stays ∙ (tell p.row p.off (shape.within p here) ∙ target_gone (p ∷ ps) p.row p.off here)))
+
+-- the last number that is covered and not kept tells the last place that is gone
+pub last_is : (n : ℕ) (ts : List Place) (covered kept : List ℕ) (last : ℕ) → HasShape n ts → TellGone n ts covered kept → ((has_number covered last ≡ true) × (has_number kept last ≡ false)) ⊎ (HasAll kept covered × (last ≡ 0)) → IsGoneAt n ts last ⊎ ((ts ≡ []) × (last ≡ 0))
+last_is n ts covered kept last shape t (inl lacked) = inl (gone_at n ts covered kept last t.places t.tell lacked.0 lacked.1)
+last_is n ts covered kept last shape t (inr none) = inr (no_target n ts covered kept shape t.tell none.0, none.1)

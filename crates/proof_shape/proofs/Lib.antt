@@ -1,4 +1,5 @@
 pub mod Ordered
+pub mod Ends
 pub mod Parents
 pub mod Climbing
 pub mod Shapes

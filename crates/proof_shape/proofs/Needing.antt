@@ -2,8 +2,8 @@
 use Rattle.std.proofs.Common.{◌≡◌, ℕ, zero, suc, ◌+◌, ◌-◌, ◌*◌, ◌/◌, ◌%◌, ◌<◌, true, false, ◌||◌, List, [], ◌∷◌, ◌++◌, length, get_or, take, filter_map, Option, Some, None, is_some, refl, sym, ap, ◌∙◌, subst, ap₂, ⊎_elim, inl, inr, arith, eq-eqb, eqb-true}
 use Rattle.std.specs.Prelude.{◌⊎◌, ◌==◌}
 use Rattle.std.specs.List.{cons_option}
-use Rattle.std.specs.List.Sorted.{IsNonDecreasing, IsPermutation}
-use Rattle.std.proofs.lemmas.List.Sorted.{list_any-IsPermutation, IsNonDecreasingBy-from_default}
+use Rattle.std.specs.List.Sorted.{IsNonDecreasing, IsStrictlyIncreasing, IsPermutation}
+use Rattle.std.proofs.lemmas.List.Sorted.{list_any-IsPermutation, IsPermutation-refl}
 use Rattle.std.proofs.lemmas.List.Folds.{list_any_at}
 use Rattle.std.proofs.lemmas.Bool.{cases_Bool, cases_lt, cases_eq, cases_order, false≢true, or_cases, or_left, or_right, or_parts}
 use Rattle.std.proofs.lemmas.Option.{none-some, same_Some}
@@ -23,7 +23,7 @@ use Rattle.forest_model.proofs.Covers.{needed_parts}
 use Rattle.forest_model.proofs.Lists.{need_has, need_had, need_ascending}
 use Rattle.proof_shape.specs.Shape.{has_number}
 use Rattle.proof_shape.specs.Swept.{ArePositions, IsSwept}
-use Rattle.proof_shape.proofs.Ordered.{has_at, has_first, has_where, within_rest, number_is, sorted_number_is}
+use Rattle.proof_shape.proofs.Ordered.{has_at, has_first, has_where, within_rest, number_is, sorted_number_is, sorted_from_rising}
 use Rattle.proof_shape.specs.Survey.{IsCoverOf, pos, up, is_top, has, Rises, needed_beside, needed_of}
 use Rattle.proof_shape.specs.Moves.{CoversTell}
 use Rattle.proof_shape.proofs.Longer.{place_where}
@@ -261,17 +261,21 @@ positions_are n ps ys h perm k lt =
         (λ there. let w = numbered qs there in (w.0, or_right (is_at w.0.row w.0.off q) (has qs w.0) w.1, w.2))
         (or_cases (pos n q == get_or ys k 0) (has_number (positions_of n qs) (get_or ys k 0)) e)
 
--- positions of places that rise do not fall
+pub positions_placed : (n : ℕ) (cs : List Place) → AreWithin n cs → ArePositions n (positions_of n cs)
+positions_placed n cs within = positions_are n cs (positions_of n cs) within (IsPermutation-refl (positions_of n cs))
+
+-- positions of places that rise ascend without repeats
+pub rises_strictly : (n : ℕ) (cs : List Place) → Rises n cs → IsStrictlyIncreasing (positions_of n cs)
+rises_strictly n cs rises k lt =
+    let long : k + 1 < length cs = omega (arith, lt, length-map cs (pos n)) in
+    let at = position_at n cs k (omega (arith, long)) in
+    let next = position_at n cs (k + 1) long in
+    let z = rises k (k + 1) (omega arith) long in
+    omega (arith, at, next, z)
+
+-- and do not fall
 pub rises_sorted : (n : ℕ) (cs : List Place) → Rises n cs → IsNonDecreasing (positions_of n cs)
-rises_sorted n cs rises =
-    IsNonDecreasingBy-from_default (λ (x : ℕ). x) (positions_of n cs) 0 (λ i j le lt.
-    let long : j < length cs = omega (arith, lt, length-map cs (pos n)) in
-    let at = position_at n cs i (omega (arith, le, long)) in
-    let at' = position_at n cs j long in
-    ⊎_elim
-    (λ same. let e = ap (λ x. get_or (positions_of n cs) x 0) same in omega (arith, e))
-    (λ other. let z = rises i j (omega (arith, le, other)) long in omega (arith, at, at', z))
-    (cases_eq i j))
+rises_sorted n cs rises = sorted_from_rising (positions_of n cs) (rises_strictly n cs rises)
 
 -- a sweep over the positions of places gives their cover
 pub cover_from_sweep : (n : ℕ) (ps : List Place) (ys : List ℕ) (cs : List Place) → AreWithin n ps → IsPermutation (positions_of n ps) ys → IsSwept n ys cs → IsCoverOf n ps cs

@@ -3,7 +3,7 @@ use Rattle.std.proofs.Common.{◌≡◌, ℕ, suc, ◌+◌, ◌<◌, ◌≤◌, 
 use Rattle.std.specs.Prelude.{◌==◌, ◌⊎◌, Result, Ok, Err, is_ok, MatchResult}
 use Rattle.std.specs.List.{AllByRecursion, IsDistinct}
 use Rattle.std.specs.List.Sorted.{IsNonDecreasing, IsStrictlyIncreasing, IsPermutation}
-use Rattle.std.proofs.lemmas.Bool.{cases_Bool, cases_lt, false≢true, true≢false, false_from_ne_true, or_cases, or_left, or_right, or_parts, or_from}
+use Rattle.std.proofs.lemmas.Bool.{cases_Bool, cases_lt, cases_eq, false≢true, true≢false, false_from_ne_true, or_cases, or_left, or_right, or_parts, or_from}
 use Rattle.std.proofs.lemmas.List.Folds.{list_any_at, list_any-append}
 use Rattle.std.proofs.lemmas.List.{take_more}
 use Rattle.std.proofs.lemmas.List.Sorted.{list_any-IsPermutation, IsPermutation-sym}
@@ -24,6 +24,14 @@ has_where (x ∷ xs) y h =
     (λ here. (0, omega arith, eqb-true x y here))
     (λ there. let w = has_where xs y there in (suc w.0, omega (arith, w.1), w.2))
     (or_cases (x == y) (has_number xs y) h)
+
+-- numbers that ascend without repeats do not fall
+pub sorted_from_rising : (xs : List ℕ) → IsStrictlyIncreasing xs → IsNonDecreasing xs
+sorted_from_rising xs rising i j d le lt =
+    ⊎_elim
+    (λ same. let e = ap (λ k. get_or xs k d) same in omega (arith, e))
+    (λ other. let z = AllPairs-from_increasing xs rising i j d (omega (arith, le, other)) lt in omega (arith, z))
+    (cases_eq i j)
 
 -- what stands past a bound in a list is in another one that has all from an index on, where what stands before that is not past it
 pub past_has : (xs ys : List ℕ) (i last : ℕ) → ((k : ℕ) → i ≤ k → k < length xs → has_number ys (get_or xs k 0) ≡ true) → ((k : ℕ) → k < length xs → last < get_or xs k 0 → i ≤ k) → (x : ℕ) → last < x → has_number xs x ≡ true → has_number ys x ≡ true

@@ -3,9 +3,10 @@ use Rattle.std.proofs.Common.{◌≡◌, ℕ, zero, suc, ◌+◌, ◌*◌, ◌/�
 use Rattle.std.specs.Prelude.{◌⊎◌, ◌==◌}
 use Rattle.std.proofs.lemmas.Bool.{cases_Bool, false≢true, false_from_ne_true, or_cases, or_left, or_right, or_from, cases_eq}
 use Rattle.forest_place.specs.declared.place.Place.{Place}
-use Rattle.forest_place.specs.Forest.{InForest}
+use Rattle.forest_place.specs.Forest.{InForest, sibling_off}
 use Rattle.forest_place.specs.Places.{has_place, is_at, AreWithin}
 use Rattle.forest_place.proofs.Parts.{InForest-up}
+use Rattle.forest_place.proofs.Siblings.{sibling_off-left, sibling_off-right}
 use Rattle.forest_model.specs.Cover.{cover, need}
 use Rattle.forest_model.proofs.Covers.{needed_parts}
 use Rattle.forest_model.proofs.Lists.{need_had}
@@ -94,3 +95,22 @@ ups_within n ts (suc r) o h =
   where
     parent_of : (x : ℕ) → has_place (need n ts) r x ≡ true → InForest n (suc r) (x / 2)
     parent_of x it = let w = need_had n ts r x it in InForest-up n r x w.0 (needed_parts n ts r x w.1).0
+
+-- a place above a needed place is covered
+pub above_covered : (n : ℕ) (ts : List Place) (r o : ℕ) → is_some (cover (ups (need n ts)) r o) ≡ true → is_some (cover ts r o) ≡ true
+above_covered n ts zero o h = absurd (false≢true (sym (cover_low (ups (need n ts)) o ∙ none_low (need n ts) o) ∙ h))
+above_covered n ts (suc r) o h =
+    covered_up ts r o ∙ or_right (has_place ts (suc r) o) (is_some (cover ts r (2 * o)) || is_some (cover ts r (2 * o + 1)))
+    (⊎_elim
+    (λ it. ⊎_elim
+    (λ left. or_right (is_some (cover ts r (2 * o))) (is_some (cover ts r (2 * o + 1))) (ap (λ x. is_some (cover ts r x)) (sym (sibling_off-left o)) ∙ beside_needed (2 * o) left))
+    (λ right. or_left (is_some (cover ts r (2 * o))) (is_some (cover ts r (2 * o + 1))) (ap (λ x. is_some (cover ts r x)) (sym (sibling_off-right o)) ∙ beside_needed (2 * o + 1) right))
+    (or_cases (has_place (need n ts) r (2 * o)) (has_place (need n ts) r (2 * o + 1)) (sym (has_ups (need n ts) r o) ∙ it)))
+    (λ below. ⊎_elim
+    (λ left. or_left (is_some (cover ts r (2 * o))) (is_some (cover ts r (2 * o + 1))) (above_covered n ts r (2 * o) left))
+    (λ right. or_right (is_some (cover ts r (2 * o))) (is_some (cover ts r (2 * o + 1))) (above_covered n ts r (2 * o + 1) right))
+    (or_cases (is_some (cover (ups (need n ts)) r (2 * o))) (is_some (cover (ups (need n ts)) r (2 * o + 1))) below))
+    (or_cases (has_place (ups (need n ts)) (suc r) o) (is_some (cover (ups (need n ts)) r (2 * o)) || is_some (cover (ups (need n ts)) r (2 * o + 1))) (sym (covered_up (ups (need n ts)) r o) ∙ h)))
+  where
+    beside_needed : (x : ℕ) → has_place (need n ts) r x ≡ true → is_some (cover ts r (sibling_off x)) ≡ true
+    beside_needed x it = ap is_some (needed_parts n ts r x (need_had n ts r x it).1).2.1

@@ -7,7 +7,7 @@ use Rattle.forest_place.specs.Forest.{is_root, sibling_off}
 use Rattle.forest_place.specs.Places.{places}
 use Rattle.forest_model.specs.Cover.{cover, is_needed}
 use Rattle.forest_model.specs.Deletion.{is_gone}
-use Rattle.proof_shape.specs.Moves.{IsSurveyed}
+use Rattle.proof_shape.specs.Moves.{HasPart, IsSurveyed}
 use Rattle.proof_shape.specs.Survey.{IsCoverOf}
 use Rattle.proof_shape.specs.Targeted.{IsTargeted}
 use Rattle.proof_shape.proofs.Longer.{shape_none}
@@ -44,10 +44,13 @@ none_gone (suc row) off = rw (none_gone row (2 * off)) refl
 pub untargeted : (n : ℕ) → n < 2 ^ 40 → IsTargeted (record { leaves = n; targets = [] })
 untargeted n few = record { few = few; counted = omega arith; shape = shape_none n }
 
+no_part : HasPart [] []
+no_part = record { rises = λ k lt. absurd (omega (arith, lt)); part_rises = λ k lt. absurd (omega (arith, lt)); there = λ x h. h }
+
 pub surveyed : (n : ℕ) → IsSurveyed n [] [] [] [] [] []
 surveyed n = record {
   needed_is = sym (none_of n (places n));
   cover_is = covers n;
   numbers_are = refl;
-  gone = record { covered_up = λ i j d le lt. absurd (omega (arith, lt)); kept_up = λ i j d le lt. absurd (omega (arith, lt)); tell = λ row off h. sym (none_gone row off) };
+  gone = record { part = no_part; places = λ k lt. absurd (omega (arith, lt)); tell = λ row off h. sym (none_gone row off) };
 }

@@ -1,6 +1,6 @@
 -- How the places at and above the targets, and those above needed places, tell what is gone.
 use Rattle.std.specs.Prelude.{◌≡◌, ℕ, suc, Bool, true, false, not, ◌&&◌, List, is_some}
-use Rattle.std.specs.List.Sorted.{IsNonDecreasing}
+use Rattle.std.specs.List.Sorted.{IsStrictlyIncreasing}
 use Rattle.forest_place.specs.declared.place.Place.{Place}
 use Rattle.forest_place.specs.Forest.{InForest}
 use Rattle.forest_place.specs.Position.{position, positions_of}
@@ -8,6 +8,7 @@ use Rattle.forest_model.specs.Cover.{cover, need}
 use Rattle.forest_model.specs.Deletion.{is_gone}
 use Rattle.proof_shape.specs.Shape.{has_number}
 use Rattle.proof_shape.specs.Survey.{pos, IsCoverOf}
+use Rattle.proof_shape.specs.Swept.{ArePositions}
 
 -- the numbers tell which places are covered
 abbrev pub CoversTell : ℕ → List Place → List ℕ → Type 0
@@ -20,10 +21,20 @@ gone_by n covered kept row off = has_number covered (position n row off) && not 
 abbrev pub GoneTell : ℕ → List Place → List ℕ → List ℕ → Type 0
 GoneTell n ts covered kept = (row off : ℕ) → InForest n row off → gone_by n covered kept row off ≡ is_gone ts row off
 
--- two lists in ascending order tell it
+-- the first list has all numbers of the second
+abbrev pub HasAll : List ℕ → List ℕ → Type 0
+HasAll xs ys = (x : ℕ) → has_number ys x ≡ true → has_number xs x ≡ true
+
+-- both ascend without repeats, and the first has all numbers of the second
+pub record HasPart (xs ys : List ℕ) : Type 0 where
+  pub rises : IsStrictlyIncreasing xs
+  pub part_rises : IsStrictlyIncreasing ys
+  pub there : HasAll xs ys
+
+-- two lists tell it, the second a part of the first, which has nothing but positions of places of the forest
 pub record TellGone (n : ℕ) (ts : List Place) (covered kept : List ℕ) : Type 0 where
-  pub covered_up : IsNonDecreasing covered
-  pub kept_up : IsNonDecreasing kept
+  pub part : HasPart covered kept
+  pub places : ArePositions n covered
   pub tell : GoneTell n ts covered kept
 
 -- two numbers of the list follow each other

@@ -24,3 +24,7 @@ IsBeneathTarget ts p = (t : Place) × (has_place ts t.row t.off ≡ true) × (is
 -- no place past this position is gone
 abbrev pub NoneGonePast : ℕ → List Place → ℕ → Type 0
 NoneGonePast n ts last = (row off : ℕ) → InForest n row off → last < position n row off → is_gone ts row off ≡ false
+
+-- the place of the forest that stands at this position is gone
+abbrev pub IsGoneAt : ℕ → List Place → ℕ → Type 0
+IsGoneAt n ts x = (p : Place) × InForest n p.row p.off × (position n p.row p.off ≡ x) × (is_gone ts p.row p.off ≡ true)

@@ -1,11 +1,12 @@
 //! What tells which places are gone.
-ghost use Rattle.std.specs.Prelude.{◌≡◌, ◌^◌, ◌<◌, ℕ, true, IfOk, MatchBool};
-ghost use Rattle.std.specs.List.Sorted.{IsNonDecreasing, IsPermutation};
+ghost use Rattle.std.specs.Prelude.{◌≡◌, ◌⊎◌, ◌^◌, ◌<◌, ℕ, true, false, IfOk, MatchBool};
+ghost use Rattle.std.specs.List.Sorted.{IsNonDecreasing, IsStrictlyIncreasing, IsPermutation};
 ghost use Rattle.forest_place.specs.Places.{AreWithin};
 ghost use Rattle.forest_place.specs.Position.{positions_of as numbers_of};
 ghost use Rattle.forest_model.specs.Cover.{HasShape, need};
 ghost use Rattle.proof_shape.specs.Shape.{has_number};
-ghost use Rattle.proof_shape.specs.Moves.{HasNeighbours, AreApart, TellGone, CoversTell};
+ghost use Rattle.proof_shape.specs.Moves.{HasNeighbours, AreApart, HasAll, HasPart, TellGone, CoversTell};
+ghost use Rattle.proof_shape.specs.Swept.{ArePositions};
 
 use crate::survey::{covered_positions, parents_of};
 use forest_place::Place;
@@ -41,7 +42,8 @@ pub(crate) fn gone_among(
     requires shape { HasShape n targets.now }
     requires sorted { IsNonDecreasing sorted.items }
     requires same { IsPermutation (numbers_of n targets.now) sorted.items }
-    requires covered { IsNonDecreasing covered.now }
+    requires rises { IsStrictlyIncreasing covered.now }
+    requires places { ArePositions n covered.now }
     requires tell { CoversTell n targets.now covered.now }
     requires needed { needed.now ≡ need n targets.now }
     ensures { IfOk result (λ v. TellGone n targets.now v.0.items v.1.items) }
@@ -55,10 +57,11 @@ pub(crate) fn gone_among(
     }
 }
 
-// The last number of an ascending list that the end of another one lacks, and 0 where there is none.
+// The last number of an ascending list that a part of it lacks, and 0 where it lacks none.
 pub(crate) fn last_gone(covered: &[u64], kept: &[u64]) -> u64
-    requires { IsNonDecreasing covered.now }
-    ensures { (number : ℕ) → result < number → has_number covered.now number ≡ true → has_number kept.now number ≡ true }
+    requires { HasPart covered.now kept.now }
+    ensures lacked { ((has_number covered.now result ≡ true) × (has_number kept.now result ≡ false)) ⊎ (HasAll kept.now covered.now × (result ≡ 0)) }
+    ensures past { (number : ℕ) → result < number → has_number covered.now number ≡ true → has_number kept.now number ≡ true }
 {
     let mut i = covered.len();
     let mut j = kept.len();

@@ -1,11 +1,12 @@
 //! The places at and above others, from one sweep.
 ghost use Rattle.std.specs.Prelude.{◌≡◌, ◌^◌, ◌<◌, IfOk, IsTrue, map};
-ghost use Rattle.std.specs.List.Sorted.{IsNonDecreasing, IsPermutation};
+ghost use Rattle.std.specs.List.Sorted.{IsNonDecreasing, IsStrictlyIncreasing, IsPermutation};
 ghost use Rattle.forest_place.specs.Places.{AreWithin};
 ghost use Rattle.forest_place.specs.Position.{positions_of as numbers_of};
 ghost use Rattle.forest_model.specs.Cover.{HasShape};
 ghost use Rattle.proof_shape.specs.Moves.{CoversTell};
 ghost use Rattle.proof_shape.specs.Survey.{IsCoverOf, up};
+ghost use Rattle.proof_shape.specs.Swept.{ArePositions};
 
 use crate::cover::cover_of;
 use crate::order::{positions_of, sorted_positions};
@@ -39,7 +40,8 @@ pub(crate) fn covered_positions(
 ) -> Result<Vec<u64>, AllocError>
     requires small { n < 2 ^ 40 }
     requires within { AreWithin n places.now }
-    ensures sorted { IfOk result (λ v. IsNonDecreasing v.items) }
+    ensures rises { IfOk result (λ v. IsStrictlyIncreasing v.items) }
+    ensures places { IfOk result (λ v. ArePositions n v.items) }
     ensures tell { IfOk result (λ v. CoversTell n places.now v.items) }
 {
     let sorted = sorted_positions(alloc, n, places)?;

@@ -49,7 +49,7 @@ impl Targets {
     ghost use Rattle.proof_shape.specs.Laws.{WhatStaysGoes, EntryGoes};
     ghost use Rattle.proof_shape.specs.Shape.{AreTargets, IsShapeFault};
     ghost use Rattle.proof_shape.specs.Survey.{IsCoverOf};
-    ghost use Rattle.proof_shape.specs.Targeted.{IsTargeted, IsBeneathTarget, NoneGonePast};
+    ghost use Rattle.proof_shape.specs.Targeted.{IsTargeted, IsBeneathTarget, NoneGonePast, IsGoneAt};
 
     /// The targets at these positions of the forest over `n` entries. A fault names items of the list by `u32`, so the list has
     /// fewer than 2^32.
@@ -157,9 +157,10 @@ impl Targets {
         moved_from(self.count, &self.among, &self.kept, place)
     }
 
-    /// A position past which no place is gone: that of the last place that is, and 0 where none is.
+    /// The position of the last place that is gone. Each target is gone; where there is no target, nothing is, and the answer is 0.
     pub fn last_gone(&self) -> u64
-        ensures { NoneGonePast self.now.leaves self.now.targets result }
+        ensures gone { IsGoneAt self.now.leaves self.now.targets result ⊎ ((self.now.targets ≡ []) × (result ≡ 0)) }
+        ensures past { NoneGonePast self.now.leaves self.now.targets result }
     {
         last_gone(&self.among, &self.kept)
     }

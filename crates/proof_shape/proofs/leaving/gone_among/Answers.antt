@@ -1,10 +1,14 @@
 use Rattle.std.proofs.Common.{◌≡◌, sym, ap, ◌∙◌, subst, arith}
-use Rattle.std.specs.List.Sorted.{IsNonDecreasing}
+use Rattle.std.specs.List.Sorted.{IsStrictlyIncreasing}
+use Rattle.std.proofs.lemmas.Bool.{false≢true}
 use Rattle.forest_place.specs.Places.{AreWithin}
 use Rattle.forest_model.specs.Cover.{need}
 use Rattle.forest_model.proofs.Lists.{need_had}
-use Rattle.proof_shape.specs.Moves.{AreApart, GoneTell, CoversTell}
-use Rattle.proof_shape.proofs.Gone.{gone_tell, alone_tell}
+use Rattle.proof_shape.specs.Moves.{AreApart, HasPart, GoneTell, CoversTell}
+use Rattle.proof_shape.specs.Swept.{ArePositions}
+use Rattle.proof_shape.proofs.Gone.{gone_tell, alone_tell, has_above}
+use Rattle.proof_shape.proofs.Needing.{positions_are}
+use Rattle.proof_shape.proofs.Ordered.{rising_from_distinct}
 use Rattle.proof_shape.proofs.Parents.{ups, ups_within}
 use Rattle.proof_shape.proofs.leaving.gone_among.Goals as goal
 
@@ -23,10 +27,16 @@ returns-in_ok-from_slice c =
     let ts = c.args.targets.now in
     let same = sym c.in_ok-from_slice.ensures.items in
     let is : c.deref-then-have_neighbours.result.now ≡ ups (need n ts) = c.deref-then-have_neighbours.ensures.value ∙ (c.in_ok-above.ensures ∙ ap ups c.requires.needed) in
+    let all = subst (CoversTell n ts) same c.requires.tell in
+    let above = subst (λ l. CoversTell n l c.in_ok-kept.kept.items) is c.in_ok-kept.ensures.tell in
     record {
-      covered_up = subst IsNonDecreasing same c.requires.covered;
-      kept_up = c.in_ok-kept.ensures.sorted;
-      tell = gone_tell n ts c.requires.shape _ _ (subst (CoversTell n ts) same c.requires.tell) (subst (λ l. CoversTell n l c.in_ok-kept.kept.items) is c.in_ok-kept.ensures.tell);
+      part = record {
+        rises = subst IsStrictlyIncreasing same c.requires.rises;
+        part_rises = c.in_ok-kept.ensures.rises;
+        there = has_above n ts _ _ all above c.in_ok-kept.ensures.places;
+      };
+      places = subst (ArePositions n) same c.requires.places;
+      tell = gone_tell n ts c.requires.shape _ _ all above;
     }
 
 pub returns-else-have_neighbours : goal.returns-else-have_neighbours
@@ -36,7 +46,12 @@ returns-else-have_neighbours c =
     let apart = subst AreApart c.deref.ensures.value (rw c.if-have_neighbours.false at c.have_neighbours.ensures) in
     let empty = sym c.new.ensures.items in
     record {
-      covered_up = c.requires.sorted;
-      kept_up = subst IsNonDecreasing empty (λ i j d le lt. absurd (omega (arith, lt)));
+      part = subst (HasPart c.args.sorted.items) empty
+          record {
+            rises = rising_from_distinct n ts c.args.sorted.items c.requires.within c.requires.same c.requires.sorted c.requires.shape.distinct;
+            part_rises = λ k lt. absurd (omega (arith, lt));
+            there = λ x h. absurd (false≢true h);
+          };
+      places = positions_are n ts c.args.sorted.items c.requires.within c.requires.same;
       tell = subst (GoneTell n ts c.args.sorted.items) empty (alone_tell n ts c.args.sorted.items c.requires.within c.requires.same apart);
     }

@@ -1,12 +1,12 @@
-use Rattle.std.proofs.Common.{◌≡◌, ℕ, true, ◌<◌, ◌≤◌, length, get_or}
-use Rattle.proof_shape.specs.Shape.{has_number}
+use Rattle.std.proofs.Common.{◌≤◌, length}
+use Rattle.proof_shape.proofs.Ends.{EndAlike}
 use Rattle.proof_shape.proofs.leaving.last_gone.Given as goal
 
 abbrev pub invariant-loop-i : goal.invariant-loop-i
 invariant-loop-i l = record {
   low : l.i ≤ length l.covered;
   kept_low : l.j ≤ length l.kept;
-  same : (k : ℕ) → l.i ≤ k → k < length l.covered → has_number l.kept (get_or l.covered k 0) ≡ true;
+  ends : EndAlike l.covered l.kept l.i l.j;
 }
 
 abbrev pub decreases-loop-i : goal.decreases-loop-i

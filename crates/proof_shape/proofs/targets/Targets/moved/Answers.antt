@@ -1,7 +1,9 @@
 use Rattle.std.proofs.Common.{◌≡◌, sym, ap, ap₂, ◌∙◌, subst}
+use Rattle.std.specs.List.Sorted.{IsNonDecreasing}
 use Rattle.forest_model.specs.Deletion.{moved}
 use Rattle.proof_shape.specs.Moves.{gone_by}
 use Rattle.proof_shape.specs.Targeted.{Targeted, IsTargeted}
+use Rattle.proof_shape.proofs.Ordered.{sorted_from_rising}
 use Rattle.proof_shape.proofs.Gone.{none_exactly}
 use Rattle.proof_shape.proofs.Goes.{stays_goes, entry_stays}
 use Rattle.proof_shape.proofs.targets.Targets.moved.Goals as goal
@@ -10,6 +12,12 @@ is_moved : (c : goal.After-moved_from) → c.moved_from.result ≡ moved c.args.
 is_moved c =
     c.moved_from.ensures.is c.self.inside.list.items (λ r o h. ap₂ (λ x y. gone_by c.self.inside.count x y r o) c.deref.ensures.value c.deref-2.ensures.value ∙ c.self.invariant.1.gone.tell r o h) ∙
     ap (λ (f : Targeted). moved f.leaves f.targets c.args.place.row c.args.place.off) c.self.view_is
+
+pub moved_from-requires-clause-covered : goal.moved_from-requires-clause-covered
+moved_from-requires-clause-covered c = subst IsNonDecreasing (sym c.deref.ensures.value) (sorted_from_rising c.self.inside.among.items c.self.invariant.1.gone.part.rises)
+
+pub moved_from-requires-clause-kept : goal.moved_from-requires-clause-kept
+moved_from-requires-clause-kept c = subst IsNonDecreasing (sym c.deref-2.ensures.value) (sorted_from_rising c.self.inside.kept.items c.self.invariant.1.gone.part.part_rises)
 
 pub returns-clause-none : goal.returns-clause-none
 returns-clause-none c =

@@ -2,10 +2,11 @@ use Rattle.std.proofs.Common.{◌≡◌, ◌<◌, ◌∙◌, sym, ap, subst, len
 use Rattle.forest_place.specs.Places.{AreWithin}
 use Rattle.forest_place.specs.Position.{positions_of}
 use Rattle.forest_model.specs.Cover.{HasShape, need}
-use Rattle.std.specs.List.Sorted.{IsNonDecreasing, IsPermutation}
+use Rattle.std.specs.List.Sorted.{IsNonDecreasing, IsStrictlyIncreasing, IsPermutation}
 use Rattle.proof_shape.specs.Survey.{IsCoverOf, Rises, needed_of}
-use Rattle.proof_shape.proofs.Needing.{rises_sorted, positions_tell}
+use Rattle.proof_shape.proofs.Needing.{rises_strictly, positions_placed, positions_tell}
 use Rattle.proof_shape.specs.Moves.{TellGone, CoversTell}
+use Rattle.proof_shape.specs.Swept.{ArePositions}
 use Rattle.proof_shape.specs.Found.{IsSoundLength, IsFaultAt}
 use Rattle.proof_shape.proofs.Faulty.{fault_from, outside_from, targets_from}
 use Rattle.proof_shape.proofs.targets.Targets.new.Goals as goal
@@ -53,12 +54,19 @@ gone_among-requires-clause-shape c =
     let top : k < length ps → ⊥ = λ lt. omega (arith, lt, c.if-sound-len.false, c.len.ensures) in
     subst (HasShape n) (sym c.deref-7.ensures.value) (targets_from n c.args.positions.now ps c.in_ok-places.ensures k sound top (λ lt. omega (arith, lt, c.if-sound-positions.false))).shape
 
-pub gone_among-requires-clause-covered : goal.gone_among-requires-clause-covered
-gone_among-requires-clause-covered c =
+pub gone_among-requires-clause-rises : goal.gone_among-requires-clause-rises
+gone_among-requires-clause-rises c =
     let n = c.args.n in
     let cs = c.in_ok-covered.covered.items in
     let numbers : c.deref-8.result.now ≡ positions_of n cs = c.deref-8.ensures.value ∙ (c.in_ok-numbers.ensures ∙ ap (positions_of n) c.deref-6.ensures.value) in
-    subst IsNonDecreasing (sym numbers) (rises_sorted n cs c.in_ok-covered.ensures.covered.rises)
+    subst IsStrictlyIncreasing (sym numbers) (rises_strictly n cs c.in_ok-covered.ensures.covered.rises)
+
+pub gone_among-requires-clause-places : goal.gone_among-requires-clause-places
+gone_among-requires-clause-places c =
+    let n = c.args.n in
+    let cs = c.in_ok-covered.covered.items in
+    let numbers : c.deref-8.result.now ≡ positions_of n cs = c.deref-8.ensures.value ∙ (c.in_ok-numbers.ensures ∙ ap (positions_of n) c.deref-6.ensures.value) in
+    subst (ArePositions n) (sym numbers) (positions_placed n cs c.in_ok-covered.ensures.covered.within)
 
 pub gone_among-requires-clause-tell : goal.gone_among-requires-clause-tell
 gone_among-requires-clause-tell c =
