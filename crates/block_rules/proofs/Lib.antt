@@ -11,6 +11,7 @@ pub mod Finding
 pub mod Naming
 pub mod Passing
 pub mod Walking
+pub mod Slots
 pub mod Spending
 pub mod Paid
 pub mod Marks

@@ -1,5 +1,6 @@
 //! The outputs that a block has made so far.
-ghost use Rattle.std.specs.Prelude.{◌≡◌, ◌<◌, ◌≤◌, ◌+◌, ◌++◌, ◌^◌, length, option_map, [], IfOk, OnOk};
+ghost use Rattle.std.specs.Prelude.{◌≡◌, ◌<◌, ◌≤◌, ◌+◌, ◌++◌, ◌^◌, length, option_map, [], Some, IfOk, OnOk};
+ghost use Rattle.tx_codec.specs.Reading.{first_output};
 ghost use Rattle.tx_codec.specs.Views.{output_of};
 ghost use Rattle.leaf_record.specs.History.{newest};
 ghost use Rattle.block_rules.specs.Blocks.{is_spendable, taken};
@@ -9,7 +10,7 @@ ghost use Rattle.block_rules.specs.Money.{found_of};
 use crate::chain::Found;
 use crate::origins::Origins;
 use crate::outpoint::{TxidKey, key_of_txid};
-use crate::output::MadeOutput;
+use crate::output::OutputSlot;
 use leaf_record::MAX_SCRIPT;
 use std::alloc::Global;
 use std::collections::BTreeMap;
@@ -32,8 +33,8 @@ pub(crate) struct Named {
 #[derive(Drop)]
 pub(crate) struct Made<'a> {
     pub origins: Origins,
-    /// In order. One that can not be spent, or is spent, is None.
-    pub outputs: Vec<Option<MadeOutput<'a>>>,
+    /// In order. Where one can not be spent, or is spent, nothing stands.
+    pub outputs: Vec<OutputSlot<'a>>,
     /// The transactions whose outputs are named, in order.
     pub named: Vec<Named>,
     /// How many outputs they have.
@@ -43,7 +44,7 @@ pub(crate) struct Made<'a> {
 }
 
 impl<'a> Made<'a> {
-    ghost use Rattle.block_rules.specs.Known.{named_point, number_in, found_at, history, Knows, KnowsAll};
+    ghost use Rattle.block_rules.specs.Known.{named_point, number_in, found_at, found_if, leaf_at, history, Knows, KnowsAll};
 
     /// Nothing, and room for so many outputs.
     pub fn new(alloc: Global, origins: Origins, room: usize) -> Result<Self, NoMemory>
@@ -73,7 +74,7 @@ impl<'a> Made<'a> {
         match self.number(txid, index) {
             Some(number) => {
                 let found = self.found(number);
-                self.outputs[number] = None;
+                self.outputs[number] = OutputSlot::none();
                 found
             }
             None => None,
@@ -107,7 +108,7 @@ impl<'a> Made<'a> {
             return None;
         }
         let number = named.start + index as usize;
-        match &self.outputs[number] {
+        match self.outputs[number].get() {
             Some(_) => Some(number),
             None => None,
         }
@@ -117,8 +118,17 @@ impl<'a> Made<'a> {
         ensures { result ≡ found_at number (history self.now) }
     {
         match self.outputs.get(number) {
-            Some(Some(output)) => Some(self.origins.found(output)),
-            Some(None) | None => None,
+            Some(slot) => self.found_in(slot),
+            None => None,
+        }
+    }
+
+    fn found_in(&self, slot: &OutputSlot<'_>) -> Option<Found>
+        ensures { result ≡ found_if (Some (option_map (leaf_at self.now.origins) slot.now)) }
+    {
+        match slot.get() {
+            Some(output) => Some(self.origins.found(&output)),
+            None => None,
         }
     }
 
@@ -162,28 +172,27 @@ impl<'a> Made<'a> {
         ensures known { self.new.known ≡ self.old.known }
         ensures newest { self.new.newest ≡ self.old.newest }
     {
+        let mut left = tx.outputs();
+        let mut text = left.text();
         let mut index = 0;
-        for output in tx.outputs() {
-            self.outputs.push(kept(place, index, &output))?;
+        while let Some(output) = left.next() {
+            self.outputs.push(kept(place, index, &output, text))?;
+            text = left.text();
             index += 1;
         }
         Ok(())
     }
 }
 
-// An output that can be spent.
-fn kept<'a>(tx: u32, index: u32, output: &OutView<'a>) -> Option<MadeOutput<'a>>
+// An output that can be spent. It stands in front of the text.
+fn kept<'a>(tx: u32, index: u32, output: &OutView<'_>, text: &'a [u8]) -> OutputSlot<'a>
+    requires { first_output text.now ≡ Some (output_of output.now) }
     ensures { result ≡ kept_if tx index (output_of output.now) }
 {
     if is_spendable(output) {
-        Some(MadeOutput {
-            tx,
-            index,
-            amount: output.amount,
-            script: output.script,
-        })
+        OutputSlot { tx, index, text }
     } else {
-        None
+        OutputSlot::none()
     }
 }
 

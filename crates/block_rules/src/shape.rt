@@ -8,7 +8,7 @@ ghost use Rattle.block_rules.specs.Walk.{new_at};
 use crate::chain::Chain;
 use crate::double::double_step;
 use crate::fault::RuleFault;
-use crate::output::MadeOutput;
+use crate::output::OutputSlot;
 use crate::refusal::Refusal;
 use crate::spends::Spends;
 use crate::steps::{coinbase_step, link_step, merkle_step, value_step, weight_step};
@@ -112,8 +112,8 @@ fn spends_at<'a>(
 fn new_outputs<'a>(
     alloc: Global,
     height: u32,
-    mut outputs: Vec<Option<MadeOutput<'a>>>,
-) -> Vec<Option<MadeOutput<'a>>>
+    mut outputs: Vec<OutputSlot<'a>>,
+) -> Vec<OutputSlot<'a>>
     ensures { result.items ≡ map Some (new_at height outputs.entry.items) }
 {
     if height == 0 {

@@ -3,7 +3,7 @@ ghost use Rattle.std.specs.Prelude.{◌≡◌, ◌<◌, length, slice_get, Some}
 
 use crate::chain::{Found, Outside};
 use crate::origins::Origins;
-use crate::output::MadeOutput;
+use crate::output::OutputSlot;
 use leaf_record::RecordView;
 use std::marker::Model;
 use uo_base::Net;
@@ -36,7 +36,7 @@ pub struct Spends<'a> {
     pub(crate) origins: Origins,
     pub(crate) external: Vec<Outside>,
     // What is left of those that were made: nothing in it is missing.
-    pub(crate) new: Vec<Option<MadeOutput<'a>>>,
+    pub(crate) new: Vec<OutputSlot<'a>>,
     // The sum of the coinbase's outputs.
     pub(crate) claimed: u64,
     // Of each transaction behind the coinbase.
@@ -86,8 +86,8 @@ impl<'a> Spends<'a> {
         requires { i < length self.now.new }
         ensures { slice_get self.now.new i ≡ Some result }
     {
-        match &self.new[i as usize] {
-            Some(output) => self.origins.record(output),
+        match self.new[i as usize].get() {
+            Some(output) => self.origins.record(&output),
             None => unreachable!(),
         }
     }

@@ -1,6 +1,7 @@
-use Rattle.std.proofs.Common.{None, sym, ◌∙◌, arith}
+use Rattle.std.proofs.Common.{Option, None, set, map, sym, ap, ◌∙◌, arith}
 use Rattle.std.specs.Prelude.{option_map}
 use Rattle.std.proofs.lemmas.List.{length-map, length-set, map-set}
+use Rattle.block_rules.specs.Kept.{Kept}
 use Rattle.block_rules.specs.Known.{named_point, leaf_at, history}
 use Rattle.block_rules.proofs.Finding.{told_found, told_taken, told_within}
 use Rattle.block_rules.proofs.Naming.{spent_kept}
@@ -20,14 +21,16 @@ returns-in-Some-clause-found c = c.found-found.ensures ∙ told_found (named_poi
 pub returns-in-Some-clause-left : goal.returns-in-Some-clause-left
 returns-in-Some-clause-left c =
     let m = c.args.self.now in
-    map-set (option_map (leaf_at m.origins)) m.outputs.items c.in-Some.number None ∙ told_taken (named_point c.args.txid.now c.args.index) (history m) c.in-Some.number c.in-Some.ensures
+    ap (λ (x : Option Kept). map (option_map (leaf_at m.origins)) (set m.outputs.items c.in-Some.number x)) c.none.ensures
+    ∙ (map-set (option_map (leaf_at m.origins)) m.outputs.items c.in-Some.number None ∙ told_taken (named_point c.args.txid.now c.args.index) (history m) c.in-Some.number c.in-Some.ensures)
 
 pub returns-in-Some-clause-known : goal.returns-in-Some-clause-known
 returns-in-Some-clause-known c =
     let m = c.args.self.now in
     let n = c.in-Some.number in
     let all = c.requires.all in
+    let is = ap (λ (x : Option Kept). map (option_map (leaf_at m.origins)) (set m.outputs.items n x)) c.none.ensures ∙ map-set (option_map (leaf_at m.origins)) m.outputs.items n None in
     record {
-      front = spent_kept m.origins.txids.items m.named.items m.newest m.known (history m) _ n (map-set (option_map (leaf_at m.origins)) m.outputs.items n None) c.requires.front;
-      all = all ∙ sym (length-set m.outputs.items n None);
+      front = spent_kept m.origins.txids.items m.named.items m.newest m.known (history m) _ n is c.requires.front;
+      all = all ∙ sym (length-set m.outputs.items n c.none.result);
     }
