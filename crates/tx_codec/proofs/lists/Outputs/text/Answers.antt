@@ -1,5 +1,4 @@
-use Rattle.std.proofs.Common.{◌≡◌, sym, ap, ◌∙◌}
-use Rattle.std.specs.Prelude.{option_map}
+use Rattle.std.proofs.Common.{ap, ◌∙◌}
 use Rattle.tx_codec.specs.Reading.{output_at, first_output}
 use Rattle.tx_codec.proofs.FirstOutput.{first_thing}
 use Rattle.tx_codec.proofs.lists.Outputs.text.Goals as goal
