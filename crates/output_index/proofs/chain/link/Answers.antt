@@ -5,8 +5,9 @@ use Rattle.std.specs.Ordering.{nat_cmp}
 use Rattle.std.proofs.lemmas.Bool.{false≢true}
 use Rattle.output_index.specs.declared.chain.Chain.{Chain}
 use Rattle.output_index.specs.declared.entry.Entry.{Entry}
+use Rattle.output_index.specs.Held.{with_live}
 use Rattle.output_index.specs.Chains.{held_in, entry_at, changed, mark_in, set_live, set_older, top_in, count_in, IsChained, TellsAbove}
-use Rattle.output_index.proofs.Holding.{held-set_older}
+use Rattle.output_index.proofs.Holding.{held-set_older, held-set_live}
 use Rattle.output_index.proofs.Chaining.{chained-among, chained-over, chain-there, held-changed}
 use Rattle.output_index.proofs.chain.link.Goals as goal
 
@@ -18,8 +19,8 @@ unreachable-requires c =
     let none : tree.get nat_cmp chains (mark_in e) ≡ None = sym (sym c.in_default.is ∙ (c.copied.ensures ∙ (c.get.ensures.value ∙ ap (λ m. tree.get nat_cmp chains m) c.mark-mark.ensures))) in
     false≢true (subst IsSome none (chain-there c.args.number e c.args.entries.now.entries chains at c.requires.chained))
 
-pub set_older-requires-in-Some-newest_above : goal.set_older-requires-in-Some-newest_above
-set_older-requires-in-Some-newest_above c = rw c.set_older.ensures (held-changed c.args.number c.next_above-newer.result (set_older (Some c.args.number)) c.args.entries.now.entries c.requires.held)
+pub hang-requires : goal.hang-requires
+hang-requires c = rw c.set_older.ensures (held-changed c.args.number c.next_above-newer.result (set_older (Some c.args.number)) c.args.entries.now.entries c.requires.held)
 
 pub returns-in-Some-newest_above-clause-chained : goal.returns-in-Some-newest_above-clause-chained
 returns-in-Some-newest_above-clause-chained c =
@@ -33,19 +34,16 @@ returns-in-Some-newest_above-clause-chained c =
     let at_k : entry_at k es ≡ Some d = c.index-in-Some-newest_above.ensures ∙ ap Some (sym c.entry.ensures) in
     let got : tree.get nat_cmp chains (mark_in e) ≡ Some c.in-Some.chain = sym (sym c.in-Some.is ∙ (c.copied.ensures ∙ (c.get.ensures.value ∙ ap (λ m. tree.get nat_cmp chains m) c.mark-mark.ensures))) in
     let told = subst (TellsAbove n c.in-Some.chain.newest) c.in-Some-newest_above.is c.newest_above.ensures in
-    let is : c.set_older-in-Some-newest_above.new.entries.entries ≡ changed n (set_older d.older) (changed k (set_older (Some n)) es) = c.set_older-in-Some-newest_above.ensures ∙ ap (changed n (set_older d.older)) c.set_older.ensures in
-    rw is (chained-among n k c.in-Some-newest_above.newest e d es chains at c.requires.spent (ap top_in got ∙ told.0) c.next_above-newer.ensures at_k c.requires.chained)
+    rw (c.hang.ensures, c.set_older.ensures) (chained-among n k c.in-Some-newest_above.newest e d es chains at c.requires.spent (ap top_in got ∙ told.0) c.next_above-newer.ensures at_k c.requires.chained)
 
-pub returns-in-Some-newest_above-clause-same : goal.returns-in-Some-newest_above-clause-same
-returns-in-Some-newest_above-clause-same c =
-    ap held_in c.set_older-in-Some-newest_above.ensures
-    ∙ (held-set_older c.args.number c.entry.result.now.older c.set_older.new.entries.entries
-    ∙ (ap held_in c.set_older.ensures ∙ held-set_older c.next_above-newer.result (Some c.args.number) c.args.entries.now.entries))
-
-pub returns-in-Some-newest_above-clause-held : goal.returns-in-Some-newest_above-clause-held
-returns-in-Some-newest_above-clause-held c =
-    rw c.set_older-in-Some-newest_above.ensures
-    (held-changed c.args.number c.args.number (set_older c.entry.result.now.older) c.set_older.new.entries.entries (rw c.set_older.ensures (held-changed c.args.number c.next_above-newer.result (set_older (Some c.args.number)) c.args.entries.now.entries c.requires.held)))
+pub returns-in-Some-newest_above-clause-live : goal.returns-in-Some-newest_above-clause-live
+returns-in-Some-newest_above-clause-live c =
+    let n = c.args.number in
+    let first = c.set_older.new.entries.entries in
+    let older = c.entry.result.now.older in
+    ap held_in c.hang.ensures
+    ∙ (held-set_live n true (changed n (set_older older) first)
+    ∙ ap (with_live n true) (held-set_older n older first ∙ (ap held_in c.set_older.ensures ∙ held-set_older c.next_above-newer.result (Some n) c.args.entries.now.entries)))
 
 pub returns-in-None-clause-chained : goal.returns-in-None-clause-chained
 returns-in-None-clause-chained c =
@@ -61,10 +59,11 @@ returns-in-None-clause-chained c =
     let told = subst (TellsAbove n c.in-Some.chain.newest) c.in-None.is c.newest_above.ensures in
     let low = subst (λ (r : Option Chain). IfSome (top_in r) (λ t. t ≤ n)) (sym got) told in
     let chained = chained-over n e es old new at c.requires.spent low (ap top_in put) (ap count_in put ∙ sym (ap count_in got)) (λ m apart. c.put.ensures.others m (λ s. apart (s ∙ mark))) c.requires.chained in
-    rw c.set_older-in-None.ensures (subst (λ (r : Option ℕ). IsChained (changed n (set_live true) (changed n (set_older r) es)) new) (ap top_in got) chained)
+    rw c.hang-in-None.ensures (subst (λ (r : Option ℕ). IsChained (changed n (set_live true) (changed n (set_older r) es)) new) (ap top_in got) chained)
 
-pub returns-in-None-clause-same : goal.returns-in-None-clause-same
-returns-in-None-clause-same c = ap held_in c.set_older-in-None.ensures ∙ held-set_older c.args.number c.in-Some.chain.newest c.args.entries.now.entries
-
-pub returns-in-None-clause-held : goal.returns-in-None-clause-held
-returns-in-None-clause-held c = rw c.set_older-in-None.ensures (held-changed c.args.number c.args.number (set_older c.in-Some.chain.newest) c.args.entries.now.entries c.requires.held)
+pub returns-in-None-clause-live : goal.returns-in-None-clause-live
+returns-in-None-clause-live c =
+    let n = c.args.number in
+    let es = c.args.entries.now.entries in
+    let older = c.in-Some.chain.newest in
+    ap held_in c.hang-in-None.ensures ∙ (held-set_live n true (changed n (set_older older) es) ∙ ap (with_live n true) (held-set_older n older es))
