@@ -1,5 +1,5 @@
 -- What can be spent at the height of the next block, and the draw of one that is ripe.
-use Rattle.std.specs.Prelude.{◌≡◌, ◌<◌, ℕ, List, [], ◌∷◌, ◌++◌, length, map, slice_index, Option, Some, None, nat_le, if◌then◌else◌}
+use Rattle.std.specs.Prelude.{◌≡◌, ◌<◌, ℕ, List, [], ◌∷◌, ◌++◌, length, slice_index, Option, Some, None, nat_le, if◌then◌else◌}
 use Rattle.std.specs.List.{remove, AllByRecursion}
 use Rattle.std.specs.Prelude.{true}
 use Rattle.chain_gen.specs.declared.coin.Coin.{Coin}
@@ -40,13 +40,6 @@ Chosen old new p q (Some coin) = (0 < length (places_of p)) × (new ≡ next_wor
 
 -- ---- how a purse is kept
 
-abbrev pub coins_at : List Coin → List ℕ → List Coin
-coins_at coins places = map (coin_at coins) places
-
+-- those in front
 abbrev pub AllRipe : ℕ → List Coin → Type 0
 AllRipe height coins = AllByRecursion (λ coin. is_ripe height coin ≡ true) coins
-
--- the coins at these places are there, and ripe
-pub record IsSettled (height : ℕ) (coins : List Coin) (places : List ℕ) : Type 0 where
-  pub below : AllByRecursion (λ place. place < length coins) places
-  pub ripe : AllRipe height (coins_at coins places)

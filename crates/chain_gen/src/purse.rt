@@ -1,37 +1,39 @@
 //! What can be spent.
 ghost use Rattle.std.specs.Prelude.{◌≡◌, ◌≤◌, ◌<◌, ◌+◌, ◌++◌, length, take, IfOk, OnOk};
-ghost use Rattle.std.specs.List.{range_with_len};
 ghost use Rattle.chain_gen.specs.Purses.{AllRipe, Chosen, no_coins, put};
 
 use crate::coin::{Coin, is_ripe, ripe_places};
 use crate::draw::draw;
+use crate::pile::Pile;
+use crate::piles::Piles;
 use std::alloc::Global;
 use std::marker::Model;
 use uo_base::NoMemory;
 
+/// How many coins go in front together: less than that would be many piles, and more would be much to move when one is taken.
+const PILE: usize = 128;
+
 /// The coins of a chain that can be split, in the order in which they came, and how many blocks it has.
 ///
-/// A draw does not go over all of them: the ones in front, up to the first that is not ripe yet, are found by their place.
+/// A draw does not go over all of them: the ones in front are ripe, so they are counted, and found by their index.
 #[derive(Drop)]
 pub(crate) struct Purse {
     height: u32,
-    /// The coins that came in front, also those that were taken since.
-    coins: Vec<Coin>,
-    /// The places there of those that are left.
-    settled: Vec<usize>,
+    /// The coins that came first, all of them ripe.
+    settled: Piles,
     /// The others: the coins of some hundred blocks.
     recent: Vec<Coin>,
 }
 
 impl Model for Purse {
     ghost use Rattle.std.specs.Prelude.{◌++◌};
-    ghost use Rattle.chain_gen.specs.Purses.{PurseValue, IsSettled, coins_at};
+    ghost use Rattle.chain_gen.specs.Purses.{PurseValue, AllRipe};
 
     ghost Value = { PurseValue };
 
-    ghost view = { λ p. record { height = p.height; coins = coins_at p.coins.items p.settled.items ++ p.recent.items } };
+    ghost view = { λ p. record { height = p.height; coins = p.settled ++ p.recent.items } };
 
-    ghost invariant = { λ p. IsSettled p.height p.coins.items p.settled.items };
+    ghost invariant = { λ p. AllRipe p.height p.settled };
 }
 
 impl Purse {
@@ -41,8 +43,7 @@ impl Purse {
     {
         Purse {
             height: 0,
-            coins: Vec::new(alloc),
-            settled: Vec::new(alloc),
+            settled: Piles::new(alloc),
             recent: Vec::new(alloc),
         }
     }
@@ -60,8 +61,7 @@ impl Purse {
     {
         Ok(Purse {
             height: self.height,
-            coins: Vec::from_slice(alloc, &self.coins)?,
-            settled: Vec::from_slice(alloc, &self.settled)?,
+            settled: self.settled.copy(alloc)?,
             recent: Vec::from_slice(alloc, &self.recent)?,
         })
     }
@@ -88,8 +88,7 @@ impl Purse {
         }
         let chosen = draw(word, count) as usize;
         if chosen < settled {
-            let place = self.settled.remove(chosen);
-            Ok(Some(self.coins[place]))
+            Ok(Some(self.settled.take(alloc, chosen)?))
         } else {
             Ok(Some(self.recent.remove(places[chosen - settled])))
         }
@@ -102,10 +101,12 @@ impl Purse {
     {
         self.height += 1;
         let count = ripe_front(&self.recent, self.height);
-        let places = places_from(alloc, self.coins.len(), count)?;
+        if count < PILE {
+            return Ok(());
+        }
+        let front = Vec::from_slice(alloc, &self.recent[..count])?;
         let others = Vec::from_slice(alloc, &self.recent[count..])?;
-        self.coins.extend_from_slice(&self.recent[..count])?;
-        self.settled.extend_from_slice(&places)?;
+        self.settled.push(Pile::new(alloc, front)?)?;
         self.recent = others;
         Ok(())
     }
@@ -122,16 +123,4 @@ fn ripe_front(coins: &[Coin], height: u32) -> usize
         }
     }
     coins.len()
-}
-
-/// So many places, from the first on.
-fn places_from(alloc: Global, first: usize, count: usize) -> Result<Vec<usize>, NoMemory>
-    requires { first + count ≤ 18446744073709551615 }
-    ensures { IfOk result (λ places. places.items ≡ range_with_len first count) }
-{
-    let mut places = Vec::new(alloc);
-    for past in 0..count {
-        places.push(first + past)?;
-    }
-    Ok(places)
 }
