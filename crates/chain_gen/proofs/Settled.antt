@@ -1,13 +1,13 @@
 -- A purse that is kept in two parts: ripe coins in front, and the others behind them.
-use Rattle.std.proofs.Common.{◌≡◌, ℕ, zero, suc, ◌+◌, ◌-◌, ◌≤◌, ◌<◌, Bool, true, false, List, [], ◌∷◌, ◌++◌, length, map, take, drop, Some, refl, sym, ap, ap₂, ◌∙◌, subst, append_assoc, arith}
+use Rattle.std.proofs.Common.{◌≡◌, ℕ, zero, suc, ◌+◌, ◌-◌, ◌≤◌, ◌<◌, Bool, true, false, List, [], ◌∷◌, ◌++◌, length, map, take, drop, Some, refl, sym, ap, ap₂, ◌∙◌, arith}
 use Rattle.std.specs.Prelude.{◌||◌, not, nat_le, slice_index, if◌then◌else◌}
 use Rattle.std.specs.List.{AllByRecursion, range_with_len, remove}
 use Rattle.std.proofs.lemmas.Bool.{leb-true}
 use Rattle.std.proofs.lemmas.Grind.{common_steps}
-use Rattle.std.proofs.lemmas.List.{length-append, length-map, length-drop, map-append, take-map, drop-map, get_or-map, get_or_append_left, get_or-append-add, get_or-append_right}
+use Rattle.std.proofs.lemmas.List.{length-append, length-map, length-drop, get_or-map, get_or_append_left, get_or-append-add, get_or-append_right}
 use Rattle.std.proofs.lemmas.List.Edits.{remove-append_left, remove-append_right}
 use Rattle.std.proofs.lemmas.List.FromFn.{length-range_with_len, get_or-range_with_len}
-use Rattle.std.proofs.Math.Seq.{get_or-append_seam, take-length}
+use Rattle.std.proofs.Math.Seq.{take-length}
 use Rattle.chain_gen.specs.declared.coin.Coin.{Coin}
 use Rattle.chain_gen.specs.Draws.{next_word, drawn}
 use Rattle.chain_gen.specs.Coins.{zeros, is_ripe, ripe_from, coin_at}

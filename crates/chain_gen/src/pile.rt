@@ -11,7 +11,7 @@ use uo_base::NoMemory;
 
 /// A short list of coins. No pile ever changes, so a copy is one more pointer to the same coins.
 ///
-/// The length stands beside the pointer: who looks for a place among many piles need not follow it.
+/// The length stands beside the pointer, which a search among many piles then need not follow.
 #[derive(Drop)]
 pub(crate) struct Pile {
     len: usize,

@@ -10,10 +10,10 @@ use std::alloc::Global;
 use std::marker::Model;
 use uo_base::NoMemory;
 
-/// As many coins as no memory holds.
+/// More coins than any memory holds, and few enough to be counted with those behind them.
 const MOST_COINS: usize = u32::MAX as usize;
 
-/// A long list of coins, cut into piles: a coin is taken out, and the list is copied, without moving all of them.
+/// A long list of coins, cut into piles: where one is taken out, only its pile is made anew, and a copy of the list shares all of them.
 #[derive(Drop)]
 pub(crate) struct Piles {
     piles: Vec<Pile>,

@@ -10,12 +10,14 @@ use std::alloc::Global;
 use std::marker::Model;
 use uo_base::NoMemory;
 
-/// How many coins go in front together: less than that would be many piles, and more would be much to move when one is taken.
+/// How many ripe coins have to stand in front of the recent ones before they make a pile. Smaller piles would be many to go past,
+/// and greater ones much to copy when a coin is taken.
 const PILE: usize = 128;
 
 /// The coins of a chain that can be split, in the order in which they came, and how many blocks it has.
 ///
-/// A draw does not go over all of them: the ones in front are ripe, so they are counted, and found by their index.
+/// A draw does not go over all of them: the ones in front are ripe, so their number is enough, and the one that is drawn is found by its
+/// index.
 #[derive(Drop)]
 pub(crate) struct Purse {
     height: u32,
