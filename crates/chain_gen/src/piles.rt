@@ -10,7 +10,7 @@ use std::alloc::Global;
 use std::marker::Model;
 use uo_base::NoMemory;
 
-/// More coins than any memory holds, and few enough to be counted with those behind them.
+/// Thousands of times the coins of the longest feed, and few enough to be counted with those behind them.
 const MOST_COINS: usize = u32::MAX as usize;
 
 /// A long list of coins, cut into piles: where one is taken out, only its pile is made anew, and a copy of the list shares all of them.
@@ -61,7 +61,7 @@ impl Piles {
         })
     }
 
-    /// Puts a pile behind the others.
+    /// Puts a pile behind the others. More than the most coins are refused as a want of memory.
     pub fn push(&mut self, pile: Pile) -> Result<(), NoMemory>
         ensures pushed { OnOk result (self.new ≡ self.old ++ pile) }
         ensures kept { OnErr result (self.new ≡ self.old) }
