@@ -1,17 +1,10 @@
-use Rattle.std.proofs.Common.{true, sym, ap, ◌∙◌}
-use Rattle.std.specs.Map.{set_value}
-use Rattle.std.specs.BTreeMap.{is_at}
-use Rattle.std.specs.Ordering.{nat_cmp}
-use Rattle.output_index.specs.declared.entry.Entry.{Entry}
-use Rattle.output_index.specs.Chains.{set_live, set_older}
-use Rattle.output_index.proofs.Entries.{rising, set-changed, changed-twice}
+use Rattle.std.proofs.Common.{true, ap, ◌∙◌}
+use Rattle.output_index.specs.Chains.{set_live, set_older, changed}
+use Rattle.output_index.proofs.Chaining.{held-changed}
 use Rattle.output_index.proofs.chain.hang.Goals as goal
 
-pub returns-in-Some : goal.returns-in-Some
-returns-in-Some c =
-    let n = c.args.number in
-    let es = c.args.entries.now.entries in
-    let hung = λ (e : Entry). set_live true (set_older c.args.older e) in
-    (c.get_mut.follows.holds _).0
-    ∙ (ap (set_value (is_at (nat_cmp n)) es) (c.set_live.ensures ∙ ap (set_live true) c.set_older.ensures)
-    ∙ (set-changed n hung c.in-Some.slot.now es (rising _ c.get_mut.ensures.ordered) (sym c.in-Some.ensures.value) ∙ changed-twice n (set_live true) (set_older c.args.older) es))
+pub set_live-requires : goal.set_live-requires
+set_live-requires c = rw c.set_older.ensures (held-changed c.args.number c.args.number (set_older c.args.older) c.args.entries.now c.requires)
+
+pub returns : goal.returns
+returns c = c.set_live.ensures ∙ ap (changed c.args.number (set_live true)) c.set_older.ensures

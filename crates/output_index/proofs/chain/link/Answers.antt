@@ -13,47 +13,47 @@ use Rattle.output_index.proofs.chain.link.Goals as goal
 
 pub unreachable-requires : goal.unreachable-requires
 unreachable-requires c =
-    let e : Entry = c.index.result.now in
+    let e : Entry = c.at.result.now in
     let chains = c.args.chains.now in
-    let at : entry_at c.args.number c.args.entries.now.entries ≡ Some e = c.index.ensures in
-    let none : tree.get nat_cmp chains (mark_in e) ≡ None = sym (sym c.in_default.is ∙ (c.copied.ensures ∙ (c.get.ensures.value ∙ ap (λ m. tree.get nat_cmp chains m) c.mark-mark.ensures))) in
-    false≢true (subst IsSome none (chain-there c.args.number e c.args.entries.now.entries chains at c.requires.chained))
+    let at : entry_at c.args.number c.args.entries.now ≡ Some e = c.at.ensures in
+    let none : tree.get nat_cmp chains (mark_in e) ≡ None = sym (sym c.in_default.is ∙ (c.copied.ensures ∙ (c.get.ensures.value ∙ ap (λ m. tree.get nat_cmp chains m) c.mark_of_record-mark.ensures))) in
+    false≢true (subst IsSome none (chain-there c.args.number e c.args.entries.now chains at c.requires.chained))
 
 pub hang-requires : goal.hang-requires
-hang-requires c = rw c.set_older.ensures (held-changed c.args.number c.next_above-newer.result (set_older (Some c.args.number)) c.args.entries.now.entries c.requires.held)
+hang-requires c = rw c.set_older.ensures (held-changed c.args.number c.next_above-newer.result (set_older (Some c.args.number)) c.args.entries.now c.requires.held)
 
 pub returns-in-Some-newest_above-clause-chained : goal.returns-in-Some-newest_above-clause-chained
 returns-in-Some-newest_above-clause-chained c =
     let n = c.args.number in
     let k = c.next_above-newer.result in
-    let e : Entry = c.index.result.now in
-    let d : Entry = c.entry.result.now in
-    let es = c.args.entries.now.entries in
+    let e : Entry = c.at.result.now in
+    let d : Entry = c.at-in-Some-newest_above.result.now in
+    let es = c.args.entries.now in
     let chains = c.args.chains.now in
-    let at : entry_at n es ≡ Some e = c.index.ensures in
-    let at_k : entry_at k es ≡ Some d = c.index-in-Some-newest_above.ensures ∙ ap Some (sym c.entry.ensures) in
-    let got : tree.get nat_cmp chains (mark_in e) ≡ Some c.in-Some.chain = sym (sym c.in-Some.is ∙ (c.copied.ensures ∙ (c.get.ensures.value ∙ ap (λ m. tree.get nat_cmp chains m) c.mark-mark.ensures))) in
+    let at : entry_at n es ≡ Some e = c.at.ensures in
+    let at_k : entry_at k es ≡ Some d = c.at-in-Some-newest_above.ensures in
+    let got : tree.get nat_cmp chains (mark_in e) ≡ Some c.in-Some.chain = sym (sym c.in-Some.is ∙ (c.copied.ensures ∙ (c.get.ensures.value ∙ ap (λ m. tree.get nat_cmp chains m) c.mark_of_record-mark.ensures))) in
     let told = subst (TellsAbove n c.in-Some.chain.newest) c.in-Some-newest_above.is c.newest_above.ensures in
     rw (c.hang.ensures, c.set_older.ensures) (chained-among n k c.in-Some-newest_above.newest e d es chains at c.requires.spent (ap top_in got ∙ told.0) c.next_above-newer.ensures at_k c.requires.chained)
 
 pub returns-in-Some-newest_above-clause-live : goal.returns-in-Some-newest_above-clause-live
 returns-in-Some-newest_above-clause-live c =
     let n = c.args.number in
-    let first = c.set_older.new.entries.entries in
-    let older = c.entry.result.now.older in
+    let first = c.set_older.new.self in
+    let older = c.at-in-Some-newest_above.result.now.older in
     ap held_in c.hang.ensures
     ∙ (held-set_live n true (changed n (set_older older) first)
-    ∙ ap (with_live n true) (held-set_older n older first ∙ (ap held_in c.set_older.ensures ∙ held-set_older c.next_above-newer.result (Some n) c.args.entries.now.entries)))
+    ∙ ap (with_live n true) (held-set_older n older first ∙ (ap held_in c.set_older.ensures ∙ held-set_older c.next_above-newer.result (Some n) c.args.entries.now)))
 
 pub returns-in-None-clause-chained : goal.returns-in-None-clause-chained
 returns-in-None-clause-chained c =
     let n = c.args.number in
-    let e : Entry = c.index.result.now in
-    let es = c.args.entries.now.entries in
+    let e : Entry = c.at.result.now in
+    let es = c.args.entries.now in
     let old = c.args.chains.now in
     let new = c.put.new.chains in
-    let at : entry_at n es ≡ Some e = c.index.ensures in
-    let mark = c.mark-mark.ensures in
+    let at : entry_at n es ≡ Some e = c.at.ensures in
+    let mark = c.mark_of_record-mark.ensures in
     let got : tree.get nat_cmp old (mark_in e) ≡ Some c.in-Some.chain = sym (sym c.in-Some.is ∙ (c.copied.ensures ∙ (c.get.ensures.value ∙ ap (λ m. tree.get nat_cmp old m) mark))) in
     let put : tree.get nat_cmp new (mark_in e) ≡ Some (record { newest = Some n; others = c.in-Some.chain.others }) = ap (λ m. tree.get nat_cmp new m) (sym mark) ∙ c.put.ensures.here in
     let told = subst (TellsAbove n c.in-Some.chain.newest) c.in-None.is c.newest_above.ensures in
@@ -64,6 +64,6 @@ returns-in-None-clause-chained c =
 pub returns-in-None-clause-live : goal.returns-in-None-clause-live
 returns-in-None-clause-live c =
     let n = c.args.number in
-    let es = c.args.entries.now.entries in
+    let es = c.args.entries.now in
     let older = c.in-Some.chain.newest in
     ap held_in c.hang-in-None.ensures ∙ (held-set_live n true (changed n (set_older older) es) ∙ ap (with_live n true) (held-set_older n older es))

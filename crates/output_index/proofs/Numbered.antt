@@ -1,0 +1,137 @@
+-- Entries that stand each at its number.
+use Rattle.std.proofs.Common.{◌≡◌, ◌≢◌, ℕ, zero, suc, ◌+◌, ◌<◌, ◌≤◌, List, [], ◌∷◌, ◌++◌, Option, Some, None, set, get_or, take, length, refl, sym, ap, ◌∙◌, subst, ap₂, arith}
+use Rattle.std.proofs.lemmas.Bool.{false≢true}
+use Rattle.std.proofs.lemmas.Option.{none-some, same_Some, slice_get_within, slice_get_read, slice_get_past}
+use Rattle.std.specs.Prelude.{slice_get, IsSome}
+use Rattle.std.specs.List.{AllByRecursion}
+use Rattle.output_index.specs.declared.entry.Entry.{Entry}
+use Rattle.output_index.specs.Chains.{IsRising, entry_at, changed, removed, entries_from}
+use Rattle.output_index.proofs.Entries.{at-here, at-there, none_at, below_others, changed-here, changed-there, removed-here, removed-there, removed-none}
+
+-- what stands there, if anything does
+abbrev pub standing : Option (Option Entry) → Option Entry
+standing None = None
+standing (Some x) = x
+
+-- none has a number below the first
+from-above : (k n : ℕ) (xs : List (Option Entry)) → k < n → AllByRecursion (λ y. k < y.0) (entries_from n xs)
+from-above k n [] l = tt
+from-above k n (None ∷ xs) l = from-above k (suc n) xs (omega (arith, l))
+from-above k n (Some e ∷ xs) l = (l, from-above k (suc n) xs (omega (arith, l)))
+
+pub from-rising : (n : ℕ) (xs : List (Option Entry)) → IsRising (entries_from n xs)
+from-rising n [] = tt
+from-rising n (None ∷ xs) = from-rising (suc n) xs
+from-rising n (Some e ∷ xs) = (from-above n (suc n) xs (omega arith), from-rising (suc n) xs)
+
+apart : (k : ℕ) (es : List (ℕ × Entry)) → AllByRecursion (λ y. k < y.0) es → AllByRecursion (λ y. y.0 ≢ k) es
+apart k [] h = tt
+apart k (y ∷ es) h = ((λ s. absurd (let l = h.0 in omega (arith, l, s))), apart k es h.1)
+
+at-from : (k n : ℕ) (xs : List (Option Entry)) → entry_at (k + n) (entries_from k xs) ≡ standing (slice_get xs n)
+at-from k n [] = refl
+at-from k zero (None ∷ xs) = ap (λ j. entry_at j (entries_from (suc k) xs)) (omega arith) ∙ none_at k (entries_from (suc k) xs) (below_others k (entries_from (suc k) xs) (from-above k (suc k) xs (omega arith)))
+at-from k zero (Some e ∷ xs) = ap (λ j. entry_at j ((k, e) ∷ entries_from (suc k) xs)) (omega arith) ∙ at-here k e (entries_from (suc k) xs)
+at-from k (suc n) (None ∷ xs) = ap (λ j. entry_at j (entries_from (suc k) xs)) (omega arith) ∙ at-from (suc k) n xs
+at-from k (suc n) (Some e ∷ xs) =
+    at-there (k + suc n) (k, e) (entries_from (suc k) xs) (λ s. absurd (omega (arith, s)))
+    ∙ (ap (λ j. entry_at j (entries_from (suc k) xs)) (omega arith) ∙ at-from (suc k) n xs)
+
+pub at-zero : (n : ℕ) (xs : List (Option Entry)) → entry_at n (entries_from 0 xs) ≡ standing (slice_get xs n)
+at-zero n xs = ap (λ j. entry_at j (entries_from 0 xs)) (omega arith) ∙ at-from 0 n xs
+
+-- an entry that is found stands there
+pub stands-at : (n : ℕ) (e : Entry) (xs : List (Option Entry)) → entry_at n (entries_from 0 xs) ≡ Some e → slice_get xs n ≡ Some (Some e)
+stands-at n e xs at = by_case (slice_get xs n) (sym (at-zero n xs) ∙ at)
+  where
+    by_case : (x : Option (Option Entry)) → standing x ≡ Some e → x ≡ Some (Some e)
+    by_case None h = absurd (none-some e h)
+    by_case (Some x) h = ap Some h
+
+pub stands-within : (n : ℕ) (xs : List (Option Entry)) → IsSome (entry_at n (entries_from 0 xs)) → n < length xs
+stands-within n xs h = by_case (entry_at n (entries_from 0 xs)) refl h
+  where
+    by_case : (x : Option Entry) → entry_at n (entries_from 0 xs) ≡ x → IsSome x → n < length xs
+    by_case None q h = absurd (false≢true h)
+    by_case (Some e) q h = slice_get_within xs n (Some e) (stands-at n e xs q)
+
+-- what is read there
+pub read-at : (n : ℕ) (x : Option Entry) (xs : List (Option Entry)) → n < length xs → x ≡ get_or xs n x → entry_at n (entries_from 0 xs) ≡ x
+read-at n x xs l h = at-zero n xs ∙ ap standing (slice_get_read xs (length xs) n x refl l h)
+
+pub none-past : (n : ℕ) (xs : List (Option Entry)) → length xs ≤ n → entry_at n (entries_from 0 xs) ≡ None
+none-past n xs l = at-zero n xs ∙ ap standing (slice_get_past xs n l)
+
+-- what is read where an entry is found is an entry
+pub read-some : (n : ℕ) (x : Option Entry) (xs : List (Option Entry)) → IsSome (entry_at n (entries_from 0 xs)) → x ≡ get_or xs n x → IsSome x
+read-some n x xs h r = subst IsSome (read-at n x xs (stands-within n xs h) r) h
+
+changed_none : (n : ℕ) (f : Entry → Entry) (es : List (ℕ × Entry)) → AllByRecursion (λ y. y.0 ≢ n) es → changed n f es ≡ es
+changed_none n f [] h = refl
+changed_none n f (x ∷ es) h = ap (λ y. y ∷ changed n f es) (changed-there n f x h.0) ∙ ap (λ ys. x ∷ ys) (changed_none n f es h.1)
+
+-- another entry at a place
+set-from : (k n : ℕ) (f : Entry → Entry) (e : Entry) (xs : List (Option Entry)) → slice_get xs n ≡ Some (Some e) → entries_from k (set xs n (Some (f e))) ≡ changed (k + n) f (entries_from k xs)
+set-from k n f e [] at = absurd (none-some (Some e) at)
+set-from k zero f e (None ∷ xs) at = absurd (none-some e (same_Some None (Some e) at))
+set-from k zero f e (Some d ∷ xs) at =
+    let is : d ≡ e = same_Some d e (same_Some (Some d) (Some e) at) in
+    let n = k + zero in
+    ap₂ (λ (y : ℕ × Entry) (ys : List (ℕ × Entry)). y ∷ ys)
+    (ap (λ x. let y : ℕ × Entry = (k, f x) in y) (sym is) ∙ sym (changed-here n f k d (omega arith)))
+    (sym (changed_none n f (entries_from (suc k) xs) (apart n (entries_from (suc k) xs) (from-above n (suc k) xs (omega arith)))))
+set-from k (suc n) f e (None ∷ xs) at = set-from (suc k) n f e xs at ∙ ap (λ j. changed j f (entries_from (suc k) xs)) (omega arith)
+set-from k (suc n) f e (Some d ∷ xs) at =
+    ap₂ (λ (y : ℕ × Entry) (ys : List (ℕ × Entry)). y ∷ ys)
+    (sym (changed-there (k + suc n) f (k, d) (λ s. absurd (omega (arith, s)))))
+    (set-from (suc k) n f e xs at ∙ ap (λ j. changed j f (entries_from (suc k) xs)) (omega arith))
+
+pub set-there : (n : ℕ) (f : Entry → Entry) (e : Entry) (xs : List (Option Entry)) → IsSome (entry_at n (entries_from 0 xs)) → Some e ≡ get_or xs n (Some e) → entries_from 0 (set xs n (Some (f e))) ≡ changed n f (entries_from 0 xs)
+set-there n f e xs h r = set-from 0 n f e xs (slice_get_read xs (length xs) n (Some e) refl (stands-within n xs h) r) ∙ ap (λ j. changed j f (entries_from 0 xs)) (omega arith)
+
+-- nothing there any more
+cleared-from : (k n : ℕ) (xs : List (Option Entry)) → entries_from k (set xs n None) ≡ removed (k + n) (entries_from k xs)
+cleared-from k n [] = refl
+cleared-from k zero (x ∷ xs) = sym (by_case x ∙ removed-none (k + zero) es (apart (k + zero) es (from-above (k + zero) (suc k) xs (omega arith))))
+  where
+    es : List (ℕ × Entry)
+    es = entries_from (suc k) xs
+
+    by_case : (x : Option Entry) → removed (k + zero) (entries_from k (x ∷ xs)) ≡ removed (k + zero) es
+    by_case None = refl
+    by_case (Some d) = removed-here (k + zero) (k, d) es (omega arith)
+cleared-from k (suc n) (None ∷ xs) = cleared-from (suc k) n xs ∙ ap (λ j. removed j (entries_from (suc k) xs)) (omega arith)
+cleared-from k (suc n) (Some d ∷ xs) =
+    ap (λ es. (k, d) ∷ es) (cleared-from (suc k) n xs ∙ ap (λ j. removed j (entries_from (suc k) xs)) (omega arith))
+    ∙ sym (removed-there (k + suc n) (k, d) (entries_from (suc k) xs) (λ s. absurd (omega (arith, s))))
+
+pub cleared-there : (n : ℕ) (xs : List (Option Entry)) → entries_from 0 (set xs n None) ≡ removed n (entries_from 0 xs)
+cleared-there n xs = cleared-from 0 n xs ∙ ap (λ j. removed j (entries_from 0 xs)) (omega arith)
+
+-- a front that has all of them
+nothing-below : (k n : ℕ) (xs : List (Option Entry)) → n ≤ k → AllByRecursion (λ x. x.0 < n) (entries_from k xs) → [] ≡ entries_from k xs
+nothing-below k n [] l h = refl
+nothing-below k n (None ∷ xs) l h = nothing-below (suc k) n xs (omega (arith, l)) h
+nothing-below k n (Some d ∷ xs) l h = absurd (let b = h.0 in omega (arith, l, b))
+
+front-from : (k n : ℕ) (xs : List (Option Entry)) → AllByRecursion (λ x. x.0 < k + n) (entries_from k xs) → entries_from k (take n xs) ≡ entries_from k xs
+front-from k zero xs h = nothing-below k (k + zero) xs (omega arith) h
+front-from k (suc n) [] h = refl
+front-from k (suc n) (None ∷ xs) h = front-from (suc k) n xs (subst (λ j. AllByRecursion (λ x. x.0 < j) (entries_from (suc k) xs)) (omega arith) h)
+front-from k (suc n) (Some d ∷ xs) h = ap (λ es. (k, d) ∷ es) (front-from (suc k) n xs (subst (λ j. AllByRecursion (λ x. x.0 < j) (entries_from (suc k) xs)) (omega arith) h.1))
+
+pub front-there : (n : ℕ) (xs : List (Option Entry)) → AllByRecursion (λ x. x.0 < n) (entries_from 0 xs) → entries_from 0 (take n xs) ≡ entries_from 0 xs
+front-there n xs h = front-from 0 n xs (subst (λ j. AllByRecursion (λ x. x.0 < j) (entries_from 0 xs)) (omega arith) h)
+
+pub none-behind : (k : ℕ) (xs : List (Option Entry)) → entries_from k (xs ++ None ∷ []) ≡ entries_from k xs
+none-behind k [] = refl
+none-behind k (None ∷ xs) = none-behind (suc k) xs
+none-behind k (Some e ∷ xs) = ap (λ es. (k, e) ∷ es) (none-behind (suc k) xs)
+
+one-behind : (k : ℕ) (e : Entry) (xs : List (Option Entry)) → entries_from k (xs ++ Some e ∷ []) ≡ entries_from k xs ++ (k + length xs, e) ∷ []
+one-behind k e [] = ap (λ j. (j, e) ∷ []) (omega arith)
+one-behind k e (None ∷ xs) = one-behind (suc k) e xs ∙ ap (λ j. entries_from (suc k) xs ++ (j, e) ∷ []) (omega arith)
+one-behind k e (Some d ∷ xs) = ap (λ es. (k, d) ∷ es) (one-behind (suc k) e xs ∙ ap (λ j. entries_from (suc k) xs ++ (j, e) ∷ []) (omega arith))
+
+pub one-there : (n : ℕ) (e : Entry) (xs : List (Option Entry)) → length xs ≡ n → entries_from 0 (xs ++ Some e ∷ []) ≡ entries_from 0 xs ++ (n, e) ∷ []
+one-there n e xs l = one-behind 0 e xs ∙ ap (λ j. entries_from 0 xs ++ (j, e) ∷ []) (omega (arith, l))

@@ -1,0 +1,116 @@
+//! The entries by their numbers.
+ghost use Rattle.std.specs.Prelude.{◌≡◌, ◌<◌, ◌++◌, [], ◌∷◌, length, OnOk, OnErr, IsSome, option_map};
+ghost use Rattle.std.specs.List.{AllByRecursion};
+ghost use Rattle.output_index.specs.Chains.{entry_at, changed, removed, set_live, set_older, entries_from};
+
+use crate::entry::{Entry, Slot};
+use std::alloc::Global;
+use std::marker::Model;
+use uo_base::NoMemory;
+
+/// The entries, each at its number, so that none is searched for. Numbers are those of a forest's entries, which come in a row: one of
+/// which nothing is held takes the eight bytes in which nothing stands.
+#[derive(Drop)]
+pub(crate) struct Entries {
+    slots: Vec<Option<Slot>>,
+}
+
+impl Model for Entries {
+    ghost use Rattle.std.specs.Prelude.{ℕ, List};
+    ghost use Rattle.output_index.specs.declared.entry.Entry.{Entry};
+    ghost use Rattle.output_index.specs.Chains.{entries_from};
+
+    ghost Value = { List (ℕ × Entry) };
+
+    ghost view = { λ s. entries_from 0 s.slots.items };
+}
+
+impl Entries {
+    /// Holds nothing.
+    pub fn new(alloc: Global) -> Self
+        ensures { result ≡ [] }
+    {
+        Entries {
+            slots: Vec::new(alloc),
+        }
+    }
+
+    /// The entry of a number; None exactly where it is not held.
+    pub fn get(&self, number: u64) -> Option<&Entry>
+        ensures { option_map (λ entry. entry.now) result ≡ entry_at number self.now }
+    {
+        match self.slots.get(number as usize) {
+            Some(Some(slot)) => Some(slot.entry()),
+            Some(None) => None,
+            None => None,
+        }
+    }
+
+    /// The entry of a number that is held.
+    pub fn at(&self, number: u64) -> &Entry
+        requires { IsSome (entry_at number self.now) }
+        ensures { entry_at number self.now ≡ Some result.now }
+    {
+        let Some(entry) = self.get(number) else {
+            unreachable!()
+        };
+        entry
+    }
+
+    /// Tells whether the entry is live.
+    pub fn set_live(&mut self, number: u64, live: bool)
+        requires { IsSome (entry_at number self.old) }
+        ensures { self.new ≡ changed number (set_live live) self.old }
+    {
+        let Some(slot) = &mut self.slots[number as usize] else {
+            unreachable!()
+        };
+        slot.set_live(live);
+    }
+
+    /// Tells the next older entry.
+    pub fn set_older(&mut self, number: u64, older: Option<u64>)
+        requires { IsSome (entry_at number self.old) }
+        ensures { self.new ≡ changed number (set_older older) self.old }
+    {
+        let Some(slot) = &mut self.slots[number as usize] else {
+            unreachable!()
+        };
+        slot.set_older(older);
+    }
+
+    /// Puts an entry at its number, which is above those of all others.
+    pub fn add(&mut self, alloc: Global, number: u64, entry: Entry) -> Result<(), NoMemory>
+        requires { AllByRecursion (λ x. x.0 < number) self.old }
+        ensures ok { OnOk result (self.new ≡ self.old ++ (number, entry) ∷ []) }
+        ensures err { OnErr result (self.new ≡ self.old) }
+    {
+        let slot = Slot::new(alloc, entry)?;
+        end_at(&mut self.slots, number as usize)?;
+        self.slots.push(Some(slot))?;
+        Ok(())
+    }
+
+    /// Takes out the entry of a number that is held.
+    pub fn remove(&mut self, number: u64) -> Option<Slot>
+        requires { IsSome (entry_at number self.old) }
+        ensures value { result ≡ entry_at number self.old }
+        ensures entries { self.new ≡ removed number self.old }
+    {
+        self.slots[number as usize].take()
+    }
+}
+
+/// Nothing stands from this number on, and so the next one comes there.
+fn end_at(slots: &mut Vec<Option<Slot>>, number: usize) -> Result<(), NoMemory>
+    requires { AllByRecursion (λ x. x.0 < number) (entries_from 0 slots.old.items) }
+    ensures same { entries_from 0 slots.new.items ≡ entries_from 0 slots.old.items }
+    ensures len { OnOk result (length slots.new.items ≡ number) }
+{
+    slots.truncate(number);
+    slots.reserve(number - slots.len())?;
+    for _ in slots.len()..number {
+        slots.push(None)?;
+    }
+    Ok(())
+}
