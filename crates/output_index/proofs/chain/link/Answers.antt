@@ -1,12 +1,11 @@
 use Rattle.std.proofs.Common.{◌≡◌, ◌≤◌, ℕ, Option, Some, None, true, sym, ap, subst, ◌∙◌}
 use Rattle.std.specs.Prelude.{IsSome, IfSome}
-use Rattle.std.specs.BTreeMap as tree
 use Rattle.std.specs.Ordering.{nat_cmp}
 use Rattle.std.proofs.lemmas.Bool.{false≢true}
 use Rattle.output_index.specs.declared.chain.Chain.{Chain}
 use Rattle.output_index.specs.declared.entry.Entry.{Entry}
 use Rattle.output_index.specs.Held.{with_live}
-use Rattle.output_index.specs.Chains.{held_in, entry_at, changed, mark_in, set_live, set_older, top_in, count_in, IsChained, TellsAbove}
+use Rattle.output_index.specs.Chains.{held_in, entry_at, changed, mark_in, set_live, set_older, top_in, count_in, IsChained, TellsAbove, chain_at}
 use Rattle.output_index.proofs.Holding.{held-set_older, held-set_live}
 use Rattle.output_index.proofs.Chaining.{chained-among, chained-over, chain-there, held-changed}
 use Rattle.output_index.proofs.chain.link.Goals as goal
@@ -16,7 +15,7 @@ unreachable-requires c =
     let e : Entry = c.at.result.now in
     let chains = c.args.chains.now in
     let at : entry_at c.args.number c.args.entries.now ≡ Some e = c.at.ensures in
-    let none : tree.get nat_cmp chains (mark_in e) ≡ None = sym (sym c.in_default.is ∙ (c.copied.ensures ∙ (c.get.ensures.value ∙ ap (λ m. tree.get nat_cmp chains m) c.mark_of_record-mark.ensures))) in
+    let none : chain_at chains (mark_in e) ≡ None = sym (sym c.in_default.is ∙ (c.get.ensures ∙ ap (λ m. chain_at chains m) c.mark_of_record-mark.ensures)) in
     false≢true (subst IsSome none (chain-there c.args.number e c.args.entries.now chains at c.requires.chained))
 
 pub hang-requires : goal.hang-requires
@@ -32,7 +31,7 @@ returns-in-Some-newest_above-clause-chained c =
     let chains = c.args.chains.now in
     let at : entry_at n es ≡ Some e = c.at.ensures in
     let at_k : entry_at k es ≡ Some d = c.at-in-Some-newest_above.ensures in
-    let got : tree.get nat_cmp chains (mark_in e) ≡ Some c.in-Some.chain = sym (sym c.in-Some.is ∙ (c.copied.ensures ∙ (c.get.ensures.value ∙ ap (λ m. tree.get nat_cmp chains m) c.mark_of_record-mark.ensures))) in
+    let got : chain_at chains (mark_in e) ≡ Some c.in-Some.chain = sym (sym c.in-Some.is ∙ (c.get.ensures ∙ ap (λ m. chain_at chains m) c.mark_of_record-mark.ensures)) in
     let told = subst (TellsAbove n c.in-Some.chain.newest) c.in-Some-newest_above.is c.newest_above.ensures in
     rw (c.hang.ensures, c.set_older.ensures) (chained-among n k c.in-Some-newest_above.newest e d es chains at c.requires.spent (ap top_in got ∙ told.0) c.next_above-newer.ensures at_k c.requires.chained)
 
@@ -51,11 +50,11 @@ returns-in-None-clause-chained c =
     let e : Entry = c.at.result.now in
     let es = c.args.entries.now in
     let old = c.args.chains.now in
-    let new = c.put.new.chains in
+    let new = c.put.new.self in
     let at : entry_at n es ≡ Some e = c.at.ensures in
     let mark = c.mark_of_record-mark.ensures in
-    let got : tree.get nat_cmp old (mark_in e) ≡ Some c.in-Some.chain = sym (sym c.in-Some.is ∙ (c.copied.ensures ∙ (c.get.ensures.value ∙ ap (λ m. tree.get nat_cmp old m) mark))) in
-    let put : tree.get nat_cmp new (mark_in e) ≡ Some (record { newest = Some n; others = c.in-Some.chain.others }) = ap (λ m. tree.get nat_cmp new m) (sym mark) ∙ c.put.ensures.here in
+    let got : chain_at old (mark_in e) ≡ Some c.in-Some.chain = sym (sym c.in-Some.is ∙ (c.get.ensures ∙ ap (λ m. chain_at old m) mark)) in
+    let put : chain_at new (mark_in e) ≡ Some (record { newest = Some n; others = c.in-Some.chain.others }) = ap (λ m. chain_at new m) (sym mark) ∙ c.put.ensures.here in
     let told = subst (TellsAbove n c.in-Some.chain.newest) c.in-None.is c.newest_above.ensures in
     let low = subst (λ (r : Option Chain). IfSome (top_in r) (λ t. t ≤ n)) (sym got) told in
     let chained = chained-over n e es old new at c.requires.spent low (ap top_in put) (ap count_in put ∙ sym (ap count_in got)) (λ m apart. c.put.ensures.others m (λ s. apart (s ∙ mark))) c.requires.chained in
