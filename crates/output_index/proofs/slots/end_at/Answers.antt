@@ -1,5 +1,4 @@
-use Rattle.std.proofs.Common.{◌<◌, length, take, None, sym, ap, subst, ◌∙◌, arith}
-use Rattle.std.specs.List.{AllByRecursion}
+use Rattle.std.proofs.Common.{ap, ◌∙◌, arith}
 use Rattle.output_index.specs.Chains.{entries_from}
 use Rattle.output_index.proofs.Numbered.{front-there, none-behind}
 use Rattle.output_index.proofs.slots.end_at.Goals as goal

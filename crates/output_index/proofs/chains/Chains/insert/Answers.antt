@@ -1,8 +1,8 @@
-use Rattle.std.proofs.Common.{◌≡◌, ◌<◌, ℕ, List, length, sym, ap, ◌∙◌, arith}
+use Rattle.std.proofs.Common.{◌<◌, length, sym, ap, ◌∙◌, arith}
 use Rattle.std.specs.Map.{lookup}
 use Rattle.std.specs.BTreeMap.{is_at}
 use Rattle.std.specs.Ordering.{nat_cmp}
-use Rattle.output_index.specs.Chains.{chain_at, shards_in}
+use Rattle.output_index.specs.Chains.{chain_at}
 use Rattle.output_index.proofs.Entries.{at_other}
 use Rattle.output_index.proofs.Holding.{on_err}
 use Rattle.output_index.proofs.Sharded.{at-map, at-set, others-set}

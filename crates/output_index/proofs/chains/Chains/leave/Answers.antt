@@ -1,6 +1,6 @@
-use Rattle.std.proofs.Common.{◌≡◌, ◌<◌, ℕ, List, length, None, sym, ap, subst, ◌∙◌, suc}
+use Rattle.std.proofs.Common.{◌<◌, length, sym, ap, subst, ◌∙◌, suc}
 use Rattle.std.specs.Prelude.{IsSome}
-use Rattle.output_index.specs.Chains.{chain_at, shards_in, top_in, count_in}
+use Rattle.output_index.specs.Chains.{chain_at, top_in, count_in}
 use Rattle.output_index.proofs.Sharded.{at-map, at-set, others-set, map-within}
 use Rattle.output_index.proofs.chains.Chains.leave.Goals as goal
 

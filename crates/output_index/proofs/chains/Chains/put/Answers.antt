@@ -1,7 +1,7 @@
-use Rattle.std.proofs.Common.{◌≡◌, ◌<◌, ℕ, List, length, None, sym, ap, subst, ◌∙◌}
+use Rattle.std.proofs.Common.{◌<◌, length, sym, ap, subst, ◌∙◌}
 use Rattle.std.specs.Prelude.{IsSome}
-use Rattle.output_index.specs.Chains.{chain_at, shards_in, top_in, count_in}
-use Rattle.output_index.proofs.Sharded.{at-map, at-set, others-set, map-within}
+use Rattle.output_index.specs.Chains.{chain_at}
+use Rattle.output_index.proofs.Sharded.{at-set, others-set, map-within}
 use Rattle.output_index.proofs.chains.Chains.put.Goals as goal
 
 pub returns-clause-here : goal.returns-clause-here

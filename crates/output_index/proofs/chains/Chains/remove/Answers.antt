@@ -1,8 +1,8 @@
-use Rattle.std.proofs.Common.{◌≡◌, ◌<◌, ℕ, List, length, None, sym, ap, subst, ◌∙◌}
+use Rattle.std.proofs.Common.{◌<◌, length, sym, ap, subst, ◌∙◌}
 use Rattle.std.specs.Prelude.{IsSome}
-use Rattle.output_index.specs.Chains.{chain_at, shards_in, top_in, count_in}
+use Rattle.output_index.specs.Chains.{chain_at}
 use Rattle.output_index.proofs.Entries.{at_other}
-use Rattle.output_index.proofs.Sharded.{at-map, at-set, others-set, map-within}
+use Rattle.output_index.proofs.Sharded.{at-set, others-set, map-within}
 use Rattle.output_index.proofs.chains.Chains.remove.Goals as goal
 
 pub returns-clause-here : goal.returns-clause-here

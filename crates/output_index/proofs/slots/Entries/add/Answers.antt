@@ -1,4 +1,4 @@
-use Rattle.std.proofs.Common.{◌++◌, ◌∷◌, [], Some, ap, ap₂, ◌∙◌}
+use Rattle.std.proofs.Common.{◌++◌, ◌∷◌, [], ap, ap₂, ◌∙◌}
 use Rattle.output_index.specs.Chains.{entries_from}
 use Rattle.output_index.proofs.Numbered.{one-there}
 use Rattle.output_index.proofs.slots.Entries.add.Goals as goal

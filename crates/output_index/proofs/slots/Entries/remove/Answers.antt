@@ -1,4 +1,4 @@
-use Rattle.std.proofs.Common.{◌≡◌, Some, None, sym, ap, subst, ◌∙◌, arith}
+use Rattle.std.proofs.Common.{sym, ap, subst, ◌∙◌, arith}
 use Rattle.std.specs.Prelude.{IsSome, set}
 use Rattle.output_index.specs.Chains.{entry_at, entries_from, removed}
 use Rattle.output_index.proofs.Numbered.{stands-within, read-at, cleared-there}
