@@ -5,7 +5,7 @@ use Rattle.std.proofs.lemmas.Option.{none-some, same_Some, slice_get_within, sli
 use Rattle.std.specs.Prelude.{slice_get, IsSome}
 use Rattle.std.specs.List.{AllByRecursion}
 use Rattle.output_index.specs.declared.entry.Entry.{Entry}
-use Rattle.output_index.specs.Chains.{IsRising, entry_at, changed, removed, entries_from}
+use Rattle.output_index.specs.Chains.{entry_at, changed, removed, entries_from}
 use Rattle.output_index.proofs.Entries.{at-here, at-there, none_at, below_others, changed-here, changed-there, removed-here, removed-there, removed-none}
 
 -- what stands there, if anything does
@@ -18,11 +18,6 @@ from-above : (k n : ℕ) (xs : List (Option Entry)) → k < n → AllByRecursion
 from-above k n [] l = tt
 from-above k n (None ∷ xs) l = from-above k (suc n) xs (omega (arith, l))
 from-above k n (Some e ∷ xs) l = (l, from-above k (suc n) xs (omega (arith, l)))
-
-pub from-rising : (n : ℕ) (xs : List (Option Entry)) → IsRising (entries_from n xs)
-from-rising n [] = tt
-from-rising n (None ∷ xs) = from-rising (suc n) xs
-from-rising n (Some e ∷ xs) = (from-above n (suc n) xs (omega arith), from-rising (suc n) xs)
 
 apart : (k : ℕ) (es : List (ℕ × Entry)) → AllByRecursion (λ y. k < y.0) es → AllByRecursion (λ y. y.0 ≢ k) es
 apart k [] h = tt

@@ -1,11 +1,11 @@
 -- Chains that lie in many maps.
-use Rattle.std.proofs.Common.{◌≡◌, ◌≢◌, ℕ, zero, suc, ◌<◌, ◌≤◌, List, [], ◌∷◌, ◌++◌, Option, Some, None, set, get_or, length, refl, sym, ap, ◌∙◌, subst, ⊎_elim, arith}
+use Rattle.std.proofs.Common.{◌≡◌, ◌≢◌, ℕ, zero, suc, ◌<◌, List, [], ◌∷◌, ◌++◌, Option, Some, None, set, get_or, length, refl, sym, ap, ◌∙◌, subst, ⊎_elim, arith}
 use Rattle.std.specs.Prelude.{slice_get, IsSome, option_map}
 use Rattle.std.specs.BTreeMap as tree
 use Rattle.std.specs.BTreeMap.{BTreeMap}
 use Rattle.std.specs.Ordering.{nat_cmp}
 use Rattle.std.proofs.lemmas.Bool.{cases_eq, false≢true}
-use Rattle.std.proofs.lemmas.Option.{slice_get_within, slice_get_read, slice_get_past}
+use Rattle.std.proofs.lemmas.Option.{slice_get_within, slice_get_read}
 use Rattle.output_index.specs.declared.chain.Chain.{Chain}
 use Rattle.output_index.specs.Chains.{shards_in, shard_of, found_in, chain_at}
 
@@ -28,9 +28,6 @@ at-maps maps m = ap (λ s. found_in s m) (get-map (shard_of m) maps) ∙ by_case
 
 pub at-map : (maps : List (BTreeMap ℕ Chain)) (one : BTreeMap ℕ Chain) (i m : ℕ) → shard_of m ≡ i → i < length maps → one ≡ get_or maps i one → chain_at (shards_in maps) m ≡ tree.get nat_cmp one m
 at-map maps one i m s l h = at-maps maps m ∙ ap (λ x. in_map x m) (ap (slice_get maps) s ∙ slice_get_read maps (length maps) i one refl l h)
-
-pub none-beyond : (maps : List (BTreeMap ℕ Chain)) (m : ℕ) → length maps ≤ shard_of m → chain_at (shards_in maps) m ≡ None
-none-beyond maps m l = at-maps maps m ∙ ap (λ x. in_map x m) (slice_get_past maps (shard_of m) l)
 
 -- a mark that is found has its map
 pub map-within : (maps : List (BTreeMap ℕ Chain)) (m : ℕ) → IsSome (chain_at (shards_in maps) m) → shard_of m < length maps
@@ -64,15 +61,6 @@ others-set maps old new i mark s l h others m o =
     (λ e. at-set maps new i m e l ∙ (others m o ∙ sym (at-map maps old i m e l h)))
     (λ e. at-maps (set maps i new) m ∙ (ap (λ x. in_map x m) (get-set_other i (shard_of m) new maps e) ∙ sym (at-maps maps m)))
     (cases_eq (shard_of m) i)
-
-length-set_map : (i : ℕ) (one : BTreeMap ℕ Chain) (maps : List (BTreeMap ℕ Chain)) → length (shards_in (set maps i one)) ≡ length (shards_in maps)
-length-set_map i one [] = refl
-length-set_map zero one (x ∷ maps) = refl
-length-set_map (suc i) one (x ∷ maps) = ap suc (length-set_map i one maps)
-
-pub length-shards : (maps : List (BTreeMap ℕ Chain)) → length (shards_in maps) ≡ length maps
-length-shards [] = refl
-length-shards (x ∷ maps) = ap suc (length-shards maps)
 
 -- all maps are empty
 pub none-in : (maps : List (BTreeMap ℕ Chain)) (one : BTreeMap ℕ Chain) → ((m : ℕ) → tree.get nat_cmp one m ≡ None) → ((m : ℕ) → chain_at (shards_in maps) m ≡ None) → (m : ℕ) → chain_at (shards_in (maps ++ one ∷ [])) m ≡ None
