@@ -1,3 +1,4 @@
 pub mod Few
 pub mod Added
 pub mod One
+pub mod Packing

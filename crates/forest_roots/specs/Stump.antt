@@ -1,5 +1,5 @@
 -- The roots of a forest, by row: what the literature calls a stump.
-use Rattle.std.specs.Prelude.{◌≡◌, ℕ, ◌^◌, ◌<◌, true, false, List, length, get_or, replicate, slice_set, Option, None}
+use Rattle.std.specs.Prelude.{◌≡◌, ℕ, ◌-◌, ◌^◌, ◌<◌, true, false, List, ◌++◌, length, get_or, replicate, slice_set, Option, None}
 use Rattle.uo_digest.specs.declared.digest.Digest.{Digest}
 use Rattle.forest_place.specs.Forest.{is_slot}
 use Rattle.forest_model.specs.Standing.{root}
@@ -22,6 +22,10 @@ pub record IsStump (f : Stump) : Type 0 where
 -- n entries, of which none is live
 abbrev pub empty_roots : ℕ → Stump
 empty_roots n = record { leaves = n; rows = replicate 40 None }
+
+-- the first rows, and above them no root
+abbrev pub stump_of : ℕ → List (Option Digest) → Stump
+stump_of n rows = record { leaves = n; rows = rows ++ replicate (40 - length rows) None }
 
 -- another root in a row
 abbrev pub with_root : Stump → ℕ → Option Digest → Stump

@@ -11,9 +11,9 @@ use uo_digest::{Digest, Digester, Steps};
 /// The roots of a forest over fewer than 2^40 entries, one for each slot, by the digester `D`. A root is empty where no
 /// entry of its slot is live.
 pub struct Roots<D> {
-    count: u64,
-    slots: [Option<Digest>; 40],
-    digester: PhantomData<D>,
+    pub(crate) count: u64,
+    pub(crate) slots: [Option<Digest>; 40],
+    pub(crate) digester: PhantomData<D>,
 }
 
 impl<D> Model for Roots<D> {
