@@ -21,7 +21,7 @@ use Rattle.cache_model.specs.Cache.{look, ArePairs, HasPairs, IsPairOf}
 use Rattle.cache_model.specs.Lists.{AscendByPlace}
 use Rattle.cache_model.specs.Steps.{put_all}
 use Rattle.cache_model.specs.Undo.{find, is_same_place, is_before_place, held_key}
-use Rattle.cache_model.proofs.Looking.{All-weaker as each_weaker, pairs_serve}
+use Rattle.cache_model.proofs.Looking.{pairs_serve}
 use Rattle.cache_model.proofs.Stepping.{same_look, put_all_table, put_all_only, put_all_each, find_is}
 use Rattle.cache_model.proofs.Tables.{same_options, look_has, look_all}
 use Rattle.cache_model.proofs.Undoing.{place_order}

@@ -1,5 +1,5 @@
 -- What was judged of a message: what it claims, the check of its proof, and what is deleted.
-use Rattle.std.proofs.Common.{◌≡◌, ◌≢◌, ℕ, zero, suc, ◌+◌, ◌*◌, ◌≤◌, Bool, true, false, List, [], ◌∷◌, ◌++◌, map, length, Option, Some, None, Err, refl, sym, ap, ap₂, ◌∙◌, subst, arith, is_some}
+use Rattle.std.proofs.Common.{◌≡◌, ◌≢◌, ℕ, ◌+◌, ◌*◌, ◌≤◌, Bool, true, false, List, [], ◌∷◌, ◌++◌, map, length, Option, Some, None, Err, refl, sym, ap, ap₂, ◌∙◌, subst, arith}
 use Rattle.std.specs.Prelude.{filter, option_map}
 use Rattle.std.specs.Option.{option_or}
 use Rattle.std.proofs.lemmas.List.{length-map}
@@ -7,10 +7,10 @@ use Rattle.std.proofs.lemmas.Nat.{mul-le}
 use Rattle.std.proofs.lemmas.Option.{none-some}
 use Rattle.uo_digest.specs.declared.digest.Digest.{Digest}
 use Rattle.forest_place.specs.declared.place.Place.{Place}
-use Rattle.forest_place.specs.Forest.{is_slot, root_off}
+use Rattle.forest_place.specs.Forest.{root_off}
 use Rattle.forest_place.specs.Places.{places}
 use Rattle.forest_place.specs.Position.{place_at, rows}
-use Rattle.forest_model.specs.Cover.{Cover, cover, is_needed, need}
+use Rattle.forest_model.specs.Cover.{is_needed, need}
 use Rattle.forest_model.specs.Evaluation.{IsAccepted, asked, hash_of, nothing_known}
 use Rattle.forest_roots.specs.Stump.{Stump, IsStump, root_in}
 use Rattle.proof_shape.specs.Targeted.{Targeted}
@@ -20,7 +20,6 @@ use Rattle.proof_verify.specs.Verified.{IsProofFault, IsDeleted}
 use Rattle.leaf_record.specs.Leaf.{Leaf}
 use Rattle.leaf_record.specs.History.{somes}
 use Rattle.proof_wire.specs.BlockProof.{BlockProof, targets_of}
-use Rattle.cache_model.specs.Cache.{look}
 use Rattle.block_rules.specs.declared.chain.Found.{Found as FoundOutput}
 use Rattle.block_rules.specs.declared.chain.Outside.{Outside}
 use Rattle.block_rules.specs.declared.fault.RuleFault.{RuleFault}
@@ -34,21 +33,19 @@ use Rattle.node_rules.specs.Messages.{Message, in_full, named, targets, points_o
 use Rattle.node_rules.specs.Accepting.{View, shape_fault, leaves_of, proof_fault}
 use Rattle.node_rules.specs.Reading.{Handed, nothing, unread, read, handed_in}
 use Rattle.node_rules.specs.Judged.{AreNamed, AreHashes, IsOtherCount, TargetsJudged, HashesJudged, IsMessageRead}
-use Rattle.node_rules.specs.Judging.{message_steps, view_step, compact, found_by}
+use Rattle.node_rules.specs.Judging.{message_steps, view_step}
 use Rattle.node_rules.proofs.Faults.{passes}
 use Rattle.node_rules.proofs.Serving.{same_fault}
 use Rattle.node_rules.proofs.Telling.{count_told, empty_told, other_told}
 use Rattle.compact_node.specs.After.{without, changes_of}
 use Rattle.compact_node.specs.Node.{view_by, places_spent, hashes_over, hashes_spent}
-use Rattle.compact_node.specs.Judged.{IsFirst, proof_refusal, steps_over, IsFilledOut, Claims, IsClaim}
+use Rattle.compact_node.specs.Judged.{IsFirst, proof_refusal, steps_over, IsFilledOut, IsClaim}
 use Rattle.std.specs.Prelude.{Result, Ok, IfErr}
 use Rattle.forest_model.specs.Cover.{IsGreatest}
 use Rattle.forest_model.specs.Evaluation.{evaluation}
 use Rattle.proof_verify.specs.Verified.{AreRootsAfter, AreChanges}
-use Rattle.proof_wire.specs.BlockProof.{rests_of}
-use Rattle.block_rules.specs.Money.{found_of}
 use Rattle.block_rules.proofs.Firsts.{first_of-append}
-use Rattle.compact_node.proofs.Firsts.{first-in, first-behind}
+use Rattle.compact_node.proofs.Firsts.{first-behind}
 use Rattle.compact_node.proofs.Changes.{changes_are}
 use Rattle.compact_node.proofs.Deletions.{is_without}
 use Rattle.compact_node.proofs.Spending.{cover-none, needed-none}

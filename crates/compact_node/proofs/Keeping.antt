@@ -1,5 +1,5 @@
 -- A node stays one.
-use Rattle.std.proofs.Common.{◌≡◌, ℕ, zero, suc, ◌+◌, ◌<◌, ◌≤◌, ◌^◌, Bool, true, false, cond, List, [], ◌∷◌, ◌++◌, map, length, Option, Some, None, is_some, refl, sym, ap, ◌∙◌, subst, ⊎_elim, arith}
+use Rattle.std.proofs.Common.{◌≡◌, ℕ, zero, suc, ◌+◌, ◌<◌, ◌≤◌, ◌^◌, Bool, true, false, cond, List, [], ◌∷◌, ◌++◌, map, length, Option, Some, None, is_some, refl, ap, ◌∙◌, subst, ⊎_elim, arith}
 use Rattle.std.specs.Prelude.{nat_le, nat_lt, take}
 use Rattle.std.proofs.lemmas.Bool.{cases_Bool, and_parts, ltb-true, leb-true}
 use Rattle.std.proofs.lemmas.List.{length-map}
@@ -30,7 +30,7 @@ use Rattle.node_rules.specs.Reading.{Handed}
 use Rattle.node_rules.specs.Judging.{Rules, Evidence, compact, refusal}
 use Rattle.node_rules.specs.Machine.{ChainEvent, BlockCame, RollbackCame, StrayCame}
 use Rattle.compact_node.specs.After.{without, held_without, changes_of, with_leaf, with_leaves, kept_with, held_with, kept_with_all, held_with_all}
-use Rattle.compact_node.specs.Node.{NodeState, IsNode, LevelState, IsLevel, AreOlder, back_from, gone_back, with_level, level_with, view_over, refusal_on, places_spent, hashes_spent, roots_spent, kept_spent, held_spent, roots_after, kept_with_new, held_with_new, node_with, node_by, next_node}
+use Rattle.compact_node.specs.Node.{NodeState, IsNode, LevelState, IsLevel, AreOlder, back_from, gone_back, level_with, view_over, refusal_on, places_spent, hashes_spent, roots_spent, kept_spent, held_spent, roots_after, node_with, node_by, next_node}
 use Rattle.compact_node.proofs.Additions.{with_leaf-leaves, with_leaf-adds, with_leaf-stump, with_leaves-leaves, with_leaves-stump}
 use Rattle.compact_node.proofs.Changes.{within_all}
 use Rattle.compact_node.proofs.Deletions.{without-leaves, without-slot, without-stump}

@@ -7,7 +7,6 @@ use Rattle.forest_place.specs.declared.place.Place.{Place}
 use Rattle.forest_roots.specs.Stump.{Stump}
 use Rattle.cache_model.specs.declared.kept.Kept.{Kept}
 use Rattle.leaf_cache.specs.Parted.{Parted, HaveSameLists}
-use Rattle.cache_update.specs.declared.mark.Mark.{Mark}
 use Rattle.cache_update.specs.Marks.{Fits, kept_back, held_back}
 use Rattle.cache_update.proofs.Chained.{fits_more}
 use Rattle.block_rules.specs.declared.chain.Chain.{Chain}

@@ -1,9 +1,9 @@
 -- What a right message spends, and the roots and lists without it and with what is added.
-use Rattle.std.proofs.Common.{◌≡◌, ℕ, zero, suc, ◌+◌, ◌*◌, ◌<◌, ◌^◌, Bool, true, false, cond, List, [], ◌∷◌, ◌++◌, map, length, Option, Some, None, is_some, refl, sym, ap, ap₂, ◌∙◌, subst, arith, append_assoc, append-nil, length-set}
+use Rattle.std.proofs.Common.{◌≡◌, ℕ, zero, suc, ◌+◌, ◌*◌, ◌<◌, ◌^◌, Bool, true, false, cond, List, [], ◌∷◌, ◌++◌, map, length, Option, Some, None, is_some, refl, sym, ap, ◌∙◌, subst, arith, append_assoc, append-nil, length-set}
 use Rattle.std.specs.Prelude.{◌&&◌, not, option_map}
 use Rattle.std.proofs.Math.Path.{fun_ext}
 use Rattle.std.proofs.lemmas.Bool.{false≢true}
-use Rattle.std.proofs.lemmas.List.{length-map, map-append}
+use Rattle.std.proofs.lemmas.List.{map-append}
 use Rattle.uo_digest.specs.declared.digest.Digest.{Digest}
 use Rattle.forest_place.specs.declared.place.Place.{Place}
 use Rattle.forest_place.specs.Forest.{InForest, is_slot, is_root, root_off, sibling_off}
@@ -13,8 +13,7 @@ use Rattle.forest_model.specs.Standing.{digest_at, root}
 use Rattle.forest_model.specs.Evaluation.{nothing_known, hash_of, asked}
 use Rattle.forest_model.specs.Right.{entries}
 use Rattle.forest_model.specs.Deletion.{entries_without, root_after, StandAt}
-use Rattle.forest_model.specs.Addition.{all_slots}
-use Rattle.forest_model.proofs.Deleting.{length-entries_without, roots_after}
+use Rattle.forest_model.proofs.Deleting.{roots_after}
 use Rattle.forest_model.proofs.Right.{hash_right}
 use Rattle.forest_roots.specs.Stump.{Stump, IsStump, StandsFor, root_in}
 use Rattle.forest_roots.specs.Joined.{joins_of}
@@ -25,10 +24,10 @@ use Rattle.block_rules.specs.declared.chain.Outside.{Outside}
 use Rattle.cache_model.specs.declared.kept.Kept.{Kept}
 use Rattle.cache_model.specs.Cache.{look, ArePairs}
 use Rattle.cache_model.specs.Known.{is_watched, known_at}
-use Rattle.cache_model.specs.Lists.{IsCacheOf, moved_leaves, leaf_places, leaves_more}
+use Rattle.cache_model.specs.Lists.{IsCacheOf, moved_leaves}
 use Rattle.cache_model.proofs.Lists.{same_count}
 use Rattle.cache_model.proofs.Histories.{left_cache, known_is}
-use Rattle.cache_update.specs.Joins.{is_empty_of, added_by}
+use Rattle.cache_update.specs.Joins.{added_by}
 use Rattle.cache_update.proofs.Changed.{added_stands_by, joins_slots}
 use Rattle.cache_update.proofs.Growing.{free_above}
 use Rattle.cache_update.proofs.Joined.{joins_are}
@@ -40,8 +39,8 @@ use Rattle.node_rules.proofs.Judging.{known_is as knowledge}
 use Rattle.node_rules.proofs.Righting.{right_is_tested}
 use Rattle.node_rules.proofs.Serving.{hash_of_all}
 use Rattle.node_rules.proofs.Spending.{entries-spent, right_stands}
-use Rattle.compact_node.specs.After.{without, held_without, changes_of, with_leaf, with_leaves, kept_with, held_with, kept_with_all, held_with_all}
-use Rattle.compact_node.specs.Node.{LevelState, view_by, view_over, places_spent, hashes_over, hashes_spent, roots_spent, kept_spent, held_spent}
+use Rattle.compact_node.specs.After.{held_without, changes_of, with_leaf, with_leaves, kept_with, held_with, kept_with_all, held_with_all}
+use Rattle.compact_node.specs.Node.{LevelState, view_over, places_spent, hashes_over, hashes_spent, roots_spent, kept_spent, held_spent}
 use Rattle.compact_node.proofs.Additions.{with_leaf-leaves, with_leaf-adds, with_leaf-stump}
 use Rattle.compact_node.proofs.Changes.{changes_serve}
 use Rattle.compact_node.proofs.Deletions.{without-leaves, without-slot}

@@ -1,5 +1,5 @@
 -- What a node stores, and that it comes back.
-use Rattle.std.proofs.Common.{◌≡◌, ℕ, suc, ◌-◌, ◌<◌, ◌≤◌, ◌^◌, List, [], ◌∷◌, map, length, refl, sym, ap, ap₂, ◌∙◌, subst, arith}
+use Rattle.std.proofs.Common.{◌≡◌, ℕ, ◌-◌, ◌<◌, ◌^◌, List, [], ◌∷◌, map, length, refl, sym, ap, ap₂, ◌∙◌, subst, arith}
 use Rattle.std.specs.List.{AllByRecursion, AllZip}
 use Rattle.uo_base.specs.declared.event.Net.{Net}
 use Rattle.uo_digest.specs.declared.digest.Digest.{Digest}
@@ -14,14 +14,14 @@ use Rattle.forest_place.specs.declared.place.Place.{Place}
 use Rattle.leaf_cache.specs.Watched.{AreWatched}
 use Rattle.block_rules.specs.declared.chain.Chain.{Chain}
 use Rattle.node_rules.specs.Judging.{Rules}
-use Rattle.node_rules.specs.Machine.{Level, State, chain_of}
+use Rattle.node_rules.specs.Machine.{Level, State}
 use Rattle.state_text.specs.Stored.{LevelValue, StateValue, state_text}
 use Rattle.state_text.specs.OfHistory.{AreChained, IsHistory, level_of, state_of}
-use Rattle.state_text.specs.Cached.{CachedLevel, StandsForLevel, IsFilled, level_in}
+use Rattle.state_text.specs.Cached.{StandsForLevel, level_in}
 use Rattle.state_text.proofs.CacheLaws.{standing_is_stored, stored_is_standing}
 use Rattle.state_text.proofs.LevelLaws.{history_has_state, one_state}
 use Rattle.compact_node.specs.Node.{LevelState, NodeState, IsLevel, AreOlder, IsNode, LevelStands, Stands}
-use Rattle.compact_node.specs.State.{cached_level, cached_state, stored_state, stored_text, AreFilled, IsReadAs, IsBack}
+use Rattle.compact_node.specs.State.{cached_level, cached_state, stored_state, IsReadAs, IsBack}
 
 -- ---- what is stored
 

@@ -3,14 +3,14 @@ ghost use Rattle.std.specs.Prelude.{◌≡◌};
 
 use block_rules::Chain;
 use cache_update::Mark;
-use forest_roots::Roots;
+use forest_roots::PackedRoots;
 use std::marker::Model;
 
 /// A chain and the roots of its entries, by the digester `D`, and what gives back the lists of the cache over those of the level
 /// in front of it.
 pub(crate) struct Past<D> {
     pub(crate) chain: Chain,
-    pub(crate) roots: Roots<D>,
+    pub(crate) roots: PackedRoots<D>,
     pub(crate) mark: Mark,
 }
 
@@ -34,7 +34,7 @@ impl<D> Drop for Past<D> {
 
 impl<D> Past<D> {
     /// Its chain, roots and mark.
-    pub(crate) fn into_parts(self) -> (Chain, Roots<D>, Mark)
+    pub(crate) fn into_parts(self) -> (Chain, PackedRoots<D>, Mark)
         ensures { self ≡ record { chain = result.0; roots = result.1; mark = result.2 } }
     {
         let Past { chain, roots, mark } = self;

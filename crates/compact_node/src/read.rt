@@ -59,7 +59,7 @@ fn past_of<D: Digester>(
     let mark = between(alloc, cache, &newer.parts, &older.parts)?;
     Ok(Past {
         chain: chain_of(below, older.tip, &older.roots),
-        roots: older.roots.copy(),
+        roots: older.roots.pack(alloc)?,
         mark,
     })
 }

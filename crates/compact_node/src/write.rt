@@ -38,7 +38,7 @@ fn write_past<W: Sink, D: Digester>(
     ensures cause { IsErrOf result SinkFault.Failed → Rose (W.faults sink.old) (W.faults sink.new) }
 {
     match step_back(alloc, parts, &past.mark) {
-        Ok(()) => write_level(alloc, sink, past.chain.tip, &past.roots, parts),
+        Ok(()) => write_level(alloc, sink, past.chain.tip, &past.roots.unpack(), parts),
         Err(NoMemory) => Err(SinkFault::NoMemory),
     }
 }

@@ -1,6 +1,5 @@
-use Rattle.std.proofs.Common.{◌≡◌, List, ℕ, Option, ◌∷◌, map, drop, suc, ◌+◌, length, refl, ap, ◌∙◌, arith}
+use Rattle.std.proofs.Common.{drop, suc, length, refl, ap, ◌∙◌, arith}
 use Rattle.leaf_record.specs.Leaf.{leaf_text}
-use Rattle.compact_node.specs.Judged.{watched_leaf}
 use Rattle.compact_node.proofs.Growing.{growing_begins, growing_left, growing_watched, growing_few, grown_once, grown_roots, grown_kept, grown_held, grown_steps}
 use Rattle.compact_node.proofs.Pending.{pending_count, pending_next, pending_on, head_taken, none_pending}
 use Rattle.compact_node.proofs.grow.append.Goals as goal

@@ -1,4 +1,4 @@
-use Rattle.std.proofs.Common.{List, ℕ, ap, ap₂, ◌∙◌}
+use Rattle.std.proofs.Common.{List, ℕ, ap₂, ◌∙◌}
 use Rattle.uo_digest.specs.declared.digest.Digest.{Digest}
 use Rattle.forest_place.specs.declared.place.Place.{Place}
 use Rattle.leaf_record.specs.Leaf.{leaf_text}

@@ -1,6 +1,5 @@
-use Rattle.std.proofs.Common.{◌≡◌, List, ◌-◌, suc, sym, ap, ◌∙◌, drop, arith}
+use Rattle.std.proofs.Common.{◌-◌, sym, ap, ◌∙◌, arith}
 use Rattle.std.proofs.lemmas.List.{drop_all}
-use Rattle.leaf_record.specs.Leaf.{Leaf}
 use Rattle.compact_node.specs.Pending.{pending}
 use Rattle.compact_node.proofs.Pending.{pending_more}
 use Rattle.compact_node.proofs.grow.watched_in.Goals as goal
