@@ -19,12 +19,11 @@ use Rattle.cache_model.specs.declared.kept.Kept.{Kept}
 use Rattle.cache_model.specs.Lists.{moved_leaves, leaf_places}
 use Rattle.leaf_cache.specs.Parted.{Parted, IsParted}
 use Rattle.cache_update.specs.declared.mark.Mark.{Mark}
-use Rattle.cache_update.specs.declared.mark.Room.{Room}
 use Rattle.cache_update.specs.Begun.{new_position, IsRoom, IsMark}
 use Rattle.cache_update.specs.Descent.{TellGoals}
 use Rattle.cache_update.specs.Differences.{where_stood}
 use Rattle.cache_update.specs.Given.{kept_given}
-use Rattle.cache_update.specs.Marks.{AreOfForest, HasRoomFor, HasRoomLeft, Fits, IsUnusedIn, WasBegun, kept_back, held_back, held_from, HoldKnown}
+use Rattle.cache_update.specs.Marks.{BoxedRoom, AreOfForest, HasRoomFor, HasRoomLeft, Fits, IsUnusedIn, WasBegun, kept_back, held_back, held_from, HoldKnown}
 use Rattle.cache_update.proofs.Marking.{fresh_back, stood_ascends, stood_names, IsNamed}
 use Rattle.cache_update.proofs.Giving.{stood_key}
 use Rattle.cache_model.specs.Undo.{Ascends, is_same_number, is_before_number}
@@ -74,8 +73,8 @@ places_are n n' ts ks t numbers a e f are g =
     (places_same n t.targets (leaf_places (moved_leaves n ts ks)) within (kept_within n (moved_leaves n ts ks) (moved_in n ts ks a)) (are'.numbered ∙ g))
 
 -- a mark that was just made
-module _ (t : Targeted) (p q : Parted) (adds watched : ℕ) (r : Room) (m : Mark) (ordered : IsParted p) (forest : AreOfForest t.leaves p) (room : IsRoom t p adds r) (mark : IsMark t p adds watched r m) (kept : q.kept ≡ p.kept) (held : q.held ≡ p.held)
-    (kept_room : length p.kept + watched < q.kept_room) (held_room : r.most ≤ q.held_room) where
+module _ (t : Targeted) (p q : Parted) (adds watched : ℕ) (r : BoxedRoom) (m : Mark) (ordered : IsParted p) (forest : AreOfForest t.leaves p) (room : IsRoom t p adds r.value) (mark : IsMark t p adds watched r m) (kept : q.kept ≡ p.kept) (held : q.held ≡ p.held)
+    (kept_room : length p.kept + watched < q.kept_room) (held_room : r.value.most ≤ q.held_room) where
   pub begun_kept : kept_back m q.kept ≡ p.kept
   begun_kept =
       ap (kept_back m) kept
@@ -84,9 +83,9 @@ module _ (t : Targeted) (p q : Parted) (adds watched : ℕ) (r : Room) (m : Mark
       ∙ fresh_back p.kept ordered.0))
 
   pub begun_held : held_back m q.held ≡ p.held
-  begun_held = ap (λ (x : Option Room). held_from x m.lost.items m.gained.items q.held) mark.room ∙ room.before
+  begun_held = ap (λ (x : Option BoxedRoom). held_from x m.lost.items m.gained.items q.held) mark.room ∙ room.before
 
-  begun_room : HasRoomFor m q r
+  begun_room : HasRoomFor m q r.value
   begun_room =
       let long = ap length kept in
       let wide = ap length held in
@@ -140,7 +139,7 @@ module _ (t : Targeted) (p q : Parted) (adds watched : ℕ) (r : Room) (m : Mark
         taken = (mark.taken, mark.added, mark.stood ∙ ap (map where_stood) (sym kept));
         taken_room = omega (arith, long, mark.taken_room);
         moves = room.moves;
-        goals = subst (λ (hs : List (Place × Digest)). TellGoals t.leaves t.targets hs r.scratch.goals.items) (sym held) room.goals;
+        goals = subst (λ (hs : List (Place × Digest)). TellGoals t.leaves t.targets hs r.value.scratch.goals.items) (sym held) room.goals;
         each = room.each ∙ ap length (sym held);
       })
 

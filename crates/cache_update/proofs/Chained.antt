@@ -10,7 +10,7 @@ use Rattle.cache_model.specs.Undo.{KeepKeys, held_key, is_same_place, is_before_
 use Rattle.cache_model.proofs.Undoing.{place_order, undone}
 use Rattle.leaf_cache.specs.Parted.{Parted, IsParted}
 use Rattle.cache_update.specs.Given.{digest_was, digest_none, undo_digests, held_given}
-use Rattle.cache_update.specs.Marks.{is_named, AreOfForest, HasRoomFor, HasRoomLeft, Fits, GivesInOrder, kept_back, held_back, held_from}
+use Rattle.cache_update.specs.Marks.{BoxedRoom, is_named, AreOfForest, HasRoomFor, HasRoomLeft, Fits, GivesInOrder, kept_back, held_back, held_from}
 use Rattle.cache_update.specs.declared.mark.Mark.{Mark}
 use Rattle.cache_update.specs.declared.mark.Room.{Room}
 use Rattle.cache_update.proofs.Giving.{given_is}
@@ -31,14 +31,14 @@ given_ascends lost gained hs a =
 pub ascends_back : (m : Mark) (p : Parted) → IsParted p → Fits m p → AscendByNumber (kept_back m p.kept) × AscendByPlace (held_back m p.held)
 ascends_back m p o fits = ((given_is m.taken.items m.stood.items m.added.items p.kept o.0).0, by_room m.room fits.left)
   where
-    by_room : (r : Option Room) → HasRoomLeft m p r → AscendByPlace (held_from r m.lost.items m.gained.items p.held)
+    by_room : (r : Option BoxedRoom) → HasRoomLeft m p r → AscendByPlace (held_from r m.lost.items m.gained.items p.held)
     by_room None h = given_ascends m.lost.items m.gained.items p.held o.1
     by_room (Some r) h = h.before
 
 pub in_order : (m : Mark) (p : Parted) → Fits m p → GivesInOrder m.room
 in_order m p fits = by_room m.room fits.left
   where
-    by_room : (r : Option Room) → HasRoomLeft m p r → GivesInOrder r
+    by_room : (r : Option BoxedRoom) → HasRoomLeft m p r → GivesInOrder r
     by_room None h = tt
     by_room (Some r) h = h.before
 
@@ -72,9 +72,9 @@ module _ (m : Mark) (p q : Parted) (kept : q.kept ≡ p.kept) (held : q.held ≡
         empty = h.empty;
       }
 
-  left_more : (r : Option Room) → HasRoomLeft m p r → HasRoomLeft m q r
+  left_more : (r : Option BoxedRoom) → HasRoomLeft m p r → HasRoomLeft m q r
   left_more None h = λ lt. let idle = h lt in record { kept = kept ∙ idle.kept; held = held ∙ idle.held; watched = idle.watched }
-  left_more (Some r) h = room_more r h
+  left_more (Some r) h = room_more r.value h
 
   pub fits_more : Fits m p → Fits m q
   fits_more fits =

@@ -16,9 +16,8 @@ use Rattle.leaf_cache.specs.Parted.{Parted}
 use Rattle.cache_update.specs.Begun.{IsIdleMark}
 use Rattle.cache_update.specs.Given.{kept_given, held_given}
 use Rattle.cache_update.specs.Joins.{shown_by, added_by}
-use Rattle.cache_update.specs.Marks.{Fits, HasRoomLeft, IsIdle, WasBegun, IsUnusedIn, kept_back, held_back, held_from}
+use Rattle.cache_update.specs.Marks.{BoxedRoom, Fits, HasRoomLeft, IsIdle, WasBegun, IsUnusedIn, kept_back, held_back, held_from}
 use Rattle.cache_update.specs.declared.mark.Mark.{Mark}
-use Rattle.cache_update.specs.declared.mark.Room.{Room}
 use Rattle.proof_shape.specs.Targeted.{Targeted}
 
 -- nothing is known where nothing is kept
@@ -77,7 +76,7 @@ module _ (leaves adds : ℕ) (m : Mark) (p q : Parted) (idle : IsIdleMark leaves
   pub idle_held : held_back m q.held ≡ p.held
   idle_held =
       ap (held_back m) held
-      ∙ (ap (λ (r : Option Room). held_from r m.lost.items m.gained.items p.held) idle.room
+      ∙ (ap (λ (r : Option BoxedRoom). held_from r m.lost.items m.gained.items p.held) idle.room
       ∙ ap₂ (λ (x : List (Place × Digest)) (g : List Place). held_given x g p.held) idle.nothing.3 idle.nothing.4)
 
   pub idle_fits : 0 < q.kept_room → 0 < q.held_room → Fits m q
@@ -104,9 +103,9 @@ none_counted leaf added new n b e f g = let h : b ≡ false = e ∙ ap is_some f
 
 pub same_held : (m m' : Mark) (hs : List (Place × Digest)) → m.room ≡ None → m'.room ≡ None → m'.lost.items ≡ m.lost.items → m'.gained.items ≡ m.gained.items → held_back m' hs ≡ held_back m hs
 same_held m m' hs e f g h =
-    ap (λ (r : Option Room). held_from r m'.lost.items m'.gained.items hs) f
+    ap (λ (r : Option BoxedRoom). held_from r m'.lost.items m'.gained.items hs) f
     ∙ (ap₂ (λ (x : List (Place × Digest)) (y : List Place). held_given x y hs) g h
-    ∙ sym (ap (λ (r : Option Room). held_from r m.lost.items m.gained.items hs) e))
+    ∙ sym (ap (λ (r : Option BoxedRoom). held_from r m.lost.items m.gained.items hs) e))
 
 pub idle_on : (m m' : Mark) (p : Parted) → m'.room ≡ None → kept_back m' p.kept ≡ kept_back m p.kept → held_back m' p.held ≡ held_back m p.held → m'.watched ≡ 0 → IsIdle m p → Fits m p → Fits m' p
 idle_on m m' p none kept held watched idle fits =

@@ -8,7 +8,7 @@ use Rattle.cache_model.specs.Lists.{moved_leaves, leaf_places}
 use Rattle.leaf_cache.specs.Parted.{Parted}
 use Rattle.cache_update.specs.Descent.{TellGoals}
 use Rattle.cache_update.specs.Differences.{where_stood}
-use Rattle.cache_update.specs.Marks.{HoldKnown, growth}
+use Rattle.cache_update.specs.Marks.{BoxedRoom, HoldKnown, growth}
 use Rattle.cache_update.specs.declared.mark.Mark.{Mark}
 use Rattle.cache_update.specs.declared.mark.Room.{Room}
 
@@ -32,7 +32,7 @@ pub record IsRoom (t : Targeted) (p : Parted) (adds : ℕ) (r : Room) : Type 0 w
   pub empty : (r.lost.items ≡ []) × (r.gained.items ≡ []) × (r.moved.items ≡ [])
 
 -- a mark with this room, and nothing to undo
-pub record IsMark (t : Targeted) (p : Parted) (adds watched : ℕ) (r : Room) (m : Mark) : Type 0 where
+pub record IsMark (t : Targeted) (p : Parted) (adds watched : ℕ) (r : BoxedRoom) (m : Mark) : Type 0 where
   pub leaves : m.leaves ≡ t.leaves
   pub adds_are : m.adds ≡ adds
   pub watched_are : m.watched ≡ watched

@@ -1,6 +1,7 @@
 -- What a mark gives back over a cache, and when it fits one.
-use Rattle.std.specs.Prelude.{◌≡◌, ℕ, ◌+◌, ◌*◌, ◌<◌, ◌≤◌, Bool, true, ◌||◌, ◌&&◌, nat_lt, ◌/◌, ◌^◌, List, [], map, filter, length, Option, Some, None, is_some, count_ones, vec_len, vec_capacity, All}
+use Rattle.std.specs.Prelude.{◌≡◌, ℕ, ◌+◌, ◌*◌, ◌<◌, ◌≤◌, Bool, true, ◌||◌, ◌&&◌, nat_lt, ◌/◌, ◌^◌, List, [], map, filter, length, Option, Some, None, is_some, count_ones, Box, vec_len, vec_capacity, All}
 use Rattle.std.specs.List.{list_any}
+use Rattle.std.specs.declared.alloc.Global.{Global}
 use Rattle.uo_digest.specs.declared.digest.Digest.{Digest}
 use Rattle.forest_place.specs.declared.place.Place.{Place}
 use Rattle.forest_place.specs.Forest.{InForest}
@@ -20,19 +21,23 @@ use Rattle.cache_update.specs.declared.mark.Room.{Room}
 abbrev pub kept_back : Mark → List Kept → List Kept
 kept_back m ks = kept_given m.taken.items m.stood.items m.added.items ks
 
+-- the room of a mark has a place of its own
+abbrev pub BoxedRoom : Type 0
+BoxedRoom = Box Room Global
+
 -- while the block goes on, a mark has the held digests as they were; then it has what differs
-abbrev pub held_from : Option Room → List (Place × Digest) → List Place → List (Place × Digest) → List (Place × Digest)
+abbrev pub held_from : Option BoxedRoom → List (Place × Digest) → List Place → List (Place × Digest) → List (Place × Digest)
 held_from None lost gained hs = held_given lost gained hs
-held_from (Some r) lost gained hs = r.before.items
+held_from (Some r) lost gained hs = r.value.before.items
 
 -- the held digests that a mark gives back over some
 abbrev pub held_back : Mark → List (Place × Digest) → List (Place × Digest)
 held_back m hs = held_from m.room m.lost.items m.gained.items hs
 
 -- what is given back of the held digests ascends
-abbrev pub GivesInOrder : Option Room → Type 0
+abbrev pub GivesInOrder : Option BoxedRoom → Type 0
 GivesInOrder None = Unit {0}
-GivesInOrder (Some r) = AscendByPlace r.before.items
+GivesInOrder (Some r) = AscendByPlace r.value.before.items
 
 -- how many digests additions to n entries can put, at most
 abbrev pub growth : ℕ → ℕ → ℕ
@@ -72,9 +77,9 @@ pub record IsIdle (m : Mark) (p : Parted) : Type 0 where
   pub watched : m.watched ≡ 0
 
 -- where there is no room, no addition is left, or it changes nothing
-abbrev pub HasRoomLeft : Mark → Parted → Option Room → Type 0
+abbrev pub HasRoomLeft : Mark → Parted → Option BoxedRoom → Type 0
 HasRoomLeft m p None = 0 < m.adds → IsIdle m p
-HasRoomLeft m p (Some r) = HasRoomFor m p r
+HasRoomLeft m p (Some r) = HasRoomFor m p r.value
 
 -- a mark fits a cache with room for what it gives back, and for what is left of its block
 pub record Fits (m : Mark) (p : Parted) : Type 0 where
@@ -106,9 +111,9 @@ pub record IsUnused (t : Targeted) (m : Mark) (p : Parted) (r : Room) : Type 0 w
   pub each : vec_len r.scratch.goals ≡ length p.held
 
 -- a mark without room has additions left, so the cache that it fits keeps and holds nothing
-abbrev pub IsUnusedIn : Targeted → Mark → Parted → Option Room → Type 0
+abbrev pub IsUnusedIn : Targeted → Mark → Parted → Option BoxedRoom → Type 0
 IsUnusedIn t m p None = 0 < m.adds
-IsUnusedIn t m p (Some r) = IsUnused t m p r
+IsUnusedIn t m p (Some r) = IsUnused t m p r.value
 
 abbrev pub WasBegun : Targeted → Mark → Parted → Type 0
 WasBegun t m p = IsUnusedIn t m p m.room

@@ -16,7 +16,7 @@ use uo_digest::Digest;
 // The held digests as they were.
 fn give_held(
     held: &mut Vec<(Place, Digest)>,
-    room: &Option<Room>,
+    room: &Option<Box<Room>>,
     lost: &[(Place, Digest)],
     gained: &[Place],
 )

@@ -47,12 +47,13 @@ fn delete_in(parts: &mut Parts, mark: &mut Mark, targets: &Targets, pairs: &[(Pl
         return;
     };
     let mut room = left;
+    let lists = &mut *room;
     delete_from(
         parts,
         &mut mark.taken,
-        &mut room.scratch,
+        &mut lists.scratch,
         targets,
-        &room.kept,
+        &lists.kept,
         pairs,
     );
     mark.go_on(room, parts);

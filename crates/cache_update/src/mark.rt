@@ -23,8 +23,8 @@ pub struct Mark {
     pub(crate) lost: Vec<(Place, Digest)>,
     pub(crate) gained: Vec<Place>,
 
-    // While the block goes on.
-    pub(crate) room: Option<Room>,
+    // While the block goes on. It has a place of its own, so that a mark that is kept for long is small.
+    pub(crate) room: Option<Box<Room>>,
 }
 
 // Lists that a block changes a cache by, so that no change takes memory.

@@ -8,17 +8,17 @@ use leaf_cache::Parts;
 
 impl Mark {
     // Goes on with the block. Once no addition is left the mark has what differs, and the room is freed.
-    pub(crate) fn go_on(&mut self, room: Room, parts: &Parts)
-        requires { HasRoomFor self.old parts.now room }
+    pub(crate) fn go_on(&mut self, room: Box<Room>, parts: &Parts)
+        requires { HasRoomFor self.old parts.now room.value }
         ensures kept { kept_back self.new parts.now.kept ≡ kept_back self.old parts.now.kept }
-        ensures held { held_back self.new parts.now.held ≡ room.before.items }
+        ensures held { held_back self.new parts.now.held ≡ room.value.before.items }
         ensures left { HasRoomLeft self.new parts.now self.new.room }
         ensures leaves { self.new.leaves ≡ self.old.leaves }
         ensures adds { self.new.adds ≡ self.old.adds }
         ensures watched { self.new.watched ≡ self.old.watched }
     {
         if self.adds == 0 {
-            self.settle(room, parts);
+            self.settle(Box::into_inner(room), parts);
         } else {
             self.room = Some(room);
         }

@@ -166,18 +166,23 @@ fn places_of(alloc: Global, kept: &[Kept]) -> Result<Vec<(u64, Place)>, NoMemory
 }
 
 // Room for a block of these targets and this many additions.
-fn room_for(alloc: Global, parts: &Parts, targets: &Targets, adds: u64) -> Result<Room, NoMemory>
+fn room_for(
+    alloc: Global,
+    parts: &Parts,
+    targets: &Targets,
+    adds: u64,
+) -> Result<Box<Room>, NoMemory>
     requires kept { All (λ k. InForest targets.now.leaves k.place.row k.place.off) parts.now.kept }
     requires held { All (λ x. InForest targets.now.leaves x.0.row x.0.off) parts.now.held }
     requires ascends { AscendByPlace parts.now.held }
-    ensures { IfOk result (λ r. IsRoom targets.now parts.now adds r) }
+    ensures { IfOk result (λ r. IsRoom targets.now parts.now adds r.value) }
 {
     let goals = goals_of(alloc, targets, &parts.held)?;
     let kept = new_places(alloc, targets, &parts.kept, &parts.held, &goals)?;
     let Some(most) = most_of(&kept, parts.held.len(), targets.leaves(), adds) else {
         return Err(NoMemory);
     };
-    Ok(Room {
+    let room = Room {
         most,
         kept,
         before: Vec::from_slice(alloc, &parts.held)?,
@@ -189,7 +194,8 @@ fn room_for(alloc: Global, parts: &Parts, targets: &Targets, adds: u64) -> Resul
         lost: Vec::with_capacity(alloc, parts.held.len())?,
         gained: Vec::with_capacity(alloc, most)?,
         moved: Vec::with_capacity(alloc, parts.kept.len())?,
-    })
+    };
+    Ok(Box::new(alloc, room)?)
 }
 
 // A mark for a block of these targets and additions.
@@ -199,7 +205,7 @@ fn mark_for(
     targets: &Targets,
     adds: u64,
     watched: u64,
-    room: Room,
+    room: Box<Room>,
 ) -> Result<Mark, NoMemory>
     ensures { IfOk result (λ m. IsMark targets.now parts.now adds watched room m) }
 {

@@ -4,7 +4,7 @@ use Rattle.std.specs.Prelude.{option_map, count_ones}
 use Rattle.std.specs.Option.{option_to_list}
 use Rattle.cache_model.specs.declared.kept.Kept.{Kept}
 use Rattle.cache_update.specs.Joins.{is_empty_of}
-use Rattle.cache_update.specs.Marks.{HasRoomLeft, HasRoomFor, AreOfForest, IsIdle, held_from}
+use Rattle.cache_update.specs.Marks.{BoxedRoom, HasRoomLeft, HasRoomFor, AreOfForest, IsIdle, held_from}
 use Rattle.cache_update.specs.declared.mark.Mark.{Mark}
 use Rattle.cache_update.specs.declared.mark.Room.{Room}
 use Rattle.cache_update.specs.Given.{kept_given}
@@ -27,7 +27,7 @@ added_is leaf w n leaves added new e f g = g ∙ (ap (λ b. added ++ cond b (lea
 pub add_to-requires-clause-held_room : goal.add_to-requires-clause-held_room
 add_to-requires-clause-held_room c =
     let was = sym c.count_one.ensures.room ∙ (sym c.take.ensures.value ∙ c.in-Some.is) in
-    let old : HasRoomFor c.args.mark.now c.args.parts.now c.in-Some.left = subst (HasRoomLeft c.args.mark.now c.args.parts.now) was c.requires.fits.left in
+    let old : HasRoomFor c.args.mark.now c.args.parts.now c.in-Some.left.value = subst (HasRoomLeft c.args.mark.now c.args.parts.now) was c.requires.fits.left in
     let step = growth_step c.args.n (length c.args.joins.now) c.args.mark.now.adds c.count_one.new.self.adds c.requires.slots c.count_one.ensures.adds in
     let ones = ap count_ones c.requires.count in
     omega (arith, step, ones, old.held_most, old.held_room)
@@ -35,7 +35,8 @@ add_to-requires-clause-held_room c =
 pub go_on-requires : goal.go_on-requires
 go_on-requires c =
     let was = sym c.count_one.ensures.room ∙ (sym c.take.ensures.value ∙ c.in-Some.is) in
-    let old : HasRoomFor c.args.mark.now c.args.parts.now c.in-Some.left = subst (HasRoomLeft c.args.mark.now c.args.parts.now) was c.requires.fits.left in
+    let there = sym c.deref_mut.ensures.value in
+    let old : HasRoomFor c.args.mark.now c.args.parts.now c.deref_mut.result.now = subst (HasRoomFor c.args.mark.now c.args.parts.now) there (subst (HasRoomLeft c.args.mark.now c.args.parts.now) was c.requires.fits.left) in
     let step = growth_step c.args.n (length c.args.joins.now) c.args.mark.now.adds c.count_one.new.self.adds c.requires.slots c.count_one.ensures.adds in
     let ones = ap count_ones c.requires.count in
     let leaves : c.args.n + 1 ≡ c.count_one.new.self.leaves = ap (λ k. k + 1) c.requires.count ∙ sym c.count_one.ensures.leaves in
@@ -67,7 +68,7 @@ go_on-requires c =
 pub returns-clause-kept_back : goal.returns-clause-kept_back
 returns-clause-kept_back c =
     let was = sym c.count_one.ensures.room ∙ (sym c.take.ensures.value ∙ c.in-Some.is) in
-    let old : HasRoomFor c.args.mark.now c.args.parts.now c.in-Some.left = subst (HasRoomLeft c.args.mark.now c.args.parts.now) was c.requires.fits.left in
+    let old : HasRoomFor c.args.mark.now c.args.parts.now c.in-Some.left.value = subst (HasRoomLeft c.args.mark.now c.args.parts.now) was c.requires.fits.left in
     let added = added_is c.args.leaf c.is_some.result c.args.n c.args.mark.now.leaves c.args.mark.now.added.items _ c.is_some.ensures c.requires.count c.count_one.ensures.added in
     c.go_on.ensures.kept
     ∙ (ap₂ (λ (t : List Kept) (s : List (ℕ × Place)). kept_given t s c.count_one.new.self.added.items c.add_to.new.parts.kept) c.count_one.ensures.taken c.count_one.ensures.stood
@@ -78,7 +79,7 @@ pub returns-clause-fits : goal.returns-clause-fits
 returns-clause-fits c =
     let was = sym c.count_one.ensures.room ∙ (sym c.take.ensures.value ∙ c.in-Some.is) in
     let kept = ap length (returns-clause-kept_back c) in
-    let held = ap length (c.go_on.ensures.held ∙ sym (ap (λ (r : Option Room). held_from r c.args.mark.now.lost.items c.args.mark.now.gained.items c.args.parts.now.held) was)) in
+    let held = ap length (c.go_on.ensures.held ∙ (ap (λ (r : Room). r.before.items) c.deref_mut.ensures.value ∙ sym (ap (λ (r : Option BoxedRoom). held_from r c.args.mark.now.lost.items c.args.mark.now.gained.items c.args.parts.now.held) was))) in
     record {
       kept_room = omega (arith, kept, c.requires.fits.kept_room, c.add_to.ensures.kept_room);
       held_room = omega (arith, held, c.requires.fits.held_room, c.add_to.ensures.held_room);
