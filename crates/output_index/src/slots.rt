@@ -8,8 +8,8 @@ use std::alloc::Global;
 use std::marker::Model;
 use uo_base::NoMemory;
 
-/// The entries, each at its number, so that none is searched for. Numbers are those of a forest's entries, which come in a row: one of
-/// which nothing is held takes the eight bytes in which nothing stands.
+/// The entries, each at its number, so that none is searched for. Numbers are those of a forest's entries, which come in a row; each
+/// takes sixteen bytes, also where nothing is held any more.
 #[derive(Drop)]
 pub(crate) struct Entries {
     slots: Vec<Option<Slot>>,
