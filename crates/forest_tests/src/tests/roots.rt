@@ -6,6 +6,7 @@ use forest_roots::{Join, Joins, Roots, pair};
 use std::marker::Brand;
 use std::process::Abort;
 use std::sync::ledger::{Blank, Ledger};
+use std::test::Fail;
 use uo_digest::{Digest, Digester, Sha512t256, Steps, XorFold, hex_plain};
 
 /// Nine additions by XorFold, where a node has the exclusive or of its leaves: the digest that is added, the digests that
@@ -137,4 +138,22 @@ fn check_all<L: Ledger>(rt: &impl Abort, blank: Blank)
 #[test]
 fn few_additions(rt: HostRuntime) {
     check_all::<Brand>(&rt, Blank::new(1));
+}
+
+// Packed roots come back: of no entry, of five, and of as many as there is room for.
+#[test]
+fn packed_roots_come_back(rt: HostRuntime) -> Result<(), Fail> {
+    let none = Roots::<XorFold>::new().pack(rt.alloc())?.unpack();
+    assert!(rt; none.leaves() == 0);
+    let mut five = Roots::<XorFold>::of(5);
+    five.put_root(2, Some(digest(9)));
+    let five = five.pack(rt.alloc())?.unpack();
+    assert!(rt; five.root(2) == Some(Some(digest(9))));
+    assert!(rt; five.root(1) == None && five.root(0) == Some(None));
+    let mut most = Roots::<XorFold>::of((1 << 40) - 1);
+    most.put_root(39, Some(digest(7)));
+    let most = most.pack(rt.alloc())?.unpack();
+    assert!(rt; most.root(39) == Some(Some(digest(7))));
+    assert!(rt; most.root(38) == Some(None));
+    Ok(())
 }
