@@ -14,7 +14,7 @@ use uo_base::NoMemory;
 use uo_digest::Digest;
 
 /// Nanoseconds of adding outputs, of finding them by their names, and of spending them, among a hundred thousand to ten
-/// million. The names differ in their last four bytes alone.
+/// million.
 pub fn measure_outputs<R: CpuClock + Print + AllocGlobal>(rt: &R) -> io::Result<()> {
     for entries in [100_000, 1_000_000, 10_000_000] {
         measure(rt, rt.alloc(), entries)?;
