@@ -4,6 +4,7 @@
 //! it to a sink. [`push_clash`] appends the lines of two texts with one digest.
 #![tactic(auto)]
 
+mod accepted;
 mod clash;
 mod hash_text;
 mod line;

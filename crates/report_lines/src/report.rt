@@ -6,6 +6,7 @@ ghost use Rattle.uo_base.specs.Faults.{Rose};
 ghost use Rattle.uo_base.specs.Moved.{AppendsPart};
 ghost use Rattle.report_lines.specs.Lines.{whole_line};
 
+use crate::accepted::push_accepted;
 use crate::line::Line;
 use block_rules::Verdict;
 use feed_run::{Status, Stop};
@@ -24,14 +25,31 @@ fn text_of(alloc: Global, line: Line) -> Result<String, AllocError>
     Ok(text)
 }
 
-/// Appends a line, with the byte that ends it. Where there is no memory, the text stays as it was.
-pub fn push_line(alloc: Global, line: Line, out: &mut Vec<u8>) -> Result<(), NoMemory>
+// Appends a line that is made first, in room of its own: what was written of a line that fails could not be told from the text before it.
+fn push_formatted(alloc: Global, line: Line, out: &mut Vec<u8>) -> Result<(), NoMemory>
     ensures ok { OnOk result (out.new.items ≡ out.old.items ++ whole_line line) }
     ensures err { OnErr result (out.new.items ≡ out.old.items) }
 {
     let text = text_of(alloc, line)?;
     out.extend_from_slice(text.as_bytes())?;
     Ok(())
+}
+
+/// Appends a line, with the byte that ends it. Where there is no memory, the text stays as it was.
+pub fn push_line(alloc: Global, line: Line, out: &mut Vec<u8>) -> Result<(), NoMemory>
+    ensures ok { OnOk result (out.new.items ≡ out.old.items ++ whole_line line) }
+    ensures err { OnErr result (out.new.items ≡ out.old.items) }
+{
+    match line {
+        Line::Verdict(
+            Verdict::Accepted {
+                height,
+                hash,
+                leaves,
+            },
+        ) => push_accepted(height, &hash, leaves, out),
+        _ => push_formatted(alloc, line, out),
+    }
 }
 
 /// Appends the line of a verdict, with the byte that ends it. Where there is no memory, the text stays as it was. It is `push_line` at
