@@ -41,13 +41,7 @@ pub fn push_line(alloc: Global, line: Line, out: &mut Vec<u8>) -> Result<(), NoM
     ensures err { OnErr result (out.new.items ≡ out.old.items) }
 {
     match line {
-        Line::Verdict(
-            Verdict::Accepted {
-                height,
-                hash,
-                leaves,
-            },
-        ) => push_accepted(height, &hash, leaves, out),
+        Line::Verdict(verdict) => line_of(alloc, &verdict, out),
         _ => push_formatted(alloc, line, out),
     }
 }
@@ -58,7 +52,14 @@ pub fn line_of(alloc: Global, verdict: &Verdict, out: &mut Vec<u8>) -> Result<()
     ensures ok { OnOk result (out.new.items ≡ out.old.items ++ whole_line (Line.Verdict verdict.now)) }
     ensures err { OnErr result (out.new.items ≡ out.old.items) }
 {
-    push_line(alloc, Line::Verdict(*verdict), out)
+    match verdict {
+        Verdict::Accepted {
+            height,
+            hash,
+            leaves,
+        } => push_accepted(*height, hash, *leaves, out),
+        _ => push_formatted(alloc, Line::Verdict(*verdict), out),
+    }
 }
 
 /// Writes one line, or a part of it where the run has to stop.
