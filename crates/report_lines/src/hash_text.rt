@@ -46,6 +46,8 @@ fn ascii_text(digits: &[u8]) -> &str
     requires { IsAscii digits.now }
     ensures { result.now ≡ digits.now }
 {
-    // Digits need no second look.
-    unsafe { str::from_utf8_unchecked(digits) }
+    match str::from_utf8(digits) {
+        Ok(text) => text,
+        Err(_) => unreachable!(),
+    }
 }
