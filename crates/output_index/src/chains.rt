@@ -55,16 +55,15 @@ impl Chains {
         }
     }
 
-    /// Puts a chain at a mark, and answers what was there.
-    pub fn insert(&mut self, mark: u64, chain: Chain) -> Result<Option<Chain>, NoMemory>
-        ensures before { IfOk result (λ before. before ≡ chain_at self.old mark) }
+    /// Puts a chain at a mark. Where there is no memory, all marks tell what they told.
+    pub fn insert(&mut self, mark: u64, chain: Chain) -> Result<(), NoMemory>
         ensures here { OnOk result (chain_at self.new mark ≡ Some chain) }
         ensures others { (m : ℕ) → m ≢ mark → chain_at self.new m ≡ chain_at self.old m }
         ensures err { OnErr result (chain_at self.new mark ≡ chain_at self.old mark) }
     {
         make_shards(&mut self.shards, self.alloc)?;
-        let before = self.shards[shard_of(mark)].insert(mark, chain)?;
-        Ok(before)
+        self.shards[shard_of(mark)].insert(mark, chain)?;
+        Ok(())
     }
 
     /// Puts a chain at a mark that is there.
@@ -74,15 +73,6 @@ impl Chains {
         ensures others { (m : ℕ) → m ≢ mark → chain_at self.new m ≡ chain_at self.old m }
     {
         put_in(&mut self.shards[shard_of(mark)], mark, chain);
-    }
-
-    /// The mark is gone.
-    pub fn remove(&mut self, mark: u64)
-        requires { IsSome (chain_at self.old mark) }
-        ensures here { chain_at self.new mark ≡ None }
-        ensures others { (m : ℕ) → m ≢ mark → chain_at self.new m ≡ chain_at self.old m }
-    {
-        self.shards[shard_of(mark)].remove(&mark);
     }
 
     /// Takes a live entry, which tells the next older one, off the top of its chain. Where a newer one is at the top, the chain

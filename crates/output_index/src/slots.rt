@@ -57,7 +57,7 @@ impl Entries {
         entry
     }
 
-    /// Tells whether the entry is live.
+    /// The entry is live, or spent, from now on.
     pub fn set_live(&mut self, number: u64, live: bool)
         requires { IsSome (entry_at number self.old) }
         ensures { self.new ≡ changed number (set_live live) self.old }
@@ -68,7 +68,7 @@ impl Entries {
         slot.set_live(live);
     }
 
-    /// Tells the next older entry.
+    /// The entry tells this older one from now on.
     pub fn set_older(&mut self, number: u64, older: Option<u64>)
         requires { IsSome (entry_at number self.old) }
         ensures { self.new ≡ changed number (set_older older) self.old }
