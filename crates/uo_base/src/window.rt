@@ -7,16 +7,17 @@ ghost use Rattle.uo_base.specs.Faults.{CountsRead};
 use crate::Failed;
 use std::io::Read;
 
-const SIZE: usize = 65_536;
+const SIZE: usize = 16_384;
 
-/// Bytes of a reader that are read ahead, so that many small reads make one call of the system.
+/// Bytes of a reader that are read ahead, so that many small reads make one call of the system. A piece that has room for as many is
+/// read into at once.
 #[derive(Drop)]
 pub struct Window {
     bytes: [u8; SIZE],
     start: usize,
     end: usize,
     ghost ordered: { start ≤ end },
-    ghost within: { end ≤ 65536 },
+    ghost within: { end ≤ 16384 },
 }
 
 impl Window {
@@ -49,11 +50,15 @@ impl Window {
         ensures later { faults.old ≤ faults.new }
         ensures counts { CountsRead result faults.old faults.new }
     {
-        if self.start == self.end {
-            self.start = 0;
-            self.end = 0;
-            self.end = counted_read(reader, faults, &mut self.bytes)?;
+        if self.start < self.end {
+            return Ok(self.give(into));
         }
+        if into.len() >= SIZE {
+            return counted_read(reader, faults, into);
+        }
+        self.start = 0;
+        self.end = 0;
+        self.end = counted_read(reader, faults, &mut self.bytes)?;
         Ok(self.give(into))
     }
 
