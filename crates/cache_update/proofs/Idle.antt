@@ -66,7 +66,7 @@ none_added js d n leaf hs f g =
     (subst (λ (xs : List (Place × Digest)). xs ≡ added_by js d n false xs) (sym f) (sym (ap (λ (xs : List (Place × Digest)). put_all xs []) (none_shown js d n (length js) 0))))
 
 -- a mark that was just made
-module _ (leaves adds : ℕ) (m : Mark) (p q : Parted) (idle : IsIdleMark leaves adds m) (some : 0 < adds) (no_kept : p.kept ≡ []) (no_held : p.held ≡ []) (kept : q.kept ≡ p.kept) (held : q.held ≡ p.held) where
+module _ (leaves adds : ℕ) (m : Mark) (p q : Parted) (idle : IsIdleMark leaves adds m) (no_kept : p.kept ≡ []) (no_held : p.held ≡ []) (kept : q.kept ≡ p.kept) (held : q.held ≡ p.held) where
   pub idle_kept : kept_back m q.kept ≡ p.kept
   idle_kept =
       ap (kept_back m) kept
@@ -89,8 +89,8 @@ module _ (leaves adds : ℕ) (m : Mark) (p q : Parted) (idle : IsIdleMark leaves
         left = subst (HasRoomLeft m q) (sym idle.room) (λ lt. record { kept = kept ∙ no_kept; held = held ∙ no_held; watched = idle.watched });
       }
 
-  pub idle_begun : (t : Targeted) → WasBegun t m q
-  idle_begun t = subst (IsUnusedIn t m q) (sym idle.room) (omega (arith, some, idle.adds_are))
+  pub idle_begun : 0 < adds → (t : Targeted) → WasBegun t m q
+  idle_begun some t = subst (IsUnusedIn t m q) (sym idle.room) (omega (arith, some, idle.adds_are))
 
 -- a mark that only counts
 pub same_back : (m m' : Mark) (ks : List Kept) → m'.taken.items ≡ m.taken.items → m'.stood.items ≡ m.stood.items → m'.added.items ≡ m.added.items → kept_back m' ks ≡ kept_back m ks

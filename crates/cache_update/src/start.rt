@@ -351,3 +351,35 @@ pub fn begin<D>(
 {
     begin_in(alloc, cache.parts(), targets, adds, watched)
 }
+
+// The mark of a block that changes nothing of the lists, which are empty and stay so.
+fn unchanged_in(alloc: Global, parts: &mut Parts) -> Result<Mark, NoMemory>
+    requires kept { parts.old.kept ≡ [] }
+    requires held { parts.old.held ≡ [] }
+    ensures lists { HaveSameLists parts.new parts.old }
+    ensures kept_room { parts.old.kept_room ≤ parts.new.kept_room }
+    ensures held_room { parts.old.held_room ≤ parts.new.held_room }
+    ensures fits { IfOk result (λ m. Fits m parts.new) }
+    ensures kept_back { IfOk result (λ m. kept_back m parts.new.kept ≡ parts.old.kept) }
+    ensures held_back { IfOk result (λ m. held_back m parts.new.held ≡ parts.old.held) }
+{
+    parts.kept.reserve(1)?;
+    parts.held.reserve(1)?;
+    Ok(idle_mark(alloc, 0, 0))
+}
+
+/// The mark of a block of which a cache that keeps and holds nothing is told nothing, neither what it deletes nor what it adds, since
+/// none of its outputs is watched. What the cache keeps and holds stays nothing, and the mark gives it back.
+pub fn unchanged<D>(alloc: Global, cache: &mut Cache<D>) -> Result<Mark, NoMemory>
+    requires kept { cache.old.parts.kept ≡ [] }
+    requires held { cache.old.parts.held ≡ [] }
+    ensures lists { HaveSameLists cache.new.parts cache.old.parts }
+    ensures watch { cache.new.watch ≡ cache.old.watch }
+    ensures kept_room { cache.old.parts.kept_room ≤ cache.new.parts.kept_room }
+    ensures held_room { cache.old.parts.held_room ≤ cache.new.parts.held_room }
+    ensures fits { IfOk result (λ m. Fits m cache.new.parts) }
+    ensures kept_back { IfOk result (λ m. kept_back m cache.new.parts.kept ≡ cache.old.parts.kept) }
+    ensures held_back { IfOk result (λ m. held_back m cache.new.parts.held ≡ cache.old.parts.held) }
+{
+    unchanged_in(alloc, cache.parts())
+}

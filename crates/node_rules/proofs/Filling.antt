@@ -2,7 +2,7 @@
 use Rattle.std.proofs.Common.{◌≡◌, ◌≢◌, ℕ, zero, suc, ◌+◌, ◌<◌, Bool, true, false, List, [], ◌∷◌, ◌++◌, map, length, get_or, take, drop, filter, Option, Some, None, refl, sym, ap, ◌∙◌, subst, ap₂, ⊎_elim, inl, inr, arith, append_assoc}
 use Rattle.std.specs.Prelude.{◌⊎◌, ◌&&◌, ◌==◌, nat_lt, cond, is_none, slice_get, unwrap_or}
 use Rattle.std.proofs.lemmas.Bool.{cases_Bool, cases_lt, cases_eq, eqb-true, ltb-true, false≢true, false_from_ne_true, or_left, or_right, or_cases, and_parts}
-use Rattle.std.proofs.lemmas.List.{drop_more, take_more, length-drop, map-append}
+use Rattle.std.proofs.lemmas.List.{drop_all, drop_more, take_more, length-drop, map-append}
 use Rattle.std.proofs.lemmas.List.Sums.{sum_by-cons}
 use Rattle.std.proofs.lemmas.Option.{none-some, same_Some}
 use Rattle.uo_digest.specs.declared.digest.Digest.{Digest}
@@ -268,3 +268,29 @@ module _ (m : Message) (t : Targeted) (known : ℕ → ℕ → Option Digest) (k
         count = count;
         hashes_are = λ H. is ∙ (ap (filled m.proof.hashes 0) found_there ∙ filled_is (H []) known_there (need t.leaves t.targets) m.proof.hashes 0 (distinct_from_ascending (need t.leaves t.targets) (need_ascending t.leaves t.targets)) count);
       }
+
+-- where nothing is known, all that is needed is given
+abbrev unknown_all : List Place → List (Option Digest)
+unknown_all ps = map (λ (p : Place). look [] p.row p.off) ps
+
+nothing_found : (ps : List Place) → nones (unknown_all ps) ≡ length ps
+nothing_found [] = refl
+nothing_found (p ∷ ps) = sum_by-cons (λ (x : Option Digest). cond (is_none x) 1 0) None (unknown_all ps) ∙ (let e = nothing_found ps in omega (arith, e))
+
+nothing_filled : (ps : List Place) (hashes : List Digest) (next : ℕ) → length ps + next ≡ length hashes → drop next hashes ≡ filled hashes next (unknown_all ps)
+nothing_filled [] hashes next e = drop_all next hashes (omega (arith, e))
+nothing_filled (p ∷ ps) hashes next e =
+    let more : next + 1 ≡ suc next = omega arith in
+    drop_more hashes next (record { 0 = [] }) (omega (arith, e))
+    ∙ ap (λ l. get_or hashes next (record { 0 = [] }) ∷ l) (ap (λ k. drop k hashes) more ∙ nothing_filled ps hashes (suc next) (omega (arith, e)))
+
+module _ (m : Message) (t : Targeted) (known : ℕ → ℕ → Option Digest) (none : (row off : ℕ) → known_to m.lean known row off ≡ None) (needed : List Place) (needed_is : needed ≡ need t.leaves t.targets) where
+  abbrev unknown : (row off : ℕ) → look [] row off ≡ known_to m.lean known row off
+  unknown row off = sym (none row off)
+
+  pub given_count : (want got : ℕ) → want ≡ length needed → got ≡ length m.proof.hashes → got ≢ want → IsOtherCount m t known want got
+  given_count want got w g d = other_count m t known [] unknown needed (unknown_all needed) needed_is refl want got (w ∙ sym (nothing_found needed)) g d
+
+  pub given_are : (want got : ℕ) (hashes : List Digest) → want ≡ length needed → got ≡ length m.proof.hashes → got ≡ want → hashes ≡ m.proof.hashes → AreHashes m t known hashes
+  given_are want got hashes w g e is =
+      are_hashes m t known [] unknown needed (unknown_all needed) needed_is refl want got hashes (w ∙ sym (nothing_found needed)) g e (is ∙ nothing_filled needed m.proof.hashes 0 (omega (arith, w, g, e)))

@@ -1,5 +1,6 @@
 //! The hashes that a check of a proof needs, of a message that may leave out those that its reader knows.
-ghost use Rattle.std.specs.Prelude.{◌≡◌, ℕ, ◌+◌, ◌^◌, ◌≤◌, ◌<◌, ◌↔◌, ◌∷◌, [], map, drop, length, None, IfOk, IsTrue};
+ghost use Rattle.std.specs.Prelude.{◌≡◌, ℕ, ◌+◌, ◌^◌, ◌≤◌, ◌<◌, ◌↔◌, ◌∷◌, [], map, drop, length, Option, None, IfOk, IsTrue};
+ghost use Rattle.uo_digest.specs.declared.digest.Digest.{Digest as Digested};
 ghost use Rattle.forest_place.specs.declared.place.Place.{Place as Placed};
 ghost use Rattle.forest_place.specs.Places.{IsBefore, IsAscending};
 ghost use Rattle.node_rules.specs.Messages.{known_to};
@@ -120,6 +121,33 @@ fn fill(
     Ok(hashes)
 }
 
+/// The hashes of a message.
+fn all_hashes(alloc: Global, message: &MessageView<'_>) -> Result<Vec<Digest>, AllocError>
+    ensures { IfOk result (λ hashes. hashes.items ≡ message.now.proof.hashes) }
+{
+    let mut hashes = Vec::with_capacity(alloc, message.hash_count() as usize)?;
+    for i in 0..message.hash_count() {
+        hashes.push(message.hash(i))?;
+    }
+    Ok(hashes)
+}
+
+/// The hashes of all needed places, where nothing is known: a message gives them all. It takes no other memory than theirs.
+fn given_hashes(
+    alloc: Global,
+    message: &MessageView<'_>,
+    targets: &Targets,
+) -> Result<Vec<Digest>, RuleFault>
+    ensures { (k : ℕ → ℕ → Option Digested) → ((row off : ℕ) → known_to message.now.lean k row off ≡ None) → HashesJudged message.now targets.now k result }
+{
+    let want = targets.needed().len() as u64;
+    let got = message.hash_count();
+    if got != want {
+        return Err(RuleFault::Refused(Refusal::Proof(ProofRefusal::HashCount { want, got })));
+    }
+    Ok(all_hashes(alloc, message)?)
+}
+
 /// The hashes of all needed places, in ascending position. In a lean message those of known places are left out, and its
 /// hashes are those of the others; a message in full gives them all. `known` has each place once, in ascending order. It
 /// refuses a message that gives another number of hashes.
@@ -133,6 +161,9 @@ pub fn full_hashes(
     ensures { HashesJudged message.now targets.now (look known.now) result }
 {
     let known = lent(message.lean(), known);
+    if known.is_empty() {
+        return given_hashes(alloc, message, targets);
+    }
     let found = known_beside(alloc, targets.needed(), known)?;
     let want = asked_count(&found);
     let got = message.hash_count();

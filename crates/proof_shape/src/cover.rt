@@ -7,7 +7,7 @@ ghost use Rattle.forest_place.specs.Places.{AreWithin};
 ghost use Rattle.proof_shape.specs.Swept.{ArePositions, IsAdded, IsPushed, IsClimbed, ClimbsNext, NumberNext, IsSweep, IsSwept, AreFree};
 ghost use Rattle.proof_shape.specs.Survey.{pos, up, is_top};
 
-use forest_place::{Place, is_root, parent, place_of, position};
+use forest_place::{Place, is_root, parent, place_of, position, rows};
 use std::alloc::{AllocError, Global};
 
 // Puts a place at the end, unless it stands there already. Whether it was put.
@@ -78,17 +78,17 @@ fn climbs_next(n: u64, places: &[Place], k: usize, sorted: &[u64], j: usize) -> 
     }
 }
 
-/// Room that is taken at once: for a target and the places above it, and for those that each further target adds in most lists.
+/// Room that is taken at once beside that for the places of most lists.
 const ROOM: usize = 40;
 
-const ROOM_EACH: usize = 8;
-
-// For how many places memory is taken at once, where there are so many targets.
-fn room_for(targets: usize) -> usize {
+// For how many places memory is taken at once, where there are so many targets in a forest of so many rows. Of targets that are
+// spread over it the lowest places above each are its own, up to where there are fewer places in a row than targets.
+fn room_for(rows: u8, targets: usize) -> usize {
     if targets == 0 {
         return 0;
     }
-    targets.saturating_mul(ROOM_EACH).saturating_add(ROOM)
+    let own = (rows as usize + 2).saturating_sub(targets.ilog2() as usize);
+    targets.saturating_mul(own).saturating_add(ROOM)
 }
 
 // All places at these positions and above them. Where the answer is true, no position is twice among these, or above another.
@@ -103,7 +103,7 @@ pub(crate) fn cover_of(
     ensures swept { IfOk result (λ v. IsSwept n sorted.now v.0.items) }
     ensures free { IfOk result (λ v. IsTrue v.1 → AreFree n sorted.now v.0.items (length sorted.now)) }
 {
-    let mut covered = Vec::with_capacity(alloc, room_for(sorted.len()))?;
+    let mut covered = Vec::with_capacity(alloc, room_for(rows(n), sorted.len()))?;
     let mut free = true;
     let mut k = 0;
     let mut j = 0;

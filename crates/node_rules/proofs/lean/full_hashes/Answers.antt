@@ -1,4 +1,6 @@
-use Rattle.std.proofs.Common.{sym, subst, ap, ◌∙◌}
+use Rattle.std.proofs.Common.{◌≡◌, [], sym, subst, ap, ◌∙◌}
+use Rattle.std.proofs.lemmas.Bool.{eqb-true}
+use Rattle.std.proofs.lemmas.List.{nil_from_length}
 use Rattle.forest_place.specs.Places.{IsAscending}
 use Rattle.forest_model.proofs.Lists.{need_ascending}
 use Rattle.node_rules.specs.Messages.{known_to}
@@ -9,6 +11,12 @@ use Rattle.node_rules.proofs.lean.full_hashes.Goals as goal
 
 pub known_beside-requires-clause-places : goal.known_beside-requires-clause-places
 known_beside-requires-clause-places c = subst IsAscending (sym c.needed.ensures) (need_ascending c.args.targets.now.leaves c.args.targets.now.targets)
+
+pub returns-then-is_empty : goal.returns-then-is_empty
+returns-then-is_empty c =
+    let none : c.lent-known.result.now ≡ [] = nil_from_length _ (eqb-true _ _ (sym c.is_empty.ensures ∙ c.if-is_empty.true)) in
+    c.given_hashes.ensures (look c.args.known.now)
+    (λ row off. sym (ap (λ lean. known_to lean (look c.args.known.now) row off) c.lean.ensures) ∙ (sym (c.lent-known.ensures.known row off) ∙ ap (λ ks. look ks row off) none))
 
 pub returns-then-got-want : goal.returns-then-got-want
 returns-then-got-want c =
