@@ -27,7 +27,7 @@ use Rattle.proof_verify.specs.declared.origin.Half.TheVariants.{Covered, Needed}
 use Rattle.proof_verify.specs.declared.origin.Origin.{Origin}
 use Rattle.proof_verify.specs.declared.origin.Origin.TheVariants.{Target, Halves}
 use Rattle.proof_verify.proofs.Planned.{inside, is_covered}
-use Rattle.proof_verify.proofs.Values.{nodes_are, halves_are}
+use Rattle.proof_verify.proofs.Values.{target_cover, nodes_are, halves_are}
 
 -- halves that stand before a place are among all nodes
 pub halfwise : (os : List Origin) (leaves hashes nodes : ℕ) → length os ≡ nodes → CanEvaluate os leaves hashes → AreHalfwise os nodes hashes
@@ -42,7 +42,7 @@ halfwise os leaves hashes nodes long can i lt = wider (origin_at os i) (can i lt
     wider (Halves x y) w = (wider_half x w.0, wider_half y w.1)
 
 -- a list is that of its places by index
-by_index : (cs : List Place) (k : ℕ) → k ≤ length cs → map (place_in cs) (range_with_len 0 k) ≡ take k cs
+pub by_index : (cs : List Place) (k : ℕ) → k ≤ length cs → map (place_in cs) (range_with_len 0 k) ≡ take k cs
 by_index cs zero le = refl
 by_index cs (suc k) le =
     let lt : k < length cs = omega (arith, le) in
@@ -62,13 +62,9 @@ module _ (H : List ℕ → Digest) (n : ℕ) (ts cs : List Place) (os : List Ori
       p : Place
       p = place_in cs m
 
-      target_cover : (r o : ℕ) → has_place ts r o ≡ true → cover ts r o ≡ Some (target r o)
-      target_cover zero o it = rw it refl
-      target_cover (suc r) o it = rw it refl
-
       as_target : (o : Origin) → IsTargetAt ts (place_in cs m) o → has ts (place_in cs m) ≡ true → IsMade H n ts leaves hashes (place_in cs m) c (made_from hashes nodes o)
       as_target (Target i) w it =
-          let is : target (place_in cs m).row (place_in cs m).off ≡ c = same_Some _ c (sym (target_cover (place_in cs m).row (place_in cs m).off it) ∙ e) in
+          let is : target (place_in cs m).row (place_in cs m).off ≡ c = same_Some _ c (sym (target_cover ts (place_in cs m).row (place_in cs m).off it) ∙ e) in
           subst (λ (x : Cover). IsMade H n ts leaves hashes (place_in cs m) x (made_from hashes nodes (Target i))) is w
       as_target (Halves x y) w it = absurd w
 

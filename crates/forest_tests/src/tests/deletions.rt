@@ -1,5 +1,5 @@
 //! Proofs that were evaluated by hand.
-ghost use Rattle.std.specs.Prelude.{◌≡◌, ◌<◌};
+ghost use Rattle.std.specs.Prelude.{◌≡◌, ◌<◌, length};
 
 mod small;
 mod steps;
@@ -8,7 +8,10 @@ use crate::digest;
 use forest_place::Place;
 use forest_roots::Roots;
 use proof_shape::Targets;
-use proof_verify::{CoveredPlace, Made, ProofFault, Scratch, check_and_delete, evaluate_covered};
+use proof_verify::{
+    CoveredPlace, DeletionFault, Made, ProofFault, Scratch, check_and_delete, delete_from_roots,
+    evaluate_covered,
+};
 use std::alloc::Global;
 use std::marker::Brand;
 use std::process::Abort;
@@ -19,7 +22,31 @@ pub(crate) fn place(row: u8, off: u64) -> Place {
     Place { row, off }
 }
 
-// Reads targets, reserves the scratch for them, and checks a proof.
+pub(crate) fn same_roots<D: Digester>(left: &Roots<D>, right: &Roots<D>) -> bool {
+    left.leaves() == right.leaves() && (0..40).all(|row| left.root(row) == right.root(row))
+}
+
+// Checks a proof, and deletes from the roots alone.
+fn check_roots<D: Digester, L: Ledger>(
+    rt: &impl Abort,
+    alloc: Global,
+    roots: &mut Roots<D>,
+    targets: &Targets,
+    leaves: &[Digest],
+    hashes: &[Digest],
+    steps: &mut Steps<L>,
+) -> Option<ProofFault>
+    requires entries { targets.now.leaves ≡ roots.old.leaves }
+    requires leaves { length leaves.now ≡ length targets.now.targets }
+{
+    match delete_from_roots(alloc, roots, targets, leaves, hashes, steps) {
+        Ok(()) => None,
+        Err(DeletionFault::Proof(fault)) => Some(fault),
+        Err(DeletionFault::NoMemory) => panic!(rt; "no memory"),
+    }
+}
+
+// Reads targets, reserves the scratch for them, and checks a proof. The roots alone come to the same.
 pub(crate) fn check<D: Digester, L: Ledger>(
     rt: &impl Abort,
     alloc: Global,
@@ -38,13 +65,18 @@ pub(crate) fn check<D: Digester, L: Ledger>(
         panic!(rt; "no memory")
     };
     assert!(rt; leaves.len() == targets.len() as usize);
-    match check_and_delete(roots, &targets, leaves, hashes, &mut scratch, steps) {
+    let mut alone = roots.copy();
+    let fault_alone = check_roots(rt, alloc, &mut alone, &targets, leaves, hashes, steps);
+    let checked = match check_and_delete(roots, &targets, leaves, hashes, &mut scratch, steps) {
         Ok(changes) => match Vec::from_slice(alloc, changes.pairs()) {
             Ok(pairs) => Ok(pairs),
             Err(_) => panic!(rt; "no memory"),
         },
         Err(fault) => Err(fault),
-    }
+    };
+    assert!(rt; same_roots(&alone, roots));
+    assert!(rt; fault_alone == checked.as_ref().err().copied());
+    checked
 }
 
 // Four entries of 01, 02, 04 and 08.

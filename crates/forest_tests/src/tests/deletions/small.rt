@@ -2,7 +2,7 @@
 ghost use Rattle.std.specs.Prelude.{◌≡◌, ◌<◌};
 ghost use Rattle.forest_place.specs.Forest.{InForest};
 
-use super::check;
+use super::{check, same_roots};
 use crate::tests::plain::{Node, digest_at, nodes_of};
 use forest_place::{Place, position};
 use forest_roots::{Roots, pair};
@@ -127,10 +127,6 @@ fn roots_of<D: Digester>(rt: &impl Abort, n: u64, nodes: &[Node]) -> Roots<D> {
         }
     }
     roots
-}
-
-fn same_roots<D: Digester>(left: &Roots<D>, right: &Roots<D>) -> bool {
-    left.leaves() == right.leaves() && (0..40).all(|row| left.root(row) == right.root(row))
 }
 
 // Whether one place stands above another.
