@@ -16,7 +16,7 @@ use Rattle.forest_roots.specs.Stump.{Stump, IsStump, root_in}
 use Rattle.proof_shape.specs.Targeted.{Targeted}
 use Rattle.proof_verify.specs.declared.fault.ProofFault.{ProofFault}
 use Rattle.proof_verify.specs.declared.fault.ProofFault.TheVariants as Found
-use Rattle.proof_verify.specs.Verified.{IsProofFault, IsDeleted}
+use Rattle.proof_verify.specs.Verified.{IsProofFault, IsDeletedFrom, AreRootsAfter}
 use Rattle.leaf_record.specs.Leaf.{Leaf}
 use Rattle.leaf_record.specs.History.{somes}
 use Rattle.proof_wire.specs.BlockProof.{BlockProof, targets_of}
@@ -37,16 +37,14 @@ use Rattle.node_rules.specs.Judging.{message_steps, view_step}
 use Rattle.node_rules.proofs.Faults.{passes}
 use Rattle.node_rules.proofs.Serving.{same_fault}
 use Rattle.node_rules.proofs.Telling.{count_told, empty_told, other_told}
-use Rattle.compact_node.specs.After.{without, changes_of}
+use Rattle.compact_node.specs.After.{without}
 use Rattle.compact_node.specs.Node.{view_by, places_spent, hashes_over, hashes_spent}
 use Rattle.compact_node.specs.Judged.{IsFirst, proof_refusal, steps_over, IsFilledOut, IsClaim}
 use Rattle.std.specs.Prelude.{Result, Ok, IfErr}
 use Rattle.forest_model.specs.Cover.{IsGreatest}
 use Rattle.forest_model.specs.Evaluation.{evaluation}
-use Rattle.proof_verify.specs.Verified.{AreRootsAfter, AreChanges}
 use Rattle.block_rules.proofs.Firsts.{first_of-append}
 use Rattle.compact_node.proofs.Firsts.{first-behind}
-use Rattle.compact_node.proofs.Changes.{changes_are}
 use Rattle.compact_node.proofs.Deletions.{is_without}
 use Rattle.compact_node.proofs.Spending.{cover-none, needed-none}
 use Rattle.compact_node.proofs.Taking.{leaves-long}
@@ -67,7 +65,7 @@ filter-all : {X : Type 0} (xs : List X) → filter (λ x. true) xs ≡ xs
 filter-all [] = refl
 filter-all (x ∷ xs) = ap (λ ys. x ∷ ys) (filter-all xs)
 
-filter-none : {X : Type 0} (t : X → Bool) (xs : List X) → ((x : X) → t x ≡ false) → filter t xs ≡ []
+pub filter-none : {X : Type 0} (t : X → Bool) (xs : List X) → ((x : X) → t x ≡ false) → filter t xs ≡ []
 filter-none t [] none = refl
 filter-none t (x ∷ xs) none = rw (none x) (filter-none t xs none)
 
@@ -220,11 +218,10 @@ nothing_wrong H f (Found.HashCount want got) (wanted, given, other) = other (giv
 nothing_wrong H f (Found.EmptyRoot row) (count, greatest) = none-some greatest.beneath (sym (cover-none row (root_off f.leaves row)) ∙ greatest.covered)
 nothing_wrong H f (Found.RootDiffers row had computed) (count, never, greatest, was, is) = none-some greatest.beneath (sym (cover-none row (root_off f.leaves row)) ∙ greatest.covered)
 
--- the steps on the message pass, and this is left of the roots, with these changes
-pub record IsTaken (H : List ℕ → Digest) (text : Leaf → List ℕ) (v : View) (f : Stump) (ext : List Outside) (handed : Handed) (pairs : List (Place × Digest)) (g : Stump) : Type 0 where
+-- the steps on the message pass, and this is left of the roots
+pub record IsTaken (H : List ℕ → Digest) (text : Leaf → List ℕ) (v : View) (f : Stump) (ext : List Outside) (handed : Handed) (g : Stump) : Type 0 where
   pub passes : first_of (steps_over H text v ext handed) ≡ None
   pub roots : g ≡ without H f (places_spent f.leaves handed) (hashes_spent H v handed)
-  pub changes : pairs ≡ changes_of H f.leaves (places_spent f.leaves handed) (hashes_spent H v handed)
 
 module _ (H : List ℕ → Digest) (text : Leaf → List ℕ) (f : Stump) (hs : List (Place × Digest)) (ext : List Outside) (found : List FoundOutput) (t : Targeted) (leaves hashes : List Digest) where
   abbrev view : View
@@ -242,6 +239,10 @@ module _ (H : List ℕ → Digest) (text : Leaf → List ℕ) (f : Stump) (hs : 
   claim_hashes nothing c = c.claims.2
   claim_hashes (unread why) c = absurd c.claims
   claim_hashes (read m) c = read_hashes H text f hs ext m t leaves hashes c.claims
+
+  -- what holds of the targets and the hashes of a claim holds of what is spent
+  pub claim_is : (handed : Handed) → IsClaimed handed → (X : List Place → List Digest → Type 0) → X t.targets hashes → X (places_spent f.leaves handed) (hashes_spent H view handed)
+  claim_is handed c X x = subst (λ ys. X (places_spent f.leaves handed) ys) (claim_hashes handed c) (subst (λ (y : Targeted). X y.targets hashes) (claim_targets handed c) x)
 
   pub claim_leaves : (handed : Handed) → IsClaimed handed → length leaves ≡ length t.targets
   claim_leaves nothing c = ap length c.claims.1 ∙ sym (ap (λ (x : Targeted). length x.targets) c.claims.0)
@@ -271,15 +272,11 @@ module _ (H : List ℕ → Digest) (text : Leaf → List ℕ) (f : Stump) (hs : 
       ∙ ap (λ z. option_or z None) (ap (option_map Why.Proof) (read_passes H text f hs ext m t leaves hashes c.claims a))
 
   -- an accepted proof deletes what was handed in
-  pub claim_taken : (handed : Handed) → IsClaimed handed → (pairs : List (Place × Digest)) (g : Stump) → IsStump f → IsStump g → IsDeleted H f t.targets leaves hashes pairs g → IsTaken H text view f ext handed pairs g
-  claim_taken handed c pairs g s u d =
-      let ts = claim_targets handed c in
-      let same = λ (X : List Place → List Digest → Type 0) (x : X t.targets hashes). subst (λ ys. X (places_spent f.leaves handed) ys) (claim_hashes handed c) (subst (λ (y : Targeted). X y.targets hashes) ts x) in
-      record {
-        passes = claim_passes handed c d.accepted;
-        roots = is_without H f (places_spent f.leaves handed) (hashes_spent H view handed) g s u (same (λ xs ys. AreRootsAfter H f xs ys g) d.roots);
-        changes = changes_are H f.leaves (places_spent f.leaves handed) (hashes_spent H view handed) pairs (same (λ xs ys. AreChanges H f.leaves xs ys pairs) d.changes);
-      }
+  pub claim_taken : (handed : Handed) → IsClaimed handed → (g : Stump) → IsStump f → IsStump g → IsDeletedFrom H f t.targets leaves hashes g → IsTaken H text view f ext handed g
+  claim_taken handed c g s u d = record {
+    passes = claim_passes handed c d.accepted;
+    roots = is_without H f (places_spent f.leaves handed) (hashes_spent H view handed) g s u (claim_is handed c (λ xs ys. AreRootsAfter H f xs ys g) d.roots);
+  }
 
   -- a step for each leaf, and two a row
   pub claim_steps : (handed : Handed) → IsClaimed handed → (start before after : ℕ) → before ≤ start + length ext → after ≤ before + 2 * (length t.targets * rows t.leaves) →

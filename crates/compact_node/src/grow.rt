@@ -14,6 +14,7 @@ ghost use Rattle.compact_node.specs.Judged.{watched_leaf};
 ghost use Rattle.compact_node.specs.Marked.{GoesOn};
 ghost use Rattle.compact_node.specs.Pending.{pending};
 
+use crate::unwatched::{grow_unwatched, watches_nothing};
 use block_rules::Spends;
 use cache_update::{Mark, after_add, after_delete, begin};
 use forest_roots::{Joins, Roots};
@@ -177,6 +178,9 @@ pub(crate) fn grow<D: Digester, L: Ledger>(
     ensures held_room { cache.old.parts.held_room ≤ cache.new.parts.held_room }
     ensures steps { steps.new ≤ steps.old + 2 * length spends.now.new + 40 }
 {
+    if watches_nothing(cache) {
+        return grow_unwatched(alloc, cache, roots, room, spends, steps);
+    }
     let leaves = watched_in(alloc, cache.watch(), spends)?;
     let watched = leaves.len() as u64;
     let mut mark = begin(alloc, cache, targets, spends.new_count(), watched)?;

@@ -1,0 +1,82 @@
+//! What a block leaves of a node that watches nothing: its roots alone.
+ghost use Rattle.std.specs.Prelude.{◌≡◌, ◌+◌, ◌*◌, ◌<◌, ◌≤◌, ◌^◌, [], length, map, count_ones, IfOk, OnOk};
+ghost use Rattle.std.specs.Bool.{OnTrue};
+ghost use Rattle.leaf_record.specs.Leaf.{leaf_text};
+ghost use Rattle.leaf_cache.specs.Parted.{HasNothing, HaveSameLists};
+ghost use Rattle.cache_update.specs.Marks.{Fits, kept_back, held_back};
+ghost use Rattle.compact_node.specs.After.{with_leaf, with_leaves};
+
+use block_rules::Spends;
+use cache_update::{Mark, unchanged};
+use forest_roots::Roots;
+use leaf_cache::Cache;
+use leaf_record::{LeafBuf, leaf_digest};
+use std::alloc::Global;
+use std::sync::ledger::Ledger;
+use uo_base::NoMemory;
+use uo_digest::{Digest, Digester, Steps};
+
+// Whether no script is watched, and so nothing is kept or held.
+pub(crate) fn watches_nothing<D>(cache: &Cache<D>) -> bool
+    ensures { OnTrue result ((cache.now.watch ≡ []) × HasNothing cache.now.parts) }
+{
+    cache.watch().scripts() == 0 && cache.kept().is_empty() && cache.seen().held.is_empty()
+}
+
+// Adds an entry.
+fn push<D: Digester, L: Ledger>(roots: &mut Roots<D>, digest: Digest, steps: &mut Steps<L>)
+    requires { roots.old.leaves + 1 < 2 ^ 40 }
+    ensures roots { roots.new ≡ with_leaf D.digest_of roots.old digest }
+    ensures steps { steps.new + count_ones roots.new.leaves ≤ steps.old + 1 + count_ones roots.old.leaves }
+{
+    let _before = roots.leaves();
+    roots.push(digest, steps);
+    // That these are roots again.
+    let _after = roots.leaves();
+}
+
+// Adds the block's new records, in their order.
+fn push_all<D: Digester, L: Ledger>(
+    roots: &mut Roots<D>,
+    room: &mut LeafBuf<D>,
+    spends: &Spends<'_>,
+    steps: &mut Steps<L>,
+)
+    requires { roots.old.leaves + length spends.now.new < 2 ^ 40 }
+    ensures roots { roots.new ≡ with_leaves D.digest_of roots.old (map (λ leaf. D.digest_of (leaf_text leaf)) spends.now.new) }
+    ensures steps { steps.new ≤ steps.old + 2 * length spends.now.new + 40 }
+{
+    let _count = roots.leaves();
+    for i in 0..spends.new_count() {
+        let leaf = spends.new_output(i);
+        let digest = leaf_digest::<D, L>(room, &leaf, steps);
+        push(roots, digest, steps);
+    }
+}
+
+/// The roots behind a block, whose new records come: of these none is watched, and nothing is kept or held. The mark gives the cache
+/// back. The memory is taken before the first change.
+pub(crate) fn grow_unwatched<D: Digester, L: Ledger>(
+    alloc: Global,
+    cache: &mut Cache<D>,
+    roots: &mut Roots<D>,
+    room: &mut LeafBuf<D>,
+    spends: &Spends<'_>,
+    steps: &mut Steps<L>,
+) -> Result<Mark, NoMemory>
+    requires nothing { HasNothing cache.old.parts }
+    requires few { roots.old.leaves + length spends.now.new < 2 ^ 40 }
+    ensures roots { OnOk result (roots.new ≡ with_leaves D.digest_of roots.old (map (λ leaf. D.digest_of (leaf_text leaf)) spends.now.new)) }
+    ensures lists { HaveSameLists cache.new.parts cache.old.parts }
+    ensures watch { cache.new.watch ≡ cache.old.watch }
+    ensures fits { IfOk result (λ mark. Fits mark cache.new.parts) }
+    ensures kept_back { IfOk result (λ mark. kept_back mark cache.new.parts.kept ≡ cache.old.parts.kept) }
+    ensures held_back { IfOk result (λ mark. held_back mark cache.new.parts.held ≡ cache.old.parts.held) }
+    ensures kept_room { cache.old.parts.kept_room ≤ cache.new.parts.kept_room }
+    ensures held_room { cache.old.parts.held_room ≤ cache.new.parts.held_room }
+    ensures steps { steps.new ≤ steps.old + 2 * length spends.now.new + 40 }
+{
+    let mark = unchanged(alloc, cache)?;
+    push_all(roots, room, spends, steps);
+    Ok(mark)
+}
