@@ -161,14 +161,14 @@ impl<D: Digester> Roots<D> {
         ensures few { steps.new + count_ones self.new.leaves ≤ steps.old + 1 + count_ones self.old.leaves }
     {
         let mut carried = digest;
-        let mut row: u8 = 0;
+        let mut row = 0;
         while (self.count >> row) % 2 == 1 {
-            let left = self.slots[row as usize];
-            self.slots[row as usize] = None;
+            let left = self.slots[row];
+            self.slots[row] = None;
             carried = join_root::<D, L>(left, carried, steps);
             row += 1;
         }
-        self.slots[row as usize] = Some(carried);
+        self.slots[row] = Some(carried);
         self.count += 1;
     }
 }

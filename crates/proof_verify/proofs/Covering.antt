@@ -9,7 +9,6 @@ use Rattle.std.proofs.lemmas.List.FromFn.{get_or-map-range_with_len, length-map-
 use Rattle.std.proofs.lemmas.Option.{same_Some}
 use Rattle.uo_digest.specs.declared.digest.Digest.{Digest}
 use Rattle.forest_place.specs.declared.place.Place.{Place}
-use Rattle.forest_place.specs.Places.{has_place}
 use Rattle.forest_place.proofs.Listed.{place}
 use Rattle.forest_model.specs.Cover.{Cover, target, cover, need, HasShape}
 use Rattle.forest_place.specs.Places.{place_in}

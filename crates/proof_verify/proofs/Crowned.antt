@@ -1,10 +1,9 @@
 -- The roots that a sweep comes to.
-use Rattle.std.proofs.Common.{◌≡◌, ℕ, ◌+◌, ◌*◌, ◌^◌, ◌<◌, ◌≤◌, true, false, not, List, [], ◌∷◌, ◌++◌, length, set, take, replicate, Option, Some, None, is_some, refl, sym, ap, ◌∙◌, subst, ⊎_elim, inl, inr, arith}
-use Rattle.std.specs.Prelude.{◌⊎◌, count_by, unwrap_or}
+use Rattle.std.proofs.Common.{◌≡◌, ℕ, ◌+◌, ◌^◌, ◌<◌, ◌≤◌, true, false, List, [], ◌∷◌, ◌++◌, length, set, replicate, Option, Some, None, is_some, sym, ap, ◌∙◌, subst, ⊎_elim, arith}
+use Rattle.std.specs.Prelude.{unwrap_or}
 use Rattle.std.proofs.lemmas.Bool.{cases_lt, cases_eq, cases_Bool, true≢false}
 use Rattle.std.proofs.lemmas.Option.{none-some, same_Some}
 use Rattle.std.proofs.lemmas.List.{length-set, get_or-set_same, get_or-set_other, length-replicate, get_or-replicate}
-use Rattle.std.proofs.lemmas.List.Sums.{count_by_more_yes, count_by_more_no, length-filter}
 use Rattle.std.proofs.Math.ListN.{get_or-append, length-append}
 use Rattle.std.proofs.Math.Seq.{get_or-append_seam}
 use Rattle.uo_digest.specs.declared.digest.Digest.{Digest}
@@ -13,11 +12,11 @@ use Rattle.forest_place.specs.Forest.{is_slot, root_off}
 use Rattle.forest_place.specs.Places.{place_in}
 use Rattle.forest_place.proofs.Listed.{place}
 use Rattle.forest_place.proofs.Parts.{InForest-root, is_root-root_off, root_off-is_root}
-use Rattle.forest_place.proofs.Positions.{row_small, slot_small}
-use Rattle.forest_model.specs.Cover.{Cover, given, cover, slot_cover}
+use Rattle.forest_place.proofs.Positions.{slot_small}
+use Rattle.forest_model.specs.Cover.{given, cover}
 use Rattle.forest_model.specs.Evaluation.{beside, hash_of, nothing_known}
 use Rattle.forest_model.proofs.Covers.{some_from_test}
-use Rattle.proof_shape.specs.Survey.{IsCoverOf, is_top, has}
+use Rattle.proof_shape.specs.Survey.{IsCoverOf, is_top}
 use Rattle.proof_shape.proofs.Longer.{place_where}
 use Rattle.proof_verify.specs.Origins.{top_at}
 use Rattle.proof_verify.specs.Nodes.{node_of_cover, node_at}

@@ -1,8 +1,7 @@
 -- A sweep over the covered places, one place on.
-use Rattle.std.proofs.Common.{◌≡◌, ℕ, suc, ◌+◌, ◌*◌, ◌%◌, ◌^◌, ◌<◌, ◌≤◌, true, false, not, List, [], ◌∷◌, ◌++◌, length, get_or, take, drop, filter, replicate, Option, None, refl, sym, ap, ◌∙◌, subst, ⊎_elim, inl, inr, arith}
+use Rattle.std.proofs.Common.{◌≡◌, ℕ, suc, ◌+◌, ◌*◌, ◌%◌, ◌^◌, ◌<◌, ◌≤◌, true, false, not, List, [], ◌∷◌, ◌++◌, length, get_or, take, drop, replicate, Option, None, refl, sym, ap, ◌∙◌, subst, ⊎_elim, inl, inr, arith}
 use Rattle.std.specs.Prelude.{◌⊎◌, ◌≢◌, ◌==◌, count_by, cond}
 use Rattle.std.proofs.lemmas.Bool.{cases_lt, cases_eq}
-use Rattle.std.proofs.lemmas.List.{take_all}
 use Rattle.std.proofs.lemmas.List.Sums.{count_by_more_yes, count_by_more_no, length-filter, sum_by-take-drop}
 use Rattle.uo_digest.specs.declared.digest.Digest.{Digest}
 use Rattle.forest_place.specs.declared.place.Place.{Place}
@@ -14,10 +13,9 @@ use Rattle.forest_model.specs.Cover.{need, HasShape}
 use Rattle.proof_shape.specs.Survey.{IsCoverOf, pos, is_top, has}
 use Rattle.proof_shape.specs.Targeted.{Targeted, IsTargeted}
 use Rattle.proof_shape.proofs.Faulty.{position_at}
-use Rattle.proof_verify.specs.Origins.{rank_of}
-use Rattle.proof_verify.specs.Nodes.{node_at, digest_in}
+use Rattle.proof_verify.specs.Nodes.{digest_in}
 use Rattle.proof_verify.specs.Verified.{above_targets}
-use Rattle.proof_verify.specs.Sweep.{place_node, mark_in, AreMarks, IsPaired, IsInnerFrom, IsSkipped, CanJoin, AreTwoJoined, IsOneJoined, IsCrownWith, IsQueue, IsFront, IsNext, IsCrown, IsSweeping}
+use Rattle.proof_verify.specs.Sweep.{place_node, mark_in, AreMarks, IsPaired, IsInnerFrom, IsSkipped, CanJoin, AreTwoJoined, IsOneJoined, IsCrownWith, IsQueue, IsFront, IsNext, IsSweeping}
 use Rattle.proof_verify.specs.declared.marks.Mark.{Mark}
 use Rattle.proof_verify.specs.declared.node.Node.{Node}
 use Rattle.proof_verify.proofs.Links.{same_place}

@@ -1,8 +1,7 @@
-use Rattle.std.proofs.Common.{◌≡◌, ◌+◌, ◌*◌, ◌<◌, ◌≤◌, ℕ, not, List, length, take, sym, ap, ◌∙◌, subst, arith}
+use Rattle.std.proofs.Common.{◌≡◌, ◌+◌, ◌*◌, ◌≤◌, not, length, take, subst, arith}
 use Rattle.std.specs.Prelude.{count_by}
 use Rattle.proof_shape.specs.Survey.{has}
-use Rattle.proof_verify.specs.Judged.{AreSlotTops, AreTopNodes}
-use Rattle.proof_verify.specs.Sweep.{IsSweeping, IsCrown, place_node}
+use Rattle.proof_verify.specs.Sweep.{IsCrown, place_node}
 use Rattle.proof_verify.proofs.Swept.{IsMade, swept_of, sweep_begins, place_inside, it_is, made_target, none_is, inner_there, joinable, made_inner, swept_more, few_whole, few_target, few_inner}
 use Rattle.proof_verify.proofs.Crowned.{crown_tops, crown_nodes}
 use Rattle.proof_verify.proofs.deletion.crown_of.Goals as goal

@@ -1,4 +1,4 @@
-use Rattle.std.proofs.Common.{◌≡◌, ◌^◌, ◌<◌, length, sym, ap, ◌∙◌, subst, arith}
+use Rattle.std.proofs.Common.{◌≡◌, ◌^◌, ◌<◌, length, ap, subst, arith}
 use Rattle.forest_model.specs.Cover.{need, HasShape}
 use Rattle.proof_verify.specs.Judged.{AreSlotTops, AreTopNodes, IsNoneOther, IsFirstOther, ArePutRoots}
 use Rattle.proof_verify.specs.declared.fault.DeletionFault.TheVariants.{Proof}

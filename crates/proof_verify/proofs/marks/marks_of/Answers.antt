@@ -1,10 +1,10 @@
-use Rattle.std.proofs.Common.{◌≡◌, ℕ, List, map, rules, length, sym, ap, subst}
+use Rattle.std.proofs.Common.{◌≡◌, ℕ, List, map, rules, length, sym, subst}
 use Rattle.std.specs.List.{range_with_len}
 use Rattle.std.specs.List.Sorted.{IsPermutation}
 use Rattle.std.proofs.lemmas.List.Sorted.{IsNonDecreasingBy-from_sort, answers_always}
 use Rattle.forest_place.specs.declared.place.Place.{Place}
 use Rattle.forest_place.specs.Places.{AreWithin}
-use Rattle.proof_verify.specs.Sweep.{AreMarks, mark_of}
+use Rattle.proof_verify.specs.Sweep.{mark_of}
 use Rattle.proof_verify.specs.declared.marks.Mark.{Mark}
 use Rattle.proof_verify.proofs.Marked.{marks_sorted}
 use Rattle.proof_verify.proofs.marks.marks_of.Goals as goal
