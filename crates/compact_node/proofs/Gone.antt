@@ -1,35 +1,26 @@
 -- What a level holds where targets are gone.
-use Rattle.std.proofs.Common.{◌≡◌, ℕ, false, ◌||◌, List, [], Option, is_some, sym, ap, ap₂, ◌∙◌, subst}
+use Rattle.std.proofs.Common.{◌≡◌, ℕ, List, [], sym, ap, ◌∙◌, subst}
 use Rattle.uo_digest.specs.declared.digest.Digest.{Digest}
 use Rattle.forest_place.specs.declared.place.Place.{Place}
-use Rattle.forest_model.specs.Cover.{Cover, is_needed}
 use Rattle.forest_roots.specs.Stump.{Stump}
 use Rattle.proof_verify.specs.Verified.{IsDeleted, IsDeletedFrom}
 use Rattle.cache_model.specs.declared.kept.Kept.{Kept}
-use Rattle.cache_model.specs.Known.{is_known}
 use Rattle.cache_model.specs.Lists.{leaf_places, moved_leaves}
-use Rattle.cache_model.specs.Steps.{put_all, held_deleted}
+use Rattle.cache_model.specs.Steps.{held_deleted}
 use Rattle.cache_update.specs.Marks.{pairs_within}
+use Rattle.cache_update.proofs.Idle.{none_deleted}
 use Rattle.compact_node.specs.After.{changes_of}
 use Rattle.compact_node.specs.Node.{LevelState}
 use Rattle.compact_node.specs.Judged.{AreGone}
 use Rattle.compact_node.proofs.Changes.{changes_are, within_all}
-use Rattle.compact_node.proofs.Claiming.{filter-none}
-use Rattle.compact_node.proofs.Spending.{cover-none, needed-none}
 
 -- the same roots, leaves and hashes
 pub as_given : (P : Stump → List Digest → List Digest → Type 0) (f f' : Stump) (leaves leaves' hashes hashes' : List Digest) → f' ≡ f → leaves' ≡ leaves → hashes' ≡ hashes → P f' leaves' hashes' → P f leaves hashes
 as_given P f f' leaves leaves' hashes hashes' roots a b d = subst (λ x. P x leaves hashes) roots (subst (λ x. P f' x hashes) a (subst (λ x. P f' leaves' x) b d))
 
--- no place is known for no entry
-unknown : (n : ℕ) (p : Place) → is_known n [] p ≡ false
-unknown n p = ap (λ (c : Option Cover). is_some c || is_needed n [] p) (cover-none p.row p.off) ∙ needed-none n p.row p.off
-
--- so whatever changed, nothing is held where nothing was kept or held
+-- whatever changed, nothing is held where nothing was kept or held
 pub nothing_held : (n : ℕ) (ts : List Place) (pairs : List (Place × Digest)) (ks : List Kept) (hs : List (Place × Digest)) → ks ≡ [] → hs ≡ [] → held_deleted n ts pairs (leaf_places (moved_leaves n ts ks)) hs ≡ []
-nothing_held n ts pairs ks hs kept held =
-    ap₂ (λ xs ys. held_deleted n ts pairs (leaf_places (moved_leaves n ts xs)) ys) kept held
-    ∙ ap (λ xs. put_all xs []) (filter-none (λ (x : Place × Digest). is_known n [] x.0) pairs (λ x. unknown n x.0))
+nothing_held n ts pairs ks hs kept held = sym (none_deleted n ts pairs ks hs kept held) ∙ held
 
 module _ (H : List ℕ → Digest) (l : LevelState) (ts : List Place) (leaves hashes : List Digest) (pairs : List (Place × Digest)) (g : Stump) where
   -- by what changed
