@@ -7,7 +7,7 @@ use Rattle.std.proofs.lemmas.List.Sorted.{list_any-IsPermutation, IsPermutation-
 use Rattle.std.proofs.lemmas.List.Folds.{list_any_at}
 use Rattle.std.proofs.lemmas.Bool.{cases_Bool, cases_lt, cases_eq, cases_order, false≢true, or_cases, or_left, or_right, or_parts}
 use Rattle.std.proofs.lemmas.Option.{none-some, same_Some}
-use Rattle.std.proofs.lemmas.List.{take_more, append-nil, length-map}
+use Rattle.std.proofs.lemmas.List.{take_more, append-nil, length-append, length-map}
 use Rattle.std.proofs.lemmas.List.Elements.{filter_map-append}
 use Rattle.forest_place.specs.declared.place.Place.{Place}
 use Rattle.forest_place.specs.Forest.{InForest, is_root, sibling_off}
@@ -78,6 +78,31 @@ kept_some f xs i d old new p h e g m = m ∙ (ap (λ l. l ++ p ∷ []) e ∙ (ap
 
 pub kept_none : (f : Place → Option Place) (xs : List Place) (i : ℕ) (d : Place) (old : List Place) → i < length xs → old ≡ filter_map f (take i xs) → f (get_or xs i d) ≡ None → old ≡ filter_map f (take (i + 1) xs)
 kept_none f xs i d old h e g = e ∙ (sym (append-nil (filter_map f (take i xs))) ∙ (ap (λ o. filter_map f (take i xs) ++ cons_option o []) (sym g) ∙ sym (kept_more f xs i d h)))
+
+-- and how many that are
+counted_more : (f : Place → Option Place) (xs : List Place) (i : ℕ) (d : Place) (old : ℕ) → i < length xs → old ≡ length (filter_map f (take i xs)) → length (filter_map f (take (i + 1) xs)) ≡ old + length (cons_option (f (get_or xs i d)) [])
+counted_more f xs i d old h e =
+    ap length (kept_more f xs i d h) ∙ (length-append (filter_map f (take i xs)) (cons_option (f (get_or xs i d)) []) ∙ ap (λ k. k + length (cons_option (f (get_or xs i d)) [])) (sym e))
+
+pub counted_some : (f : Place → Option Place) (xs : List Place) (i : ℕ) (d : Place) (old : ℕ) → i < length xs → old ≡ length (filter_map f (take i xs)) → is_some (f (get_or xs i d)) ≡ true → old + 1 ≡ length (filter_map f (take (i + 1) xs))
+counted_some f xs i d old h e some =
+    let more = counted_more f xs i d old h e in
+    let last = one (f (get_or xs i d)) some in
+    omega (arith, more, last)
+  where
+    one : (o : Option Place) → is_some o ≡ true → length (cons_option o []) ≡ 1
+    one (Some p) e = refl
+    one None e = absurd (false≢true e)
+
+pub counted_none : (f : Place → Option Place) (xs : List Place) (i : ℕ) (d : Place) (old : ℕ) → i < length xs → old ≡ length (filter_map f (take i xs)) → is_some (f (get_or xs i d)) ≡ false → old ≡ length (filter_map f (take (i + 1) xs))
+counted_none f xs i d old h e none =
+    let more = counted_more f xs i d old h e in
+    let last = empty (f (get_or xs i d)) none in
+    omega (arith, more, last)
+  where
+    empty : (o : Option Place) → is_some o ≡ false → length (cons_option o []) ≡ 0
+    empty (Some p) e = absurd (false≢true (sym e))
+    empty None e = refl
 
 -- places whose positions rise ascend
 pub ascending_from_rises : (n : ℕ) (cs : List Place) → AreWithin n cs → Rises n cs → IsAscending cs

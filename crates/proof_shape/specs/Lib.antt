@@ -7,3 +7,4 @@ pub mod Laws
 pub mod Found
 pub mod Swept
 pub mod Moves
+pub mod Paths

@@ -10,6 +10,7 @@ mod locate;
 mod moves;
 mod need;
 mod order;
+mod paths;
 mod shape;
 mod survey;
 mod targets;
@@ -17,4 +18,5 @@ mod wrong;
 
 pub use fault::ShapeFault;
 pub use moves::child_of;
+pub use paths::TargetPaths;
 pub use targets::Targets;

@@ -26,14 +26,36 @@ fn needed_beside(n: u64, covered: &[Place], m: usize) -> Option<Place>
     }
 }
 
-// The siblings that are needed beside all covered places.
-pub(crate) fn needed_of(alloc: Global, n: u64, covered: &[Place]) -> Result<Vec<Place>, AllocError>
+// How many siblings are needed beside all covered places.
+pub(crate) fn needed_count(n: u64, covered: &[Place]) -> usize
     requires small { n < 2 ^ 40 }
     requires within { AreWithin n covered.now }
     requires rises { Rises n covered.now }
+    ensures { result ≡ length (needed_in n covered.now) }
+{
+    let mut count = 0;
+    for i in 0..covered.len() {
+        if needed_beside(n, covered, i).is_some() {
+            count += 1;
+        }
+    }
+    count
+}
+
+// The siblings that are needed beside all covered places, where there are so many.
+pub(crate) fn needed_of(
+    alloc: Global,
+    n: u64,
+    covered: &[Place],
+    count: usize,
+) -> Result<Vec<Place>, AllocError>
+    requires small { n < 2 ^ 40 }
+    requires within { AreWithin n covered.now }
+    requires rises { Rises n covered.now }
+    requires count { count ≡ length (needed_in n covered.now) }
     ensures { IfOk result (λ v. v.items ≡ needed_in n covered.now) }
 {
-    let mut needed = Vec::with_capacity(alloc, covered.len())?;
+    let mut needed = Vec::with_capacity(alloc, count)?;
     for m in 0..covered.len() {
         if let Some(place) = needed_beside(n, covered, m) {
             needed.push(place)?;

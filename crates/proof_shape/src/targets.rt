@@ -1,16 +1,13 @@
 //! The targets of a deletion.
-ghost use Rattle.std.specs.Prelude.{◌≡◌, ◌↔◌, ◌⊎◌, ◌^◌, ◌<◌, [], MatchResult, length, true};
+ghost use Rattle.std.specs.Prelude.{◌≡◌, ◌↔◌, ◌⊎◌, ◌^◌, ◌<◌, [], IfOk, MatchResult, length, true};
 
-use crate::ShapeFault;
 use crate::leaving::{gone_among, last_gone};
-use crate::locate::locate;
 use crate::moves::moved_from;
 use crate::need::needed_of;
-use crate::order::{positions_of, sorted_positions};
-use crate::survey::covered_places;
-use crate::wrong::{fault_at, sound_length};
+use crate::order::positions_of;
+use crate::{ShapeFault, TargetPaths};
 use forest_place::Place;
-use std::alloc::Global;
+use std::alloc::{AllocError, Global};
 use std::marker::Model;
 
 /// Targets of a deletion: different places of a forest, of which none stands above another.
@@ -51,6 +48,25 @@ impl Targets {
     ghost use Rattle.proof_shape.specs.Survey.{IsCoverOf};
     ghost use Rattle.proof_shape.specs.Targeted.{IsTargeted, IsBeneathTarget, NoneGonePast, IsGoneAt};
 
+    /// What these targets tell of all other places. Their lists are taken over, and let go where there is no memory.
+    pub fn of(alloc: Global, paths: TargetPaths) -> Result<Targets, AllocError>
+        ensures { IfOk result (λ t. t ≡ paths) }
+    {
+        let (count, list, covered, sorted, asked) = paths.into_parts();
+        let needed = needed_of(alloc, count, &covered, asked)?;
+        let numbers = positions_of(alloc, count, &covered)?;
+        let (among, kept) = gone_among(alloc, count, &list, sorted, &numbers, &needed)?;
+        Ok(Targets {
+            count,
+            list,
+            needed,
+            covered,
+            numbers,
+            among,
+            kept,
+        })
+    }
+
     /// The targets at these positions of the forest over `n` entries. A fault names items of the list by `u32`, so the list has
     /// fewer than 2^32.
     pub fn new(alloc: Global, n: u64, positions: &[u64]) -> Result<Targets, ShapeFault>
@@ -58,28 +74,8 @@ impl Targets {
         requires few { length positions.now < 2 ^ 32 }
         ensures { MatchResult result (λ t. (t.leaves ≡ n) × AreTargets n positions.now t.targets) (λ e. IsShapeFault n positions.now e) }
     {
-        let places = locate(alloc, n, positions)?;
-        let sorted = sorted_positions(alloc, n, &places)?;
-        let (covered, shaped) = covered_places(alloc, n, &places, &sorted)?;
-        let sound = sound_length(alloc, n, &places, shaped)?;
-        if sound < places.len() {
-            return Err(fault_at(n, &places, sound));
-        }
-        if sound < positions.len() {
-            return Err(ShapeFault::Outside(sound as u32));
-        }
-        let needed = needed_of(alloc, n, &covered)?;
-        let numbers = positions_of(alloc, n, &covered)?;
-        let (among, kept) = gone_among(alloc, n, &places, sorted, &numbers, &needed)?;
-        Ok(Targets {
-            count: n,
-            list: places,
-            needed,
-            covered,
-            numbers,
-            among,
-            kept,
-        })
+        let paths = TargetPaths::new(alloc, n, positions)?;
+        Ok(Targets::of(alloc, paths)?)
     }
 
     /// No target, in the forest over `n` entries. It takes no memory.
