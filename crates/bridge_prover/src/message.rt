@@ -17,7 +17,7 @@ use bridge_forest::Forest;
 use cache_update::is_known;
 use forest_place::{Place, position};
 use output_index::Outputs;
-use proof_shape::{ShapeFault, Targets};
+use proof_shape::{ShapeFault, TargetPaths, Targets};
 use proof_wire::Message;
 use std::alloc::Global;
 use uo_base::NoMemory;
@@ -74,6 +74,22 @@ fn put_hash(
     Ok(())
 }
 
+// The targets at these positions, with their paths alone.
+fn paths_at(alloc: Global, n: u64, positions: &[u64]) -> Result<TargetPaths, NoMemory>
+    requires few { n < 2 ^ 40 }
+    requires short { length positions.now < 2 ^ 32 }
+    requires shape { shape_fault n [] 0 (map (place_at n) positions.now) ≡ None }
+    ensures { IfOk result (λ t. (t.leaves ≡ n) × (map (place_at n) positions.now ≡ map Some t.targets)) }
+{
+    match TargetPaths::new(alloc, n, positions) {
+        Ok(paths) => Ok(paths),
+        Err(ShapeFault::NoMemory) => Err(NoMemory),
+        Err(ShapeFault::Outside(_)) => unreachable!(),
+        Err(ShapeFault::Repeated(..)) => unreachable!(),
+        Err(ShapeFault::Beneath(..)) => unreachable!(),
+    }
+}
+
 // The targets at these positions.
 pub(crate) fn targets_at(alloc: Global, n: u64, positions: &[u64]) -> Result<Targets, NoMemory>
     requires few { n < 2 ^ 40 }
@@ -81,13 +97,8 @@ pub(crate) fn targets_at(alloc: Global, n: u64, positions: &[u64]) -> Result<Tar
     requires shape { shape_fault n [] 0 (map (place_at n) positions.now) ≡ None }
     ensures { IfOk result (λ t. (t.leaves ≡ n) × (map (place_at n) positions.now ≡ map Some t.targets)) }
 {
-    match Targets::new(alloc, n, positions) {
-        Ok(targets) => Ok(targets),
-        Err(ShapeFault::NoMemory) => Err(NoMemory),
-        Err(ShapeFault::Outside(_)) => unreachable!(),
-        Err(ShapeFault::Repeated(..)) => unreachable!(),
-        Err(ShapeFault::Beneath(..)) => unreachable!(),
-    }
+    let paths = paths_at(alloc, n, positions)?;
+    Ok(Targets::of(alloc, paths)?)
 }
 
 // Shows these live entries, and what proves them, but for the hashes that are known where the kept entries stand at these places.
@@ -110,10 +121,9 @@ pub(crate) fn message_of<D: Digester>(
     for number in numbers {
         put_spend::<D>(&mut message, &mut positions, forest, outputs, *number)?;
     }
-    let targets = targets_at(alloc, forest.leaves(), &positions)?;
-    let (covered, _) = targets.covered();
-    let asked = targets.needed();
-    let found = forest.digests_at(alloc, covered, asked)?;
+    let paths = paths_at(alloc, forest.leaves(), &positions)?;
+    let asked = paths.needed(alloc)?;
+    let found = forest.digests_at(alloc, paths.covered(), &asked)?;
     for i in 0..asked.len() {
         put_hash(&mut message, kept, asked[i], found[i])?;
     }

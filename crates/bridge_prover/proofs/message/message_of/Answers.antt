@@ -18,15 +18,15 @@ use Rattle.bridge_prover.proofs.message.message_of.Goals as goal
 pub loop-number-preserved : goal.loop-number-preserved
 loop-number-preserved g c = shown_more _ _ c.args.lean c.args.numbers.now c.loop-number.number-index c.loop-number.message c.put_spend.new.message c.loop-number.positions.items c.put_spend.new.positions.items c.loop-number-test.true c.loop-number.invariant c.in_ok-put_spend.ensures.message c.in_ok-put_spend.ensures.positions
 
-pub targets_at-requires-clause-shape : goal.targets_at-requires-clause-shape
-targets_at-requires-clause-shape g c =
+pub paths_at-requires-clause-shape : goal.paths_at-requires-clause-shape
+paths_at-requires-clause-shape g c =
     let shown = shown_all c.args.forest.now.entries c.args.outputs.now c.args.lean c.args.numbers.now c.loop-number.number-index c.loop-number.message c.loop-number.positions.items (omega (arith, c.loop-number-test.false)) c.loop-number.invariant in
     let at = c.deref.ensures.value ∙ shown.positions in
     subst (λ n. shape_fault n [] 0 (map (place_at n) c.deref.result.now) ≡ None) (sym c.leaves.ensures.is)
     (ap (λ xs. shape_fault (length c.args.forest.now.entries) [] 0 (map (place_at (length c.args.forest.now.entries)) xs)) at ∙ c.requires.shape)
 
-pub targets_at-requires-clause-short : goal.targets_at-requires-clause-short
-targets_at-requires-clause-short g c =
+pub paths_at-requires-clause-short : goal.paths_at-requires-clause-short
+paths_at-requires-clause-short g c =
     let es = c.args.forest.now.entries in
     let shown = shown_all es c.args.outputs.now c.args.lean c.args.numbers.now c.loop-number.number-index c.loop-number.message c.loop-number.positions.items (omega (arith, c.loop-number-test.false)) c.loop-number.invariant in
     let at = ap length (c.deref.ensures.value ∙ shown.positions) in
@@ -40,16 +40,16 @@ loop-i-init g c = (shown_all c.args.forest.now.entries c.args.outputs.now c.args
 pub put_hash-requires : goal.put_hash-requires
 put_hash-requires g c =
     let n = c.leaves.ensures.is in
-    let ts = c.in_ok-targets.targets.targets in
-    let needed : c.needed-asked.result.now ≡ need c.args.kept.now.leaves ts = c.needed-asked.ensures ∙ ap (λ m. need m ts) (c.in_ok-targets.ensures.0 ∙ (n ∙ sym c.requires.kept)) in
-    needed_within c.args.kept.now.leaves ts c.needed-asked.result.now c.loop-i.i _ needed c.loop-i-test.true
+    let ts = c.in_ok-paths.paths.targets in
+    let needed : c.in_ok-asked.asked.items ≡ need c.args.kept.now.leaves ts = c.in_ok-asked.ensures ∙ ap (λ m. need m ts) (c.in_ok-paths.ensures.0 ∙ (n ∙ sym c.requires.kept)) in
+    needed_within c.args.kept.now.leaves ts c.in_ok-asked.asked.items c.loop-i.i _ needed c.loop-i-test.true
 
 pub loop-i-preserved : goal.loop-i-preserved
 loop-i-preserved g c =
     let d : Place = record { row = 0; off = 0 } in
     let H = g.D.Digester.digest_of in
     let es = c.args.forest.now.entries in
-    let asked = c.needed-asked.result.now in
+    let asked = c.in_ok-asked.asked.items in
     let i = c.loop-i.i in
     let at_i : c.index.result.now ≡ at H es (get_or asked i d) = c.index.ensures ∙ found_at (at H es) asked c.in_ok-found.found.items i d c.index.result.now c.in_ok-found.ensures c.loop-i-test.true in
     let put = subst (λ n. c.put_hash.new.message ≡ record { lean = c.loop-i.message.lean; proof = record { spends = c.loop-i.message.proof.spends; hashes = c.loop-i.message.proof.hashes ++ somes (map (λ p. c.index.result.now) (filter (λ p. not (is_known n c.args.kept.now.targets p)) (get_or asked i d ∷ []))) } }) c.requires.kept c.in_ok-put_hash.ensures in
@@ -62,7 +62,7 @@ returns g c =
     let shown = shown_all es c.args.outputs.now c.args.lean c.args.numbers.now c.loop-number.number-index c.loop-number.message c.loop-number.positions.items (omega (arith, c.loop-number-test.false)) c.loop-number.invariant in
     let spent = c.deref.ensures.value ∙ shown.positions in
     let n = c.leaves.ensures.is in
-    let ts = c.in_ok-targets.targets.targets in
-    let needed : c.needed-asked.result.now ≡ need (length es) ts = c.needed-asked.ensures ∙ ap (λ m. need m ts) (c.in_ok-targets.ensures.0 ∙ n) in
-    let whole = ap (λ ps. (let p : BlockProof = record { spends = spends_by es c.args.outputs.now c.args.numbers.now; hashes = unknown g.D.Digester.digest_of es c.args.kept.now.targets ps } in let q : Message = record { lean = c.args.lean; proof = p } in q)) (take_all c.loop-i.i c.needed-asked.result.now (omega (arith, c.loop-i-test.false)) ∙ needed) in
-    whole_proof g.D.Digester.digest_of es c.args.outputs.now c.args.kept.now.targets c.args.lean c.args.numbers.now c.deref.result.now ts c.loop-i.message spent (subst (λ m. map (place_at m) c.deref.result.now ≡ map Some ts) n c.in_ok-targets.ensures.1) (c.loop-i.invariant ∙ whole)
+    let ts = c.in_ok-paths.paths.targets in
+    let needed : c.in_ok-asked.asked.items ≡ need (length es) ts = c.in_ok-asked.ensures ∙ ap (λ m. need m ts) (c.in_ok-paths.ensures.0 ∙ n) in
+    let whole = ap (λ ps. (let p : BlockProof = record { spends = spends_by es c.args.outputs.now c.args.numbers.now; hashes = unknown g.D.Digester.digest_of es c.args.kept.now.targets ps } in let q : Message = record { lean = c.args.lean; proof = p } in q)) (take_all c.loop-i.i c.in_ok-asked.asked.items (omega (arith, c.loop-i-test.false)) ∙ needed) in
+    whole_proof g.D.Digester.digest_of es c.args.outputs.now c.args.kept.now.targets c.args.lean c.args.numbers.now c.deref.result.now ts c.loop-i.message spent (subst (λ m. map (place_at m) c.deref.result.now ≡ map Some ts) n c.in_ok-paths.ensures.1) (c.loop-i.invariant ∙ whole)
