@@ -3,3 +3,4 @@ pub mod GrewLaws
 pub mod CompactLaws
 pub mod PortLemmas
 pub mod Walks
+pub mod EvenParts

@@ -3,6 +3,7 @@
 
 mod digest;
 mod digester;
+mod digests;
 mod hexes;
 mod sha;
 mod steps;
@@ -11,6 +12,7 @@ mod xor_fold;
 
 pub use digest::Digest;
 pub use digester::Digester;
+pub use digests::Digests;
 pub use hexes::{hex_plain, hex_reversed};
 pub use sha::{Sha512t256, sha256d};
 pub use steps::Steps;
