@@ -10,6 +10,7 @@ use Rattle.uo_base.specs.Reading.{IsBytes, number_at, times, GivesOrFails}
 use Rattle.uo_base.specs.Compact.{counted_at}
 use Rattle.uo_base.proofs.Formats.{found}
 use Rattle.uo_base.proofs.Walks.{times-length}
+use Rattle.uo_base.proofs.EvenParts.{length-parts}
 use Rattle.uo_digest.specs.declared.digest.Digest.{Digest}
 use Rattle.uo_digest.specs.Reading.{digest_in_front}
 use Rattle.leaf_record.specs.Leaf.{Rest}
@@ -20,8 +21,8 @@ use Rattle.proof_wire.specs.BlockProof.{BlockProof, ProofMessage, ProofFits, kin
 use Rattle.proof_wire.specs.Reading.{spends_of, body_at, whole_at, claims}
 use Rattle.proof_wire.specs.Views.{targets_in, rests_in, BeginsWithRest, IsMessageView}
 use Rattle.proof_wire.proofs.ProofLaws.{whole_took, no_body}
-use Rattle.proof_wire.proofs.EvenParts.{targets_even}
-use Rattle.proof_wire.proofs.ViewLaws.{length-parts, length-rests}
+use Rattle.proof_wire.proofs.CountedParts.{targets_even}
+use Rattle.proof_wire.proofs.ViewLaws.{length-rests}
 
 pub no_targets : (bytes : List ℕ) → counted_at (number_at w64) bytes ≡ None → whole_at bytes ≡ None
 unfolding whole_at body_at

@@ -4,11 +4,11 @@ ghost use Rattle.std.specs.Int.{w64};
 ghost use Rattle.std.specs.List.{AllByRecursion};
 ghost use Rattle.uo_base.specs.Reading.{Gives, GivesOrFails, number_at, times};
 ghost use Rattle.uo_base.specs.Compact.{counted_at};
-ghost use Rattle.uo_digest.specs.Reading.{digest_in_front};
+ghost use Rattle.uo_digest.specs.Reading.{digest_in_front, digests_in};
 ghost use Rattle.leaf_record.specs.Reading.{rest_at};
 ghost use Rattle.proof_wire.specs.BlockProof.{BlockProof, ProofMessage, ProofFits, body_text, message_text};
 ghost use Rattle.proof_wire.specs.Reading.{parts_at, whole_at, claims};
-ghost use Rattle.proof_wire.specs.Views.{targets_in, rests_in, hashes_in, BeginsWithRest};
+ghost use Rattle.proof_wire.specs.Views.{targets_in, rests_in, BeginsWithRest};
 
 use crate::fault::MessageFault;
 use crate::view::{BodyView, MessageView};
@@ -37,7 +37,7 @@ fn read_targets<'a>(at: &mut Cursor<'a>) -> Option<&'a [u8]>
 }
 
 fn read_hashes<'a>(at: &mut Cursor<'a>) -> Option<&'a [u8]>
-    ensures exact { Gives (λ s. hashes_in s.now) result at.new (counted_at digest_in_front at.old) }
+    ensures exact { Gives (λ s. digests_in s.now) result at.new (counted_at digest_in_front at.old) }
     ensures even { IfSome result (λ s. 32 * (length s.now / 32) ≡ length s.now) }
 {
     take_parts(at, 32)

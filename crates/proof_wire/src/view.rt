@@ -6,7 +6,7 @@ ghost use Rattle.proof_wire.specs.BlockProof.{targets_of, rests_of};
 use leaf_record::{RestView, read_rest};
 use std::marker::Model;
 use uo_base::Cursor;
-use uo_digest::Digest;
+use uo_digest::{Digest, Digests};
 
 /// The i-th of parts of one size.
 fn part(parts: &[u8], size: usize, i: usize) -> &[u8]
@@ -72,17 +72,10 @@ impl<'a> BodyView<'a> {
         }
     }
 
-    fn hash_count(&self) -> u64
-        ensures { result ≡ length self.now.hashes }
+    fn hashes(&self) -> Digests<'a>
+        ensures { result ≡ self.now.hashes }
     {
-        self.hashes.len() as u64 / 32
-    }
-
-    fn hash(&self, i: u64) -> Digest
-        requires { i < length self.now.hashes }
-        ensures { slice_get self.now.hashes i ≡ Some result }
-    {
-        Digest::from_bytes(part(self.hashes, 32, i as usize))
+        Digests::new(self.hashes)
     }
 }
 
@@ -137,7 +130,7 @@ impl<'a> MessageView<'a> {
     pub fn hash_count(&self) -> u64
         ensures { result ≡ length self.now.proof.hashes }
     {
-        self.body.hash_count()
+        self.hashes().len() as u64
     }
 
     /// A hash, in the order of positions.
@@ -145,6 +138,13 @@ impl<'a> MessageView<'a> {
         requires { i < length self.now.proof.hashes }
         ensures { slice_get self.now.proof.hashes i ≡ Some result }
     {
-        self.body.hash(i)
+        self.hashes().get(i as usize)
+    }
+
+    /// All of them, as they lie in the message.
+    pub fn hashes(&self) -> Digests<'a>
+        ensures { result ≡ self.now.proof.hashes }
+    {
+        self.body.hashes()
     }
 }
