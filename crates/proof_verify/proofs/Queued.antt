@@ -1,5 +1,5 @@
 -- The queue of a sweep, one step on.
-use Rattle.std.proofs.Common.{◌≡◌, ℕ, zero, suc, ◌+◌, ◌-◌, ◌*◌, ◌/◌, ◌%◌, ◌<◌, ◌≤◌, Bool, true, false, List, [], ◌∷◌, ◌++◌, length, drop, Option, Some, None, is_some, refl, sym, ap, ap₂, ◌∙◌, subst, ⊎_elim, inl, inr, arith, eq-eqb, eqb-true}
+use Rattle.std.proofs.Common.{◌≡◌, ℕ, zero, suc, ◌+◌, ◌-◌, ◌*◌, ◌/◌, ◌%◌, ◌^◌, ◌<◌, ◌≤◌, Bool, true, false, List, [], ◌∷◌, ◌++◌, length, drop, Option, Some, None, is_some, refl, sym, ap, ap₂, ◌∙◌, subst, ⊎_elim, inl, inr, arith, eq-eqb, eqb-true}
 use Rattle.std.specs.Prelude.{◌⊎◌, ◌==◌, unwrap_or}
 use Rattle.std.proofs.lemmas.Bool.{cases_lt, cases_eq, true≢false, false≢true, false_from_ne_true}
 use Rattle.std.proofs.lemmas.List.{length-drop, get_or-drop}
@@ -23,7 +23,7 @@ use Rattle.proof_verify.specs.Origins.{rank_of}
 use Rattle.proof_verify.specs.Nodes.{join_nodes, node_of_cover, node_at, digest_in}
 use Rattle.proof_verify.specs.Sweep.{given_node, place_node, IsPaired, IsInnerFrom, IsSkipped, CanJoin, AreTwoJoined, IsOneJoined, IsQueue, IsFront}
 use Rattle.proof_verify.specs.declared.node.Node.{Node}
-use Rattle.proof_verify.proofs.Links.{same_place, rank_top, rank_paired, rank_alone, is_needed_half}
+use Rattle.proof_verify.proofs.Links.{same_place, rank_top, rank_paired, rank_alone, rank_small, is_needed_half}
 use Rattle.proof_verify.proofs.Puts.{one_index}
 use Rattle.proof_verify.proofs.Planned.{inside, is_covered, closed, needed_bare, covered_child, above_no_target}
 use Rattle.proof_verify.proofs.Values.{both_halves, leaf_is, target_cover, hash_is}
@@ -314,8 +314,8 @@ module _ (n : ℕ) (ts cs : List Place) (k : IsCoverOf n ts cs) (shape : HasShap
             let early = first_before in
             subst (IsQueue g n cs i first rank) (sym skip.rest) (dropped g n cs i front rank old queue skip.some first rank on (omega (arith, count, on, early)) (queue.rank_is ∙ rank_skipped))
 
-        pub can_join : (hashes : ℕ) → length (needed_of n cs) ≡ hashes → CanJoin cs hashes first rank new
-        can_join hashes long =
+        pub can_join : (hashes : ℕ) → n < 2 ^ 40 → length (needed_of n cs) ≡ hashes → CanJoin cs hashes first rank new
+        can_join hashes small long =
             let count = queue_skipped.count in
             let early = first_before in
             record {
@@ -326,6 +326,7 @@ module _ (n : ℕ) (ts cs : List Place) (k : IsCoverOf n ts cs) (shape : HasShap
                   let z = (is_needed_half n cs first skip.there inner (alone unpaired) (beside p) refl).0 in
                   let r = queue_skipped.rank_is in
                   omega (arith, z, r, long);
+              low = let z = rank_small n cs first small k.within k.rises skip.there in let r = queue_skipped.rank_is in omega (arith, z, r);
             }
 
       -- the queue's front goes past the children of the place

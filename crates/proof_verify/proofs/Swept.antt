@@ -1,5 +1,5 @@
 -- A sweep over the covered places, one place on.
-use Rattle.std.proofs.Common.{◌≡◌, ℕ, suc, ◌+◌, ◌*◌, ◌%◌, ◌^◌, ◌<◌, ◌≤◌, true, false, not, List, [], ◌∷◌, ◌++◌, length, get_or, take, drop, replicate, Option, None, refl, sym, ap, ◌∙◌, subst, ⊎_elim, inl, inr, arith}
+use Rattle.std.proofs.Common.{◌≡◌, ℕ, suc, ◌+◌, ◌*◌, ◌%◌, ◌^◌, ◌<◌, ◌≤◌, true, false, not, List, [], ◌∷◌, ◌++◌, length, take, drop, replicate, Option, None, refl, sym, ap, ◌∙◌, subst, ⊎_elim, inl, inr, arith}
 use Rattle.std.specs.Prelude.{◌⊎◌, ◌≢◌, ◌==◌, count_by, cond}
 use Rattle.std.proofs.lemmas.Bool.{cases_lt, cases_eq}
 use Rattle.std.proofs.lemmas.List.Sums.{count_by_more_yes, count_by_more_no, length-filter, sum_by-take-drop}
@@ -7,12 +7,10 @@ use Rattle.uo_digest.specs.declared.digest.Digest.{Digest}
 use Rattle.forest_place.specs.declared.place.Place.{Place}
 use Rattle.forest_place.specs.Forest.{InForest, sibling_off}
 use Rattle.forest_place.specs.Places.{place_in}
-use Rattle.forest_place.specs.Position.{positions_of}
 use Rattle.forest_place.proofs.Positions.{row_small}
 use Rattle.forest_model.specs.Cover.{need, HasShape}
 use Rattle.proof_shape.specs.Survey.{IsCoverOf, pos, is_top, has}
 use Rattle.proof_shape.specs.Targeted.{Targeted, IsTargeted}
-use Rattle.proof_shape.proofs.Faulty.{position_at}
 use Rattle.proof_verify.specs.Nodes.{digest_in}
 use Rattle.proof_verify.specs.Verified.{above_targets}
 use Rattle.proof_verify.specs.Sweep.{place_node, mark_in, AreMarks, IsPaired, IsInnerFrom, IsSkipped, CanJoin, AreTwoJoined, IsOneJoined, IsCrownWith, IsQueue, IsFront, IsNext, IsSweeping}
@@ -27,11 +25,10 @@ use Rattle.proof_verify.proofs.Queued.{pushed, node_target, front_target, some_i
 use Rattle.proof_verify.proofs.Crowned.{crown_begins, crown_more}
 
 -- what a sweep goes over
-pub record IsSwept (n : ℕ) (ts cs : List Place) (numbers : List ℕ) (leaves hashes : List Digest) (marks : List Mark) : Type 0 where
+pub record IsSwept (n : ℕ) (ts cs : List Place) (leaves hashes : List Digest) (marks : List Mark) : Type 0 where
   pub few : n < 2 ^ 40
   pub cover : IsCoverOf n ts cs
   pub shape : HasShape n ts
-  pub numbers_are : numbers ≡ positions_of n cs
   pub leaves_long : length leaves ≡ length ts
   pub hashes_long : length hashes ≡ length (need n ts)
   pub marks_are : AreMarks n ts marks
@@ -56,15 +53,14 @@ paired_or cs i =
     (λ ge. inr (λ two. let lt = two.0 in omega (arith, ge, lt)))
     (cases_lt (suc i) (length cs))
 
-pub swept_of : (t : Targeted) (n : ℕ) (cs : List Place) (numbers : List ℕ) (leaves hashes : List Digest) (marks : List Mark) → n ≡ t.leaves → IsTargeted t → IsCoverOf t.leaves t.targets cs → numbers ≡ positions_of t.leaves cs → length leaves ≡ length t.targets →
-    length hashes ≡ length (need t.leaves t.targets) → AreMarks t.leaves t.targets marks → IsSwept n t.targets cs numbers leaves hashes marks
-swept_of t n cs numbers leaves hashes marks e targeted cover numbered leaves_long hashes_long marks_are =
-    subst (λ m. IsSwept m t.targets cs numbers leaves hashes marks) (sym e)
+pub swept_of : (t : Targeted) (n : ℕ) (cs : List Place) (leaves hashes : List Digest) (marks : List Mark) → n ≡ t.leaves → IsTargeted t → IsCoverOf t.leaves t.targets cs → length leaves ≡ length t.targets →
+    length hashes ≡ length (need t.leaves t.targets) → AreMarks t.leaves t.targets marks → IsSwept n t.targets cs leaves hashes marks
+swept_of t n cs leaves hashes marks e targeted cover leaves_long hashes_long marks_are =
+    subst (λ m. IsSwept m t.targets cs leaves hashes marks) (sym e)
     record {
       few = targeted.few;
       cover = cover;
       shape = targeted.shape;
-      numbers_are = numbered;
       leaves_long = leaves_long;
       hashes_long = hashes_long;
       marks_are = marks_are;
@@ -81,19 +77,13 @@ sweep_begins H n ts cs leaves hashes marks front rank nodes tops roots e f g =
       crown = crown_begins (place_node H n ts leaves hashes) n cs;
     }
 
-module _ (H : List ℕ → Digest) (n : ℕ) (ts cs : List Place) (numbers : List ℕ) (leaves hashes : List Digest) (marks : List Mark) (v : IsSwept n ts cs numbers leaves hashes marks) where
+module _ (H : List ℕ → Digest) (n : ℕ) (ts cs : List Place) (leaves hashes : List Digest) (marks : List Mark) (v : IsSwept n ts cs leaves hashes marks) where
   pub place_inside : (i : ℕ) → i < length cs → InForest n (place_in cs i).row (place_in cs i).off
   place_inside i lt = inside n ts cs v.cover i lt
 
   module _ (i next front rank : ℕ) (nodes : List Node) (tops : List (Option ℕ)) (roots : List Node) (lt : i < length cs) (s : IsSweeping H n ts cs leaves hashes marks i next front rank nodes tops roots) where
-    number_here : get_or numbers i 0 ≡ pos n (place_in cs i)
-    number_here = ap (λ l. get_or l i 0) v.numbers_are ∙ position_at n cs i lt
-
     -- where the next target stands here
-    module _ (ln : next < length marks) (e : (mark_in marks next).number ≡ get_or numbers i 0) where
-      at : (mark_in marks next).number ≡ pos n (place_in cs i)
-      at = e ∙ number_here
-
+    module _ (ln : next < length marks) (at : (mark_in marks next).number ≡ pos n (place_in cs i)) where
       pub it_is : has ts (place_in cs i) ≡ true
       it_is = target_here n ts cs v.cover v.shape marks v.marks_are i lt next ln at
 
@@ -113,9 +103,9 @@ module _ (H : List ℕ → Digest) (n : ℕ) (ts cs : List Place) (numbers : Lis
           }
 
     -- where it stands elsewhere
-    module _ (other : next < length marks → (mark_in marks next).number ≢ get_or numbers i 0) where
+    module _ (other : next < length marks → (mark_in marks next).number ≢ pos n (place_in cs i)) where
       pub none_is : has ts (place_in cs i) ≡ false
-      none_is = no_target n ts cs v.cover v.shape marks v.marks_are i lt next s.order (λ ln e. other ln (e ∙ sym number_here))
+      none_is = no_target n ts cs v.cover v.shape marks v.marks_are i lt next s.order other
 
       pub inner_there : IsInnerFrom n cs front
       inner_there = some_inner n ts cs v.cover v.shape i lt front s.at none_is
@@ -124,7 +114,7 @@ module _ (H : List ℕ → Digest) (n : ℕ) (ts cs : List Place) (numbers : Lis
         pub joinable : CanJoin cs (length hashes) first rank' new
         joinable =
             subst (λ r. CanJoin cs (length hashes) first r new) (sym same)
-            (can_join n ts cs v.cover v.shape i lt front s.at none_is nodes new first skip inner (place_node H n ts leaves hashes) rank s.queue (length hashes) (needed_long n ts cs v.cover hashes v.hashes_long))
+            (can_join n ts cs v.cover v.shape i lt front s.at none_is nodes new first skip inner (place_node H n ts leaves hashes) rank s.queue (length hashes) v.few (needed_long n ts cs v.cover hashes v.hashes_long))
 
         pub made_inner : (next' front' rank'' : ℕ) (rest : List Node) (x : Node) → next' ≡ next →
             (IsPaired cs first → AreTwoJoined H new x rest × (front' ≡ first + 2) × (rank'' ≡ rank')) →

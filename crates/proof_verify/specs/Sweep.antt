@@ -1,5 +1,5 @@
 -- A sweep over the covered places that keeps each node until the one above it is made.
-use Rattle.std.specs.Prelude.{◌≡◌, ℕ, suc, ◌+◌, ◌<◌, ◌≤◌, Bool, true, false, List, [], ◌∷◌, ◌++◌, length, get_or, drop, set, Option, Some, unwrap_or}
+use Rattle.std.specs.Prelude.{◌≡◌, ℕ, suc, ◌+◌, ◌^◌, ◌<◌, ◌≤◌, Bool, true, false, List, [], ◌∷◌, ◌++◌, length, get_or, drop, set, Option, Some, unwrap_or}
 use Rattle.uo_digest.specs.declared.digest.Digest.{Digest}
 use Rattle.forest_place.specs.declared.place.Place.{Place}
 use Rattle.forest_place.specs.Forest.{sibling_off}
@@ -48,12 +48,13 @@ pub record IsSkipped (n : ℕ) (cs : List Place) (old_front : ℕ) (old : List N
   pub rest : new ≡ drop some old
   pub roots : (j : ℕ) → old_front ≤ j → j < front → is_top n (place_in cs j) ≡ true
 
--- the first node has its sibling's behind it, or else a hash is left
+-- the first node has its sibling's behind it, or else a hash is left. The count of those that are used fits
 pub record CanJoin (cs : List Place) (hashes front rank : ℕ) (nodes : List Node) : Type 0 where
   pub there : front < length cs
   pub one : 0 < length nodes
   pub two : IsPaired cs front → 1 < length nodes
   pub needed : (IsPaired cs front → ⊥) → rank < hashes
+  pub low : rank + 1 < 2 ^ 64
 
 -- the first two nodes are taken off, and joined
 pub record AreTwoJoined (H : List ℕ → Digest) (old : List Node) (node : Node) (new : List Node) : Type 0 where

@@ -15,18 +15,19 @@ use crate::judge::{judge_empty, judge_roots, put_roots};
 use crate::marks::{marks_of, target_at};
 use crate::node::target_node;
 use crate::queue::{join_first, queue_for, skip_roots};
+use forest_place::position;
 use forest_roots::Roots;
-use proof_shape::Targets;
+use proof_shape::TargetPaths;
 use std::alloc::{AllocError, Global};
 use std::sync::ledger::Ledger;
-use uo_digest::{Digest, Digester, Steps};
+use uo_digest::{Digest, Digester, Digests, Steps};
 
 // The roots of the slots that have a target. Each node is let go once the one above it is made.
 fn crown_of<D: Digester, L: Ledger>(
     alloc: Global,
-    targets: &Targets,
+    targets: &TargetPaths,
     leaves: &[Digest],
-    hashes: &[Digest],
+    hashes: &Digests<'_>,
     steps: &mut Steps<L>,
 ) -> Result<Crown, AllocError>
     requires leaves { length leaves.now ≡ length targets.now.targets }
@@ -37,13 +38,13 @@ fn crown_of<D: Digester, L: Ledger>(
     ensures fewer { steps.new ≤ steps.old + 2 * length (above_targets targets.now.leaves targets.now.targets) }
 {
     let n = targets.leaves();
-    let (covered, positions) = targets.covered();
+    let covered = targets.covered();
     let marks = marks_of(alloc, targets)?;
     let mut next = 0;
     let mut queue = queue_for(alloc, marks.len())?;
     let mut crown = no_crown(alloc);
     for i in 0..covered.len() {
-        let node = match target_at(&marks, &mut next, positions[i]) {
+        let node = match target_at(&marks, &mut next, position(covered[i], n)) {
             Some(index) => target_node(leaves[index]),
             None => {
                 skip_roots(n, covered, &mut queue);
@@ -61,16 +62,16 @@ fn crown_of<D: Digester, L: Ledger>(
 ///
 /// `leaves` are the digests of the targets, in the order of the targets. `hashes` are those of the needed places, in
 /// ascending position. Memory is taken for little more than a node of each target, of which the digest and what is left of it
-/// are kept until the place above it is reached.
+/// are kept until the place above it is reached; where there is no target, none is taken.
 ///
 /// Faults are judged as by `check_and_delete`, and want of memory comes before an empty root and a root that differs. At an
 /// error the roots stay as they were.
 pub fn delete_from_roots<D: Digester, L: Ledger>(
     alloc: Global,
     roots: &mut Roots<D>,
-    targets: &Targets,
+    targets: &TargetPaths,
     leaves: &[Digest],
-    hashes: &[Digest],
+    hashes: &Digests<'_>,
     steps: &mut Steps<L>,
 ) -> Result<(), DeletionFault>
     requires entries { targets.now.leaves ≡ roots.old.leaves }
@@ -89,12 +90,15 @@ pub fn delete_from_roots<D: Digester, L: Ledger>(
 {
     let agree = targets.leaves() == roots.leaves();
     prove!(agree);
-    let needed = targets.needed().len();
+    let needed = targets.needed_count();
     if hashes.len() != needed {
         return Err(DeletionFault::Proof(ProofFault::HashCount {
             want: needed as u64,
             got: hashes.len() as u64,
         }));
+    }
+    if targets.places().is_empty() {
+        return Ok(());
     }
     let crown = crown_of::<D, L>(alloc, targets, leaves, hashes, steps)?;
     judge_empty::<D>(roots, &crown.tops)?;

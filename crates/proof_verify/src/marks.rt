@@ -5,7 +5,7 @@ ghost use Rattle.forest_place.specs.Places.{AreWithin};
 ghost use Rattle.proof_verify.specs.Sweep.{mark_in, mark_of, AreMarks};
 
 use forest_place::{Place, position};
-use proof_shape::Targets;
+use proof_shape::TargetPaths;
 use std::alloc::{AllocError, Global};
 
 // The position of a target, and its index among the targets.
@@ -32,7 +32,7 @@ fn listed_marks(alloc: Global, n: u64, places: &[Place]) -> Result<Vec<Mark>, Al
 }
 
 // The targets in ascending position.
-pub(crate) fn marks_of(alloc: Global, targets: &Targets) -> Result<Vec<Mark>, AllocError>
+pub(crate) fn marks_of(alloc: Global, targets: &TargetPaths) -> Result<Vec<Mark>, AllocError>
     ensures { IfOk result (λ marks. AreMarks targets.now.leaves targets.now.targets marks.items) }
 {
     let mut marks = listed_marks(alloc, targets.leaves(), targets.places())?;

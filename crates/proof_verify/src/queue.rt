@@ -10,7 +10,7 @@ use forest_place::{Place, is_root, sibling};
 use std::alloc::{AllocError, Global};
 use std::collections::VecDeque;
 use std::sync::ledger::Ledger;
-use uo_digest::{Digest, Digester, Steps};
+use uo_digest::{Digest, Digester, Digests, Steps};
 
 // The nodes of the covered places from an index on, the index of the first, and how many needed places are siblings of covered
 // places before it.
@@ -102,7 +102,7 @@ fn join_one<D: Digester, L: Ledger>(
 // Takes the first node off, and that of its sibling where that is covered, and joins the two.
 pub(crate) fn join_first<D: Digester, L: Ledger>(
     covered: &[Place],
-    hashes: &[Digest],
+    hashes: &Digests<'_>,
     queue: &mut Queue,
     steps: &mut Steps<L>,
 ) -> Node
@@ -115,5 +115,5 @@ pub(crate) fn join_first<D: Digester, L: Ledger>(
         return join_two::<D, L>(queue, steps);
     }
     let is_left = covered[queue.front].off % 2 == 0;
-    join_one::<D, L>(is_left, hashes[queue.rank], queue, steps)
+    join_one::<D, L>(is_left, hashes.get(queue.rank), queue, steps)
 }

@@ -1,8 +1,9 @@
-use Rattle.std.proofs.Common.{◌≡◌, ◌^◌, ◌<◌, length, ap, subst, arith}
+use Rattle.std.proofs.Common.{◌≡◌, ◌^◌, ◌<◌, [], length, sym, ap, ◌∙◌, subst, arith, eqb-true}
+use Rattle.std.proofs.lemmas.List.{nil_from_length}
 use Rattle.forest_model.specs.Cover.{need, HasShape}
 use Rattle.proof_verify.specs.Judged.{AreSlotTops, AreTopNodes, IsNoneOther, IsFirstOther, ArePutRoots}
 use Rattle.proof_verify.specs.declared.fault.DeletionFault.TheVariants.{Proof}
-use Rattle.proof_verify.proofs.Verdicts.{answer_err, empty_fault, other_fault, accepted, roots_after}
+use Rattle.proof_verify.proofs.Verdicts.{answer_err, empty_fault, other_fault, accepted, roots_after, none_deleted}
 use Rattle.proof_verify.proofs.Lawful.{no_fault, right_roots}
 use Rattle.proof_verify.proofs.Counts.{above_few}
 use Rattle.proof_verify.proofs.deletion.delete_from_roots.Goals as goal
@@ -44,7 +45,7 @@ returns-in_err-judge_empty-clause-answer g c =
     let hashes = c.args.hashes.now in
     let tops = c.in_ok-crown.crown.tops in
     let slots = subst (λ n. AreSlotTops n ts tops) c.requires.entries c.in_ok-crown.ensures.tops in
-    let hashes_long : length hashes ≡ length (need f.leaves ts) = let z = c.if-hashes-needed.false in let e = ap length c.needed-needed.ensures in let s = ap (λ n. length (need n ts)) c.requires.entries in omega (arith, z, e, s) in
+    let hashes_long : length hashes ≡ length (need f.leaves ts) = let z = c.if-len-needed.false in let l = c.len.ensures in let e = c.needed_count-needed.ensures in let s = ap (λ n. length (need n ts)) c.requires.entries in omega (arith, z, l, e, s) in
     let fault = c.in_err-judge_empty.field-0.0 in
     let is = empty_fault H f ts tops slots leaves hashes hashes_long fault c.in_err-judge_empty.ensures in
     answer_err _ _ c.from_residual-in_err-judge_empty.result (Proof fault) c.from_residual-in_err-judge_empty.ensures.1 is
@@ -58,7 +59,7 @@ returns-in_err-judge_empty-clause-law g c es numbers r =
     let hashes = c.args.hashes.now in
     let tops = c.in_ok-crown.crown.tops in
     let slots = subst (λ n. AreSlotTops n ts tops) c.requires.entries c.in_ok-crown.ensures.tops in
-    let hashes_long : length hashes ≡ length (need f.leaves ts) = let z = c.if-hashes-needed.false in let e = ap length c.needed-needed.ensures in let s = ap (λ n. length (need n ts)) c.requires.entries in omega (arith, z, e, s) in
+    let hashes_long : length hashes ≡ length (need f.leaves ts) = let z = c.if-len-needed.false in let l = c.len.ensures in let e = c.needed_count-needed.ensures in let s = ap (λ n. length (need n ts)) c.requires.entries in omega (arith, z, l, e, s) in
     let fault = c.in_err-judge_empty.field-0.0 in
     let is = empty_fault H f ts tops slots leaves hashes hashes_long fault c.in_err-judge_empty.ensures in
     absurd (no_fault H es numbers f ts leaves hashes r fault is)
@@ -72,7 +73,7 @@ returns-in_err-judge_roots-clause-answer g c =
     let hashes = c.args.hashes.now in
     let tops = c.in_ok-crown.crown.tops in
     let slots = subst (λ n. AreSlotTops n ts tops) c.requires.entries c.in_ok-crown.ensures.tops in
-    let hashes_long : length hashes ≡ length (need f.leaves ts) = let z = c.if-hashes-needed.false in let e = ap length c.needed-needed.ensures in let s = ap (λ n. length (need n ts)) c.requires.entries in omega (arith, z, e, s) in
+    let hashes_long : length hashes ≡ length (need f.leaves ts) = let z = c.if-len-needed.false in let l = c.len.ensures in let e = c.needed_count-needed.ensures in let s = ap (λ n. length (need n ts)) c.requires.entries in omega (arith, z, l, e, s) in
     let nodes = c.in_ok-crown.crown.nodes.items in
     let are = subst (λ n. AreTopNodes H n ts leaves hashes tops nodes) c.requires.entries c.in_ok-crown.ensures.nodes in
     let fault = c.in_err-judge_roots.field-0.0 in
@@ -89,7 +90,7 @@ returns-in_err-judge_roots-clause-law g c es numbers r =
     let hashes = c.args.hashes.now in
     let tops = c.in_ok-crown.crown.tops in
     let slots = subst (λ n. AreSlotTops n ts tops) c.requires.entries c.in_ok-crown.ensures.tops in
-    let hashes_long : length hashes ≡ length (need f.leaves ts) = let z = c.if-hashes-needed.false in let e = ap length c.needed-needed.ensures in let s = ap (λ n. length (need n ts)) c.requires.entries in omega (arith, z, e, s) in
+    let hashes_long : length hashes ≡ length (need f.leaves ts) = let z = c.if-len-needed.false in let l = c.len.ensures in let e = c.needed_count-needed.ensures in let s = ap (λ n. length (need n ts)) c.requires.entries in omega (arith, z, l, e, s) in
     let nodes = c.in_ok-crown.crown.nodes.items in
     let are = subst (λ n. AreTopNodes H n ts leaves hashes tops nodes) c.requires.entries c.in_ok-crown.ensures.nodes in
     let fault = c.in_err-judge_roots.field-0.0 in
@@ -106,7 +107,7 @@ returns-clause-answer g c =
     let hashes = c.args.hashes.now in
     let tops = c.in_ok-crown.crown.tops in
     let slots = subst (λ n. AreSlotTops n ts tops) c.requires.entries c.in_ok-crown.ensures.tops in
-    let hashes_long : length hashes ≡ length (need f.leaves ts) = let z = c.if-hashes-needed.false in let e = ap length c.needed-needed.ensures in let s = ap (λ n. length (need n ts)) c.requires.entries in omega (arith, z, e, s) in
+    let hashes_long : length hashes ≡ length (need f.leaves ts) = let z = c.if-len-needed.false in let l = c.len.ensures in let e = c.needed_count-needed.ensures in let s = ap (λ n. length (need n ts)) c.requires.entries in omega (arith, z, l, e, s) in
     let nodes = c.in_ok-crown.crown.nodes.items in
     let are = subst (λ n. AreTopNodes H n ts leaves hashes tops nodes) c.requires.entries c.in_ok-crown.ensures.nodes in
     let put = subst (λ l. ArePutRoots f tops l 40 c.put_roots.new.roots) c.deref-2.ensures.value c.put_roots.ensures in
@@ -124,10 +125,18 @@ returns-clause-law g c es numbers r =
     let hashes = c.args.hashes.now in
     let tops = c.in_ok-crown.crown.tops in
     let slots = subst (λ n. AreSlotTops n ts tops) c.requires.entries c.in_ok-crown.ensures.tops in
-    let hashes_long : length hashes ≡ length (need f.leaves ts) = let z = c.if-hashes-needed.false in let e = ap length c.needed-needed.ensures in let s = ap (λ n. length (need n ts)) c.requires.entries in omega (arith, z, e, s) in
+    let hashes_long : length hashes ≡ length (need f.leaves ts) = let z = c.if-len-needed.false in let l = c.len.ensures in let e = c.needed_count-needed.ensures in let s = ap (λ n. length (need n ts)) c.requires.entries in omega (arith, z, l, e, s) in
     let nodes = c.in_ok-crown.crown.nodes.items in
     let are = subst (λ n. AreTopNodes H n ts leaves hashes tops nodes) c.requires.entries c.in_ok-crown.ensures.nodes in
     let put = subst (λ l. ArePutRoots f tops l 40 c.put_roots.new.roots) c.deref-2.ensures.value c.put_roots.ensures in
     let few = subst (λ n. n < 2 ^ 40) c.requires.entries c.leaves.ensures.targets.few in
     let after = roots_after H f ts tops slots leaves hashes hashes_long nodes are few c.put_roots.new.roots put in
     right_roots H es numbers f ts leaves hashes r c.put_roots.new.roots after
+
+pub returns-then-is_empty-clause-answer : goal.returns-then-is_empty-clause-answer
+returns-then-is_empty-clause-answer g c =
+    let f = c.args.roots.now in
+    let ts = c.args.targets.now.targets in
+    let none : ts ≡ [] = sym c.places.ensures ∙ nil_from_length c.places.result.now (eqb-true (length c.places.result.now) 0 (sym c.is_empty.ensures ∙ c.if-is_empty.true)) in
+    let hashes_long : length c.args.hashes.now ≡ length (need f.leaves ts) = let z = c.if-len-needed.false in let l = c.len.ensures in let e = c.needed_count-needed.ensures in let s = ap (λ n. length (need n ts)) c.requires.entries in omega (arith, z, l, e, s) in
+    none_deleted g.D.Digester.digest_of f ts c.args.leaves.now c.args.hashes.now none (subst (λ n. HasShape n ts) c.requires.entries c.leaves.ensures.targets.shape) c.requires.leaves hashes_long
