@@ -1,9 +1,16 @@
-use Rattle.std.proofs.Common.{refl}
-use Rattle.node_rules.proofs.Filling.{given_count, given_are}
+use Rattle.std.proofs.Common.{length, sym, ap, ◌∙◌, subst}
+use Rattle.node_rules.specs.Judged.{AreHashes}
+use Rattle.node_rules.proofs.Filling.{handed_judged}
 use Rattle.node_rules.proofs.lean.given_hashes.Goals as goal
 
-pub returns-then-got-want : goal.returns-then-got-want
-returns-then-got-want c k none = given_count c.args.message.now c.args.targets.now k none _ c.needed.ensures _ _ refl c.hash_count-got.ensures c.if-got-want.true
+pub returns-in_err-counted_hashes : goal.returns-in_err-counted_hashes
+returns-in_err-counted_hashes c k none =
+    let m = c.args.message.now in
+    let t = c.args.targets.now in
+    handed_judged m t k _ c.in_err-counted_hashes.field-0.0 c.from_residual.ensures.1 (c.in_err-counted_hashes.ensures.judged t k (ap length c.needed.ensures) none)
 
 pub returns : goal.returns
-returns c k none = given_are c.args.message.now c.args.targets.now k none _ c.needed.ensures _ _ _ refl c.hash_count-got.ensures c.if-got-want.false c.in_ok-all_hashes.ensures
+returns c k none =
+    let m = c.args.message.now in
+    let t = c.args.targets.now in
+    subst (AreHashes m t k) (c.in_ok-counted_hashes.ensures.is ∙ sym c.in_ok-all_hashes.ensures) (c.in_ok-counted_hashes.ensures.judged t k (ap length c.needed.ensures) none)
