@@ -1,5 +1,5 @@
 -- What was judged of a message: what it claims, the check of its proof, and what is deleted.
-use Rattle.std.proofs.Common.{◌≡◌, ◌≢◌, ℕ, ◌+◌, ◌*◌, ◌≤◌, Bool, true, false, List, [], ◌∷◌, ◌++◌, map, length, Option, Some, None, Err, refl, sym, ap, ap₂, ◌∙◌, subst, arith}
+use Rattle.std.proofs.Common.{◌≡◌, ◌≢◌, ℕ, ◌+◌, ◌*◌, ◌≤◌, Bool, true, false, List, [], ◌∷◌, ◌++◌, map, length, Option, Some, None, Err, refl, sym, ap, ap₂, ◌∙◌, subst, arith, inl, inr}
 use Rattle.std.specs.Prelude.{filter, option_map}
 use Rattle.std.specs.Option.{option_or}
 use Rattle.std.proofs.lemmas.List.{length-map}
@@ -39,6 +39,7 @@ use Rattle.node_rules.proofs.Serving.{same_fault}
 use Rattle.node_rules.proofs.Telling.{count_told, empty_told, other_told}
 use Rattle.compact_node.specs.After.{without}
 use Rattle.compact_node.specs.Node.{view_by, places_spent, hashes_over, hashes_spent}
+use Rattle.compact_node.specs.Claimed.{IsMisplaced}
 use Rattle.compact_node.specs.Judged.{IsFirst, proof_refusal, steps_over, IsFilledOut, IsClaim}
 use Rattle.std.specs.Prelude.{Result, Ok, IfErr}
 use Rattle.forest_model.specs.Cover.{IsGreatest}
@@ -140,6 +141,11 @@ module _ (H : List ℕ → Digest) (text : Leaf → List ℕ) (v : View) (ext : 
     hashes_told (Refused (Why.Immature x i)) h = absurd h
     hashes_told (Refused (Why.Overspend x)) h = absurd h
     hashes_told (Refused (Why.Subsidy c a)) h = absurd h
+
+  -- so what is wrong with targets or hashes is the fault
+  pub misplaced_told : (e : RuleFault) → IsMisplaced v.n v.known m e → IsFaulted e
+  misplaced_told e (inl h) = targets_told e h
+  misplaced_told e (inr (t, judged, h)) = hashes_told t judged e h
 
 -- ---- the check of the proof of a message that was read, over roots and held digests
 

@@ -6,15 +6,17 @@ ghost use Rattle.forest_roots.specs.Joined.{joins_of};
 ghost use Rattle.cache_model.specs.Known.{is_watched};
 ghost use Rattle.cache_model.specs.Lists.{moved_leaves, leaf_places, leaves_more};
 ghost use Rattle.cache_model.specs.Steps.{held_deleted};
-ghost use Rattle.leaf_cache.specs.Parted.{HaveSameLists};
+ghost use Rattle.leaf_cache.specs.Parted.{HasNothing, HaveSameLists};
 ghost use Rattle.cache_update.specs.Joins.{is_empty_of, added_by};
 ghost use Rattle.cache_update.specs.Marks.{Fits, kept_back, held_back, pairs_within};
 ghost use Rattle.compact_node.specs.After.{with_leaf, with_leaves, kept_with_all, held_with_all};
+ghost use Rattle.compact_node.specs.Claimed.{IfSent, targets_of};
 ghost use Rattle.compact_node.specs.Judged.{watched_leaf};
 ghost use Rattle.compact_node.specs.Marked.{GoesOn};
 ghost use Rattle.compact_node.specs.Pending.{pending};
 
-use crate::unwatched::{grow_unwatched, watches_nothing};
+use crate::claims::SpendProof;
+use crate::unwatched::grow_unwatched;
 use block_rules::Spends;
 use cache_update::{Mark, after_add, after_delete, begin};
 use forest_roots::{Joins, Roots};
@@ -149,10 +151,8 @@ fn append<D: Digester, L: Ledger>(
     }
 }
 
-/// The roots, from which the targets are gone, and the cache behind a block: the targets go, with these changes, and the new
-/// records come. The mark gives the cache back. All memory is taken before the first change; where there is none, the cache keeps
-/// and holds what it did.
-pub(crate) fn grow<D: Digester, L: Ledger>(
+// The same where something may be watched.
+fn grow_watched<D: Digester, L: Ledger>(
     alloc: Global,
     cache: &mut Cache<D>,
     roots: &mut Roots<D>,
@@ -178,13 +178,48 @@ pub(crate) fn grow<D: Digester, L: Ledger>(
     ensures held_room { cache.old.parts.held_room ≤ cache.new.parts.held_room }
     ensures steps { steps.new ≤ steps.old + 2 * length spends.now.new + 40 }
 {
-    if watches_nothing(cache) {
-        return grow_unwatched(alloc, cache, roots, room, spends, steps);
-    }
     let leaves = watched_in(alloc, cache.watch(), spends)?;
     let watched = leaves.len() as u64;
     let mut mark = begin(alloc, cache, targets, spends.new_count(), watched)?;
     after_delete(cache, &mut mark, targets, changes);
     append(cache, &mut mark, roots, room, joins, spends, leaves, steps);
     Ok(mark)
+}
+
+/// The roots, from which the targets are gone, and the cache behind a block: the targets go, with these changes, and the new
+/// records come. The mark gives the cache back. All memory is taken before the first change; where there is none, the cache keeps
+/// and holds what it did.
+pub(crate) fn grow<D: Digester, L: Ledger>(
+    alloc: Global,
+    cache: &mut Cache<D>,
+    roots: &mut Roots<D>,
+    room: &mut LeafBuf<D>,
+    joins: &mut Joins,
+    proof: &SpendProof<'_>,
+    changes: &Changes<'_>,
+    spends: &Spends<'_>,
+    steps: &mut Steps<L>,
+) -> Result<Mark, NoMemory>
+    requires entries { (targets_of proof.now).leaves ≡ roots.old.leaves }
+    requires sent { IfSent proof.now ((cache.old.watch ≡ []) × HasNothing cache.old.parts) }
+    requires few { roots.old.leaves + length spends.now.new < 2 ^ 40 }
+    ensures roots { OnOk result (roots.new ≡ with_leaves D.digest_of roots.old (map (λ leaf. D.digest_of (leaf_text leaf)) spends.now.new)) }
+    ensures kept { OnOk result (cache.new.parts.kept ≡ kept_with_all D.digest_of leaf_text cache.old.watch roots.old spends.now.new (moved_leaves (targets_of proof.now).leaves (targets_of proof.now).targets cache.old.parts.kept)) }
+    ensures held { OnOk result (cache.new.parts.held ≡ held_with_all D.digest_of leaf_text cache.old.watch roots.old spends.now.new
+        (held_deleted (targets_of proof.now).leaves (targets_of proof.now).targets (pairs_within (targets_of proof.now).leaves changes.now) (leaf_places (moved_leaves (targets_of proof.now).leaves (targets_of proof.now).targets cache.old.parts.kept)) cache.old.parts.held)) }
+    ensures fits { IfOk result (λ mark. Fits mark cache.new.parts) }
+    ensures kept_back { IfOk result (λ mark. kept_back mark cache.new.parts.kept ≡ cache.old.parts.kept) }
+    ensures held_back { IfOk result (λ mark. held_back mark cache.new.parts.held ≡ cache.old.parts.held) }
+    ensures stays { OnErr result (HaveSameLists cache.new.parts cache.old.parts) }
+    ensures watch { cache.new.watch ≡ cache.old.watch }
+    ensures kept_room { cache.old.parts.kept_room ≤ cache.new.parts.kept_room }
+    ensures held_room { cache.old.parts.held_room ≤ cache.new.parts.held_room }
+    ensures steps { steps.new ≤ steps.old + 2 * length spends.now.new + 40 }
+{
+    match proof {
+        SpendProof::Sent(..) => grow_unwatched(alloc, cache, roots, room, spends, steps),
+        SpendProof::Whole(targets, _) => grow_watched(
+            alloc, cache, roots, room, joins, targets, changes, spends, steps,
+        ),
+    }
 }
