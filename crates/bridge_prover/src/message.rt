@@ -122,8 +122,9 @@ pub(crate) fn message_of<D: Digester>(
         put_spend::<D>(&mut message, &mut positions, forest, outputs, *number)?;
     }
     let paths = paths_at(alloc, forest.leaves(), &positions)?;
-    let asked = paths.needed(alloc)?;
-    let found = forest.digests_at(alloc, paths.covered(), &asked)?;
+    let needed = paths.needed(alloc)?;
+    let asked = needed.as_slice();
+    let found = forest.digests_at(alloc, paths.covered(), asked)?;
     for i in 0..asked.len() {
         put_hash(&mut message, kept, asked[i], found[i])?;
     }

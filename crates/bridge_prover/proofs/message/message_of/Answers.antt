@@ -41,15 +41,15 @@ pub put_hash-requires : goal.put_hash-requires
 put_hash-requires g c =
     let n = c.leaves.ensures.is in
     let ts = c.in_ok-paths.paths.targets in
-    let needed : c.in_ok-asked.asked.items ≡ need c.args.kept.now.leaves ts = c.in_ok-asked.ensures ∙ ap (λ m. need m ts) (c.in_ok-paths.ensures.0 ∙ (n ∙ sym c.requires.kept)) in
-    needed_within c.args.kept.now.leaves ts c.in_ok-asked.asked.items c.loop-i.i _ needed c.loop-i-test.true
+    let needed : c.as_slice-asked.result.now ≡ need c.args.kept.now.leaves ts = c.as_slice-asked.ensures.value ∙ (c.in_ok-needed.ensures ∙ ap (λ m. need m ts) (c.in_ok-paths.ensures.0 ∙ (n ∙ sym c.requires.kept))) in
+    needed_within c.args.kept.now.leaves ts c.as_slice-asked.result.now c.loop-i.i _ needed c.loop-i-test.true
 
 pub loop-i-preserved : goal.loop-i-preserved
 loop-i-preserved g c =
     let d : Place = record { row = 0; off = 0 } in
     let H = g.D.Digester.digest_of in
     let es = c.args.forest.now.entries in
-    let asked = c.in_ok-asked.asked.items in
+    let asked = c.as_slice-asked.result.now in
     let i = c.loop-i.i in
     let at_i : c.index.result.now ≡ at H es (get_or asked i d) = c.index.ensures ∙ found_at (at H es) asked c.in_ok-found.found.items i d c.index.result.now c.in_ok-found.ensures c.loop-i-test.true in
     let put = subst (λ n. c.put_hash.new.message ≡ record { lean = c.loop-i.message.lean; proof = record { spends = c.loop-i.message.proof.spends; hashes = c.loop-i.message.proof.hashes ++ somes (map (λ p. c.index.result.now) (filter (λ p. not (is_known n c.args.kept.now.targets p)) (get_or asked i d ∷ []))) } }) c.requires.kept c.in_ok-put_hash.ensures in
@@ -63,6 +63,6 @@ returns g c =
     let spent = c.deref.ensures.value ∙ shown.positions in
     let n = c.leaves.ensures.is in
     let ts = c.in_ok-paths.paths.targets in
-    let needed : c.in_ok-asked.asked.items ≡ need (length es) ts = c.in_ok-asked.ensures ∙ ap (λ m. need m ts) (c.in_ok-paths.ensures.0 ∙ n) in
-    let whole = ap (λ ps. (let p : BlockProof = record { spends = spends_by es c.args.outputs.now c.args.numbers.now; hashes = unknown g.D.Digester.digest_of es c.args.kept.now.targets ps } in let q : Message = record { lean = c.args.lean; proof = p } in q)) (take_all c.loop-i.i c.in_ok-asked.asked.items (omega (arith, c.loop-i-test.false)) ∙ needed) in
+    let needed : c.as_slice-asked.result.now ≡ need (length es) ts = c.as_slice-asked.ensures.value ∙ (c.in_ok-needed.ensures ∙ ap (λ m. need m ts) (c.in_ok-paths.ensures.0 ∙ n)) in
+    let whole = ap (λ ps. (let p : BlockProof = record { spends = spends_by es c.args.outputs.now c.args.numbers.now; hashes = unknown g.D.Digester.digest_of es c.args.kept.now.targets ps } in let q : Message = record { lean = c.args.lean; proof = p } in q)) (take_all c.loop-i.i c.as_slice-asked.result.now (omega (arith, c.loop-i-test.false)) ∙ needed) in
     whole_proof g.D.Digester.digest_of es c.args.outputs.now c.args.kept.now.targets c.args.lean c.args.numbers.now c.deref.result.now ts c.loop-i.message spent (subst (λ m. map (place_at m) c.deref.result.now ≡ map Some ts) n c.in_ok-paths.ensures.1) (c.loop-i.invariant ∙ whole)
