@@ -1,5 +1,5 @@
 -- What the roots of a forest say of the proof in a message, from what each call answered.
-use Rattle.std.proofs.Common.{◌≡◌, ◌≢◌, ℕ, List, [], ◌∷◌, map, length, Option, Some, None, Err, refl, sym, ap, ap₂, ◌∙◌, subst}
+use Rattle.std.proofs.Common.{◌≡◌, ℕ, List, [], ◌∷◌, map, length, Option, Some, Err, refl, sym, ap, ap₂, ◌∙◌, subst}
 use Rattle.std.specs.Prelude.{◌==◌, true, option_map}
 use Rattle.std.specs.Option.{option_or}
 use Rattle.std.proofs.Math.Path.{fun_ext}
@@ -40,7 +40,7 @@ use Rattle.node_rules.proofs.Serving.{asked_all, same_fault}
 use Rattle.node_rules.proofs.Telling.{count_told, empty_told, other_told}
 use Rattle.compact_node.specs.Judged.{IsFirst, proof_refusal}
 use Rattle.compact_node.proofs.Taking.{leaves-long}
-use Rattle.bridge_prover.specs.Shown.{IsHistory, AreKnown, IsChecked, fault_in}
+use Rattle.bridge_prover.specs.Shown.{AreKnown, IsChecked, fault_in}
 use Rattle.bridge_prover.proofs.Gathering.{somes-map}
 
 -- ---- what is refused of targets and hashes is a fault of the proof

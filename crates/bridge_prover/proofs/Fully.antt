@@ -1,9 +1,7 @@
 -- A bridge judges as the node judges that holds every output, and stays a bridge.
-use Rattle.std.proofs.Common.{◌≡◌, ℕ, suc, ◌+◌, Bool, true, false, List, [], ◌∷◌, length, Option, Some, None, refl, sym, ap, subst}
+use Rattle.std.proofs.Common.{◌≡◌, ℕ, suc, ◌+◌, Bool, true, false, List, ◌∷◌, length, Option, Some, None, refl, sym, ap, subst}
 use Rattle.std.specs.Prelude.{IfOk, OnOk, Result, Ok, Err, if◌then◌else◌}
 use Rattle.uo_base.specs.declared.event.Event.{Event}
-use Rattle.uo_base.specs.declared.event.Limits.{Limits}
-use Rattle.uo_base.specs.declared.event.Net.{Net}
 use Rattle.uo_base.specs.FeedEvent.{event_of}
 use Rattle.uo_digest.specs.declared.digest.Digest.{Digest}
 use Rattle.block_codec.specs.Block.{Block, block_hash_of}
@@ -20,14 +18,13 @@ use Rattle.node_rules.specs.Judging.{Evidence, refusal, full, is_forged}
 use Rattle.node_rules.specs.Machine.{ChainEvent, BlockCame, RollbackCame, StrayCame, State, Outcome, chain_of, by_refusal, by_evidence, verdict_by, event_in}
 use Rattle.node_rules.specs.Laws.{SpendsDiffer}
 use Rattle.node_rules.proofs.Value.{middle, once, full_pays}
-use Rattle.reorg_undo.specs.Undo.{UndoRecord}
-use Rattle.bridge_prover.specs.Bridge.{BridgeState, bridge_with, bridge_by, chain_before, record_of, verdict_on, next_bridge}
+use Rattle.bridge_prover.specs.Bridge.{BridgeState, bridge_with, bridge_by, chain_before, record_of}
 use Rattle.bridge_prover.specs.Standing.{Stands, IsBridge}
 use Rattle.bridge_prover.specs.Laws.{LevelsTold}
-use Rattle.bridge_prover.specs.Full.{watched_by, history_of, is_forged_on, full_refusal_on, unless_forged, judged_on, after_shown, kept_if, next_judged, BridgeIsFull, NextJudgedIsBridge, LevelsJudged, JudgesAsFull}
+use Rattle.bridge_prover.specs.Full.{watched_by, history_of, is_forged_on, full_refusal_on, unless_forged, judged_on, after_shown, kept_if, next_judged, BridgeIsFull, NextJudgedIsBridge, LevelsJudged}
 use Rattle.bridge_prover.proofs.Giving.{length-after}
 use Rattle.bridge_prover.proofs.Historied.{is_history, newest_history}
-use Rattle.bridge_prover.proofs.Next.{IsAt, at_level, at-then, room, there}
+use Rattle.bridge_prover.proofs.Next.{at_level, at-then, room, there}
 use Rattle.bridge_prover.proofs.Refining.{bridge_is_own, next_is_bridge}
 use Rattle.bridge_prover.proofs.Taking.{each_live}
 use Rattle.bridge_prover.proofs.Telling.{map_taken, levels_told}

@@ -1,21 +1,20 @@
 -- A bridge with a watch list: what is known to it is what is known by the history, and what its messages leave out.
-use Rattle.std.proofs.Common.{◌≡◌, ℕ, zero, suc, ◌+◌, ◌*◌, Bool, true, false, cond, List, [], ◌∷◌, ◌++◌, map, length, get_or, take, Option, Some, None, refl, sym, ap, ap₂, ◌∙◌, subst, ⊎_elim, arith}
+use Rattle.std.proofs.Common.{◌≡◌, ℕ, zero, suc, ◌+◌, ◌*◌, Bool, true, false, cond, List, [], ◌∷◌, map, length, get_or, Option, Some, None, refl, sym, ap, ap₂, ◌∙◌, subst}
 use Rattle.std.specs.Prelude.{◌&&◌, ◌||◌, not, is_some, is_none, option_map, slice_get, if◌then◌else◌, IsSome, Result, Ok, Err, IfOk}
-use Rattle.std.specs.List.{AllByRecursion, filter}
-use Rattle.std.proofs.lemmas.Bool.{cases_Bool, false≢true}
+use Rattle.std.specs.List.{filter}
+use Rattle.std.proofs.lemmas.Bool.{false≢true}
 use Rattle.std.proofs.lemmas.List.{length-map}
 use Rattle.std.proofs.lemmas.Result.{IfOk-weaker}
 use Rattle.uo_digest.specs.declared.digest.Digest.{Digest}
 use Rattle.forest_place.specs.declared.place.Place.{Place}
 use Rattle.forest_place.specs.Forest.{is_root, sibling_off}
-use Rattle.forest_model.specs.EntryPlace.{entry_place}
 use Rattle.forest_model.specs.Cover.{HasShape, cover, cover_of_halves, need}
-use Rattle.forest_model.specs.Evaluation.{asked, nothing_known}
+use Rattle.forest_model.specs.Evaluation.{asked}
 use Rattle.forest_model.specs.Right.{entries}
 use Rattle.forest_model.specs.Standing.{digest_at}
 use Rattle.leaf_record.specs.Leaf.{Leaf}
 use Rattle.leaf_record.specs.History.{History, somes}
-use Rattle.cache_model.specs.Known.{is_known, kept_places, known_at}
+use Rattle.cache_model.specs.Known.{is_known, kept_places}
 use Rattle.cache_model.specs.Cache.{held}
 use Rattle.cache_model.specs.Lists.{kept_leaves, IsCacheOf}
 use Rattle.cache_model.proofs.Histories.{known_is, is_ordered}
@@ -25,7 +24,7 @@ use Rattle.node_rules.specs.Judging.{known_for}
 use Rattle.node_rules.specs.Machine.{State}
 use Rattle.node_rules.proofs.Righting.{got_back, got_entry}
 use Rattle.bridge_forest.specs.State as forest
-use Rattle.output_index.specs.Held.{Held, held_at, leaf_at, is_live, NumbersRise}
+use Rattle.output_index.specs.Held.{Held, held_at, is_live}
 use Rattle.output_index.specs.Indexed.{IsIndexOf}
 use Rattle.output_index.proofs.HeldLaws.{live_is_held}
 use Rattle.output_index.proofs.Standing.{live_is_there}
@@ -34,7 +33,7 @@ use Rattle.bridge_prover.specs.Bridge.{BridgeState, spends_by, proof_by, message
 use Rattle.bridge_prover.specs.Judged.{proof_beside}
 use Rattle.bridge_prover.specs.Laws.{KnownIsOwn}
 use Rattle.bridge_prover.specs.Standing.{IsBridge, Stands}
-use Rattle.bridge_prover.specs.Watched.{scripts_of, noted_in, kept_in, places_in, known_list, known_of, known_in}
+use Rattle.bridge_prover.specs.Watched.{scripts_of, noted_in, kept_in, places_in, known_list, known_in}
 use Rattle.bridge_prover.proofs.Kept.{kept_shape}
 use Rattle.bridge_prover.proofs.Noting.{kept_same, kept_rise, kept_live, kept-live}
 use Rattle.bridge_prover.proofs.Rising.{all_mapped}

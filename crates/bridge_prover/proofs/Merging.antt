@@ -1,6 +1,6 @@
 -- Two ascending lists of places as one: what is covered and what is needed are what is known.
 use Rattle.std.proofs.Common.{◌≡◌, ℕ, ◌+◌, ◌<◌, ◌≤◌, Bool, true, false, cond, List, [], ◌∷◌, ◌++◌, length, get_or, take, drop, append-nil, refl, sym, ap, ap₂, ◌∙◌, subst, arith, ⊎_elim, inl, inr}
-use Rattle.std.specs.Prelude.{◌⊎◌, ◌&&◌, ◌||◌, ◌==◌, not, nat_lt, is_some, filter_map, Option, Some, None, option_map, if◌then◌else◌}
+use Rattle.std.specs.Prelude.{◌⊎◌, ◌&&◌, ◌||◌, ◌==◌, not, nat_lt, is_some, filter_map, Option, None, option_map, if◌then◌else◌}
 use Rattle.std.specs.List.{filter, cons_option}
 use Rattle.std.proofs.lemmas.Bool.{cases_Bool, or_cases, or_left, or_right, and_parts, false≢true, ltb-true, eqb-true, lt-ltb}
 use Rattle.std.proofs.Common.{eq-eqb}
@@ -16,12 +16,12 @@ use Rattle.forest_model.specs.Cover.{cover, is_needed, need}
 use Rattle.forest_model.specs.Standing.{digest_at}
 use Rattle.forest_model.proofs.Lists.{need_had}
 use Rattle.cache_model.specs.Known.{is_known}
-use Rattle.cache_model.specs.Cache.{held_at, held}
+use Rattle.cache_model.specs.Cache.{held}
 use Rattle.cache_model.specs.Undo.{is_before_place}
 use Rattle.proof_shape.specs.Survey.{IsCoverOf}
 use Rattle.proof_shape.proofs.Needing.{ascending_from_rises}
 use Rattle.proof_shape.proofs.Ordered.{has_at}
-use Rattle.bridge_prover.specs.Judged.{merged_under, merged}
+use Rattle.bridge_prover.specs.Judged.{merged}
 
 -- ---- one list at its end
 

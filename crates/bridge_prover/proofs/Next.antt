@@ -1,6 +1,6 @@
 -- What a bridge keeps after a block is again what a bridge keeps, and stands for the next level.
-use Rattle.std.proofs.Common.{◌≡◌, ◌≢◌, ℕ, zero, suc, ◌+◌, ◌<◌, ◌≤◌, ◌^◌, true, List, [], ◌∷◌, ◌++◌, map, set, take, length, Option, Some, None, refl, sym, ap, ap₂, ◌∙◌, subst, arith}
-use Rattle.std.specs.Prelude.{slice_get, is_some, nat_lt, nat_le, option_map, unwrap_or, All, AllPairs}
+use Rattle.std.proofs.Common.{◌≡◌, ◌≢◌, ℕ, zero, suc, ◌+◌, ◌<◌, ◌≤◌, ◌^◌, true, List, [], ◌∷◌, ◌++◌, map, set, take, length, Option, Some, None, refl, sym, ap, ◌∙◌, subst, arith}
+use Rattle.std.specs.Prelude.{slice_get, is_some, nat_lt, nat_le, option_map, unwrap_or, AllPairs}
 use Rattle.std.specs.List.{AllByRecursion}
 use Rattle.std.proofs.lemmas.Bool.{and_parts, ltb-true, leb-true}
 use Rattle.std.proofs.lemmas.List.{length-map, length-append, append-nil, set-append_left, length-take}
@@ -14,7 +14,6 @@ use Rattle.leaf_record.specs.Leaf.{Leaf}
 use Rattle.leaf_record.specs.History.{History, spent}
 use Rattle.proof_wire.specs.BlockProof.{targets_of}
 use Rattle.block_rules.specs.declared.chain.Chain.{Chain}
-use Rattle.block_rules.specs.declared.chain.Outside.{Outside}
 use Rattle.block_rules.specs.declared.refusal.Refusal.TheVariants as Why
 use Rattle.block_rules.specs.Steps.{unless, first_of}
 use Rattle.block_rules.specs.Blocks.{external, new_records}
@@ -22,7 +21,7 @@ use Rattle.block_rules.specs.Rules.{block_steps, has_room}
 use Rattle.block_rules.specs.Money.{spends_of, money_steps}
 use Rattle.block_rules.proofs.Firsts.{each_passes, append_passes, unless-passed}
 use Rattle.node_rules.specs.Judging.{Rules, Evidence, own, refusal, history_after}
-use Rattle.node_rules.specs.Machine.{Level, State, chain_of}
+use Rattle.node_rules.specs.Machine.{Level, State}
 use Rattle.node_rules.specs.Accepting.{shape_fault}
 use Rattle.node_rules.proofs.Righting.{got_back, got_entry}
 use Rattle.node_rules.proofs.Spending.{entries-after}
@@ -35,7 +34,7 @@ use Rattle.bridge_forest.specs.State as forest
 use Rattle.bridge_prover.specs.Own.{own_in, numbered, spent_in}
 use Rattle.bridge_prover.specs.Bridge.{BridgeState, refusal_on, record_of, dropped, bridge_with, spends_by}
 use Rattle.bridge_prover.specs.Judged.{HaveShape, IsReady}
-use Rattle.bridge_prover.specs.Standing.{IsLiveIn, Undoes, AreHeld, GiveBack, Stands, IsBridge}
+use Rattle.bridge_prover.specs.Standing.{IsLiveIn, Undoes, GiveBack, Stands, IsBridge}
 use Rattle.bridge_prover.proofs.Indexing.{above-numbered, append_same}
 use Rattle.bridge_prover.proofs.Owning.{all_index, own_same, live_each, apart, shaped}
 use Rattle.bridge_prover.proofs.Rising.{all_mapped, rise-numbered, rise-spent, rise-forgotten, above-forgotten, leaf-append, leaf-spent}

@@ -18,7 +18,7 @@ use Rattle.block_rules.specs.declared.verdict.Verdict.{Verdict}
 use Rattle.block_rules.specs.declared.verdict.Verdict.TheVariants.{Accepted, RolledBack, TooDeep}
 use Rattle.block_rules.specs.Blocks.{external, new_records}
 use Rattle.node_rules.specs.Reading.{Handed}
-use Rattle.node_rules.specs.Judging.{Rules, Evidence, own, refusal, message_of, proof_of}
+use Rattle.node_rules.specs.Judging.{Rules, Evidence, own, refusal, proof_of}
 use Rattle.node_rules.specs.Machine.{ChainEvent, BlockCame, RollbackCame, StrayCame, Level, State, Outcome, chain_of, height_of, back, by_refusal, is_made, verdict_by}
 use Rattle.node_rules.specs.Proving.{written_text, text_beside}
 use Rattle.bridge_forest.specs.Blocks.{all_restored}
@@ -28,12 +28,12 @@ use Rattle.compact_node.specs.Node.{gone_to}
 use Rattle.bridge_prover.specs.Own.{own_in, cut_in, unspent_in}
 use Rattle.bridge_prover.specs.Bridge.{BridgeState, fresh_bridge, refusal_on, chain_before, chain_back, restored_in, verdict_on, bridge_with, bridge_by, after_block, undone_by, gone_back, next_bridge, proof_by, message_by, told_if, message_on}
 use Rattle.bridge_prover.specs.Judged.{CanUndo}
-use Rattle.bridge_prover.specs.Standing.{Undoes, GiveBack, Stands, IsBridge}
-use Rattle.bridge_prover.specs.Laws.{own_outcome, text_by, own_text, IsAsOwn, BridgeIsOwn, FreshStands, FreshIsBridge, NextIsBridge}
+use Rattle.bridge_prover.specs.Standing.{GiveBack, Stands, IsBridge}
+use Rattle.bridge_prover.specs.Laws.{own_outcome, text_by, BridgeIsOwn, FreshStands, FreshIsBridge, NextIsBridge}
 use Rattle.bridge_prover.proofs.Giving.{length-after, older_few}
 use Rattle.bridge_prover.proofs.Owning.{own_same, proof_same}
 use Rattle.bridge_prover.proofs.Next.{IsAt, at_level, at-then, own_live, own_apart, next_is}
-use Rattle.bridge_prover.proofs.Undoing.{IsLast, at-undone, can_undo}
+use Rattle.bridge_prover.proofs.Undoing.{at-undone, can_undo}
 
 pub fresh_stands : FreshStands
 fresh_stands H text net limits watch = record { chain = refl; entries = refl; index = refl; undo = tt }

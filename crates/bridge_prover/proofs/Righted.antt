@@ -20,7 +20,7 @@ use Rattle.leaf_record.specs.History.{somes, History}
 use Rattle.proof_wire.specs.BlockProof.{rests_of}
 use Rattle.proof_shape.specs.Targeted.{Targeted}
 use Rattle.block_rules.specs.declared.chain.Outside.{Outside}
-use Rattle.node_rules.specs.Messages.{Message, named, targets, point_of, points_of, claimed, known_to}
+use Rattle.node_rules.specs.Messages.{Message, targets, point_of, points_of, claimed, known_to}
 use Rattle.node_rules.specs.Reading.{read}
 use Rattle.node_rules.specs.Right.{leaf_number, entry_number_at, is_leaf, is_live, stands_for, all_stand, same_digests}
 use Rattle.node_rules.specs.Judging.{is_right_message}

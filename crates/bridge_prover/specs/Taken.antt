@@ -1,5 +1,5 @@
 -- What the calls on a block with a message beside it answer.
-use Rattle.std.specs.Prelude.{◌≡◌, ℕ, Bool, true, false, List, [], Option, Some, None}
+use Rattle.std.specs.Prelude.{◌≡◌, ℕ, Bool, true, false, List, Option, Some, None}
 use Rattle.uo_digest.specs.declared.digest.Digest.{Digest}
 use Rattle.block_codec.specs.Block.{Block}
 use Rattle.leaf_record.specs.Leaf.{Leaf}

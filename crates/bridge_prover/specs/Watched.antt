@@ -1,5 +1,5 @@
 -- What is known of the forest to one with a watch list, by an index of outputs.
-use Rattle.std.specs.Prelude.{ℕ, Bool, false, ◌&&◌, List, [], map, length, Option, Some, None, unwrap_or, if◌then◌else◌}
+use Rattle.std.specs.Prelude.{ℕ, Bool, ◌&&◌, List, [], map, length, Option, Some, None, unwrap_or, if◌then◌else◌}
 use Rattle.std.specs.List.{filter}
 use Rattle.uo_digest.specs.declared.digest.Digest.{Digest}
 use Rattle.forest_place.specs.declared.place.Place.{Place}

@@ -1,4 +1,4 @@
-use Rattle.std.proofs.Common.{List, [], inl, inr}
+use Rattle.std.proofs.Common.{[], inl, inr}
 use Rattle.cache_model.specs.Cache.{look}
 use Rattle.compact_node.proofs.Sent.{none_known}
 use Rattle.compact_node.proofs.Deciding.{handed_on}

@@ -1,12 +1,10 @@
-use Rattle.std.proofs.Common.{◌≡◌, List, ℕ, [], length, map, sym, subst}
+use Rattle.std.proofs.Common.{◌≡◌, [], sym, subst}
 use Rattle.std.specs.Prelude.{OnOk}
-use Rattle.uo_digest.specs.declared.digest.Digest.{Digest}
 use Rattle.leaf_record.specs.Leaf.{leaf_text}
 use Rattle.leaf_cache.specs.Parted.{HasNothing}
 use Rattle.cache_model.specs.Lists.{moved_leaves, leaf_places}
 use Rattle.cache_model.specs.Steps.{held_deleted}
 use Rattle.cache_update.specs.Marks.{pairs_within}
-use Rattle.proof_shape.specs.Targeted.{Targeted}
 use Rattle.compact_node.specs.After.{kept_with_all, held_with_all}
 use Rattle.compact_node.specs.Claimed.{targets_of}
 use Rattle.compact_node.proofs.Deciding.{on_ok}

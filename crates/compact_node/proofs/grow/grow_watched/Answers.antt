@@ -17,4 +17,3 @@ returns-clause-held g c =
     c.append.ensures.held
     ∙ ap₂ (λ (w : List (List ℕ)) (hs : List (Place × Digest)). held_with_all g.D.Digester.digest_of leaf_text w c.args.roots.now c.args.spends.now.new hs) (c.after_delete.ensures.watch ∙ c.in_ok-mark.ensures.watch)
     (c.after_delete.ensures.held ∙ ap₂ left c.in_ok-mark.ensures.lists.0 c.in_ok-mark.ensures.lists.1)
-

@@ -1,6 +1,5 @@
 use Rattle.std.proofs.Common.{◌∙◌}
 use Rattle.leaf_record.specs.Leaf.{leaf_text}
-use Rattle.bridge_prover.specs.Bridge.{BridgeState}
 use Rattle.bridge_prover.proofs.Leaving.{lives_stand, places_shaped, kept_found}
 use Rattle.bridge_prover.proofs.bridge.Bridge.kept.Goals as goal
 
