@@ -57,7 +57,7 @@ def calls_in(text, names):
 def all_calls():
     """The public calls of all crates but those that serve tests and measurements."""
     for crate in sorted((TOP / "crates").iterdir()):
-        if (crate / "src/lib.rt").exists() and crate.name not in ("block_samples", "genesis_block", "compact_tests"):
+        if (crate / "src/lib.rt").exists() and crate.name not in ("block_samples", "genesis_block", "compact_tests", "bench_parts"):
             found = list(calls_of(crate))
             if found:
                 yield crate.name, found

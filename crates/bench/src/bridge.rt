@@ -1,8 +1,5 @@
 //! A bridge that judges blocks and proves them.
-use crate::arena::digest_alone;
-use crate::needs::needs_of;
-use crate::spending::Purse;
-use crate::stopwatch::Stopwatch;
+use bench_parts::{Purse, Stopwatch, digest_alone, needs_of};
 use block_samples::SampleFault;
 use bridge_prover::Bridge;
 use leaf_cache::Watch;

@@ -1,6 +1,5 @@
 //! Writing and reading a node's state.
-use crate::spending::Purse;
-use crate::stopwatch::Stopwatch;
+use bench_parts::{Purse, Stopwatch};
 use block_samples::SampleFault;
 use compact_node::Node;
 use leaf_cache::Watch;

@@ -51,6 +51,7 @@ pub fn block_of(
 }
 
 impl Purse {
+    /// Nothing to spend yet, and before the first block of a chain. One output in so many has the script 52.
     pub fn new(alloc: Global, every: u64) -> Purse {
         Purse {
             alloc,

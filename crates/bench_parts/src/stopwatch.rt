@@ -10,6 +10,7 @@ pub struct Stopwatch {
 }
 
 impl Stopwatch {
+    /// An error is one of the clock, here and in `lap`.
     pub fn start<R: CpuClock>(rt: &R) -> io::Result<Stopwatch> {
         let last = rt.thread_cpu_time()?;
         Ok(Stopwatch { last })

@@ -1,0 +1,42 @@
+//! What `bench` measures of the crates beneath node and bridge, and what it measures those two with.
+//!
+//! Each `measure_` call, and `hash_input`, is one of its words. Blocks of a `Purse`, a `Stopwatch`, `digest_alone` and `needs_of` serve
+//! the words that it has besides. They stand in a crate of their own, so that they are proved while node and bridge are.
+#![tactic(auto)]
+
+mod arena;
+mod cache;
+mod codecs;
+mod digests;
+mod feeds;
+mod finder;
+mod forest;
+mod hash;
+mod messages;
+mod names;
+mod needs;
+mod outputs;
+mod probe;
+mod rate;
+mod rules;
+mod spending;
+mod stopwatch;
+mod targets;
+mod verify;
+
+pub use arena::{digest_alone, measure_arena};
+pub use cache::measure_cache;
+pub use codecs::measure_codecs;
+pub use digests::measure_digests;
+pub use feeds::measure_feeds;
+pub use finder::measure_finder;
+pub use forest::measure_forest;
+pub use hash::hash_input;
+pub use messages::measure_messages;
+pub use needs::needs_of;
+pub use outputs::measure_outputs;
+pub use rules::measure_rules;
+pub use spending::Purse;
+pub use stopwatch::Stopwatch;
+pub use targets::measure_targets;
+pub use verify::measure_verify;
