@@ -3,7 +3,7 @@ ghost use Rattle.std.specs.Prelude.{◌^◌, ◌<◌};
 ghost use Rattle.forest_place.specs.Forest.{InForest};
 
 use forest_place::{Place, place_of, sibling};
-use proof_shape::{ShapeFault, Targets};
+use proof_shape::{ShapeFault, TargetPaths, Targets};
 use std::alloc::Global;
 use std::process::Abort;
 use std::test::Fail;
@@ -30,6 +30,7 @@ fn judges_positions(rt: HostRuntime) {
     for (n, positions, want) in &LISTS {
         assert!(rt; *n < 1 << 40 && positions.len() < 1 << 32);
         assert!(rt; Targets::new(rt.alloc(), *n, positions).err() == *want);
+        assert!(rt; TargetPaths::new(rt.alloc(), *n, positions).err() == *want);
     }
 }
 
@@ -69,6 +70,34 @@ fn moves_in_eight(rt: HostRuntime) -> Result<(), Fail> {
     for (row, off, want) in MOVES {
         assert!(rt; goes(&rt, &targets, row, off) == want);
     }
+    Ok(())
+}
+
+/// The third and the fourth of eight entries, and the places above them.
+const PATHS: [Place; 5] = [
+    Place { row: 0, off: 2 },
+    Place { row: 0, off: 3 },
+    Place { row: 1, off: 1 },
+    Place { row: 2, off: 0 },
+    Place { row: 3, off: 0 },
+];
+
+/// What a proof of them has to give.
+const BESIDE: [Place; 2] = [Place { row: 1, off: 0 }, Place { row: 2, off: 1 }];
+
+#[test]
+fn paths_in_eight(rt: HostRuntime) -> Result<(), Fail> {
+    let paths = TargetPaths::new(rt.alloc(), 8, &[2, 3])?;
+    assert!(rt; paths.leaves() == 8);
+    assert!(rt; paths.places() == &PATHS[..2]);
+    assert!(rt; paths.covered() == PATHS.as_slice());
+    assert!(rt; paths.needed_count() == 2);
+    let needed = paths.needed(rt.alloc())?;
+    assert!(rt; needed.as_slice() == BESIDE.as_slice());
+    let targets = Targets::of(rt.alloc(), paths)?;
+    assert!(rt; targets.needed() == BESIDE.as_slice());
+    assert!(rt; goes(&rt, &targets, 0, 0) == Some((1, 0)));
+    assert!(rt; TargetPaths::none(rt.alloc(), 8).covered().is_empty());
     Ok(())
 }
 
