@@ -53,11 +53,13 @@ def feeds(room):
         make(shorter, BENCH / "proved_feed.py", str(entries), "0", "0")
         for spends, blocks in SPENT:
             make(longer, BENCH / "proved_feed.py", str(entries), str(blocks), str(spends))
-            yield f"{spends} spends over {entries:,}", shorter, longer, blocks
+            yield f"{spends} spend{'s' if spends > 1 else ''} over {entries:,}", shorter, longer, blocks
 
 
 def main():
     commands = sys.argv[1:]
+    if not commands:
+        sys.exit(__doc__)
     with tempfile.TemporaryDirectory() as room:
         for name, shorter, longer, blocks in feeds(pathlib.Path(room)):
             each = [(counted(command, longer) - counted(command, shorter)) / blocks for command in commands]
