@@ -1,8 +1,6 @@
 -- What is made of a message for one who watches nothing, or for one who may hold digests.
 use Rattle.std.proofs.Common.{◌≡◌, ℕ, Bool, true, false, List, [], None, refl, subst}
-use Rattle.std.proofs.lemmas.Bool.{false≢true}
-use Rattle.std.specs.Prelude.{Result, Ok, Err, IfOk, IsTrue}
-use Rattle.std.specs.Bool.{OnTrue}
+use Rattle.std.specs.Prelude.{Result, Ok, Err, IfOk}
 use Rattle.uo_digest.specs.declared.digest.Digest.{Digest}
 use Rattle.proof_shape.specs.Targeted.{Targeted}
 use Rattle.node_rules.specs.Messages.{known_to}
@@ -25,15 +23,6 @@ pub all_sent : {E : Type 0} (r : Result SpendProof E) (P : Type 0) → P → IfO
 all_sent (Ok proof) P p = sent_any proof P p
 all_sent (Err e) P p = tt
 
--- and what follows
-pub sent_more : (proof : SpendProof) (P Q : Type 0) → (P → Q) → IfSent proof P → IfSent proof Q
-sent_more (Sent paths hashes) P Q f p = f p
-sent_more (Whole targets hashes) P Q f p = tt
-
 -- and holds where there is no more
 pub of_sent : (proof : SpendProof) (paths : Targeted) (hashes : List Digest) (P : Type 0) → proof ≡ Sent paths hashes → IfSent proof P → P
 of_sent proof paths hashes P is p = subst (λ x. IfSent x P) is p
-
-pub on_true : (b : Bool) (P : Type 0) → OnTrue b P → IsTrue b → P
-on_true true P p t = p
-on_true false P p t = absurd (false≢true t)
