@@ -368,7 +368,7 @@ impl<D: Digester> Bridge<D> {
         let spent = rising(self.alloc, &numbers)?;
         self.forest.reserve(digests.len() as u64)?;
         self.noted.reserve(noted.len())?;
-        insert_all(self.alloc, &mut self.outputs, self.chain.leaves, spends)?;
+        insert_all(&mut self.outputs, self.chain.leaves, spends)?;
         // Nothing can fail from here on.
         append(&mut self.noted, &noted);
         spend_all(&mut self.outputs, &numbers);

@@ -8,12 +8,10 @@ ghost use Rattle.bridge_prover.specs.Own.{numbered, spent_in, forgotten_in, cut_
 use block_rules::{Chain, Spends};
 use output_index::Outputs;
 use reorg_undo::{Ring, Undo};
-use std::alloc::Global;
 use uo_base::NoMemory;
 
 // Adds one of the block's new records.
 fn insert(
-    alloc: Global,
     outputs: &mut Outputs,
     number: u64,
     spends: &Spends<'_>,
@@ -24,9 +22,7 @@ fn insert(
     ensures ok { OnOk result ((leaf : Leaf) × (slice_get spends.now.new i ≡ Some leaf) × (outputs.new ≡ outputs.old ++ record { number = number; leaf = leaf; live = true } ∷ [])) }
     ensures err { OnErr result (outputs.new ≡ outputs.old) }
 {
-    let leaf = spends.new_output(i);
-    let record = leaf.to_record(alloc)?;
-    outputs.insert(number, record)
+    outputs.insert_view(number, &spends.new_output(i))
 }
 
 // Takes back the live entries from n on, of which the last has the number before `end`.
@@ -45,7 +41,6 @@ pub(crate) fn cut(outputs: &mut Outputs, n: u64, end: u64)
 
 // Adds the block's new records as live entries, numbered from n on. Where there is no memory, none is added.
 pub(crate) fn insert_all(
-    alloc: Global,
     outputs: &mut Outputs,
     n: u64,
     spends: &Spends<'_>,
@@ -56,7 +51,7 @@ pub(crate) fn insert_all(
     ensures err { OnErr result (outputs.new ≡ outputs.old) }
 {
     for i in 0..spends.new_count() {
-        let Ok(()) = insert(alloc, outputs, n + i, spends, i) else {
+        let Ok(()) = insert(outputs, n + i, spends, i) else {
             cut(outputs, n, n + i);
             return Err(NoMemory);
         };
