@@ -34,11 +34,11 @@ rests-spends (t ∷ ts) [] e = absurd (omega arith)
 rests-spends (t ∷ ts) (r ∷ rs) e = ap (λ xs. r ∷ xs) (rests-spends ts rs (omega arith))
 
 -- a list of spends is told by its targets and rests
-spends_told : (ss : List Spend) → spends_of (targets_of ss) (rests_of ss) ≡ ss
+pub spends_told : (ss : List Spend) → spends_of (targets_of ss) (rests_of ss) ≡ ss
 spends_told [] = refl
 spends_told (s ∷ ss) = ap (λ xs. s ∷ xs) (spends_told ss)
 
-parts_fit : (ss : List Spend) → AllByRecursion SpendFits ss → AllByRecursion IsTarget (targets_of ss) × AllByRecursion RestFits (rests_of ss)
+pub parts_fit : (ss : List Spend) → AllByRecursion SpendFits ss → AllByRecursion IsTarget (targets_of ss) × AllByRecursion RestFits (rests_of ss)
 parts_fit [] all = (tt, tt)
 parts_fit (s ∷ ss) all = let others = parts_fit ss all.1 in ((all.0.target, others.0), (all.0.rest, others.1))
 

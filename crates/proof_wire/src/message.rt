@@ -1,13 +1,11 @@
 //! Making a message.
-ghost use Rattle.std.specs.Prelude.{◌≡◌, ◌∷◌, ◌++◌, [], map, IfOk, OnOk, OnErr};
+ghost use Rattle.std.specs.Prelude.{◌≡◌, ◌<◌, ◌^◌, ◌∷◌, ◌++◌, [], length, OnOk, OnErr};
 ghost use Rattle.std.specs.Int.{w64, to_le_bytes};
-ghost use Rattle.std.specs.List.{flat_map};
 ghost use Rattle.uo_base.specs.Moved.{Grew};
 ghost use Rattle.uo_base.specs.Reading.{OneReading};
 ghost use Rattle.uo_base.specs.Compact.{counted};
 ghost use Rattle.uo_digest.specs.Reading.{digest_text};
-ghost use Rattle.leaf_record.specs.Leaf.{RestFits, rest_text};
-ghost use Rattle.proof_wire.specs.BlockProof.{ProofFits, MessageFits, kind_of, targets_of, rests_of, message_text};
+ghost use Rattle.proof_wire.specs.BlockProof.{ProofFits, MessageFits, kind_of, message_text};
 
 use leaf_record::{RestView, write_rest};
 use std::alloc::Global;
@@ -15,77 +13,25 @@ use std::marker::Model;
 use uo_base::{NoMemory, put_compact};
 use uo_digest::Digest;
 
-/// A spend that owns its script.
-#[derive(Debug, Drop)]
-struct OwnedSpend {
-    target: u64,
-    block: Digest,
-    height: u32,
-    coinbase: bool,
-    amount: u64,
-    script: Vec<u8>,
-}
-
-impl Model for OwnedSpend {
-    ghost use Rattle.std.specs.Prelude.{◌<◌, ◌≤◌, ◌^◌, length};
-    ghost use Rattle.leaf_record.specs.Leaf.{Rest, longest_script};
-    ghost use Rattle.proof_wire.specs.BlockProof.{Spend};
-
-    ghost Value = { Spend };
-
-    ghost view = { λ s. record { target = s.target; rest = record { block = s.block; height = s.height; coinbase = s.coinbase; amount = s.amount; script = s.script.items } } };
-
-    ghost invariant = { λ s. (s.height < 2 ^ 31) × (length s.script.items ≤ longest_script) };
-}
-
-impl OwnedSpend {
-    fn new(alloc: Global, target: u64, rest: &RestView<'_>) -> Result<OwnedSpend, NoMemory>
-        ensures spend { IfOk result (λ s. s ≡ record { target = target; rest = rest.now }) }
-        ensures fits { RestFits rest.now }
-    {
-        let amount = rest.amount;
-        Ok(OwnedSpend {
-            target,
-            block: rest.block,
-            height: rest.height,
-            coinbase: rest.coinbase,
-            amount,
-            script: Vec::from_slice(alloc, rest.script)?,
-        })
-    }
-
-    fn rest(&self) -> RestView<'_>
-        ensures { result ≡ self.now.rest }
-    {
-        RestView {
-            block: self.block,
-            height: self.height,
-            coinbase: self.coinbase,
-            amount: self.amount,
-            script: &self.script,
-        }
-    }
-}
-
 /// A message that is made spend by spend and hash by hash; contracts see what it says.
 #[derive(Debug, Drop)]
 pub struct Message {
     lean: bool,
-    spends: Vec<OwnedSpend>,
+    targets: Vec<u64>,
+    // The text of the rest at each target, one behind the other.
+    rests: Vec<u8>,
     hashes: Vec<Digest>,
-    alloc: Global,
 }
 
 impl Model for Message {
-    ghost use Rattle.std.specs.List.{AllByRecursion};
-    ghost use Rattle.uo_digest.specs.Reading.{IsDigest};
-    ghost use Rattle.proof_wire.specs.BlockProof.{ProofMessage, SpendFits};
+    ghost use Rattle.proof_wire.specs.BlockProof.{ProofMessage};
+    ghost use Rattle.proof_wire.specs.Making.{proof_made, IsMade};
 
     ghost Value = { ProofMessage };
 
-    ghost view = { λ m. record { lean = m.lean; proof = record { spends = m.spends.items; hashes = m.hashes.items } } };
+    ghost view = { λ m. record { lean = m.lean; proof = proof_made m.targets.items m.rests.items m.hashes.items } };
 
-    ghost invariant = { λ m. AllByRecursion SpendFits m.spends.items × AllByRecursion IsDigest m.hashes.items };
+    ghost invariant = { λ m. IsMade m.targets.items m.rests.items m.hashes.items };
 }
 
 impl Message {
@@ -95,9 +41,9 @@ impl Message {
     {
         Message {
             lean,
-            spends: Vec::new(alloc),
+            targets: Vec::new(alloc),
+            rests: Vec::new(alloc),
             hashes: Vec::new(alloc),
-            alloc,
         }
     }
 
@@ -106,9 +52,15 @@ impl Message {
         ensures ok { OnOk result (self.new ≡ record { lean = self.old.lean; proof = record { spends = self.old.proof.spends ++ record { target = target; rest = rest.now } ∷ []; hashes = self.old.proof.hashes } }) }
         ensures err { OnErr result (self.new ≡ self.old) }
     {
-        let spend = OwnedSpend::new(self.alloc, target, rest)?;
-        self.spends.push(spend)?;
-        Ok(())
+        let start = self.rests.len();
+        write_rest(rest, &mut self.rests)?;
+        match self.targets.push(target) {
+            Ok(()) => Ok(()),
+            Err(_) => {
+                self.rests.truncate(start);
+                Err(NoMemory)
+            }
+        }
     }
 
     /// One more hash.
@@ -120,21 +72,16 @@ impl Message {
         Ok(())
     }
 
-    #[tactic(auto, unfolding(crate::specs::BlockProof::body_text))]
     fn put(&self, out: &mut Vec<u8>) -> Result<(), NoMemory>
         ensures ok { OnOk result (out.new.items ≡ out.old.items ++ message_text self.now) }
         ensures err { OnErr result (Grew out.old.items out.new.items) }
         ensures fits { ProofFits self.now.proof }
     {
-        let spends = self.spends.as_slice();
-        out.extend_from_slice(&[1, kind_byte(self.lean)])?;
-        put_targets(spends, out)?;
-        put_rests(spends, out)?;
-        put_hashes(&self.hashes, out)?;
-        Ok(())
+        put_parts(self.lean, &self.targets, &self.rests, &self.hashes, out)
     }
 
-    /// Appends the one text of the message. Where there is no memory, the text before it stays as it was.
+    /// Appends the one text of the message. Memory is asked for once at most. Where there is none, the text before it
+    /// stays as it was.
     pub fn write(&self, out: &mut Vec<u8>) -> Result<(), NoMemory>
         ensures ok { OnOk result (out.new.items ≡ out.old.items ++ message_text self.now) }
         ensures err { OnErr result (out.new.items ≡ out.old.items) }
@@ -152,6 +99,20 @@ impl Message {
     }
 }
 
+/// Room for version and kind, and for two counts in their longest form.
+const FIXED_ROOM: usize = 2 + 2 * 9;
+
+// For how many bytes room is taken at once: all that the text has, and at most 16 more. A sum that is too large stays the
+// largest number, for which there is no memory.
+fn room_for(targets: usize, rests: usize, hashes: usize) -> usize {
+    let targets = targets.saturating_mul(8);
+    let hashes = hashes.saturating_mul(32);
+    rests
+        .saturating_add(targets)
+        .saturating_add(hashes)
+        .saturating_add(FIXED_ROOM)
+}
+
 /// The second byte of a message.
 fn kind_byte(lean: bool) -> u8
     ensures { result ≡ kind_of lean }
@@ -162,23 +123,32 @@ fn kind_byte(lean: bool) -> u8
     }
 }
 
-fn put_targets(spends: &[OwnedSpend], out: &mut Vec<u8>) -> Result<(), NoMemory>
-    ensures ok { OnOk result (out.new.items ≡ out.old.items ++ counted (to_le_bytes w64) (targets_of spends.now)) }
+// The text, with the rests as they were spelled.
+fn put_parts(
+    lean: bool,
+    targets: &[u64],
+    rests: &[u8],
+    hashes: &[Digest],
+    out: &mut Vec<u8>,
+) -> Result<(), NoMemory>
+    ensures ok { OnOk result (out.new.items ≡ out.old.items ++ 1 ∷ kind_of lean ∷ (counted (to_le_bytes w64) targets.now ++ rests.now ++ counted digest_text hashes.now)) }
     ensures err { OnErr result (Grew out.old.items out.new.items) }
+    ensures few { (length targets.now < 2 ^ 64) × (length hashes.now < 2 ^ 64) }
 {
-    put_compact(out, spends.len() as u64)?;
-    for spend in spends {
-        out.extend_from_slice(&spend.target.to_le_bytes())?;
-    }
-    Ok(())
+    out.reserve(room_for(targets.len(), rests.len(), hashes.len()))?;
+    out.extend_from_slice(&[1, kind_byte(lean)])?;
+    put_targets(targets, out)?;
+    out.extend_from_slice(rests)?;
+    put_hashes(hashes, out)
 }
 
-fn put_rests(spends: &[OwnedSpend], out: &mut Vec<u8>) -> Result<(), NoMemory>
-    ensures ok { OnOk result (out.new.items ≡ out.old.items ++ flat_map rest_text (rests_of spends.now)) }
+fn put_targets(targets: &[u64], out: &mut Vec<u8>) -> Result<(), NoMemory>
+    ensures ok { OnOk result (out.new.items ≡ out.old.items ++ counted (to_le_bytes w64) targets.now) }
     ensures err { OnErr result (Grew out.old.items out.new.items) }
 {
-    for spend in spends {
-        write_rest(&spend.rest(), out)?;
+    put_compact(out, targets.len() as u64)?;
+    for target in targets {
+        out.extend_from_slice(&target.to_le_bytes())?;
     }
     Ok(())
 }
