@@ -14,7 +14,7 @@ unreachable-requires c =
     let e : Entry = c.at.result.now in
     let chains = c.args.chains.now in
     let at : entry_at c.args.number c.args.entries.now ≡ Some e = c.at.ensures in
-    let none : chain_at chains (mark_in e) ≡ None = sym (sym c.in_default.is ∙ (c.get.ensures ∙ ap (λ m. chain_at chains m) c.mark_of_record-mark.ensures)) in
+    let none : chain_at chains (mark_in e) ≡ None = sym (sym c.in_default.is ∙ (c.get.ensures ∙ ap (λ m. chain_at chains m) c.mark-mark.ensures)) in
     false≢true (subst IsSome none (chain-there c.args.number e c.args.entries.now chains at c.requires.chained))
 
 pub hang-requires : goal.hang-requires
@@ -30,7 +30,7 @@ returns-in-Some-newest_above-clause-chained c =
     let chains = c.args.chains.now in
     let at : entry_at n es ≡ Some e = c.at.ensures in
     let at_k : entry_at k es ≡ Some d = c.at-in-Some-newest_above.ensures in
-    let got : chain_at chains (mark_in e) ≡ Some c.in-Some.chain = sym (sym c.in-Some.is ∙ (c.get.ensures ∙ ap (λ m. chain_at chains m) c.mark_of_record-mark.ensures)) in
+    let got : chain_at chains (mark_in e) ≡ Some c.in-Some.chain = sym (sym c.in-Some.is ∙ (c.get.ensures ∙ ap (λ m. chain_at chains m) c.mark-mark.ensures)) in
     let told = subst (TellsAbove n c.in-Some.chain.newest) c.in-Some-newest_above.is c.newest_above.ensures in
     rw (c.hang.ensures, c.set_older.ensures) (chained-among n k c.in-Some-newest_above.newest e d es chains at c.requires.spent (ap top_in got ∙ told.0) c.next_above-newer.ensures at_k c.requires.chained)
 
@@ -51,7 +51,7 @@ returns-in-None-clause-chained c =
     let old = c.args.chains.now in
     let new = c.put.new.self in
     let at : entry_at n es ≡ Some e = c.at.ensures in
-    let mark = c.mark_of_record-mark.ensures in
+    let mark = c.mark-mark.ensures in
     let got : chain_at old (mark_in e) ≡ Some c.in-Some.chain = sym (sym c.in-Some.is ∙ (c.get.ensures ∙ ap (λ m. chain_at old m) mark)) in
     let put : chain_at new (mark_in e) ≡ Some (record { newest = Some n; others = c.in-Some.chain.others }) = ap (λ m. chain_at new m) (sym mark) ∙ c.put.ensures.here in
     let told = subst (TellsAbove n c.in-Some.chain.newest) c.in-None.is c.newest_above.ensures in

@@ -1,0 +1,8 @@
+-- The bytes of a script that is held.
+use Rattle.std.specs.Prelude.{ℕ, List}
+use Rattle.output_index.specs.declared.script.Script.{Script}
+use Rattle.output_index.specs.declared.script.Script.TheVariants.{Short, Long}
+
+abbrev pub script_text : Script → List ℕ
+script_text (Short bytes) = bytes.items
+script_text (Long bytes) = bytes.items
