@@ -1,5 +1,5 @@
 //! A locking script that is held.
-ghost use Rattle.std.specs.Prelude.{◌≡◌, IfOk};
+ghost use Rattle.std.specs.Prelude.{◌≡◌, [], IfOk};
 ghost use Rattle.output_index.specs.Scripts.{script_text};
 
 use arrayvec::ArrayVec;
@@ -18,6 +18,12 @@ pub(crate) enum Script {
 }
 
 impl Script {
+    pub fn empty() -> Self
+        ensures { script_text result ≡ [] }
+    {
+        Script::Short(ArrayVec::new())
+    }
+
     pub fn copied(alloc: Global, text: &[u8]) -> Result<Self, NoMemory>
         ensures { IfOk result (λ script. script_text script ≡ text.now) }
     {

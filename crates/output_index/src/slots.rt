@@ -1,7 +1,7 @@
 //! The entries by their numbers.
-ghost use Rattle.std.specs.Prelude.{◌≡◌, ◌<◌, ◌++◌, [], ◌∷◌, length, OnOk, OnErr, IsSome, option_map};
+ghost use Rattle.std.specs.Prelude.{◌≡◌, ◌<◌, ◌++◌, [], ◌∷◌, length, Some, IfOk, OnOk, OnErr, IsSome, option_map};
 ghost use Rattle.std.specs.List.{AllByRecursion};
-ghost use Rattle.output_index.specs.Chains.{entry_at, changed, removed, set_live, set_older, entries_from};
+ghost use Rattle.output_index.specs.Chains.{entry_at, changed, removed, set_live, set_older, entries_from, mark_in};
 
 use crate::entry::{Entry, Slot};
 use std::alloc::Global;
@@ -10,9 +10,14 @@ use uo_base::NoMemory;
 
 /// The entries, each at its number, so that none is searched for. Numbers are those of a forest's entries, which come in a row; each
 /// takes sixteen bytes, also where nothing is held any more.
+///
+/// The cells of entries that were taken out are kept for the next ones, so that a block which spends as many outputs as it makes asks
+/// for no memory here. A new cell is made only where none is spare, so there are never more, held and spare, than the most entries that
+/// were held at once.
 #[derive(Drop)]
 pub(crate) struct Entries {
     slots: Vec<Option<Slot>>,
+    spare: Vec<Slot>,
 }
 
 impl Model for Entries {
@@ -32,6 +37,7 @@ impl Entries {
     {
         Entries {
             slots: Vec::new(alloc),
+            spare: Vec::new(alloc),
         }
     }
 
@@ -85,19 +91,38 @@ impl Entries {
         ensures ok { OnOk result (self.new ≡ self.old ++ (number, entry) ∷ []) }
         ensures err { OnErr result (self.new ≡ self.old) }
     {
-        let slot = Slot::new(alloc, entry)?;
         end_at(&mut self.slots, number as usize)?;
+        let slot = cell(&mut self.spare, alloc, entry)?;
         self.slots.push(Some(slot))?;
         Ok(())
     }
 
-    /// Takes out the entry of a number that is held.
-    pub fn remove(&mut self, number: u64) -> Option<Slot>
+    /// Takes out the entry of a number that is held, and answers its mark. Where there is no memory to keep its cell, that is given back.
+    pub fn remove(&mut self, number: u64) -> u64
         requires { IsSome (entry_at number self.old) }
-        ensures value { result ≡ entry_at number self.old }
+        ensures mark { Some result ≡ option_map mark_in (entry_at number self.old) }
         ensures entries { self.new ≡ removed number self.old }
     {
-        self.slots[number as usize].take()
+        let Some(mut slot) = self.slots[number as usize].take() else {
+            unreachable!()
+        };
+        let mark = slot.mark();
+        slot.clear_script();
+        drop(self.spare.push(slot));
+        mark
+    }
+}
+
+/// A spare cell, or a new one where none is spare, with this entry.
+fn cell(spare: &mut Vec<Slot>, alloc: Global, entry: Entry) -> Result<Slot, NoMemory>
+    ensures { IfOk result (λ slot. slot ≡ entry) }
+{
+    match spare.pop() {
+        Some(mut slot) => {
+            slot.set(entry);
+            Ok(slot)
+        }
+        None => Slot::new(alloc, entry),
     }
 }
 

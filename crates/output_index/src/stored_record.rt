@@ -2,6 +2,7 @@
 ghost use Rattle.std.specs.Prelude.{◌≡◌, IfOk};
 ghost use Rattle.leaf_record.specs.History.{same_point};
 ghost use Rattle.output_index.specs.Marks.{mark_of};
+ghost use Rattle.output_index.specs.Scripts.{without_script};
 
 use crate::mark::mark;
 use crate::script::Script;
@@ -68,6 +69,13 @@ impl StoredRecord {
         ensures { result ≡ mark_of self.now.point }
     {
         mark(&self.txid, self.index)
+    }
+
+    /// No script from now on, so that a long one's memory is given back.
+    pub fn clear_script(&mut self)
+        ensures { self.new ≡ without_script self.old }
+    {
+        self.script = Script::empty();
     }
 
     /// Whether this is the output with this name.
