@@ -12,7 +12,7 @@ use std::collections::btree_map::Entry;
 use std::marker::Model;
 use uo_base::NoMemory;
 
-/// So many maps, each for as many marks: those whose first 14 bits are the number of the map.
+/// So many maps, each for as many marks.
 const SHARDS: usize = 16_384;
 
 /// Chains by marks, in many small maps, so that a search meets few nodes. No map is there before the first chain comes.
@@ -99,12 +99,13 @@ impl Chains {
     }
 }
 
-/// The number of the map that a mark is in.
+/// The number of the map that a mark is in. The outputs of one transaction have marks that follow each other: runs of 64 lie side by
+/// side in one map, and the next run is in the next map, so no map gets deep by a transaction of many outputs.
 fn shard_of(mark: u64) -> usize
     ensures is { result ≡ shard_of mark }
     ensures few { result < 16384 }
 {
-    (mark / 1_125_899_906_842_624) as usize
+    (mark / 64 % 16_384) as usize
 }
 
 /// Makes the maps, if none is there.
