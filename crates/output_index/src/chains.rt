@@ -8,7 +8,6 @@ ghost use Rattle.output_index.specs.Chains.{AreShards, chain_at, top_in, count_i
 use crate::chain::{Chain, newest_above, without_top};
 use std::alloc::Global;
 use std::collections::BTreeMap;
-use std::collections::btree_map::Entry;
 use std::marker::Model;
 use uo_base::NoMemory;
 
@@ -170,16 +169,12 @@ fn leave_in(chains: &mut BTreeMap<u64, Chain>, mark: u64)
     ensures newest { IsSome (get nat_cmp chains.new mark) → top_in (get nat_cmp chains.new mark) ≡ top_in (get nat_cmp chains.old mark) }
     ensures others { (m : ℕ) → m ≢ mark → get nat_cmp chains.new m ≡ get nat_cmp chains.old m }
 {
-    let Ok(Entry::Occupied(mut held)) = chains.entry(mark) else {
+    let Some(chain) = chains.get_mut(&mark) else {
         unreachable!()
     };
-    let Chain { newest, others } = *held.get();
-    if others > 0 {
-        held.insert(Chain {
-            newest,
-            others: others - 1,
-        });
+    if chain.others > 0 {
+        chain.others -= 1;
     } else {
-        held.remove();
+        chains.remove(&mark);
     }
 }
