@@ -1,26 +1,25 @@
-//! The chains by their marks.
-ghost use Rattle.std.specs.Prelude.{◌≡◌, ◌≢◌, ◌/◌, ◌<◌, ◌^◌, ℕ, suc, [], length, Some, None, IsSome, IfOk, OnOk, OnErr};
+//! The newest entries by their marks.
+ghost use Rattle.std.specs.Prelude.{◌≡◌, ◌≢◌, ◌/◌, ◌<◌, ℕ, [], length, Some, None, IsSome, IfOk, OnOk, OnErr};
 ghost use Rattle.std.specs.BTreeMap.{get};
 ghost use Rattle.std.specs.Ordering.{nat_cmp};
-ghost use Rattle.output_index.specs.declared.chain.Chain.{Chain};
-ghost use Rattle.output_index.specs.Chains.{AreShards, chain_at, top_in, count_in, shard_of, shards_in, TellsAbove};
+ghost use Rattle.output_index.specs.Chains.{AreShards, chain_at, shard_of, shards_in, TellsOther};
 
-use crate::chain::{Chain, newest_above, without_top};
 use std::alloc::Global;
 use std::collections::BTreeMap;
+use std::collections::btree_map::Entry;
 use std::marker::Model;
 use uo_base::NoMemory;
 
 /// So many maps, each for as many marks.
 const SHARDS: usize = 16_384;
 
-/// Chains by marks, in many small maps, so that a search meets few nodes. No map is there before the first chain comes.
+/// The number of the newest held entry of each mark, live or spent. A mark is there exactly as long as an entry of it is held.
 ///
-/// A mark is there as long as an entry of it is held, so that none has to be added when one becomes live again.
+/// They lie in many small maps, so that a search meets few nodes. No map is there before the first entry comes.
 #[derive(Drop)]
 pub(crate) struct Chains {
     alloc: Global,
-    shards: Vec<BTreeMap<u64, Chain>>,
+    shards: Vec<BTreeMap<u64, u64>>,
 }
 
 impl Model for Chains {
@@ -34,7 +33,7 @@ impl Model for Chains {
 }
 
 impl Chains {
-    /// No chain.
+    /// No entry of any mark.
     pub fn new(alloc: Global) -> Self
         ensures { result ≡ [] }
     {
@@ -44,8 +43,8 @@ impl Chains {
         }
     }
 
-    /// The chain of a mark, if it is there.
-    pub fn get(&self, mark: u64) -> Option<Chain>
+    /// The newest entry of a mark; None where the mark is not there.
+    pub fn get(&self, mark: u64) -> Option<u64>
         ensures { result ≡ chain_at self.now mark }
     {
         match self.shards.get(shard_of(mark)) {
@@ -54,47 +53,29 @@ impl Chains {
         }
     }
 
-    /// Puts a chain at a mark. Where there is no memory, all marks tell what they told.
-    pub fn insert(&mut self, mark: u64, chain: Chain) -> Result<(), NoMemory>
-        ensures here { OnOk result (chain_at self.new mark ≡ Some chain) }
+    /// The entry is the newest of its mark from now on. The one that was the newest before is answered, if there was one. Where
+    /// there is no memory, all marks tell what they told.
+    pub fn put_newest(&mut self, mark: u64, number: u64) -> Result<Option<u64>, NoMemory>
+        ensures before { IfOk result (λ before. before ≡ chain_at self.old mark) }
+        ensures here { OnOk result (chain_at self.new mark ≡ Some number) }
         ensures others { (m : ℕ) → m ≢ mark → chain_at self.new m ≡ chain_at self.old m }
         ensures err { OnErr result (chain_at self.new mark ≡ chain_at self.old mark) }
     {
         make_shards(&mut self.shards, self.alloc)?;
-        self.shards[shard_of(mark)].insert(mark, chain)?;
-        Ok(())
+        let before = self.shards[shard_of(mark)].insert(mark, number)?;
+        Ok(before)
     }
 
-    /// Puts a chain at a mark that is there.
-    pub fn put(&mut self, mark: u64, chain: Chain)
+    /// Where the entry is the newest of its mark, the next older one is from now on, and the mark is gone where there is none.
+    /// Where another is the newest, it stays, and is answered.
+    pub fn take_newest(&mut self, mark: u64, number: u64, older: Option<u64>) -> Option<u64>
         requires { IsSome (chain_at self.old mark) }
-        ensures here { chain_at self.new mark ≡ Some chain }
+        ensures other { TellsOther number (chain_at self.old mark) result }
+        ensures older { result ≡ None → chain_at self.new mark ≡ older }
+        ensures stays { IsSome result → chain_at self.new mark ≡ chain_at self.old mark }
         ensures others { (m : ℕ) → m ≢ mark → chain_at self.new m ≡ chain_at self.old m }
     {
-        put_in(&mut self.shards[shard_of(mark)], mark, chain);
-    }
-
-    /// Takes a live entry, which tells the next older one, off the top of its chain. Where a newer one is at the top, the chain
-    /// stays, and that one is answered.
-    pub fn take_top(&mut self, mark: u64, number: u64, older: Option<u64>) -> Option<u64>
-        requires { IsSome (chain_at self.old mark) }
-        ensures above { TellsAbove number (top_in (chain_at self.old mark)) result }
-        ensures top { result ≡ None → top_in (chain_at self.new mark) ≡ older }
-        ensures stays { IsSome result → top_in (chain_at self.new mark) ≡ top_in (chain_at self.old mark) }
-        ensures count { count_in (chain_at self.new mark) ≡ count_in (chain_at self.old mark) }
-        ensures others { (m : ℕ) → m ≢ mark → chain_at self.new m ≡ chain_at self.old m }
-    {
-        take_top_in(&mut self.shards[shard_of(mark)], mark, number, older)
-    }
-
-    /// One entry of the mark is not held any more; without any the mark is gone.
-    pub fn leave(&mut self, mark: u64)
-        requires { IsSome (chain_at self.old mark) }
-        ensures count { suc (count_in (chain_at self.new mark)) ≡ count_in (chain_at self.old mark) }
-        ensures newest { IsSome (chain_at self.new mark) → top_in (chain_at self.new mark) ≡ top_in (chain_at self.old mark) }
-        ensures others { (m : ℕ) → m ≢ mark → chain_at self.new m ≡ chain_at self.old m }
-    {
-        leave_in(&mut self.shards[shard_of(mark)], mark);
+        take_newest_in(&mut self.shards[shard_of(mark)], mark, number, older)
     }
 }
 
@@ -108,7 +89,7 @@ fn shard_of(mark: u64) -> usize
 }
 
 /// Makes the maps, if none is there.
-fn make_shards(shards: &mut Vec<BTreeMap<u64, Chain>>, alloc: Global) -> Result<(), NoMemory>
+fn make_shards(shards: &mut Vec<BTreeMap<u64, u64>>, alloc: Global) -> Result<(), NoMemory>
     requires { AreShards (shards_in shards.old.items) }
     ensures same { (m : ℕ) → chain_at (shards_in shards.new.items) m ≡ chain_at (shards_in shards.old.items) m }
     ensures len { OnOk result (length shards.new.items ≡ 16384) }
@@ -121,7 +102,7 @@ fn make_shards(shards: &mut Vec<BTreeMap<u64, Chain>>, alloc: Global) -> Result<
 }
 
 /// All maps, in which nothing is yet.
-fn no_chains(alloc: Global) -> Result<Vec<BTreeMap<u64, Chain>>, NoMemory>
+fn no_chains(alloc: Global) -> Result<Vec<BTreeMap<u64, u64>>, NoMemory>
     ensures none { IfOk result (λ shards. (m : ℕ) → chain_at (shards_in shards.items) m ≡ None) }
     ensures len { IfOk result (λ shards. length shards.items ≡ 16384) }
 {
@@ -132,49 +113,33 @@ fn no_chains(alloc: Global) -> Result<Vec<BTreeMap<u64, Chain>>, NoMemory>
     Ok(shards)
 }
 
-fn put_in(chains: &mut BTreeMap<u64, Chain>, mark: u64, chain: Chain)
-    requires { IsSome (get nat_cmp chains.old mark) }
-    ensures here { get nat_cmp chains.new mark ≡ Some chain }
-    ensures others { (m : ℕ) → m ≢ mark → get nat_cmp chains.new m ≡ get nat_cmp chains.old m }
-{
-    if let Some(held) = chains.get_mut(&mark) {
-        *held = chain;
-    }
-}
-
-fn take_top_in(
-    chains: &mut BTreeMap<u64, Chain>,
+fn take_newest_in(
+    newest: &mut BTreeMap<u64, u64>,
     mark: u64,
     number: u64,
     older: Option<u64>,
 ) -> Option<u64>
-    requires { IsSome (get nat_cmp chains.old mark) }
-    ensures above { TellsAbove number (top_in (get nat_cmp chains.old mark)) result }
-    ensures top { result ≡ None → top_in (get nat_cmp chains.new mark) ≡ older }
-    ensures stays { IsSome result → top_in (get nat_cmp chains.new mark) ≡ top_in (get nat_cmp chains.old mark) }
-    ensures count { count_in (get nat_cmp chains.new mark) ≡ count_in (get nat_cmp chains.old mark) }
-    ensures others { (m : ℕ) → m ≢ mark → get nat_cmp chains.new m ≡ get nat_cmp chains.old m }
+    requires { IsSome (get nat_cmp newest.old mark) }
+    ensures other { TellsOther number (get nat_cmp newest.old mark) result }
+    ensures older { result ≡ None → get nat_cmp newest.new mark ≡ older }
+    ensures stays { IsSome result → get nat_cmp newest.new mark ≡ get nat_cmp newest.old mark }
+    ensures others { (m : ℕ) → m ≢ mark → get nat_cmp newest.new m ≡ get nat_cmp newest.old m }
 {
-    let Some(chain) = chains.get_mut(&mark) else {
+    let Ok(Entry::Occupied(mut held)) = newest.entry(mark) else {
         unreachable!()
     };
-    let above = newest_above(chain.newest, number);
-    *chain = without_top(*chain, above, older);
-    above
-}
-
-fn leave_in(chains: &mut BTreeMap<u64, Chain>, mark: u64)
-    requires { IsSome (get nat_cmp chains.old mark) }
-    ensures count { suc (count_in (get nat_cmp chains.new mark)) ≡ count_in (get nat_cmp chains.old mark) }
-    ensures newest { IsSome (get nat_cmp chains.new mark) → top_in (get nat_cmp chains.new mark) ≡ top_in (get nat_cmp chains.old mark) }
-    ensures others { (m : ℕ) → m ≢ mark → get nat_cmp chains.new m ≡ get nat_cmp chains.old m }
-{
-    let Some(chain) = chains.get_mut(&mark) else {
-        unreachable!()
-    };
-    if chain.others > 0 {
-        chain.others -= 1;
-    } else {
-        chains.remove(&mark);
+    let told = *held.get();
+    if told != number {
+        return Some(told);
+    }
+    match older {
+        Some(older) => {
+            held.insert(older);
+            None
+        }
+        None => {
+            held.remove();
+            None
+        }
     }
 }

@@ -1,7 +1,7 @@
 //! The entries by their numbers.
 ghost use Rattle.std.specs.Prelude.{◌≡◌, ◌<◌, ◌++◌, [], ◌∷◌, length, Some, IfOk, OnOk, OnErr, IsSome, option_map};
 ghost use Rattle.std.specs.List.{AllByRecursion};
-ghost use Rattle.output_index.specs.Chains.{entry_at, changed, removed, set_live, set_older, entries_from, mark_in};
+ghost use Rattle.output_index.specs.Chains.{entry_at, changed, removed, set_live, set_older, entries_from};
 
 use crate::entry::{Entry, Slot};
 use std::alloc::Global;
@@ -97,19 +97,16 @@ impl Entries {
         Ok(())
     }
 
-    /// Takes out the entry of a number that is held, and answers its mark. Where there is no memory to keep its cell, that is given back.
-    pub fn remove(&mut self, number: u64) -> u64
+    /// Takes out the entry of a number that is held. Where there is no memory to keep its cell, that is given back.
+    pub fn remove(&mut self, number: u64)
         requires { IsSome (entry_at number self.old) }
-        ensures mark { Some result ≡ option_map mark_in (entry_at number self.old) }
-        ensures entries { self.new ≡ removed number self.old }
+        ensures { self.new ≡ removed number self.old }
     {
         let Some(mut slot) = self.slots[number as usize].take() else {
             unreachable!()
         };
-        let mark = slot.mark();
         slot.clear_script();
         drop(self.spare.push(slot));
-        mark
     }
 }
 

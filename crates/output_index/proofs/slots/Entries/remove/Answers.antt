@@ -1,7 +1,7 @@
-use Rattle.std.proofs.Common.{Some, sym, ap, subst, ◌∙◌, arith}
+use Rattle.std.proofs.Common.{sym, ap, subst, ◌∙◌, arith}
 use Rattle.std.proofs.lemmas.Bool.{false≢true}
-use Rattle.std.specs.Prelude.{IsSome, set, option_map}
-use Rattle.output_index.specs.Chains.{entry_at, entries_from, removed, mark_in}
+use Rattle.std.specs.Prelude.{IsSome, set}
+use Rattle.output_index.specs.Chains.{entry_at, entries_from, removed}
 use Rattle.output_index.proofs.Numbered.{stands-within, read-at, read-some, cleared-there}
 use Rattle.output_index.proofs.slots.Entries.remove.Goals as goal
 
@@ -16,15 +16,8 @@ index_mut-requires c =
     let within = stands-within c.args.number c.self.inside.slots.items (subst (λ es. IsSome (entry_at c.args.number es)) (sym c.self.view_is) c.requires) in
     omega (arith, within, c.self.inside.slots.ok.0)
 
-pub returns-clause-mark : goal.returns-clause-mark
-returns-clause-mark c =
-    let n = c.args.number in
-    let xs = c.self.inside.slots.items in
-    let held = subst (λ es. IsSome (entry_at n es)) (sym c.self.view_is) c.requires in
-    ap Some c.mark-mark.ensures ∙ ap (option_map mark_in) (sym c.in-Some.is ∙ (c.take.ensures.value ∙ (sym (read-at n _ xs (stands-within n xs held) c.index_mut.ensures.value) ∙ ap (entry_at n) c.self.view_is)))
-
-pub returns-clause-entries : goal.returns-clause-entries
-returns-clause-entries c =
+pub returns : goal.returns
+returns c =
     let n = c.args.number in
     let xs = c.self.inside.slots.items in
     ap (λ x. entries_from 0 (set xs n x)) c.take.ensures.after ∙ (cleared-there n xs ∙ ap (removed n) c.self.view_is)
