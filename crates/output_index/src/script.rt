@@ -6,8 +6,8 @@ use arrayvec::ArrayVec;
 use std::alloc::Global;
 use uo_base::NoMemory;
 
-/// So many bytes lie in the script itself. All standard scripts fit: to a key of 33 bytes (35), to the hash of a witness script or a
-/// taproot key (34), to the hash of a key (25, as a witness 22), to the hash of a script (23).
+/// So many bytes lie in the script itself. Those of all kinds of address fit, which have 22 to 34 bytes, and that to a key of 33 bytes,
+/// which has 35.
 const SHORT: usize = 40;
 
 /// The bytes of a locking script. Nearly all scripts are short, and take no memory of their own.
