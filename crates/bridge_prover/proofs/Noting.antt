@@ -43,11 +43,6 @@ abbrev pub Ascend : List ℕ → Type 0
 Ascend [] = Unit {0}
 Ascend (n ∷ ns) = AllByRecursion (λ m. n < m) ns × Ascend ns
 
--- without a list none is noted
-pub noted_none : (hs : List Held) → noted_in [] hs ≡ []
-noted_none [] = refl
-noted_none (h ∷ hs) = noted_none hs
-
 module _ (scripts : List (List ℕ)) where
   abbrev noted : List Held → List Held
   noted hs = filter (is_noted scripts) hs

@@ -11,12 +11,7 @@ use reorg_undo::{Ring, Undo};
 use uo_base::NoMemory;
 
 // Adds one of the block's new records.
-fn insert(
-    outputs: &mut Outputs,
-    number: u64,
-    spends: &Spends<'_>,
-    i: u64,
-) -> Result<(), NoMemory>
+fn insert(outputs: &mut Outputs, number: u64, spends: &Spends<'_>, i: u64) -> Result<(), NoMemory>
     requires above { IsAbove number outputs.old }
     requires one { i < length spends.now.new }
     ensures ok { OnOk result ((leaf : Leaf) × (slice_get spends.now.new i ≡ Some leaf) × (outputs.new ≡ outputs.old ++ record { number = number; leaf = leaf; live = true } ∷ [])) }
@@ -40,11 +35,7 @@ pub(crate) fn cut(outputs: &mut Outputs, n: u64, end: u64)
 }
 
 // Adds the block's new records as live entries, numbered from n on. Where there is no memory, none is added.
-pub(crate) fn insert_all(
-    outputs: &mut Outputs,
-    n: u64,
-    spends: &Spends<'_>,
-) -> Result<(), NoMemory>
+pub(crate) fn insert_all(outputs: &mut Outputs, n: u64, spends: &Spends<'_>) -> Result<(), NoMemory>
     requires above { IsAbove n outputs.old }
     requires few { n + length spends.now.new < 2 ^ 40 }
     ensures ok { OnOk result (outputs.new ≡ outputs.old ++ numbered n spends.now.new) }

@@ -2,7 +2,7 @@ use Rattle.std.proofs.Common.{sym, ap, subst, ◌∙◌, arith}
 use Rattle.std.proofs.lemmas.Bool.{false≢true}
 use Rattle.std.specs.Prelude.{IsSome, set}
 use Rattle.output_index.specs.Chains.{entry_at, entries_from, removed}
-use Rattle.output_index.proofs.Numbered.{stands-within, read-at, read-some, cleared-there}
+use Rattle.output_index.proofs.Numbered.{stands-within, read-some, cleared-there}
 use Rattle.output_index.proofs.slots.Entries.remove.Goals as goal
 
 pub unreachable-requires : goal.unreachable-requires
