@@ -66,8 +66,8 @@ impl Chains {
         Ok(before)
     }
 
-    /// Where the entry is the newest of its mark, the next older one is from now on, and the mark is gone where there is none.
-    /// Where another is the newest, it stays, and is answered.
+    /// Where the entry is the newest of its mark, the older one that it tells takes its place, and the mark is gone where it tells
+    /// none. Where another is the newest, that one stays and is answered.
     pub fn take_newest(&mut self, mark: u64, number: u64, older: Option<u64>) -> Option<u64>
         requires { IsSome (chain_at self.old mark) }
         ensures other { TellsOther number (chain_at self.old mark) result }
