@@ -1,5 +1,5 @@
 //! A locking script that is held.
-ghost use Rattle.std.specs.Prelude.{◌≡◌, [], IfOk};
+ghost use Rattle.std.specs.Prelude.{◌≡◌, ◌≤◌, [], length, IsOk, IfOk};
 ghost use Rattle.output_index.specs.Scripts.{script_text};
 
 use arrayvec::ArrayVec;
@@ -25,7 +25,8 @@ impl Script {
     }
 
     pub fn copied(alloc: Global, text: &[u8]) -> Result<Self, NoMemory>
-        ensures { IfOk result (λ script. script_text script ≡ text.now) }
+        ensures same { IfOk result (λ script. script_text script ≡ text.now) }
+        ensures short { length text.now ≤ 40 → IsOk result }
     {
         let mut short = ArrayVec::new();
         match short.try_extend_from_slice(text) {

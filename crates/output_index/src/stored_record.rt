@@ -1,5 +1,5 @@
 //! The record of an output, in one piece.
-ghost use Rattle.std.specs.Prelude.{◌≡◌, IfOk};
+ghost use Rattle.std.specs.Prelude.{◌≡◌, ◌≤◌, length, IsOk, IfOk};
 ghost use Rattle.leaf_record.specs.History.{same_point};
 ghost use Rattle.output_index.specs.Marks.{mark_of};
 ghost use Rattle.output_index.specs.Scripts.{without_script};
@@ -38,7 +38,8 @@ impl Model for StoredRecord {
 
 impl StoredRecord {
     pub fn copied(alloc: Global, leaf: &RecordView<'_>) -> Result<Self, NoMemory>
-        ensures { IfOk result (λ stored. stored ≡ leaf.now) }
+        ensures same { IfOk result (λ stored. stored ≡ leaf.now) }
+        ensures short { length leaf.now.rest.script ≤ 40 → IsOk result }
     {
         Ok(StoredRecord {
             block: leaf.block,
