@@ -99,13 +99,21 @@ module _ (H : List ℕ → Digest) (text : Leaf → List ℕ) (s : BridgeState) 
 
 -- ---- what is left out
 
--- no place is known where no entry is kept
 no_cover : (row off : ℕ) → is_some (cover [] row off) ≡ false
 no_cover row off = ap is_some (none row off)
   where
     none : (row off : ℕ) → cover [] row off ≡ None
     none zero off = refl
     none (suc row) off = ap₂ (cover_of_halves row off) (none row (2 * off)) (none row (2 * off + 1))
+
+-- no place is known where no entry is kept
+pub none_known : (n : ℕ) (p : Place) → is_known n [] p ≡ false
+none_known n p = ap₂ (λ (a b : Bool). a || b) (no_cover p.row p.off) (and_false (not (is_root n p.row p.off)) (not (is_some (cover [] p.row p.off))) (is_some (cover [] p.row (sibling_off p.off))) (no_cover p.row (sibling_off p.off)))
+  where
+    and_false : (a b c : Bool) → c ≡ false → (a && b && c) ≡ false
+    and_false true true c e = e
+    and_false true false c e = refl
+    and_false false b c e = refl
 
 module _ (H : List ℕ → Digest) (es : List (Option Digest)) where
   abbrev at : Place → Option Digest
@@ -145,16 +153,8 @@ module _ (H : List ℕ → Digest) (es : List (Option Digest)) where
   -- the hashes over what is needed, less the known ones
   hashes_same : (watch : Option (List (List ℕ))) (hs : List Held) (ts : List Place) → somes (map at (asked (length es) ts (known_in H watch es hs))) ≡ somes (map at (filter (λ p. not (is_known (length es) (places_in es (kept_in (scripts_of watch) hs)) p)) (need (length es) ts)))
   hashes_same None hs ts =
-      let none : (p : Place) → is_known (length es) (places_in es (kept_in [] hs)) p ≡ false = λ p. ap (λ ns. is_known (length es) (places_in es ns) p) (none_kept hs) ∙ unknown p in
+      let none : (p : Place) → is_known (length es) (places_in es (kept_in [] hs)) p ≡ false = λ p. ap (λ ns. is_known (length es) (places_in es ns) p) (none_kept hs) ∙ none_known (length es) p in
       ap (λ ps. somes (map at ps)) (all_asked (is_known (length es) (places_in es (kept_in [] hs))) none (need (length es) ts))
-    where
-      and_false : (a b c : Bool) → c ≡ false → (a && b && c) ≡ false
-      and_false true true c e = e
-      and_false true false c e = refl
-      and_false false b c e = refl
-
-      unknown : (p : Place) → is_known (length es) [] p ≡ false
-      unknown p = ap₂ (λ (a b : Bool). a || b) (no_cover p.row p.off) (and_false (not (is_root (length es) p.row p.off)) (not (is_some (cover [] p.row p.off))) (is_some (cover [] p.row (sibling_off p.off))) (no_cover p.row (sibling_off p.off)))
   hashes_same (Some scripts) hs ts = left_out (is_known (length es) (places_in es (kept_in scripts hs))) (need (length es) ts)
 
   pub proof_same_beside : (watch : Option (List (List ℕ))) (hs : List Held) (numbers : List ℕ) → proof_beside H (places_in es (kept_in (scripts_of watch) hs)) es hs numbers ≡ proof_by H watch es hs numbers

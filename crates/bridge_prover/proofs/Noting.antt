@@ -1,5 +1,5 @@
 -- The numbers of watched outputs, while the index changes, and which of them are live.
-use Rattle.std.proofs.Common.{◌≡◌, ℕ, suc, ◌+◌, ◌<◌, Bool, true, false, cond, List, [], ◌∷◌, ◌++◌, map, length, take, Some, None, refl, sym, ap, ap₂, ◌∙◌, subst, ⊎_elim, arith, ne_eqb, eq-eqb}
+use Rattle.std.proofs.Common.{◌≡◌, ℕ, suc, ◌+◌, ◌<◌, Bool, true, false, cond, List, [], ◌∷◌, ◌++◌, map, length, take, Option, Some, None, refl, sym, ap, ap₂, ◌∙◌, subst, ⊎_elim, arith, ne_eqb, eq-eqb}
 use Rattle.std.specs.Prelude.{◌==◌, ◌&&◌, ◌||◌, not, nat_lt, option_map, is_some, slice_get, if◌then◌else◌}
 use Rattle.std.specs.List.{AllByRecursion, filter}
 use Rattle.std.proofs.lemmas.Bool.{cases_Bool, cases_eq, false≢true, eqb-true}
@@ -10,7 +10,7 @@ use Rattle.output_index.specs.Held.{Held, held_at, leaf_at, is_live, with_live_a
 use Rattle.output_index.specs.Indexed.{entry_of, lives, lives_from, IsIndexOf}
 use Rattle.output_index.proofs.HeldLaws.{leaf-without_other}
 use Rattle.bridge_prover.specs.Own.{numbered, spent_in, forgotten_in, cut_in, unspent_in}
-use Rattle.bridge_prover.specs.Watched.{is_noted, noted_in, kept_in}
+use Rattle.bridge_prover.specs.Watched.{scripts_of, is_noted, noted_in, kept_in}
 use Rattle.bridge_prover.proofs.Gathering.{took_more}
 use Rattle.bridge_prover.proofs.Indexing.{numbered-push}
 use Rattle.bridge_prover.proofs.Rising.{all_mapped, same_number, same_leaf}
@@ -42,6 +42,12 @@ filter_twice p q h (x ∷ xs) =
 abbrev pub Ascend : List ℕ → Type 0
 Ascend [] = Unit {0}
 Ascend (n ∷ ns) = AllByRecursion (λ m. n < m) ns × Ascend ns
+
+-- without a list none is noted
+pub noted_without : (watch : Option (List (List ℕ))) → is_some watch ≡ false → (hs : List Held) → noted_in (scripts_of watch) hs ≡ []
+noted_without None none [] = refl
+noted_without None none (h ∷ hs) = noted_without None none hs
+noted_without (Some scripts) none hs = absurd (false≢true (sym none))
 
 module _ (scripts : List (List ℕ)) where
   abbrev noted : List Held → List Held

@@ -54,6 +54,17 @@ fn put_spend<D: Digester>(
     Ok(())
 }
 
+// Whether a place is known where the kept entries stand at these places. Where none is kept nothing is, and nothing is looked up.
+fn is_left_out(kept: &Targets, place: Place) -> bool
+    requires { InForest kept.now.leaves place.row place.off }
+    ensures { result ≡ is_known_of kept.now.leaves kept.now.targets place }
+{
+    if kept.places().is_empty() {
+        return false;
+    }
+    is_known(kept, place)
+}
+
 // Gives the hash that was found at a place, if it is not known where the kept entries stand at these places.
 fn put_hash(
     message: &mut Message,
@@ -64,7 +75,7 @@ fn put_hash(
     requires { InForest kept.now.leaves place.row place.off }
     ensures { OnOk result (message.new ≡ record { lean = message.old.lean; proof = record { spends = message.old.proof.spends; hashes = message.old.proof.hashes ++ somes (map (λ p. found) (filter (λ p. not (is_known_of kept.now.leaves kept.now.targets p)) (place ∷ []))) } }) }
 {
-    if is_known(kept, place) {
+    if is_left_out(kept, place) {
         return Ok(());
     }
     match found {

@@ -61,6 +61,9 @@ pub(crate) fn noted_of(
     ensures { IfOk result (λ numbers. numbers.items ≡ noted_in (scripts_of watch.now) (numbered n spends.now.new)) }
 {
     let mut numbers = Vec::new(alloc);
+    if watch.is_none() {
+        return Ok(numbers);
+    }
     for i in 0..spends.new_count() {
         note(&mut numbers, watch, n + i, &spends.new_output(i))?;
     }
