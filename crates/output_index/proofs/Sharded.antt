@@ -6,7 +6,8 @@ use Rattle.std.specs.BTreeMap.{BTreeMap}
 use Rattle.std.specs.Ordering.{nat_cmp}
 use Rattle.std.proofs.lemmas.Bool.{cases_eq, false≢true}
 use Rattle.std.proofs.lemmas.Option.{slice_get_within, slice_get_read}
-use Rattle.output_index.specs.Chains.{shards_in, shard_of, found_in, chain_at}
+use Rattle.output_index.proofs.Replacing.{get-set_same, get-set_other}
+use Rattle.output_index.specs.Chains.{shards_in, shard_of, found_in, shard_at}
 
 -- what is found in one of the maps
 abbrev pub in_map : Option (BTreeMap ℕ ℕ) → ℕ → Option ℕ
@@ -18,43 +19,31 @@ get-map i [] = refl
 get-map zero (one ∷ maps) = refl
 get-map (suc i) (one ∷ maps) = get-map i maps
 
-pub at-maps : (maps : List (BTreeMap ℕ ℕ)) (m : ℕ) → chain_at (shards_in maps) m ≡ in_map (slice_get maps (shard_of m)) m
+pub at-maps : (maps : List (BTreeMap ℕ ℕ)) (m : ℕ) → shard_at (shards_in maps) m ≡ in_map (slice_get maps (shard_of m)) m
 at-maps maps m = ap (λ s. found_in s m) (get-map (shard_of m) maps) ∙ by_case (slice_get maps (shard_of m))
   where
     by_case : (x : Option (BTreeMap ℕ ℕ)) → found_in (option_map (λ one. one.entries) x) m ≡ in_map x m
     by_case None = refl
     by_case (Some one) = refl
 
-pub at-map : (maps : List (BTreeMap ℕ ℕ)) (one : BTreeMap ℕ ℕ) (i m : ℕ) → shard_of m ≡ i → i < length maps → one ≡ get_or maps i one → chain_at (shards_in maps) m ≡ tree.get nat_cmp one m
+pub at-map : (maps : List (BTreeMap ℕ ℕ)) (one : BTreeMap ℕ ℕ) (i m : ℕ) → shard_of m ≡ i → i < length maps → one ≡ get_or maps i one → shard_at (shards_in maps) m ≡ tree.get nat_cmp one m
 at-map maps one i m s l h = at-maps maps m ∙ ap (λ x. in_map x m) (ap (slice_get maps) s ∙ slice_get_read maps (length maps) i one refl l h)
 
 -- a mark that is found has its map
-pub map-within : (maps : List (BTreeMap ℕ ℕ)) (m : ℕ) → IsSome (chain_at (shards_in maps) m) → shard_of m < length maps
+pub map-within : (maps : List (BTreeMap ℕ ℕ)) (m : ℕ) → IsSome (shard_at (shards_in maps) m) → shard_of m < length maps
 map-within maps m h = by_case (slice_get maps (shard_of m)) refl (subst IsSome (at-maps maps m) h)
   where
     by_case : (x : Option (BTreeMap ℕ ℕ)) → slice_get maps (shard_of m) ≡ x → IsSome (in_map x m) → shard_of m < length maps
     by_case None q h = absurd (false≢true h)
     by_case (Some one) q h = slice_get_within maps (shard_of m) one q
 
-get-set_same : (i : ℕ) (one : BTreeMap ℕ ℕ) (maps : List (BTreeMap ℕ ℕ)) → i < length maps → slice_get (set maps i one) i ≡ Some one
-get-set_same i one [] l = absurd (omega (arith, l))
-get-set_same zero one (x ∷ maps) l = refl
-get-set_same (suc i) one (x ∷ maps) l = get-set_same i one maps (omega (arith, l))
-
-get-set_other : (i j : ℕ) (one : BTreeMap ℕ ℕ) (maps : List (BTreeMap ℕ ℕ)) → j ≢ i → slice_get (set maps i one) j ≡ slice_get maps j
-get-set_other i j one [] o = refl
-get-set_other zero zero one (x ∷ maps) o = absurd (o refl)
-get-set_other zero (suc j) one (x ∷ maps) o = refl
-get-set_other (suc i) zero one (x ∷ maps) o = refl
-get-set_other (suc i) (suc j) one (x ∷ maps) o = get-set_other i j one maps (λ s. o (ap suc s))
-
 -- another map in the place of one
-pub at-set : (maps : List (BTreeMap ℕ ℕ)) (one : BTreeMap ℕ ℕ) (i m : ℕ) → shard_of m ≡ i → i < length maps → chain_at (shards_in (set maps i one)) m ≡ tree.get nat_cmp one m
+pub at-set : (maps : List (BTreeMap ℕ ℕ)) (one : BTreeMap ℕ ℕ) (i m : ℕ) → shard_of m ≡ i → i < length maps → shard_at (shards_in (set maps i one)) m ≡ tree.get nat_cmp one m
 at-set maps one i m s l = at-maps (set maps i one) m ∙ ap (λ x. in_map x m) (ap (slice_get (set maps i one)) s ∙ get-set_same i one maps l)
 
 -- which differs from it at one mark alone
 pub others-set : (maps : List (BTreeMap ℕ ℕ)) (old new : BTreeMap ℕ ℕ) (i mark : ℕ) → shard_of mark ≡ i → i < length maps → old ≡ get_or maps i old → ((m : ℕ) → m ≢ mark → tree.get nat_cmp new m ≡ tree.get nat_cmp old m) →
-    (m : ℕ) → m ≢ mark → chain_at (shards_in (set maps i new)) m ≡ chain_at (shards_in maps) m
+    (m : ℕ) → m ≢ mark → shard_at (shards_in (set maps i new)) m ≡ shard_at (shards_in maps) m
 others-set maps old new i mark s l h others m o =
     ⊎_elim
     (λ e. at-set maps new i m e l ∙ (others m o ∙ sym (at-map maps old i m e l h)))
@@ -62,7 +51,7 @@ others-set maps old new i mark s l h others m o =
     (cases_eq (shard_of m) i)
 
 -- all maps are empty
-pub none-in : (maps : List (BTreeMap ℕ ℕ)) (one : BTreeMap ℕ ℕ) → ((m : ℕ) → tree.get nat_cmp one m ≡ None) → ((m : ℕ) → chain_at (shards_in maps) m ≡ None) → (m : ℕ) → chain_at (shards_in (maps ++ one ∷ [])) m ≡ None
+pub none-in : (maps : List (BTreeMap ℕ ℕ)) (one : BTreeMap ℕ ℕ) → ((m : ℕ) → tree.get nat_cmp one m ≡ None) → ((m : ℕ) → shard_at (shards_in maps) m ≡ None) → (m : ℕ) → shard_at (shards_in (maps ++ one ∷ [])) m ≡ None
 none-in maps one empty h m = at-maps (maps ++ one ∷ []) m ∙ by_place (shard_of m) maps (sym (at-maps maps m) ∙ h m)
   where
     by_place : (i : ℕ) (maps : List (BTreeMap ℕ ℕ)) → in_map (slice_get maps i) m ≡ None → in_map (slice_get (maps ++ one ∷ []) i) m ≡ None

@@ -1,45 +1,42 @@
 //! The newest entries by their marks.
-ghost use Rattle.std.specs.Prelude.{◌≡◌, ◌≢◌, ◌/◌, ◌<◌, ℕ, [], length, Some, None, IsSome, IfOk, OnOk, OnErr};
-ghost use Rattle.std.specs.BTreeMap.{get};
-ghost use Rattle.std.specs.Ordering.{nat_cmp};
-ghost use Rattle.output_index.specs.Chains.{AreShards, chain_at, shard_of, shards_in, TellsOther};
+ghost use Rattle.std.specs.Prelude.{◌≡◌, ◌≢◌, ℕ, Some, None, IsSome, IfOk, OnOk, OnErr};
+ghost use Rattle.std.specs.Bool.{OnTrue, OnFalse};
+ghost use Rattle.output_index.specs.Chains.{chain_at, TellsOther};
 
+use crate::buckets::Buckets;
+use crate::shards::Shards;
 use std::alloc::Global;
-use std::collections::BTreeMap;
-use std::collections::btree_map::Entry;
 use std::marker::Model;
 use uo_base::NoMemory;
 
-/// So many maps, each for as many marks.
-const SHARDS: usize = 16_384;
-
 /// The number of the newest held entry of each mark, live or spent. A mark is there exactly as long as an entry of it is held.
 ///
-/// They lie in many small maps, so that a search meets few nodes. No map is there before the first entry comes.
+/// Nearly all marks lie in buckets. Those of which the bucket is full lie in ordered maps, so a search among marks that someone has chosen for
+/// one bucket is still no walk over them.
 #[derive(Drop)]
 pub(crate) struct Chains {
-    alloc: Global,
-    shards: Vec<BTreeMap<u64, u64>>,
+    buckets: Buckets,
+    shards: Shards,
 }
 
 impl Model for Chains {
-    ghost use Rattle.output_index.specs.Chains.{Shards, AreShards, shards_in};
+    ghost use Rattle.output_index.specs.Chains.{Links, AreApart};
 
-    ghost Value = { Shards };
+    ghost Value = { Links };
 
-    ghost view = { λ c. shards_in c.shards.items };
+    ghost view = { λ c. record { table = c.buckets; shards = c.shards } };
 
-    ghost invariant = { λ c. AreShards (shards_in c.shards.items) };
+    ghost invariant = { λ c. AreApart (record { table = c.buckets; shards = c.shards }) };
 }
 
 impl Chains {
     /// No entry of any mark.
     pub fn new(alloc: Global) -> Self
-        ensures { result ≡ [] }
+        ensures { (m : ℕ) → chain_at result m ≡ None }
     {
         Chains {
-            alloc,
-            shards: Vec::new(alloc),
+            buckets: Buckets::new(alloc),
+            shards: Shards::new(alloc),
         }
     }
 
@@ -47,9 +44,9 @@ impl Chains {
     pub fn get(&self, mark: u64) -> Option<u64>
         ensures { result ≡ chain_at self.now mark }
     {
-        match self.shards.get(shard_of(mark)) {
-            Some(shard) => shard.get(&mark).copied(),
-            None => None,
+        match self.buckets.get(mark) {
+            Some(number) => Some(number),
+            None => self.shards.get(mark),
         }
     }
 
@@ -61,9 +58,39 @@ impl Chains {
         ensures others { (m : ℕ) → m ≢ mark → chain_at self.new m ≡ chain_at self.old m }
         ensures err { OnErr result (chain_at self.new mark ≡ chain_at self.old mark) }
     {
-        make_shards(&mut self.shards, self.alloc)?;
-        let before = self.shards[shard_of(mark)].insert(mark, number)?;
-        Ok(before)
+        match self.get(mark) {
+            Some(before) => {
+                self.put_aside(mark, number)?;
+                Ok(Some(before))
+            }
+            None => {
+                if !self.try_put(mark, number) {
+                    self.put_aside(mark, number)?;
+                }
+                Ok(None)
+            }
+        }
+    }
+
+    // Puts a mark that is not there into its bucket, and answers whether that had room.
+    fn try_put(&mut self, mark: u64, number: u64) -> bool
+        requires { chain_at self.old mark ≡ None }
+        ensures put { OnTrue result (chain_at self.new mark ≡ Some number) }
+        ensures full { OnFalse result (chain_at self.new mark ≡ None) }
+        ensures others { (m : ℕ) → m ≢ mark → chain_at self.new m ≡ chain_at self.old m }
+    {
+        self.buckets.try_put(mark, number)
+    }
+
+    // Puts a mark among those for which there is no room in their bucket.
+    fn put_aside(&mut self, mark: u64, number: u64) -> Result<(), NoMemory>
+        ensures here { OnOk result (chain_at self.new mark ≡ Some number) }
+        ensures others { (m : ℕ) → m ≢ mark → chain_at self.new m ≡ chain_at self.old m }
+        ensures err { OnErr result (chain_at self.new mark ≡ chain_at self.old mark) }
+    {
+        self.shards.put_newest(mark, number)?;
+        self.buckets.take(mark);
+        Ok(())
     }
 
     /// Where the entry is the newest of its mark, the older one that it tells takes its place, and the mark is gone where it tells
@@ -75,71 +102,15 @@ impl Chains {
         ensures stays { IsSome result → chain_at self.new mark ≡ chain_at self.old mark }
         ensures others { (m : ℕ) → m ≢ mark → chain_at self.new m ≡ chain_at self.old m }
     {
-        take_newest_in(&mut self.shards[shard_of(mark)], mark, number, older)
-    }
-}
-
-/// The number of the map that a mark is in. The outputs of one transaction have marks that follow each other: runs of 64 lie side by
-/// side in one map, and the next run is in the next map, so no map gets deep by a transaction of many outputs.
-fn shard_of(mark: u64) -> usize
-    ensures is { result ≡ shard_of mark }
-    ensures few { result < 16384 }
-{
-    (mark / 64 % 16_384) as usize
-}
-
-/// Makes the maps, if none is there.
-fn make_shards(shards: &mut Vec<BTreeMap<u64, u64>>, alloc: Global) -> Result<(), NoMemory>
-    requires { AreShards (shards_in shards.old.items) }
-    ensures same { (m : ℕ) → chain_at (shards_in shards.new.items) m ≡ chain_at (shards_in shards.old.items) m }
-    ensures len { OnOk result (length shards.new.items ≡ 16384) }
-    ensures err { OnErr result (shards.new.items ≡ shards.old.items) }
-{
-    if shards.is_empty() {
-        *shards = no_chains(alloc)?;
-    }
-    Ok(())
-}
-
-/// All maps, in which nothing is yet.
-fn no_chains(alloc: Global) -> Result<Vec<BTreeMap<u64, u64>>, NoMemory>
-    ensures none { IfOk result (λ shards. (m : ℕ) → chain_at (shards_in shards.items) m ≡ None) }
-    ensures len { IfOk result (λ shards. length shards.items ≡ 16384) }
-{
-    let mut shards = Vec::with_capacity(alloc, SHARDS)?;
-    for _ in 0..SHARDS {
-        shards.push(BTreeMap::new(alloc))?;
-    }
-    Ok(shards)
-}
-
-fn take_newest_in(
-    newest: &mut BTreeMap<u64, u64>,
-    mark: u64,
-    number: u64,
-    older: Option<u64>,
-) -> Option<u64>
-    requires { IsSome (get nat_cmp newest.old mark) }
-    ensures other { TellsOther number (get nat_cmp newest.old mark) result }
-    ensures older { result ≡ None → get nat_cmp newest.new mark ≡ older }
-    ensures stays { IsSome result → get nat_cmp newest.new mark ≡ get nat_cmp newest.old mark }
-    ensures others { (m : ℕ) → m ≢ mark → get nat_cmp newest.new m ≡ get nat_cmp newest.old m }
-{
-    let Ok(Entry::Occupied(mut held)) = newest.entry(mark) else {
-        unreachable!()
-    };
-    let told = *held.get();
-    if told != number {
-        return Some(told);
-    }
-    match older {
-        Some(older) => {
-            held.insert(older);
-            None
+        match self.buckets.get(mark) {
+            Some(told) if told != number => return Some(told),
+            Some(_) => {}
+            None => return self.shards.take_newest(mark, number, older),
         }
-        None => {
-            held.remove();
-            None
+        match older {
+            Some(older) => self.buckets.set(mark, older),
+            None => self.buckets.take(mark),
         }
+        None
     }
 }

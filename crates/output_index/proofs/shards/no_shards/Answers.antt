@@ -2,12 +2,12 @@ use Rattle.std.proofs.Common.{◌≡◌, ℕ, None, sym, ap, subst, arith}
 use Rattle.std.specs.Map.{lookup}
 use Rattle.std.specs.BTreeMap.{is_at}
 use Rattle.std.specs.Ordering.{nat_cmp}
-use Rattle.output_index.specs.Chains.{chain_at, shards_in}
+use Rattle.output_index.specs.Chains.{shard_at, shards_in}
 use Rattle.output_index.proofs.Sharded.{none-in}
-use Rattle.output_index.proofs.chains.no_chains.Goals as goal
+use Rattle.output_index.proofs.shards.no_shards.Goals as goal
 
 pub loop-preserved : goal.loop-preserved
 loop-preserved c = record {
-  none = subst (λ maps. (m : ℕ) → chain_at (shards_in maps) m ≡ None) (sym c.in_ok-push.ensures.items) (none-in c.loop.shards.items c.new.result (λ m. ap (lookup (is_at (nat_cmp m))) c.new.ensures.empty) c.loop.invariant.none);
+  none = subst (λ maps. (m : ℕ) → shard_at (shards_in maps) m ≡ None) (sym c.in_ok-push.ensures.items) (none-in c.loop.shards.items c.new.result (λ m. ap (lookup (is_at (nat_cmp m))) c.new.ensures.empty) c.loop.invariant.none);
   len = omega (arith, c.push.new.self.ok.0, c.in_ok-push.ensures.len, c.loop.shards.ok.0, c.loop.invariant.len);
 }

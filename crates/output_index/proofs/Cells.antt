@@ -1,0 +1,68 @@
+-- What cells tell of marks.
+use Rattle.std.proofs.Common.{◌≡◌, ◌≢◌, ℕ, zero, suc, List, [], ◌∷◌, ◌++◌, Option, Some, None, set, take, drop, refl, sym, ap, ◌∙◌, subst, ⊎_elim, ne_eqb, eq-eqb}
+use Rattle.std.specs.Prelude.{slice_get}
+use Rattle.std.specs.Option.{option_or}
+use Rattle.std.specs.List.{remove}
+use Rattle.std.proofs.lemmas.Bool.{cases_eq}
+use Rattle.std.proofs.lemmas.Option.{none-some, same_Some}
+use Rattle.output_index.specs.declared.bucket.Newest.{Newest}
+use Rattle.output_index.specs.Buckets.{in_cells, IsFirstAt}
+
+pub cell-here : (c : Newest) (cs : List Newest) (m : ℕ) → c.mark ≡ m → in_cells (c ∷ cs) m ≡ Some c.number
+cell-here c cs m s = rw (eq-eqb c.mark m s) refl
+
+pub cell-there : (c : Newest) (cs : List Newest) (m : ℕ) → c.mark ≢ m → in_cells (c ∷ cs) m ≡ in_cells cs m
+cell-there c cs m o = rw (ne_eqb c.mark m o) refl
+
+-- cells before which none has the mark begin with one of another mark
+not-here : (c : Newest) (cs : List Newest) (m : ℕ) → in_cells (c ∷ cs) m ≡ None → (c.mark ≢ m) × (in_cells cs m ≡ None)
+not-here c cs m h =
+    let other : c.mark ≢ m = λ s. none-some c.number (sym h ∙ cell-here c cs m s) in
+    (other, sym (cell-there c cs m other) ∙ h)
+
+-- the same in front of other cells
+under : (c : Newest) (xs ys : List Newest) (m : ℕ) → in_cells xs m ≡ in_cells ys m → in_cells (c ∷ xs) m ≡ in_cells (c ∷ ys) m
+under c xs ys m h = ⊎_elim (λ s. cell-here c xs m s ∙ sym (cell-here c ys m s)) (λ o. cell-there c xs m o ∙ (h ∙ sym (cell-there c ys m o))) (cases_eq c.mark m)
+
+pub first-tells : (at : ℕ) (c : Newest) (cs : List Newest) (m : ℕ) → slice_get cs at ≡ Some c → c.mark ≡ m → in_cells (take at cs) m ≡ None → in_cells cs m ≡ Some c.number
+first-tells at c [] m there mark before = absurd (none-some c there)
+first-tells zero c (x ∷ cs) m there mark before = let e = same_Some x c there in cell-here x cs m (ap (λ y. y.mark) e ∙ mark) ∙ ap (λ y. Some y.number) e
+first-tells (suc at) c (x ∷ cs) m there mark before = let k = not-here x (take at cs) m before in cell-there x cs m k.0 ∙ first-tells at c cs m there mark k.1
+
+pub none-further : (at : ℕ) (c : Newest) (cs : List Newest) (m : ℕ) → slice_get cs at ≡ Some c → c.mark ≢ m → in_cells (take at cs) m ≡ None → in_cells (take (suc at) cs) m ≡ None
+none-further at c [] m there other before = absurd (none-some c there)
+none-further zero c (x ∷ cs) m there other before = cell-there x [] m (λ s. other (sym (ap (λ y. y.mark) (same_Some x c there)) ∙ s))
+none-further (suc at) c (x ∷ cs) m there other before = let k = not-here x (take at cs) m before in cell-there x (take (suc at) cs) m k.0 ∙ none-further at c cs m there other k.1
+
+pub set-here : (at : ℕ) (c new : Newest) (cs : List Newest) (m : ℕ) → slice_get cs at ≡ Some c → in_cells (take at cs) m ≡ None → new.mark ≡ m → in_cells (set cs at new) m ≡ Some new.number
+set-here at c new [] m there before mark = absurd (none-some c there)
+set-here zero c new (x ∷ cs) m there before mark = cell-here new cs m mark
+set-here (suc at) c new (x ∷ cs) m there before mark = let k = not-here x (take at cs) m before in cell-there x (set cs at new) m k.0 ∙ set-here at c new cs m there k.1 mark
+
+pub set-others : (at : ℕ) (c new : Newest) (cs : List Newest) (m : ℕ) → slice_get cs at ≡ Some c → c.mark ≢ m → new.mark ≢ m → in_cells (set cs at new) m ≡ in_cells cs m
+set-others at c new [] m there old other = refl
+set-others zero c new (x ∷ cs) m there old other = cell-there new cs m other ∙ sym (cell-there x cs m (λ s. old (sym (ap (λ y. y.mark) (same_Some x c there)) ∙ s)))
+set-others (suc at) c new (x ∷ cs) m there old other = under x (set cs at new) cs m (set-others at c new cs m there old other)
+
+pub remove-others : (at : ℕ) (c : Newest) (cs : List Newest) (m : ℕ) → slice_get cs at ≡ Some c → c.mark ≢ m → in_cells (remove cs at) m ≡ in_cells cs m
+remove-others at c [] m there old = absurd (none-some c there)
+remove-others zero c (x ∷ cs) m there old = sym (cell-there x cs m (λ s. old (sym (ap (λ y. y.mark) (same_Some x c there)) ∙ s)))
+remove-others (suc at) c (x ∷ cs) m there old = under x (remove cs at) cs m (remove-others at c cs m there old)
+
+-- ---- one more cell
+
+pub put-here : (c : Newest) (cs : List Newest) → in_cells cs c.mark ≡ None → in_cells (cs ++ c ∷ []) c.mark ≡ Some c.number
+put-here c [] none = cell-here c [] c.mark refl
+put-here c (x ∷ cs) none = let k = not-here x cs c.mark none in cell-there x (cs ++ c ∷ []) c.mark k.0 ∙ put-here c cs k.1
+
+pub put-others : (c : Newest) (cs : List Newest) (m : ℕ) → c.mark ≢ m → in_cells (cs ++ c ∷ []) m ≡ in_cells cs m
+put-others c [] m other = cell-there c [] m other
+put-others c (x ∷ cs) m other = under x (cs ++ c ∷ []) cs m (put-others c cs m other)
+
+-- ---- the first cell with a mark
+
+pub set-first : (at : ℕ) (cs : List Newest) (mark number : ℕ) → IsFirstAt cs mark at → in_cells (set cs at (record { mark = mark; number = number })) mark ≡ Some number
+set-first at cs mark number h = set-here at h.cell (record { mark = mark; number = number }) cs mark h.there h.before refl
+
+pub set-first-others : (at : ℕ) (cs : List Newest) (mark number : ℕ) → IsFirstAt cs mark at → (m : ℕ) → m ≢ mark → in_cells (set cs at (record { mark = mark; number = number })) m ≡ in_cells cs m
+set-first-others at cs mark number h m o = set-others at h.cell (record { mark = mark; number = number }) cs m h.there (λ s. o (sym s ∙ h.mark)) (λ s. o (sym s))

@@ -1,0 +1,49 @@
+-- Marks that lie a few to a bucket, and in which bucket a mark is sought.
+use Rattle.std.specs.Prelude.{◌≡◌, ◌≢◌, ℕ, suc, ◌%◌, ◌^◌, ◌≤◌, ◌==◌, nat_lt, List, [], ◌∷◌, length, take, slice_get, Option, Some, None, if◌then◌else◌}
+use Rattle.output_index.specs.declared.bucket.Newest.{Newest}
+
+-- what the first cell that has the mark tells
+abbrev pub in_cells : List Newest → ℕ → Option ℕ
+in_cells [] m = None
+in_cells (cell ∷ cells) m = if cell.mark == m then Some cell.number else in_cells cells m
+
+-- the first cell that has the mark
+pub record IsFirstAt (cells : List Newest) (m at : ℕ) : Type 0 where
+  pub cell : Newest
+  pub there : slice_get cells at ≡ Some cell
+  pub mark : cell.mark ≡ m
+  pub tells : in_cells cells m ≡ Some cell.number
+  pub before : in_cells (take at cells) m ≡ None
+
+-- the bucket of a mark, where there are so many: by its lowest bits, and by one bit less where there is no such bucket yet
+abbrev pub bucket_of : ℕ → ℕ → ℕ → ℕ
+bucket_of bits count m = if nat_lt (m % 2 ^ suc bits) count then m % 2 ^ suc bits else m % 2 ^ bits
+
+-- a cell whose mark is sought elsewhere
+pub record IsStrange (cells : List Newest) (bits count number at : ℕ) : Type 0 where
+  pub cell : Newest
+  pub there : slice_get cells at ≡ Some cell
+  pub elsewhere : bucket_of bits count cell.mark ≢ number
+
+-- buckets, with the number of bits by which they are told apart
+pub record Table : Type 0 where
+  pub bits : ℕ
+  pub buckets : List (List Newest)
+
+abbrev pub in_place : Option (List Newest) → ℕ → Option ℕ
+in_place None m = None
+in_place (Some cells) m = in_cells cells m
+
+-- what the buckets tell of a mark
+abbrev pub in_buckets : ℕ → List (List Newest) → ℕ → Option ℕ
+in_buckets bits buckets m = in_place (slice_get buckets (bucket_of bits (length buckets) m)) m
+
+abbrev pub few_at : Table → ℕ → Option ℕ
+few_at table m = in_buckets table.bits table.buckets m
+
+-- from as many buckets as the bits tell apart up to twice as many, or none
+pub record IsTable (table : Table) : Type 0 where
+  pub bits : table.bits ≤ 40
+  pub first : table.buckets ≡ [] → table.bits ≡ 0
+  pub least : table.buckets ≢ [] → 2 ^ table.bits ≤ length table.buckets
+  pub most : length table.buckets ≤ 2 ^ suc table.bits

@@ -1,0 +1,147 @@
+//! A few marks that lie side by side.
+ghost use Rattle.std.specs.Prelude.{◌≡◌, ◌≢◌, ◌<◌, ◌^◌, ℕ, ◌++◌, ◌∷◌, [], length, None, Some, IsSome, MatchOption, IfSome};
+ghost use Rattle.std.specs.Bool.{OnTrue, OnFalse};
+ghost use Rattle.output_index.specs.Buckets.{in_cells, bucket_of, IsFirstAt, IsStrange};
+
+use arrayvec::ArrayVec;
+use std::marker::Model;
+
+/// So many marks have room in a bucket.
+const ROOM: usize = 4;
+
+/// A mark, and the number of its newest held entry.
+#[derive(Clone, Copy, Default)]
+pub(crate) struct Newest {
+    pub mark: u64,
+    pub number: u64,
+}
+
+/// A few marks, in no order, with their newest entries.
+#[derive(Drop)]
+pub(crate) struct Bucket {
+    cells: ArrayVec<Newest, ROOM>,
+}
+
+impl Model for Bucket {
+    ghost use Rattle.std.specs.Prelude.{List};
+    ghost use Rattle.output_index.specs.declared.bucket.Newest.{Newest};
+
+    ghost Value = { List Newest };
+
+    ghost view = { λ b. b.cells.items };
+}
+
+impl Bucket {
+    pub fn new() -> Self
+        ensures { result ≡ [] }
+    {
+        Bucket {
+            cells: ArrayVec::new(),
+        }
+    }
+
+    /// The same marks once more.
+    pub fn copied(&self) -> Self
+        ensures { result ≡ self.now }
+    {
+        let mut cells = ArrayVec::new();
+        drop(cells.try_extend_from_slice(self.cells.as_slice()));
+        Bucket { cells }
+    }
+
+    /// The newest entry of a mark; None where the mark is not here.
+    pub fn get(&self, mark: u64) -> Option<u64>
+        ensures { result ≡ in_cells self.now mark }
+    {
+        let cells = self.cells.as_slice();
+        match place_of(cells, mark) {
+            Some(at) => Some(cells[at].number),
+            None => None,
+        }
+    }
+
+    /// Puts a mark, and answers whether there was room.
+    pub fn try_put(&mut self, mark: u64, number: u64) -> bool
+        ensures put { OnTrue result (self.new ≡ self.old ++ record { mark = mark; number = number } ∷ []) }
+        ensures full { OnFalse result (self.new ≡ self.old) }
+    {
+        self.cells.try_push(Newest { mark, number }).is_ok()
+    }
+
+    /// Where the mark is here, this is its newest entry from now on.
+    pub fn set(&mut self, mark: u64, number: u64)
+        ensures here { IsSome (in_cells self.old mark) → in_cells self.new mark ≡ Some number }
+        ensures others { (m : ℕ) → m ≢ mark → in_cells self.new m ≡ in_cells self.old m }
+    {
+        match place_of(self.cells.as_slice(), mark) {
+            Some(at) => self.cells[at] = Newest { mark, number },
+            None => {}
+        }
+    }
+
+    /// The mark is here no more.
+    pub fn take(&mut self, mark: u64)
+        ensures gone { in_cells self.new mark ≡ None }
+        ensures others { (m : ℕ) → m ≢ mark → in_cells self.new m ≡ in_cells self.old m }
+    {
+        while let Some(at) = place_of(self.cells.as_slice(), mark) {
+            self.cells.remove(at);
+        }
+    }
+
+    /// Only those marks stay that are sought in the bucket of this number, where there are so many buckets.
+    pub fn keep_own(&mut self, bits: u32, count: u64, number: u64)
+        requires { bits < 62 }
+        ensures { (m : ℕ) → bucket_of bits count m ≡ number → in_cells self.new m ≡ in_cells self.old m }
+    {
+        while let Some(at) = place_of_strange(self.cells.as_slice(), bits, count, number) {
+            self.cells.remove(at);
+        }
+    }
+}
+
+/// Two to the power of so many.
+pub(crate) fn power_of_two(bits: u32) -> u64
+    requires { bits < 62 }
+    ensures is { result ≡ 2 ^ bits }
+    ensures positive { 0 < result }
+    ensures small { result < 2 ^ 62 }
+{
+    1u64 << bits
+}
+
+/// The number of the bucket in which a mark is sought, where there are so many: by the lowest bits of the mark, and by one bit less where
+/// there is no such bucket yet. So one more bucket takes marks from one other alone.
+pub(crate) fn bucket_of(bits: u32, count: u64, mark: u64) -> u64
+    requires { bits < 62 }
+    ensures { result ≡ bucket_of bits count mark }
+{
+    let half = power_of_two(bits);
+    let at = mark % (2 * half);
+    if at < count { at } else { mark % half }
+}
+
+// The first cell that has a mark.
+fn place_of(cells: &[Newest], mark: u64) -> Option<usize>
+    ensures { MatchOption result (in_cells cells.now mark ≡ None) (IsFirstAt cells.now mark) }
+{
+    for at in 0..cells.len() {
+        if cells[at].mark == mark {
+            return Some(at);
+        }
+    }
+    None
+}
+
+// The first cell whose mark is not sought in the bucket of this number.
+fn place_of_strange(cells: &[Newest], bits: u32, count: u64, number: u64) -> Option<usize>
+    requires { bits < 62 }
+    ensures { IfSome result (IsStrange cells.now bits count number) }
+{
+    for at in 0..cells.len() {
+        if bucket_of(bits, count, cells[at].mark) != number {
+            return Some(at);
+        }
+    }
+    None
+}
