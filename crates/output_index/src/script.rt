@@ -1,5 +1,5 @@
 //! A locking script that is held.
-ghost use Rattle.std.specs.Prelude.{◌≡◌, ◌≤◌, [], length, IsOk, IfOk};
+ghost use Rattle.std.specs.Prelude.{◌≡◌, ◌≤◌, [], length, IsOk, IfOk, OnOk, OnErr};
 ghost use Rattle.output_index.specs.Scripts.{script_text};
 
 use arrayvec::ArrayVec;
@@ -35,6 +35,29 @@ impl Script {
         }
     }
 
+    /// These bytes from now on. Memory is asked for only where they are many.
+    pub fn set(&mut self, alloc: Global, text: &[u8]) -> Result<(), NoMemory>
+        ensures same { OnOk result (script_text self.new ≡ text.now) }
+        ensures short { length text.now ≤ 40 → IsOk result }
+        ensures err { OnErr result (self.new ≡ self.old) }
+    {
+        match self {
+            Script::Short(bytes) if text.len() <= SHORT => write_over(bytes, text),
+            _ => *self = Script::copied(alloc, text)?,
+        }
+        Ok(())
+    }
+
+    /// No byte from now on, so that the memory of many is given back.
+    pub fn clear(&mut self)
+        ensures { script_text self.new ≡ [] }
+    {
+        match self {
+            Script::Short(bytes) => bytes.clear(),
+            Script::Long(_) => *self = Script::empty(),
+        }
+    }
+
     pub fn bytes(&self) -> &[u8]
         ensures { result.now ≡ script_text self.now }
     {
@@ -43,4 +66,12 @@ impl Script {
             Script::Long(bytes) => bytes.as_slice(),
         }
     }
+}
+
+fn write_over(bytes: &mut ArrayVec<u8, SHORT>, text: &[u8])
+    requires { length text.now ≤ 40 }
+    ensures { bytes.new.items ≡ text.now }
+{
+    bytes.clear();
+    drop(bytes.try_extend_from_slice(text));
 }

@@ -1,9 +1,10 @@
 //! The entries by their numbers.
-ghost use Rattle.std.specs.Prelude.{◌≡◌, ◌<◌, ◌++◌, [], ◌∷◌, length, Some, IfOk, OnOk, OnErr, IsSome, option_map};
+ghost use Rattle.std.specs.Prelude.{◌≡◌, ◌<◌, ◌++◌, [], ◌∷◌, length, true, Some, None, IfOk, OnOk, OnErr, IsSome, option_map};
 ghost use Rattle.std.specs.List.{AllByRecursion};
 ghost use Rattle.output_index.specs.Chains.{entry_at, changed, removed, set_live, set_older, entries_from};
 
 use crate::entry::{Entry, Slot};
+use leaf_record::RecordView;
 use std::alloc::Global;
 use std::marker::Model;
 use uo_base::NoMemory;
@@ -85,14 +86,14 @@ impl Entries {
         slot.set_older(older);
     }
 
-    /// Puts an entry at its number, which is above those of all others.
-    pub fn add(&mut self, alloc: Global, number: u64, entry: Entry) -> Result<(), NoMemory>
+    /// Puts an output at its number, which is above those of all others. It is live and tells no older one.
+    pub fn add(&mut self, alloc: Global, number: u64, leaf: &RecordView<'_>) -> Result<(), NoMemory>
         requires { AllByRecursion (λ x. x.0 < number) self.old }
-        ensures ok { OnOk result (self.new ≡ self.old ++ (number, entry) ∷ []) }
+        ensures ok { OnOk result (self.new ≡ self.old ++ (number, record { leaf = leaf.now; live = true; older = None }) ∷ []) }
         ensures err { OnErr result (self.new ≡ self.old) }
     {
         end_at(&mut self.slots, number as usize)?;
-        let slot = cell(&mut self.spare, alloc, entry)?;
+        let slot = cell(&mut self.spare, alloc, leaf)?;
         self.slots.push(Some(slot))?;
         Ok(())
     }
@@ -110,16 +111,16 @@ impl Entries {
     }
 }
 
-/// A spare cell, or a new one where none is spare, with this entry.
-fn cell(spare: &mut Vec<Slot>, alloc: Global, entry: Entry) -> Result<Slot, NoMemory>
-    ensures { IfOk result (λ slot. slot ≡ entry) }
+/// A spare cell, or a new one where none is spare, with this output, live.
+fn cell(spare: &mut Vec<Slot>, alloc: Global, leaf: &RecordView<'_>) -> Result<Slot, NoMemory>
+    ensures { IfOk result (λ slot. slot ≡ record { leaf = leaf.now; live = true; older = None }) }
 {
     match spare.pop() {
         Some(mut slot) => {
-            slot.set(entry);
+            slot.fill(alloc, leaf)?;
             Ok(slot)
         }
-        None => Slot::new(alloc, entry),
+        None => Slot::new(alloc, leaf),
     }
 }
 

@@ -1,5 +1,5 @@
 //! The record of an output, in one piece.
-ghost use Rattle.std.specs.Prelude.{◌≡◌, ◌≤◌, length, IsOk, IfOk};
+ghost use Rattle.std.specs.Prelude.{◌≡◌, ◌≤◌, length, IsOk, IfOk, OnOk};
 ghost use Rattle.leaf_record.specs.History.{same_point};
 ghost use Rattle.output_index.specs.Marks.{mark_of};
 ghost use Rattle.output_index.specs.Scripts.{without_script};
@@ -52,6 +52,21 @@ impl StoredRecord {
         })
     }
 
+    /// This output from now on.
+    pub fn set(&mut self, alloc: Global, leaf: &RecordView<'_>) -> Result<(), NoMemory>
+        ensures same { OnOk result (self.new ≡ leaf.now) }
+        ensures short { length leaf.now.rest.script ≤ 40 → IsOk result }
+    {
+        self.script.set(alloc, leaf.script)?;
+        self.block = leaf.block;
+        self.txid = leaf.txid;
+        self.index = leaf.index;
+        self.height = leaf.height;
+        self.coinbase = leaf.coinbase;
+        self.amount = leaf.amount;
+        Ok(())
+    }
+
     pub fn view(&self) -> RecordView<'_>
         ensures { result ≡ self.now }
     {
@@ -76,7 +91,7 @@ impl StoredRecord {
     pub fn clear_script(&mut self)
         ensures { self.new ≡ without_script self.old }
     {
-        self.script = Script::empty();
+        self.script.clear();
     }
 
     /// Whether this is the output with this name.
