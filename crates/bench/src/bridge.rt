@@ -6,7 +6,7 @@ use leaf_cache::Watch;
 use std::alloc::Global;
 use std::io;
 use std::sync::ledger::Ledger;
-use std::time::CpuClock;
+use std::time::{CpuClock, Duration};
 use uo_base::{Event, Limits, Net, NoMemory};
 use uo_digest::{Sha512t256, Steps, sha256d};
 
@@ -29,8 +29,42 @@ const CASES: [(u32, u32, u32, bool); 12] = [
 /// Outputs of a block that comes before those that are measured.
 const WIDE: u32 = 10_000;
 
+/// Blocks of the same kind that come before those that are measured. What a block spends is kept until so many more have come, and
+/// from then on each block has as many outputs forgotten as it spends.
+const WARMING: u32 = 100;
+
+/// Blocks that are proved at a stretch. Behind each stretch the messages are dropped, as the program gives back what it has written.
+const ROUND: usize = 10;
+
+// The digests of blocks, where no path is shared and where paths are, and the bytes of their messages.
+#[derive(Clone, Copy)]
+struct Needs {
+    apart: u64,
+    shared: u64,
+    bytes: u64,
+}
+
+impl Needs {
+    fn and(self, other: Needs) -> Needs {
+        Needs {
+            apart: self.apart.saturating_add(other.apart),
+            shared: self.shared.saturating_add(other.shared),
+            bytes: self.bytes.saturating_add(other.bytes),
+        }
+    }
+}
+
+// How many blocks were accepted, the time in which all were judged and proved, and what they need.
+#[derive(Clone, Copy)]
+struct Proved {
+    blocks: u64,
+    time: Duration,
+    needs: Needs,
+}
+
 /// Microseconds of blocks that a bridge judges and proves, over ten thousand to a million entries, and of the digests and the
 /// hashing that they need; and the bytes of its messages, over a hundred thousand also where one entry in a hundred is watched.
+/// Each case is measured behind a hundred blocks like its own.
 pub fn measure_bridge<R: CpuClock + Print + AllocGlobal, L: Ledger>(
     rt: &R,
     steps: &mut Steps<L>,
@@ -84,7 +118,7 @@ fn spending_blocks(
 }
 
 // The messages beside the blocks that are accepted.
-fn prove_all<L: Ledger>(
+fn prove_round<L: Ledger>(
     alloc: Global,
     bridge: &mut Bridge<Sha512t256>,
     blocks: &[Vec<u8>],
@@ -99,32 +133,71 @@ fn prove_all<L: Ledger>(
     Ok(messages)
 }
 
-// The digests of all blocks, whose first is for a forest of `before` entries and of which each adds some: where no path is
-// shared, where paths are, and the bytes of their messages. With each entry comes one for its leaf, and one wherever two trees are joined.
-fn needs_of_all(
+// What blocks need, whose first is for a forest of `before` entries and of which each adds some. With each entry comes a digest for
+// its leaf, and one wherever two trees are joined.
+fn needs_of_round(
     alloc: Global,
     before: u64,
     added: u64,
     after: u64,
     messages: &[Vec<u8>],
-) -> (u64, u64, u64) {
+) -> Needs {
     let leaves = after.saturating_sub(before);
     let joins = leaves
         .saturating_add(u64::from(before.count_ones()))
         .saturating_sub(u64::from(after.count_ones()));
     let adding = leaves.saturating_add(joins);
-    let mut needs = (adding, adding, 0u64);
+    let mut needs = Needs {
+        apart: adding,
+        shared: adding,
+        bytes: 0,
+    };
     let mut there = before;
     for message in messages {
         let (apart, shared) = needs_of(alloc, there, message).unwrap_or((0, 0));
-        needs = (
-            needs.0.saturating_add(apart),
-            needs.1.saturating_add(shared),
-            needs.2.saturating_add(message.len() as u64),
-        );
+        needs = needs.and(Needs {
+            apart,
+            shared,
+            bytes: message.len() as u64,
+        });
         there = there.saturating_add(added);
     }
     needs
+}
+
+// Blocks of which each adds so many entries, some at a stretch. The watch runs while they are proved, and not while their messages
+// are counted and dropped. None where there is no memory.
+fn prove_rounds<R: CpuClock, L: Ledger>(
+    rt: &R,
+    alloc: Global,
+    added: u64,
+    bridge: &mut Bridge<Sha512t256>,
+    blocks: &[Vec<u8>],
+    steps: &mut Steps<L>,
+) -> io::Result<Option<Proved>> {
+    let mut accepted: u64 = 0;
+    let mut time = Duration::ZERO;
+    let mut needs = Needs {
+        apart: 0,
+        shared: 0,
+        bytes: 0,
+    };
+    for round in blocks.chunks(ROUND) {
+        let before = bridge.forest().leaves();
+        let mut watch = Stopwatch::start(rt)?;
+        let Ok(messages) = prove_round(alloc, bridge, round, steps) else {
+            return Ok(None);
+        };
+        time = time.saturating_add(watch.lap(rt)?);
+        accepted = accepted.saturating_add(messages.len() as u64);
+        let after = bridge.forest().leaves();
+        needs = needs.and(needs_of_round(alloc, before, added, after, &messages));
+    }
+    Ok(Some(Proved {
+        blocks: accepted,
+        time,
+        needs,
+    }))
 }
 
 // The ids of the blocks and of both their transactions, and their merkle roots.
@@ -156,7 +229,8 @@ fn measure<R: CpuClock + Print, L: Ledger>(
         return println!(rt; "no memory");
     };
     let filled = fill(&mut bridge, &mut purse, entries / WIDE, steps);
-    let Ok(blocks) = spending_blocks(alloc, &mut purse, spends, count) else {
+    let all = count.saturating_add(WARMING);
+    let Ok(blocks) = spending_blocks(alloc, &mut purse, spends, all) else {
         return println!(rt; "no memory");
     };
     if filled.is_err() {
@@ -176,6 +250,7 @@ fn measure<R: CpuClock + Print, L: Ledger>(
     )
 }
 
+// The first blocks are proved as the others are, and not measured.
 fn measure_blocks<R: CpuClock + Print, L: Ledger>(
     rt: &R,
     alloc: Global,
@@ -184,24 +259,32 @@ fn measure_blocks<R: CpuClock + Print, L: Ledger>(
     blocks: &[Vec<u8>],
     steps: &mut Steps<L>,
 ) -> io::Result<()> {
-    let before = bridge.forest().leaves();
-    let mut watch = Stopwatch::start(rt)?;
-    let Ok(messages) = prove_all(alloc, bridge, blocks, steps) else {
+    let (warming, measured) = blocks.split_at(blocks.len().min(WARMING as usize));
+    if prove_rounds(rt, alloc, added, bridge, warming, steps)?.is_none() {
+        return println!(rt; "no memory");
+    }
+    let Some(proved) = prove_rounds(rt, alloc, added, bridge, measured, steps)? else {
         return println!(rt; "no memory");
     };
-    let proving = watch.lap(rt)?;
-    println!(rt; "{} blocks in {} us", messages.len(), proving.as_micros())?;
-    let needs = needs_of_all(alloc, before, added, bridge.forest().leaves(), &messages);
-    measure_alone(rt, needs, blocks, steps)
+    println!(rt;
+        "{} blocks in {} us",
+        proved.blocks,
+        proved.time.as_micros()
+    )?;
+    measure_alone(rt, proved.needs, measured, steps)
 }
 
 fn measure_alone<R: CpuClock + Print, L: Ledger>(
     rt: &R,
-    needs: (u64, u64, u64),
+    needs: Needs,
     blocks: &[Vec<u8>],
     steps: &mut Steps<L>,
 ) -> io::Result<()> {
-    let (apart, shared, bytes) = needs;
+    let Needs {
+        apart,
+        shared,
+        bytes,
+    } = needs;
     let mut watch = Stopwatch::start(rt)?;
     let last = digest_alone(shared, steps);
     let digesting = watch.lap(rt)?;
