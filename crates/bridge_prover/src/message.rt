@@ -13,6 +13,7 @@ ghost use Rattle.output_index.specs.Held.{leaf_at};
 ghost use Rattle.bridge_prover.specs.Bridge.{target_of, spend_of, spends_by};
 ghost use Rattle.bridge_prover.specs.Judged.{proof_beside};
 
+use crate::entries::rising;
 use bridge_forest::Forest;
 use cache_update::is_known;
 use forest_place::{Place, position};
@@ -135,7 +136,8 @@ pub(crate) fn message_of<D: Digester>(
     let paths = paths_at(alloc, forest.leaves(), &positions)?;
     let needed = paths.needed(alloc)?;
     let asked = needed.as_slice();
-    let found = forest.digests_at(alloc, paths.covered(), asked)?;
+    let spent = rising(alloc, numbers)?;
+    let found = forest.digests_beside(alloc, &spent, asked)?;
     for i in 0..asked.len() {
         put_hash(&mut message, kept, asked[i], found[i])?;
     }
