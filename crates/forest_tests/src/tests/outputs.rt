@@ -238,3 +238,27 @@ fn a_hundred_spent_ones_are_passed(rt: HostRuntime) -> Result<(), Fail> {
     }
     Ok(())
 }
+
+/// Outputs whose places in the index would all be one: four have room in it.
+#[test]
+fn outpoints_of_one_bucket(rt: HostRuntime) -> Result<(), Fail> {
+    let txid = txid_of(2, 0);
+    let mut outputs = Outputs::new(rt.alloc());
+    for number in 0..1_000u32 {
+        let leaf = record_of(rt.alloc(), txid, number << 16)?;
+        insert(&mut outputs, u64::from(number), leaf)?;
+    }
+    for number in 0..1_000u32 {
+        assert!(rt; outputs.newest(&txid, number << 16) == Some(u64::from(number)));
+        assert!(rt; outputs.newest(&txid, number << 16 | 1).is_none());
+    }
+    for half in 0..500 {
+        spend(&rt, &mut outputs, 2 * half);
+        forget(&rt, &mut outputs, 2 * half);
+    }
+    for half in 0..500u32 {
+        assert!(rt; outputs.newest(&txid, half << 17).is_none());
+        assert!(rt; outputs.newest(&txid, half << 17 | 1 << 16) == Some(u64::from(2 * half + 1)));
+    }
+    Ok(())
+}

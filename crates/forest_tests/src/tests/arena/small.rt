@@ -129,6 +129,23 @@ fn check_walk<D: Digester>(
     }
 }
 
+// Whether a walk down to these entries answers what the plain forest has at all places.
+fn check_ways<D: Digester>(
+    rt: &impl Abort,
+    alloc: Global,
+    forest: &Forest<D>,
+    nodes: &[Node],
+    numbers: &[u64],
+    places: &[Place],
+) {
+    let Ok(digests) = forest.digests_beside(alloc, numbers, places) else {
+        panic!(rt; "no memory")
+    };
+    for (place, digest) in places.iter().zip(digests.iter()) {
+        assert!(rt; *digest == digest_at(nodes, *place));
+    }
+}
+
 // Whether a slot has its root.
 fn check_root<D: Digester>(
     rt: &impl Abort,
@@ -209,6 +226,8 @@ fn check<D: Digester, L: Ledger>(
     let places = all_places(alloc, both.forest.leaves())?;
     check_walk(rt, alloc, &both.forest, &nodes, &places, &places);
     check_walk(rt, alloc, &both.forest, &nodes, &[], &places);
+    check_ways(rt, alloc, &both.forest, &nodes, &[1, 4], &places);
+    check_ways(rt, alloc, &both.forest, &nodes, &[0, 2, 3, 8], &places);
     let roots = both.forest.roots();
     for row in 0..5 {
         check_row(rt, &both.forest, &nodes, row);
