@@ -2,6 +2,7 @@
 ghost use Rattle.std.specs.Prelude.{◌≡◌, ℕ, ◌++◌, ◌∷◌, [], None, Some, map, IfOk, OnOk, IfErr, IsSome};
 ghost use Rattle.std.specs.List.{AllByRecursion};
 ghost use Rattle.block_rules.specs.Money.{found_of};
+ghost use Rattle.node_rules.specs.Messages.{point_of};
 ghost use Rattle.output_index.specs.Held.{leaf_at};
 ghost use Rattle.bridge_prover.specs.Own.{newest_in, leaves_in};
 ghost use Rattle.compact_node.specs.Judged.{IsFirst};
@@ -9,8 +10,22 @@ ghost use Rattle.bridge_prover.specs.Judged.{first_missing};
 
 use block_rules::{Found, Outside, Refusal, RuleFault};
 use leaf_record::RecordView;
-use output_index::Outputs;
+use output_index::{Outpoint, Outputs};
 use std::alloc::{AllocError, Global};
+
+// The outpoint of each external input.
+fn names_of(alloc: Global, external: &[Outside]) -> Result<Vec<Outpoint>, AllocError>
+    ensures { IfOk result (λ names. names.items ≡ map point_of external.now) }
+{
+    let mut names = Vec::with_capacity(alloc, external.len())?;
+    for at in external {
+        names.push(Outpoint {
+            txid: at.txid,
+            index: at.index,
+        })?;
+    }
+    Ok(names)
+}
 
 // The newest live entry of each external input's outpoint, or the first input of which there is none.
 pub(crate) fn numbers_of(
@@ -22,9 +37,12 @@ pub(crate) fn numbers_of(
     ensures passes { OnOk result (first_missing outputs.now external.now ≡ None) }
     ensures err { IfErr result (λ fault. IsFirst (first_missing outputs.now external.now) fault) }
 {
+    let names = names_of(alloc, external)?;
+    let newest = outputs.newest_of_all(alloc, &names)?;
     let mut numbers = Vec::with_capacity(alloc, external.len())?;
-    for at in external {
-        let Some(number) = outputs.newest(&at.txid, at.index) else {
+    for i in 0..external.len() {
+        let Some(number) = newest[i] else {
+            let at = external[i];
             return Err(RuleFault::Refused(Refusal::Missing {
                 tx: at.tx,
                 input: at.input,
