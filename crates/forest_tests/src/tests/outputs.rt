@@ -5,7 +5,7 @@ ghost use Rattle.output_index.specs.Held.{IsAbove};
 mod short_lists;
 
 use leaf_record::{Record, RecordView};
-use output_index::Outputs;
+use output_index::{Outpoint, Outputs};
 use std::alloc::{AllocError, Global};
 use std::process::Abort;
 use std::test::Fail;
@@ -37,6 +37,10 @@ fn record_of(alloc: Global, txid: Digest, index: u32) -> Result<Record, AllocErr
     })
 }
 
+fn name_of(txid: Digest, index: u32) -> Outpoint {
+    Outpoint { txid, index }
+}
+
 #[test]
 fn finds_the_newest(rt: HostRuntime) -> Result<(), Fail> {
     let first = txid_of(2, 0);
@@ -53,6 +57,21 @@ fn finds_the_newest(rt: HostRuntime) -> Result<(), Fail> {
     let output = outputs.output(5).ok_or("held")?;
     assert!(rt; output.txid == second && output.index == 9 && output.amount == 5);
     assert!(rt; output.script == [0x51].as_slice());
+    Ok(())
+}
+
+/// What is told of many outpoints is told in their order.
+#[test]
+fn finds_all_at_once(rt: HostRuntime) -> Result<(), Fail> {
+    let first = txid_of(2, 0);
+    let second = txid_of(2, 1);
+    let mut outputs = Outputs::new(rt.alloc());
+    outputs.insert(3, record_of(rt.alloc(), first, 0)?)?;
+    outputs.insert(5, record_of(rt.alloc(), second, 9)?)?;
+    outputs.insert(6, record_of(rt.alloc(), first, 0)?)?;
+    let names = [name_of(second, 9), name_of(second, 0), name_of(first, 0)];
+    let found = outputs.newest_of_all(rt.alloc(), names.as_slice())?;
+    assert!(rt; found.as_slice() == [Some(5), None, Some(6)].as_slice());
     Ok(())
 }
 
