@@ -87,8 +87,10 @@ impl Buckets {
         ensures gone { few_at self.new mark ≡ None }
         ensures others { (m : ℕ) → m ≢ mark → few_at self.new m ≡ few_at self.old m }
     {
-        take_from(&mut self.list, self.bits, mark);
-        self.held = self.held.saturating_sub(1);
+        if self.get(mark).is_some() {
+            take_from(&mut self.list, self.bits, mark);
+            self.held = self.held.saturating_sub(1);
+        }
     }
 
     // Adds a bucket, if there is memory for it.
