@@ -29,12 +29,12 @@ const CASES: [(u32, u32, u32, bool); 12] = [
 /// Outputs of a block that comes before those that are measured.
 const WIDE: u32 = 10_000;
 
-/// Blocks of the same kind that come before those that are measured. What a block spends is kept until so many more have come, and
-/// from then on each block has as many outputs forgotten as it spends.
-const WARMING: u32 = 100;
-
 /// Blocks that are proved at a stretch. Behind each stretch the messages are dropped, as the program gives back what it has written.
 const ROUND: usize = 10;
+
+/// Rounds of the same kind that come before those that are told. What a block spends is kept until a hundred more have come, and from
+/// then on each block has as many outputs forgotten as it spends.
+const WARMING: usize = 11;
 
 // The digests of blocks, where no path is shared and where paths are, and the bytes of their messages.
 #[derive(Clone, Copy)]
@@ -54,12 +54,44 @@ impl Needs {
     }
 }
 
-// How many blocks were accepted, the time in which all were judged and proved, and what they need.
+// How many blocks were accepted, what they need, and the time in which they were judged and proved, in which as many digests were made
+// alone, and in which what else they hash was hashed alone.
 #[derive(Clone, Copy)]
 struct Proved {
     blocks: u64,
-    time: Duration,
     needs: Needs,
+    proving: Duration,
+    digesting: Duration,
+    hashing: Duration,
+    seen: u8,
+}
+
+impl Proved {
+    fn nothing() -> Proved {
+        Proved {
+            blocks: 0,
+            needs: Needs {
+                apart: 0,
+                shared: 0,
+                bytes: 0,
+            },
+            proving: Duration::ZERO,
+            digesting: Duration::ZERO,
+            hashing: Duration::ZERO,
+            seen: 0,
+        }
+    }
+
+    fn and(self, other: Proved) -> Proved {
+        Proved {
+            blocks: self.blocks.saturating_add(other.blocks),
+            needs: self.needs.and(other.needs),
+            proving: self.proving.saturating_add(other.proving),
+            digesting: self.digesting.saturating_add(other.digesting),
+            hashing: self.hashing.saturating_add(other.hashing),
+            seen: self.seen ^ other.seen,
+        }
+    }
 }
 
 /// Microseconds of blocks that a bridge judges and proves, over ten thousand to a million entries, and of the digests and the
@@ -165,41 +197,6 @@ fn needs_of_round(
     needs
 }
 
-// Blocks of which each adds so many entries, some at a stretch. The watch runs while they are proved, and not while their messages
-// are counted and dropped. None where there is no memory.
-fn prove_rounds<R: CpuClock, L: Ledger>(
-    rt: &R,
-    alloc: Global,
-    added: u64,
-    bridge: &mut Bridge<Sha512t256>,
-    blocks: &[Vec<u8>],
-    steps: &mut Steps<L>,
-) -> io::Result<Option<Proved>> {
-    let mut accepted: u64 = 0;
-    let mut time = Duration::ZERO;
-    let mut needs = Needs {
-        apart: 0,
-        shared: 0,
-        bytes: 0,
-    };
-    for round in blocks.chunks(ROUND) {
-        let before = bridge.forest().leaves();
-        let mut watch = Stopwatch::start(rt)?;
-        let Ok(messages) = prove_round(alloc, bridge, round, steps) else {
-            return Ok(None);
-        };
-        time = time.saturating_add(watch.lap(rt)?);
-        accepted = accepted.saturating_add(messages.len() as u64);
-        let after = bridge.forest().leaves();
-        needs = needs.and(needs_of_round(alloc, before, added, after, &messages));
-    }
-    Ok(Some(Proved {
-        blocks: accepted,
-        time,
-        needs,
-    }))
-}
-
 // The ids of the blocks and of both their transactions, and their merkle roots.
 fn hash_alone(blocks: &[Vec<u8>]) -> u8 {
     let mut seen = 0;
@@ -210,6 +207,38 @@ fn hash_alone(blocks: &[Vec<u8>]) -> u8 {
         seen ^= sha256d(&[seen; 64]).0[0];
     }
     seen
+}
+
+// Some blocks, of which each adds so many entries, at a stretch, and then their digests and their hashing alone. None where there is
+// no memory.
+fn measure_round<R: CpuClock, L: Ledger>(
+    rt: &R,
+    alloc: Global,
+    added: u64,
+    bridge: &mut Bridge<Sha512t256>,
+    blocks: &[Vec<u8>],
+    steps: &mut Steps<L>,
+) -> io::Result<Option<Proved>> {
+    let before = bridge.forest().leaves();
+    let mut watch = Stopwatch::start(rt)?;
+    let Ok(messages) = prove_round(alloc, bridge, blocks, steps) else {
+        return Ok(None);
+    };
+    let proving = watch.lap(rt)?;
+    let needs = needs_of_round(alloc, before, added, bridge.forest().leaves(), &messages);
+    let mut watch = Stopwatch::start(rt)?;
+    let last = digest_alone(needs.shared, steps);
+    let digesting = watch.lap(rt)?;
+    let seen = hash_alone(blocks) ^ last.0[0];
+    let hashing = watch.lap(rt)?;
+    Ok(Some(Proved {
+        blocks: messages.len() as u64,
+        needs,
+        proving,
+        digesting,
+        hashing,
+        seen,
+    }))
 }
 
 fn measure<R: CpuClock + Print, L: Ledger>(
@@ -229,7 +258,7 @@ fn measure<R: CpuClock + Print, L: Ledger>(
         return println!(rt; "no memory");
     };
     let filled = fill(&mut bridge, &mut purse, entries / WIDE, steps);
-    let all = count.saturating_add(WARMING);
+    let all = count.saturating_add((WARMING * ROUND) as u32);
     let Ok(blocks) = spending_blocks(alloc, &mut purse, spends, all) else {
         return println!(rt; "no memory");
     };
@@ -250,7 +279,8 @@ fn measure<R: CpuClock + Print, L: Ledger>(
     )
 }
 
-// The first blocks are proved as the others are, and not measured.
+// The first blocks are proved as the others are, and not told. The others take turns of some with their digests and hashing alone, so
+// what else goes on beside hits both alike.
 fn measure_blocks<R: CpuClock + Print, L: Ledger>(
     rt: &R,
     alloc: Global,
@@ -259,41 +289,31 @@ fn measure_blocks<R: CpuClock + Print, L: Ledger>(
     blocks: &[Vec<u8>],
     steps: &mut Steps<L>,
 ) -> io::Result<()> {
-    let (warming, measured) = blocks.split_at(blocks.len().min(WARMING as usize));
-    if prove_rounds(rt, alloc, added, bridge, warming, steps)?.is_none() {
-        return println!(rt; "no memory");
+    let mut proved = Proved::nothing();
+    for (number, round) in blocks.chunks(ROUND).enumerate() {
+        let Some(one) = measure_round(rt, alloc, added, bridge, round, steps)? else {
+            return println!(rt; "no memory");
+        };
+        if number >= WARMING {
+            proved = proved.and(one);
+        }
     }
-    let Some(proved) = prove_rounds(rt, alloc, added, bridge, measured, steps)? else {
-        return println!(rt; "no memory");
-    };
+    print_proved(rt, &proved)
+}
+
+fn print_proved<R: Print>(rt: &R, proved: &Proved) -> io::Result<()> {
     println!(rt;
         "{} blocks in {} us",
         proved.blocks,
-        proved.time.as_micros()
+        proved.proving.as_micros()
     )?;
-    measure_alone(rt, proved.needs, measured, steps)
-}
-
-fn measure_alone<R: CpuClock + Print, L: Ledger>(
-    rt: &R,
-    needs: Needs,
-    blocks: &[Vec<u8>],
-    steps: &mut Steps<L>,
-) -> io::Result<()> {
-    let Needs {
-        apart,
-        shared,
-        bytes,
-    } = needs;
-    let mut watch = Stopwatch::start(rt)?;
-    let last = digest_alone(shared, steps);
-    let digesting = watch.lap(rt)?;
-    let seen = hash_alone(blocks);
-    let hashing = watch.lap(rt)?;
     println!(rt;
-        "  its {shared} digests alone {} us, {apart} where no path is shared; hashing alone {} us; {bytes} bytes of messages; {} {seen}",
-        digesting.as_micros(),
-        hashing.as_micros(),
-        last.0[0]
+        "  its {} digests alone {} us, {} where no path is shared; hashing alone {} us; {} bytes of messages; {}",
+        proved.needs.shared,
+        proved.digesting.as_micros(),
+        proved.needs.apart,
+        proved.hashing.as_micros(),
+        proved.needs.bytes,
+        proved.seen
     )
 }
