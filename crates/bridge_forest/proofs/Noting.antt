@@ -1,80 +1,17 @@
--- Digests that are noted on the way down to entries: each stands where it is said to.
-use Rattle.std.proofs.Common.{◌≡◌, ◌≢◌, ℕ, ◌+◌, ◌-◌, ◌*◌, ◌^◌, ◌<◌, ◌≤◌, List, [], ◌∷◌, ◌++◌, length, set, get_or, Option, Some, None, refl, sym, ap, ap₂, ◌∙◌, subst, ⊎_elim, arith}
-use Rattle.std.specs.Prelude.{slice_get, option_map, Result, Ok, Err, OnOk, OnErr}
-use Rattle.std.proofs.lemmas.Bool.{cases_eq, cases_lt}
-use Rattle.std.proofs.lemmas.List.{length-set, length-append, get_or-set_same, get_or-set_other}
-use Rattle.std.proofs.lemmas.Option.{none-some, same_Some, slice_get_within, slice_get-get_or, get_or_from_slice_get}
-use Rattle.std.proofs.Math.ListN.{get_or-append}
-use Rattle.std.proofs.Math.Seq.{get_or-append_seam}
+-- What stands at a place, by the parts beneath.
+use Rattle.std.proofs.Common.{◌≡◌, ℕ, ◌+◌, ◌-◌, ◌*◌, ◌^◌, ◌<◌, ◌≤◌, List, length, Option, Some, None, sym, ap, ap₂, ◌∙◌, arith}
+use Rattle.std.specs.Prelude.{option_map}
 use Rattle.uo_digest.specs.declared.digest.Digest.{Digest}
 use Rattle.forest_place.specs.declared.place.Place.{Place}
 use Rattle.forest_place.specs.Forest.{InForest}
 use Rattle.forest_place.proofs.Positions.{row_small}
-use Rattle.forest_model.specs.Content.{Tree, inner, join, content, digest_of}
+use Rattle.forest_model.specs.Content.{inner, join, content, digest_of}
 use Rattle.forest_model.specs.Standing.{tree_at, digest_at}
 use Rattle.forest_model.proofs.Climbs.{tree_at-forest}
 use Rattle.forest_model.proofs.Moving.{child_stands}
 use Rattle.bridge_forest.specs.Parts.{PartLists, AreParts, kept}
-use Rattle.bridge_forest.specs.Lookups.{AreAlike}
-use Rattle.bridge_forest.specs.Beside.{IsHint, AreEmpty, AreTold}
-use Rattle.bridge_forest.specs.declared.beside.Standing.{Standing}
 use Rattle.bridge_forest.proofs.Refreshing.{kept_right}
 use Rattle.bridge_forest.proofs.Seeking.{alike, tree_above, tree_some, tree_none, within_left, within_right, joined-none, node_high}
-
--- ---- lists of rows
-
-pub empty_more : (rows : List (List Standing)) (row : List Standing) → row ≡ [] → AreEmpty rows → AreEmpty (rows ++ row ∷ [])
-empty_more rows row none all r list there =
-    ⊎_elim
-    (λ l. all r list (slice_get-get_or rows r row l ∙ ap Some (sym (get_or-append rows (row ∷ []) row r l) ∙ get_or_from_slice_get (rows ++ row ∷ []) r list row there)))
-    (λ l. let at : r ≡ length rows = omega (arith, l, slice_get_within (rows ++ row ∷ []) r list there, (let e : length (rows ++ row ∷ []) ≡ length rows + 1 = length-append rows (row ∷ []) in e)) in
-    sym (get_or_from_slice_get (rows ++ row ∷ []) r list row there) ∙ (ap (λ k. get_or (rows ++ row ∷ []) k row) at ∙ (get_or-append_seam rows row [] row ∙ none)))
-    (cases_lt r (length rows))
-
-pub told_none : (H : List ℕ → Digest) (es : List (Option Digest)) (rows : List (List Standing)) → AreEmpty rows → AreTold H es rows
-told_none H es rows none = record { is = λ row at s h. absurd (none-some s (ap (λ list. slice_get list at) (sym (none row h.list h.has_row)) ∙ h.there)) }
-
--- the same list once more
-told_set : (H : List ℕ → Digest) (es : List (Option Digest)) (rows : List (List Standing)) (r : ℕ) (new : List Standing) → AreTold H es rows → ((at : ℕ) (s : Standing) → slice_get new at ≡ Some s → digest_at H es r s.off ≡ Some s.digest) → AreTold H es (set rows r new)
-told_set H es rows r new told each = record {
-  is = λ row at s h.
-      let within : row < length rows = omega (arith, slice_get_within (set rows r new) row h.list h.has_row, length-set rows r new) in
-      ⊎_elim
-      (λ same.
-      let list : h.list ≡ new = sym (get_or_from_slice_get (set rows r new) row h.list new h.has_row) ∙ (ap (λ k. get_or (set rows r new) k new) same ∙ get_or-set_same rows r new new (subst (λ k. k < length rows) same within)) in
-      ap (λ k. digest_at H es k s.off) same ∙ each at s (ap (λ l. slice_get l at) (sym list) ∙ h.there))
-      (λ other.
-      let was : slice_get rows row ≡ Some h.list = slice_get-get_or rows row new within ∙ ap Some (sym (get_or-set_other rows r row new new other) ∙ get_or_from_slice_get (set rows r new) row h.list new h.has_row) in
-      told.is row at s (record { list = h.list; has_row = was; there = h.there }))
-      (cases_eq row r);
-}
-
--- one more in a row
-pub told_more : (H : List ℕ → Digest) (es : List (Option Digest)) (rows : List (List Standing)) (r : ℕ) (old new : List Standing) (one : Standing) → AreTold H es rows → r < length rows → old ≡ get_or rows r old → new ≡ old ++ one ∷ [] → digest_at H es r one.off ≡ Some one.digest → AreTold H es (set rows r new)
-told_more H es rows r old new one told within is more here = told_set H es rows r new told (λ at s there. each at s (ap (λ l. slice_get l at) (sym more) ∙ there))
-  where
-    has : slice_get rows r ≡ Some old
-    has = slice_get-get_or rows r old within ∙ ap Some (sym is)
-
-    each : (at : ℕ) (s : Standing) → slice_get (old ++ one ∷ []) at ≡ Some s → digest_at H es r s.off ≡ Some s.digest
-    each at s there =
-        ⊎_elim
-        (λ l. told.is r at s (record { list = old; has_row = has; there = slice_get-get_or old at one l ∙ ap Some (sym (get_or-append old (one ∷ []) one at l) ∙ get_or_from_slice_get (old ++ one ∷ []) at s one there) }))
-        (λ l.
-        let last : at ≡ length old = omega (arith, l, slice_get_within (old ++ one ∷ []) at s there, (let e : length (old ++ one ∷ []) ≡ length old + 1 = length-append old (one ∷ []) in e)) in
-        let same : s ≡ one = sym (get_or_from_slice_get (old ++ one ∷ []) at s one there) ∙ (ap (λ k. get_or (old ++ one ∷ []) k one) last ∙ get_or-append_seam old one [] one) in
-        ap (λ x. digest_at H es r x.off) same ∙ (here ∙ ap (λ x. Some x.digest) (sym same)))
-        (cases_lt at (length old))
-
-pub told_same : (H : List ℕ → Digest) (es : List (Option Digest)) (rows : List (List Standing)) (r : ℕ) (old new : List Standing) → AreTold H es rows → r < length rows → old ≡ get_or rows r old → new ≡ old → AreTold H es (set rows r new)
-told_same H es rows r old new told within is same = told_set H es rows r new told (λ at s there. told.is r at s (record { list = old; has_row = slice_get-get_or rows r old within ∙ ap Some (sym is); there = ap (λ l. slice_get l at) (sym same) ∙ there }))
-
--- where a digest was noted, or could not be for want of memory
-pub noted_in : {A F : Type 0} (H : List ℕ → Digest) (es : List (Option Digest)) (rows : List (List Standing)) (r : ℕ) (old new : List Standing) (one : Standing) (done : Result A F) → AreTold H es rows → r < length rows → old ≡ get_or rows r old → OnOk done (new ≡ old ++ one ∷ []) → OnErr done (new ≡ old) → digest_at H es r one.off ≡ Some one.digest → AreTold H es (set rows r new)
-noted_in H es rows r old new one (Ok u) told within is ok err here = told_more H es rows r old new one told within is ok here
-noted_in H es rows r old new one (Err e) told within is ok err here = told_same H es rows r old new told within is err
-
--- ---- what stands at a place
 
 module _ (H : List ℕ → Digest) (es : List (Option Digest)) (parts : PartLists) (right : AreParts H (length es) es parts) where
   -- the digest of a part whose tree stands there

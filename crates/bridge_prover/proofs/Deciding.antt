@@ -26,10 +26,10 @@ use Rattle.bridge_prover.specs.Own.{own_in, newest_in, leaves_in}
 use Rattle.compact_node.specs.Judged.{IsFirst}
 use Rattle.compact_node.proofs.Deciding.{external_few}
 use Rattle.bridge_prover.specs.Bridge.{BridgeState, refusal_on, message_by, bridge_with}
-use Rattle.bridge_prover.specs.Judged.{AreFound, HaveShape, IsReady, IsProved, first_missing}
+use Rattle.bridge_prover.specs.Judged.{AreFound, IsReady, IsProved, first_missing}
 use Rattle.bridge_prover.specs.Standing.{IsBridge}
 use Rattle.bridge_prover.proofs.Gathering.{somes-map}
-use Rattle.bridge_prover.proofs.Next.{ready, shaped_so}
+use Rattle.bridge_prover.proofs.Next.{ready}
 
 pub first-in : (xs ys : List (Option Refusal)) (fault : RuleFault) → IsFirst (first_of xs) fault → IsFirst (first_of (xs ++ ys)) fault
 first-in xs ys (Refused why) e = first_of-append xs ys ∙ ap (λ x. option_or x (first_of ys)) e
@@ -135,9 +135,6 @@ module _ (H : List ℕ → Digest) (text : Leaf → List ℕ) (s : BridgeState) 
         let same = ap length (same_external s b spends shaped) in
         subst (IsReady H text s hash numbers) (sym (ap (λ (x : BlockSpends). x.new) shaped.spends))
         (ready H text s b is passes_by hash numbers (numbers_are s b spends shaped numbers known.each known.passes) (omega (arith, few, count, same)))
-
-    pub shaped_by : HaveShape s numbers
-    shaped_by = shaped_so H text s b is passes_by numbers (numbers_are s b spends shaped numbers known.each known.passes)
 
     pub proved_by : (hash : Digest) (message : Option (List ℕ)) (t : BridgeState) → hash ≡ block_hash_of b → message ≡ written_text spends.external (message_by H s.watch s.entries s.held numbers) → t ≡ bridge_with H text s hash numbers spends.new → IsProved H text s b message t
     proved_by hash message t at says next =

@@ -5,18 +5,15 @@ use Rattle.std.proofs.lemmas.Bool.{cases_Bool, cases_eq, lt-ltb, le-ltb, ltb-tru
 use Rattle.std.proofs.lemmas.List.{drop_more}
 use Rattle.leaf_record.specs.Leaf.{Leaf}
 use Rattle.output_index.specs.Held.{Held, is_live, with_live, without, IsAbove}
-use Rattle.bridge_prover.specs.Own.{numbered, spent_in, forgotten_in, cut_in, unspent_in}
+use Rattle.bridge_prover.specs.Own.{numbered, spent_in, cut_in, unspent_in}
 use Rattle.bridge_prover.proofs.Gathering.{took_more}
 
--- ---- the loops that spend, unspend and forget
+-- ---- the loops that spend and unspend
 pub spent_step : (xs : List ℕ) (i : ℕ) (hs : List Held) → i < length xs → spent_in (drop i xs) hs ≡ spent_in (drop (i + 1) xs) (with_live (get_or xs i 0) false hs)
 spent_step xs i hs lt = ap (λ ys. spent_in ys hs) (drop_more xs i 0 lt)
 
 pub unspent_step : (xs : List ℕ) (i : ℕ) (hs : List Held) → i < length xs → unspent_in (drop i xs) hs ≡ unspent_in (drop (i + 1) xs) (with_live (get_or xs i 0) true hs)
 unspent_step xs i hs lt = ap (λ ys. unspent_in ys hs) (drop_more xs i 0 lt)
-
-pub forgotten_step : (xs : List ℕ) (i : ℕ) (hs : List Held) → i < length xs → forgotten_in (drop i xs) hs ≡ forgotten_in (drop (i + 1) xs) (without (get_or xs i 0) hs)
-forgotten_step xs i hs lt = ap (λ ys. forgotten_in ys hs) (drop_more xs i 0 lt)
 
 pub other_later : (xs : List ℕ) (i k : ℕ) → AllPairs (λ a b. a ≢ b) xs → i + 1 ≤ k → k < length xs → get_or xs k 0 ≢ get_or xs i 0
 other_later xs i k apart le lt e = apart i k 0 (omega arith) lt (sym e)

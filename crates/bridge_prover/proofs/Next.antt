@@ -6,13 +6,11 @@ use Rattle.std.proofs.lemmas.Bool.{and_parts, ltb-true, leb-true}
 use Rattle.std.proofs.lemmas.List.{length-map, length-append, append-nil, set-append_left, length-take}
 use Rattle.std.proofs.lemmas.Option.{slice_get_within}
 use Rattle.uo_digest.specs.declared.digest.Digest.{Digest}
-use Rattle.forest_place.specs.Position.{place_at}
 use Rattle.forest_model.specs.Right.{entries}
 use Rattle.forest_model.specs.Deletion.{entries_without}
 use Rattle.block_codec.specs.Block.{Block}
 use Rattle.leaf_record.specs.Leaf.{Leaf}
 use Rattle.leaf_record.specs.History.{History, spent}
-use Rattle.proof_wire.specs.BlockProof.{targets_of}
 use Rattle.block_rules.specs.declared.chain.Chain.{Chain}
 use Rattle.block_rules.specs.declared.refusal.Refusal.TheVariants as Why
 use Rattle.block_rules.specs.Steps.{unless, first_of}
@@ -22,7 +20,6 @@ use Rattle.block_rules.specs.Money.{spends_of, money_steps}
 use Rattle.block_rules.proofs.Firsts.{each_passes, append_passes, unless-passed}
 use Rattle.node_rules.specs.Judging.{Rules, Evidence, own, refusal, history_after}
 use Rattle.node_rules.specs.Machine.{Level, State}
-use Rattle.node_rules.specs.Accepting.{shape_fault}
 use Rattle.node_rules.proofs.Righting.{got_back, got_entry}
 use Rattle.node_rules.proofs.Spending.{entries-after}
 use Rattle.output_index.specs.Held.{Held, IsAbove, is_live, is_spent, leaf_at, with_live, NumbersRise}
@@ -32,11 +29,11 @@ use Rattle.output_index.proofs.HeldLaws.{above-with_live}
 use Rattle.reorg_undo.specs.Undo.{UndoRecord}
 use Rattle.bridge_forest.specs.State as forest
 use Rattle.bridge_prover.specs.Own.{own_in, numbered, spent_in}
-use Rattle.bridge_prover.specs.Bridge.{BridgeState, refusal_on, record_of, dropped, bridge_with, spends_by}
-use Rattle.bridge_prover.specs.Judged.{HaveShape, IsReady}
+use Rattle.bridge_prover.specs.Bridge.{BridgeState, refusal_on, record_of, dropped, bridge_with}
+use Rattle.bridge_prover.specs.Judged.{IsReady}
 use Rattle.bridge_prover.specs.Standing.{IsLiveIn, Undoes, GiveBack, Stands, IsBridge}
 use Rattle.bridge_prover.proofs.Indexing.{above-numbered, append_same}
-use Rattle.bridge_prover.proofs.Owning.{all_index, own_same, live_each, apart, shaped}
+use Rattle.bridge_prover.proofs.Owning.{all_index, own_same, live_each, apart}
 use Rattle.bridge_prover.proofs.Rising.{all_mapped, rise-numbered, rise-spent, rise-forgotten, above-forgotten, leaf-append, leaf-spent}
 use Rattle.bridge_prover.proofs.Giving.{length-spent, length-after, differ_from, gone_after, GoneIn, IsOld, all_old, give_held, give_taken, give_forgotten, spent_there, index-forgotten}
 
@@ -263,15 +260,6 @@ module _ (H : List ℕ → Digest) (text : Leaf → List ℕ) (s : BridgeState) 
       let short' : length ns < 2 ^ 32 = subst (λ xs. length xs < 2 ^ 32) (e ∙ numbers) short in
       subst (λ xs. IsReady H text s hash xs (new_records b s.chain.blocks)) (sym (e ∙ numbers))
       (can_take H text s is ns (new_records b s.chain.blocks) (own_live H text was s stood b by_history) (own_apart H text was s stood b by_history) fits hash short')
-
-  -- and the places of what it spends have shape
-  pub shaped_so : (numbers' : List ℕ) → numbers' ≡ (own_in s.held (external b s.chain.blocks)).numbers → HaveShape s numbers'
-  shaped_so numbers' e =
-      let us = was.now.history in
-      let es = is.stands.entries in
-      subst (HaveShape s) (sym e)
-      (subst (λ x. shape_fault (length x) [] 0 (map (place_at (length x)) (targets_of (spends_by x s.held (own_in s.held (external b s.chain.blocks)).numbers))) ≡ None) (sym es)
-      (shaped s.held us is.rise is.stands.index H text s.rules s.chain b by_history))
 
   pub next_is : (hash : Digest) → IsBridge H text (bridge_with H text s hash (own_in s.held (external b s.chain.blocks)).numbers (new_records b s.chain.blocks))
   next_is hash =

@@ -1,19 +1,29 @@
 -- What a message shows.
-use Rattle.std.proofs.Common.{◌≡◌, ℕ, suc, ◌+◌, ◌<◌, ◌≤◌, Bool, true, false, List, [], ◌∷◌, ◌++◌, map, length, take, get_or, Option, Some, None, refl, sym, ap, ◌∙◌, subst, arith}
-use Rattle.std.specs.Prelude.{option_map, is_some, not}
-use Rattle.std.specs.List.{filter}
-use Rattle.std.proofs.lemmas.List.{get_or-map, take_all, take_more}
-use Rattle.std.proofs.lemmas.List.Elements.{filter-append}
+use Rattle.std.proofs.Common.{◌≡◌, ℕ, zero, suc, ◌+◌, ◌*◌, ◌<◌, Bool, true, false, List, [], ◌∷◌, ◌++◌, map, length, take, get_or, All, Option, Some, None, refl, sym, ap, ap₂, ◌∙◌, subst}
+use Rattle.std.specs.Prelude.{◌==◌, ◌&&◌, option_map, is_some, not, IsSome, if◌then◌else◌}
+use Rattle.std.specs.List.{AllByRecursion, filter, filter_map}
+use Rattle.std.specs.List.Sorted.{IsPermutation}
+use Rattle.std.proofs.Math.Path.{fun_ext}
+use Rattle.std.proofs.lemmas.List.{get_or-map, take_more}
+use Rattle.std.proofs.lemmas.List.Elements.{filter-append, All-from_recursion, recursion_from_All}
+use Rattle.std.proofs.lemmas.List.Sorted.{All-permutation, list_any-IsPermutation}
 use Rattle.std.proofs.lemmas.Bool.{false≢true}
 use Rattle.std.proofs.lemmas.Option.{none-some}
 use Rattle.uo_digest.specs.declared.digest.Digest.{Digest}
 use Rattle.forest_place.specs.declared.place.Place.{Place}
-use Rattle.forest_place.specs.Forest.{InForest}
-use Rattle.forest_place.specs.Position.{place_at}
-use Rattle.forest_model.specs.Content.{leaf}
+use Rattle.forest_place.specs.Forest.{InForest, is_root, sibling_off}
+use Rattle.forest_place.specs.Places.{has_place, places}
+use Rattle.forest_place.specs.Position.{position, place_at}
+use Rattle.forest_place.proofs.Listed.{same_Bools}
+use Rattle.forest_place.proofs.Numbered.{place_at-position}
+use Rattle.forest_model.specs.Content.{Tree, leaf}
 use Rattle.forest_model.specs.Standing.{tree_at, digest_at}
-use Rattle.forest_model.specs.Cover.{need}
+use Rattle.forest_model.specs.EntryPlace.{entry_place}
+use Rattle.forest_model.specs.Cover.{target, cover_of_halves, cover, need}
 use Rattle.forest_model.proofs.Climbs.{tree_at-forest}
+use Rattle.forest_model.proofs.Covers.{some_from_test}
+use Rattle.forest_model.proofs.Deleting.{is_spent, target_entry, spent_is_target}
+use Rattle.forest_model.proofs.Living.{entry_found}
 use Rattle.leaf_record.specs.Leaf.{Leaf}
 use Rattle.leaf_record.specs.History.{somes}
 use Rattle.proof_shape.specs.declared.fault.ShapeFault.{ShapeFault}
@@ -24,10 +34,15 @@ use Rattle.cache_model.specs.Known.{is_known}
 use Rattle.node_rules.specs.Messages.{Message}
 use Rattle.node_rules.specs.Accepting.{shape_fault}
 use Rattle.node_rules.proofs.Placing.{fault_told}
-use Rattle.output_index.specs.Held.{Held, leaf_at}
+use Rattle.bridge_forest.specs.State.{is_live}
+use Rattle.bridge_forest.specs.Proving.{places_of, standing, proof_of}
+use Rattle.bridge_forest.specs.declared.branch.Sibling.{Sibling}
+use Rattle.bridge_forest.proofs.Slotted.{stand_there}
+use Rattle.output_index.specs.Held.{Held, held_at, leaf_at, is_live as is_held_live}
+use Rattle.output_index.proofs.HeldLaws.{live_is_held}
 use Rattle.bridge_prover.specs.Bridge.{spend_of, spends_by}
-use Rattle.bridge_prover.specs.Judged.{proof_beside}
-use Rattle.bridge_prover.proofs.Gathering.{somes-append, somes-map, map-append, gathered_more}
+use Rattle.bridge_prover.specs.Judged.{proof_beside, hashes_unknown}
+use Rattle.bridge_prover.proofs.Gathering.{map-append, gathered_more}
 
 pub live_within : (es : List (Option Digest)) (i : ℕ) (p : Place) → is_some (get_or es i None) ≡ true → tree_at es p.row p.off ≡ option_map (leaf i) (get_or es i None) → InForest (length es) p.row p.off
 live_within es i p live stands = by_entry (get_or es i None) live stands
@@ -49,72 +64,118 @@ no_fault n numbers (Shape.Repeated i j) passes fault other = none-some _ (sym pa
 no_fault n numbers (Shape.Beneath i j) passes fault other = none-some _ (sym passes ∙ fault_told n numbers (Shape.Beneath i j) fault)
 no_fault n numbers Shape.NoMemory passes fault other = false≢true other
 
--- one more spend
-pub record AreShown (es : List (Option Digest)) (hs : List Held) (lean : Bool) (numbers : List ℕ) (shown : Message) (at : List ℕ) : Type 0 where
-  pub message : shown ≡ record { lean = lean; proof = record { spends = spends_by es hs numbers; hashes = [] } }
-  pub positions : at ≡ targets_of (spends_by es hs numbers)
+-- ---- the spends
 
-pub shown_more : (es : List (Option Digest)) (hs : List Held) (lean : Bool) (numbers : List ℕ) (i : ℕ) (old new : Message) (before after : List ℕ) → i < length numbers → AreShown es hs lean (take i numbers) old before →
-    new ≡ record { lean = old.lean; proof = record { spends = old.proof.spends ++ spends_by es hs (get_or numbers i 0 ∷ []); hashes = old.proof.hashes } } → after ≡ before ++ targets_of (spends_by es hs (get_or numbers i 0 ∷ [])) → AreShown es hs lean (take (i + 1) numbers) new after
-shown_more es hs lean numbers i old new before after lt was e f =
+pub shown_more : (es : List (Option Digest)) (hs : List Held) (lean : Bool) (numbers : List ℕ) (i : ℕ) (old new : Message) → i < length numbers → old ≡ record { lean = lean; proof = record { spends = spends_by es hs (take i numbers); hashes = [] } } →
+    new ≡ record { lean = old.lean; proof = record { spends = old.proof.spends ++ spends_by es hs (get_or numbers i 0 ∷ []); hashes = old.proof.hashes } } → new ≡ record { lean = lean; proof = record { spends = spends_by es hs (take (i + 1) numbers); hashes = [] } }
+shown_more es hs lean numbers i old new lt was e =
     let more : spends_by es hs (take (i + 1) numbers) ≡ spends_by es hs (take i numbers) ++ spends_by es hs (get_or numbers i 0 ∷ []) = gathered_more (λ j. option_map (spend_of es j) (leaf_at j hs)) numbers i 0 lt in
     let one = spends_by es hs (get_or numbers i 0 ∷ []) in
-    record {
-      message = e ∙ (ap (λ (m : Message). (let p : BlockProof = record { spends = m.proof.spends ++ one; hashes = m.proof.hashes } in let q : Message = record { lean = m.lean; proof = p } in q)) was.message ∙ ap (λ xs. (let p : BlockProof = record { spends = xs; hashes = [] } in let q : Message = record { lean = lean; proof = p } in q)) (sym more));
-      positions = f ∙ (ap (λ xs. xs ++ targets_of one) was.positions ∙ (sym (map-append (λ (s : Spend). s.target) (spends_by es hs (take i numbers)) one) ∙ ap targets_of (sym more)));
-    }
+    e ∙ (ap (λ (m : Message). (let p : BlockProof = record { spends = m.proof.spends ++ one; hashes = m.proof.hashes } in let q : Message = record { lean = m.lean; proof = p } in q)) was
+    ∙ ap (λ xs. (let p : BlockProof = record { spends = xs; hashes = [] } in let q : Message = record { lean = lean; proof = p } in q)) (sym more))
 
--- ---- the whole
+-- ---- the hashes
+
+unknown-append : (n : ℕ) (kept : List Place) (xs ys : List Sibling) → hashes_unknown n kept (xs ++ ys) ≡ hashes_unknown n kept xs ++ hashes_unknown n kept ys
+unknown-append n kept xs ys =
+    let free = λ (s : Sibling). not (is_known n kept s.place) in
+    ap (map (λ (s : Sibling). s.digest)) (filter-append free xs ys) ∙ map-append (λ (s : Sibling). s.digest) (filter free xs) (filter free ys)
+
+pub hash_more : (n : ℕ) (kept : List Place) (lean : Bool) (spends : List Spend) (siblings : List Sibling) (i : ℕ) (d : Sibling) (old new : Message) → i < length siblings → old ≡ record { lean = lean; proof = record { spends = spends; hashes = hashes_unknown n kept (take i siblings) } } →
+    new ≡ record { lean = old.lean; proof = record { spends = old.proof.spends; hashes = old.proof.hashes ++ hashes_unknown n kept (get_or siblings i d ∷ []) } } → new ≡ record { lean = lean; proof = record { spends = spends; hashes = hashes_unknown n kept (take (i + 1) siblings) } }
+hash_more n kept lean spends siblings i d old new lt was e =
+    let one = hashes_unknown n kept (get_or siblings i d ∷ []) in
+    let more : hashes_unknown n kept (take (i + 1) siblings) ≡ hashes_unknown n kept (take i siblings) ++ one = ap (hashes_unknown n kept) (take_more siblings i d lt) ∙ unknown-append n kept (take i siblings) (get_or siblings i d ∷ []) in
+    e ∙ (ap (λ (m : Message). (let p : BlockProof = record { spends = m.proof.spends; hashes = m.proof.hashes ++ one } in let q : Message = record { lean = m.lean; proof = p } in q)) was
+    ∙ ap (λ xs. (let p : BlockProof = record { spends = spends; hashes = xs } in let q : Message = record { lean = lean; proof = p } in q)) (sym more))
+
+-- the places of siblings are in the forest
+pub siblings_within : (H : List ℕ → Digest) (es : List (Option Digest)) (ps : List Place) → AllByRecursion (λ s. InForest (length es) s.place.row s.place.off) (filter_map (standing H es) ps)
+siblings_within H es [] = tt
+siblings_within H es (p ∷ ps) = by (tree_at es p.row p.off) refl (siblings_within H es ps)
+  where
+    by : (x : Option Tree) → tree_at es p.row p.off ≡ x → AllByRecursion (λ s. InForest (length es) s.place.row s.place.off) (filter_map (standing H es) ps) → AllByRecursion (λ s. InForest (length es) s.place.row s.place.off) (filter_map (standing H es) (p ∷ ps))
+    by None e rest = rw e rest
+    by (Some t) e rest = rw e (tree_at-forest es p.row p.off t e, rest)
+
+pub sibling_within : (H : List ℕ → Digest) (es : List (Option Digest)) (spent : List ℕ) (n : ℕ) (siblings : List Sibling) (i : ℕ) (d : Sibling) → n ≡ length es → siblings ≡ proof_of H es spent → i < length siblings → InForest n (get_or siblings i d).place.row (get_or siblings i d).place.off
+sibling_within H es spent n siblings i d count are lt =
+    let all = All-from_recursion (λ (s : Sibling). InForest (length es) s.place.row s.place.off) (proof_of H es spent) (siblings_within H es (need (length es) (places_of es spent))) in
+    subst (λ m. InForest m (get_or siblings i d).place.row (get_or siblings i d).place.off) (sym count)
+    (subst (λ xs. InForest (length es) (get_or xs i d).place.row (get_or xs i d).place.off) (sym are) (all i d (subst (λ xs. i < length xs) are lt)))
 
 abbrev pub at : (List ℕ → Digest) → List (Option Digest) → Place → Option Digest
 at H es p = digest_at H es p.row p.off
-
--- the hashes over these places, less those that are known where the kept entries stand at these
-abbrev pub unknown : (List ℕ → Digest) → List (Option Digest) → List Place → List Place → List Digest
-unknown H es kept ps = somes (map (at H es) (filter (λ p. not (is_known (length es) kept p)) ps))
 
 -- what was found at one of the places
 pub found_at : {X : Type 0} (f : Place → Option X) (ps : List Place) (xs : List (Option X)) (i : ℕ) (d : Place) (x : Option X) → xs ≡ map f ps → i < length ps → get_or xs i x ≡ f (get_or ps i d)
 found_at f ps xs i d x e lt = ap (λ ys. get_or ys i x) e ∙ get_or-map f ps i d x lt
 
-pub found_alone : (f : Place → Option Digest) (q : Place → Bool) (p : Place) (x : Option Digest) → x ≡ f p → somes (map (λ _. x) (filter q (p ∷ []))) ≡ somes (map f (filter q (p ∷ [])))
-found_alone f q p x e = by (q p) refl
+-- of all needed places those that are not known give their hashes
+unknown_are : (H : List ℕ → Digest) (es : List (Option Digest)) (kept ps : List Place) → hashes_unknown (length es) kept (filter_map (standing H es) ps) ≡ somes (map (at H es) (filter (λ p. not (is_known (length es) kept p)) ps))
+unknown_are H es kept [] = refl
+unknown_are H es kept (p ∷ ps) = by (at H es p) (is_known (length es) kept p) refl refl (unknown_are H es kept ps)
   where
-    by : (b : Bool) → q p ≡ b → somes (map (λ _. x) (filter q (p ∷ []))) ≡ somes (map f (filter q (p ∷ [])))
-    by true t = rw t (ap (λ y. somes (y ∷ [])) e)
-    by false t = rw t refl
+    by : (x : Option Digest) (b : Bool) → at H es p ≡ x → is_known (length es) kept p ≡ b → hashes_unknown (length es) kept (filter_map (standing H es) ps) ≡ somes (map (at H es) (filter (λ q. not (is_known (length es) kept q)) ps)) →
+        hashes_unknown (length es) kept (filter_map (standing H es) (p ∷ ps)) ≡ somes (map (at H es) (filter (λ q. not (is_known (length es) kept q)) (p ∷ ps)))
+    by None true e k rest = rw (e, k) rest
+    by None false e k rest = rw (k, e) rest
+    by (Some d) true e k rest = rw (e, k) rest
+    by (Some d) false e k rest = rw (e, k, e) (ap (λ xs. d ∷ xs) rest)
 
-pub with_hashes : (old new : Message) (xs ys : List Digest) → xs ≡ ys → new ≡ record { lean = old.lean; proof = record { spends = old.proof.spends; hashes = old.proof.hashes ++ xs } } → new ≡ record { lean = old.lean; proof = record { spends = old.proof.spends; hashes = old.proof.hashes ++ ys } }
-with_hashes old new xs ys e was = was ∙ ap (λ zs. (let p : BlockProof = record { spends = old.proof.spends; hashes = old.proof.hashes ++ zs } in let q : Message = record { lean = old.lean; proof = p } in q)) e
+-- ---- what is needed hangs on which places are targets, in whatever order
 
-pub whole_proof : (H : List ℕ → Digest) (es : List (Option Digest)) (hs : List Held) (kept : List Place) (lean : Bool) (numbers positions : List ℕ) (ts : List Place) (m : Message) → positions ≡ targets_of (spends_by es hs numbers) → map (place_at (length es)) positions ≡ map Some ts →
-    m ≡ record { lean = lean; proof = record { spends = spends_by es hs numbers; hashes = unknown H es kept (need (length es) ts) } } → m ≡ record { lean = lean; proof = proof_beside H kept es hs numbers }
-whole_proof H es hs kept lean numbers positions ts m spent named e =
-    let same : somes (map (place_at (length es)) (targets_of (spends_by es hs numbers))) ≡ ts = ap (λ xs. somes (map (place_at (length es)) xs)) (sym spent) ∙ (ap somes named ∙ somes-map ts) in
-    e ∙ ap (λ ps. (let p : BlockProof = record { spends = spends_by es hs numbers; hashes = unknown H es kept (need (length es) ps) } in let q : Message = record { lean = lean; proof = p } in q)) (sym same)
+same_cover : (ts us : List Place) → ((r o : ℕ) → has_place ts r o ≡ has_place us r o) → (r o : ℕ) → cover ts r o ≡ cover us r o
+same_cover ts us same zero o = ap (λ b. if b then Some (target zero o) else None) (same zero o)
+same_cover ts us same (suc r) o =
+    ap (λ b. if b then Some (target (suc r) o) else cover_of_halves r o (cover ts r (2 * o)) (cover ts r (2 * o + 1))) (same (suc r) o)
+    ∙ ap₂ (λ x y. if has_place us (suc r) o then Some (target (suc r) o) else cover_of_halves r o x y) (same_cover ts us same r (2 * o)) (same_cover ts us same r (2 * o + 1))
 
-unknown-append : (H : List ℕ → Digest) (es : List (Option Digest)) (kept ps qs : List Place) → unknown H es kept (ps ++ qs) ≡ unknown H es kept ps ++ unknown H es kept qs
-unknown-append H es kept ps qs =
-    let free = λ (p : Place). not (is_known (length es) kept p) in
-    ap (λ xs. somes (map (at H es) xs)) (filter-append free ps qs)
-    ∙ (ap somes (map-append (at H es) (filter free ps) (filter free qs)) ∙ somes-append (map (at H es) (filter free ps)) (map (at H es) (filter free qs)))
+same_need : (n : ℕ) (ts us : List Place) → ((r o : ℕ) → has_place ts r o ≡ has_place us r o) → need n ts ≡ need n us
+same_need n ts us same =
+    ap (λ (f : Place → Bool). filter f (places n))
+    (fun_ext (λ p. ap₂ (λ x y. not (is_root n p.row p.off) && not (is_some x) && is_some y) (same_cover ts us same p.row p.off) (same_cover ts us same p.row (sibling_off p.off))))
 
-pub hash_more : (H : List ℕ → Digest) (es : List (Option Digest)) (kept : List Place) (lean : Bool) (spends : List Spend) (ps : List Place) (i : ℕ) (d : Place) (old new : Message) → i < length ps → old ≡ record { lean = lean; proof = record { spends = spends; hashes = unknown H es kept (take i ps) } } →
-    new ≡ record { lean = old.lean; proof = record { spends = old.proof.spends; hashes = old.proof.hashes ++ unknown H es kept (get_or ps i d ∷ []) } } → new ≡ record { lean = lean; proof = record { spends = spends; hashes = unknown H es kept (take (i + 1) ps) } }
-hash_more H es kept lean spends ps i d old new lt was e =
-    let one = unknown H es kept (get_or ps i d ∷ []) in
-    let more : unknown H es kept (take (i + 1) ps) ≡ unknown H es kept (take i ps) ++ one = ap (unknown H es kept) (take_more ps i d lt) ∙ unknown-append H es kept (take i ps) (get_or ps i d ∷ []) in
-    e ∙ (ap (λ (m : Message). (let p : BlockProof = record { spends = m.proof.spends; hashes = m.proof.hashes ++ one } in let q : Message = record { lean = m.lean; proof = p } in q)) was
-    ∙ ap (λ xs. (let p : BlockProof = record { spends = spends; hashes = xs } in let q : Message = record { lean = lean; proof = p } in q)) (sym more))
+module _ (es : List (Option Digest)) (numbers spent : List ℕ) (live : All (λ i. is_live es i ≡ true) numbers) (perm : IsPermutation numbers spent) where
+  pub live_too : All (λ i. is_live es i ≡ true) spent
+  live_too = All-permutation (λ i. is_live es i ≡ true) numbers spent perm live
 
-pub shown_all : (es : List (Option Digest)) (hs : List Held) (lean : Bool) (numbers : List ℕ) (i : ℕ) (shown : Message) (at : List ℕ) → length numbers ≤ i → AreShown es hs lean (take i numbers) shown at → AreShown es hs lean numbers shown at
-shown_all es hs lean numbers i shown at le a = subst (λ xs. AreShown es hs lean xs shown at) (take_all i numbers le) a
+  same_spent : (i : ℕ) → is_spent numbers i ≡ is_spent spent i
+  same_spent i = list_any-IsPermutation (λ j. j == i) numbers spent perm
 
--- no more is shown than is spent
-pub shown_few : (es : List (Option Digest)) (hs : List Held) (numbers : List ℕ) → length (targets_of (spends_by es hs numbers)) ≤ length numbers
-shown_few es hs [] = omega arith
-shown_few es hs (n ∷ ns) = by (leaf_at n hs) (shown_few es hs ns)
+  same_places : (r o : ℕ) → has_place (places_of es spent) r o ≡ has_place (places_of es numbers) r o
+  same_places r o =
+      same_Bools _ _
+      (λ h. let w = target_entry es (places_of es spent) spent r o (stand_there es spent live_too) h in
+      sym (spent_is_target es (places_of es numbers) numbers (stand_there es numbers live) r o w.0 w.1 w.2) ∙ (same_spent w.0 ∙ w.3))
+      (λ h. let w = target_entry es (places_of es numbers) numbers r o (stand_there es numbers live) h in
+      sym (spent_is_target es (places_of es spent) spent (stand_there es spent live_too) r o w.0 w.1 w.2) ∙ (sym (same_spent w.0) ∙ w.3))
+
+leaf_of_live : (i : ℕ) (hs : List Held) → is_held_live i hs ≡ true → (output : Leaf) × (leaf_at i hs ≡ Some output)
+leaf_of_live i hs live = by (held_at i hs) refl (live_is_held i hs live)
   where
-    by : (x : Option Leaf) → length (targets_of (spends_by es hs ns)) ≤ length ns → length (targets_of (somes (option_map (spend_of es n) x ∷ map (λ i. option_map (spend_of es i) (leaf_at i hs)) ns))) ≤ suc (length ns)
-    by None le = omega (arith, le)
-    by (Some output) le = omega (arith, le)
+    by : (x : Option Held) → held_at i hs ≡ x → IsSome x → (output : Leaf) × (leaf_at i hs ≡ Some output)
+    by None e some = absurd (false≢true some)
+    by (Some h) e some = (h.leaf, ap (option_map (λ (x : Held). x.leaf)) e)
+
+-- the targets of what is shown of live entries that are held are their places
+targets_placed : (es : List (Option Digest)) (hs : List Held) (numbers : List ℕ) → AllByRecursion (λ i. is_live es i ≡ true) numbers → AllByRecursion (λ i. is_held_live i hs ≡ true) numbers → somes (map (place_at (length es)) (targets_of (spends_by es hs numbers))) ≡ places_of es numbers
+targets_placed es hs [] live held = refl
+targets_placed es hs (i ∷ is) live held =
+    let d = some_from_test (get_or es i None) live.0 in
+    let found = entry_found es i d.0 d.1 in
+    let place : entry_place es i ≡ Some found.0 = found.1 in
+    let output = leaf_of_live i hs held.0 in
+    let shown : leaf_at i hs ≡ Some output.0 = output.1 in
+    let there : place_at (length es) (position (length es) found.0.row found.0.off) ≡ Some found.0 = place_at-position (length es) found.0 (tree_at-forest es found.0.row found.0.off _ found.2) in
+    rw (shown, place, there) (ap (λ ps. found.0 ∷ ps) (targets_placed es hs is live.1 held.1))
+
+pub whole_proof : (H : List ℕ → Digest) (es : List (Option Digest)) (hs : List Held) (kept : List Place) (lean : Bool) (numbers spent : List ℕ) (siblings : List Sibling) (m : Message) → All (λ i. is_live es i ≡ true) numbers → All (λ i. is_held_live i hs ≡ true) numbers → IsPermutation numbers spent → siblings ≡ proof_of H es spent →
+    m ≡ record { lean = lean; proof = record { spends = spends_by es hs numbers; hashes = hashes_unknown (length es) kept siblings } } → m ≡ record { lean = lean; proof = proof_beside H kept es hs numbers }
+whole_proof H es hs kept lean numbers spent siblings m live held perm are e =
+    let ts = somes (map (place_at (length es)) (targets_of (spends_by es hs numbers))) in
+    let placed : ts ≡ places_of es numbers = targets_placed es hs numbers (recursion_from_All (λ i. is_live es i ≡ true) numbers live) (recursion_from_All (λ i. is_held_live i hs ≡ true) numbers held) in
+    let needed : need (length es) (places_of es spent) ≡ need (length es) ts = same_need (length es) (places_of es spent) (places_of es numbers) (same_places es numbers spent live perm) ∙ ap (need (length es)) (sym placed) in
+    let hashes : hashes_unknown (length es) kept siblings ≡ somes (map (at H es) (filter (λ p. not (is_known (length es) kept p)) (need (length es) ts))) =
+    ap (hashes_unknown (length es) kept) are ∙ (unknown_are H es kept (need (length es) (places_of es spent)) ∙ ap (λ ps. somes (map (at H es) (filter (λ p. not (is_known (length es) kept p)) ps))) needed) in
+    e ∙ ap (λ xs. (let p : BlockProof = record { spends = spends_by es hs numbers; hashes = xs } in let q : Message = record { lean = lean; proof = p } in q)) hashes

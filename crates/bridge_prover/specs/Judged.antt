@@ -3,13 +3,12 @@ use Rattle.std.specs.Prelude.{◌≡◌, ◌≢◌, ℕ, ◌+◌, ◌<◌, ◌�
 use Rattle.std.specs.List.{filter}
 use Rattle.uo_digest.specs.declared.digest.Digest.{Digest}
 use Rattle.forest_place.specs.declared.place.Place.{Place}
-use Rattle.forest_place.specs.Position.{place_at}
 use Rattle.forest_model.specs.Cover.{need}
 use Rattle.forest_model.specs.Standing.{digest_at}
 use Rattle.block_codec.specs.Block.{Block}
 use Rattle.leaf_record.specs.Leaf.{Leaf}
 use Rattle.leaf_record.specs.History.{somes}
-use Rattle.proof_wire.specs.BlockProof.{BlockProof, targets_of}
+use Rattle.proof_wire.specs.BlockProof.{BlockProof}
 use Rattle.block_rules.specs.Blocks.{external}
 use Rattle.block_rules.specs.declared.chain.Found.{Found}
 use Rattle.block_rules.specs.declared.chain.Outside.{Outside}
@@ -19,9 +18,9 @@ use Rattle.block_rules.specs.Steps.{first_of}
 use Rattle.cache_model.specs.Known.{is_known}
 use Rattle.cache_model.specs.Undo.{is_before_place}
 use Rattle.node_rules.specs.Messages.{targets}
-use Rattle.node_rules.specs.Accepting.{shape_fault}
 use Rattle.node_rules.specs.Proving.{written_text}
 use Rattle.bridge_forest.specs.State as forest
+use Rattle.bridge_forest.specs.declared.branch.Sibling.{Sibling}
 use Rattle.output_index.specs.Held.{Held, is_live, is_spent}
 use Rattle.reorg_undo.specs.Undo.{UndoRecord}
 use Rattle.bridge_prover.specs.Own.{newest_in, missing_in, leaves_in, own_in, numbered, spent_in, cut_in}
@@ -38,16 +37,16 @@ pub record AreFound (hs : List Held) (ext : List Outside) (numbers : List ℕ) (
   pub passes : first_missing hs ext ≡ None
   pub are : found ≡ map (λ leaf. found_of leaf.rest) (leaves_in hs numbers)
 
--- the places of these entries have shape
-abbrev pub HaveShape : BridgeState → List ℕ → Type 0
-HaveShape s numbers = shape_fault (length s.entries) [] 0 (map (place_at (length s.entries)) (targets_of (spends_by s.entries s.held numbers))) ≡ None
-
 -- the proof of these entries, without the hashes that are known where the kept entries stand at these places
 abbrev pub proof_beside : (List ℕ → Digest) → List Place → List (Option Digest) → List Held → List ℕ → BlockProof
 proof_beside H kept es hs numbers =
     let spends = spends_by es hs numbers in
     let ts = targets (length es) (record { spends = spends; hashes = [] }) in
     record { spends = spends; hashes = somes (map (λ p. digest_at H es p.row p.off) (filter (λ p. not (is_known (length es) kept p)) (need (length es) ts))) }
+
+-- the hashes of siblings, without those that are known where the kept entries stand at these places
+abbrev pub hashes_unknown : ℕ → List Place → List Sibling → List Digest
+hashes_unknown n kept siblings = map (λ s. s.digest) (filter (λ s. not (is_known n kept s.place)) siblings)
 
 -- x stands at the head of the one list, of whose others rest makes one list with what it is given
 abbrev pub merged_under : Place → (List Place → List Place) → List Place → List Place

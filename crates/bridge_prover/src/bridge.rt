@@ -82,16 +82,15 @@ impl<D: Digester> Bridge<D> {
     ghost use Rattle.node_rules.specs.Reading.{nothing};
     ghost use Rattle.compact_node.specs.Judged.{IsFirst};
     ghost use Rattle.compact_node.specs.Node.{IsShort, gone_to};
-    ghost use Rattle.forest_place.specs.Position.{place_at};
-    ghost use Rattle.proof_wire.specs.BlockProof.{targets_of};
-    ghost use Rattle.node_rules.specs.Accepting.{shape_fault};
+    ghost use Rattle.std.specs.List.Sorted.{IsNonDecreasing, IsPermutation};
+    ghost use Rattle.output_index.specs.Held.{is_live as is_held_live};
     ghost use Rattle.node_rules.specs.Proving.{written_text};
     ghost use Rattle.cache_model.specs.Cache.{held};
     ghost use Rattle.cache_model.specs.Lists.{AscendByPlace};
     ghost use Rattle.bridge_forest.specs.State.{is_live};
     ghost use Rattle.bridge_prover.specs.Watched.{scripts_of, kept_in, places_in, known_list};
     ghost use Rattle.bridge_prover.specs.Bridge.{bridge_with, fresh_bridge, gone_back, message_by, message_on, most_steps, next_bridge, refusal_on, spends_by, spent_by, undone_by, verdict_on};
-    ghost use Rattle.bridge_prover.specs.Judged.{AreFound, HaveShape, IsProved, IsReady, first_missing};
+    ghost use Rattle.bridge_prover.specs.Judged.{AreFound, IsProved, IsReady, first_missing};
     ghost use Rattle.bridge_prover.specs.Laws.{KnowsAsOwn, LevelsTold, SaysAsOwn};
     ghost use Rattle.bridge_prover.specs.Standing.{IsBridge};
 
@@ -293,30 +292,43 @@ impl<D: Digester> Bridge<D> {
         hashes_of::<D>(self.alloc, &self.forest, kept)
     }
 
-    // The bytes of the message beside a block that spends these entries: none where nothing is spent from outside.
-    fn message(&self, external: &[Outside], numbers: &[u64]) -> Result<Option<Vec<u8>>, NoMemory>
+    // The bytes of the message beside a block that spends these entries, of which `spent` has the same in ascending order: none where nothing
+    // is spent from outside.
+    fn message(
+        &self,
+        external: &[Outside],
+        numbers: &[u64],
+        spent: &[u64],
+    ) -> Result<Option<Vec<u8>>, NoMemory>
         requires live { All (λ i. is_live self.now.entries i ≡ true) numbers.now }
-        requires short { length numbers.now < 2 ^ 32 }
-        requires shape { shape_fault (length self.now.entries) [] 0 (map (place_at (length self.now.entries)) (targets_of (spends_by self.now.entries self.now.held numbers.now))) ≡ None }
+        requires held { All (λ i. is_held_live i self.now.held ≡ true) numbers.now }
+        requires same { IsPermutation numbers.now spent.now }
+        requires rise { IsNonDecreasing spent.now }
         ensures { IfOk result (λ m. option_map (λ bytes. bytes.items) m ≡ written_text external.now (message_by D.digest_of self.now.watch self.now.entries self.now.held numbers.now)) }
     {
         if external.is_empty() {
             return Ok(None);
         }
         let kept = self.kept()?;
-        let message = self.message_beside(&kept, numbers)?;
+        let message = self.message_beside(&kept, numbers, spent)?;
         let mut bytes = Vec::new(self.alloc);
         message.write(&mut bytes)?;
         Ok(Some(bytes))
     }
 
     // That message, where the kept entries stand at these places.
-    fn message_beside(&self, kept: &Targets, numbers: &[u64]) -> Result<Message, NoMemory>
+    fn message_beside(
+        &self,
+        kept: &Targets,
+        numbers: &[u64],
+        spent: &[u64],
+    ) -> Result<Message, NoMemory>
         requires leaves { kept.now.leaves ≡ length self.now.entries }
         requires targets { kept.now.targets ≡ places_in self.now.entries (kept_in (scripts_of self.now.watch) self.now.held) }
         requires live { All (λ i. is_live self.now.entries i ≡ true) numbers.now }
-        requires short { length numbers.now < 2 ^ 32 }
-        requires shape { shape_fault (length self.now.entries) [] 0 (map (place_at (length self.now.entries)) (targets_of (spends_by self.now.entries self.now.held numbers.now))) ≡ None }
+        requires held { All (λ i. is_held_live i self.now.held ≡ true) numbers.now }
+        requires same { IsPermutation numbers.now spent.now }
+        requires rise { IsNonDecreasing spent.now }
         ensures { IfOk result (λ m. m ≡ message_by D.digest_of self.now.watch self.now.entries self.now.held numbers.now) }
     {
         message_of::<D>(
@@ -326,6 +338,7 @@ impl<D: Digester> Bridge<D> {
             kept,
             self.watch.is_some(),
             numbers,
+            spent,
         )
     }
 
@@ -338,15 +351,15 @@ impl<D: Digester> Bridge<D> {
         numbers: Vec<u64>,
         steps: &mut Steps<L>,
     ) -> Result<Option<Vec<u8>>, NoMemory>
-        requires ready { IsReady D.digest_of leaf_text self.old hash numbers.items spends.now.new }
-        requires shape { HaveShape self.old numbers.items }
+        requires { IsReady D.digest_of leaf_text self.old hash numbers.items spends.now.new }
         ensures says { IfOk result (λ m. option_map (λ bytes. bytes.items) m ≡ written_text spends.now.external (message_by D.digest_of self.old.watch self.old.entries self.old.held numbers.items)) }
         ensures next { OnOk result (self.new ≡ bridge_with D.digest_of leaf_text self.old hash numbers.items spends.now.new) }
         ensures stays { OnErr result (self.new ≡ self.old) }
         ensures steps { steps.new ≤ steps.old + length numbers.items * rows (length self.old.entries) + 2 * length spends.now.new + 40 }
     {
-        let message = self.message(spends.external(), &numbers)?;
-        self.take_in(hash, spends, numbers, steps)?;
+        let spent = rising(self.alloc, &numbers)?;
+        let message = self.message(spends.external(), &numbers, &spent)?;
+        self.take_rising(hash, spends, numbers, &spent, steps)?;
         Ok(message)
     }
 
@@ -363,16 +376,34 @@ impl<D: Digester> Bridge<D> {
         ensures stays { OnErr result (self.new ≡ self.old) }
         ensures steps { steps.new ≤ steps.old + length numbers.items * rows (length self.old.entries) + 2 * length spends.now.new + 40 }
     {
+        let spent = rising(self.alloc, &numbers)?;
+        self.take_rising(hash, spends, numbers, &spent, steps)
+    }
+
+    // The same, given these entries in ascending order besides.
+    fn take_rising<L: Ledger>(
+        &mut self,
+        hash: Digest,
+        spends: &Spends<'_>,
+        numbers: Vec<u64>,
+        spent: &[u64],
+        steps: &mut Steps<L>,
+    ) -> Result<(), NoMemory>
+        requires ready { IsReady D.digest_of leaf_text self.old hash numbers.items spends.now.new }
+        requires same { IsPermutation numbers.items spent.now }
+        ensures next { OnOk result (self.new ≡ bridge_with D.digest_of leaf_text self.old hash numbers.items spends.now.new) }
+        ensures stays { OnErr result (self.new ≡ self.old) }
+        ensures steps { steps.new ≤ steps.old + length numbers.items * rows (length self.old.entries) + 2 * length spends.now.new + 40 }
+    {
         let digests = digests_of::<D, L>(self.alloc, &mut self.room, spends, steps)?;
         let noted = noted_of(self.alloc, &self.watch, self.chain.leaves, spends)?;
-        let spent = rising(self.alloc, &numbers)?;
         self.forest.reserve(digests.len() as u64)?;
         self.noted.reserve(noted.len())?;
         insert_all(&mut self.outputs, self.chain.leaves, spends)?;
         // Nothing can fail from here on.
         append(&mut self.noted, &noted);
         spend_all(&mut self.outputs, &numbers);
-        self.forest.apply_block(&spent, &digests, steps);
+        self.forest.apply_block(spent, &digests, steps);
         let undo = undo_of(&self.chain, numbers);
         keep(&mut self.undo, &mut self.outputs, undo);
         keep_held(&mut self.noted, &self.outputs);

@@ -72,17 +72,6 @@ pub(crate) fn unspend_all(outputs: &mut Outputs, numbers: &[u64])
     }
 }
 
-// Holds the spent entries of these numbers no more.
-fn forget_all(outputs: &mut Outputs, numbers: &[u64])
-    requires spent { All (λ i. is_spent i outputs.old ≡ true) numbers.now }
-    requires apart { AllPairs (λ i j. i ≢ j) numbers.now }
-    ensures { outputs.new ≡ forgotten_in numbers.now outputs.old }
-{
-    for number in numbers {
-        outputs.forget(*number);
-    }
-}
-
 // What undoes a block that comes behind this chain and spends these entries.
 pub(crate) fn undo_of(chain: &Chain, spent: Vec<u64>) -> Undo
     ensures { result ≡ record_of chain.now spent.items }
@@ -103,7 +92,7 @@ pub(crate) fn keep(ring: &mut Ring<Undo>, outputs: &mut Outputs, undo: Undo)
     ensures outputs { outputs.new ≡ forgotten_in (dropped ring.old) outputs.old }
 {
     match ring.push(undo) {
-        Some(oldest) => forget_all(outputs, &oldest.spent),
+        Some(oldest) => outputs.forget_all(&oldest.spent),
         None => {}
     }
 }

@@ -1,20 +1,16 @@
 //! The message beside a block: what it spends, where that stands, and the hashes that prove it.
-ghost use Rattle.std.specs.Prelude.{◌≡◌, ℕ, ◌<◌, ◌^◌, ◌++◌, ◌∷◌, [], true, not, Some, None, map, length, IfOk, OnOk, All};
-ghost use Rattle.std.specs.List.{filter};
+ghost use Rattle.std.specs.Prelude.{◌≡◌, ℕ, ◌<◌, ◌^◌, ◌++◌, ◌∷◌, [], true, Some, None, map, length, IfOk, OnOk, All};
+ghost use Rattle.std.specs.List.Sorted.{IsNonDecreasing, IsPermutation};
 ghost use Rattle.forest_place.specs.Forest.{InForest};
 ghost use Rattle.forest_place.specs.Position.{place_at};
-ghost use Rattle.forest_model.specs.Cover.{need};
-ghost use Rattle.leaf_record.specs.History.{somes};
-ghost use Rattle.proof_wire.specs.BlockProof.{targets_of};
 ghost use Rattle.node_rules.specs.Accepting.{shape_fault};
 ghost use Rattle.cache_model.specs.Known.{is_known as is_known_of};
 ghost use Rattle.bridge_forest.specs.State.{is_live};
-ghost use Rattle.output_index.specs.Held.{leaf_at};
-ghost use Rattle.bridge_prover.specs.Bridge.{target_of, spend_of, spends_by};
-ghost use Rattle.bridge_prover.specs.Judged.{proof_beside};
+ghost use Rattle.output_index.specs.Held.{is_live as is_held_live};
+ghost use Rattle.bridge_prover.specs.Bridge.{target_of, spends_by};
+ghost use Rattle.bridge_prover.specs.Judged.{proof_beside, hashes_unknown};
 
-use crate::entries::rising;
-use bridge_forest::Forest;
+use bridge_forest::{Forest, Sibling};
 use cache_update::is_known;
 use forest_place::{Place, position};
 use output_index::Outputs;
@@ -35,21 +31,15 @@ pub(crate) fn target<D: Digester>(forest: &Forest<D>, number: u64) -> u64
 // Shows an entry, if it is held.
 fn put_spend<D: Digester>(
     message: &mut Message,
-    positions: &mut Vec<u64>,
     forest: &Forest<D>,
     outputs: &Outputs,
     number: u64,
 ) -> Result<(), NoMemory>
     requires { is_live forest.now.entries number ≡ true }
-    ensures message { OnOk result (message.new ≡ record { lean = message.old.lean; proof = record { spends = message.old.proof.spends ++ spends_by forest.now.entries outputs.now (number ∷ []); hashes = message.old.proof.hashes } }) }
-    ensures positions { OnOk result (positions.new.items ≡ positions.old.items ++ targets_of (spends_by forest.now.entries outputs.now (number ∷ []))) }
+    ensures { OnOk result (message.new ≡ record { lean = message.old.lean; proof = record { spends = message.old.proof.spends ++ spends_by forest.now.entries outputs.now (number ∷ []); hashes = message.old.proof.hashes } }) }
 {
     match outputs.output(number) {
-        Some(leaf) => {
-            let target = target(forest, number);
-            message.push_spend(target, &leaf.rest())?;
-            positions.push(target)?;
-        }
+        Some(leaf) => message.push_spend(target(forest, number), &leaf.rest())?,
         None => {}
     }
     Ok(())
@@ -66,23 +56,15 @@ fn is_left_out(kept: &Targets, place: Place) -> bool
     is_known(kept, place)
 }
 
-// Gives the hash that was found at a place, if it is not known where the kept entries stand at these places.
-fn put_hash(
-    message: &mut Message,
-    kept: &Targets,
-    place: Place,
-    found: Option<Digest>,
-) -> Result<(), NoMemory>
-    requires { InForest kept.now.leaves place.row place.off }
-    ensures { OnOk result (message.new ≡ record { lean = message.old.lean; proof = record { spends = message.old.proof.spends; hashes = message.old.proof.hashes ++ somes (map (λ p. found) (filter (λ p. not (is_known_of kept.now.leaves kept.now.targets p)) (place ∷ []))) } }) }
+// Gives the hash at a place, if that is not known where the kept entries stand at these places.
+fn put_hash(message: &mut Message, kept: &Targets, sibling: &Sibling) -> Result<(), NoMemory>
+    requires { InForest kept.now.leaves sibling.now.place.row sibling.now.place.off }
+    ensures { OnOk result (message.new ≡ record { lean = message.old.lean; proof = record { spends = message.old.proof.spends; hashes = message.old.proof.hashes ++ hashes_unknown kept.now.leaves kept.now.targets (sibling.now ∷ []) } }) }
 {
-    if is_left_out(kept, place) {
+    if is_left_out(kept, sibling.place) {
         return Ok(());
     }
-    match found {
-        Some(digest) => message.push_hash(digest)?,
-        None => {}
-    }
+    message.push_hash(sibling.digest)?;
     Ok(())
 }
 
@@ -113,7 +95,8 @@ pub(crate) fn targets_at(alloc: Global, n: u64, positions: &[u64]) -> Result<Tar
     Ok(Targets::of(alloc, paths)?)
 }
 
-// Shows these live entries, and what proves them, but for the hashes that are known where the kept entries stand at these places.
+// Shows these live entries, which are held, and what proves them, but for the hashes that are known where the kept entries stand at these
+// places. `spent` are the same entries, ascending.
 pub(crate) fn message_of<D: Digester>(
     alloc: Global,
     forest: &Forest<D>,
@@ -121,25 +104,22 @@ pub(crate) fn message_of<D: Digester>(
     kept: &Targets,
     lean: bool,
     numbers: &[u64],
+    spent: &[u64],
 ) -> Result<Message, NoMemory>
     requires kept { kept.now.leaves ≡ length forest.now.entries }
     requires live { All (λ i. is_live forest.now.entries i ≡ true) numbers.now }
-    requires short { length numbers.now < 2 ^ 32 }
-    requires shape { shape_fault (length forest.now.entries) [] 0 (map (place_at (length forest.now.entries)) (targets_of (spends_by forest.now.entries outputs.now numbers.now))) ≡ None }
+    requires held { All (λ i. is_held_live i outputs.now ≡ true) numbers.now }
+    requires same { IsPermutation numbers.now spent.now }
+    requires rise { IsNonDecreasing spent.now }
     ensures { IfOk result (λ m. m ≡ record { lean = lean; proof = proof_beside D.digest_of kept.now.targets forest.now.entries outputs.now numbers.now }) }
 {
     let mut message = Message::new(alloc, lean);
-    let mut positions = Vec::with_capacity(alloc, numbers.len())?;
     for number in numbers {
-        put_spend::<D>(&mut message, &mut positions, forest, outputs, *number)?;
+        put_spend::<D>(&mut message, forest, outputs, *number)?;
     }
-    let paths = paths_at(alloc, forest.leaves(), &positions)?;
-    let needed = paths.needed(alloc)?;
-    let asked = needed.as_slice();
-    let spent = rising(alloc, numbers)?;
-    let found = forest.digests_beside(alloc, &spent, asked)?;
-    for i in 0..asked.len() {
-        put_hash(&mut message, kept, asked[i], found[i])?;
+    let proof = forest.proof_of(alloc, spent)?;
+    for sibling in &proof {
+        put_hash(&mut message, kept, sibling)?;
     }
     Ok(message)
 }

@@ -1,16 +1,17 @@
 -- Marks in buckets: where a mark is sought, when a bucket changes and when there is one more.
-use Rattle.std.proofs.Common.{◌≡◌, ◌≢◌, ℕ, zero, suc, ◌+◌, ◌-◌, ◌*◌, ◌%◌, ◌^◌, ◌<◌, ◌≤◌, Bool, true, false, List, [], ◌∷◌, ◌++◌, Option, Some, None, set, get_or, length, refl, sym, ap, ◌∙◌, subst, ⊎_elim, arith}
-use Rattle.std.specs.Prelude.{slice_get, nat_lt}
+use Rattle.std.proofs.Common.{◌≡◌, ◌≢◌, ℕ, suc, ◌+◌, ◌-◌, ◌*◌, ◌%◌, ◌^◌, ◌<◌, ◌≤◌, Bool, true, false, List, [], ◌∷◌, ◌++◌, Some, None, set, get_or, length, refl, sym, ap, ◌∙◌, subst, ⊎_elim, arith}
+use Rattle.std.specs.Prelude.{slice_get, filter, IfSome}
 use Rattle.std.specs.Bool.{OnTrue, OnFalse}
-use Rattle.std.proofs.lemmas.Bool.{cases_Bool, cases_eq, cases_lt, ltb-true, ltb-false, lt-ltb, le-ltb}
+use Rattle.std.specs.List.{AllByRecursion}
+use Rattle.std.proofs.lemmas.Bool.{cases_eq, cases_lt, lt-ltb, le-ltb}
 use Rattle.std.proofs.lemmas.List.{length-set}
-use Rattle.std.proofs.lemmas.Option.{none-some, same_Some, slice_get_read, slice_get_past}
+use Rattle.std.proofs.lemmas.Option.{same_Some, slice_get_read, slice_get_past}
 use Rattle.std.proofs.lemmas.Nat.{pow_pos, mod_low}
 use Rattle.std.proofs.Math.Nat.{mod-eq_of_lt, mod-lt}
 use Rattle.std.proofs.Math.Pow.{mod-mod-pow}
 use Rattle.output_index.specs.declared.bucket.Newest.{Newest}
-use Rattle.output_index.specs.Buckets.{in_cells, bucket_of, in_place, in_buckets}
-use Rattle.output_index.proofs.Cells.{put-here, put-others}
+use Rattle.output_index.specs.Buckets.{in_cells, bucket_of, is_own, in_place, in_buckets, HasOwn}
+use Rattle.output_index.proofs.Cells.{filter-is_own, own-tell, put-here, put-others}
 use Rattle.output_index.proofs.Replacing.{get-set_same, get-set_other, get-front, get-last, length-one_more}
 
 -- ---- the bucket of a mark
@@ -142,9 +143,7 @@ put-others-at put b mark number list old new at l is made full = others-set b ma
 
 pub split-by : (b count power first : ℕ) (list more : List (List Newest)) (old added lent stays : List Newest) → count ≡ length list → power ≡ 2 ^ b → first ≡ count - power → 2 ^ b ≤ length list → length list < 2 ^ suc b →
     old ≡ get_or list first old → more ≡ list ++ added ∷ [] → lent ≡ get_or more first lent →
-    ((m : ℕ) → bucket_of b (count + 1) m ≡ count → in_cells added m ≡ in_cells old m) →
-    ((m : ℕ) → bucket_of b (count + 1) m ≡ first → in_cells stays m ≡ in_cells lent m) →
-    (m : ℕ) → in_buckets b (set more first stays) m ≡ in_buckets b list m
+    added ≡ filter (is_own b (count + 1) count) old → stays ≡ filter (is_own b (count + 1) first) lent → (m : ℕ) → in_buckets b (set more first stays) m ≡ in_buckets b list m
 split-by b count power first list more old added lent stays all two is least most here made again goes left m =
     let sum : first + 2 ^ b ≡ length list = omega (arith, all, two, is, least) in
     let within : first < length list = omega (arith, sum, pow_pos b) in
@@ -154,6 +153,24 @@ split-by b count power first list more old added lent stays all two is least mos
     let same : lent ≡ old = same_Some lent old (sym (cells_there first more lent longer again) ∙ (ap (λ xs. slice_get xs first) made ∙ (get-front first added list within ∙ there))) in
     ap (λ xs. in_buckets b (set xs first stays) m) made ∙
     split-same b first list old added stays sum most there
-    (λ j e. goes j (ap (λ k. bucket_of b k j) next ∙ (e ∙ sym all)))
-    (λ j e. left j (ap (λ k. bucket_of b k j) next ∙ e) ∙ ap (λ cells. in_cells cells j) same)
+    (λ j e. ap (λ cells. in_cells cells j) goes ∙ own-tell b (count + 1) count old j (ap (λ k. bucket_of b k j) next ∙ (e ∙ sym all)))
+    (λ j e. ap (λ cells. in_cells cells j) left ∙ (own-tell b (count + 1) first lent j (ap (λ k. bucket_of b k j) next ∙ e) ∙ ap (λ cells. in_cells cells j) same))
     m
+
+own-at : (b at n : ℕ) (list : List (List Newest)) (cells : List Newest) → length list ≡ n → slice_get list at ≡ Some cells → AllByRecursion (λ c. bucket_of b n c.mark ≡ at) cells → HasOwn b list at
+own-at b at n list cells len there own =
+    subst (λ x. IfSome x (λ xs. AllByRecursion (λ c. bucket_of b (length list) c.mark ≡ at) xs)) (sym there) (subst (λ k. AllByRecursion (λ c. bucket_of b k c.mark ≡ at) cells) (sym len) own)
+
+-- neither of the two has a mark that is sought elsewhere
+pub split-own : (b count power first : ℕ) (list more : List (List Newest)) (old added lent stays : List Newest) → count ≡ length list → power ≡ 2 ^ b → first ≡ count - power → 2 ^ b ≤ length list → more ≡ list ++ added ∷ [] →
+    added ≡ filter (is_own b (count + 1) count) old → stays ≡ filter (is_own b (count + 1) first) lent → HasOwn b (set more first stays) (length list) × HasOwn b (set more first stays) (length list - 2 ^ b)
+split-own b count power first list more old added lent stays all two is least made goes left =
+    let new = set more first stays in
+    let sum : first + 2 ^ b ≡ length list = omega (arith, all, two, is, least) in
+    let longer : length more ≡ count + 1 = ap length made ∙ (length-one_more added list ∙ omega (arith, all)) in
+    let len : length new ≡ count + 1 = length-set more first stays ∙ longer in
+    let last : slice_get new (length list) ≡ Some added = get-set_other first (length list) stays more (λ s. absurd (omega (arith, s, sum, pow_pos b))) ∙ (ap (λ xs. slice_get xs (length list)) made ∙ get-last added list) in
+    let here : slice_get new first ≡ Some stays = get-set_same first stays more (omega (arith, sum, all, longer)) in (
+      own-at b (length list) (count + 1) new added len last (subst (λ k. AllByRecursion (λ c. bucket_of b (count + 1) c.mark ≡ k) added) all (subst (AllByRecursion (λ c. bucket_of b (count + 1) c.mark ≡ count)) (sym goes) (filter-is_own b (count + 1) count old))),
+      subst (HasOwn b new) (omega (arith, sum)) (own-at b first (count + 1) new stays len here (subst (AllByRecursion (λ c. bucket_of b (count + 1) c.mark ≡ first)) (sym left) (filter-is_own b (count + 1) first lent))),
+    )

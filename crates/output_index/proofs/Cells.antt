@@ -1,12 +1,11 @@
 -- What cells tell of marks.
-use Rattle.std.proofs.Common.{◌≡◌, ◌≢◌, ℕ, zero, suc, List, [], ◌∷◌, ◌++◌, Option, Some, None, set, take, drop, refl, sym, ap, ◌∙◌, subst, ⊎_elim, ne_eqb, eq-eqb}
+use Rattle.std.proofs.Common.{◌≡◌, ◌≢◌, ℕ, zero, suc, Bool, true, false, cond, List, [], ◌∷◌, ◌++◌, Some, None, set, take, refl, sym, ap, ◌∙◌, ⊎_elim, ne_eqb, eq-eqb}
 use Rattle.std.specs.Prelude.{slice_get}
-use Rattle.std.specs.Option.{option_or}
-use Rattle.std.specs.List.{remove}
-use Rattle.std.proofs.lemmas.Bool.{cases_eq}
+use Rattle.std.specs.List.{AllByRecursion, filter, remove}
+use Rattle.std.proofs.lemmas.Bool.{cases_Bool, cases_eq, eqb-true, false≢true}
 use Rattle.std.proofs.lemmas.Option.{none-some, same_Some}
 use Rattle.output_index.specs.declared.bucket.Newest.{Newest}
-use Rattle.output_index.specs.Buckets.{in_cells, IsFirstAt}
+use Rattle.output_index.specs.Buckets.{in_cells, bucket_of, is_own, IsFirstAt}
 
 pub cell-here : (c : Newest) (cs : List Newest) (m : ℕ) → c.mark ≡ m → in_cells (c ∷ cs) m ≡ Some c.number
 cell-here c cs m s = rw (eq-eqb c.mark m s) refl
@@ -48,6 +47,49 @@ pub remove-others : (at : ℕ) (c : Newest) (cs : List Newest) (m : ℕ) → sli
 remove-others at c [] m there old = absurd (none-some c there)
 remove-others zero c (x ∷ cs) m there old = sym (cell-there x cs m (λ s. old (sym (ap (λ y. y.mark) (same_Some x c there)) ∙ s)))
 remove-others (suc at) c (x ∷ cs) m there old = under x (remove cs at) cs m (remove-others at c cs m there old)
+
+-- ---- cells that are sought in one bucket
+
+-- one that is sought elsewhere is taken out
+pub filter-removed : (p : Newest → Bool) (at : ℕ) (c : Newest) (cs : List Newest) → slice_get cs at ≡ Some c → p c ≡ false → filter p (remove cs at) ≡ filter p cs
+filter-removed p at c [] there fails = absurd (none-some c there)
+filter-removed p zero c (x ∷ cs) there fails = sym (ap (λ b. cond b (x ∷ filter p cs) (filter p cs)) (ap p (same_Some x c there) ∙ fails))
+filter-removed p (suc at) c (x ∷ cs) there fails = ap (λ ys. cond (p x) (x ∷ ys) ys) (filter-removed p at c cs there fails)
+
+-- none is sought elsewhere
+pub filter-own : (bits count number : ℕ) (cs : List Newest) → AllByRecursion (λ c. bucket_of bits count c.mark ≡ number) cs → filter (is_own bits count number) cs ≡ cs
+filter-own bits count number [] all = refl
+filter-own bits count number (x ∷ cs) all =
+    let rest = filter (is_own bits count number) cs in
+    ap (λ b. cond b (x ∷ rest) rest) (eq-eqb (bucket_of bits count x.mark) number all.0) ∙ ap (λ ys. x ∷ ys) (filter-own bits count number cs all.1)
+
+-- what stays is sought there
+pub filter-is_own : (bits count number : ℕ) (cs : List Newest) → AllByRecursion (λ c. bucket_of bits count c.mark ≡ number) (filter (is_own bits count number) cs)
+filter-is_own bits count number [] = tt
+filter-is_own bits count number (x ∷ cs) = by_case (is_own bits count number x) refl (filter (is_own bits count number) cs) (filter-is_own bits count number cs)
+  where
+    by_case : (b : Bool) → is_own bits count number x ≡ b → (rest : List Newest) → AllByRecursion (λ c. bucket_of bits count c.mark ≡ number) rest → AllByRecursion (λ c. bucket_of bits count c.mark ≡ number) (cond b (x ∷ rest) rest)
+    by_case true t rest all = (eqb-true (bucket_of bits count x.mark) number t, all)
+    by_case false t rest all = all
+
+pub own-further : (bits count number at : ℕ) (c : Newest) (cs : List Newest) → slice_get cs at ≡ Some c → bucket_of bits count c.mark ≡ number → AllByRecursion (λ x. bucket_of bits count x.mark ≡ number) (take at cs) →
+    AllByRecursion (λ x. bucket_of bits count x.mark ≡ number) (take (suc at) cs)
+own-further bits count number at c [] there own before = absurd (none-some c there)
+own-further bits count number zero c (x ∷ cs) there own before = (ap (λ y. bucket_of bits count y.mark) (same_Some x c there) ∙ own, tt)
+own-further bits count number (suc at) c (x ∷ cs) there own before = (before.0, own-further bits count number at c cs there own before.1)
+
+own-first : (bits count number : ℕ) (x : Newest) (cs : List Newest) (m : ℕ) → bucket_of bits count m ≡ number → in_cells (filter (is_own bits count number) cs) m ≡ in_cells cs m → in_cells (filter (is_own bits count number) (x ∷ cs)) m ≡ in_cells (x ∷ cs) m
+own-first bits count number x cs m here again =
+    let rest = filter (is_own bits count number) cs in
+    ⊎_elim
+    (λ t. ap (λ b. in_cells (cond b (x ∷ rest) rest) m) t ∙ under x rest cs m again)
+    (λ f. ap (λ b. in_cells (cond b (x ∷ rest) rest) m) f ∙ (again ∙ sym (cell-there x cs m (λ s. false≢true (sym f ∙ eq-eqb (bucket_of bits count x.mark) number (ap (bucket_of bits count) s ∙ here))))))
+    (cases_Bool (is_own bits count number x))
+
+-- they tell the same of a mark that is sought there
+pub own-tell : (bits count number : ℕ) (cs : List Newest) (m : ℕ) → bucket_of bits count m ≡ number → in_cells (filter (is_own bits count number) cs) m ≡ in_cells cs m
+own-tell bits count number [] m here = refl
+own-tell bits count number (x ∷ cs) m here = own-first bits count number x cs m here (own-tell bits count number cs m here)
 
 -- ---- one more cell
 

@@ -1,5 +1,6 @@
 -- Marks that lie a few to a bucket, and in which bucket a mark is sought.
-use Rattle.std.specs.Prelude.{◌≡◌, ◌≢◌, ℕ, suc, ◌%◌, ◌^◌, ◌≤◌, ◌==◌, nat_lt, List, [], ◌∷◌, length, take, slice_get, Option, Some, None, if◌then◌else◌}
+use Rattle.std.specs.Prelude.{◌≡◌, ◌≢◌, ℕ, suc, ◌%◌, ◌^◌, ◌≤◌, ◌==◌, nat_lt, Bool, List, [], ◌∷◌, length, take, slice_get, Option, Some, None, IfSome, if◌then◌else◌}
+use Rattle.std.specs.List.{AllByRecursion}
 use Rattle.output_index.specs.declared.bucket.Newest.{Newest}
 
 -- what the first cell that has the mark tells
@@ -25,6 +26,10 @@ pub record IsStrange (cells : List Newest) (bits count number at : ℕ) : Type 0
   pub there : slice_get cells at ≡ Some cell
   pub elsewhere : bucket_of bits count cell.mark ≢ number
 
+-- whether a cell's mark is sought in the bucket of this number
+abbrev pub is_own : ℕ → ℕ → ℕ → Newest → Bool
+is_own bits count number cell = bucket_of bits count cell.mark == number
+
 -- buckets, with the number of bits by which they are told apart
 pub record Table : Type 0 where
   pub bits : ℕ
@@ -40,6 +45,14 @@ in_buckets bits buckets m = in_place (slice_get buckets (bucket_of bits (length 
 
 abbrev pub few_at : Table → ℕ → Option ℕ
 few_at table m = in_buckets table.bits table.buckets m
+
+-- the bucket in which a mark is sought is full, or there is none
+abbrev pub HasNoRoom : ℕ → List (List Newest) → ℕ → Type 0
+HasNoRoom bits buckets m = IfSome (slice_get buckets (bucket_of bits (length buckets) m)) (λ cells. length cells ≡ 6)
+
+-- the bucket of this number has no mark that is sought elsewhere
+abbrev pub HasOwn : ℕ → List (List Newest) → ℕ → Type 0
+HasOwn bits buckets number = IfSome (slice_get buckets number) (λ cells. AllByRecursion (λ cell. bucket_of bits (length buckets) cell.mark ≡ number) cells)
 
 -- from as many buckets as the bits tell apart up to twice as many, or none
 pub record IsTable (table : Table) : Type 0 where

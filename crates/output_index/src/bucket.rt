@@ -1,13 +1,14 @@
 //! A few marks that lie side by side.
-ghost use Rattle.std.specs.Prelude.{◌≡◌, ◌≢◌, ◌<◌, ◌^◌, ℕ, ◌++◌, ◌∷◌, [], length, None, Some, IsSome, MatchOption, IfSome};
+ghost use Rattle.std.specs.Prelude.{◌≡◌, ◌≢◌, ◌<◌, ◌^◌, ℕ, ◌++◌, ◌∷◌, [], length, filter, None, Some, IsSome, is_some, MatchOption};
 ghost use Rattle.std.specs.Bool.{OnTrue, OnFalse};
-ghost use Rattle.output_index.specs.Buckets.{in_cells, bucket_of, IsFirstAt, IsStrange};
+ghost use Rattle.std.specs.List.{AllByRecursion};
+ghost use Rattle.output_index.specs.Buckets.{in_cells, bucket_of, is_own, IsFirstAt, IsStrange};
 
 use arrayvec::ArrayVec;
 use std::marker::Model;
 
 /// So many marks have room in a bucket.
-const ROOM: usize = 4;
+const ROOM: usize = 6;
 
 /// A mark, and the number of its newest held entry.
 #[derive(Clone, Copy, Default)]
@@ -64,6 +65,7 @@ impl Bucket {
     pub fn try_put(&mut self, mark: u64, number: u64) -> bool
         ensures put { OnTrue result (self.new ≡ self.old ++ record { mark = mark; number = number } ∷ []) }
         ensures full { OnFalse result (self.new ≡ self.old) }
+        ensures no_room { OnFalse result (length self.old ≡ 6) }
     {
         self.cells.try_push(Newest { mark, number }).is_ok()
     }
@@ -79,20 +81,46 @@ impl Bucket {
         }
     }
 
-    /// The mark is here no more.
-    pub fn take(&mut self, mark: u64)
+    /// The mark is here no more. It is answered whether it was.
+    pub fn take(&mut self, mark: u64) -> bool
+        ensures was { result ≡ is_some (in_cells self.old mark) }
         ensures gone { in_cells self.new mark ≡ None }
         ensures others { (m : ℕ) → m ≢ mark → in_cells self.new m ≡ in_cells self.old m }
     {
+        let mut was = false;
         while let Some(at) = place_of(self.cells.as_slice(), mark) {
             self.cells.remove(at);
+            was = true;
         }
+        was
+    }
+
+    /// Where the entry is the newest of its mark, the older one takes its place, and the mark is gone where there is no older one. What was the
+    /// newest until now is answered; None where the mark is not here.
+    pub fn take_newest(&mut self, mark: u64, number: u64, older: Option<u64>) -> Option<u64>
+        ensures told { result ≡ in_cells self.old mark }
+        ensures older { result ≡ Some number → in_cells self.new mark ≡ older }
+        ensures stays { result ≢ Some number → in_cells self.new mark ≡ in_cells self.old mark }
+        ensures others { (m : ℕ) → m ≢ mark → in_cells self.new m ≡ in_cells self.old m }
+    {
+        match self.get(mark) {
+            Some(told) if told != number => return Some(told),
+            Some(_) => {}
+            None => return None,
+        }
+        match older {
+            Some(older) => self.set(mark, older),
+            None => {
+                self.take(mark);
+            }
+        }
+        Some(number)
     }
 
     /// Only those marks stay that are sought in the bucket of this number, where there are so many buckets.
     pub fn keep_own(&mut self, bits: u32, count: u64, number: u64)
         requires { bits < 62 }
-        ensures { (m : ℕ) → bucket_of bits count m ≡ number → in_cells self.new m ≡ in_cells self.old m }
+        ensures { self.new ≡ filter (is_own bits count number) self.old }
     {
         while let Some(at) = place_of_strange(self.cells.as_slice(), bits, count, number) {
             self.cells.remove(at);
@@ -136,7 +164,7 @@ fn place_of(cells: &[Newest], mark: u64) -> Option<usize>
 // The first cell whose mark is not sought in the bucket of this number.
 fn place_of_strange(cells: &[Newest], bits: u32, count: u64, number: u64) -> Option<usize>
     requires { bits < 62 }
-    ensures { IfSome result (IsStrange cells.now bits count number) }
+    ensures { MatchOption result (AllByRecursion (λ cell. bucket_of bits count cell.mark ≡ number) cells.now) (IsStrange cells.now bits count number) }
 {
     for at in 0..cells.len() {
         if bucket_of(bits, count, cells[at].mark) != number {

@@ -1,10 +1,10 @@
 //! Marks in buckets, of which there are about half as many as marks.
-ghost use Rattle.std.specs.Prelude.{◌≡◌, ◌≢◌, ◌<◌, ◌≤◌, ℕ, ◌^◌, suc, length, None, Some, IsSome};
+ghost use Rattle.std.specs.Prelude.{◌≡◌, ◌≢◌, ◌<◌, ◌≤◌, ℕ, ◌-◌, ◌^◌, suc, length, None, Some, is_some, OnOk, OnErr};
 ghost use Rattle.std.specs.Bool.{OnTrue, OnFalse};
-ghost use Rattle.output_index.specs.Buckets.{in_buckets, few_at, bucket_of};
+ghost use Rattle.output_index.specs.Buckets.{in_buckets, few_at, bucket_of, HasNoRoom, HasOwn};
 
 use crate::bucket::{Bucket, bucket_of, power_of_two};
-use std::alloc::Global;
+use std::alloc::{AllocError, Global};
 use std::marker::Model;
 
 /// So many marks to a bucket, on the average, make one more bucket.
@@ -62,10 +62,12 @@ impl Buckets {
         requires { few_at self.old mark ≡ None }
         ensures put { OnTrue result (few_at self.new mark ≡ Some number) }
         ensures full { OnFalse result (few_at self.new mark ≡ None) }
+        ensures no_room { OnFalse result (HasNoRoom self.new.bits self.new.buckets mark) }
         ensures others { (m : ℕ) → m ≢ mark → few_at self.new m ≡ few_at self.old m }
     {
         if self.held / LOAD >= self.list.len() {
-            self.grow();
+            // Where there is no memory for one more bucket, those that are there take the mark as far as they have room.
+            drop(self.grow());
         }
         if !put_in(&mut self.list, self.bits, mark, number) {
             return false;
@@ -74,38 +76,46 @@ impl Buckets {
         true
     }
 
-    /// Where the mark is here, this is its newest entry from now on.
-    pub fn set(&mut self, mark: u64, number: u64)
-        ensures here { IsSome (few_at self.old mark) → few_at self.new mark ≡ Some number }
-        ensures others { (m : ℕ) → m ≢ mark → few_at self.new m ≡ few_at self.old m }
-    {
-        set_in(&mut self.list, self.bits, mark, number);
-    }
-
     /// The mark is here no more.
     pub fn take(&mut self, mark: u64)
         ensures gone { few_at self.new mark ≡ None }
         ensures others { (m : ℕ) → m ≢ mark → few_at self.new m ≡ few_at self.old m }
     {
-        if self.get(mark).is_some() {
-            take_from(&mut self.list, self.bits, mark);
+        if take_from(&mut self.list, self.bits, mark) {
             self.held = self.held.saturating_sub(1);
         }
     }
 
-    // Adds a bucket, if there is memory for it.
-    fn grow(&mut self)
-        ensures { (m : ℕ) → few_at self.new m ≡ few_at self.old m }
+    /// Where the entry is the newest of its mark, the older one takes its place, and the mark is gone where there is no older one. What was the
+    /// newest until now is answered; None where the mark is not here.
+    pub fn take_newest(&mut self, mark: u64, number: u64, older: Option<u64>) -> Option<u64>
+        ensures told { result ≡ few_at self.old mark }
+        ensures older { result ≡ Some number → few_at self.new mark ≡ older }
+        ensures stays { result ≢ Some number → few_at self.new mark ≡ few_at self.old mark }
+        ensures others { (m : ℕ) → m ≢ mark → few_at self.new m ≡ few_at self.old m }
+    {
+        let told = take_newest_from(&mut self.list, self.bits, mark, number, older);
+        if told == Some(number) && older.is_none() {
+            self.held = self.held.saturating_sub(1);
+        }
+        told
+    }
+
+    // Adds a bucket, as long as there are not as many as there may be.
+    fn grow(&mut self) -> Result<(), AllocError>
+        ensures same { (m : ℕ) → few_at self.new m ≡ few_at self.old m }
+        ensures ok { OnOk result (self.old.bits < 40 → length self.new.buckets ≡ suc (length self.old.buckets)) }
+        ensures err { OnErr result (self.new ≡ self.old) }
     {
         if self.list.is_empty() {
-            begin(&mut self.list);
-            return;
+            return begin(&mut self.list);
         }
         let bits = bits_to_grow(self.bits, self.list.len() as u64);
         if bits <= MOST_BITS {
-            split(&mut self.list, bits);
+            split(&mut self.list, bits)?;
             self.bits = bits;
         }
+        Ok(())
     }
 }
 
@@ -116,6 +126,7 @@ fn bits_to_grow(bits: u32, count: u64) -> u32
     requires most { count ≤ 2 ^ suc bits }
     ensures least { 2 ^ result ≤ count }
     ensures most { count < 2 ^ suc result }
+    ensures few { result ≤ suc bits }
     ensures same { (m : ℕ) → bucket_of result count m ≡ bucket_of bits count m }
 {
     if count == 2 * power_of_two(bits) {
@@ -125,32 +136,34 @@ fn bits_to_grow(bits: u32, count: u64) -> u32
     }
 }
 
-// The first bucket, if there is memory for it.
-fn begin(list: &mut Vec<Bucket>)
+// The first bucket.
+fn begin(list: &mut Vec<Bucket>) -> Result<(), AllocError>
     requires { length list.old.items ≡ 0 }
     ensures none { (m : ℕ) → in_buckets 0 list.new.items m ≡ None }
-    ensures len { length list.new.items ≤ 1 }
+    ensures ok { OnOk result (length list.new.items ≡ 1) }
+    ensures err { OnErr result (list.new.items ≡ list.old.items) }
 {
-    drop(list.push(Bucket::new()));
+    list.push(Bucket::new())?;
+    Ok(())
 }
 
-// Adds a bucket, if there is memory for it. It takes the marks that are sought in it from now on from the one in which they were sought.
-fn split(list: &mut Vec<Bucket>, bits: u32)
+// Adds a bucket. It takes the marks that are sought in it from now on from the one in which they were sought.
+fn split(list: &mut Vec<Bucket>, bits: u32) -> Result<(), AllocError>
     requires bits { bits < 62 }
     requires least { 2 ^ bits ≤ length list.old.items }
     requires most { length list.old.items < 2 ^ suc bits }
     ensures same { (m : ℕ) → in_buckets bits list.new.items m ≡ in_buckets bits list.old.items m }
-    ensures least { length list.old.items ≤ length list.new.items }
-    ensures most { length list.new.items ≤ suc (length list.old.items) }
+    ensures ok { OnOk result (length list.new.items ≡ suc (length list.old.items)) }
+    ensures own { OnOk result (HasOwn bits list.new.items (length list.old.items) × HasOwn bits list.new.items (length list.old.items - 2 ^ bits)) }
+    ensures err { OnErr result (list.new.items ≡ list.old.items) }
 {
     let count = list.len() as u64;
     let first = count - power_of_two(bits);
     let mut added = list[first as usize].copied();
     added.keep_own(bits, count + 1, count);
-    let Ok(()) = list.push(added) else {
-        return;
-    };
+    list.push(added)?;
     list[first as usize].keep_own(bits, count + 1, first);
+    Ok(())
 }
 
 fn put_in(list: &mut Vec<Bucket>, bits: u32, mark: u64, number: u64) -> bool
@@ -159,6 +172,7 @@ fn put_in(list: &mut Vec<Bucket>, bits: u32, mark: u64, number: u64) -> bool
     ensures len { length list.new.items ≡ length list.old.items }
     ensures put { OnTrue result (in_buckets bits list.new.items mark ≡ Some number) }
     ensures full { OnFalse result (in_buckets bits list.new.items mark ≡ None) }
+    ensures no_room { OnFalse result (HasNoRoom bits list.new.items mark) }
     ensures others { (m : ℕ) → m ≢ mark → in_buckets bits list.new.items m ≡ in_buckets bits list.old.items m }
 {
     let at = bucket_of(bits, list.len() as u64, mark) as usize;
@@ -168,26 +182,37 @@ fn put_in(list: &mut Vec<Bucket>, bits: u32, mark: u64, number: u64) -> bool
     list[at].try_put(mark, number)
 }
 
-fn set_in(list: &mut Vec<Bucket>, bits: u32, mark: u64, number: u64)
+fn take_from(list: &mut Vec<Bucket>, bits: u32, mark: u64) -> bool
     requires { bits < 62 }
-    ensures len { length list.new.items ≡ length list.old.items }
-    ensures here { IsSome (in_buckets bits list.old.items mark) → in_buckets bits list.new.items mark ≡ Some number }
-    ensures others { (m : ℕ) → m ≢ mark → in_buckets bits list.new.items m ≡ in_buckets bits list.old.items m }
-{
-    let at = bucket_of(bits, list.len() as u64, mark) as usize;
-    if at < list.len() {
-        list[at].set(mark, number);
-    }
-}
-
-fn take_from(list: &mut Vec<Bucket>, bits: u32, mark: u64)
-    requires { bits < 62 }
+    ensures was { result ≡ is_some (in_buckets bits list.old.items mark) }
     ensures len { length list.new.items ≡ length list.old.items }
     ensures gone { in_buckets bits list.new.items mark ≡ None }
     ensures others { (m : ℕ) → m ≢ mark → in_buckets bits list.new.items m ≡ in_buckets bits list.old.items m }
 {
     let at = bucket_of(bits, list.len() as u64, mark) as usize;
-    if at < list.len() {
-        list[at].take(mark);
+    if at >= list.len() {
+        return false;
     }
+    list[at].take(mark)
+}
+
+fn take_newest_from(
+    list: &mut Vec<Bucket>,
+    bits: u32,
+    mark: u64,
+    number: u64,
+    older: Option<u64>,
+) -> Option<u64>
+    requires { bits < 62 }
+    ensures len { length list.new.items ≡ length list.old.items }
+    ensures told { result ≡ in_buckets bits list.old.items mark }
+    ensures older { result ≡ Some number → in_buckets bits list.new.items mark ≡ older }
+    ensures stays { result ≢ Some number → in_buckets bits list.new.items mark ≡ in_buckets bits list.old.items mark }
+    ensures others { (m : ℕ) → m ≢ mark → in_buckets bits list.new.items m ≡ in_buckets bits list.old.items m }
+{
+    let at = bucket_of(bits, list.len() as u64, mark) as usize;
+    if at >= list.len() {
+        return None;
+    }
+    list[at].take_newest(mark, number, older)
 }

@@ -1,6 +1,7 @@
 //! The newest entries by their marks.
 ghost use Rattle.std.specs.Prelude.{◌≡◌, ◌≢◌, ℕ, Some, None, IsSome, IfOk, OnOk, OnErr};
 ghost use Rattle.std.specs.Bool.{OnTrue, OnFalse};
+ghost use Rattle.output_index.specs.Buckets.{HasNoRoom};
 ghost use Rattle.output_index.specs.Chains.{chain_at, TellsOther};
 
 use crate::buckets::Buckets;
@@ -77,6 +78,7 @@ impl Chains {
         requires { chain_at self.old mark ≡ None }
         ensures put { OnTrue result (chain_at self.new mark ≡ Some number) }
         ensures full { OnFalse result (chain_at self.new mark ≡ None) }
+        ensures no_room { OnFalse result (HasNoRoom self.new.table.bits self.new.table.buckets mark) }
         ensures others { (m : ℕ) → m ≢ mark → chain_at self.new m ≡ chain_at self.old m }
     {
         self.buckets.try_put(mark, number)
@@ -102,15 +104,10 @@ impl Chains {
         ensures stays { IsSome result → chain_at self.new mark ≡ chain_at self.old mark }
         ensures others { (m : ℕ) → m ≢ mark → chain_at self.new m ≡ chain_at self.old m }
     {
-        match self.buckets.get(mark) {
-            Some(told) if told != number => return Some(told),
-            Some(_) => {}
-            None => return self.shards.take_newest(mark, number, older),
+        match self.buckets.take_newest(mark, number, older) {
+            Some(told) if told != number => Some(told),
+            Some(_) => None,
+            None => self.shards.take_newest(mark, number, older),
         }
-        match older {
-            Some(older) => self.buckets.set(mark, older),
-            None => self.buckets.take(mark),
-        }
-        None
     }
 }

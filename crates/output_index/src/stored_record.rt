@@ -26,7 +26,7 @@ pub(crate) struct StoredRecord {
 
 impl Model for StoredRecord {
     ghost use Rattle.std.specs.Prelude.{◌<◌, ◌≤◌, ◌^◌, length};
-    ghost use Rattle.leaf_record.specs.Leaf.{Outpoint, Rest, Leaf, longest_script};
+    ghost use Rattle.leaf_record.specs.Leaf.{Leaf, longest_script};
     ghost use Rattle.output_index.specs.Scripts.{script_text};
 
     ghost Value = { Leaf };

@@ -97,6 +97,28 @@ fn finds_what_is_left(rt: HostRuntime) -> Result<(), Fail> {
     Ok(())
 }
 
+/// Two entries of one outpoint and one of another go at once, and what is added then is the newest.
+#[test]
+fn forgets_all_at_once(rt: HostRuntime) -> Result<(), Fail> {
+    let first = txid_of(2, 0);
+    let second = txid_of(2, 1);
+    let mut outputs = Outputs::new(rt.alloc());
+    outputs.insert(3, record_of(rt.alloc(), first, 0)?)?;
+    outputs.insert(5, record_of(rt.alloc(), second, 9)?)?;
+    outputs.insert(6, record_of(rt.alloc(), first, 0)?)?;
+    outputs.spend(3);
+    outputs.spend(5);
+    outputs.spend(6);
+    outputs.forget_all([6, 3, 5].as_slice());
+    assert!(rt;
+        outputs.output(3).is_none() && outputs.output(5).is_none() && outputs.output(6).is_none()
+    );
+    assert!(rt; outputs.newest(&first, 0).is_none() && outputs.newest(&second, 9).is_none());
+    outputs.insert(7, record_of(rt.alloc(), first, 0)?)?;
+    assert!(rt; outputs.newest(&first, 0) == Some(7));
+    Ok(())
+}
+
 fn view_of(txid: Digest, index: u32, script: &[u8]) -> RecordView<'_>
     requires { length script.now ≤ 10000 }
 {
@@ -258,7 +280,7 @@ fn a_hundred_spent_ones_are_passed(rt: HostRuntime) -> Result<(), Fail> {
     Ok(())
 }
 
-/// Outputs whose places in the index would all be one: four have room in it.
+/// Outputs whose places in the index would all be one: six have room in it.
 #[test]
 fn outpoints_of_one_bucket(rt: HostRuntime) -> Result<(), Fail> {
     let txid = txid_of(2, 0);

@@ -1,4 +1,4 @@
-use Rattle.std.proofs.Common.{◌≡◌, ◌+◌, ◌*◌, ◌/◌, ◌^◌, ◌<◌, ◌≤◌, length, sym, ap, ◌∙◌, arith}
+use Rattle.std.proofs.Common.{length, sym, ap, ◌∙◌, arith}
 use Rattle.forest_place.specs.declared.place.Place.{Place}
 use Rattle.forest_place.proofs.Positions.{row_small}
 use Rattle.bridge_forest.proofs.Ascending.{ascent-on, ascent-ends, off-below}

@@ -1,10 +1,11 @@
 //! Forests of few entries, of which any are spent, and lists of changes of them, beside the plain forest.
-ghost use Rattle.std.specs.Prelude.{◌≡◌, ℕ, ◌<◌, ◌≤◌, length, true, IsTrue};
+ghost use Rattle.std.specs.Prelude.{◌≡◌, ℕ, ◌<◌, ◌≤◌, length, true, All, IfOk, IsTrue};
+ghost use Rattle.std.specs.List.Sorted.{IsNonDecreasing};
 ghost use Rattle.bridge_forest.specs.State.{is_live};
 
 use crate::tests::plain::{Node, digest_at, nodes_of, number_at};
-use bridge_forest::{Branch, Forest};
-use forest_place::Place;
+use bridge_forest::{Branch, Forest, Sibling};
+use forest_place::{Place, sibling};
 use forest_roots::{Roots, pair};
 use std::alloc::{AllocError, Global};
 use std::marker::Brand;
@@ -129,21 +130,95 @@ fn check_walk<D: Digester>(
     }
 }
 
-// Whether a walk down to these entries answers what the plain forest has at all places.
-fn check_ways<D: Digester>(
+// The live ones among the entries whose bits are set.
+fn live_among<D: Digester>(
+    alloc: Global,
+    forest: &Forest<D>,
+    bits: u64,
+) -> Result<Vec<u64>, AllocError>
+    ensures live { IfOk result (λ numbers. All (λ i. is_live forest.now.entries i ≡ true) numbers.items) }
+    ensures rise { IfOk result (λ numbers. IsNonDecreasing numbers.items) }
+{
+    let mut numbers = Vec::new(alloc);
+    for number in 0..12 {
+        if (bits >> number) % 2 == 1 && forest.live(number) {
+            numbers.push(number)?;
+        }
+    }
+    Ok(numbers)
+}
+
+// Whether a target stands at a place or beneath it.
+fn is_above(place: Place, target: Place) -> bool {
+    if target.row > place.row {
+        return false;
+    }
+    let rows = u32::from(place.row - target.row);
+    target.off.checked_shr(rows) == Some(place.off)
+}
+
+// Whether one of the targets does.
+fn is_covered(targets: &[Place], place: Place) -> bool {
+    for target in targets {
+        if is_above(place, *target) {
+            return true;
+        }
+    }
+    false
+}
+
+// Whether the forest over n entries has no sibling of a place.
+fn is_alone(n: u64, place: Place) -> bool {
+    match n.checked_shr(u32::from(place.row)) {
+        Some(places) => sibling(place).off >= places,
+        None => true,
+    }
+}
+
+// The places beside the ways from the targets up to the roots, with what the plain forest over n entries has there. No root is beside
+// a way up.
+fn siblings_of(
+    alloc: Global,
+    n: u64,
+    nodes: &[Node],
+    targets: &[Place],
+    places: &[Place],
+) -> Result<Vec<Sibling>, AllocError> {
+    let mut siblings = Vec::new(alloc);
+    for place in places {
+        let is_beside = !is_alone(n, *place)
+            && !is_covered(targets, *place)
+            && is_covered(targets, sibling(*place));
+        if let (true, Some(digest)) = (is_beside, digest_at(nodes, *place)) {
+            siblings.push(Sibling {
+                place: *place,
+                digest,
+            })?;
+        }
+    }
+    Ok(siblings)
+}
+
+// Whether what proves the live ones among the entries whose bits are set is what the plain forest has beside their ways up.
+fn check_proof<D: Digester>(
     rt: &impl Abort,
     alloc: Global,
     forest: &Forest<D>,
     nodes: &[Node],
-    numbers: &[u64],
+    bits: u64,
     places: &[Place],
-) {
-    let Ok(digests) = forest.digests_beside(alloc, numbers, places) else {
+) -> Result<(), AllocError> {
+    let numbers = live_among(alloc, forest, bits)?;
+    let mut targets = Vec::new(alloc);
+    for i in 0..numbers.len() {
+        targets.push(forest.place(numbers[i]))?;
+    }
+    let expected = siblings_of(alloc, forest.leaves(), nodes, &targets, places)?;
+    let Ok(proof) = forest.proof_of(alloc, &numbers) else {
         panic!(rt; "no memory")
     };
-    for (place, digest) in places.iter().zip(digests.iter()) {
-        assert!(rt; *digest == digest_at(nodes, *place));
-    }
+    assert!(rt; proof.as_slice() == expected.as_slice());
+    Ok(())
 }
 
 // Whether a slot has its root.
@@ -226,8 +301,9 @@ fn check<D: Digester, L: Ledger>(
     let places = all_places(alloc, both.forest.leaves())?;
     check_walk(rt, alloc, &both.forest, &nodes, &places, &places);
     check_walk(rt, alloc, &both.forest, &nodes, &[], &places);
-    check_ways(rt, alloc, &both.forest, &nodes, &[1, 4], &places);
-    check_ways(rt, alloc, &both.forest, &nodes, &[0, 2, 3, 8], &places);
+    for bits in [0b1, 0b1_0010, 0b1_0000_1101, 0b1111_1111_1111] {
+        check_proof(rt, alloc, &both.forest, &nodes, bits, &places)?;
+    }
     let roots = both.forest.roots();
     for row in 0..5 {
         check_row(rt, &both.forest, &nodes, row);

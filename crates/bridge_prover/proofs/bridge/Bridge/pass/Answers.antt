@@ -5,7 +5,7 @@ use Rattle.block_rules.specs.Money.{money_steps}
 use Rattle.compact_node.specs.Judged.{IsFirst}
 use Rattle.compact_node.proofs.Deciding.{handed_on}
 use Rattle.bridge_prover.specs.Judged.{AreFound, first_missing}
-use Rattle.bridge_prover.proofs.Deciding.{shape_refused, missing_refused, money_refused_by, found_count, ready_by, shaped_by, proved_by, steps_by}
+use Rattle.bridge_prover.proofs.Deciding.{shape_refused, missing_refused, money_refused_by, found_count, ready_by, proved_by, steps_by}
 use Rattle.bridge_prover.proofs.bridge.Bridge.pass.Goals as goal
 
 pub returns-in_err-spends-clause-err : goal.returns-in_err-spends-clause-err
@@ -23,17 +23,11 @@ money_rules-requires g c =
     let known = subst (λ ext. AreFound c.args.self.now.held ext c.in_ok-numbers.numbers.items c.in_ok-numbers.found.items) c.external.ensures c.in_ok-numbers.ensures.ok in
     ap length c.deref.ensures.value ∙ found_count g.D.Digester.digest_of leaf_text c.args.self.now c.args.block.now c.in_ok-spends.spends _ _ c.in_ok-spends.ensures.bridge c.in_ok-spends.ensures.judged known
 
-pub extend-requires-clause-ready : goal.extend-requires-clause-ready
-extend-requires-clause-ready g c =
+pub extend-requires : goal.extend-requires
+extend-requires g c =
     let known = subst (λ ext. AreFound c.args.self.now.held ext c.in_ok-numbers.numbers.items c.in_ok-numbers.found.items) c.external.ensures c.in_ok-numbers.ensures.ok in
     let paid : first_of (money_steps c.in_ok-spends.spends c.in_ok-numbers.found.items) ≡ None = ap (λ xs. first_of (money_steps c.in_ok-spends.spends xs)) (sym c.deref.ensures.value) ∙ c.in-Ok.ensures.passes in
     ready_by g.D.Digester.digest_of leaf_text c.args.self.now c.args.block.now c.in_ok-spends.spends _ _ c.in_ok-spends.ensures.bridge c.in_ok-spends.ensures.judged known paid c.bytes-bytes.ensures.fits c.args.hash
-
-pub extend-requires-clause-shape : goal.extend-requires-clause-shape
-extend-requires-clause-shape g c =
-    let known = subst (λ ext. AreFound c.args.self.now.held ext c.in_ok-numbers.numbers.items c.in_ok-numbers.found.items) c.external.ensures c.in_ok-numbers.ensures.ok in
-    let paid : first_of (money_steps c.in_ok-spends.spends c.in_ok-numbers.found.items) ≡ None = ap (λ xs. first_of (money_steps c.in_ok-spends.spends xs)) (sym c.deref.ensures.value) ∙ c.in-Ok.ensures.passes in
-    shaped_by g.D.Digester.digest_of leaf_text c.args.self.now c.args.block.now c.in_ok-spends.spends _ _ c.in_ok-spends.ensures.bridge c.in_ok-spends.ensures.judged known paid
 
 pub returns-in-Ok-extend-clause-ok : goal.returns-in-Ok-extend-clause-ok
 returns-in-Ok-extend-clause-ok g c =

@@ -1,9 +1,10 @@
-use Rattle.std.proofs.Common.{◌≡◌, ℕ, length}
-use Rattle.output_index.specs.Buckets.{in_cells, bucket_of}
+use Rattle.std.proofs.Common.{◌≡◌, length}
+use Rattle.std.specs.List.{filter}
+use Rattle.output_index.specs.Buckets.{is_own}
 use Rattle.output_index.proofs.bucket.Bucket.keep_own.Given as goal
 
 abbrev pub invariant-loop-at : goal.invariant-loop-at
-invariant-loop-at l = (m : ℕ) → bucket_of l.bits l.count m ≡ l.number → in_cells l.self-inside.cells.items m ≡ in_cells l.fn.self m
+invariant-loop-at l = filter (is_own l.bits l.count l.number) l.self-inside.cells.items ≡ filter (is_own l.bits l.count l.number) l.fn.self
 
 abbrev pub decreases-loop-at : goal.decreases-loop-at
 decreases-loop-at l = length l.self-inside.cells.items

@@ -1,4 +1,4 @@
-use Rattle.std.proofs.Common.{◌≡◌, List, set, length, sym, ap, subst, ◌∙◌, refl}
+use Rattle.std.proofs.Common.{◌≡◌, set, length, ap, subst, ◌∙◌, refl}
 use Rattle.std.specs.List.{refill}
 use Rattle.output_index.specs.declared.bucket.Newest.{Newest}
 use Rattle.output_index.specs.Buckets.{in_cells, IsFirstAt}

@@ -1,0 +1,259 @@
+//! What proves entries: the digests that stand beside the ways down to them, all of them from one walk down. It goes through each part once,
+//! and where it reads the halves of one does not hang on what another has.
+ghost use Rattle.std.specs.Prelude.{◌≡◌, ◌≢◌, ℕ, List, suc, ◌++◌, ◌∷◌, ◌/◌, ◌^◌, ◌<◌, ◌≤◌, [], true, length, filter, take, drop, not, nat_le, All, IfOk, OnOk, OnErr};
+ghost use Rattle.std.specs.List.{filter_map, flat_map};
+ghost use Rattle.std.specs.List.Sorted.{IsNonDecreasing};
+ghost use Rattle.forest_place.specs.Forest.{InForest};
+ghost use Rattle.forest_place.specs.declared.place.Place.{Place};
+ghost use Rattle.forest_model.specs.Content.{content};
+ghost use Rattle.forest_model.specs.Deletion.{StandAt};
+ghost use Rattle.forest_model.specs.Standing.{tree_at};
+ghost use Rattle.bridge_forest.specs.Parts.{AreParts};
+ghost use Rattle.bridge_forest.specs.Proving.{places_of, standing, proof_of, in_row, list_of, AreMore, AreOfPart, AreFrom, behind};
+ghost use Rattle.bridge_forest.specs.State.{is_live};
+
+use crate::arena::part_in;
+use crate::branch::Sibling;
+use crate::parts::Parts;
+use forest_place::{Place, children};
+use std::alloc::{AllocError, Global};
+use std::marker::Model;
+use uo_digest::{Digest, Digester};
+
+/// So many rows has a forest at most.
+const ROWS: usize = 40;
+
+/// Digests that stand in one row.
+#[derive(Drop)]
+pub(crate) struct Row {
+    list: Vec<Sibling>,
+}
+
+impl Model for Row {
+    ghost use Rattle.std.specs.Prelude.{List};
+    ghost use Rattle.bridge_forest.specs.declared.branch.Sibling.{Sibling};
+
+    ghost Value = { List Sibling };
+
+    ghost view = { λ r. r.list.items };
+}
+
+impl Row {
+    // No digest, and room for so many.
+    fn with_room(alloc: Global, room: usize) -> Result<Self, AllocError>
+        ensures { IfOk result (λ row. row ≡ []) }
+    {
+        Ok(Row {
+            list: Vec::with_capacity(alloc, room)?,
+        })
+    }
+
+    fn push(&mut self, sibling: Sibling) -> Result<(), AllocError>
+        ensures ok { OnOk result (self.new ≡ self.old ++ sibling ∷ []) }
+        ensures err { OnErr result (self.new ≡ self.old) }
+    {
+        self.list.push(sibling)?;
+        Ok(())
+    }
+
+    fn as_slice(&self) -> &[Sibling]
+        ensures { result.now ≡ self.now }
+    {
+        &self.list
+    }
+}
+
+// No digest in any row, and room for so many in each row that a forest over n entries has.
+fn no_rows(alloc: Global, n: u64, room: usize) -> Result<Vec<Row>, AllocError>
+    ensures len { IfOk result (λ rows. length rows.items ≡ 40) }
+    ensures none { IfOk result (λ rows. (row : ℕ) → list_of rows.items row ≡ []) }
+{
+    let mut rows = Vec::with_capacity(alloc, ROWS)?;
+    for row in 0..40u8 {
+        let room = if n >> row == 0 { 0 } else { room };
+        rows.push(Row::with_room(alloc, room)?)?;
+    }
+    Ok(rows)
+}
+
+// How many of the numbers, which rise, lie in parts of a row up to this one.
+fn count_upto(numbers: &[u64], row: u8, off: u64) -> usize
+    requires row { row < 40 }
+    requires rise { IsNonDecreasing numbers.now }
+    ensures upto { take result numbers.now ≡ filter (λ i. nat_le (i / 2 ^ row) off) numbers.now }
+    ensures beyond { drop result numbers.now ≡ filter (λ i. not (nat_le (i / 2 ^ row) off)) numbers.now }
+    ensures within { result ≤ length numbers.now }
+{
+    let mut count = 0;
+    while count < numbers.len() && numbers[count] >> row <= off {
+        count += 1;
+    }
+    count
+}
+
+// Notes the digest of a part at the place at which its tree stands, if it has something.
+fn note<D: Digester>(
+    entries: &[Option<Digest>],
+    parts: &Parts,
+    part: Place,
+    place: Place,
+    rows: &mut Vec<Row>,
+) -> Result<(), AllocError>
+    requires small { length entries.now < 2 ^ 40 }
+    requires room { length entries.now ≤ length parts.now.low }
+    requires right { AreParts D.digest_of (length entries.now) entries.now parts.now }
+    requires within { InForest (length entries.now) part.row part.off }
+    requires stands { tree_at entries.now place.row place.off ≡ content entries.now part.row part.off }
+    requires forty { length rows.old.items ≡ 40 }
+    ensures forty { length rows.new.items ≡ 40 }
+    ensures here { OnOk result (list_of rows.new.items place.row ≡ list_of rows.old.items place.row ++ filter_map (standing D.digest_of entries.now) (place ∷ [])) }
+    ensures others { (row : ℕ) → row ≢ place.row → list_of rows.new.items row ≡ list_of rows.old.items row }
+{
+    let n = entries.len() as u64;
+    match part_in(entries, parts, n, part.row, part.off) {
+        Some(digest) => rows[place.row as usize].push(Sibling {
+            place,
+            digest: *digest,
+        }),
+        None => Ok(()),
+    }
+}
+
+// Goes down from a part, which has these entries and whose tree stands at this place, to the entries, and notes what is beside the way.
+fn descend<D: Digester>(
+    entries: &[Option<Digest>],
+    parts: &Parts,
+    part: Place,
+    place: Place,
+    numbers: &[u64],
+    rows: &mut Vec<Row>,
+) -> Result<(), AllocError>
+    requires small { length entries.now < 2 ^ 40 }
+    requires room { length entries.now ≤ length parts.now.low }
+    requires right { AreParts D.digest_of (length entries.now) entries.now parts.now }
+    requires within { InForest (length entries.now) part.row part.off }
+    requires stands { tree_at entries.now place.row place.off ≡ content entries.now part.row part.off }
+    requires there { InForest (length entries.now) place.row place.off }
+    requires rise { IsNonDecreasing numbers.now }
+    requires forty { length rows.old.items ≡ 40 }
+    ensures forty { length rows.new.items ≡ 40 }
+
+    // Whatever all entries are of which it has these.
+    ensures noted { OnOk result ((ts : List Place) (all : List ℕ) → StandAt entries.now ts all → AreOfPart entries.now ts all part place numbers.now → AreMore D.digest_of entries.now ts place rows.old.items rows.new.items) }
+{
+    if numbers.is_empty() {
+        return note::<D>(entries, parts, part, place, rows);
+    }
+    if part.row == 0 {
+        return Ok(());
+    }
+    let n = entries.len() as u64;
+    let (left, right) = children(part);
+    match part_in(entries, parts, n, left.row, left.off) {
+        None => descend::<D>(entries, parts, right, place, numbers, rows),
+        Some(_) => match part_in(entries, parts, n, right.row, right.off) {
+            None => descend::<D>(entries, parts, left, place, numbers, rows),
+            Some(_) => {
+                let (low, high) = numbers.split_at(count_upto(numbers, left.row, left.off));
+                let (below_left, below_right) = children(place);
+                descend::<D>(entries, parts, left, below_left, low, rows)?;
+                descend::<D>(entries, parts, right, below_right, high, rows)
+            }
+        },
+    }
+}
+
+// Goes down from the root of a row, if it has one and some of these numbers, and answers the numbers behind them.
+fn descend_from<'a, D: Digester>(
+    entries: &[Option<Digest>],
+    parts: &Parts,
+    row: u8,
+    numbers: &'a [u64],
+    rows: &mut Vec<Row>,
+) -> Result<&'a [u64], AllocError>
+    requires small { length entries.now < 2 ^ 40 }
+    requires room { length entries.now ≤ length parts.now.low }
+    requires right { AreParts D.digest_of (length entries.now) entries.now parts.now }
+    requires row { row < 40 }
+    requires rise { IsNonDecreasing numbers.now }
+    requires forty { length rows.old.items ≡ 40 }
+    ensures forty { length rows.new.items ≡ 40 }
+    ensures rise { IfOk result (λ numbers. IsNonDecreasing numbers.now) }
+    ensures behind { IfOk result (λ left. (all : List ℕ) → numbers.now ≡ behind (length entries.now) (suc row) all → left.now ≡ behind (length entries.now) row all) }
+    ensures noted { OnOk result ((ts : List Place) (all : List ℕ) → StandAt entries.now ts all → numbers.now ≡ behind (length entries.now) (suc row) all → AreFrom D.digest_of entries.now ts (suc row) rows.old.items → AreFrom D.digest_of entries.now ts row rows.new.items) }
+{
+    let count = entries.len() as u64 >> row;
+    if count % 2 == 0 {
+        return Ok(numbers);
+    }
+    let root = Place {
+        row,
+        off: count - 1,
+    };
+    let (here, behind) = numbers.split_at(count_upto(numbers, row, root.off));
+    if !here.is_empty() {
+        descend::<D>(entries, parts, root, root, here, rows)?;
+    }
+    Ok(behind)
+}
+
+// What stands beside the ways down to these entries, by rows.
+fn rows_of<D: Digester>(
+    alloc: Global,
+    entries: &[Option<Digest>],
+    parts: &Parts,
+    numbers: &[u64],
+) -> Result<Vec<Row>, AllocError>
+    requires small { length entries.now < 2 ^ 40 }
+    requires room { length entries.now ≤ length parts.now.low }
+    requires right { AreParts D.digest_of (length entries.now) entries.now parts.now }
+    requires live { All (λ i. is_live entries.now i ≡ true) numbers.now }
+    requires rise { IsNonDecreasing numbers.now }
+    ensures forty { IfOk result (λ rows. length rows.items ≡ 40) }
+    ensures are { IfOk result (λ rows. (row : ℕ) → list_of rows.items row ≡ in_row D.digest_of entries.now (places_of entries.now numbers.now) row 0 (length entries.now / 2 ^ row)) }
+{
+    let mut rows = no_rows(alloc, entries.len() as u64, numbers.len())?;
+    let mut left = numbers;
+    for row in 0..40u8 {
+        left = descend_from::<D>(entries, parts, 39 - row, left, &mut rows)?;
+    }
+    Ok(rows)
+}
+
+// How many digests all rows have.
+fn count_of(rows: &[Row]) -> usize {
+    let mut count: usize = 0;
+    for row in rows {
+        count = count.saturating_add(row.as_slice().len());
+    }
+    count
+}
+
+// All rows in one list.
+fn joined(alloc: Global, rows: &[Row]) -> Result<Vec<Sibling>, AllocError>
+    ensures { IfOk result (λ all. all.items ≡ flat_map (λ row. row) rows.now) }
+{
+    let mut all = Vec::with_capacity(alloc, count_of(rows))?;
+    for row in rows {
+        all.extend_from_slice(row.as_slice())?;
+    }
+    Ok(all)
+}
+
+// What proves these entries, which rise.
+pub(crate) fn proof_of_entries<D: Digester>(
+    alloc: Global,
+    entries: &[Option<Digest>],
+    parts: &Parts,
+    numbers: &[u64],
+) -> Result<Vec<Sibling>, AllocError>
+    requires small { length entries.now < 2 ^ 40 }
+    requires room { length entries.now ≤ length parts.now.low }
+    requires right { AreParts D.digest_of (length entries.now) entries.now parts.now }
+    requires live { All (λ i. is_live entries.now i ≡ true) numbers.now }
+    requires rise { IsNonDecreasing numbers.now }
+    ensures { IfOk result (λ proof. proof.items ≡ proof_of D.digest_of entries.now numbers.now) }
+{
+    let rows = rows_of::<D>(alloc, entries, parts, numbers)?;
+    joined(alloc, &rows)
+}
