@@ -129,36 +129,50 @@ module _ (H : List ℕ → Digest) (es : List (Option Digest)) (ts : List Place)
   covered_top q c some = beneath_here q ∙ in_row-none q.row q.off 1 (λ o le lt. let e : o ≡ q.off = omega (arith, le, lt) in ap (λ x. is_needed (length es) ts (record { row = q.row; off = x })) e ∙ not_needed-covered (length es) ts q.row q.off c some)
 
   -- what is beneath the two places under a covered one is all that is beneath it
-  pub more_halves : (q left right : Place) (old mid new : List (List Sibling)) (c : Cover) → 0 < q.row → left.row ≡ q.row - 1 → left.off ≡ 2 * q.off → right.row ≡ q.row - 1 → right.off ≡ 2 * q.off + 1 → cover ts q.row q.off ≡ Some c → AreMore H es ts left old mid → AreMore H es ts right mid new → AreMore H es ts q old new
-  more_halves q left right old mid new c high lr lo rr ro some low above = record {
-    is = λ row. above.is row ∙ (ap (λ xs. xs ++ beneath H es ts right row) (low.is row) ∙ (append_assoc (list_of old row) (beneath H es ts left row) (beneath H es ts right row) ∙ ap (λ xs. list_of old row ++ xs) (both row)));
-  }
-    where
-      at_top : (row : ℕ) → q.row ≤ row → beneath H es ts q row ≡ []
-      at_top row h =
-          ⊎_elim
-          (λ over. beneath_above q row over)
-          (λ under. let e : row ≡ q.row = omega (arith, h, under) in subst (λ r. beneath H es ts q r ≡ []) (sym e) (covered_top q c some))
-          (cases_lt q.row row)
+  module _ (q left right : Place) (c : Cover) (high : 0 < q.row) (lr : left.row ≡ q.row - 1) (lo : left.off ≡ 2 * q.off) (rr : right.row ≡ q.row - 1) (ro : right.off ≡ 2 * q.off + 1) (some : cover ts q.row q.off ≡ Some c) where
+    at_top : (row : ℕ) → q.row ≤ row → beneath H es ts q row ≡ []
+    at_top row h =
+        ⊎_elim
+        (λ over. beneath_above q row over)
+        (λ under. let e : row ≡ q.row = omega (arith, h, under) in subst (λ r. beneath H es ts q r ≡ []) (sym e) (covered_top q c some))
+        (cases_lt q.row row)
 
-      both : (row : ℕ) → beneath H es ts left row ++ beneath H es ts right row ≡ beneath H es ts q row
-      both row =
-          ⊎_elim
-          (λ under.
-          let k = left.row - row in
-          let deep : q.row - row ≡ suc k = omega (arith, under, lr, high) in
-          let same : right.row - row ≡ k = omega (arith, lr, rr) in
-          let double : 2 ^ suc k ≡ 2 ^ k + 2 ^ k = omega (arith, pow-suc 2 k) in
-          let begin : q.off * 2 ^ suc k ≡ 2 * q.off * 2 ^ k = ap (λ x. q.off * x) (pow-suc 2 k) ∙ twice q.off (2 ^ k) in
-          let middle : (2 * q.off + 1) * 2 ^ k ≡ 2 * q.off * 2 ^ k + 2 ^ k = next (2 * q.off) (2 ^ k) in
-          ap₂ (λ xs ys. xs ++ ys)
-          (beneath_row left row (omega (arith, under)) ∙ ap (λ o. in_row H es ts row (o * 2 ^ k) (2 ^ k)) lo)
-          (beneath_row right row (omega (arith, under, lr, rr)) ∙ (ap (λ j. in_row H es ts row (right.off * 2 ^ j) (2 ^ j)) same ∙ ap (λ o. in_row H es ts row o (2 ^ k)) (ap (λ o. o * 2 ^ k) ro ∙ middle)))
-          ∙ (sym (in_row-append row (2 * q.off * 2 ^ k) (2 ^ k) (2 ^ k))
-          ∙ (ap₂ (λ o m. in_row H es ts row o m) (sym begin) (sym double)
-          ∙ (ap (λ j. in_row H es ts row (q.off * 2 ^ j) (2 ^ j)) (sym deep) ∙ sym (beneath_row q row (omega (arith, under, lr)))))))
-          (λ over. ap₂ (λ xs ys. xs ++ ys) (beneath_above left row (omega (arith, over))) (beneath_above right row (omega (arith, over, lr, rr))) ∙ sym (at_top row (omega (arith, over, lr))))
-          (by_order row left.row)
+    both : (row : ℕ) → beneath H es ts left row ++ beneath H es ts right row ≡ beneath H es ts q row
+    both row =
+        ⊎_elim
+        (λ under.
+        let k = left.row - row in
+        let deep : q.row - row ≡ suc k = omega (arith, under, lr, high) in
+        let same : right.row - row ≡ k = omega (arith, lr, rr) in
+        let double : 2 ^ suc k ≡ 2 ^ k + 2 ^ k = omega (arith, pow-suc 2 k) in
+        let begin : q.off * 2 ^ suc k ≡ 2 * q.off * 2 ^ k = ap (λ x. q.off * x) (pow-suc 2 k) ∙ twice q.off (2 ^ k) in
+        let middle : (2 * q.off + 1) * 2 ^ k ≡ 2 * q.off * 2 ^ k + 2 ^ k = next (2 * q.off) (2 ^ k) in
+        ap₂ (λ xs ys. xs ++ ys)
+        (beneath_row left row (omega (arith, under)) ∙ ap (λ o. in_row H es ts row (o * 2 ^ k) (2 ^ k)) lo)
+        (beneath_row right row (omega (arith, under, lr, rr)) ∙ (ap (λ j. in_row H es ts row (right.off * 2 ^ j) (2 ^ j)) same ∙ ap (λ o. in_row H es ts row o (2 ^ k)) (ap (λ o. o * 2 ^ k) ro ∙ middle)))
+        ∙ (sym (in_row-append row (2 * q.off * 2 ^ k) (2 ^ k) (2 ^ k))
+        ∙ (ap₂ (λ o m. in_row H es ts row o m) (sym begin) (sym double)
+        ∙ (ap (λ j. in_row H es ts row (q.off * 2 ^ j) (2 ^ j)) (sym deep) ∙ sym (beneath_row q row (omega (arith, under, lr)))))))
+        (λ over. ap₂ (λ xs ys. xs ++ ys) (beneath_above left row (omega (arith, over))) (beneath_above right row (omega (arith, over, lr, rr))) ∙ sym (at_top row (omega (arith, over, lr))))
+        (by_order row left.row)
+
+    pub more_halves : (old mid new : List (List Sibling)) → AreMore H es ts left old mid → AreMore H es ts right mid new → AreMore H es ts q old new
+    more_halves old mid new low above = record {
+      is = λ row. above.is row ∙ (ap (λ xs. xs ++ beneath H es ts right row) (low.is row) ∙ (append_assoc (list_of old row) (beneath H es ts left row) (beneath H es ts right row) ∙ ap (λ xs. list_of old row ++ xs) (both row)));
+    }
+
+    -- in each row one of the two has nothing, so it does not matter which is noted first
+    pub more_across : (old mid new : List (List Sibling)) → ((row : ℕ) → (beneath H es ts left row ≡ []) ⊎ (beneath H es ts right row ≡ [])) → AreMore H es ts right old mid → AreMore H es ts left mid new → AreMore H es ts q old new
+    more_across old mid new apart above low = record {
+      is = λ row. low.is row ∙ (ap (λ xs. xs ++ beneath H es ts left row) (above.is row) ∙ (append_assoc (list_of old row) (beneath H es ts right row) (beneath H es ts left row) ∙ ap (λ xs. list_of old row ++ xs) (either row ∙ both row)));
+    }
+      where
+        either : (row : ℕ) → beneath H es ts right row ++ beneath H es ts left row ≡ beneath H es ts left row ++ beneath H es ts right row
+        either row =
+            ⊎_elim
+            (λ none. ap (λ xs. beneath H es ts right row ++ xs) none ∙ (append-nil (beneath H es ts right row) ∙ ap (λ xs. xs ++ beneath H es ts right row) (sym none)))
+            (λ none. ap (λ xs. xs ++ beneath H es ts left row) none ∙ (sym (append-nil (beneath H es ts left row)) ∙ ap (λ xs. beneath H es ts left row ++ xs) (sym none)))
+            (apart row)
 
 -- a place that was noted, if there was memory for it
 pub noted_here : {A F : Type 0} (H : List ℕ → Digest) (es : List (Option Digest)) (done : Result A F) (rows : List (List Sibling)) (q : Place) (d : Digest) (old new : List Sibling) → q.row < length rows → old ≡ get_or rows q.row old → digest_at H es q.row q.off ≡ Some d → OnOk done (new ≡ old ++ record { place = q; digest = d } ∷ []) → OnOk done (list_of (set rows q.row new) q.row ≡ list_of rows q.row ++ filter_map (standing H es) (q ∷ []))

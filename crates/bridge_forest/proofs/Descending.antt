@@ -1,5 +1,5 @@
 -- The way down from a part to those of all entries that it has: what is noted on it.
-use Rattle.std.proofs.Common.{◌≡◌, ℕ, suc, ◌+◌, ◌-◌, ◌*◌, ◌/◌, ◌^◌, ◌<◌, ◌≤◌, true, false, List, [], ◌∷◌, length, get_or, Option, Some, None, refl, sym, ap, ap₂, ◌∙◌, subst, ⊎_elim, arith, eq-eqb}
+use Rattle.std.proofs.Common.{◌≡◌, ℕ, suc, ◌+◌, ◌-◌, ◌*◌, ◌/◌, ◌^◌, ◌<◌, ◌≤◌, true, false, List, [], ◌∷◌, length, get_or, Option, Some, None, refl, sym, ap, ap₂, ◌∙◌, subst, ⊎_elim, ◌⊎◌, arith, eq-eqb}
 use Rattle.std.specs.Prelude.{◌==◌, not, nat_le, filter, option_map, Result, Ok, Err, OnOk}
 use Rattle.std.proofs.lemmas.Bool.{cases_lt, eqb-true, le-leb, lt-leb, leb-true, leb-false, not-true, and_parts, and_from}
 use Rattle.std.proofs.lemmas.Option.{none-some}
@@ -18,14 +18,14 @@ use Rattle.forest_model.proofs.Living.{found_where_it_stands, content_none_iff}
 use Rattle.bridge_forest.specs.declared.branch.Sibling.{Sibling}
 use Rattle.bridge_forest.specs.Proving.{beneath, AreMore, AreOfPart}
 use Rattle.bridge_forest.proofs.Parting.{filter_alike, filter_twice, filter_spent, spent_filter, head_spent, none_spent}
-use Rattle.bridge_forest.proofs.Beneath.{beneath_nothing, covered_top, more_halves}
+use Rattle.bridge_forest.proofs.Beneath.{beneath_nothing, covered_top, more_halves, more_across}
 use Rattle.bridge_forest.proofs.Covering.{covered, uncovered, uncovered_under}
 
 pub on_ok : {A F : Type 0} (done : Result A F) {P Q : Type 0} → (P → Q) → OnOk done P → OnOk done Q
 on_ok (Ok x) f p = f p
 on_ok (Err e) f p = tt
 
-half_of : (i row : ℕ) (part : Place) → 0 < part.row → row ≡ part.row - 1 → i / 2 ^ part.row ≡ i / 2 ^ row / 2
+pub half_of : (i row : ℕ) (part : Place) → 0 < part.row → row ≡ part.row - 1 → i / 2 ^ part.row ≡ i / 2 ^ row / 2
 half_of i row part some is =
     let e : part.row ≡ suc row = omega (arith, some, is) in
     ap (λ r. i / 2 ^ r) e ∙ parts-suc i row
@@ -35,7 +35,7 @@ module _ (es : List (Option Digest)) (ts : List Place) (all : List ℕ) (at : St
   alive : (i : ℕ) → is_spent all i ≡ true → (d : Digest) × (get_or es i None ≡ Some d)
   alive i h = let w = place_at es ts all i at h in (w.2, (found_where_it_stands es i w.2 (record { row = w.0; off = w.1 }) w.3).0)
 
-  in_part : (part q : Place) (numbers : List ℕ) (i : ℕ) → AreOfPart es ts all part q numbers → is_spent numbers i ≡ true → (is_spent all i ≡ true) × (i / 2 ^ part.row ≡ part.off)
+  pub in_part : (part q : Place) (numbers : List ℕ) (i : ℕ) → AreOfPart es ts all part q numbers → is_spent numbers i ≡ true → (is_spent all i ≡ true) × (i / 2 ^ part.row ≡ part.off)
   in_part part q numbers i w h =
       let both = spent_filter (λ j. j / 2 ^ part.row == part.off) all i (ap (λ xs. is_spent xs i) (sym w.are) ∙ h) in
       (both.0, eqb-true _ _ both.1)
@@ -205,7 +205,14 @@ module _ (es : List (Option Digest)) (ts : List Place) (all : List ℕ) (at : St
     way_both H x old mid new stands has one two =
         let its = in_part part q numbers x w has in
         let c = covered es ts all at part.row part.off q x stands its.0 its.1 in
-        more_halves H es ts q under beside old mid new c.0 a.high a.under_row a.under_off a.beside_row a.beside_off c.1 one two
+        more_halves H es ts q under beside c.0 a.high a.under_row a.under_off a.beside_row a.beside_off c.1 old mid new one two
+
+    -- the same where the right half is noted first, and each row has something of one half at most
+    pub way_across : (H : List ℕ → Digest) (x : ℕ) (old mid new : List (List Sibling)) → tree_at es q.row q.off ≡ content es part.row part.off → is_spent numbers x ≡ true → ((row : ℕ) → (beneath H es ts under row ≡ []) ⊎ (beneath H es ts beside row ≡ [])) → AreMore H es ts beside old mid → AreMore H es ts under mid new → AreMore H es ts q old new
+    way_across H x old mid new stands has apart two one =
+        let its = in_part part q numbers x w has in
+        let c = covered es ts all at part.row part.off q x stands its.0 its.1 in
+        more_across H es ts q under beside c.0 a.high a.under_row a.under_off a.beside_row a.beside_off c.1 old mid new apart two one
 
 pub some_number : (xs : List ℕ) → (length xs ≡ 0 → ⊥) → (x : ℕ) × (is_spent xs x ≡ true)
 some_number [] some = absurd (some refl)

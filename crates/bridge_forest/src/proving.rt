@@ -15,7 +15,9 @@ ghost use Rattle.bridge_forest.specs.State.{is_live};
 use crate::arena::part_in;
 use crate::branch::Sibling;
 use crate::parts::Parts;
-use forest_place::{Place, children};
+use crate::seek::child;
+use forest_place::{Place, children, sibling};
+use smallvec::SmallVec;
 use std::alloc::{AllocError, Global};
 use std::marker::Model;
 use uo_digest::{Digest, Digester};
@@ -23,10 +25,10 @@ use uo_digest::{Digest, Digester};
 /// So many rows has a forest at most.
 const ROWS: usize = 40;
 
-/// Digests that stand in one row.
+/// Digests that stand in one row. One or two lie in it, so that a block which spends little asks for no memory row by row.
 #[derive(Drop)]
 pub(crate) struct Row {
-    list: Vec<Sibling>,
+    list: SmallVec<Sibling, 2>,
 }
 
 impl Model for Row {
@@ -43,9 +45,9 @@ impl Row {
     fn with_room(alloc: Global, room: usize) -> Result<Self, AllocError>
         ensures { IfOk result (λ row. row ≡ []) }
     {
-        Ok(Row {
-            list: Vec::with_capacity(alloc, room)?,
-        })
+        let mut list = SmallVec::new(alloc);
+        list.reserve(room)?;
+        Ok(Row { list })
     }
 
     fn push(&mut self, sibling: Sibling) -> Result<(), AllocError>
@@ -59,7 +61,7 @@ impl Row {
     fn as_slice(&self) -> &[Sibling]
         ensures { result.now ≡ self.now }
     {
-        &self.list
+        self.list.as_slice()
     }
 }
 
@@ -119,6 +121,47 @@ fn note<D: Digester>(
     }
 }
 
+// Goes down from a part to one entry, and does what `descend` does for that one, in a loop: on the way to one entry no read waits for another.
+fn descend_to<D: Digester>(
+    entries: &[Option<Digest>],
+    parts: &Parts,
+    part: Place,
+    place: Place,
+    number: u64,
+    rows: &mut Vec<Row>,
+) -> Result<(), AllocError>
+    requires small { length entries.now < 2 ^ 40 }
+    requires room { length entries.now ≤ length parts.now.low }
+    requires right { AreParts D.digest_of (length entries.now) entries.now parts.now }
+    requires within { InForest (length entries.now) part.row part.off }
+    requires stands { tree_at entries.now place.row place.off ≡ content entries.now part.row part.off }
+    requires there { InForest (length entries.now) place.row place.off }
+    requires forty { length rows.old.items ≡ 40 }
+    ensures forty { length rows.new.items ≡ 40 }
+    ensures noted { OnOk result ((ts : List Place) (all : List ℕ) → StandAt entries.now ts all → AreOfPart entries.now ts all part place (number ∷ []) → AreMore D.digest_of entries.now ts place rows.old.items rows.new.items) }
+{
+    let n = entries.len() as u64;
+    let mut at = part;
+    let mut above = place;
+    'way: while at.row > 0 {
+        let half = child(at, number >> (at.row - 1));
+        let other = sibling(half);
+        match part_in(entries, parts, n, half.row, half.off) {
+            None => at = other,
+            Some(_) => match part_in(entries, parts, n, other.row, other.off) {
+                None => at = half,
+                Some(_) => {
+                    let below = child(above, half.off);
+                    note::<D>(entries, parts, other, sibling(below), rows)?;
+                    at = half;
+                    above = below;
+                }
+            },
+        }
+    }
+    Ok(())
+}
+
 // Goes down from a part, which has these entries and whose tree stands at this place, to the entries, and notes what is beside the way.
 fn descend<D: Digester>(
     entries: &[Option<Digest>],
@@ -143,6 +186,9 @@ fn descend<D: Digester>(
 {
     if numbers.is_empty() {
         return note::<D>(entries, parts, part, place, rows);
+    }
+    if numbers.len() == 1 {
+        return descend_to::<D>(entries, parts, part, place, numbers[0], rows);
     }
     if part.row == 0 {
         return Ok(());

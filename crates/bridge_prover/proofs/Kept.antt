@@ -1,7 +1,7 @@
 -- Where live entries stand: places that have shape.
 use Rattle.std.proofs.Common.{◌≡◌, ℕ, suc, ◌+◌, ◌-◌, ◌/◌, ◌^◌, ◌<◌, Bool, true, false, cond, List, [], ◌∷◌, ◌++◌, map, length, take, get_or, Option, Some, None, Result, Ok, Err, IfOk, refl, sym, ap, ap₂, ◌∙◌, subst, arith, ⊎_elim}
 use Rattle.std.specs.Prelude.{nat_lt, ◌==◌, option_map, unwrap_or, is_some}
-use Rattle.std.specs.List.{AllByRecursion, filter}
+use Rattle.std.specs.List.{AllByRecursion, filter, cons_option}
 use Rattle.std.proofs.lemmas.List.{take_more}
 use Rattle.std.proofs.lemmas.List.Elements.{filter-append}
 use Rattle.std.proofs.lemmas.Bool.{false≢true, or_cases, and_parts, false_from_ne_true, ltb-true, eqb-true}
@@ -45,7 +45,7 @@ module _ (es : List (Option Digest)) where
 
   -- the places of one entry and of others
   placed : (n : ℕ) (ns : List ℕ) (w : Stands n) → places_in es (n ∷ ns) ≡ w.place ∷ places_in es ns
-  placed n ns w = ap (λ x. somes (x ∷ map (entry_place es) ns)) w.found
+  placed n ns w = ap (λ x. cons_option x (places_in es ns)) w.found
 
   -- ---- their positions
 

@@ -9,12 +9,13 @@ use Rattle.uo_digest.specs.declared.digest.Digest.{Digest}
 use Rattle.forest_place.specs.declared.place.Place.{Place}
 use Rattle.forest_place.specs.Forest.{is_root, sibling_off}
 use Rattle.forest_model.specs.Cover.{HasShape, cover, cover_of_halves, need}
+use Rattle.forest_model.specs.EntryPlace.{entry_place}
 use Rattle.forest_model.specs.Evaluation.{asked}
 use Rattle.forest_model.specs.Right.{entries}
 use Rattle.forest_model.specs.Standing.{digest_at}
 use Rattle.leaf_record.specs.Leaf.{Leaf}
 use Rattle.leaf_record.specs.History.{History, somes}
-use Rattle.cache_model.specs.Known.{is_known, kept_places}
+use Rattle.cache_model.specs.Known.{is_known, kept, kept_places}
 use Rattle.cache_model.specs.Cache.{held}
 use Rattle.cache_model.specs.Lists.{kept_leaves, IsCacheOf}
 use Rattle.cache_model.proofs.Histories.{known_is, is_ordered}
@@ -34,6 +35,7 @@ use Rattle.bridge_prover.specs.Judged.{proof_beside}
 use Rattle.bridge_prover.specs.Laws.{KnownIsOwn}
 use Rattle.bridge_prover.specs.Standing.{IsBridge, Stands}
 use Rattle.bridge_prover.specs.Watched.{scripts_of, noted_in, kept_in, places_in, known_list, known_in}
+use Rattle.bridge_prover.proofs.Gathering.{somes-found}
 use Rattle.bridge_prover.proofs.Kept.{kept_shape}
 use Rattle.bridge_prover.proofs.Noting.{kept_same, kept_rise, kept_live, kept-live}
 use Rattle.bridge_prover.proofs.Rising.{all_mapped}
@@ -45,7 +47,7 @@ module _ (H : List ℕ → Digest) (text : Leaf → List ℕ) (hs : List Held) (
   long = length-map us (option_map (λ r. H (text r)))
 
   places_same : (scripts : List (List ℕ)) → places_in (entries H text us) (kept_in scripts hs) ≡ kept_places H text scripts us
-  places_same scripts = ap (places_in (entries H text us)) (kept_same scripts hs us index)
+  places_same scripts = ap (places_in (entries H text us)) (kept_same scripts hs us index) ∙ somes-found (entry_place (entries H text us)) (kept scripts us)
 
   pub known_same : (watch : Option (List (List ℕ))) → known_in H watch (entries H text us) hs ≡ known_for H text watch us
   known_same None = refl

@@ -1,14 +1,14 @@
 -- What a message shows.
-use Rattle.std.proofs.Common.{◌≡◌, ℕ, zero, suc, ◌+◌, ◌*◌, ◌<◌, Bool, true, false, List, [], ◌∷◌, ◌++◌, map, length, take, get_or, All, Option, Some, None, refl, sym, ap, ap₂, ◌∙◌, subst}
+use Rattle.std.proofs.Common.{◌≡◌, ℕ, zero, suc, ◌+◌, ◌*◌, ◌<◌, Bool, true, false, List, [], ◌∷◌, ◌++◌, map, length, take, get_or, All, Option, Some, None, refl, sym, ap, ap₂, ◌∙◌, subst, arith}
 use Rattle.std.specs.Prelude.{◌==◌, ◌&&◌, option_map, is_some, not, IsSome, if◌then◌else◌}
 use Rattle.std.specs.List.{AllByRecursion, filter, filter_map}
 use Rattle.std.specs.List.Sorted.{IsPermutation}
 use Rattle.std.proofs.Math.Path.{fun_ext}
-use Rattle.std.proofs.lemmas.List.{get_or-map, take_more}
+use Rattle.std.proofs.lemmas.List.{get_or-map, length-map, take_more}
 use Rattle.std.proofs.lemmas.List.Elements.{filter-append, All-from_recursion, recursion_from_All}
 use Rattle.std.proofs.lemmas.List.Sorted.{All-permutation, list_any-IsPermutation}
 use Rattle.std.proofs.lemmas.Bool.{false≢true}
-use Rattle.std.proofs.lemmas.Option.{none-some}
+use Rattle.std.proofs.lemmas.Option.{none-some, same_Some}
 use Rattle.uo_digest.specs.declared.digest.Digest.{Digest}
 use Rattle.forest_place.specs.declared.place.Place.{Place}
 use Rattle.forest_place.specs.Forest.{InForest, is_root, sibling_off}
@@ -65,6 +65,18 @@ no_fault n numbers (Shape.Beneath i j) passes fault other = none-some _ (sym pas
 no_fault n numbers Shape.NoMemory passes fault other = false≢true other
 
 -- ---- the spends
+
+pub placed_within : (es : List (Option Digest)) (n i : ℕ) (place : Place) → n ≡ length es → is_live es i ≡ true → entry_place es i ≡ Some place → InForest n place.row place.off
+placed_within es n i place count live there =
+    let d = some_from_test (get_or es i None) live in
+    let found = entry_found es i d.0 d.1 in
+    let same : found.0 ≡ place = same_Some found.0 place (sym found.1 ∙ there) in
+    subst (λ m. InForest m place.row place.off) (sym count) (subst (λ (p : Place). InForest (length es) p.row p.off) same (tree_at-forest es found.0.row found.0.off _ found.2))
+
+pub placed_at : (es : List (Option Digest)) (numbers : List ℕ) (places : List Place) (i : ℕ) (place : Place) → map Some places ≡ map (entry_place es) numbers → i < length numbers → place ≡ get_or places i place → entry_place es (get_or numbers i 0) ≡ Some place
+placed_at es numbers places i place are lt is =
+    let long : length places ≡ length numbers = sym (length-map places Some) ∙ (ap length are ∙ length-map numbers (entry_place es)) in
+    sym (get_or-map (entry_place es) numbers i 0 None lt) ∙ (ap (λ xs. get_or xs i None) (sym are) ∙ (get_or-map Some places i place None (omega (arith, lt, long)) ∙ ap Some (sym is)))
 
 pub shown_more : (es : List (Option Digest)) (hs : List Held) (lean : Bool) (numbers : List ℕ) (i : ℕ) (old new : Message) → i < length numbers → old ≡ record { lean = lean; proof = record { spends = spends_by es hs (take i numbers); hashes = [] } } →
     new ≡ record { lean = old.lean; proof = record { spends = old.proof.spends ++ spends_by es hs (get_or numbers i 0 ∷ []); hashes = old.proof.hashes } } → new ≡ record { lean = lean; proof = record { spends = spends_by es hs (take (i + 1) numbers); hashes = [] } }

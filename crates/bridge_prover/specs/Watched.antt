@@ -4,12 +4,12 @@ use Rattle.std.specs.List.{filter}
 use Rattle.uo_digest.specs.declared.digest.Digest.{Digest}
 use Rattle.forest_place.specs.declared.place.Place.{Place}
 use Rattle.forest_model.specs.Standing.{digest_at}
-use Rattle.forest_model.specs.EntryPlace.{entry_place}
 use Rattle.forest_model.specs.Evaluation.{nothing_known}
-use Rattle.leaf_record.specs.History.{somes}
 use Rattle.cache_model.specs.Known.{is_watched, is_known}
 use Rattle.cache_model.specs.Cache.{held}
 use Rattle.output_index.specs.Held.{Held}
+-- where entries stand
+pub use Rattle.bridge_forest.specs.Proving.{places_of as places_in}
 
 -- one without a list counts here as one with the empty list
 abbrev pub scripts_of : Option (List (List ℕ)) → List (List ℕ)
@@ -25,10 +25,6 @@ noted_in scripts hs = map (λ h. h.number) (filter (is_noted scripts) hs)
 
 abbrev pub kept_in : List (List ℕ) → List Held → List ℕ
 kept_in scripts hs = map (λ h. h.number) (filter (λ h. h.live && is_noted scripts h) hs)
-
--- where entries stand
-abbrev pub places_in : List (Option Digest) → List ℕ → List Place
-places_in es numbers = somes (map (entry_place es) numbers)
 
 -- the known places with the digests that stand there, ascending by row and then by offset
 abbrev pub known_list : (List ℕ → Digest) → List (List ℕ) → List (Option Digest) → List Held → List (Place × Digest)

@@ -3,6 +3,7 @@ ghost use Rattle.std.specs.Prelude.{◌≡◌, ℕ, ◌<◌, ◌^◌, ◌++◌, 
 ghost use Rattle.std.specs.List.Sorted.{IsNonDecreasing, IsPermutation};
 ghost use Rattle.forest_place.specs.Forest.{InForest};
 ghost use Rattle.forest_place.specs.Position.{place_at};
+ghost use Rattle.forest_model.specs.EntryPlace.{entry_place};
 ghost use Rattle.node_rules.specs.Accepting.{shape_fault};
 ghost use Rattle.cache_model.specs.Known.{is_known as is_known_of};
 ghost use Rattle.bridge_forest.specs.State.{is_live};
@@ -28,18 +29,20 @@ pub(crate) fn target<D: Digester>(forest: &Forest<D>, number: u64) -> u64
     position(forest.place(number), forest.leaves())
 }
 
-// Shows an entry, if it is held.
+// Shows an entry that stands at this place, if it is held.
 fn put_spend<D: Digester>(
     message: &mut Message,
     forest: &Forest<D>,
     outputs: &Outputs,
     number: u64,
+    place: Place,
 ) -> Result<(), NoMemory>
-    requires { is_live forest.now.entries number ≡ true }
+    requires live { is_live forest.now.entries number ≡ true }
+    requires place { entry_place forest.now.entries number ≡ Some place }
     ensures { OnOk result (message.new ≡ record { lean = message.old.lean; proof = record { spends = message.old.proof.spends ++ spends_by forest.now.entries outputs.now (number ∷ []); hashes = message.old.proof.hashes } }) }
 {
     match outputs.output(number) {
-        Some(leaf) => message.push_spend(target(forest, number), &leaf.rest())?,
+        Some(leaf) => message.push_spend(position(place, forest.leaves()), &leaf.rest())?,
         None => {}
     }
     Ok(())
@@ -113,11 +116,12 @@ pub(crate) fn message_of<D: Digester>(
     requires rise { IsNonDecreasing spent.now }
     ensures { IfOk result (λ m. m ≡ record { lean = lean; proof = proof_beside D.digest_of kept.now.targets forest.now.entries outputs.now numbers.now }) }
 {
-    let mut message = Message::new(alloc, lean);
-    for number in numbers {
-        put_spend::<D>(&mut message, forest, outputs, *number)?;
-    }
+    let places = forest.places(alloc, numbers)?;
     let proof = forest.proof_of(alloc, spent)?;
+    let mut message = Message::with_room(alloc, lean, numbers.len(), proof.len())?;
+    for i in 0..numbers.len() {
+        put_spend::<D>(&mut message, forest, outputs, numbers[i], places[i])?;
+    }
     for sibling in &proof {
         put_hash(&mut message, kept, sibling)?;
     }

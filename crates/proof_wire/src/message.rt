@@ -1,5 +1,5 @@
 //! Making a message.
-ghost use Rattle.std.specs.Prelude.{◌≡◌, ◌<◌, ◌^◌, ◌∷◌, ◌++◌, [], length, OnOk, OnErr};
+ghost use Rattle.std.specs.Prelude.{◌≡◌, ◌<◌, ◌^◌, ◌∷◌, ◌++◌, [], length, IfOk, OnOk, OnErr};
 ghost use Rattle.std.specs.Int.{w64, to_le_bytes};
 ghost use Rattle.uo_base.specs.Moved.{Grew};
 ghost use Rattle.uo_base.specs.Reading.{OneReading};
@@ -45,6 +45,23 @@ impl Message {
             rests: Vec::new(alloc),
             hashes: Vec::new(alloc),
         }
+    }
+
+    /// The same, with room for so many spends with usual scripts, and for so many hashes.
+    pub fn with_room(
+        alloc: Global,
+        lean: bool,
+        spends: usize,
+        hashes: usize,
+    ) -> Result<Message, NoMemory>
+        ensures { IfOk result (λ m. m ≡ record { lean = lean; proof = record { spends = []; hashes = [] } }) }
+    {
+        Ok(Message {
+            lean,
+            targets: Vec::with_capacity(alloc, spends)?,
+            rests: Vec::with_capacity(alloc, spends.saturating_mul(REST_ROOM))?,
+            hashes: Vec::with_capacity(alloc, hashes)?,
+        })
     }
 
     /// One more spend: the position of its leaf in the forest before the block, and its rest.
@@ -98,6 +115,9 @@ impl Message {
         }
     }
 }
+
+/// Bytes of a rest: hash, height, amount, and a script of 34 bytes, the longest of the usual ones, behind its length.
+const REST_ROOM: usize = 32 + 4 + 8 + 1 + 34;
 
 /// Room for version and kind, and for two counts in their longest form.
 const FIXED_ROOM: usize = 2 + 2 * 9;

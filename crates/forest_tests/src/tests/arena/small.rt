@@ -199,7 +199,8 @@ fn siblings_of(
     Ok(siblings)
 }
 
-// Whether what proves the live ones among the entries whose bits are set is what the plain forest has beside their ways up.
+// Whether the live ones among the entries whose bits are set stand where the plain forest has them, and what proves them is what it has
+// beside their ways up.
 fn check_proof<D: Digester>(
     rt: &impl Abort,
     alloc: Global,
@@ -209,9 +210,11 @@ fn check_proof<D: Digester>(
     places: &[Place],
 ) -> Result<(), AllocError> {
     let numbers = live_among(alloc, forest, bits)?;
-    let mut targets = Vec::new(alloc);
-    for i in 0..numbers.len() {
-        targets.push(forest.place(numbers[i]))?;
+    let Ok(targets) = forest.places(alloc, &numbers) else {
+        panic!(rt; "no memory")
+    };
+    for (place, number) in targets.iter().zip(numbers.iter()) {
+        assert!(rt; number_at(nodes, *place) == Some(*number));
     }
     let expected = siblings_of(alloc, forest.leaves(), nodes, &targets, places)?;
     let Ok(proof) = forest.proof_of(alloc, &numbers) else {
