@@ -17,6 +17,7 @@ use Rattle.forest_model.proofs.Deleting.{is_spent, place_at}
 use Rattle.forest_model.proofs.Living.{found_where_it_stands, content_none_iff}
 use Rattle.bridge_forest.specs.declared.branch.Sibling.{Sibling}
 use Rattle.bridge_forest.specs.Proving.{beneath, AreMore, AreOfPart}
+use Rattle.bridge_forest.proofs.Seeking.{within_left, within_right}
 use Rattle.bridge_forest.proofs.Parting.{filter_alike, filter_twice, filter_spent, spent_filter, head_spent, none_spent}
 use Rattle.bridge_forest.proofs.Beneath.{beneath_nothing, covered_top, more_halves, more_across}
 use Rattle.bridge_forest.proofs.Covering.{covered, uncovered, uncovered_under}
@@ -29,6 +30,26 @@ pub half_of : (i row : ℕ) (part : Place) → 0 < part.row → row ≡ part.row
 half_of i row part some is =
     let e : part.row ≡ suc row = omega (arith, some, is) in
     ap (λ r. i / 2 ^ r) e ∙ parts-suc i row
+
+-- the halves of a part of the forest
+pub record AreHalves (n : ℕ) (part left right : Place) : Type 0 where
+  pub some : 0 < part.row
+  pub left_row : left.row ≡ part.row - 1
+  pub right_row : right.row ≡ part.row - 1
+  pub left_within : InForest n left.row left.off
+  pub right_within : InForest n right.row right.off
+
+pub are_halves : (n : ℕ) (part left right : Place) → 0 < part.row → InForest n part.row part.off → (left.row + 1 ≡ part.row) × (right.row + 1 ≡ part.row) → left.off ≡ 2 * part.off → right.off ≡ 2 * part.off + 1 → AreHalves n part left right
+are_halves n part left right some within rows left_off right_off =
+    let low : left.row ≡ part.row - 1 = omega (arith, rows.0) in
+    let high : right.row ≡ part.row - 1 = omega (arith, rows.1) in
+    record {
+      some = some;
+      left_row = low;
+      right_row = high;
+      left_within = rw (low, left_off) (within_left n part.row part.off some within);
+      right_within = rw (high, right_off) (within_right n part.row part.off some within);
+    }
 
 module _ (es : List (Option Digest)) (ts : List Place) (all : List ℕ) (at : StandAt es ts all) where
   -- each of all entries is live

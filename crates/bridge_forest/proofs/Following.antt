@@ -1,6 +1,6 @@
 -- The way down to one entry, as a loop: at each part what is noted later, with what was noted so far, is what is beneath the first place.
-use Rattle.std.proofs.Common.{◌≡◌, ◌≢◌, ℕ, ◌+◌, ◌-◌, ◌*◌, ◌/◌, ◌%◌, ◌^◌, ◌<◌, ◌≤◌, true, false, List, [], ◌∷◌, ◌++◌, length, Option, Some, None, refl, sym, ap, ap₂, ◌∙◌, subst, ⊎_elim, ◌⊎◌, inl, inr, arith}
-use Rattle.std.specs.Prelude.{not, nat_le, filter}
+use Rattle.std.proofs.Common.{◌≡◌, ◌≢◌, ℕ, ◌+◌, ◌-◌, ◌*◌, ◌/◌, ◌%◌, ◌^◌, ◌<◌, true, false, List, [], ◌∷◌, ◌++◌, length, Option, Some, None, refl, sym, ap, ap₂, ◌∙◌, subst, ⊎_elim, ◌⊎◌, inl, inr, arith}
+use Rattle.std.specs.Prelude.{nat_le}
 use Rattle.std.specs.List.{filter_map}
 use Rattle.std.proofs.lemmas.Bool.{le-leb, lt-leb, cases_lt}
 use Rattle.uo_digest.specs.declared.digest.Digest.{Digest}
@@ -14,7 +14,7 @@ use Rattle.forest_model.proofs.Deleting.{is_spent}
 use Rattle.bridge_forest.specs.declared.branch.Sibling.{Sibling}
 use Rattle.bridge_forest.specs.Parts.{PartLists, AreParts, kept}
 use Rattle.bridge_forest.specs.Proving.{standing, beneath, list_of, AreMore, AreOfPart}
-use Rattle.bridge_forest.proofs.Seeking.{within_left, within_right, alike, tree_none}
+use Rattle.bridge_forest.proofs.Seeking.{within_left, within_right, alike}
 use Rattle.bridge_forest.proofs.Noting.{stands_left, stands_right, stand_both}
 use Rattle.bridge_forest.proofs.Parting.{head_spent}
 use Rattle.bridge_forest.proofs.Beneath.{beneath_above, covered_top, more_nothing, more_one, by_order}

@@ -25,10 +25,13 @@ use uo_digest::{Digest, Digester};
 /// So many rows has a forest at most.
 const ROWS: usize = 40;
 
-/// Digests that stand in one row. One or two lie in it, so that a block which spends little asks for no memory row by row.
+/// So many digests lie in a row itself.
+const IN_ROW: usize = 2;
+
+/// Digests that stand in one row. The first two lie in it, so that a block which spends little asks for no memory row by row.
 #[derive(Drop)]
 pub(crate) struct Row {
-    list: SmallVec<Sibling, 2>,
+    list: SmallVec<Sibling, IN_ROW>,
 }
 
 impl Model for Row {
@@ -46,7 +49,9 @@ impl Row {
         ensures { IfOk result (λ row. row ≡ []) }
     {
         let mut list = SmallVec::new(alloc);
-        list.reserve(room)?;
+        if room > IN_ROW {
+            list.reserve(room)?;
+        }
         Ok(Row { list })
     }
 
@@ -267,7 +272,9 @@ fn rows_of<D: Digester>(
 }
 
 // How many digests all rows have.
-fn count_of(rows: &[Row]) -> usize {
+fn count_of(rows: &[Row]) -> usize
+    ensures { length (flat_map (λ row. row) rows.now) < 2 ^ 64 → result ≡ length (flat_map (λ row. row) rows.now) }
+{
     let mut count: usize = 0;
     for row in rows {
         count = count.saturating_add(row.as_slice().len());

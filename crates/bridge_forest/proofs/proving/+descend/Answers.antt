@@ -1,4 +1,4 @@
-use Rattle.std.proofs.Common.{◌≡◌, ◌+◌, ◌-◌, ◌*◌, ◌<◌, [], length, Some, None, sym, ap, ap₂, ◌∙◌, subst, arith, eq-eqb}
+use Rattle.std.proofs.Common.{◌≡◌, ◌+◌, ◌-◌, ◌*◌, [], length, Some, None, sym, ap, ap₂, ◌∙◌, subst, arith, eq-eqb}
 use Rattle.std.specs.List.Sorted.{IsNonDecreasing}
 use Rattle.std.proofs.lemmas.Bool.{eqb-true, true≢false}
 use Rattle.std.proofs.lemmas.List.{nil_from_length}
@@ -12,7 +12,7 @@ use Rattle.bridge_forest.proofs.Seeking.{within_left, within_right, alike, tree_
 use Rattle.bridge_forest.proofs.Ascending.{off-below}
 use Rattle.bridge_forest.proofs.Noting.{stands_left, stands_right, stand_both}
 use Rattle.bridge_forest.proofs.Beneath.{more_nothing, more_one}
-use Rattle.bridge_forest.proofs.Descending.{on_ok, some_number, way_none, way_one, way_left, way_right, AreHalved, way_low, way_high, way_both}
+use Rattle.bridge_forest.proofs.Descending.{on_ok, are_halves, some_number, way_none, way_one, way_left, way_right, AreHalved, way_low, way_high, way_both}
 use Rattle.bridge_forest.proofs.proving.+descend.Goals as goal
 
 pub returns-then-is_empty-clause-noted : goal.returns-then-is_empty-clause-noted
@@ -33,31 +33,17 @@ returns-then-part-eq0-clause-noted g t c =
 
 pub part_in-requires-clause-within : goal.part_in-requires-clause-within
 part_in-requires-clause-within g t c =
-    let H = g.D.Digester.digest_of in
     let es = c.args.entries.now in
-    let parts = c.args.parts.now in
     let p = c.args.part in
-    let q = c.args.place in
-    let some : 0 < p.row = omega (arith, c.if-part-eq0.false) in
-    let low : c.children.result.0.row ≡ p.row - 1 = omega (arith, c.children.ensures.rows.0, some) in
-    let high : c.children.result.1.row ≡ p.row - 1 = omega (arith, c.children.ensures.rows.1, some) in
-    let within_low : InForest (length es) c.children.result.0.row c.children.result.0.off = rw (low, c.children.ensures.left) (within_left (length es) p.row p.off some c.requires.within) in
-    let within_high : InForest (length es) c.children.result.1.row c.children.result.1.off = rw (high, c.children.ensures.right) (within_right (length es) p.row p.off some c.requires.within) in
-    within_low
+    let halves = are_halves (length es) p c.children.result.0 c.children.result.1 (omega (arith, c.if-part-eq0.false)) c.requires.within c.children.ensures.rows c.children.ensures.left c.children.ensures.right in
+    halves.left_within
 
 pub part_in-requires-in-Some-clause-within : goal.part_in-requires-in-Some-clause-within
 part_in-requires-in-Some-clause-within g t c =
-    let H = g.D.Digester.digest_of in
     let es = c.args.entries.now in
-    let parts = c.args.parts.now in
     let p = c.args.part in
-    let q = c.args.place in
-    let some : 0 < p.row = omega (arith, c.if-part-eq0.false) in
-    let low : c.children.result.0.row ≡ p.row - 1 = omega (arith, c.children.ensures.rows.0, some) in
-    let high : c.children.result.1.row ≡ p.row - 1 = omega (arith, c.children.ensures.rows.1, some) in
-    let within_low : InForest (length es) c.children.result.0.row c.children.result.0.off = rw (low, c.children.ensures.left) (within_left (length es) p.row p.off some c.requires.within) in
-    let within_high : InForest (length es) c.children.result.1.row c.children.result.1.off = rw (high, c.children.ensures.right) (within_right (length es) p.row p.off some c.requires.within) in
-    within_high
+    let halves = are_halves (length es) p c.children.result.0 c.children.result.1 (omega (arith, c.if-part-eq0.false)) c.requires.within c.children.ensures.rows c.children.ensures.left c.children.ensures.right in
+    halves.right_within
 
 pub descend-requires : goal.descend-requires
 descend-requires g t c κs within =
@@ -66,14 +52,10 @@ descend-requires g t c κs within =
     let parts = c.args.parts.now in
     let p = c.args.part in
     let q = c.args.place in
-    let some : 0 < p.row = omega (arith, c.if-part-eq0.false) in
-    let low : c.children.result.0.row ≡ p.row - 1 = omega (arith, c.children.ensures.rows.0, some) in
-    let high : c.children.result.1.row ≡ p.row - 1 = omega (arith, c.children.ensures.rows.1, some) in
-    let within_low : InForest (length es) c.children.result.0.row c.children.result.0.off = rw (low, c.children.ensures.left) (within_left (length es) p.row p.off some c.requires.within) in
-    let within_high : InForest (length es) c.children.result.1.row c.children.result.1.off = rw (high, c.children.ensures.right) (within_right (length es) p.row p.off some c.requires.within) in
-    let none : None ≡ kept es parts (p.row - 1) (2 * p.off) = sym c.in-None.is ∙ (c.part_in.ensures ∙ ap₂ (kept es parts) low c.children.ensures.left) in
-    let stands : tree_at es q.row q.off ≡ content es c.children.result.1.row c.children.result.1.off = rw (high, c.children.ensures.right) (stands_right H es parts c.requires.right p.row p.off q some c.requires.within c.requires.stands none) in
-    (omega (arith, c.decreases, high, some), (within.0, (within.1, (c.requires.small, (c.requires.room, (c.requires.right, (within_high, (stands, (c.requires.there, (c.requires.rise, c.requires.forty))))))))))
+    let halves = are_halves (length es) p c.children.result.0 c.children.result.1 (omega (arith, c.if-part-eq0.false)) c.requires.within c.children.ensures.rows c.children.ensures.left c.children.ensures.right in
+    let none : None ≡ kept es parts (p.row - 1) (2 * p.off) = sym c.in-None.is ∙ (c.part_in.ensures ∙ ap₂ (kept es parts) halves.left_row c.children.ensures.left) in
+    let stands : tree_at es q.row q.off ≡ content es c.children.result.1.row c.children.result.1.off = rw (halves.right_row, c.children.ensures.right) (stands_right H es parts c.requires.right p.row p.off q halves.some c.requires.within c.requires.stands none) in
+    (omega (arith, c.decreases, halves.right_row, halves.some), (within.0, (within.1, (c.requires.small, (c.requires.room, (c.requires.right, (halves.right_within, (stands, (c.requires.there, (c.requires.rise, c.requires.forty))))))))))
 
 pub descend-requires-in-None-part_in : goal.descend-requires-in-None-part_in
 descend-requires-in-None-part_in g t c κs within =
@@ -82,14 +64,10 @@ descend-requires-in-None-part_in g t c κs within =
     let parts = c.args.parts.now in
     let p = c.args.part in
     let q = c.args.place in
-    let some : 0 < p.row = omega (arith, c.if-part-eq0.false) in
-    let low : c.children.result.0.row ≡ p.row - 1 = omega (arith, c.children.ensures.rows.0, some) in
-    let high : c.children.result.1.row ≡ p.row - 1 = omega (arith, c.children.ensures.rows.1, some) in
-    let within_low : InForest (length es) c.children.result.0.row c.children.result.0.off = rw (low, c.children.ensures.left) (within_left (length es) p.row p.off some c.requires.within) in
-    let within_high : InForest (length es) c.children.result.1.row c.children.result.1.off = rw (high, c.children.ensures.right) (within_right (length es) p.row p.off some c.requires.within) in
-    let none : None ≡ kept es parts (p.row - 1) (2 * p.off + 1) = sym c.in-None-part_in.is ∙ (c.part_in-in-Some.ensures ∙ ap₂ (kept es parts) high c.children.ensures.right) in
-    let stands : tree_at es q.row q.off ≡ content es c.children.result.0.row c.children.result.0.off = rw (low, c.children.ensures.left) (stands_left H es parts c.requires.right p.row p.off q some c.requires.within c.requires.stands none) in
-    (omega (arith, c.decreases, low, some), (within.0, (within.1, (c.requires.small, (c.requires.room, (c.requires.right, (within_low, (stands, (c.requires.there, (c.requires.rise, c.requires.forty))))))))))
+    let halves = are_halves (length es) p c.children.result.0 c.children.result.1 (omega (arith, c.if-part-eq0.false)) c.requires.within c.children.ensures.rows c.children.ensures.left c.children.ensures.right in
+    let none : None ≡ kept es parts (p.row - 1) (2 * p.off + 1) = sym c.in-None-part_in.is ∙ (c.part_in-in-Some.ensures ∙ ap₂ (kept es parts) halves.right_row c.children.ensures.right) in
+    let stands : tree_at es q.row q.off ≡ content es c.children.result.0.row c.children.result.0.off = rw (halves.left_row, c.children.ensures.left) (stands_left H es parts c.requires.right p.row p.off q halves.some c.requires.within c.requires.stands none) in
+    (omega (arith, c.decreases, halves.left_row, halves.some), (within.0, (within.1, (c.requires.small, (c.requires.room, (c.requires.right, (halves.left_within, (stands, (c.requires.there, (c.requires.rise, c.requires.forty))))))))))
 
 pub returns-in-None-clause-noted : goal.returns-in-None-clause-noted
 returns-in-None-clause-noted g t c =
@@ -98,14 +76,10 @@ returns-in-None-clause-noted g t c =
     let parts = c.args.parts.now in
     let p = c.args.part in
     let q = c.args.place in
-    let some : 0 < p.row = omega (arith, c.if-part-eq0.false) in
-    let low : c.children.result.0.row ≡ p.row - 1 = omega (arith, c.children.ensures.rows.0, some) in
-    let high : c.children.result.1.row ≡ p.row - 1 = omega (arith, c.children.ensures.rows.1, some) in
-    let within_low : InForest (length es) c.children.result.0.row c.children.result.0.off = rw (low, c.children.ensures.left) (within_left (length es) p.row p.off some c.requires.within) in
-    let within_high : InForest (length es) c.children.result.1.row c.children.result.1.off = rw (high, c.children.ensures.right) (within_right (length es) p.row p.off some c.requires.within) in
-    let none : None ≡ kept es parts (p.row - 1) (2 * p.off) = sym c.in-None.is ∙ (c.part_in.ensures ∙ ap₂ (kept es parts) low c.children.ensures.left) in
-    let nothing : content es c.children.result.1.row (2 * p.off) ≡ None = ap (λ r. content es r (2 * p.off)) high ∙ tree_none es parts (alike H es parts c.requires.right) (p.row - 1) (2 * p.off) (within_left (length es) p.row p.off some c.requires.within) none in
-    on_ok c.descend.result (λ more ts all at w. more ts all at (way_right es ts all at p c.children.result.1 q c.args.numbers.now some high c.children.ensures.right nothing w)) c.descend.ensures.noted
+    let halves = are_halves (length es) p c.children.result.0 c.children.result.1 (omega (arith, c.if-part-eq0.false)) c.requires.within c.children.ensures.rows c.children.ensures.left c.children.ensures.right in
+    let none : None ≡ kept es parts (p.row - 1) (2 * p.off) = sym c.in-None.is ∙ (c.part_in.ensures ∙ ap₂ (kept es parts) halves.left_row c.children.ensures.left) in
+    let nothing : content es c.children.result.1.row (2 * p.off) ≡ None = ap (λ r. content es r (2 * p.off)) halves.right_row ∙ tree_none es parts (alike H es parts c.requires.right) (p.row - 1) (2 * p.off) (within_left (length es) p.row p.off halves.some c.requires.within) none in
+    on_ok c.descend.result (λ more ts all at w. more ts all at (way_right es ts all at p c.children.result.1 q c.args.numbers.now halves.some halves.right_row c.children.ensures.right nothing w)) c.descend.ensures.noted
 
 pub returns-in-None-part_in-clause-noted : goal.returns-in-None-part_in-clause-noted
 returns-in-None-part_in-clause-noted g t c =
@@ -114,28 +88,17 @@ returns-in-None-part_in-clause-noted g t c =
     let parts = c.args.parts.now in
     let p = c.args.part in
     let q = c.args.place in
-    let some : 0 < p.row = omega (arith, c.if-part-eq0.false) in
-    let low : c.children.result.0.row ≡ p.row - 1 = omega (arith, c.children.ensures.rows.0, some) in
-    let high : c.children.result.1.row ≡ p.row - 1 = omega (arith, c.children.ensures.rows.1, some) in
-    let within_low : InForest (length es) c.children.result.0.row c.children.result.0.off = rw (low, c.children.ensures.left) (within_left (length es) p.row p.off some c.requires.within) in
-    let within_high : InForest (length es) c.children.result.1.row c.children.result.1.off = rw (high, c.children.ensures.right) (within_right (length es) p.row p.off some c.requires.within) in
-    let none : None ≡ kept es parts (p.row - 1) (2 * p.off + 1) = sym c.in-None-part_in.is ∙ (c.part_in-in-Some.ensures ∙ ap₂ (kept es parts) high c.children.ensures.right) in
-    let nothing : content es c.children.result.0.row (2 * p.off + 1) ≡ None = ap (λ r. content es r (2 * p.off + 1)) low ∙ tree_none es parts (alike H es parts c.requires.right) (p.row - 1) (2 * p.off + 1) (within_right (length es) p.row p.off some c.requires.within) none in
-    on_ok c.descend-in-None-part_in.result (λ more ts all at w. more ts all at (way_left es ts all at p c.children.result.0 q c.args.numbers.now some low c.children.ensures.left nothing w)) c.descend-in-None-part_in.ensures.noted
+    let halves = are_halves (length es) p c.children.result.0 c.children.result.1 (omega (arith, c.if-part-eq0.false)) c.requires.within c.children.ensures.rows c.children.ensures.left c.children.ensures.right in
+    let none : None ≡ kept es parts (p.row - 1) (2 * p.off + 1) = sym c.in-None-part_in.is ∙ (c.part_in-in-Some.ensures ∙ ap₂ (kept es parts) halves.right_row c.children.ensures.right) in
+    let nothing : content es c.children.result.0.row (2 * p.off + 1) ≡ None = ap (λ r. content es r (2 * p.off + 1)) halves.left_row ∙ tree_none es parts (alike H es parts c.requires.right) (p.row - 1) (2 * p.off + 1) (within_right (length es) p.row p.off halves.some c.requires.within) none in
+    on_ok c.descend-in-None-part_in.result (λ more ts all at w. more ts all at (way_left es ts all at p c.children.result.0 q c.args.numbers.now halves.some halves.left_row c.children.ensures.left nothing w)) c.descend-in-None-part_in.ensures.noted
 
 pub count_upto-requires-clause-row : goal.count_upto-requires-clause-row
 count_upto-requires-clause-row g t c =
-    let H = g.D.Digester.digest_of in
     let es = c.args.entries.now in
-    let parts = c.args.parts.now in
     let p = c.args.part in
-    let q = c.args.place in
-    let some : 0 < p.row = omega (arith, c.if-part-eq0.false) in
-    let low : c.children.result.0.row ≡ p.row - 1 = omega (arith, c.children.ensures.rows.0, some) in
-    let high : c.children.result.1.row ≡ p.row - 1 = omega (arith, c.children.ensures.rows.1, some) in
-    let within_low : InForest (length es) c.children.result.0.row c.children.result.0.off = rw (low, c.children.ensures.left) (within_left (length es) p.row p.off some c.requires.within) in
-    let within_high : InForest (length es) c.children.result.1.row c.children.result.1.off = rw (high, c.children.ensures.right) (within_right (length es) p.row p.off some c.requires.within) in
-    row_small (length es) c.children.result.0.row c.children.result.0.off 40 within_low c.requires.small
+    let halves = are_halves (length es) p c.children.result.0 c.children.result.1 (omega (arith, c.if-part-eq0.false)) c.requires.within c.children.ensures.rows c.children.ensures.left c.children.ensures.right in
+    row_small (length es) c.children.result.0.row c.children.result.0.off 40 halves.left_within c.requires.small
 
 pub children-requires-in-Some-part_in-clause-row : goal.children-requires-in-Some-part_in-clause-row
 children-requires-in-Some-part_in-clause-row g t c =
@@ -144,15 +107,11 @@ children-requires-in-Some-part_in-clause-row g t c =
     let parts = c.args.parts.now in
     let p = c.args.part in
     let q = c.args.place in
-    let some : 0 < p.row = omega (arith, c.if-part-eq0.false) in
-    let low : c.children.result.0.row ≡ p.row - 1 = omega (arith, c.children.ensures.rows.0, some) in
-    let high : c.children.result.1.row ≡ p.row - 1 = omega (arith, c.children.ensures.rows.1, some) in
-    let within_low : InForest (length es) c.children.result.0.row c.children.result.0.off = rw (low, c.children.ensures.left) (within_left (length es) p.row p.off some c.requires.within) in
-    let within_high : InForest (length es) c.children.result.1.row c.children.result.1.off = rw (high, c.children.ensures.right) (within_right (length es) p.row p.off some c.requires.within) in
-    let left : Some c.in-Some.field-0 ≡ kept es parts (p.row - 1) (2 * p.off) = sym c.in-Some.is ∙ (c.part_in.ensures ∙ ap₂ (kept es parts) low c.children.ensures.left) in
-    let right : Some c.in-Some-part_in.field-0 ≡ kept es parts (p.row - 1) (2 * p.off + 1) = sym c.in-Some-part_in.is ∙ (c.part_in-in-Some.ensures ∙ ap₂ (kept es parts) high c.children.ensures.right) in
-    let halves = stand_both H es parts c.requires.right p.row p.off q c.in-Some.field-0 c.in-Some-part_in.field-0 some c.requires.within c.requires.stands left right in
-    halves.high
+    let halves = are_halves (length es) p c.children.result.0 c.children.result.1 (omega (arith, c.if-part-eq0.false)) c.requires.within c.children.ensures.rows c.children.ensures.left c.children.ensures.right in
+    let left : Some c.in-Some.field-0 ≡ kept es parts (p.row - 1) (2 * p.off) = sym c.in-Some.is ∙ (c.part_in.ensures ∙ ap₂ (kept es parts) halves.left_row c.children.ensures.left) in
+    let right : Some c.in-Some-part_in.field-0 ≡ kept es parts (p.row - 1) (2 * p.off + 1) = sym c.in-Some-part_in.is ∙ (c.part_in-in-Some.ensures ∙ ap₂ (kept es parts) halves.right_row c.children.ensures.right) in
+    let both = stand_both H es parts c.requires.right p.row p.off q c.in-Some.field-0 c.in-Some-part_in.field-0 halves.some c.requires.within c.requires.stands left right in
+    both.high
 
 pub children-requires-in-Some-part_in-clause-off : goal.children-requires-in-Some-part_in-clause-off
 children-requires-in-Some-part_in-clause-off g t c = omega (arith, off-below (length c.args.entries.now) c.args.place.row c.args.place.off c.requires.there, c.requires.small)
@@ -164,20 +123,16 @@ descend-requires-in-Some-part_in g t c κs within =
     let parts = c.args.parts.now in
     let p = c.args.part in
     let q = c.args.place in
-    let some : 0 < p.row = omega (arith, c.if-part-eq0.false) in
-    let low : c.children.result.0.row ≡ p.row - 1 = omega (arith, c.children.ensures.rows.0, some) in
-    let high : c.children.result.1.row ≡ p.row - 1 = omega (arith, c.children.ensures.rows.1, some) in
-    let within_low : InForest (length es) c.children.result.0.row c.children.result.0.off = rw (low, c.children.ensures.left) (within_left (length es) p.row p.off some c.requires.within) in
-    let within_high : InForest (length es) c.children.result.1.row c.children.result.1.off = rw (high, c.children.ensures.right) (within_right (length es) p.row p.off some c.requires.within) in
-    let left : Some c.in-Some.field-0 ≡ kept es parts (p.row - 1) (2 * p.off) = sym c.in-Some.is ∙ (c.part_in.ensures ∙ ap₂ (kept es parts) low c.children.ensures.left) in
-    let right : Some c.in-Some-part_in.field-0 ≡ kept es parts (p.row - 1) (2 * p.off + 1) = sym c.in-Some-part_in.is ∙ (c.part_in-in-Some.ensures ∙ ap₂ (kept es parts) high c.children.ensures.right) in
-    let halves = stand_both H es parts c.requires.right p.row p.off q c.in-Some.field-0 c.in-Some-part_in.field-0 some c.requires.within c.requires.stands left right in
+    let halves = are_halves (length es) p c.children.result.0 c.children.result.1 (omega (arith, c.if-part-eq0.false)) c.requires.within c.children.ensures.rows c.children.ensures.left c.children.ensures.right in
+    let left : Some c.in-Some.field-0 ≡ kept es parts (p.row - 1) (2 * p.off) = sym c.in-Some.is ∙ (c.part_in.ensures ∙ ap₂ (kept es parts) halves.left_row c.children.ensures.left) in
+    let right : Some c.in-Some-part_in.field-0 ≡ kept es parts (p.row - 1) (2 * p.off + 1) = sym c.in-Some-part_in.is ∙ (c.part_in-in-Some.ensures ∙ ap₂ (kept es parts) halves.right_row c.children.ensures.right) in
+    let both = stand_both H es parts c.requires.right p.row p.off q c.in-Some.field-0 c.in-Some-part_in.field-0 halves.some c.requires.within c.requires.stands left right in
     let under : c.children-in-Some-part_in.result.0.row ≡ q.row - 1 = omega (arith, c.children-in-Some-part_in.ensures.rows.0) in
     let beside : c.children-in-Some-part_in.result.1.row ≡ q.row - 1 = omega (arith, c.children-in-Some-part_in.ensures.rows.1) in
-    let stands : tree_at es c.children-in-Some-part_in.result.0.row c.children-in-Some-part_in.result.0.off ≡ content es c.children.result.0.row c.children.result.0.off = rw (under, c.children-in-Some-part_in.ensures.left, low, c.children.ensures.left) halves.low in
-    let there : InForest (length es) c.children-in-Some-part_in.result.0.row c.children-in-Some-part_in.result.0.off = rw (under, c.children-in-Some-part_in.ensures.left) (within_left (length es) q.row q.off halves.high c.requires.there) in
+    let stands : tree_at es c.children-in-Some-part_in.result.0.row c.children-in-Some-part_in.result.0.off ≡ content es c.children.result.0.row c.children.result.0.off = rw (under, c.children-in-Some-part_in.ensures.left, halves.left_row, c.children.ensures.left) both.low in
+    let there : InForest (length es) c.children-in-Some-part_in.result.0.row c.children-in-Some-part_in.result.0.off = rw (under, c.children-in-Some-part_in.ensures.left) (within_left (length es) q.row q.off both.high c.requires.there) in
     let rise : IsNonDecreasing c.split_at.result.0.now = subst IsNonDecreasing (sym c.split_at.ensures.front) (IsNonDecreasingBy-take (λ x. x) _ c.args.numbers.now c.requires.rise) in
-    (omega (arith, c.decreases, low, some), (within.0, (within.1, (c.requires.small, (c.requires.room, (c.requires.right, (within_low, (stands, (there, (rise, c.requires.forty))))))))))
+    (omega (arith, c.decreases, halves.left_row, halves.some), (within.0, (within.1, (c.requires.small, (c.requires.room, (c.requires.right, (halves.left_within, (stands, (there, (rise, c.requires.forty))))))))))
 
 pub descend-requires-in-Some-part_in-2 : goal.descend-requires-in-Some-part_in-2
 descend-requires-in-Some-part_in-2 g t c κs within =
@@ -186,20 +141,16 @@ descend-requires-in-Some-part_in-2 g t c κs within =
     let parts = c.args.parts.now in
     let p = c.args.part in
     let q = c.args.place in
-    let some : 0 < p.row = omega (arith, c.if-part-eq0.false) in
-    let low : c.children.result.0.row ≡ p.row - 1 = omega (arith, c.children.ensures.rows.0, some) in
-    let high : c.children.result.1.row ≡ p.row - 1 = omega (arith, c.children.ensures.rows.1, some) in
-    let within_low : InForest (length es) c.children.result.0.row c.children.result.0.off = rw (low, c.children.ensures.left) (within_left (length es) p.row p.off some c.requires.within) in
-    let within_high : InForest (length es) c.children.result.1.row c.children.result.1.off = rw (high, c.children.ensures.right) (within_right (length es) p.row p.off some c.requires.within) in
-    let left : Some c.in-Some.field-0 ≡ kept es parts (p.row - 1) (2 * p.off) = sym c.in-Some.is ∙ (c.part_in.ensures ∙ ap₂ (kept es parts) low c.children.ensures.left) in
-    let right : Some c.in-Some-part_in.field-0 ≡ kept es parts (p.row - 1) (2 * p.off + 1) = sym c.in-Some-part_in.is ∙ (c.part_in-in-Some.ensures ∙ ap₂ (kept es parts) high c.children.ensures.right) in
-    let halves = stand_both H es parts c.requires.right p.row p.off q c.in-Some.field-0 c.in-Some-part_in.field-0 some c.requires.within c.requires.stands left right in
+    let halves = are_halves (length es) p c.children.result.0 c.children.result.1 (omega (arith, c.if-part-eq0.false)) c.requires.within c.children.ensures.rows c.children.ensures.left c.children.ensures.right in
+    let left : Some c.in-Some.field-0 ≡ kept es parts (p.row - 1) (2 * p.off) = sym c.in-Some.is ∙ (c.part_in.ensures ∙ ap₂ (kept es parts) halves.left_row c.children.ensures.left) in
+    let right : Some c.in-Some-part_in.field-0 ≡ kept es parts (p.row - 1) (2 * p.off + 1) = sym c.in-Some-part_in.is ∙ (c.part_in-in-Some.ensures ∙ ap₂ (kept es parts) halves.right_row c.children.ensures.right) in
+    let both = stand_both H es parts c.requires.right p.row p.off q c.in-Some.field-0 c.in-Some-part_in.field-0 halves.some c.requires.within c.requires.stands left right in
     let under : c.children-in-Some-part_in.result.0.row ≡ q.row - 1 = omega (arith, c.children-in-Some-part_in.ensures.rows.0) in
     let beside : c.children-in-Some-part_in.result.1.row ≡ q.row - 1 = omega (arith, c.children-in-Some-part_in.ensures.rows.1) in
-    let stands : tree_at es c.children-in-Some-part_in.result.1.row c.children-in-Some-part_in.result.1.off ≡ content es c.children.result.1.row c.children.result.1.off = rw (beside, c.children-in-Some-part_in.ensures.right, high, c.children.ensures.right) halves.above in
-    let there : InForest (length es) c.children-in-Some-part_in.result.1.row c.children-in-Some-part_in.result.1.off = rw (beside, c.children-in-Some-part_in.ensures.right) (within_right (length es) q.row q.off halves.high c.requires.there) in
+    let stands : tree_at es c.children-in-Some-part_in.result.1.row c.children-in-Some-part_in.result.1.off ≡ content es c.children.result.1.row c.children.result.1.off = rw (beside, c.children-in-Some-part_in.ensures.right, halves.right_row, c.children.ensures.right) both.above in
+    let there : InForest (length es) c.children-in-Some-part_in.result.1.row c.children-in-Some-part_in.result.1.off = rw (beside, c.children-in-Some-part_in.ensures.right) (within_right (length es) q.row q.off both.high c.requires.there) in
     let rise : IsNonDecreasing c.split_at.result.1.now = subst IsNonDecreasing (sym c.split_at.ensures.back) (IsNonDecreasingBy-drop (λ x. x) _ c.args.numbers.now c.requires.rise) in
-    (omega (arith, c.decreases, high, some), (within.0, (within.1, (c.requires.small, (c.requires.room, (c.requires.right, (within_high, (stands, (there, (rise, c.in_ok-descend-in-Some-part_in.ensures.forty))))))))))
+    (omega (arith, c.decreases, halves.right_row, halves.some), (within.0, (within.1, (c.requires.small, (c.requires.room, (c.requires.right, (halves.right_within, (stands, (there, (rise, c.in_ok-descend-in-Some-part_in.ensures.forty))))))))))
 
 pub returns-in_ok-descend-in-Some-part_in-clause-noted : goal.returns-in_ok-descend-in-Some-part_in-clause-noted
 returns-in_ok-descend-in-Some-part_in-clause-noted g t c =
@@ -208,14 +159,10 @@ returns-in_ok-descend-in-Some-part_in-clause-noted g t c =
     let parts = c.args.parts.now in
     let p = c.args.part in
     let q = c.args.place in
-    let some : 0 < p.row = omega (arith, c.if-part-eq0.false) in
-    let low : c.children.result.0.row ≡ p.row - 1 = omega (arith, c.children.ensures.rows.0, some) in
-    let high : c.children.result.1.row ≡ p.row - 1 = omega (arith, c.children.ensures.rows.1, some) in
-    let within_low : InForest (length es) c.children.result.0.row c.children.result.0.off = rw (low, c.children.ensures.left) (within_left (length es) p.row p.off some c.requires.within) in
-    let within_high : InForest (length es) c.children.result.1.row c.children.result.1.off = rw (high, c.children.ensures.right) (within_right (length es) p.row p.off some c.requires.within) in
-    let left : Some c.in-Some.field-0 ≡ kept es parts (p.row - 1) (2 * p.off) = sym c.in-Some.is ∙ (c.part_in.ensures ∙ ap₂ (kept es parts) low c.children.ensures.left) in
-    let right : Some c.in-Some-part_in.field-0 ≡ kept es parts (p.row - 1) (2 * p.off + 1) = sym c.in-Some-part_in.is ∙ (c.part_in-in-Some.ensures ∙ ap₂ (kept es parts) high c.children.ensures.right) in
-    let halves = stand_both H es parts c.requires.right p.row p.off q c.in-Some.field-0 c.in-Some-part_in.field-0 some c.requires.within c.requires.stands left right in
+    let halves = are_halves (length es) p c.children.result.0 c.children.result.1 (omega (arith, c.if-part-eq0.false)) c.requires.within c.children.ensures.rows c.children.ensures.left c.children.ensures.right in
+    let left : Some c.in-Some.field-0 ≡ kept es parts (p.row - 1) (2 * p.off) = sym c.in-Some.is ∙ (c.part_in.ensures ∙ ap₂ (kept es parts) halves.left_row c.children.ensures.left) in
+    let right : Some c.in-Some-part_in.field-0 ≡ kept es parts (p.row - 1) (2 * p.off + 1) = sym c.in-Some-part_in.is ∙ (c.part_in-in-Some.ensures ∙ ap₂ (kept es parts) halves.right_row c.children.ensures.right) in
+    let both = stand_both H es parts c.requires.right p.row p.off q c.in-Some.field-0 c.in-Some-part_in.field-0 halves.some c.requires.within c.requires.stands left right in
     let under : c.children-in-Some-part_in.result.0.row ≡ q.row - 1 = omega (arith, c.children-in-Some-part_in.ensures.rows.0) in
     let beside : c.children-in-Some-part_in.result.1.row ≡ q.row - 1 = omega (arith, c.children-in-Some-part_in.ensures.rows.1) in
     let has = some_number c.args.numbers.now (λ e. true≢false (sym (c.is_empty.ensures ∙ eq-eqb _ _ e) ∙ c.if-is_empty.false)) in
@@ -227,10 +174,10 @@ returns-in_ok-descend-in-Some-part_in-clause-noted g t c =
     let ro : r.off ≡ 2 * p.off + 1 = c.children.ensures.right in
     let uo : u.off ≡ 2 * q.off = c.children-in-Some-part_in.ensures.left in
     let bo : b.off ≡ 2 * q.off + 1 = c.children-in-Some-part_in.ensures.right in
-    let stands_low : tree_at es u.row u.off ≡ content es l.row l.off = ap₂ (tree_at es) under uo ∙ (halves.low ∙ sym (ap₂ (content es) low lo)) in
-    let stands_high : tree_at es b.row b.off ≡ content es r.row r.off = ap₂ (tree_at es) beside bo ∙ (halves.above ∙ sym (ap₂ (content es) high ro)) in
+    let stands_low : tree_at es u.row u.off ≡ content es l.row l.off = ap₂ (tree_at es) under uo ∙ (both.low ∙ sym (ap₂ (content es) halves.left_row lo)) in
+    let stands_high : tree_at es b.row b.off ≡ content es r.row r.off = ap₂ (tree_at es) beside bo ∙ (both.above ∙ sym (ap₂ (content es) halves.right_row ro)) in
     on_ok c.descend-in-Some-part_in-2.result (λ two ts all at w.
-    let halved : AreHalved es ts all at p q l r u b = record { some = some; high = halves.high; there = c.requires.there; left_row = low; left_off = lo; right_row = high; right_off = ro; under_row = under; under_off = uo; beside_row = beside; beside_off = bo; left_stands = stands_low; right_stands = stands_high } in
+    let halved : AreHalved es ts all at p q l r u b = record { some = halves.some; high = both.high; there = c.requires.there; left_row = halves.left_row; left_off = lo; right_row = halves.right_row; right_off = ro; under_row = under; under_off = uo; beside_row = beside; beside_off = bo; left_stands = stands_low; right_stands = stands_high } in
     let one = way_low es ts all at p q l r u b c.args.numbers.now halved w c.split_at.result.0.now has.0 (c.split_at.ensures.front ∙ c.count_upto.ensures.upto) has.1 in
     let other = way_high es ts all at p q l r u b c.args.numbers.now halved w c.split_at.result.1.now has.0 (c.split_at.ensures.back ∙ c.count_upto.ensures.beyond) has.1 in
     way_both es ts all at p q l r u b c.args.numbers.now halved w H has.0 c.args.rows.now.items c.descend-in-Some-part_in.new.rows.items c.descend-in-Some-part_in-2.new.rows.items c.requires.stands has.1 (c.in_ok-descend-in-Some-part_in.ensures.noted ts all at one) (two ts all at other)) c.descend-in-Some-part_in-2.ensures.noted

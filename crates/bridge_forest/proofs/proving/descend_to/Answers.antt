@@ -1,4 +1,4 @@
-use Rattle.std.proofs.Common.{◌≡◌, ◌-◌, ◌/◌, ◌%◌, ◌^◌, length, Some, None, sym, ap, ◌∙◌, arith}
+use Rattle.std.proofs.Common.{◌≡◌, ◌/◌, ◌%◌, ◌^◌, length, Some, None, sym, ap, ◌∙◌, arith}
 use Rattle.forest_place.specs.declared.place.Place.{Place}
 use Rattle.forest_place.proofs.Positions.{row_small}
 use Rattle.forest_model.specs.Content.{content}
