@@ -32,15 +32,15 @@ half_of i row part some is =
     ap (λ r. i / 2 ^ r) e ∙ parts-suc i row
 
 -- the halves of a part of the forest
-pub record AreHalves (n : ℕ) (part left right : Place) : Type 0 where
+pub record HalvesOf (n : ℕ) (part left right : Place) : Type 0 where
   pub some : 0 < part.row
   pub left_row : left.row ≡ part.row - 1
   pub right_row : right.row ≡ part.row - 1
   pub left_within : InForest n left.row left.off
   pub right_within : InForest n right.row right.off
 
-pub are_halves : (n : ℕ) (part left right : Place) → 0 < part.row → InForest n part.row part.off → (left.row + 1 ≡ part.row) × (right.row + 1 ≡ part.row) → left.off ≡ 2 * part.off → right.off ≡ 2 * part.off + 1 → AreHalves n part left right
-are_halves n part left right some within rows left_off right_off =
+pub halves_of : (n : ℕ) (part left right : Place) → 0 < part.row → InForest n part.row part.off → (left.row + 1 ≡ part.row) × (right.row + 1 ≡ part.row) → left.off ≡ 2 * part.off → right.off ≡ 2 * part.off + 1 → HalvesOf n part left right
+halves_of n part left right some within rows left_off right_off =
     let low : left.row ≡ part.row - 1 = omega (arith, rows.0) in
     let high : right.row ≡ part.row - 1 = omega (arith, rows.1) in
     record {

@@ -22,7 +22,7 @@ use Rattle.forest_model.proofs.Covers.{some_from_test}
 use Rattle.forest_model.proofs.Living.{entry_found}
 use Rattle.bridge_forest.specs.State.{is_live}
 use Rattle.bridge_forest.specs.declared.branch.Sibling.{Sibling}
-use Rattle.bridge_forest.specs.Proving.{places_of, standing, proof_of, in_row, beneath, list_of, AreMore, width_from, AreFrom, behind}
+use Rattle.bridge_forest.specs.Proving.{places_of, standing, proof_of, in_row, beneath, list_of, HasRows, AreMore, width_from, AreFrom, behind}
 use Rattle.bridge_forest.proofs.Parting.{filter_alike, filter_twice, filter_spent, none_spent}
 use Rattle.bridge_forest.proofs.Beneath.{twice, next, in_row-append, in_row-none, not_needed-root, beneath_above, beneath_row, beneath_here, beneath_nothing, more_nothing}
 use Rattle.bridge_forest.proofs.Covering.{uncovered}
@@ -216,12 +216,13 @@ joined_rows H es ts (suc k) r (row ∷ rows) len are =
     ∙ (sym (filter_map-append (standing H es) (filter (is_needed n ts) (row_places r 0 (n / 2 ^ r))) (filter (is_needed n ts) (places_from n k (suc r))))
     ∙ ap (filter_map (standing H es)) (sym (filter-append (is_needed n ts) (row_places r 0 (n / 2 ^ r)) (places_from n k (suc r)))))
 
-pub proof_joined : (H : List ℕ → Digest) (es : List (Option Digest)) (numbers : List ℕ) (rows : List (List Sibling)) → length es < 2 ^ 40 → length rows ≡ 40 → ((row : ℕ) → list_of rows row ≡ in_row H es (places_of es numbers) row 0 (length es / 2 ^ row)) → flat_map (λ row. row) rows ≡ proof_of H es numbers
-proof_joined H es numbers rows few len are =
+pub proof_joined : (H : List ℕ → Digest) (es : List (Option Digest)) (numbers : List ℕ) (rows : List (List Sibling)) → HasRows (length es) rows → ((row : ℕ) → list_of rows row ≡ in_row H es (places_of es numbers) row 0 (length es / 2 ^ row)) → flat_map (λ row. row) rows ≡ proof_of H es numbers
+proof_joined H es numbers rows wide are =
     let n = length es in
+    let k = length rows in
     let ts = places_of es numbers in
-    joined_rows H es ts 40 0 rows len (λ i lt. let e : 0 + i ≡ i = omega arith in are i ∙ ap (λ j. in_row H es ts j 0 (n / 2 ^ j)) (sym e))
+    joined_rows H es ts k 0 rows refl (λ i lt. let e : 0 + i ≡ i = omega arith in are i ∙ ap (λ j. in_row H es ts j 0 (n / 2 ^ j)) (sym e))
     ∙ ap (λ ps. filter_map (standing H es) (filter (is_needed n ts) ps))
-    (same_ascending (places_from n 40 0) (places n) (rows_ascending n 40 0) (places_ascending n)
-    (λ r o h. places_have n r o (rows_had n 40 0 r o h).0)
-    (λ r o h. let within = places_had n r o h in let small : r < 40 = row_small n r o 40 within few in rows_have n 40 0 r o within (omega arith) (omega (arith, small))))
+    (same_ascending (places_from n k 0) (places n) (rows_ascending n k 0) (places_ascending n)
+    (λ r o h. places_have n r o (rows_had n k 0 r o h).0)
+    (λ r o h. let within = places_had n r o h in let low : r < k = wide.is r o within in rows_have n k 0 r o within (omega arith) (omega (arith, low))))

@@ -1,9 +1,9 @@
 -- What proves entries: the digests at the places that theirs need.
-use Rattle.std.specs.Prelude.{◌≡◌, ℕ, ◌-◌, ◌*◌, ◌/◌, ◌^◌, false, List, [], ◌++◌, length, filter, get_or, Option, Some, option_map, ◌==◌, nat_le, if◌then◌else◌}
+use Rattle.std.specs.Prelude.{◌≡◌, ℕ, ◌-◌, ◌*◌, ◌/◌, ◌^◌, ◌<◌, false, List, [], ◌++◌, length, filter, get_or, Option, Some, option_map, ◌==◌, nat_le, if◌then◌else◌}
 use Rattle.std.specs.List.{filter_map}
 use Rattle.uo_digest.specs.declared.digest.Digest.{Digest}
 use Rattle.forest_place.specs.declared.place.Place.{Place}
-use Rattle.forest_place.specs.Forest.{is_root, sibling_off}
+use Rattle.forest_place.specs.Forest.{InForest, is_root, sibling_off}
 use Rattle.forest_place.specs.Places.{row_places}
 use Rattle.forest_model.specs.Standing.{digest_at}
 use Rattle.forest_model.specs.EntryPlace.{entry_place}
@@ -35,6 +35,10 @@ beneath H es ts q row = if nat_le row q.row then in_row H es ts row (q.off * 2 ^
 -- the list of a row
 abbrev pub list_of : List (List Sibling) → ℕ → List Sibling
 list_of rows row = get_or rows row []
+
+-- there is a list for each row of a forest over n entries
+pub record HasRows (n : ℕ) (rows : List (List Sibling)) : Type 0 where
+  pub is : (row off : ℕ) → InForest n row off → row < length rows
 
 -- the rows have this more of what is at and beneath a place
 pub record AreMore (H : List ℕ → Digest) (es : List (Option Digest)) (ts : List Place) (q : Place) (old new : List (List Sibling)) : Type 0 where

@@ -9,7 +9,7 @@ ghost use Rattle.forest_model.specs.Content.{content};
 ghost use Rattle.forest_model.specs.Deletion.{StandAt};
 ghost use Rattle.forest_model.specs.Standing.{tree_at};
 ghost use Rattle.bridge_forest.specs.Parts.{AreParts};
-ghost use Rattle.bridge_forest.specs.Proving.{places_of, standing, proof_of, in_row, list_of, AreMore, AreOfPart, AreFrom, behind};
+ghost use Rattle.bridge_forest.specs.Proving.{places_of, standing, proof_of, in_row, list_of, HasRows, AreMore, AreOfPart, AreFrom, behind};
 ghost use Rattle.bridge_forest.specs.State.{is_live};
 
 use crate::arena::part_in;
@@ -70,15 +70,17 @@ impl Row {
     }
 }
 
-// No digest in any row, and room for so many in each row that a forest over n entries has.
+// No digest in any row that a forest over n entries has, and room for so many in each.
 fn no_rows(alloc: Global, n: u64, room: usize) -> Result<Vec<Row>, AllocError>
-    ensures len { IfOk result (λ rows. length rows.items ≡ 40) }
+    requires { n < 2 ^ 40 }
+    ensures wide { IfOk result (λ rows. HasRows n rows.items) }
     ensures none { IfOk result (λ rows. (row : ℕ) → list_of rows.items row ≡ []) }
 {
     let mut rows = Vec::with_capacity(alloc, ROWS)?;
-    for row in 0..40u8 {
-        let room = if n >> row == 0 { 0 } else { room };
+    let mut row: u8 = 0;
+    while n >> row > 0 {
         rows.push(Row::with_room(alloc, room)?)?;
+        row += 1;
     }
     Ok(rows)
 }
@@ -111,8 +113,8 @@ fn note<D: Digester>(
     requires right { AreParts D.digest_of (length entries.now) entries.now parts.now }
     requires within { InForest (length entries.now) part.row part.off }
     requires stands { tree_at entries.now place.row place.off ≡ content entries.now part.row part.off }
-    requires forty { length rows.old.items ≡ 40 }
-    ensures forty { length rows.new.items ≡ 40 }
+    requires wide { HasRows (length entries.now) rows.old.items }
+    ensures wide { HasRows (length entries.now) rows.new.items }
     ensures here { OnOk result (list_of rows.new.items place.row ≡ list_of rows.old.items place.row ++ filter_map (standing D.digest_of entries.now) (place ∷ [])) }
     ensures others { (row : ℕ) → row ≢ place.row → list_of rows.new.items row ≡ list_of rows.old.items row }
 {
@@ -141,8 +143,8 @@ fn descend_to<D: Digester>(
     requires within { InForest (length entries.now) part.row part.off }
     requires stands { tree_at entries.now place.row place.off ≡ content entries.now part.row part.off }
     requires there { InForest (length entries.now) place.row place.off }
-    requires forty { length rows.old.items ≡ 40 }
-    ensures forty { length rows.new.items ≡ 40 }
+    requires wide { HasRows (length entries.now) rows.old.items }
+    ensures wide { HasRows (length entries.now) rows.new.items }
     ensures noted { OnOk result ((ts : List Place) (all : List ℕ) → StandAt entries.now ts all → AreOfPart entries.now ts all part place (number ∷ []) → AreMore D.digest_of entries.now ts place rows.old.items rows.new.items) }
 {
     let n = entries.len() as u64;
@@ -183,8 +185,8 @@ fn descend<D: Digester>(
     requires stands { tree_at entries.now place.row place.off ≡ content entries.now part.row part.off }
     requires there { InForest (length entries.now) place.row place.off }
     requires rise { IsNonDecreasing numbers.now }
-    requires forty { length rows.old.items ≡ 40 }
-    ensures forty { length rows.new.items ≡ 40 }
+    requires wide { HasRows (length entries.now) rows.old.items }
+    ensures wide { HasRows (length entries.now) rows.new.items }
 
     // Whatever all entries are of which it has these.
     ensures noted { OnOk result ((ts : List Place) (all : List ℕ) → StandAt entries.now ts all → AreOfPart entries.now ts all part place numbers.now → AreMore D.digest_of entries.now ts place rows.old.items rows.new.items) }
@@ -227,8 +229,8 @@ fn descend_from<'a, D: Digester>(
     requires right { AreParts D.digest_of (length entries.now) entries.now parts.now }
     requires row { row < 40 }
     requires rise { IsNonDecreasing numbers.now }
-    requires forty { length rows.old.items ≡ 40 }
-    ensures forty { length rows.new.items ≡ 40 }
+    requires wide { HasRows (length entries.now) rows.old.items }
+    ensures wide { HasRows (length entries.now) rows.new.items }
     ensures rise { IfOk result (λ numbers. IsNonDecreasing numbers.now) }
     ensures behind { IfOk result (λ left. (all : List ℕ) → numbers.now ≡ behind (length entries.now) (suc row) all → left.now ≡ behind (length entries.now) row all) }
     ensures noted { OnOk result ((ts : List Place) (all : List ℕ) → StandAt entries.now ts all → numbers.now ≡ behind (length entries.now) (suc row) all → AreFrom D.digest_of entries.now ts (suc row) rows.old.items → AreFrom D.digest_of entries.now ts row rows.new.items) }
@@ -260,7 +262,7 @@ fn rows_of<D: Digester>(
     requires right { AreParts D.digest_of (length entries.now) entries.now parts.now }
     requires live { All (λ i. is_live entries.now i ≡ true) numbers.now }
     requires rise { IsNonDecreasing numbers.now }
-    ensures forty { IfOk result (λ rows. length rows.items ≡ 40) }
+    ensures wide { IfOk result (λ rows. HasRows (length entries.now) rows.items) }
     ensures are { IfOk result (λ rows. (row : ℕ) → list_of rows.items row ≡ in_row D.digest_of entries.now (places_of entries.now numbers.now) row 0 (length entries.now / 2 ^ row)) }
 {
     let mut rows = no_rows(alloc, entries.len() as u64, numbers.len())?;

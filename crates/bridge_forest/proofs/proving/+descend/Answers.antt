@@ -12,7 +12,7 @@ use Rattle.bridge_forest.proofs.Seeking.{within_left, within_right, alike, tree_
 use Rattle.bridge_forest.proofs.Ascending.{off-below}
 use Rattle.bridge_forest.proofs.Noting.{stands_left, stands_right, stand_both}
 use Rattle.bridge_forest.proofs.Beneath.{more_nothing, more_one}
-use Rattle.bridge_forest.proofs.Descending.{on_ok, are_halves, some_number, way_none, way_one, way_left, way_right, AreHalved, way_low, way_high, way_both}
+use Rattle.bridge_forest.proofs.Descending.{on_ok, halves_of, some_number, way_none, way_one, way_left, way_right, AreHalved, way_low, way_high, way_both}
 use Rattle.bridge_forest.proofs.proving.+descend.Goals as goal
 
 pub returns-then-is_empty-clause-noted : goal.returns-then-is_empty-clause-noted
@@ -35,14 +35,14 @@ pub part_in-requires-clause-within : goal.part_in-requires-clause-within
 part_in-requires-clause-within g t c =
     let es = c.args.entries.now in
     let p = c.args.part in
-    let halves = are_halves (length es) p c.children.result.0 c.children.result.1 (omega (arith, c.if-part-eq0.false)) c.requires.within c.children.ensures.rows c.children.ensures.left c.children.ensures.right in
+    let halves = halves_of (length es) p c.children.result.0 c.children.result.1 (omega (arith, c.if-part-eq0.false)) c.requires.within c.children.ensures.rows c.children.ensures.left c.children.ensures.right in
     halves.left_within
 
 pub part_in-requires-in-Some-clause-within : goal.part_in-requires-in-Some-clause-within
 part_in-requires-in-Some-clause-within g t c =
     let es = c.args.entries.now in
     let p = c.args.part in
-    let halves = are_halves (length es) p c.children.result.0 c.children.result.1 (omega (arith, c.if-part-eq0.false)) c.requires.within c.children.ensures.rows c.children.ensures.left c.children.ensures.right in
+    let halves = halves_of (length es) p c.children.result.0 c.children.result.1 (omega (arith, c.if-part-eq0.false)) c.requires.within c.children.ensures.rows c.children.ensures.left c.children.ensures.right in
     halves.right_within
 
 pub descend-requires : goal.descend-requires
@@ -52,10 +52,10 @@ descend-requires g t c κs within =
     let parts = c.args.parts.now in
     let p = c.args.part in
     let q = c.args.place in
-    let halves = are_halves (length es) p c.children.result.0 c.children.result.1 (omega (arith, c.if-part-eq0.false)) c.requires.within c.children.ensures.rows c.children.ensures.left c.children.ensures.right in
+    let halves = halves_of (length es) p c.children.result.0 c.children.result.1 (omega (arith, c.if-part-eq0.false)) c.requires.within c.children.ensures.rows c.children.ensures.left c.children.ensures.right in
     let none : None ≡ kept es parts (p.row - 1) (2 * p.off) = sym c.in-None.is ∙ (c.part_in.ensures ∙ ap₂ (kept es parts) halves.left_row c.children.ensures.left) in
     let stands : tree_at es q.row q.off ≡ content es c.children.result.1.row c.children.result.1.off = rw (halves.right_row, c.children.ensures.right) (stands_right H es parts c.requires.right p.row p.off q halves.some c.requires.within c.requires.stands none) in
-    (omega (arith, c.decreases, halves.right_row, halves.some), (within.0, (within.1, (c.requires.small, (c.requires.room, (c.requires.right, (halves.right_within, (stands, (c.requires.there, (c.requires.rise, c.requires.forty))))))))))
+    (omega (arith, c.decreases, halves.right_row, halves.some), (within.0, (within.1, (c.requires.small, (c.requires.room, (c.requires.right, (halves.right_within, (stands, (c.requires.there, (c.requires.rise, c.requires.wide))))))))))
 
 pub descend-requires-in-None-part_in : goal.descend-requires-in-None-part_in
 descend-requires-in-None-part_in g t c κs within =
@@ -64,10 +64,10 @@ descend-requires-in-None-part_in g t c κs within =
     let parts = c.args.parts.now in
     let p = c.args.part in
     let q = c.args.place in
-    let halves = are_halves (length es) p c.children.result.0 c.children.result.1 (omega (arith, c.if-part-eq0.false)) c.requires.within c.children.ensures.rows c.children.ensures.left c.children.ensures.right in
+    let halves = halves_of (length es) p c.children.result.0 c.children.result.1 (omega (arith, c.if-part-eq0.false)) c.requires.within c.children.ensures.rows c.children.ensures.left c.children.ensures.right in
     let none : None ≡ kept es parts (p.row - 1) (2 * p.off + 1) = sym c.in-None-part_in.is ∙ (c.part_in-in-Some.ensures ∙ ap₂ (kept es parts) halves.right_row c.children.ensures.right) in
     let stands : tree_at es q.row q.off ≡ content es c.children.result.0.row c.children.result.0.off = rw (halves.left_row, c.children.ensures.left) (stands_left H es parts c.requires.right p.row p.off q halves.some c.requires.within c.requires.stands none) in
-    (omega (arith, c.decreases, halves.left_row, halves.some), (within.0, (within.1, (c.requires.small, (c.requires.room, (c.requires.right, (halves.left_within, (stands, (c.requires.there, (c.requires.rise, c.requires.forty))))))))))
+    (omega (arith, c.decreases, halves.left_row, halves.some), (within.0, (within.1, (c.requires.small, (c.requires.room, (c.requires.right, (halves.left_within, (stands, (c.requires.there, (c.requires.rise, c.requires.wide))))))))))
 
 pub returns-in-None-clause-noted : goal.returns-in-None-clause-noted
 returns-in-None-clause-noted g t c =
@@ -76,7 +76,7 @@ returns-in-None-clause-noted g t c =
     let parts = c.args.parts.now in
     let p = c.args.part in
     let q = c.args.place in
-    let halves = are_halves (length es) p c.children.result.0 c.children.result.1 (omega (arith, c.if-part-eq0.false)) c.requires.within c.children.ensures.rows c.children.ensures.left c.children.ensures.right in
+    let halves = halves_of (length es) p c.children.result.0 c.children.result.1 (omega (arith, c.if-part-eq0.false)) c.requires.within c.children.ensures.rows c.children.ensures.left c.children.ensures.right in
     let none : None ≡ kept es parts (p.row - 1) (2 * p.off) = sym c.in-None.is ∙ (c.part_in.ensures ∙ ap₂ (kept es parts) halves.left_row c.children.ensures.left) in
     let nothing : content es c.children.result.1.row (2 * p.off) ≡ None = ap (λ r. content es r (2 * p.off)) halves.right_row ∙ tree_none es parts (alike H es parts c.requires.right) (p.row - 1) (2 * p.off) (within_left (length es) p.row p.off halves.some c.requires.within) none in
     on_ok c.descend.result (λ more ts all at w. more ts all at (way_right es ts all at p c.children.result.1 q c.args.numbers.now halves.some halves.right_row c.children.ensures.right nothing w)) c.descend.ensures.noted
@@ -88,7 +88,7 @@ returns-in-None-part_in-clause-noted g t c =
     let parts = c.args.parts.now in
     let p = c.args.part in
     let q = c.args.place in
-    let halves = are_halves (length es) p c.children.result.0 c.children.result.1 (omega (arith, c.if-part-eq0.false)) c.requires.within c.children.ensures.rows c.children.ensures.left c.children.ensures.right in
+    let halves = halves_of (length es) p c.children.result.0 c.children.result.1 (omega (arith, c.if-part-eq0.false)) c.requires.within c.children.ensures.rows c.children.ensures.left c.children.ensures.right in
     let none : None ≡ kept es parts (p.row - 1) (2 * p.off + 1) = sym c.in-None-part_in.is ∙ (c.part_in-in-Some.ensures ∙ ap₂ (kept es parts) halves.right_row c.children.ensures.right) in
     let nothing : content es c.children.result.0.row (2 * p.off + 1) ≡ None = ap (λ r. content es r (2 * p.off + 1)) halves.left_row ∙ tree_none es parts (alike H es parts c.requires.right) (p.row - 1) (2 * p.off + 1) (within_right (length es) p.row p.off halves.some c.requires.within) none in
     on_ok c.descend-in-None-part_in.result (λ more ts all at w. more ts all at (way_left es ts all at p c.children.result.0 q c.args.numbers.now halves.some halves.left_row c.children.ensures.left nothing w)) c.descend-in-None-part_in.ensures.noted
@@ -97,7 +97,7 @@ pub count_upto-requires-clause-row : goal.count_upto-requires-clause-row
 count_upto-requires-clause-row g t c =
     let es = c.args.entries.now in
     let p = c.args.part in
-    let halves = are_halves (length es) p c.children.result.0 c.children.result.1 (omega (arith, c.if-part-eq0.false)) c.requires.within c.children.ensures.rows c.children.ensures.left c.children.ensures.right in
+    let halves = halves_of (length es) p c.children.result.0 c.children.result.1 (omega (arith, c.if-part-eq0.false)) c.requires.within c.children.ensures.rows c.children.ensures.left c.children.ensures.right in
     row_small (length es) c.children.result.0.row c.children.result.0.off 40 halves.left_within c.requires.small
 
 pub children-requires-in-Some-part_in-clause-row : goal.children-requires-in-Some-part_in-clause-row
@@ -107,7 +107,7 @@ children-requires-in-Some-part_in-clause-row g t c =
     let parts = c.args.parts.now in
     let p = c.args.part in
     let q = c.args.place in
-    let halves = are_halves (length es) p c.children.result.0 c.children.result.1 (omega (arith, c.if-part-eq0.false)) c.requires.within c.children.ensures.rows c.children.ensures.left c.children.ensures.right in
+    let halves = halves_of (length es) p c.children.result.0 c.children.result.1 (omega (arith, c.if-part-eq0.false)) c.requires.within c.children.ensures.rows c.children.ensures.left c.children.ensures.right in
     let left : Some c.in-Some.field-0 ≡ kept es parts (p.row - 1) (2 * p.off) = sym c.in-Some.is ∙ (c.part_in.ensures ∙ ap₂ (kept es parts) halves.left_row c.children.ensures.left) in
     let right : Some c.in-Some-part_in.field-0 ≡ kept es parts (p.row - 1) (2 * p.off + 1) = sym c.in-Some-part_in.is ∙ (c.part_in-in-Some.ensures ∙ ap₂ (kept es parts) halves.right_row c.children.ensures.right) in
     let both = stand_both H es parts c.requires.right p.row p.off q c.in-Some.field-0 c.in-Some-part_in.field-0 halves.some c.requires.within c.requires.stands left right in
@@ -123,7 +123,7 @@ descend-requires-in-Some-part_in g t c κs within =
     let parts = c.args.parts.now in
     let p = c.args.part in
     let q = c.args.place in
-    let halves = are_halves (length es) p c.children.result.0 c.children.result.1 (omega (arith, c.if-part-eq0.false)) c.requires.within c.children.ensures.rows c.children.ensures.left c.children.ensures.right in
+    let halves = halves_of (length es) p c.children.result.0 c.children.result.1 (omega (arith, c.if-part-eq0.false)) c.requires.within c.children.ensures.rows c.children.ensures.left c.children.ensures.right in
     let left : Some c.in-Some.field-0 ≡ kept es parts (p.row - 1) (2 * p.off) = sym c.in-Some.is ∙ (c.part_in.ensures ∙ ap₂ (kept es parts) halves.left_row c.children.ensures.left) in
     let right : Some c.in-Some-part_in.field-0 ≡ kept es parts (p.row - 1) (2 * p.off + 1) = sym c.in-Some-part_in.is ∙ (c.part_in-in-Some.ensures ∙ ap₂ (kept es parts) halves.right_row c.children.ensures.right) in
     let both = stand_both H es parts c.requires.right p.row p.off q c.in-Some.field-0 c.in-Some-part_in.field-0 halves.some c.requires.within c.requires.stands left right in
@@ -132,7 +132,7 @@ descend-requires-in-Some-part_in g t c κs within =
     let stands : tree_at es c.children-in-Some-part_in.result.0.row c.children-in-Some-part_in.result.0.off ≡ content es c.children.result.0.row c.children.result.0.off = rw (under, c.children-in-Some-part_in.ensures.left, halves.left_row, c.children.ensures.left) both.low in
     let there : InForest (length es) c.children-in-Some-part_in.result.0.row c.children-in-Some-part_in.result.0.off = rw (under, c.children-in-Some-part_in.ensures.left) (within_left (length es) q.row q.off both.high c.requires.there) in
     let rise : IsNonDecreasing c.split_at.result.0.now = subst IsNonDecreasing (sym c.split_at.ensures.front) (IsNonDecreasingBy-take (λ x. x) _ c.args.numbers.now c.requires.rise) in
-    (omega (arith, c.decreases, halves.left_row, halves.some), (within.0, (within.1, (c.requires.small, (c.requires.room, (c.requires.right, (halves.left_within, (stands, (there, (rise, c.requires.forty))))))))))
+    (omega (arith, c.decreases, halves.left_row, halves.some), (within.0, (within.1, (c.requires.small, (c.requires.room, (c.requires.right, (halves.left_within, (stands, (there, (rise, c.requires.wide))))))))))
 
 pub descend-requires-in-Some-part_in-2 : goal.descend-requires-in-Some-part_in-2
 descend-requires-in-Some-part_in-2 g t c κs within =
@@ -141,7 +141,7 @@ descend-requires-in-Some-part_in-2 g t c κs within =
     let parts = c.args.parts.now in
     let p = c.args.part in
     let q = c.args.place in
-    let halves = are_halves (length es) p c.children.result.0 c.children.result.1 (omega (arith, c.if-part-eq0.false)) c.requires.within c.children.ensures.rows c.children.ensures.left c.children.ensures.right in
+    let halves = halves_of (length es) p c.children.result.0 c.children.result.1 (omega (arith, c.if-part-eq0.false)) c.requires.within c.children.ensures.rows c.children.ensures.left c.children.ensures.right in
     let left : Some c.in-Some.field-0 ≡ kept es parts (p.row - 1) (2 * p.off) = sym c.in-Some.is ∙ (c.part_in.ensures ∙ ap₂ (kept es parts) halves.left_row c.children.ensures.left) in
     let right : Some c.in-Some-part_in.field-0 ≡ kept es parts (p.row - 1) (2 * p.off + 1) = sym c.in-Some-part_in.is ∙ (c.part_in-in-Some.ensures ∙ ap₂ (kept es parts) halves.right_row c.children.ensures.right) in
     let both = stand_both H es parts c.requires.right p.row p.off q c.in-Some.field-0 c.in-Some-part_in.field-0 halves.some c.requires.within c.requires.stands left right in
@@ -150,7 +150,7 @@ descend-requires-in-Some-part_in-2 g t c κs within =
     let stands : tree_at es c.children-in-Some-part_in.result.1.row c.children-in-Some-part_in.result.1.off ≡ content es c.children.result.1.row c.children.result.1.off = rw (beside, c.children-in-Some-part_in.ensures.right, halves.right_row, c.children.ensures.right) both.above in
     let there : InForest (length es) c.children-in-Some-part_in.result.1.row c.children-in-Some-part_in.result.1.off = rw (beside, c.children-in-Some-part_in.ensures.right) (within_right (length es) q.row q.off both.high c.requires.there) in
     let rise : IsNonDecreasing c.split_at.result.1.now = subst IsNonDecreasing (sym c.split_at.ensures.back) (IsNonDecreasingBy-drop (λ x. x) _ c.args.numbers.now c.requires.rise) in
-    (omega (arith, c.decreases, halves.right_row, halves.some), (within.0, (within.1, (c.requires.small, (c.requires.room, (c.requires.right, (halves.right_within, (stands, (there, (rise, c.in_ok-descend-in-Some-part_in.ensures.forty))))))))))
+    (omega (arith, c.decreases, halves.right_row, halves.some), (within.0, (within.1, (c.requires.small, (c.requires.room, (c.requires.right, (halves.right_within, (stands, (there, (rise, c.in_ok-descend-in-Some-part_in.ensures.wide))))))))))
 
 pub returns-in_ok-descend-in-Some-part_in-clause-noted : goal.returns-in_ok-descend-in-Some-part_in-clause-noted
 returns-in_ok-descend-in-Some-part_in-clause-noted g t c =
@@ -159,7 +159,7 @@ returns-in_ok-descend-in-Some-part_in-clause-noted g t c =
     let parts = c.args.parts.now in
     let p = c.args.part in
     let q = c.args.place in
-    let halves = are_halves (length es) p c.children.result.0 c.children.result.1 (omega (arith, c.if-part-eq0.false)) c.requires.within c.children.ensures.rows c.children.ensures.left c.children.ensures.right in
+    let halves = halves_of (length es) p c.children.result.0 c.children.result.1 (omega (arith, c.if-part-eq0.false)) c.requires.within c.children.ensures.rows c.children.ensures.left c.children.ensures.right in
     let left : Some c.in-Some.field-0 ≡ kept es parts (p.row - 1) (2 * p.off) = sym c.in-Some.is ∙ (c.part_in.ensures ∙ ap₂ (kept es parts) halves.left_row c.children.ensures.left) in
     let right : Some c.in-Some-part_in.field-0 ≡ kept es parts (p.row - 1) (2 * p.off + 1) = sym c.in-Some-part_in.is ∙ (c.part_in-in-Some.ensures ∙ ap₂ (kept es parts) halves.right_row c.children.ensures.right) in
     let both = stand_both H es parts c.requires.right p.row p.off q c.in-Some.field-0 c.in-Some-part_in.field-0 halves.some c.requires.within c.requires.stands left right in

@@ -40,7 +40,7 @@ way-preserved-in-None g c =
       within = half_within (length es) at other half (other_pair at half other pair) c.way.invariant.within;
       stands = half_stands H es parts c.requires.right at other half q (other_pair at half other pair) c.way.invariant.within c.way.invariant.stands none;
       there = c.way.invariant.there;
-      forty = c.way.invariant.forty;
+      wide = c.way.invariant.wide;
       on = λ ts all s w. on_half H es ts all s c.args.place at other half q _ _ _ (other_pair at half other pair) (c.way.invariant.on ts all s w) nothing;
     }
 
@@ -72,7 +72,7 @@ way-preserved-in-None-part_in g c =
       within = half_within (length es) at half other pair c.way.invariant.within;
       stands = half_stands H es parts c.requires.right at half other q pair c.way.invariant.within c.way.invariant.stands none;
       there = c.way.invariant.there;
-      forty = c.way.invariant.forty;
+      wide = c.way.invariant.wide;
       on = λ ts all s w. on_half H es ts all s c.args.place at half other q _ _ _ pair (c.way.invariant.on ts all s w) nothing;
     }
 
@@ -146,7 +146,7 @@ way-preserved g c =
       within = half_within (length es) at half other pair c.way.invariant.within;
       stands = beneath.half_there;
       there = half_within (length es) q below beside under c.way.invariant.there;
-      forty = c.in_ok-note-in-Some-part_in.ensures.forty;
+      wide = c.in_ok-note-in-Some-part_in.ensures.wide;
       on = λ ts all s w. on_both H es ts all s c.args.place at half other q below beside c.args.number _ _ _ pair under side alike c.way.invariant.there c.way.invariant.stands beneath c.in_ok-note-in-Some-part_in.ensures.here c.in_ok-note-in-Some-part_in.ensures.others (c.way.invariant.on ts all s w);
     }
 

@@ -7,5 +7,5 @@ use Rattle.bridge_forest.proofs.proving.proof_of_entries.Goals as goal
 pub returns : goal.returns
 returns g c =
     subst (λ siblings. IfOk c.joined.result (λ all. all.items ≡ siblings))
-    (ap (flat_map (λ row. row)) c.deref.ensures.value ∙ proof_joined g.D.Digester.digest_of c.args.entries.now c.args.numbers.now c.in_ok-rows.rows.items c.requires.small c.in_ok-rows.ensures.forty c.in_ok-rows.ensures.are)
+    (ap (flat_map (λ row. row)) c.deref.ensures.value ∙ proof_joined g.D.Digester.digest_of c.args.entries.now c.args.numbers.now c.in_ok-rows.rows.items c.in_ok-rows.ensures.wide c.in_ok-rows.ensures.are)
     c.joined.ensures

@@ -7,7 +7,7 @@ pub loop-row-init : goal.loop-row-init
 loop-row-init g c =
     let es = c.args.entries.now in
     record {
-      forty = c.in_ok-rows.ensures.len;
+      wide = c.in_ok-rows.ensures.wide;
       rise = c.requires.rise;
       left = all_behind (length es) c.args.numbers.now c.requires.small;
       from = from_nothing g.D.Digester.digest_of es (places_of es c.args.numbers.now) c.in_ok-rows.rows.items c.requires.small c.in_ok-rows.ensures.none;
@@ -25,7 +25,7 @@ loop-row-preserved g c =
     let left = subst (λ k. c.loop-row.left.now ≡ behind (length es) k numbers) up c.loop-row.invariant.left in
     let from = subst (λ k. AreFrom H es ts k c.loop-row.rows.items) up c.loop-row.invariant.from in
     record {
-      forty = c.descend_from.ensures.forty;
+      wide = c.descend_from.ensures.wide;
       rise = c.in_ok-left.ensures.rise;
       left = subst (λ k. c.in_ok-left.left.now ≡ behind (length es) k numbers) down (c.in_ok-left.ensures.behind numbers left);
       from = subst (λ k. AreFrom H es ts k c.descend_from.new.rows.items) down (c.in_ok-left.ensures.noted ts numbers (stand_there es numbers c.requires.live) left from);
