@@ -127,13 +127,13 @@ here_above number part above up here =
     ap (λ (p : Place). p.off) up ∙ (ap (λ o. o / 2) here ∙ (sym (parts-suc number part.row) ∙ (ap (λ r. number / 2 ^ r) e ∙ sym (ap (λ (p : Place). number / 2 ^ p.row) up))))
 
 -- what is told of a row is so, and else it is read
-pub beside_told : (es : List (Option Digest)) (parts : PartLists) (number : ℕ) (ahead : List Bool) (part : Place) (beside : Bool) → AreAhead es parts number ahead → part.off ≡ number / 2 ^ part.row → InForest (length es) part.row (sibling_off part.off) →
-    IfSome (slice_get ahead part.row) (λ told. beside ≡ told) → (slice_get ahead part.row ≡ None → beside ≡ is_some (kept es parts part.row (sibling_off part.off))) → beside ≡ is_some (kept es parts part.row (sibling_off part.off))
+pub beside_told : (es : List (Option Digest)) (parts : PartLists) (number : ℕ) (ahead : List (Option Digest)) (part : Place) (beside : Bool) → AreAhead es parts number ahead → part.off ≡ number / 2 ^ part.row → InForest (length es) part.row (sibling_off part.off) →
+    IfSome (slice_get ahead part.row) (λ told. beside ≡ is_some told) → (slice_get ahead part.row ≡ None → beside ≡ is_some (kept es parts part.row (sibling_off part.off))) → beside ≡ is_some (kept es parts part.row (sibling_off part.off))
 beside_told es parts number ahead part beside a here within told sought = by (slice_get ahead part.row) refl told sought
   where
     off : sibling_off part.off ≡ sibling_off (number / 2 ^ part.row)
     off = ap sibling_off here
 
-    by : (x : Option Bool) → slice_get ahead part.row ≡ x → IfSome x (λ t. beside ≡ t) → (x ≡ None → beside ≡ is_some (kept es parts part.row (sibling_off part.off))) → beside ≡ is_some (kept es parts part.row (sibling_off part.off))
+    by : (x : Option (Option Digest)) → slice_get ahead part.row ≡ x → IfSome x (λ t. beside ≡ is_some t) → (x ≡ None → beside ≡ is_some (kept es parts part.row (sibling_off part.off))) → beside ≡ is_some (kept es parts part.row (sibling_off part.off))
     by None e t s = s refl
-    by (Some t) e is s = is ∙ (a.is part.row t e (subst (λ o. InForest (length es) part.row o) off within) ∙ sym (ap (λ o. is_some (kept es parts part.row o)) off))
+    by (Some t) e is s = is ∙ ap is_some (a.is part.row t e (subst (λ o. InForest (length es) part.row o) off within) ∙ sym (ap (kept es parts part.row) off))

@@ -74,11 +74,11 @@ met_above number next row off other r here there le e =
     let one : number / 2 ^ suc row ≡ next / 2 ^ suc row = parts-suc number row ∙ ap (λ x. x / 2) (sym here) ∙ e ∙ ap (λ x. x / 2) there ∙ sym (parts-suc next row) in
     ap (λ x. number / 2 ^ x) (sym up) ∙ sym (shr-shr number (suc row) k) ∙ ap (λ x. x / 2 ^ k) one ∙ shr-shr next (suc row) k ∙ ap (λ x. next / 2 ^ x) up
 
-pub all_found : (H : List ℕ → Digest) (n : ℕ) (leaves found : List (Option Digest)) (number row off : ℕ) → off ≡ number / 2 ^ row → (off / 2 < n / 2 ^ row / 2 → ⊥) → AreFound H n leaves number row found → AreBeside H n leaves number found
-all_found H n leaves found number row off here top all = record {
-  is = λ r h. ⊎_elim
+pub all_found : (H : List ℕ → Digest) (n : ℕ) (leaves found : List (Option Digest)) (number next row off other : ℕ) → off ≡ number / 2 ^ row → other ≡ next / 2 ^ row → ((off / 2 < n / 2 ^ row / 2) × (off / 2 ≢ other / 2) → ⊥) → AreFound H n leaves number row found → AreBeside H n leaves number next found
+all_found H n leaves found number next row off other here there stop all = record {
+  is = λ r h apart. ⊎_elim
       (λ lt. all.is r lt h)
-      (λ ge. absurd (top (row_open n number row off r here ge h)))
+      (λ ge. absurd (stop (row_open n number row off r here ge h, λ e. apart (met_above number next row off other r here there ge e))))
       (cases_lt r row);
 }
 

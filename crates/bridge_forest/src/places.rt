@@ -1,6 +1,6 @@
 //! Where many entries stand. What stands beside the first rows of all their ways up is read before any way is gone, so that the waits for
-//! memory overlap.
-ghost use Rattle.std.specs.Prelude.{◌≡◌, ◌^◌, ◌<◌, ◌≤◌, ◌/◌, true, length, map, is_some, Some, All, IfOk};
+//! memory overlap. The digests are read with it: they are needed next, for the proof and for the change.
+ghost use Rattle.std.specs.Prelude.{◌≡◌, ◌^◌, ◌<◌, ◌≤◌, ◌/◌, true, length, map, Some, All, IfOk};
 ghost use Rattle.forest_place.specs.Forest.{InForest};
 ghost use Rattle.forest_model.specs.EntryPlace.{entry_place};
 ghost use Rattle.bridge_forest.specs.Lookups.{AreAlike, AreAhead, AreAllAhead};
@@ -17,28 +17,32 @@ use uo_digest::Digest;
 /// Of so many rows it is read beforehand what stands beside a way up. The parts above are few, and so they are at hand.
 const ROWS: u8 = 8;
 
-// Whether something is live in a part, if the forest has it.
-fn is_kept(entries: &[Option<Digest>], parts: &Parts, n: u64, row: u8, off: u64) -> bool
+// What is kept for a part, if the forest has it.
+fn part_if(entries: &[Option<Digest>], parts: &Parts, n: u64, row: u8, off: u64) -> Option<Digest>
     requires small { n < 2 ^ 40 }
     requires leaves { n ≤ length entries.now }
     requires room { n ≤ length parts.now.low }
     requires row { row < 40 }
-    ensures { InForest n row off → result ≡ is_some (kept entries.now parts.now row off) }
+    ensures { InForest n row off → result ≡ kept entries.now parts.now row off }
 {
-    off < n >> row && part_in(entries, parts, n, row, off).is_some()
+    if off < n >> row {
+        *part_in(entries, parts, n, row, off)
+    } else {
+        None
+    }
 }
 
 // What stands beside the first rows of the way up from an entry.
-fn siblings_ahead(entries: &[Option<Digest>], parts: &Parts, number: u64) -> [bool; 8]
+fn siblings_ahead(entries: &[Option<Digest>], parts: &Parts, number: u64) -> [Option<Digest>; 8]
     requires small { length entries.now < 2 ^ 40 }
     requires room { length entries.now ≤ length parts.now.low }
     ensures { AreAhead entries.now parts.now number result }
 {
     let n = entries.len() as u64;
-    let mut ahead = [false; 8];
+    let mut ahead = [None; 8];
     for row in 0..ROWS {
         let off = number >> row;
-        ahead[row as usize] = is_kept(entries, parts, n, row, sibling(Place { row, off }).off);
+        ahead[row as usize] = part_if(entries, parts, n, row, sibling(Place { row, off }).off);
     }
     ahead
 }
@@ -49,7 +53,7 @@ fn all_ahead(
     entries: &[Option<Digest>],
     parts: &Parts,
     numbers: &[u64],
-) -> Result<Vec<[bool; 8]>, AllocError>
+) -> Result<Vec<[Option<Digest>; 8]>, AllocError>
     requires small { length entries.now < 2 ^ 40 }
     requires room { length entries.now ≤ length parts.now.low }
     ensures { IfOk result (λ all. AreAllAhead entries.now parts.now numbers.now all.items) }

@@ -7,6 +7,7 @@ abbrev pub invariant-rows : goal.invariant-rows
 invariant-rows g l = record {
   small : l.row < 40;
   here : l.off ≡ l.number / 2 ^ l.row;
+  there : l.other ≡ l.next / 2 ^ l.row;
   within : InForest l.n l.row l.off;
   found : AreFound g.D.Digester.digest_of l.n l.leaves l.number l.row l.siblings;
 }

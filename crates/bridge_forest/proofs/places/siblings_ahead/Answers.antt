@@ -8,8 +8,8 @@ pub loop-row-preserved : goal.loop-row-preserved
 loop-row-preserved c =
     let within : c.loop-row.row < length c.loop-row.ahead = omega (arith, c.loop-row.invariant.eight, c.loop-row-test.true) in
     record {
-      eight = length-set c.loop-row.ahead c.loop-row.row c.is_kept.result ∙ c.loop-row.invariant.eight;
-      told = told_more c.args.entries.now c.args.parts.now c.args.number c.loop-row.row c.sibling.result.off c.loop-row.ahead c.is_kept.result within c.sibling.ensures.off c.is_kept.ensures c.loop-row.invariant.told;
+      eight = length-set c.loop-row.ahead c.loop-row.row c.part_if.result ∙ c.loop-row.invariant.eight;
+      told = told_more c.args.entries.now c.args.parts.now c.args.number c.loop-row.row c.sibling.result.off c.loop-row.ahead c.part_if.result within c.sibling.ensures.off c.part_if.ensures c.loop-row.invariant.told;
     }
 
 pub returns : goal.returns
