@@ -1,17 +1,30 @@
 -- What cells tell of marks.
-use Rattle.std.proofs.Common.{◌≡◌, ◌≢◌, ℕ, zero, suc, Bool, true, false, cond, List, [], ◌∷◌, ◌++◌, Some, None, set, take, refl, sym, ap, ◌∙◌, ⊎_elim, ne_eqb, eq-eqb}
+use Rattle.std.proofs.Common.{◌≡◌, ◌≢◌, ℕ, zero, suc, Bool, true, false, cond, List, [], ◌∷◌, ◌++◌, Option, Some, None, set, take, refl, sym, ap, ◌∙◌, ⊎_elim, ne_eqb, eq-eqb}
 use Rattle.std.specs.Prelude.{slice_get}
 use Rattle.std.specs.List.{AllByRecursion, filter, remove}
 use Rattle.std.proofs.lemmas.Bool.{cases_Bool, cases_eq, eqb-true, false≢true}
 use Rattle.std.proofs.lemmas.Option.{none-some, same_Some}
 use Rattle.output_index.specs.declared.bucket.Newest.{Newest}
-use Rattle.output_index.specs.Buckets.{in_cells, bucket_of, is_own, IsFirstAt}
+use Rattle.output_index.specs.Buckets.{in_cells, first_in, in_place, first_in_place, bucket_of, is_own, IsFirstAt}
 
 pub cell-here : (c : Newest) (cs : List Newest) (m : ℕ) → c.mark ≡ m → in_cells (c ∷ cs) m ≡ Some c.number
 cell-here c cs m s = rw (eq-eqb c.mark m s) refl
 
 pub cell-there : (c : Newest) (cs : List Newest) (m : ℕ) → c.mark ≢ m → in_cells (c ∷ cs) m ≡ in_cells cs m
 cell-there c cs m o = rw (ne_eqb c.mark m o) refl
+
+-- what the first cell tells is told
+first-in : (cells : List Newest) (m n : ℕ) → first_in cells m ≡ Some n → in_cells cells m ≡ Some n
+first-in [] m n h = absurd (none-some n h)
+first-in (c ∷ cs) m n h =
+    ⊎_elim
+    (λ s. let own : first_in (c ∷ cs) m ≡ Some c.number = rw (eq-eqb c.mark m s) refl in cell-here c cs m s ∙ (sym own ∙ h))
+    (λ o. let other : first_in (c ∷ cs) m ≡ None = rw (ne_eqb c.mark m o) refl in absurd (none-some n (sym other ∙ h)))
+    (cases_eq c.mark m)
+
+pub first-place : (place : Option (List Newest)) (m n : ℕ) → first_in_place place m ≡ Some n → in_place place m ≡ Some n
+first-place None m n h = absurd (none-some n h)
+first-place (Some cells) m n h = first-in cells m n h
 
 -- cells before which none has the mark begin with one of another mark
 not-here : (c : Newest) (cs : List Newest) (m : ℕ) → in_cells (c ∷ cs) m ≡ None → (c.mark ≢ m) × (in_cells cs m ≡ None)

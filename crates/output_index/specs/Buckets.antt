@@ -8,6 +8,11 @@ abbrev pub in_cells : List Newest → ℕ → Option ℕ
 in_cells [] m = None
 in_cells (cell ∷ cells) m = if cell.mark == m then Some cell.number else in_cells cells m
 
+-- what the first of all cells tells, if it has the mark
+abbrev pub first_in : List Newest → ℕ → Option ℕ
+first_in [] m = None
+first_in (cell ∷ cells) m = if cell.mark == m then Some cell.number else None
+
 -- the first cell that has the mark
 pub record IsFirstAt (cells : List Newest) (m at : ℕ) : Type 0 where
   pub cell : Newest
@@ -45,6 +50,14 @@ in_buckets bits buckets m = in_place (slice_get buckets (bucket_of bits (length 
 
 abbrev pub few_at : Table → ℕ → Option ℕ
 few_at table m = in_buckets table.bits table.buckets m
+
+abbrev pub first_in_place : Option (List Newest) → ℕ → Option ℕ
+first_in_place None m = None
+first_in_place (Some cells) m = first_in cells m
+
+-- what the first cell tells of the bucket in which a mark is sought
+abbrev pub first_at : Table → ℕ → Option ℕ
+first_at table m = first_in_place (slice_get table.buckets (bucket_of table.bits (length table.buckets) m)) m
 
 -- the bucket in which a mark is sought is full, or there is none
 abbrev pub HasNoRoom : ℕ → List (List Newest) → ℕ → Type 0

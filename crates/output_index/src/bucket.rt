@@ -2,7 +2,7 @@
 ghost use Rattle.std.specs.Prelude.{◌≡◌, ◌≢◌, ◌<◌, ◌^◌, ℕ, ◌++◌, ◌∷◌, [], length, filter, None, Some, IsSome, is_some, MatchOption};
 ghost use Rattle.std.specs.Bool.{OnTrue, OnFalse};
 ghost use Rattle.std.specs.List.{AllByRecursion};
-ghost use Rattle.output_index.specs.Buckets.{in_cells, bucket_of, is_own, IsFirstAt, IsStrange};
+ghost use Rattle.output_index.specs.Buckets.{in_cells, first_in, bucket_of, is_own, IsFirstAt, IsStrange};
 
 use arrayvec::ArrayVec;
 use std::marker::Model;
@@ -58,6 +58,16 @@ impl Bucket {
         match place_of(cells, mark) {
             Some(at) => Some(cells[at].number),
             None => None,
+        }
+    }
+
+    /// The same where the mark is in the first cell, and nothing where it is in another one. This takes a read, and no search.
+    pub fn first(&self, mark: u64) -> Option<u64>
+        ensures { result ≡ first_in self.now mark }
+    {
+        match self.cells.as_slice().first() {
+            Some(cell) if cell.mark == mark => Some(cell.number),
+            _ => None,
         }
     }
 

@@ -1,7 +1,7 @@
 //! Marks in buckets, of which there are about half as many as marks.
 ghost use Rattle.std.specs.Prelude.{◌≡◌, ◌≢◌, ◌<◌, ◌≤◌, ℕ, ◌-◌, ◌^◌, suc, length, None, Some, is_some, OnOk, OnErr};
 ghost use Rattle.std.specs.Bool.{OnTrue, OnFalse};
-ghost use Rattle.output_index.specs.Buckets.{in_buckets, few_at, bucket_of, HasNoRoom, HasOwn};
+ghost use Rattle.output_index.specs.Buckets.{in_buckets, few_at, first_at, bucket_of, HasNoRoom, HasOwn};
 
 use crate::bucket::{Bucket, bucket_of, power_of_two};
 use std::alloc::{AllocError, Global};
@@ -53,6 +53,17 @@ impl Buckets {
         let at = bucket_of(self.bits, self.list.len() as u64, mark);
         match self.list.get(at as usize) {
             Some(bucket) => bucket.get(mark),
+            None => None,
+        }
+    }
+
+    /// The same where the mark is the first one of its bucket, and nothing where it is not.
+    pub fn first(&self, mark: u64) -> Option<u64>
+        ensures { result ≡ first_at self.now mark }
+    {
+        let at = bucket_of(self.bits, self.list.len() as u64, mark);
+        match self.list.get(at as usize) {
+            Some(bucket) => bucket.first(mark),
             None => None,
         }
     }

@@ -1,7 +1,7 @@
 //! The newest entries by their marks.
 ghost use Rattle.std.specs.Prelude.{◌≡◌, ◌≢◌, ℕ, Some, None, IsSome, IfOk, OnOk, OnErr};
 ghost use Rattle.std.specs.Bool.{OnTrue, OnFalse};
-ghost use Rattle.output_index.specs.Buckets.{HasNoRoom};
+ghost use Rattle.output_index.specs.Buckets.{HasNoRoom, first_at};
 ghost use Rattle.output_index.specs.Chains.{chain_at, TellsOther};
 
 use crate::buckets::Buckets;
@@ -49,6 +49,13 @@ impl Chains {
             Some(number) => Some(number),
             None => self.shards.get(mark),
         }
+    }
+
+    /// The same where one read tells it, and nothing where it takes a search.
+    pub fn first(&self, mark: u64) -> Option<u64>
+        ensures { result ≡ first_at self.now.table mark }
+    {
+        self.buckets.first(mark)
     }
 
     /// The entry is the newest of its mark from now on. The one that was the newest before is answered, if there was one. Where

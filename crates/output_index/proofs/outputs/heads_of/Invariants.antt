@@ -3,5 +3,5 @@ use Rattle.output_index.specs.Marks.{mark_of}
 use Rattle.output_index.specs.Chains.{chain_at}
 use Rattle.output_index.proofs.outputs.heads_of.Given as goal
 
-abbrev pub invariant-loop-name : goal.invariant-loop-name
-invariant-loop-name l = l.heads.items ≡ map (λ name. chain_at l.chains (mark_of name)) (take l.name-index l.names)
+abbrev pub invariant-loop-at : goal.invariant-loop-at
+invariant-loop-at l = l.heads.items ≡ map (λ name. chain_at l.chains (mark_of name)) (take l.at l.names)
