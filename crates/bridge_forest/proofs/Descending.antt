@@ -1,7 +1,9 @@
 -- The way down from a part to those of all entries that it has: what is noted on it.
-use Rattle.std.proofs.Common.{◌≡◌, ℕ, suc, ◌+◌, ◌-◌, ◌*◌, ◌/◌, ◌^◌, ◌<◌, ◌≤◌, true, false, List, [], ◌∷◌, length, get_or, Option, Some, None, refl, sym, ap, ap₂, ◌∙◌, subst, ⊎_elim, ◌⊎◌, arith, eq-eqb}
+use Rattle.std.proofs.Common.{◌≡◌, ◌≢◌, ℕ, suc, ◌+◌, ◌-◌, ◌*◌, ◌/◌, ◌%◌, ◌^◌, ◌<◌, ◌≤◌, Bool, true, false, List, [], ◌∷◌, length, get_or, Option, Some, None, refl, sym, ap, ap₂, ◌∙◌, subst, ⊎_elim, ◌⊎◌, arith, eq-eqb, All}
 use Rattle.std.specs.Prelude.{◌==◌, not, nat_le, filter, option_map, Result, Ok, Err, OnOk}
-use Rattle.std.proofs.lemmas.Bool.{cases_lt, eqb-true, le-leb, lt-leb, leb-true, leb-false, not-true, and_parts, and_from}
+use Rattle.std.proofs.lemmas.Bool.{cases_Bool, cases_lt, eqb-true, le-leb, lt-leb, leb-true, leb-false, not-true, and_parts, and_from}
+use Rattle.std.proofs.Math.Nat.{div-eq_of_lt}
+use Rattle.std.proofs.lemmas.List.Elements.{All-nil, All-cons, All-head, All-tail, All-weaker}
 use Rattle.std.proofs.lemmas.Option.{none-some}
 use Rattle.uo_digest.specs.declared.digest.Digest.{Digest}
 use Rattle.forest_place.specs.declared.place.Place.{Place}
@@ -14,9 +16,11 @@ use Rattle.forest_model.specs.Standing.{tree_at}
 use Rattle.forest_model.specs.Cover.{Cover, cover, is_needed}
 use Rattle.forest_model.specs.Deletion.{StandAt}
 use Rattle.forest_model.proofs.Deleting.{is_spent, place_at}
+use Rattle.forest_model.proofs.Covers.{some_from_test}
 use Rattle.forest_model.proofs.Living.{found_where_it_stands, content_none_iff}
 use Rattle.bridge_forest.specs.declared.branch.Sibling.{Sibling}
-use Rattle.bridge_forest.specs.Proving.{beneath, AreMore, AreOfPart}
+use Rattle.bridge_forest.specs.State.{is_live}
+use Rattle.bridge_forest.specs.Proving.{beneath, AreIn, AreBehind, AreMore, AreOfPart}
 use Rattle.bridge_forest.proofs.Seeking.{within_left, within_right}
 use Rattle.bridge_forest.proofs.Parting.{filter_alike, filter_twice, filter_spent, spent_filter, head_spent, none_spent}
 use Rattle.bridge_forest.proofs.Beneath.{beneath_nothing, covered_top, more_halves, more_across}
@@ -50,6 +54,70 @@ halves_of n part left right some within rows left_off right_off =
       left_within = rw (low, left_off) (within_left n part.row part.off some within);
       right_within = rw (high, right_off) (within_right n part.row part.off some within);
     }
+
+-- what passes a test has what it is told by
+filter_holds : (p : ℕ → Bool) (P Q : ℕ → Type 0) → ((i : ℕ) → P i → p i ≡ true → Q i) → (xs : List ℕ) → All P xs → All Q (filter p xs)
+filter_holds p P Q f [] h = All-nil Q
+filter_holds p P Q f (x ∷ xs) h =
+    ⊎_elim
+    (λ yes. rw yes (All-cons Q x (filter p xs) (f x (All-head P x xs h) yes) (filter_holds p P Q f xs (All-tail P x xs h))))
+    (λ no. rw no (filter_holds p P Q f xs (All-tail P x xs h)))
+    (cases_Bool (p x))
+
+-- a live entry is in no part that has nothing
+pub not_in : (es : List (Option Digest)) (row off i : ℕ) → content es row off ≡ None → is_live es i ≡ true → i / 2 ^ row ≡ off → ⊥
+not_in es row off i none live here =
+    let some = some_from_test (get_or es i None) live in
+    none-some some.0 (sym ((content_none_iff es row off).0 none i here) ∙ some.1)
+
+pub in_one : (es : List (Option Digest)) (row off : ℕ) (numbers : List ℕ) → 0 < length numbers → AreIn es row off numbers → AreIn es row off (get_or numbers 0 0 ∷ [])
+in_one es row off numbers some inside = All-cons (λ i. (is_live es i ≡ true) × (i / 2 ^ row ≡ off)) (get_or numbers 0 0) [] (inside 0 0 some) (All-nil (λ i. (is_live es i ≡ true) × (i / 2 ^ row ≡ off)))
+
+module _ (es : List (Option Digest)) (part left right : Place) (numbers : List ℕ) (h : HalvesOf (length es) part left right) (left_off : left.off ≡ 2 * part.off) (right_off : right.off ≡ 2 * part.off + 1) (inside : AreIn es part.row part.off numbers) where
+  pub in_right : content es left.row left.off ≡ None → AreIn es right.row right.off numbers
+  in_right none = All-weaker (λ i. (is_live es i ≡ true) × (i / 2 ^ part.row ≡ part.off)) (λ i. (is_live es i ≡ true) × (i / 2 ^ right.row ≡ right.off)) (λ i w.
+      let half = half_of i right.row part h.some h.right_row in
+      let low : i / 2 ^ left.row ≡ i / 2 ^ right.row = ap (λ r. i / 2 ^ r) (h.left_row ∙ sym h.right_row) in
+      let apart : i / 2 ^ left.row ≢ left.off = λ e. not_in es left.row left.off i none w.0 e in
+      (w.0, omega (arith, half, w.1, low, apart, left_off, right_off))) numbers inside
+
+  pub in_left : content es right.row right.off ≡ None → AreIn es left.row left.off numbers
+  in_left none = All-weaker (λ i. (is_live es i ≡ true) × (i / 2 ^ part.row ≡ part.off)) (λ i. (is_live es i ≡ true) × (i / 2 ^ left.row ≡ left.off)) (λ i w.
+      let half = half_of i left.row part h.some h.left_row in
+      let high : i / 2 ^ right.row ≡ i / 2 ^ left.row = ap (λ r. i / 2 ^ r) (h.right_row ∙ sym h.left_row) in
+      let apart : i / 2 ^ right.row ≢ right.off = λ e. not_in es right.row right.off i none w.0 e in
+      (w.0, omega (arith, half, w.1, high, apart, left_off, right_off))) numbers inside
+
+  pub in_low : AreIn es left.row left.off (filter (λ i. nat_le (i / 2 ^ left.row) left.off) numbers)
+  in_low = filter_holds (λ i. nat_le (i / 2 ^ left.row) left.off) (λ i. (is_live es i ≡ true) × (i / 2 ^ part.row ≡ part.off)) (λ i. (is_live es i ≡ true) × (i / 2 ^ left.row ≡ left.off)) (λ i w yes.
+      let half = half_of i left.row part h.some h.left_row in
+      let upto : i / 2 ^ left.row ≤ left.off = leb-true _ _ yes in
+      (w.0, omega (arith, half, w.1, upto, left_off))) numbers inside
+
+  pub in_high : AreIn es right.row right.off (filter (λ i. not (nat_le (i / 2 ^ left.row) left.off)) numbers)
+  in_high = filter_holds (λ i. not (nat_le (i / 2 ^ left.row) left.off)) (λ i. (is_live es i ≡ true) × (i / 2 ^ part.row ≡ part.off)) (λ i. (is_live es i ≡ true) × (i / 2 ^ right.row ≡ right.off)) (λ i w yes.
+      let half = half_of i right.row part h.some h.right_row in
+      let low : i / 2 ^ left.row ≡ i / 2 ^ right.row = ap (λ r. i / 2 ^ r) (h.left_row ∙ sym h.right_row) in
+      let over : left.off < i / 2 ^ left.row = leb-false _ _ (not-true _ yes) in
+      (w.0, omega (arith, half, w.1, low, over, left_off, right_off))) numbers inside
+
+-- those in a slot, and those behind it
+pub in_slot : (es : List (Option Digest)) (row off : ℕ) (numbers : List ℕ) → length es / 2 ^ row % 2 ≡ 1 → off ≡ length es / 2 ^ row - 1 → AreBehind es (suc row) numbers → AreIn es row off (filter (λ i. nat_le (i / 2 ^ row) off) numbers)
+in_slot es row off numbers odd is later = filter_holds (λ i. nat_le (i / 2 ^ row) off) (λ i. (is_live es i ≡ true) × (length es / 2 ^ suc row ≤ i / 2 ^ suc row)) (λ i. (is_live es i ≡ true) × (i / 2 ^ row ≡ off)) (λ i w yes.
+    let upto : i / 2 ^ row ≤ off = leb-true _ _ yes in
+    (w.0, omega (arith, parts-suc i row, parts-suc (length es) row, w.1, upto, odd, is))) numbers later
+
+pub behind_slot : (es : List (Option Digest)) (row off : ℕ) (numbers : List ℕ) → length es / 2 ^ row % 2 ≡ 1 → off ≡ length es / 2 ^ row - 1 → AreBehind es (suc row) numbers → AreBehind es row (filter (λ i. not (nat_le (i / 2 ^ row) off)) numbers)
+behind_slot es row off numbers odd is later = filter_holds (λ i. not (nat_le (i / 2 ^ row) off)) (λ i. (is_live es i ≡ true) × (length es / 2 ^ suc row ≤ i / 2 ^ suc row)) (λ i. (is_live es i ≡ true) × (length es / 2 ^ row ≤ i / 2 ^ row)) (λ i w yes.
+    let over : off < i / 2 ^ row = leb-false _ _ (not-true _ yes) in
+    (w.0, omega (arith, over, is))) numbers later
+
+pub behind_none : (es : List (Option Digest)) (row : ℕ) (numbers : List ℕ) → length es / 2 ^ row % 2 ≡ 0 → AreBehind es (suc row) numbers → AreBehind es row numbers
+behind_none es row numbers even later = All-weaker (λ i. (is_live es i ≡ true) × (length es / 2 ^ suc row ≤ i / 2 ^ suc row)) (λ i. (is_live es i ≡ true) × (length es / 2 ^ row ≤ i / 2 ^ row)) (λ i w.
+    (w.0, omega (arith, parts-suc i row, parts-suc (length es) row, w.1, even))) numbers later
+
+pub behind_all : (es : List (Option Digest)) (numbers : List ℕ) → length es < 2 ^ 40 → All (λ i. is_live es i ≡ true) numbers → AreBehind es 40 numbers
+behind_all es numbers few live = All-weaker (λ i. is_live es i ≡ true) (λ i. (is_live es i ≡ true) × (length es / 2 ^ 40 ≤ i / 2 ^ 40)) (λ i w. let none : length es / 2 ^ 40 ≡ 0 = div-eq_of_lt few in (w, omega (arith, none))) numbers live
 
 module _ (es : List (Option Digest)) (ts : List Place) (all : List ℕ) (at : StandAt es ts all) where
   -- each of all entries is live

@@ -1,25 +1,27 @@
 -- The way down to one entry, as a loop: at each part what is noted later, with what was noted so far, is what is beneath the first place.
 use Rattle.std.proofs.Common.{◌≡◌, ◌≢◌, ℕ, ◌+◌, ◌-◌, ◌*◌, ◌/◌, ◌%◌, ◌^◌, ◌<◌, true, false, List, [], ◌∷◌, ◌++◌, length, Option, Some, None, refl, sym, ap, ap₂, ◌∙◌, subst, ⊎_elim, ◌⊎◌, inl, inr, arith}
-use Rattle.std.specs.Prelude.{nat_le}
+use Rattle.std.specs.Prelude.{nat_le, option_map}
 use Rattle.std.specs.List.{filter_map}
 use Rattle.std.proofs.lemmas.Bool.{le-leb, lt-leb, cases_lt}
 use Rattle.uo_digest.specs.declared.digest.Digest.{Digest}
 use Rattle.forest_place.specs.declared.place.Place.{Place}
 use Rattle.forest_place.specs.Forest.{InForest, sibling_off}
 use Rattle.forest_place.proofs.Siblings.{sibling_cases, sibling_half, sibling_twice}
-use Rattle.forest_model.specs.Content.{content}
+use Rattle.forest_model.specs.Content.{Tree, content, digest_of}
 use Rattle.forest_model.specs.Standing.{tree_at}
 use Rattle.forest_model.specs.Deletion.{StandAt}
 use Rattle.forest_model.proofs.Deleting.{is_spent}
 use Rattle.bridge_forest.specs.declared.branch.Sibling.{Sibling}
 use Rattle.bridge_forest.specs.Parts.{PartLists, AreParts, kept}
+use Rattle.bridge_forest.specs.State.{is_live}
 use Rattle.bridge_forest.specs.Proving.{standing, beneath, list_of, AreMore, AreOfPart}
+use Rattle.bridge_forest.proofs.Refreshing.{kept_right}
 use Rattle.bridge_forest.proofs.Seeking.{within_left, within_right, alike}
 use Rattle.bridge_forest.proofs.Noting.{stands_left, stands_right, stand_both}
 use Rattle.bridge_forest.proofs.Parting.{head_spent}
 use Rattle.bridge_forest.proofs.Beneath.{beneath_above, covered_top, more_nothing, more_one, by_order}
 use Rattle.bridge_forest.proofs.Covering.{covered}
-use Rattle.bridge_forest.proofs.Descending.{half_of, in_part, way_none, way_one, way_left, way_right, AreHalved, way_low, way_high, way_both, way_across}
+use Rattle.bridge_forest.proofs.Descending.{half_of, not_in, in_part, way_none, way_one, way_left, way_right, AreHalved, way_low, way_high, way_both, way_across}
 
 -- two halves of a part
 pub record ArePair (part half other : Place) : Type 0 where
@@ -33,6 +35,23 @@ pub pair_of : (part half other : Place) (o : ℕ) → 0 < part.row → half ≡ 
 pair_of part half other o some is same beside =
     let off = ap (λ (p : Place). p.off) is in
     record { some = some; row = ap (λ (p : Place). p.row) is; same = same; off = omega (arith, off); beside = beside }
+
+-- the half that has an entry of the part
+pub own_half : (at half : Place) (x : ℕ) → 0 < at.row → half ≡ record { row = at.row - 1; off = 2 * at.off + x / 2 ^ (at.row - 1) % 2 } → x / 2 ^ at.row ≡ at.off → x / 2 ^ half.row ≡ half.off
+own_half at half x some is inside =
+    let row = ap (λ (p : Place). p.row) is in
+    let off = ap (λ (p : Place). p.off) is in
+    let up = half_of x half.row at some row in
+    let side : x / 2 ^ half.row % 2 ≡ x / 2 ^ (at.row - 1) % 2 = ap (λ r. x / 2 ^ r % 2) row in
+    omega (arith, off, up, inside, side)
+
+-- something is kept for each part that has a live entry
+pub own_kept : (H : List ℕ → Digest) (es : List (Option Digest)) (parts : PartLists) → AreParts H (length es) es parts → (row off i : ℕ) → InForest (length es) row off → is_live es i ≡ true → i / 2 ^ row ≡ off → (d : Digest) × (Some d ≡ kept es parts row off)
+own_kept H es parts right row off i within live here = by (content es row off) refl
+  where
+    by : (x : Option Tree) → content es row off ≡ x → (d : Digest) × (Some d ≡ kept es parts row off)
+    by None e = absurd (not_in es row off i e live here)
+    by (Some t) e = (digest_of H t, sym (kept_right H (length es) es parts row off right within ∙ ap (option_map (digest_of H)) e))
 
 -- which of them is on which side
 pub sides : (part half other : Place) → ArePair part half other → ((half.off ≡ 2 * part.off) × (other.off ≡ 2 * part.off + 1)) ⊎ ((half.off ≡ 2 * part.off + 1) × (other.off ≡ 2 * part.off))

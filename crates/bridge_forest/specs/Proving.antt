@@ -1,5 +1,5 @@
 -- What proves entries: the digests at the places that theirs need.
-use Rattle.std.specs.Prelude.{◌≡◌, ℕ, ◌-◌, ◌*◌, ◌/◌, ◌^◌, ◌<◌, false, List, [], ◌++◌, length, filter, get_or, Option, Some, option_map, ◌==◌, nat_le, if◌then◌else◌}
+use Rattle.std.specs.Prelude.{◌≡◌, ℕ, ◌-◌, ◌*◌, ◌/◌, ◌^◌, ◌<◌, ◌≤◌, true, false, List, [], ◌++◌, length, filter, get_or, Option, Some, option_map, ◌==◌, nat_le, All, if◌then◌else◌}
 use Rattle.std.specs.List.{filter_map}
 use Rattle.uo_digest.specs.declared.digest.Digest.{Digest}
 use Rattle.forest_place.specs.declared.place.Place.{Place}
@@ -8,6 +8,7 @@ use Rattle.forest_place.specs.Places.{row_places}
 use Rattle.forest_model.specs.Standing.{digest_at}
 use Rattle.forest_model.specs.EntryPlace.{entry_place}
 use Rattle.forest_model.specs.Cover.{Cover, cover, is_needed, need}
+use Rattle.bridge_forest.specs.State.{is_live}
 use Rattle.bridge_forest.specs.declared.branch.Sibling.{Sibling}
 
 -- where these entries stand
@@ -35,6 +36,14 @@ beneath H es ts q row = if nat_le row q.row then in_row H es ts row (q.off * 2 ^
 -- the list of a row
 abbrev pub list_of : List (List Sibling) → ℕ → List Sibling
 list_of rows row = get_or rows row []
+
+-- live entries of a part
+abbrev pub AreIn : List (Option Digest) → ℕ → ℕ → List ℕ → Type 0
+AreIn es row off numbers = All (λ i. (is_live es i ≡ true) × (i / 2 ^ row ≡ off)) numbers
+
+-- live entries that lie behind the slots from a row up
+abbrev pub AreBehind : List (Option Digest) → ℕ → List ℕ → Type 0
+AreBehind es slot numbers = All (λ i. (is_live es i ≡ true) × (length es / 2 ^ slot ≤ i / 2 ^ slot)) numbers
 
 -- there is a list for each row of a forest over n entries
 pub record HasRows (n : ℕ) (rows : List (List Sibling)) : Type 0 where

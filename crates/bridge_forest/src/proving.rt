@@ -9,7 +9,7 @@ ghost use Rattle.forest_model.specs.Content.{content};
 ghost use Rattle.forest_model.specs.Deletion.{StandAt};
 ghost use Rattle.forest_model.specs.Standing.{tree_at};
 ghost use Rattle.bridge_forest.specs.Parts.{AreParts};
-ghost use Rattle.bridge_forest.specs.Proving.{places_of, standing, proof_of, in_row, list_of, HasRows, AreMore, AreOfPart, AreFrom, behind};
+ghost use Rattle.bridge_forest.specs.Proving.{places_of, standing, proof_of, in_row, list_of, HasRows, AreIn, AreBehind, AreMore, AreOfPart, AreFrom, behind};
 ghost use Rattle.bridge_forest.specs.State.{is_live};
 
 use crate::arena::part_in;
@@ -129,6 +129,7 @@ fn note<D: Digester>(
 }
 
 // Goes down from a part to one entry, and does what `descend` does for that one, in a loop: on the way to one entry no read waits for another.
+// The half that has the entry has something, so only the other one is looked at.
 fn descend_to<D: Digester>(
     entries: &[Option<Digest>],
     parts: &Parts,
@@ -143,6 +144,7 @@ fn descend_to<D: Digester>(
     requires within { InForest (length entries.now) part.row part.off }
     requires stands { tree_at entries.now place.row place.off ≡ content entries.now part.row part.off }
     requires there { InForest (length entries.now) place.row place.off }
+    requires inside { AreIn entries.now part.row part.off (number ∷ []) }
     requires wide { HasRows (length entries.now) rows.old.items }
     ensures wide { HasRows (length entries.now) rows.new.items }
     ensures noted { OnOk result ((ts : List Place) (all : List ℕ) → StandAt entries.now ts all → AreOfPart entries.now ts all part place (number ∷ []) → AreMore D.digest_of entries.now ts place rows.old.items rows.new.items) }
@@ -153,17 +155,14 @@ fn descend_to<D: Digester>(
     'way: while at.row > 0 {
         let half = child(at, number >> (at.row - 1));
         let other = sibling(half);
-        match part_in(entries, parts, n, half.row, half.off) {
-            None => at = other,
-            Some(_) => match part_in(entries, parts, n, other.row, other.off) {
-                None => at = half,
-                Some(_) => {
-                    let below = child(above, half.off);
-                    note::<D>(entries, parts, other, sibling(below), rows)?;
-                    at = half;
-                    above = below;
-                }
-            },
+        match part_in(entries, parts, n, other.row, other.off) {
+            None => at = half,
+            Some(_) => {
+                let below = child(above, half.off);
+                note::<D>(entries, parts, other, sibling(below), rows)?;
+                at = half;
+                above = below;
+            }
         }
     }
     Ok(())
@@ -185,6 +184,7 @@ fn descend<D: Digester>(
     requires stands { tree_at entries.now place.row place.off ≡ content entries.now part.row part.off }
     requires there { InForest (length entries.now) place.row place.off }
     requires rise { IsNonDecreasing numbers.now }
+    requires inside { AreIn entries.now part.row part.off numbers.now }
     requires wide { HasRows (length entries.now) rows.old.items }
     ensures wide { HasRows (length entries.now) rows.new.items }
 
@@ -229,9 +229,11 @@ fn descend_from<'a, D: Digester>(
     requires right { AreParts D.digest_of (length entries.now) entries.now parts.now }
     requires row { row < 40 }
     requires rise { IsNonDecreasing numbers.now }
+    requires later { AreBehind entries.now (suc row) numbers.now }
     requires wide { HasRows (length entries.now) rows.old.items }
     ensures wide { HasRows (length entries.now) rows.new.items }
     ensures rise { IfOk result (λ numbers. IsNonDecreasing numbers.now) }
+    ensures later { IfOk result (λ left. AreBehind entries.now row left.now) }
     ensures behind { IfOk result (λ left. (all : List ℕ) → numbers.now ≡ behind (length entries.now) (suc row) all → left.now ≡ behind (length entries.now) row all) }
     ensures noted { OnOk result ((ts : List Place) (all : List ℕ) → StandAt entries.now ts all → numbers.now ≡ behind (length entries.now) (suc row) all → AreFrom D.digest_of entries.now ts (suc row) rows.old.items → AreFrom D.digest_of entries.now ts row rows.new.items) }
 {

@@ -8,11 +8,12 @@ use Rattle.forest_place.proofs.Positions.{row_small}
 use Rattle.forest_model.specs.Content.{content}
 use Rattle.forest_model.specs.Standing.{tree_at}
 use Rattle.bridge_forest.specs.Parts.{kept}
+use Rattle.bridge_forest.specs.Proving.{AreIn}
 use Rattle.bridge_forest.proofs.Seeking.{within_left, within_right, alike, tree_none}
 use Rattle.bridge_forest.proofs.Ascending.{off-below}
 use Rattle.bridge_forest.proofs.Noting.{stands_left, stands_right, stand_both}
 use Rattle.bridge_forest.proofs.Beneath.{more_nothing, more_one}
-use Rattle.bridge_forest.proofs.Descending.{on_ok, halves_of, some_number, way_none, way_one, way_left, way_right, AreHalved, way_low, way_high, way_both}
+use Rattle.bridge_forest.proofs.Descending.{on_ok, halves_of, in_one, in_left, in_right, in_low, in_high, some_number, way_none, way_one, way_left, way_right, AreHalved, way_low, way_high, way_both}
 use Rattle.bridge_forest.proofs.proving.+descend.Goals as goal
 
 pub returns-then-is_empty-clause-noted : goal.returns-then-is_empty-clause-noted
@@ -23,6 +24,9 @@ returns-then-is_empty-clause-noted g t c =
     on_ok c.note.result (λ here ts all at w.
     let way = way_none es ts all at H c.args.part c.args.place c.args.numbers.now none c.requires.there c.requires.stands w in
     more_one H es ts c.args.place c.args.rows.now.items c.note.new.rows.items way.0 way.1 here c.note.ensures.others) c.note.ensures.here
+
+pub descend_to-requires-clause-inside : goal.descend_to-requires-clause-inside
+descend_to-requires-clause-inside g t c = in_one c.args.entries.now c.args.part.row c.args.part.off c.args.numbers.now (omega (arith, c.if-numbers-eq1.true)) c.requires.inside
 
 pub returns-then-part-eq0-clause-noted : goal.returns-then-part-eq0-clause-noted
 returns-then-part-eq0-clause-noted g t c =
@@ -55,7 +59,9 @@ descend-requires g t c κs within =
     let halves = halves_of (length es) p c.children.result.0 c.children.result.1 (omega (arith, c.if-part-eq0.false)) c.requires.within c.children.ensures.rows c.children.ensures.left c.children.ensures.right in
     let none : None ≡ kept es parts (p.row - 1) (2 * p.off) = sym c.in-None.is ∙ (c.part_in.ensures ∙ ap₂ (kept es parts) halves.left_row c.children.ensures.left) in
     let stands : tree_at es q.row q.off ≡ content es c.children.result.1.row c.children.result.1.off = rw (halves.right_row, c.children.ensures.right) (stands_right H es parts c.requires.right p.row p.off q halves.some c.requires.within c.requires.stands none) in
-    (omega (arith, c.decreases, halves.right_row, halves.some), (within.0, (within.1, (c.requires.small, (c.requires.room, (c.requires.right, (halves.right_within, (stands, (c.requires.there, (c.requires.rise, c.requires.wide))))))))))
+    let nothing : content es c.children.result.0.row c.children.result.0.off ≡ None = tree_none es parts (alike H es parts c.requires.right) c.children.result.0.row c.children.result.0.off halves.left_within (sym c.in-None.is ∙ c.part_in.ensures) in
+    let inside = in_right es p c.children.result.0 c.children.result.1 c.args.numbers.now halves c.children.ensures.left c.children.ensures.right c.requires.inside nothing in
+    (omega (arith, c.decreases, halves.right_row, halves.some), (within.0, (within.1, (c.requires.small, (c.requires.room, (c.requires.right, (halves.right_within, (stands, (c.requires.there, (c.requires.rise, (inside, c.requires.wide)))))))))))
 
 pub descend-requires-in-None-part_in : goal.descend-requires-in-None-part_in
 descend-requires-in-None-part_in g t c κs within =
@@ -67,7 +73,9 @@ descend-requires-in-None-part_in g t c κs within =
     let halves = halves_of (length es) p c.children.result.0 c.children.result.1 (omega (arith, c.if-part-eq0.false)) c.requires.within c.children.ensures.rows c.children.ensures.left c.children.ensures.right in
     let none : None ≡ kept es parts (p.row - 1) (2 * p.off + 1) = sym c.in-None-part_in.is ∙ (c.part_in-in-Some.ensures ∙ ap₂ (kept es parts) halves.right_row c.children.ensures.right) in
     let stands : tree_at es q.row q.off ≡ content es c.children.result.0.row c.children.result.0.off = rw (halves.left_row, c.children.ensures.left) (stands_left H es parts c.requires.right p.row p.off q halves.some c.requires.within c.requires.stands none) in
-    (omega (arith, c.decreases, halves.left_row, halves.some), (within.0, (within.1, (c.requires.small, (c.requires.room, (c.requires.right, (halves.left_within, (stands, (c.requires.there, (c.requires.rise, c.requires.wide))))))))))
+    let nothing : content es c.children.result.1.row c.children.result.1.off ≡ None = tree_none es parts (alike H es parts c.requires.right) c.children.result.1.row c.children.result.1.off halves.right_within (sym c.in-None-part_in.is ∙ c.part_in-in-Some.ensures) in
+    let inside = in_left es p c.children.result.0 c.children.result.1 c.args.numbers.now halves c.children.ensures.left c.children.ensures.right c.requires.inside nothing in
+    (omega (arith, c.decreases, halves.left_row, halves.some), (within.0, (within.1, (c.requires.small, (c.requires.room, (c.requires.right, (halves.left_within, (stands, (c.requires.there, (c.requires.rise, (inside, c.requires.wide)))))))))))
 
 pub returns-in-None-clause-noted : goal.returns-in-None-clause-noted
 returns-in-None-clause-noted g t c =
@@ -132,7 +140,8 @@ descend-requires-in-Some-part_in g t c κs within =
     let stands : tree_at es c.children-in-Some-part_in.result.0.row c.children-in-Some-part_in.result.0.off ≡ content es c.children.result.0.row c.children.result.0.off = rw (under, c.children-in-Some-part_in.ensures.left, halves.left_row, c.children.ensures.left) both.low in
     let there : InForest (length es) c.children-in-Some-part_in.result.0.row c.children-in-Some-part_in.result.0.off = rw (under, c.children-in-Some-part_in.ensures.left) (within_left (length es) q.row q.off both.high c.requires.there) in
     let rise : IsNonDecreasing c.split_at.result.0.now = subst IsNonDecreasing (sym c.split_at.ensures.front) (IsNonDecreasingBy-take (λ x. x) _ c.args.numbers.now c.requires.rise) in
-    (omega (arith, c.decreases, halves.left_row, halves.some), (within.0, (within.1, (c.requires.small, (c.requires.room, (c.requires.right, (halves.left_within, (stands, (there, (rise, c.requires.wide))))))))))
+    let inside = subst (AreIn es c.children.result.0.row c.children.result.0.off) (sym (c.split_at.ensures.front ∙ c.count_upto.ensures.upto)) (in_low es p c.children.result.0 c.children.result.1 c.args.numbers.now halves c.children.ensures.left c.children.ensures.right c.requires.inside) in
+    (omega (arith, c.decreases, halves.left_row, halves.some), (within.0, (within.1, (c.requires.small, (c.requires.room, (c.requires.right, (halves.left_within, (stands, (there, (rise, (inside, c.requires.wide)))))))))))
 
 pub descend-requires-in-Some-part_in-2 : goal.descend-requires-in-Some-part_in-2
 descend-requires-in-Some-part_in-2 g t c κs within =
@@ -150,7 +159,8 @@ descend-requires-in-Some-part_in-2 g t c κs within =
     let stands : tree_at es c.children-in-Some-part_in.result.1.row c.children-in-Some-part_in.result.1.off ≡ content es c.children.result.1.row c.children.result.1.off = rw (beside, c.children-in-Some-part_in.ensures.right, halves.right_row, c.children.ensures.right) both.above in
     let there : InForest (length es) c.children-in-Some-part_in.result.1.row c.children-in-Some-part_in.result.1.off = rw (beside, c.children-in-Some-part_in.ensures.right) (within_right (length es) q.row q.off both.high c.requires.there) in
     let rise : IsNonDecreasing c.split_at.result.1.now = subst IsNonDecreasing (sym c.split_at.ensures.back) (IsNonDecreasingBy-drop (λ x. x) _ c.args.numbers.now c.requires.rise) in
-    (omega (arith, c.decreases, halves.right_row, halves.some), (within.0, (within.1, (c.requires.small, (c.requires.room, (c.requires.right, (halves.right_within, (stands, (there, (rise, c.in_ok-descend-in-Some-part_in.ensures.wide))))))))))
+    let inside = subst (AreIn es c.children.result.1.row c.children.result.1.off) (sym (c.split_at.ensures.back ∙ c.count_upto.ensures.beyond)) (in_high es p c.children.result.0 c.children.result.1 c.args.numbers.now halves c.children.ensures.left c.children.ensures.right c.requires.inside) in
+    (omega (arith, c.decreases, halves.right_row, halves.some), (within.0, (within.1, (c.requires.small, (c.requires.room, (c.requires.right, (halves.right_within, (stands, (there, (rise, (inside, c.in_ok-descend-in-Some-part_in.ensures.wide)))))))))))
 
 pub returns-in_ok-descend-in-Some-part_in-clause-noted : goal.returns-in_ok-descend-in-Some-part_in-clause-noted
 returns-in_ok-descend-in-Some-part_in-clause-noted g t c =

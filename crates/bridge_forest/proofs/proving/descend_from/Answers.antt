@@ -5,7 +5,8 @@ use Rattle.forest_place.specs.declared.place.Place.{Place}
 use Rattle.forest_place.specs.Forest.{is_root}
 use Rattle.forest_place.proofs.Parts.{is_root-root_off}
 use Rattle.forest_model.proofs.Climbs.{tree_at-root}
-use Rattle.bridge_forest.specs.Proving.{AreFrom}
+use Rattle.bridge_forest.specs.Proving.{AreIn, AreBehind, AreFrom}
+use Rattle.bridge_forest.proofs.Descending.{in_slot, behind_slot, behind_none}
 use Rattle.bridge_forest.proofs.Slotted.{from_same, from_more, behind_even, slot_has, slot_leaves, slot_nothing}
 use Rattle.bridge_forest.proofs.proving.descend_from.Goals.{then-not-is_empty+in_ok-descend, else-not-is_empty}
 use Rattle.bridge_forest.proofs.proving.descend_from.Goals as goal
@@ -48,3 +49,18 @@ returns-clause-noted g c = λ ts all at is f.
           subst (λ rows. AreFrom H es ts row rows.items) (sym w.rows-is)
           (from_more H es ts row root c.args.rows.now.items c.args.rows.now.items refl refl odd f (slot_nothing H es ts all at root c.args.rows.now.items top (sym has ∙ none)))
     ]
+
+pub returns-then-count-eq0-clause-later : goal.returns-then-count-eq0-clause-later
+returns-then-count-eq0-clause-later g c = behind_none c.args.entries.now c.args.row c.args.numbers.now (omega (arith, c.if-count-eq0.true)) c.requires.later
+
+pub descend-requires-clause-inside : goal.descend-requires-clause-inside
+descend-requires-clause-inside g c =
+    let es = c.args.entries.now in
+    let odd : length es / 2 ^ c.args.row % 2 ≡ 1 = omega (arith, c.if-count-eq0.false) in
+    subst (AreIn es c.args.row (length es / 2 ^ c.args.row - 1)) (sym (c.split_at.ensures.front ∙ c.count_upto.ensures.upto)) (in_slot es c.args.row (length es / 2 ^ c.args.row - 1) c.args.numbers.now odd refl c.requires.later)
+
+pub returns-clause-later : goal.returns-clause-later
+returns-clause-later g c =
+    let es = c.args.entries.now in
+    let odd : length es / 2 ^ c.args.row % 2 ≡ 1 = omega (arith, c.if-count-eq0.false) in
+    subst (AreBehind es c.args.row) (sym (c.split_at.ensures.back ∙ c.count_upto.ensures.beyond)) (behind_slot es c.args.row (length es / 2 ^ c.args.row - 1) c.args.numbers.now odd refl c.requires.later)

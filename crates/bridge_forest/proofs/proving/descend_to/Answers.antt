@@ -4,7 +4,7 @@ use Rattle.forest_place.proofs.Positions.{row_small}
 use Rattle.forest_model.specs.Content.{content}
 use Rattle.bridge_forest.specs.Parts.{kept}
 use Rattle.bridge_forest.proofs.Seeking.{alike, tree_none}
-use Rattle.bridge_forest.proofs.Following.{pair_of, other_pair, half_within, half_stands, high_above, stand_beneath, on_half, on_both, on_entry}
+use Rattle.bridge_forest.proofs.Following.{own_half, own_kept, pair_of, other_pair, half_within, half_stands, high_above, stand_beneath, on_half, on_both, on_entry}
 use Rattle.bridge_forest.proofs.proving.descend_to.Goals as goal
 
 pub overflow_shr-number : goal.overflow_shr-number
@@ -22,7 +22,7 @@ part_in-requires-clause-within g c =
     let half = c.child-half.result in
     let other = c.sibling-other.result in
     let pair = pair_of at half other _ (omega (arith, c.way-test.true)) c.child-half.ensures c.sibling-other.ensures.row c.sibling-other.ensures.off in
-    half_within (length es) at half other pair c.way.invariant.within
+    half_within (length es) at other half (other_pair at half other pair) c.way.invariant.within
 
 pub way-preserved-in-None : goal.way-preserved-in-None
 way-preserved-in-None g c =
@@ -34,44 +34,14 @@ way-preserved-in-None g c =
     let half = c.child-half.result in
     let other = c.sibling-other.result in
     let pair = pair_of at half other _ (omega (arith, c.way-test.true)) c.child-half.ensures c.sibling-other.ensures.row c.sibling-other.ensures.off in
-    let none : None ≡ kept es parts half.row half.off = sym c.in-None.is ∙ c.part_in.ensures in
-    let nothing : content es half.row half.off ≡ None = tree_none es parts (alike H es parts c.requires.right) half.row half.off (half_within (length es) at half other pair c.way.invariant.within) none in
-    record {
-      within = half_within (length es) at other half (other_pair at half other pair) c.way.invariant.within;
-      stands = half_stands H es parts c.requires.right at other half q (other_pair at half other pair) c.way.invariant.within c.way.invariant.stands none;
-      there = c.way.invariant.there;
-      wide = c.way.invariant.wide;
-      on = λ ts all s w. on_half H es ts all s c.args.place at other half q _ _ _ (other_pair at half other pair) (c.way.invariant.on ts all s w) nothing;
-    }
-
-pub part_in-requires-in-Some-clause-within : goal.part_in-requires-in-Some-clause-within
-part_in-requires-in-Some-clause-within g c =
-    let H = g.D.Digester.digest_of in
-    let es = c.args.entries.now in
-    let parts = c.args.parts.now in
-    let at = c.way.at in
-    let q = c.way.above in
-    let half = c.child-half.result in
-    let other = c.sibling-other.result in
-    let pair = pair_of at half other _ (omega (arith, c.way-test.true)) c.child-half.ensures c.sibling-other.ensures.row c.sibling-other.ensures.off in
-    half_within (length es) at other half (other_pair at half other pair) c.way.invariant.within
-
-pub way-preserved-in-None-part_in : goal.way-preserved-in-None-part_in
-way-preserved-in-None-part_in g c =
-    let H = g.D.Digester.digest_of in
-    let es = c.args.entries.now in
-    let parts = c.args.parts.now in
-    let at = c.way.at in
-    let q = c.way.above in
-    let half = c.child-half.result in
-    let other = c.sibling-other.result in
-    let pair = pair_of at half other _ (omega (arith, c.way-test.true)) c.child-half.ensures c.sibling-other.ensures.row c.sibling-other.ensures.off in
-    let none : None ≡ kept es parts other.row other.off = sym c.in-None-part_in.is ∙ c.part_in-in-Some.ensures in
+    let inside = own_half at half c.args.number (omega (arith, c.way-test.true)) c.child-half.ensures c.way.invariant.inside in
+    let none : None ≡ kept es parts other.row other.off = sym c.in-None.is ∙ c.part_in.ensures in
     let nothing : content es other.row other.off ≡ None = tree_none es parts (alike H es parts c.requires.right) other.row other.off (half_within (length es) at other half (other_pair at half other pair) c.way.invariant.within) none in
     record {
       within = half_within (length es) at half other pair c.way.invariant.within;
       stands = half_stands H es parts c.requires.right at half other q pair c.way.invariant.within c.way.invariant.stands none;
       there = c.way.invariant.there;
+      inside = inside;
       wide = c.way.invariant.wide;
       on = λ ts all s w. on_half H es ts all s c.args.place at half other q _ _ _ pair (c.way.invariant.on ts all s w) nothing;
     }
@@ -86,9 +56,10 @@ child-below-requires-clause-row g c =
     let half = c.child-half.result in
     let other = c.sibling-other.result in
     let pair = pair_of at half other _ (omega (arith, c.way-test.true)) c.child-half.ensures c.sibling-other.ensures.row c.sibling-other.ensures.off in
-    let one : Some c.in-Some.field-0 ≡ kept es parts half.row half.off = sym c.in-Some.is ∙ c.part_in.ensures in
-    let two : Some c.in-Some-part_in.field-0 ≡ kept es parts other.row other.off = sym c.in-Some-part_in.is ∙ c.part_in-in-Some.ensures in
-    let above = high_above H es parts c.requires.right at half other q c.in-Some.field-0 c.in-Some-part_in.field-0 pair c.way.invariant.within c.way.invariant.stands one two in
+    let inside = own_half at half c.args.number (omega (arith, c.way-test.true)) c.child-half.ensures c.way.invariant.inside in
+    let one = own_kept H es parts c.requires.right half.row half.off c.args.number (half_within (length es) at half other pair c.way.invariant.within) (c.requires.inside 0 0 (omega arith)).0 inside in
+    let two : Some c.in-Some.field-0 ≡ kept es parts other.row other.off = sym c.in-Some.is ∙ c.part_in.ensures in
+    let above = high_above H es parts c.requires.right at half other q one.0 c.in-Some.field-0 pair c.way.invariant.within c.way.invariant.stands one.1 two in
     above
 
 pub note-requires-clause-within : goal.note-requires-clause-within
@@ -113,14 +84,15 @@ note-requires-clause-stands g c =
     let half = c.child-half.result in
     let other = c.sibling-other.result in
     let pair = pair_of at half other _ (omega (arith, c.way-test.true)) c.child-half.ensures c.sibling-other.ensures.row c.sibling-other.ensures.off in
-    let one : Some c.in-Some.field-0 ≡ kept es parts half.row half.off = sym c.in-Some.is ∙ c.part_in.ensures in
-    let two : Some c.in-Some-part_in.field-0 ≡ kept es parts other.row other.off = sym c.in-Some-part_in.is ∙ c.part_in-in-Some.ensures in
-    let above = high_above H es parts c.requires.right at half other q c.in-Some.field-0 c.in-Some-part_in.field-0 pair c.way.invariant.within c.way.invariant.stands one two in
+    let inside = own_half at half c.args.number (omega (arith, c.way-test.true)) c.child-half.ensures c.way.invariant.inside in
+    let one = own_kept H es parts c.requires.right half.row half.off c.args.number (half_within (length es) at half other pair c.way.invariant.within) (c.requires.inside 0 0 (omega arith)).0 inside in
+    let two : Some c.in-Some.field-0 ≡ kept es parts other.row other.off = sym c.in-Some.is ∙ c.part_in.ensures in
+    let above = high_above H es parts c.requires.right at half other q one.0 c.in-Some.field-0 pair c.way.invariant.within c.way.invariant.stands one.1 two in
     let below = c.child-below.result in
     let beside = c.sibling.result in
     let under = pair_of q below beside _ above c.child-below.ensures c.sibling.ensures.row c.sibling.ensures.off in
     let alike : below.off % 2 ≡ half.off % 2 = let off = ap (λ (p : Place). p.off) c.child-below.ensures in omega (arith, off) in
-    let beneath = stand_beneath H es parts c.requires.right at half other q below beside c.in-Some.field-0 c.in-Some-part_in.field-0 pair under alike c.way.invariant.within c.way.invariant.stands one two in
+    let beneath = stand_beneath H es parts c.requires.right at half other q below beside one.0 c.in-Some.field-0 pair under alike c.way.invariant.within c.way.invariant.stands one.1 two in
     beneath.other_there
 
 pub way-preserved : goal.way-preserved
@@ -133,21 +105,23 @@ way-preserved g c =
     let half = c.child-half.result in
     let other = c.sibling-other.result in
     let pair = pair_of at half other _ (omega (arith, c.way-test.true)) c.child-half.ensures c.sibling-other.ensures.row c.sibling-other.ensures.off in
-    let one : Some c.in-Some.field-0 ≡ kept es parts half.row half.off = sym c.in-Some.is ∙ c.part_in.ensures in
-    let two : Some c.in-Some-part_in.field-0 ≡ kept es parts other.row other.off = sym c.in-Some-part_in.is ∙ c.part_in-in-Some.ensures in
-    let above = high_above H es parts c.requires.right at half other q c.in-Some.field-0 c.in-Some-part_in.field-0 pair c.way.invariant.within c.way.invariant.stands one two in
+    let inside = own_half at half c.args.number (omega (arith, c.way-test.true)) c.child-half.ensures c.way.invariant.inside in
+    let one = own_kept H es parts c.requires.right half.row half.off c.args.number (half_within (length es) at half other pair c.way.invariant.within) (c.requires.inside 0 0 (omega arith)).0 inside in
+    let two : Some c.in-Some.field-0 ≡ kept es parts other.row other.off = sym c.in-Some.is ∙ c.part_in.ensures in
+    let above = high_above H es parts c.requires.right at half other q one.0 c.in-Some.field-0 pair c.way.invariant.within c.way.invariant.stands one.1 two in
     let below = c.child-below.result in
     let beside = c.sibling.result in
     let under = pair_of q below beside _ above c.child-below.ensures c.sibling.ensures.row c.sibling.ensures.off in
     let alike : below.off % 2 ≡ half.off % 2 = let off = ap (λ (p : Place). p.off) c.child-below.ensures in omega (arith, off) in
-    let beneath = stand_beneath H es parts c.requires.right at half other q below beside c.in-Some.field-0 c.in-Some-part_in.field-0 pair under alike c.way.invariant.within c.way.invariant.stands one two in
+    let beneath = stand_beneath H es parts c.requires.right at half other q below beside one.0 c.in-Some.field-0 pair under alike c.way.invariant.within c.way.invariant.stands one.1 two in
     let side : half.off % 2 ≡ c.args.number / 2 ^ half.row % 2 = let row = ap (λ (p : Place). p.row) c.child-half.ensures in let off = ap (λ (p : Place). p.off) c.child-half.ensures in omega (arith, off, ap (λ r. c.args.number / 2 ^ r % 2) row) in
     record {
       within = half_within (length es) at half other pair c.way.invariant.within;
       stands = beneath.half_there;
       there = half_within (length es) q below beside under c.way.invariant.there;
-      wide = c.in_ok-note-in-Some-part_in.ensures.wide;
-      on = λ ts all s w. on_both H es ts all s c.args.place at half other q below beside c.args.number _ _ _ pair under side alike c.way.invariant.there c.way.invariant.stands beneath c.in_ok-note-in-Some-part_in.ensures.here c.in_ok-note-in-Some-part_in.ensures.others (c.way.invariant.on ts all s w);
+      inside = inside;
+      wide = c.in_ok-note-in-Some.ensures.wide;
+      on = λ ts all s w. on_both H es ts all s c.args.place at half other q below beside c.args.number _ _ _ pair under side alike c.way.invariant.there c.way.invariant.stands beneath c.in_ok-note-in-Some.ensures.here c.in_ok-note-in-Some.ensures.others (c.way.invariant.on ts all s w);
     }
 
 pub returns-clause-noted : goal.returns-clause-noted

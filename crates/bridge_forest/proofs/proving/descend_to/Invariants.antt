@@ -1,4 +1,4 @@
-use Rattle.std.proofs.Common.{◌≡◌, ℕ, List, [], ◌∷◌, length}
+use Rattle.std.proofs.Common.{◌≡◌, ℕ, ◌/◌, ◌^◌, List, [], ◌∷◌, length}
 use Rattle.forest_place.specs.Forest.{InForest}
 use Rattle.forest_place.specs.declared.place.Place.{Place}
 use Rattle.forest_model.specs.Content.{content}
@@ -13,6 +13,7 @@ invariant-way g l = record {
   within : InForest (length l.entries) l.at.row l.at.off;
   stands : tree_at l.entries l.above.row l.above.off ≡ content l.entries l.at.row l.at.off;
   there : InForest (length l.entries) l.above.row l.above.off;
+  inside : l.number / 2 ^ l.at.row ≡ l.at.off;
   wide : HasRows (length l.entries) l.rows.items;
   on : (ts : List Place) (all : List ℕ) → StandAt l.entries ts all → AreOfPart l.entries ts all l.fn.part l.fn.place (l.number ∷ []) → IsOn g.D.Digester.digest_of l.entries ts all l.fn.place l.at l.above (l.number ∷ []) l.initial.rows.items l.rows.items;
 }
