@@ -1,6 +1,6 @@
 -- The way up from a part to the root of its slot: where it stands beneath the parts above it.
-use Rattle.std.proofs.Common.{◌≡◌, ℕ, suc, ◌+◌, ◌-◌, ◌*◌, ◌/◌, ◌%◌, ◌^◌, ◌<◌, ◌≤◌, Bool, true, false, List, length, Option, Some, None, refl, sym, ap, ap₂, ◌∙◌, subst, ⊎_elim, arith}
-use Rattle.std.specs.Prelude.{is_some, slice_get, IfSome}
+use Rattle.std.proofs.Common.{◌≡◌, ℕ, suc, ◌+◌, ◌-◌, ◌*◌, ◌/◌, ◌%◌, ◌^◌, ◌<◌, ◌≤◌, Bool, true, false, List, length, Option, Some, None, refl, sym, ap, ap₂, ◌∙◌, ⊎_elim, arith}
+use Rattle.std.specs.Prelude.{is_some}
 use Rattle.std.proofs.Math.Nat.{div-le_self, pow-suc}
 use Rattle.std.specs.Bool.{OnTrue, OnFalse}
 use Rattle.std.proofs.lemmas.Bool.{true≢false, cases_eq}
@@ -8,12 +8,11 @@ use Rattle.uo_digest.specs.declared.digest.Digest.{Digest}
 use Rattle.forest_place.specs.declared.place.Place.{Place}
 use Rattle.forest_model.specs.Content.{content}
 use Rattle.forest_place.specs.Forest.{InForest, is_root, sibling_off}
-use Rattle.forest_place.proofs.Parts.{parts-suc}
 use Rattle.forest_place.proofs.Siblings.{sibling_within}
 use Rattle.forest_model.specs.Standing.{tree_at}
 use Rattle.forest_model.proofs.Climbs.{tree_at-root}
 use Rattle.bridge_forest.specs.Parts.{PartLists, kept}
-use Rattle.bridge_forest.specs.Lookups.{AreAlike, AreAhead}
+use Rattle.bridge_forest.specs.Lookups.{AreAlike}
 use Rattle.bridge_forest.proofs.Seeking.{up_code, kept_above_some, place_same, place_children, place_child_within}
 
 -- where a tree stands that lies so many rows beneath another and so far from its left
@@ -115,25 +114,3 @@ module _ (es : List (Option Digest)) (parts : PartLists) (right : AreAlike es pa
   ascent-ends row off rows width left root a within some =
       let here = a.stands (record { row = row; off = off }) (tree_at-root es row off root) in
       (here.0, here.1, place_child_within es parts right from.row from.off (record { row = row - rows; off = off * width + left }) here.1 within some)
-
--- ---- what is told beforehand
-
-pub within_first : (n number : ℕ) → number < n → InForest n 0 number
-within_first n number lt = let one : n / 1 ≡ n = omega arith in subst (λ m. number < m) (sym one) lt
-
-pub here_above : (number : ℕ) (part above : Place) → above ≡ record { row = part.row + 1; off = part.off / 2 } → part.off ≡ number / 2 ^ part.row → above.off ≡ number / 2 ^ above.row
-here_above number part above up here =
-    let e : suc part.row ≡ part.row + 1 = omega arith in
-    ap (λ (p : Place). p.off) up ∙ (ap (λ o. o / 2) here ∙ (sym (parts-suc number part.row) ∙ (ap (λ r. number / 2 ^ r) e ∙ sym (ap (λ (p : Place). number / 2 ^ p.row) up))))
-
--- what is told of a row is so, and else it is read
-pub beside_told : (es : List (Option Digest)) (parts : PartLists) (number : ℕ) (ahead : List (Option Digest)) (part : Place) (beside : Bool) → AreAhead es parts number ahead → part.off ≡ number / 2 ^ part.row → InForest (length es) part.row (sibling_off part.off) →
-    IfSome (slice_get ahead part.row) (λ told. beside ≡ is_some told) → (slice_get ahead part.row ≡ None → beside ≡ is_some (kept es parts part.row (sibling_off part.off))) → beside ≡ is_some (kept es parts part.row (sibling_off part.off))
-beside_told es parts number ahead part beside a here within told sought = by (slice_get ahead part.row) refl told sought
-  where
-    off : sibling_off part.off ≡ sibling_off (number / 2 ^ part.row)
-    off = ap sibling_off here
-
-    by : (x : Option (Option Digest)) → slice_get ahead part.row ≡ x → IfSome x (λ t. beside ≡ is_some t) → (x ≡ None → beside ≡ is_some (kept es parts part.row (sibling_off part.off))) → beside ≡ is_some (kept es parts part.row (sibling_off part.off))
-    by None e t s = s refl
-    by (Some t) e is s = is ∙ ap is_some (a.is part.row t e (subst (λ o. InForest (length es) part.row o) off within) ∙ sym (ap (kept es parts part.row) off))

@@ -1,7 +1,7 @@
 -- The way down from a part to those of all entries that it has: what is noted on it.
-use Rattle.std.proofs.Common.{◌≡◌, ◌≢◌, ℕ, suc, ◌+◌, ◌-◌, ◌*◌, ◌/◌, ◌%◌, ◌^◌, ◌<◌, ◌≤◌, Bool, true, false, List, [], ◌∷◌, length, get_or, Option, Some, None, refl, sym, ap, ap₂, ◌∙◌, subst, ⊎_elim, ◌⊎◌, arith, eq-eqb, All}
+use Rattle.std.proofs.Common.{◌≡◌, ◌≢◌, ℕ, zero, suc, ◌+◌, ◌-◌, ◌*◌, ◌/◌, ◌%◌, ◌^◌, ◌<◌, ◌≤◌, Bool, true, false, List, [], ◌∷◌, length, get_or, Option, Some, None, refl, sym, ap, ap₂, ◌∙◌, subst, ⊎_elim, ◌⊎◌, arith, eq-eqb, All}
 use Rattle.std.specs.Prelude.{◌==◌, not, nat_le, filter, option_map, Result, Ok, Err, OnOk}
-use Rattle.std.proofs.lemmas.Bool.{cases_Bool, cases_lt, eqb-true, le-leb, lt-leb, leb-true, leb-false, not-true, and_parts, and_from}
+use Rattle.std.proofs.lemmas.Bool.{true≢false, cases_Bool, cases_lt, eqb-true, le-leb, lt-leb, leb-true, leb-false, not-true, and_parts, and_from}
 use Rattle.std.proofs.Math.Nat.{div-eq_of_lt}
 use Rattle.std.proofs.lemmas.List.Elements.{All-nil, All-cons, All-head, All-tail, All-weaker}
 use Rattle.std.proofs.lemmas.Option.{none-some}
@@ -115,6 +115,19 @@ behind_slot es row off numbers odd is later = filter_holds (λ i. not (nat_le (i
 pub behind_none : (es : List (Option Digest)) (row : ℕ) (numbers : List ℕ) → length es / 2 ^ row % 2 ≡ 0 → AreBehind es (suc row) numbers → AreBehind es row numbers
 behind_none es row numbers even later = All-weaker (λ i. (is_live es i ≡ true) × (length es / 2 ^ suc row ≤ i / 2 ^ suc row)) (λ i. (is_live es i ≡ true) × (length es / 2 ^ row ≤ i / 2 ^ row)) (λ i w.
     (w.0, omega (arith, parts-suc i row, parts-suc (length es) row, w.1, even))) numbers later
+
+-- a live entry is one of those that there are
+live_below : (es : List (Option Digest)) (i : ℕ) → is_live es i ≡ true → i < length es
+live_below [] i live = absurd (true≢false (sym live))
+live_below (x ∷ es) zero live = omega arith
+live_below (x ∷ es) (suc i) live = let up = live_below es i live in omega (arith, up)
+
+pub behind_nothing : (es : List (Option Digest)) (numbers : List ℕ) → AreBehind es 0 numbers → numbers ≡ []
+behind_nothing es [] later = refl
+behind_nothing es (i ∷ is) later =
+    let here = All-head (λ j. (is_live es j ≡ true) × (length es / 2 ^ 0 ≤ j / 2 ^ 0)) i is later in
+    let low = live_below es i here.0 in
+    absurd (let over : length es / 1 ≤ i / 1 = here.1 in omega (arith, low, over))
 
 pub behind_all : (es : List (Option Digest)) (numbers : List ℕ) → length es < 2 ^ 40 → All (λ i. is_live es i ≡ true) numbers → AreBehind es 40 numbers
 behind_all es numbers few live = All-weaker (λ i. is_live es i ≡ true) (λ i. (is_live es i ≡ true) × (length es / 2 ^ 40 ≤ i / 2 ^ 40)) (λ i w. let none : length es / 2 ^ 40 ≡ 0 = div-eq_of_lt few in (w, omega (arith, none))) numbers live

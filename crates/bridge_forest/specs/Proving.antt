@@ -1,5 +1,5 @@
 -- What proves entries: the digests at the places that theirs need.
-use Rattle.std.specs.Prelude.{◌≡◌, ℕ, ◌-◌, ◌*◌, ◌/◌, ◌^◌, ◌<◌, ◌≤◌, true, false, List, [], ◌++◌, length, filter, get_or, Option, Some, option_map, ◌==◌, nat_le, All, if◌then◌else◌}
+use Rattle.std.specs.Prelude.{◌≡◌, ℕ, ◌-◌, ◌*◌, ◌/◌, ◌^◌, ◌<◌, ◌≤◌, true, false, List, [], ◌++◌, length, map, filter, get_or, Option, Some, option_map, ◌==◌, nat_le, All, if◌then◌else◌}
 use Rattle.std.specs.List.{filter_map}
 use Rattle.uo_digest.specs.declared.digest.Digest.{Digest}
 use Rattle.forest_place.specs.declared.place.Place.{Place}
@@ -36,6 +36,10 @@ beneath H es ts q row = if nat_le row q.row then in_row H es ts row (q.off * 2 ^
 -- the list of a row
 abbrev pub list_of : List (List Sibling) → ℕ → List Sibling
 list_of rows row = get_or rows row []
+
+-- the list has the places of these entries more
+abbrev pub HasPlaces : List (Option Digest) → List ℕ → List Place → List Place → Type 0
+HasPlaces es numbers old new = map Some new ≡ map Some old ++ map (entry_place es) numbers
 
 -- live entries of a part
 abbrev pub AreIn : List (Option Digest) → ℕ → ℕ → List ℕ → Type 0

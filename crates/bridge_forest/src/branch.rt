@@ -29,3 +29,12 @@ pub struct Branch {
     /// The siblings of this place and of those above it, from below the root of the slot down.
     pub siblings: ArrayVec<Sibling, 40>,
 }
+
+/// Where live entries stand, and what proves them all.
+#[derive(Drop)]
+pub struct BatchProof {
+    /// The places at which the entries stand, in their order.
+    pub places: Vec<Place>,
+    /// The siblings that these places need, ascending by position.
+    pub siblings: Vec<Sibling>,
+}

@@ -1,6 +1,6 @@
 //! What proves entries: the digests that stand beside the ways down to them, all of them from one walk down. It goes through each part once,
 //! and where it reads the halves of one does not hang on what another has.
-ghost use Rattle.std.specs.Prelude.{◌≡◌, ◌≢◌, ℕ, List, suc, ◌++◌, ◌∷◌, ◌/◌, ◌^◌, ◌<◌, ◌≤◌, [], true, length, filter, take, drop, not, nat_le, All, IfOk, OnOk, OnErr};
+ghost use Rattle.std.specs.Prelude.{◌≡◌, ◌≢◌, ℕ, List, suc, ◌++◌, ◌∷◌, ◌/◌, ◌^◌, ◌<◌, ◌≤◌, [], true, length, filter, map, take, drop, not, nat_le, Some, All, IfOk, OnOk, OnErr};
 ghost use Rattle.std.specs.List.{filter_map, flat_map};
 ghost use Rattle.std.specs.List.Sorted.{IsNonDecreasing};
 ghost use Rattle.forest_place.specs.Forest.{InForest};
@@ -8,12 +8,13 @@ ghost use Rattle.forest_place.specs.declared.place.Place.{Place};
 ghost use Rattle.forest_model.specs.Content.{content};
 ghost use Rattle.forest_model.specs.Deletion.{StandAt};
 ghost use Rattle.forest_model.specs.Standing.{tree_at};
+ghost use Rattle.forest_model.specs.EntryPlace.{entry_place};
 ghost use Rattle.bridge_forest.specs.Parts.{AreParts};
-ghost use Rattle.bridge_forest.specs.Proving.{places_of, standing, proof_of, in_row, list_of, HasRows, AreIn, AreBehind, AreMore, AreOfPart, AreFrom, behind};
+ghost use Rattle.bridge_forest.specs.Proving.{places_of, standing, proof_of, in_row, list_of, HasRows, HasPlaces, AreIn, AreBehind, AreMore, AreOfPart, AreFrom, behind};
 ghost use Rattle.bridge_forest.specs.State.{is_live};
 
 use crate::arena::part_in;
-use crate::branch::Sibling;
+use crate::branch::{BatchProof, Sibling};
 use crate::parts::Parts;
 use crate::seek::child;
 use forest_place::{Place, children, sibling};
@@ -137,6 +138,7 @@ fn descend_to<D: Digester>(
     place: Place,
     number: u64,
     rows: &mut Vec<Row>,
+    places: &mut Vec<Place>,
 ) -> Result<(), AllocError>
     requires small { length entries.now < 2 ^ 40 }
     requires room { length entries.now ≤ length parts.now.low }
@@ -147,6 +149,7 @@ fn descend_to<D: Digester>(
     requires inside { AreIn entries.now part.row part.off (number ∷ []) }
     requires wide { HasRows (length entries.now) rows.old.items }
     ensures wide { HasRows (length entries.now) rows.new.items }
+    ensures places { OnOk result (HasPlaces entries.now (number ∷ []) places.old.items places.new.items) }
     ensures noted { OnOk result ((ts : List Place) (all : List ℕ) → StandAt entries.now ts all → AreOfPart entries.now ts all part place (number ∷ []) → AreMore D.digest_of entries.now ts place rows.old.items rows.new.items) }
 {
     let n = entries.len() as u64;
@@ -165,6 +168,17 @@ fn descend_to<D: Digester>(
             }
         }
     }
+    places.push(above)?;
+    Ok(())
+}
+
+// Adds the place once for each of these numbers.
+fn push_each(places: &mut Vec<Place>, place: Place, numbers: &[u64]) -> Result<(), AllocError>
+    ensures { OnOk result (map Some places.new.items ≡ map Some places.old.items ++ map (λ _. Some place) numbers.now) }
+{
+    for _ in numbers {
+        places.push(place)?;
+    }
     Ok(())
 }
 
@@ -176,6 +190,7 @@ fn descend<D: Digester>(
     place: Place,
     numbers: &[u64],
     rows: &mut Vec<Row>,
+    places: &mut Vec<Place>,
 ) -> Result<(), AllocError>
     requires small { length entries.now < 2 ^ 40 }
     requires room { length entries.now ≤ length parts.now.low }
@@ -187,6 +202,7 @@ fn descend<D: Digester>(
     requires inside { AreIn entries.now part.row part.off numbers.now }
     requires wide { HasRows (length entries.now) rows.old.items }
     ensures wide { HasRows (length entries.now) rows.new.items }
+    ensures places { OnOk result (HasPlaces entries.now numbers.now places.old.items places.new.items) }
 
     // Whatever all entries are of which it has these.
     ensures noted { OnOk result ((ts : List Place) (all : List ℕ) → StandAt entries.now ts all → AreOfPart entries.now ts all part place numbers.now → AreMore D.digest_of entries.now ts place rows.old.items rows.new.items) }
@@ -195,22 +211,22 @@ fn descend<D: Digester>(
         return note::<D>(entries, parts, part, place, rows);
     }
     if numbers.len() == 1 {
-        return descend_to::<D>(entries, parts, part, place, numbers[0], rows);
+        return descend_to::<D>(entries, parts, part, place, numbers[0], rows, places);
     }
     if part.row == 0 {
-        return Ok(());
+        return push_each(places, place, numbers);
     }
     let n = entries.len() as u64;
     let (left, right) = children(part);
     match part_in(entries, parts, n, left.row, left.off) {
-        None => descend::<D>(entries, parts, right, place, numbers, rows),
+        None => descend::<D>(entries, parts, right, place, numbers, rows, places),
         Some(_) => match part_in(entries, parts, n, right.row, right.off) {
-            None => descend::<D>(entries, parts, left, place, numbers, rows),
+            None => descend::<D>(entries, parts, left, place, numbers, rows, places),
             Some(_) => {
                 let (low, high) = numbers.split_at(count_upto(numbers, left.row, left.off));
                 let (below_left, below_right) = children(place);
-                descend::<D>(entries, parts, left, below_left, low, rows)?;
-                descend::<D>(entries, parts, right, below_right, high, rows)
+                descend::<D>(entries, parts, left, below_left, low, rows, places)?;
+                descend::<D>(entries, parts, right, below_right, high, rows, places)
             }
         },
     }
@@ -223,6 +239,7 @@ fn descend_from<'a, D: Digester>(
     row: u8,
     numbers: &'a [u64],
     rows: &mut Vec<Row>,
+    places: &mut Vec<Place>,
 ) -> Result<&'a [u64], AllocError>
     requires small { length entries.now < 2 ^ 40 }
     requires room { length entries.now ≤ length parts.now.low }
@@ -234,6 +251,7 @@ fn descend_from<'a, D: Digester>(
     ensures wide { HasRows (length entries.now) rows.new.items }
     ensures rise { IfOk result (λ numbers. IsNonDecreasing numbers.now) }
     ensures later { IfOk result (λ left. AreBehind entries.now row left.now) }
+    ensures places { IfOk result (λ left. (here : List ℕ) × (here ++ left.now ≡ numbers.now) × HasPlaces entries.now here places.old.items places.new.items) }
     ensures behind { IfOk result (λ left. (all : List ℕ) → numbers.now ≡ behind (length entries.now) (suc row) all → left.now ≡ behind (length entries.now) row all) }
     ensures noted { OnOk result ((ts : List Place) (all : List ℕ) → StandAt entries.now ts all → numbers.now ≡ behind (length entries.now) (suc row) all → AreFrom D.digest_of entries.now ts (suc row) rows.old.items → AreFrom D.digest_of entries.now ts row rows.new.items) }
 {
@@ -247,17 +265,18 @@ fn descend_from<'a, D: Digester>(
     };
     let (here, behind) = numbers.split_at(count_upto(numbers, row, root.off));
     if !here.is_empty() {
-        descend::<D>(entries, parts, root, root, here, rows)?;
+        descend::<D>(entries, parts, root, root, here, rows, places)?;
     }
     Ok(behind)
 }
 
-// What stands beside the ways down to these entries, by rows.
+// What stands beside the ways down to these entries, by rows. Where they stand is put to the places.
 fn rows_of<D: Digester>(
     alloc: Global,
     entries: &[Option<Digest>],
     parts: &Parts,
     numbers: &[u64],
+    places: &mut Vec<Place>,
 ) -> Result<Vec<Row>, AllocError>
     requires small { length entries.now < 2 ^ 40 }
     requires room { length entries.now ≤ length parts.now.low }
@@ -265,12 +284,13 @@ fn rows_of<D: Digester>(
     requires live { All (λ i. is_live entries.now i ≡ true) numbers.now }
     requires rise { IsNonDecreasing numbers.now }
     ensures wide { IfOk result (λ rows. HasRows (length entries.now) rows.items) }
+    ensures places { OnOk result (HasPlaces entries.now numbers.now places.old.items places.new.items) }
     ensures are { IfOk result (λ rows. (row : ℕ) → list_of rows.items row ≡ in_row D.digest_of entries.now (places_of entries.now numbers.now) row 0 (length entries.now / 2 ^ row)) }
 {
     let mut rows = no_rows(alloc, entries.len() as u64, numbers.len())?;
     let mut left = numbers;
     for row in 0..40u8 {
-        left = descend_from::<D>(entries, parts, 39 - row, left, &mut rows)?;
+        left = descend_from::<D>(entries, parts, 39 - row, left, &mut rows, places)?;
     }
     Ok(rows)
 }
@@ -297,20 +317,23 @@ fn joined(alloc: Global, rows: &[Row]) -> Result<Vec<Sibling>, AllocError>
     Ok(all)
 }
 
-// What proves these entries, which rise.
+// Where these entries stand, which rise, and what proves them.
 pub(crate) fn proof_of_entries<D: Digester>(
     alloc: Global,
     entries: &[Option<Digest>],
     parts: &Parts,
     numbers: &[u64],
-) -> Result<Vec<Sibling>, AllocError>
+) -> Result<BatchProof, AllocError>
     requires small { length entries.now < 2 ^ 40 }
     requires room { length entries.now ≤ length parts.now.low }
     requires right { AreParts D.digest_of (length entries.now) entries.now parts.now }
     requires live { All (λ i. is_live entries.now i ≡ true) numbers.now }
     requires rise { IsNonDecreasing numbers.now }
-    ensures { IfOk result (λ proof. proof.items ≡ proof_of D.digest_of entries.now numbers.now) }
+    ensures places { IfOk result (λ b. map Some b.places.items ≡ map (entry_place entries.now) numbers.now) }
+    ensures siblings { IfOk result (λ b. b.siblings.items ≡ proof_of D.digest_of entries.now numbers.now) }
 {
-    let rows = rows_of::<D>(alloc, entries, parts, numbers)?;
-    joined(alloc, &rows)
+    let mut places = Vec::with_capacity(alloc, numbers.len())?;
+    let rows = rows_of::<D>(alloc, entries, parts, numbers, &mut places)?;
+    let siblings = joined(alloc, &rows)?;
+    Ok(BatchProof { places, siblings })
 }

@@ -73,10 +73,10 @@ placed_within es n i place count live there =
     let same : found.0 ≡ place = same_Some found.0 place (sym found.1 ∙ there) in
     subst (λ m. InForest m place.row place.off) (sym count) (subst (λ (p : Place). InForest (length es) p.row p.off) same (tree_at-forest es found.0.row found.0.off _ found.2))
 
-pub placed_at : (es : List (Option Digest)) (numbers : List ℕ) (places : List Place) (i : ℕ) (place : Place) → map Some places ≡ map (entry_place es) numbers → i < length numbers → place ≡ get_or places i place → entry_place es (get_or numbers i 0) ≡ Some place
-placed_at es numbers places i place are lt is =
+pub placed_at : (es : List (Option Digest)) (numbers : List ℕ) (places : List Place) (i : ℕ) (d : Place) → map Some places ≡ map (entry_place es) numbers → i < length numbers → entry_place es (get_or numbers i 0) ≡ Some (get_or places i d)
+placed_at es numbers places i d are lt =
     let long : length places ≡ length numbers = sym (length-map places Some) ∙ (ap length are ∙ length-map numbers (entry_place es)) in
-    sym (get_or-map (entry_place es) numbers i 0 None lt) ∙ (ap (λ xs. get_or xs i None) (sym are) ∙ (get_or-map Some places i place None (omega (arith, lt, long)) ∙ ap Some (sym is)))
+    sym (get_or-map (entry_place es) numbers i 0 None lt) ∙ (ap (λ xs. get_or xs i None) (sym are) ∙ get_or-map Some places i d None (omega (arith, lt, long)))
 
 pub shown_more : (es : List (Option Digest)) (hs : List Held) (lean : Bool) (numbers : List ℕ) (i : ℕ) (old new : Message) → i < length numbers → old ≡ record { lean = lean; proof = record { spends = spends_by es hs (take i numbers); hashes = [] } } →
     new ≡ record { lean = old.lean; proof = record { spends = old.proof.spends ++ spends_by es hs (get_or numbers i 0 ∷ []); hashes = old.proof.hashes } } → new ≡ record { lean = lean; proof = record { spends = spends_by es hs (take (i + 1) numbers); hashes = [] } }

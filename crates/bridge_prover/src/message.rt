@@ -29,6 +29,19 @@ pub(crate) fn target<D: Digester>(forest: &Forest<D>, number: u64) -> u64
     position(forest.place(number), forest.leaves())
 }
 
+// The place at which a live entry stands, which is told beside its number where that is among these, which ascend.
+fn place_of<D: Digester>(forest: &Forest<D>, spent: &[u64], places: &[Place], number: u64) -> Place
+    requires live { is_live forest.now.entries number ≡ true }
+    requires told { map Some places.now ≡ map (entry_place forest.now.entries) spent.now }
+    requires rise { IsNonDecreasing spent.now }
+    ensures { entry_place forest.now.entries number ≡ Some result }
+{
+    match spent.binary_search(&number) {
+        Ok(at) => places[at],
+        Err(_) => forest.place(number),
+    }
+}
+
 // Shows an entry that stands at this place, if it is held.
 fn put_spend<D: Digester>(
     message: &mut Message,
@@ -116,13 +129,13 @@ pub(crate) fn message_of<D: Digester>(
     requires rise { IsNonDecreasing spent.now }
     ensures { IfOk result (λ m. m ≡ record { lean = lean; proof = proof_beside D.digest_of kept.now.targets forest.now.entries outputs.now numbers.now }) }
 {
-    let places = forest.places(alloc, numbers)?;
     let proof = forest.proof_of(alloc, spent)?;
-    let mut message = Message::with_room(alloc, lean, numbers.len(), proof.len())?;
-    for i in 0..numbers.len() {
-        put_spend::<D>(&mut message, forest, outputs, numbers[i], places[i])?;
+    let mut message = Message::with_room(alloc, lean, numbers.len(), proof.siblings.len())?;
+    for number in numbers {
+        let place = place_of::<D>(forest, spent, &proof.places, *number);
+        put_spend::<D>(&mut message, forest, outputs, *number, place)?;
     }
-    for sibling in &proof {
+    for sibling in &proof.siblings {
         put_hash(&mut message, kept, sibling)?;
     }
     Ok(message)

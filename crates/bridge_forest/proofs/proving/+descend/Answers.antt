@@ -1,18 +1,19 @@
-use Rattle.std.proofs.Common.{◌≡◌, ◌+◌, ◌-◌, ◌*◌, [], length, Some, None, sym, ap, ap₂, ◌∙◌, subst, arith, eq-eqb}
+use Rattle.std.proofs.Common.{◌≡◌, ◌+◌, ◌-◌, ◌*◌, ◌++◌, [], length, map, Some, None, sym, ap, ap₂, ◌∙◌, subst, arith, eq-eqb}
 use Rattle.std.specs.List.Sorted.{IsNonDecreasing}
 use Rattle.std.proofs.lemmas.Bool.{eqb-true, true≢false}
-use Rattle.std.proofs.lemmas.List.{nil_from_length}
+use Rattle.std.proofs.lemmas.List.{nil_from_length, take-append-drop}
 use Rattle.std.proofs.lemmas.List.Sorted.{IsNonDecreasingBy-take, IsNonDecreasingBy-drop}
 use Rattle.forest_place.specs.Forest.{InForest}
 use Rattle.forest_place.proofs.Positions.{row_small}
 use Rattle.forest_model.specs.Content.{content}
 use Rattle.forest_model.specs.Standing.{tree_at}
 use Rattle.bridge_forest.specs.Parts.{kept}
-use Rattle.bridge_forest.specs.Proving.{AreIn}
+use Rattle.bridge_forest.specs.Proving.{AreIn, HasPlaces}
 use Rattle.bridge_forest.proofs.Seeking.{within_left, within_right, alike, tree_none}
 use Rattle.bridge_forest.proofs.Ascending.{off-below}
 use Rattle.bridge_forest.proofs.Noting.{stands_left, stands_right, stand_both}
 use Rattle.bridge_forest.proofs.Beneath.{more_nothing, more_one}
+use Rattle.bridge_forest.proofs.Placing.{places_none, places_both, places_same}
 use Rattle.bridge_forest.proofs.Descending.{on_ok, halves_of, in_one, in_left, in_right, in_low, in_high, some_number, way_none, way_one, way_left, way_right, AreHalved, way_low, way_high, way_both}
 use Rattle.bridge_forest.proofs.proving.+descend.Goals as goal
 
@@ -33,7 +34,7 @@ returns-then-part-eq0-clause-noted g t c =
     let H = g.D.Digester.digest_of in
     let es = c.args.entries.now in
     let has = some_number c.args.numbers.now (λ e. true≢false (sym (c.is_empty.ensures ∙ eq-eqb _ _ e) ∙ c.if-is_empty.false)) in
-    λ ts all at w. more_nothing H es ts c.args.place c.args.rows.now.items (way_one es ts all at H c.args.part c.args.place c.args.numbers.now has.0 (omega (arith, c.if-part-eq0.true)) has.1 c.requires.stands w)
+    on_ok c.push_each.result (λ _ ts all at w. more_nothing H es ts c.args.place c.args.rows.now.items (way_one es ts all at H c.args.part c.args.place c.args.numbers.now has.0 (omega (arith, c.if-part-eq0.true)) has.1 c.requires.stands w)) c.push_each.ensures
 
 pub part_in-requires-clause-within : goal.part_in-requires-clause-within
 part_in-requires-clause-within g t c =
@@ -191,3 +192,19 @@ returns-in_ok-descend-in-Some-part_in-clause-noted g t c =
     let one = way_low es ts all at p q l r u b c.args.numbers.now halved w c.split_at.result.0.now has.0 (c.split_at.ensures.front ∙ c.count_upto.ensures.upto) has.1 in
     let other = way_high es ts all at p q l r u b c.args.numbers.now halved w c.split_at.result.1.now has.0 (c.split_at.ensures.back ∙ c.count_upto.ensures.beyond) has.1 in
     way_both es ts all at p q l r u b c.args.numbers.now halved w H has.0 c.args.rows.now.items c.descend-in-Some-part_in.new.rows.items c.descend-in-Some-part_in-2.new.rows.items c.requires.stands has.1 (c.in_ok-descend-in-Some-part_in.ensures.noted ts all at one) (two ts all at other)) c.descend-in-Some-part_in-2.ensures.noted
+
+pub returns-then-is_empty-clause-places : goal.returns-then-is_empty-clause-places
+returns-then-is_empty-clause-places g t c =
+    let none : c.args.numbers.now ≡ [] = nil_from_length _ (eqb-true _ _ (sym c.is_empty.ensures ∙ c.if-is_empty.true)) in
+    on_ok c.note.result (λ _. subst (λ xs. HasPlaces c.args.entries.now xs c.args.places.now.items c.args.places.now.items) (sym none) (places_none c.args.entries.now c.args.places.now.items)) c.note.ensures.here
+
+pub returns-then-part-eq0-clause-places : goal.returns-then-part-eq0-clause-places
+returns-then-part-eq0-clause-places g t c =
+    let es = c.args.entries.now in
+    on_ok c.push_each.result (λ e. e ∙ ap (λ xs. map Some c.args.places.now.items ++ xs) (places_same es c.args.part c.args.place c.args.numbers.now (omega (arith, c.if-part-eq0.true)) c.requires.stands c.requires.inside)) c.push_each.ensures
+
+pub returns-in_ok-descend-in-Some-part_in-clause-places : goal.returns-in_ok-descend-in-Some-part_in-clause-places
+returns-in_ok-descend-in-Some-part_in-clause-places g t c =
+    let xs = c.args.numbers.now in
+    let all : xs ≡ c.split_at.result.0.now ++ c.split_at.result.1.now = sym (ap₂ (λ low high. low ++ high) c.split_at.ensures.front c.split_at.ensures.back ∙ take-append-drop c.count_upto.result xs) in
+    on_ok c.descend-in-Some-part_in-2.result (λ two. places_both c.args.entries.now c.split_at.result.0.now c.split_at.result.1.now xs c.args.places.now.items c.descend-in-Some-part_in.new.places.items c.descend-in-Some-part_in-2.new.places.items c.in_ok-descend-in-Some-part_in.ensures.places two all) c.descend-in-Some-part_in-2.ensures.places

@@ -1,11 +1,12 @@
-use Rattle.std.proofs.Common.{◌≡◌, ◌-◌, ◌/◌, ◌%◌, ◌^◌, true, length, refl, sym, ap, ◌∙◌, subst, arith, eq-eqb}
+use Rattle.std.proofs.Common.{◌≡◌, ◌-◌, ◌/◌, ◌%◌, ◌^◌, true, ◌++◌, [], length, refl, sym, ap, ap₂, ◌∙◌, subst, arith, eq-eqb}
 use Rattle.std.proofs.lemmas.Bool.{eqb-true, true≢false}
-use Rattle.std.proofs.lemmas.List.{nil_from_length}
+use Rattle.std.proofs.lemmas.List.{nil_from_length, take-append-drop}
 use Rattle.forest_place.specs.declared.place.Place.{Place}
 use Rattle.forest_place.specs.Forest.{is_root}
 use Rattle.forest_place.proofs.Parts.{is_root-root_off}
 use Rattle.forest_model.proofs.Climbs.{tree_at-root}
-use Rattle.bridge_forest.specs.Proving.{AreIn, AreBehind, AreFrom}
+use Rattle.bridge_forest.specs.Proving.{AreIn, AreBehind, HasPlaces, AreFrom}
+use Rattle.bridge_forest.proofs.Placing.{places_none}
 use Rattle.bridge_forest.proofs.Descending.{in_slot, behind_slot, behind_none}
 use Rattle.bridge_forest.proofs.Slotted.{from_same, from_more, behind_even, slot_has, slot_leaves, slot_nothing}
 use Rattle.bridge_forest.proofs.proving.descend_from.Goals.{then-not-is_empty+in_ok-descend, else-not-is_empty}
@@ -64,3 +65,23 @@ returns-clause-later g c =
     let es = c.args.entries.now in
     let odd : length es / 2 ^ c.args.row % 2 ≡ 1 = omega (arith, c.if-count-eq0.false) in
     subst (AreBehind es c.args.row) (sym (c.split_at.ensures.back ∙ c.count_upto.ensures.beyond)) (behind_slot es c.args.row (length es / 2 ^ c.args.row - 1) c.args.numbers.now odd refl c.requires.later)
+
+pub returns-then-count-eq0-clause-places : goal.returns-then-count-eq0-clause-places
+returns-then-count-eq0-clause-places g c = ([], refl, places_none c.args.entries.now c.args.places.now.items)
+
+pub returns-clause-places : goal.returns-clause-places
+returns-clause-places g c =
+    let es = c.args.entries.now in
+    let xs = c.args.numbers.now in
+    let here = c.split_at.result.0.now in
+    let all : here ++ c.split_at.result.1.now ≡ xs = ap₂ (λ low high. low ++ high) c.split_at.ensures.front c.split_at.ensures.back ∙ take-append-drop c.count_upto.result xs in (
+      here,
+      all,
+      elim c.if-not-is_empty.branch [
+        | then-not-is_empty+in_ok-descend w ↦ subst (λ ps. HasPlaces es here c.args.places.now.items ps.items) (sym w.places-is) w.in_ok-descend.ensures.places
+        | else-not-is_empty w ↦
+            let none : here ≡ [] = nil_from_length _ (eqb-true _ _ (sym c.is_empty.ensures ∙ w.if-not-is_empty.false)) in
+            subst (λ ps. HasPlaces es here c.args.places.now.items ps.items) (sym w.places-is)
+            (subst (λ ys. HasPlaces es ys c.args.places.now.items c.args.places.now.items) (sym none) (places_none es c.args.places.now.items))
+      ],
+    )

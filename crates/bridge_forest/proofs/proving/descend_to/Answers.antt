@@ -4,6 +4,7 @@ use Rattle.forest_place.proofs.Positions.{row_small}
 use Rattle.forest_model.specs.Content.{content}
 use Rattle.bridge_forest.specs.Parts.{kept}
 use Rattle.bridge_forest.proofs.Seeking.{alike, tree_none}
+use Rattle.bridge_forest.proofs.Placing.{entry_here, place_pushed}
 use Rattle.bridge_forest.proofs.Following.{own_half, own_kept, pair_of, other_pair, half_within, half_stands, high_above, stand_beneath, on_half, on_both, on_entry}
 use Rattle.bridge_forest.proofs.proving.descend_to.Goals as goal
 
@@ -126,3 +127,9 @@ way-preserved g c =
 
 pub returns-clause-noted : goal.returns-clause-noted
 returns-clause-noted g c = λ ts all s w. on_entry g.D.Digester.digest_of c.args.entries.now ts all s c.args.place c.way.at c.way.above c.args.number _ _ (omega (arith, c.way-test.false)) c.way.invariant.stands (c.way.invariant.on ts all s w)
+
+pub returns-clause-places : goal.returns-clause-places
+returns-clause-places g c =
+    let es = c.args.entries.now in
+    let here = entry_here es c.args.number c.way.at c.way.above (omega (arith, c.way-test.false)) (c.requires.inside 0 0 (omega arith)).0 c.way.invariant.inside c.way.invariant.stands in
+    place_pushed es c.args.number c.way.above c.args.places.now.items c.push.new.self.items c.in_ok-push.ensures.items here

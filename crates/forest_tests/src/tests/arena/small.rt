@@ -210,17 +210,15 @@ fn check_proof<D: Digester>(
     places: &[Place],
 ) -> Result<(), AllocError> {
     let numbers = live_among(alloc, forest, bits)?;
-    let Ok(targets) = forest.places(alloc, &numbers) else {
-        panic!(rt; "no memory")
-    };
-    for (place, number) in targets.iter().zip(numbers.iter()) {
-        assert!(rt; number_at(nodes, *place) == Some(*number));
-    }
-    let expected = siblings_of(alloc, forest.leaves(), nodes, &targets, places)?;
     let Ok(proof) = forest.proof_of(alloc, &numbers) else {
         panic!(rt; "no memory")
     };
-    assert!(rt; proof.as_slice() == expected.as_slice());
+    assert!(rt; proof.places.len() == numbers.len());
+    for (place, number) in proof.places.iter().zip(numbers.iter()) {
+        assert!(rt; number_at(nodes, *place) == Some(*number));
+    }
+    let expected = siblings_of(alloc, forest.leaves(), nodes, &proof.places, places)?;
+    assert!(rt; proof.siblings.as_slice() == expected.as_slice());
     Ok(())
 }
 
