@@ -17,8 +17,8 @@ use Rattle.leaf_record.specs.Leaf.{Rest}
 use Rattle.leaf_record.specs.Reading.{rest_at}
 use Rattle.proof_wire.specs.declared.fault.MessageFault.{MessageFault}
 use Rattle.proof_wire.specs.declared.fault.MessageFault.TheVariants.{NotAMessage, Version, NoMemory}
-use Rattle.proof_wire.specs.BlockProof.{BlockProof, ProofMessage, ProofFits, kind_of, body_text, message_text}
-use Rattle.proof_wire.specs.Reading.{spends_of, body_at, whole_at, claims}
+use Rattle.proof_wire.specs.BlockProof.{BlockProof, ProofMessage, ProofFits, kind_of, body_text, message_text, spends_of}
+use Rattle.proof_wire.specs.Reading.{body_at, whole_at, claims}
 use Rattle.proof_wire.specs.Views.{targets_in, rests_in, BeginsWithRest, IsMessageView}
 use Rattle.proof_wire.proofs.ProofLaws.{whole_took, no_body}
 use Rattle.proof_wire.proofs.CountedParts.{targets_even}

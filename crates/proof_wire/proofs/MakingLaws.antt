@@ -1,36 +1,32 @@
 -- What a message that is made keeps: its targets and its rests' text are those of some spends, and these are what it says.
-use Rattle.std.proofs.Common.{◌≡◌, ℕ, ◌^◌, ◌<◌, List, [], ◌∷◌, ◌++◌, length, Some, refl, sym, ap, ap₂, subst, ◌∙◌, arith}
+use Rattle.std.proofs.Common.{◌≡◌, ℕ, suc, get_or, ◌^◌, ◌<◌, List, [], ◌∷◌, ◌++◌, length, refl, sym, ap, ap₂, subst, ◌∙◌, arith}
 use Rattle.std.specs.Int.{w64, to_le_bytes}
-use Rattle.std.specs.Option.{option_map_or}
 use Rattle.std.specs.List.{flat_map, AllByRecursion}
-use Rattle.std.proofs.lemmas.List.{append-nil, length-map, map-append}
-use Rattle.std.proofs.lemmas.List.Concat.{flat_map-append, flat_map-cons}
-use Rattle.uo_base.specs.Reading.{times, things}
+use Rattle.std.proofs.lemmas.List.{length-map, map-append}
 use Rattle.uo_base.specs.Compact.{counted}
-use Rattle.uo_base.proofs.Formats.{repeated}
 use Rattle.uo_digest.specs.declared.digest.Digest.{Digest}
 use Rattle.uo_digest.specs.Reading.{digest_text}
 use Rattle.leaf_record.specs.Leaf.{Rest, RestFits, rest_text}
-use Rattle.leaf_record.specs.Reading.{rest_at}
-use Rattle.leaf_record.proofs.LeafLaws.{rest_lawful}
-use Rattle.proof_wire.specs.BlockProof.{Spend, BlockProof, SpendFits, ProofFits, rests_of, body_text}
-use Rattle.proof_wire.specs.Reading.{spends_of}
-use Rattle.proof_wire.specs.Making.{proof_made, IsOfSpends, IsMade}
-use Rattle.proof_wire.proofs.ProofLaws.{parts_fit, spends_told}
+use Rattle.proof_wire.specs.BlockProof.{Spend, BlockProof, SpendFits, ProofFits, rests_of, body_text, spends_of}
+use Rattle.proof_wire.specs.Making.{rests_made, IsOfRests, proof_made, IsOfSpends, IsMade}
+use Rattle.proof_wire.proofs.ProofLaws.{targets-spends, rests-spends, parts_fit, spends_fit, spends_told}
+use Rattle.proof_wire.proofs.RestsLaws.{rests_read, all_push, told_more}
 
 module _ (targets text : List ℕ) (made : IsOfSpends targets text) where
   count : length targets ≡ length made.spends
   count = ap length made.at ∙ length-map made.spends _
 
-  -- the rests of the text are read again
-  again : times rest_at (length targets) text ≡ Some (rests_of made.spends, [])
-  again =
-      ap (times rest_at (length targets)) (made.told ∙ sym (append-nil (flat_map rest_text (rests_of made.spends))))
-      ∙ (repeated RestFits rest_text rest_at rest_lawful (length targets)).again (rests_of made.spends) []
-      (length-map made.spends _ ∙ sym count, (parts_fit made.spends made.fit).1)
+  rests_told : IsOfRests (length targets) text
+  rests_told = record {
+    rests = rests_of made.spends;
+    fit = (parts_fit made.spends made.fit).1;
+    count = length-map made.spends _ ∙ sym count;
+    told = made.told;
+  }
 
-  spends_made : spends_of targets (things rest_at (length targets) text) ≡ made.spends
-  spends_made = ap₂ spends_of made.at (ap (λ r. option_map_or (λ p. p.0) r []) again) ∙ spends_told made.spends
+  spends_made : spends_of targets (rests_made (length targets) text) ≡ made.spends
+  unfolding rests_told
+  spends_made = ap₂ spends_of made.at (rests_read (length targets) text rests_told) ∙ spends_told made.spends
 
   -- its text, part by part
   pub text_made : (hashes : List Digest) → body_text (proof_made targets text hashes) ≡ counted (to_le_bytes w64) targets ++ text ++ counted digest_text hashes
@@ -49,15 +45,8 @@ proof_fits targets text hashes made few few_hashes =
       hashes = made.1;
     }
 
-all_push : (spends : List Spend) (s : Spend) → AllByRecursion SpendFits spends → SpendFits s → AllByRecursion SpendFits (spends ++ s ∷ [])
-all_push [] s all fits = (fits, tt)
-all_push (x ∷ xs) s all fits = (all.0, all_push xs s all.1 fits)
-
-told_more : (spends : List Spend) (s : Spend) → flat_map rest_text (rests_of (spends ++ s ∷ [])) ≡ flat_map rest_text (rests_of spends) ++ rest_text s.rest
-told_more spends s =
-    ap (flat_map rest_text) (map-append (λ (x : Spend). x.rest) spends (s ∷ []))
-    ∙ flat_map-append rest_text (rests_of spends) (s.rest ∷ [])
-    ∙ ap (λ (t : List ℕ). flat_map rest_text (rests_of spends) ++ t) (flat_map-cons rest_text s.rest [] ∙ append-nil (rest_text s.rest))
+text_more : (spends : List Spend) (s : Spend) → flat_map rest_text (rests_of (spends ++ s ∷ [])) ≡ flat_map rest_text (rests_of spends) ++ rest_text s.rest
+text_more spends s = ap (flat_map rest_text) (map-append (λ (x : Spend). x.rest) spends (s ∷ [])) ∙ told_more (rests_of spends) s.rest
 
 -- one more spend
 module _ (targets text more more_text : List ℕ) (made : IsOfSpends targets text) (target : ℕ) (rest : Rest) (small : target < 2 ^ 64) (fits : RestFits rest)
@@ -68,9 +57,9 @@ module _ (targets text more more_text : List ℕ) (made : IsOfSpends targets tex
   pub one_more : IsOfSpends more more_text
   one_more = record {
     spends = made.spends ++ spend ∷ [];
-    fit = all_push made.spends spend made.fit (record { target = small; rest = fits });
+    fit = all_push SpendFits made.spends spend made.fit (record { target = small; rest = fits });
     at = at ∙ ap (λ (ts : List ℕ). ts ++ target ∷ []) made.at ∙ sym (map-append (λ (s : Spend). s.target) made.spends (spend ∷ []));
-    told = told ∙ ap (λ (t : List ℕ). t ++ rest_text rest) made.told ∙ sym (told_more made.spends spend);
+    told = told ∙ ap (λ (t : List ℕ). t ++ rest_text rest) made.told ∙ sym (text_more made.spends spend);
   }
 
   pub proof_more : (hashes : List Digest) → proof_made more more_text hashes ≡ record { spends = (proof_made targets text hashes).spends ++ spend ∷ []; hashes = hashes }
@@ -80,3 +69,28 @@ module _ (targets text more more_text : List ℕ) (made : IsOfSpends targets tex
     where
       with_hashes : List Spend → BlockProof
       with_hashes ss = record { spends = ss; hashes = hashes }
+
+-- ---- of rests that are spelled already
+
+all_small : (targets : List ℕ) → ((i d : ℕ) → i < length targets → get_or targets i d < 2 ^ 64) → AllByRecursion (λ n. n < 2 ^ 64) targets
+all_small [] small = tt
+all_small (t ∷ ts) small = (small 0 0 (omega arith), all_small ts (λ i d lt. small (suc i) d (omega (arith, lt))))
+
+module _ (targets : List ℕ) (n : ℕ) (text : List ℕ) (made : IsOfRests n text) (same : length targets ≡ length (rests_made n text)) where
+  -- a target for each rest
+  each : length made.rests ≡ length targets
+  each = ap length (sym (rests_read n text made)) ∙ sym same
+
+  pub of_rests : ((i d : ℕ) → i < length targets → get_or targets i d < 2 ^ 64) → IsOfSpends targets text
+  of_rests small =
+      let at = targets-spends targets made.rests each in
+      let rests = rests-spends targets made.rests each in
+      record {
+        spends = spends_of targets made.rests;
+        fit = spends_fit _ (subst (AllByRecursion (λ n. n < 2 ^ 64)) (sym at) (all_small targets small)) (subst (AllByRecursion RestFits) (sym rests) made.fit);
+        at = sym at;
+        told = made.told ∙ ap (flat_map rest_text) (sym rests);
+      }
+
+  pub spends_are : spends_of targets (rests_made (length targets) text) ≡ spends_of targets (rests_made n text)
+  spends_are = ap (λ k. spends_of targets (rests_made k text)) (sym each ∙ made.count)

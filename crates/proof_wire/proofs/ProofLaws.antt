@@ -14,8 +14,8 @@ use Rattle.uo_digest.proofs.DigestLaws.{digest_lawful}
 use Rattle.leaf_record.specs.Leaf.{Rest, RestFits, rest_text}
 use Rattle.leaf_record.specs.Reading.{rest_at}
 use Rattle.leaf_record.proofs.LeafLaws.{rest_lawful}
-use Rattle.proof_wire.specs.BlockProof.{Spend, BlockProof, ProofMessage, targets_of, rests_of, body_text, kind_of, message_text, SpendFits, ProofFits, MessageFits}
-use Rattle.proof_wire.specs.Reading.{spends_of, body_at, whole_at}
+use Rattle.proof_wire.specs.BlockProof.{Spend, BlockProof, ProofMessage, targets_of, rests_of, body_text, kind_of, message_text, SpendFits, ProofFits, MessageFits, spends_of}
+use Rattle.proof_wire.specs.Reading.{body_at, whole_at}
 
 abbrev IsTarget : ℕ → Type 0
 IsTarget n = n < 2 ^ 64
@@ -42,7 +42,7 @@ pub parts_fit : (ss : List Spend) → AllByRecursion SpendFits ss → AllByRecur
 parts_fit [] all = (tt, tt)
 parts_fit (s ∷ ss) all = let others = parts_fit ss all.1 in ((all.0.target, others.0), (all.0.rest, others.1))
 
-spends_fit : (ss : List Spend) → AllByRecursion IsTarget (targets_of ss) → AllByRecursion RestFits (rests_of ss) → AllByRecursion SpendFits ss
+pub spends_fit : (ss : List Spend) → AllByRecursion IsTarget (targets_of ss) → AllByRecursion RestFits (rests_of ss) → AllByRecursion SpendFits ss
 spends_fit [] ts rs = tt
 spends_fit (s ∷ ss) ts rs = (record { target = ts.0; rest = rs.0 }, spends_fit ss ts.1 rs.1)
 

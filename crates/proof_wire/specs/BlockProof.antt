@@ -1,5 +1,5 @@
 -- What a proof message says beside a block, and its one text.
-use Rattle.std.specs.Prelude.{ℕ, ◌<◌, ◌^◌, Bool, true, false, List, ◌∷◌, ◌++◌, length, map}
+use Rattle.std.specs.Prelude.{ℕ, ◌<◌, ◌^◌, Bool, true, false, List, [], ◌∷◌, ◌++◌, length, map}
 use Rattle.std.specs.List.{flat_map, AllByRecursion}
 use Rattle.std.specs.Int.{w64, to_le_bytes}
 use Rattle.uo_base.specs.Compact.{counted}
@@ -23,6 +23,12 @@ targets_of spends = map (λ s. s.target) spends
 
 abbrev pub rests_of : List Spend → List Rest
 rests_of spends = map (λ s. s.rest) spends
+
+-- each target with its rest
+abbrev pub spends_of : List ℕ → List Rest → List Spend
+spends_of [] rests = []
+spends_of (t ∷ targets) [] = []
+spends_of (t ∷ targets) (r ∷ rests) = record { target = t; rest = r } ∷ spends_of targets rests
 
 -- ---- its text
 

@@ -1,12 +1,14 @@
 //! Making a message.
-ghost use Rattle.std.specs.Prelude.{◌≡◌, ◌<◌, ◌^◌, ◌∷◌, ◌++◌, [], length, IfOk, OnOk, OnErr};
+ghost use Rattle.std.specs.Prelude.{◌≡◌, ◌<◌, ◌^◌, ◌∷◌, ◌++◌, [], length, OnOk, OnErr};
 ghost use Rattle.std.specs.Int.{w64, to_le_bytes};
+ghost use Rattle.std.specs.List.{AllByRecursion};
 ghost use Rattle.uo_base.specs.Moved.{Grew};
 ghost use Rattle.uo_base.specs.Reading.{OneReading};
 ghost use Rattle.uo_base.specs.Compact.{counted};
-ghost use Rattle.uo_digest.specs.Reading.{digest_text};
-ghost use Rattle.proof_wire.specs.BlockProof.{ProofFits, MessageFits, kind_of, message_text};
+ghost use Rattle.uo_digest.specs.Reading.{IsDigest, digest_text};
+ghost use Rattle.proof_wire.specs.BlockProof.{ProofFits, MessageFits, kind_of, message_text, spends_of};
 
+use crate::Rests;
 use leaf_record::{RestView, write_rest};
 use std::alloc::Global;
 use std::marker::Model;
@@ -47,21 +49,19 @@ impl Message {
         }
     }
 
-    /// The same, with room for so many spends with usual scripts, and for so many hashes.
-    pub fn with_room(
-        alloc: Global,
-        lean: bool,
-        spends: usize,
-        hashes: usize,
-    ) -> Result<Message, NoMemory>
-        ensures { IfOk result (λ m. m ≡ record { lean = lean; proof = record { spends = []; hashes = [] } }) }
+    /// The message of the spends with these targets and rests, in the same order, and with these hashes. Takes no memory.
+    pub fn of(lean: bool, targets: Vec<u64>, rests: Rests, hashes: Vec<Digest>) -> Message
+        requires same { length targets.items ≡ length rests }
+        // That an array has its length is known of a value, but not of those in a `Vec`.
+        requires fit { AllByRecursion IsDigest hashes.items }
+        ensures { result ≡ record { lean = lean; proof = record { spends = spends_of targets.items rests; hashes = hashes.items } } }
     {
-        Ok(Message {
+        Message {
             lean,
-            targets: Vec::with_capacity(alloc, spends)?,
-            rests: Vec::with_capacity(alloc, spends.saturating_mul(REST_ROOM))?,
-            hashes: Vec::with_capacity(alloc, hashes)?,
-        })
+            targets,
+            rests: rests.text,
+            hashes,
+        }
     }
 
     /// One more spend: the position of its leaf in the forest before the block, and its rest.
@@ -115,9 +115,6 @@ impl Message {
         }
     }
 }
-
-/// Bytes of a rest: hash, height, amount, and a script of 34 bytes, the longest of the usual ones, behind its length.
-const REST_ROOM: usize = 32 + 4 + 8 + 1 + 34;
 
 /// Room for version and kind, and for two counts in their longest form.
 const FIXED_ROOM: usize = 2 + 2 * 9;
