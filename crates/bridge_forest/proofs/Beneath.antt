@@ -174,10 +174,17 @@ module _ (H : List ℕ → Digest) (es : List (Option Digest)) (ts : List Place)
             (λ none. ap (λ xs. xs ++ beneath H es ts left row) none ∙ (sym (append-nil (beneath H es ts left row)) ∙ ap (λ xs. beneath H es ts left row ++ xs) (sym none)))
             (apart row)
 
--- a place that was noted, if there was memory for it
-pub noted_here : {A F : Type 0} (H : List ℕ → Digest) (es : List (Option Digest)) (done : Result A F) (rows : List (List Sibling)) (q : Place) (d : Digest) (old new : List Sibling) → q.row < length rows → old ≡ get_or rows q.row old → digest_at H es q.row q.off ≡ Some d → OnOk done (new ≡ old ++ record { place = q; digest = d } ∷ []) → OnOk done (list_of (set rows q.row new) q.row ≡ list_of rows q.row ++ filter_map (standing H es) (q ∷ []))
-noted_here H es (Ok u) rows q d old new within is stands more =
-    let there : list_of rows q.row ≡ old = same_Some _ _ (sym (slice_get-get_or rows q.row [] within) ∙ slice_get-get_or rows q.row old within) ∙ sym is in
-    let one : filter_map (standing H es) (q ∷ []) ≡ record { place = q; digest = d } ∷ [] = rw stands refl in
-    get_or-set_same rows q.row new [] within ∙ (more ∙ ap₂ (λ xs ys. xs ++ ys) (sym there) (sym one))
-noted_here H es (Err e) rows q d old new within is stands more = tt
+-- what was put to a row stands there, if there was memory for it
+pub put_here : {A F : Type 0} (done : Result A F) (rows : List (List Sibling)) (x : Sibling) (old new : List Sibling) → x.place.row < length rows → old ≡ get_or rows x.place.row old → OnOk done (new ≡ old ++ x ∷ []) → OnOk done (list_of (set rows x.place.row new) x.place.row ≡ list_of rows x.place.row ++ x ∷ [])
+put_here (Ok u) rows x old new within is more =
+    let there : list_of rows x.place.row ≡ old = same_Some _ _ (sym (slice_get-get_or rows x.place.row [] within) ∙ slice_get-get_or rows x.place.row old within) ∙ sym is in
+    get_or-set_same rows x.place.row new [] within ∙ (more ∙ ap (λ xs. xs ++ x ∷ []) (sym there))
+put_here (Err e) rows x old new within is more = tt
+
+-- a place is noted with the digest that stands there
+pub noted_is : (H : List ℕ → Digest) (es : List (Option Digest)) (q : Place) (d : Digest) → digest_at H es q.row q.off ≡ Some d → filter_map (standing H es) (q ∷ []) ≡ record { place = q; digest = d } ∷ []
+noted_is H es q d stands = rw stands refl
+
+pub noted_here : {A F : Type 0} (H : List ℕ → Digest) (es : List (Option Digest)) (done : Result A F) (q : Place) (d : Digest) (old new : List Sibling) → digest_at H es q.row q.off ≡ Some d → OnOk done (new ≡ old ++ record { place = q; digest = d } ∷ []) → OnOk done (new ≡ old ++ filter_map (standing H es) (q ∷ []))
+noted_here H es (Ok u) q d old new stands more = more ∙ ap (λ xs. old ++ xs) (sym (noted_is H es q d stands))
+noted_here H es (Err e) q d old new stands more = tt

@@ -1,4 +1,8 @@
-//! What proves a live entry.
+//! What proves a live entry, and what proves many.
+ghost use Rattle.std.specs.Prelude.{◌≡◌, ◌^◌, ◌<◌, length};
+ghost use Rattle.std.specs.List.{flat_map};
+
+use crate::proving::Row;
 use arrayvec::ArrayVec;
 use forest_place::Place;
 use uo_digest::Digest;
@@ -35,6 +39,19 @@ pub struct Branch {
 pub struct BatchProof {
     /// The places at which the entries stand, in their order.
     pub places: Vec<Place>,
-    /// The siblings that these places need, ascending by position.
-    pub siblings: Vec<Sibling>,
+    /// The siblings that these places need, by rows from the bottom up and in each row from left to right, so all of them ascend by position.
+    pub rows: Vec<Row>,
+}
+
+impl BatchProof {
+    /// How many siblings there are.
+    pub fn count(&self) -> usize
+        ensures { length (flat_map (λ row. row) self.now.rows.items) < 2 ^ 64 → result ≡ length (flat_map (λ row. row) self.now.rows.items) }
+    {
+        let mut count: usize = 0;
+        for row in &self.rows {
+            count = count.saturating_add(row.as_slice().len());
+        }
+        count
+    }
 }

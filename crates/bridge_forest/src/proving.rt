@@ -29,9 +29,10 @@ const ROWS: usize = 40;
 /// So many digests lie in a row itself.
 const IN_ROW: usize = 2;
 
-/// Digests that stand in one row. The first two lie in it, so that a block which spends little asks for no memory row by row.
+/// Siblings that stand in one row, from left to right. The first two lie in it, so that a block which spends little asks for no memory row
+/// by row.
 #[derive(Drop)]
-pub(crate) struct Row {
+pub struct Row {
     list: SmallVec<Sibling, IN_ROW>,
 }
 
@@ -64,7 +65,8 @@ impl Row {
         Ok(())
     }
 
-    fn as_slice(&self) -> &[Sibling]
+    /// The siblings.
+    pub fn as_slice(&self) -> &[Sibling]
         ensures { result.now ≡ self.now }
     {
         self.list.as_slice()
@@ -101,6 +103,16 @@ fn count_upto(numbers: &[u64], row: u8, off: u64) -> usize
     count
 }
 
+// Puts a sibling to those of its row.
+fn put(rows: &mut Vec<Row>, sibling: Sibling) -> Result<(), AllocError>
+    requires { sibling.place.row < length rows.old.items }
+    ensures here { OnOk result (list_of rows.new.items sibling.place.row ≡ list_of rows.old.items sibling.place.row ++ sibling ∷ []) }
+    ensures others { (row : ℕ) → row ≢ sibling.place.row → list_of rows.new.items row ≡ list_of rows.old.items row }
+    ensures len { length rows.new.items ≡ length rows.old.items }
+{
+    rows[sibling.place.row as usize].push(sibling)
+}
+
 // Notes the digest of a part at the place at which its tree stands, if it has something.
 fn note<D: Digester>(
     entries: &[Option<Digest>],
@@ -121,10 +133,10 @@ fn note<D: Digester>(
 {
     let n = entries.len() as u64;
     match part_in(entries, parts, n, part.row, part.off) {
-        Some(digest) => rows[place.row as usize].push(Sibling {
-            place,
-            digest: *digest,
-        }),
+        Some(digest) => {
+            let digest = *digest;
+            put(rows, Sibling { place, digest })
+        }
         None => Ok(()),
     }
 }
@@ -160,9 +172,13 @@ fn descend_to<D: Digester>(
         let other = sibling(half);
         match part_in(entries, parts, n, other.row, other.off) {
             None => at = half,
-            Some(_) => {
+            Some(digest) => {
                 let below = child(above, half.off);
-                note::<D>(entries, parts, other, sibling(below), rows)?;
+                let beside = Sibling {
+                    place: sibling(below),
+                    digest: *digest,
+                };
+                put(rows, beside)?;
                 at = half;
                 above = below;
             }
@@ -295,28 +311,6 @@ fn rows_of<D: Digester>(
     Ok(rows)
 }
 
-// How many digests all rows have.
-fn count_of(rows: &[Row]) -> usize
-    ensures { length (flat_map (λ row. row) rows.now) < 2 ^ 64 → result ≡ length (flat_map (λ row. row) rows.now) }
-{
-    let mut count: usize = 0;
-    for row in rows {
-        count = count.saturating_add(row.as_slice().len());
-    }
-    count
-}
-
-// All rows in one list.
-fn joined(alloc: Global, rows: &[Row]) -> Result<Vec<Sibling>, AllocError>
-    ensures { IfOk result (λ all. all.items ≡ flat_map (λ row. row) rows.now) }
-{
-    let mut all = Vec::with_capacity(alloc, count_of(rows))?;
-    for row in rows {
-        all.extend_from_slice(row.as_slice())?;
-    }
-    Ok(all)
-}
-
 // Where these entries stand, which rise, and what proves them.
 pub(crate) fn proof_of_entries<D: Digester>(
     alloc: Global,
@@ -330,10 +324,9 @@ pub(crate) fn proof_of_entries<D: Digester>(
     requires live { All (λ i. is_live entries.now i ≡ true) numbers.now }
     requires rise { IsNonDecreasing numbers.now }
     ensures places { IfOk result (λ b. map Some b.places.items ≡ map (entry_place entries.now) numbers.now) }
-    ensures siblings { IfOk result (λ b. b.siblings.items ≡ proof_of D.digest_of entries.now numbers.now) }
+    ensures siblings { IfOk result (λ b. flat_map (λ row. row) b.rows.items ≡ proof_of D.digest_of entries.now numbers.now) }
 {
     let mut places = Vec::with_capacity(alloc, numbers.len())?;
     let rows = rows_of::<D>(alloc, entries, parts, numbers, &mut places)?;
-    let siblings = joined(alloc, &rows)?;
-    Ok(BatchProof { places, siblings })
+    Ok(BatchProof { places, rows })
 }

@@ -1,8 +1,5 @@
-use Rattle.std.proofs.Common.{◌≡◌, ap, ◌∙◌, subst}
-use Rattle.std.specs.Prelude.{IfOk}
-use Rattle.std.specs.List.{flat_map}
 use Rattle.bridge_forest.proofs.Slotted.{proof_joined}
 use Rattle.bridge_forest.proofs.proving.proof_of_entries.Goals as goal
 
 pub returns-clause-siblings : goal.returns-clause-siblings
-returns-clause-siblings g c = c.in_ok-siblings.ensures ∙ (ap (flat_map (λ row. row)) c.deref.ensures.value ∙ proof_joined g.D.Digester.digest_of c.args.entries.now c.args.numbers.now c.in_ok-rows.rows.items c.in_ok-rows.ensures.wide c.in_ok-rows.ensures.are)
+returns-clause-siblings g c = proof_joined g.D.Digester.digest_of c.args.entries.now c.args.numbers.now c.in_ok-rows.rows.items c.in_ok-rows.ensures.wide c.in_ok-rows.ensures.are
