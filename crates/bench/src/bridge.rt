@@ -1,5 +1,5 @@
 //! A bridge that judges blocks and proves them.
-use bench_parts::{Purse, Stopwatch, digest_alone, needs_of};
+use bench_parts::{Purse, Stopwatch, leaves_alone, needs_of, pairs_alone};
 use block_samples::SampleFault;
 use bridge_prover::Bridge;
 use leaf_cache::Watch;
@@ -36,11 +36,13 @@ const ROUND: usize = 10;
 /// then on each block has as many outputs forgotten as it spends.
 const WARMING: usize = 11;
 
-// The digests of blocks, where no path is shared and where paths are, and the bytes of their messages.
+// The digests of blocks, which are those of pairs, where no path is shared and where paths are, and those of leaves; and the bytes of
+// their messages.
 #[derive(Clone, Copy)]
 struct Needs {
     apart: u64,
     shared: u64,
+    leaves: u64,
     bytes: u64,
 }
 
@@ -49,18 +51,20 @@ impl Needs {
         Needs {
             apart: self.apart.saturating_add(other.apart),
             shared: self.shared.saturating_add(other.shared),
+            leaves: self.leaves.saturating_add(other.leaves),
             bytes: self.bytes.saturating_add(other.bytes),
         }
     }
 }
 
-// How many blocks were accepted, what they need, and the time in which they were judged and proved, in which as many digests were made
-// alone, and in which what else they hash was hashed alone.
+// How many blocks were accepted, what they need, and the time in which they were judged and proved, in which as many pairs and as many
+// leaves were digested alone, and in which what else they hash was hashed alone.
 #[derive(Clone, Copy)]
 struct Proved {
     blocks: u64,
     needs: Needs,
     proving: Duration,
+    pairing: Duration,
     digesting: Duration,
     hashing: Duration,
     seen: u8,
@@ -73,9 +77,11 @@ impl Proved {
             needs: Needs {
                 apart: 0,
                 shared: 0,
+                leaves: 0,
                 bytes: 0,
             },
             proving: Duration::ZERO,
+            pairing: Duration::ZERO,
             digesting: Duration::ZERO,
             hashing: Duration::ZERO,
             seen: 0,
@@ -87,6 +93,7 @@ impl Proved {
             blocks: self.blocks.saturating_add(other.blocks),
             needs: self.needs.and(other.needs),
             proving: self.proving.saturating_add(other.proving),
+            pairing: self.pairing.saturating_add(other.pairing),
             digesting: self.digesting.saturating_add(other.digesting),
             hashing: self.hashing.saturating_add(other.hashing),
             seen: self.seen ^ other.seen,
@@ -165,8 +172,8 @@ fn prove_round<L: Ledger>(
     Ok(messages)
 }
 
-// What blocks need, whose first is for a forest of `before` entries and of which each adds some. With each entry comes a digest for
-// its leaf, and one wherever two trees are joined.
+// What blocks need, whose first is for a forest of `before` entries and of which each adds some. With each entry comes the digest of its
+// leaf, and a pair wherever two trees are joined.
 fn needs_of_round(
     alloc: Global,
     before: u64,
@@ -178,10 +185,10 @@ fn needs_of_round(
     let joins = leaves
         .saturating_add(u64::from(before.count_ones()))
         .saturating_sub(u64::from(after.count_ones()));
-    let adding = leaves.saturating_add(joins);
     let mut needs = Needs {
-        apart: adding,
-        shared: adding,
+        apart: joins,
+        shared: joins,
+        leaves,
         bytes: 0,
     };
     let mut there = before;
@@ -190,6 +197,7 @@ fn needs_of_round(
         needs = needs.and(Needs {
             apart,
             shared,
+            leaves: 0,
             bytes: message.len() as u64,
         });
         there = there.saturating_add(added);
@@ -227,14 +235,19 @@ fn measure_round<R: CpuClock, L: Ledger>(
     let proving = watch.lap(rt)?;
     let needs = needs_of_round(alloc, before, added, bridge.forest().leaves(), &messages);
     let mut watch = Stopwatch::start(rt)?;
-    let last = digest_alone(needs.shared, steps);
+    let last = pairs_alone::<Sha512t256, L>(needs.shared, steps);
+    let pairing = watch.lap(rt)?;
+    let Ok(leaf) = leaves_alone::<Sha512t256, L>(alloc, needs.leaves, steps) else {
+        return Ok(None);
+    };
     let digesting = watch.lap(rt)?;
-    let seen = hash_alone(blocks) ^ last.0[0];
+    let seen = hash_alone(blocks) ^ last.0[0] ^ leaf.0[0];
     let hashing = watch.lap(rt)?;
     Ok(Some(Proved {
         blocks: messages.len() as u64,
         needs,
         proving,
+        pairing,
         digesting,
         hashing,
         seen,
@@ -308,10 +321,12 @@ fn print_proved<R: Print>(rt: &R, proved: &Proved) -> io::Result<()> {
         proved.proving.as_micros()
     )?;
     println!(rt;
-        "  its {} digests alone {} us, {} where no path is shared; hashing alone {} us; {} bytes of messages; {}",
+        "  its {} pairs alone {} us, {} where no path is shared; {} leaves alone {} us; hashing alone {} us; {} bytes of messages; {}",
         proved.needs.shared,
-        proved.digesting.as_micros(),
+        proved.pairing.as_micros(),
         proved.needs.apart,
+        proved.needs.leaves,
+        proved.digesting.as_micros(),
         proved.hashing.as_micros(),
         proved.needs.bytes,
         proved.seen

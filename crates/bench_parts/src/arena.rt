@@ -1,14 +1,14 @@
 //! A forest that is changed in place.
+use crate::alone::pairs_alone;
 use crate::names::name_of;
 use crate::stopwatch::Stopwatch;
 use bridge_forest::Forest;
 use forest_place::{Place, slot_of};
-use forest_roots::pair;
 use std::alloc::Global;
 use std::io;
 use std::sync::ledger::Ledger;
 use std::time::{CpuClock, Duration};
-use uo_digest::{Digest, Sha512t256, Steps};
+use uo_digest::{Sha512t256, Steps};
 
 // Calls of one kind that are measured at a stretch. Each kind has its turn within some milliseconds, so that what the machine does
 // beside hits all alike.
@@ -97,15 +97,6 @@ fn bare_digests(forest: &Forest<Sha512t256>, from: u64, count: u64) -> u64 {
     digests
 }
 
-/// So many digests, one after the other.
-pub fn digest_alone<L: Ledger>(count: u64, steps: &mut Steps<L>) -> Digest {
-    let mut digest = Digest([1; 32]);
-    for _ in 0..count {
-        digest = pair::<Sha512t256, L>(digest, digest, steps);
-    }
-    digest
-}
-
 fn measure_additions<R: CpuClock + Print, L: Ledger>(
     rt: &R,
     forest: &mut Forest<Sha512t256>,
@@ -118,7 +109,7 @@ fn measure_additions<R: CpuClock + Print, L: Ledger>(
     for _ in 0..entries / BATCH {
         add_some(forest, BATCH, steps);
         time = time.saturating_add(watch.lap(rt)?);
-        seen ^= digest_alone(BATCH, steps).0[0];
+        seen ^= pairs_alone::<Sha512t256, L>(BATCH, steps).0[0];
         bare = bare.saturating_add(watch.lap(rt)?);
     }
     println!(rt;
@@ -167,7 +158,7 @@ fn measure_changes<R: CpuClock + Print, L: Ledger>(
         removing = removing.saturating_add(watch.lap(rt)?);
         change(forest, far, BATCH, steps);
         restoring = restoring.saturating_add(watch.lap(rt)?);
-        seen ^= digest_alone(digests, steps).0[0];
+        seen ^= pairs_alone::<Sha512t256, L>(digests, steps).0[0];
         alone = alone.saturating_add(watch.lap(rt)?);
         bare = bare.saturating_add(digests);
     }

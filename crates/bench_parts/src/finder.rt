@@ -1,6 +1,7 @@
 //! The auditor's search for two texts with one digest, in a message of as many targets as a block can have.
 ghost use Rattle.output_index.specs.Held.{IsAbove};
 
+use crate::alone::{leaves_alone, pairs_alone};
 use crate::names::name_of;
 use crate::outputs::{insert, record_of};
 use crate::rules::{TIP, judge};
@@ -12,8 +13,7 @@ use block_rules::Spends;
 use block_samples::SampleFault;
 use bridge_forest::Forest;
 use clash_find::{Clash, find};
-use forest_roots::pair;
-use leaf_record::{LeafBuf, RestView, leaf_digest, leaf_text};
+use leaf_record::{LeafBuf, RestView, leaf_digest};
 use output_index::Outputs;
 use proof_shape::Targets;
 use proof_wire::{Message, MessageView, read_message};
@@ -187,27 +187,6 @@ fn search<D: Digester, L: Ledger>(
     .ok()?
 }
 
-// As many digests as a search takes, one after the other, each of a text that has the one before in it: one for the leaf of each
-// target, and one for each covered place above them.
-fn digest_alone<D: Digester, L: Ledger>(
-    alloc: Global,
-    leaves: u64,
-    pairs: u64,
-    steps: &mut Steps<L>,
-) -> Result<Digest, NoMemory> {
-    let mut last = TIP;
-    let mut text = Vec::new(alloc);
-    for _ in 0..leaves {
-        text.clear();
-        leaf_text(&rest_of(AMOUNT).with_outpoint(last, 0), &mut text)?;
-        last = D::digest(&text, steps);
-    }
-    for _ in 0..pairs {
-        last = pair::<D, L>(last, last, steps);
-    }
-    Ok(last)
-}
-
 fn measure<R: CpuClock + Print, D: Digester, L: Ledger>(
     rt: &R,
     alloc: Global,
@@ -227,12 +206,13 @@ fn measure<R: CpuClock + Print, D: Digester, L: Ledger>(
     println!(rt; "{MOST} of {entries} outputs, by {name}:")?;
     measure_search(rt, alloc, &case, steps)?;
     let mut watch = Stopwatch::start(rt)?;
-    let last = digest_alone::<D, L>(alloc, leaves, pairs, steps);
+    let leaf = leaves_alone::<D, L>(alloc, leaves, steps);
+    let last = pairs_alone::<D, L>(pairs, steps);
     let time = watch.lap(rt)?;
     println!(rt;
         "  its {leaves} leaf digests and {pairs} pairs alone {} us; {}",
         time.as_micros(),
-        last.map_or(0, |digest| digest.0[0])
+        leaf.map_or(0, |digest| digest.0[0]) ^ last.0[0]
     )
 }
 

@@ -1,9 +1,10 @@
 //! What `bench` measures of the crates beneath node and bridge, and what it measures those two with.
 //!
-//! Each `measure_` call, and `hash_input`, is one of its words. Blocks of a `Purse`, a `Stopwatch`, `digest_alone` and `needs_of` serve
-//! the words that it has besides. They stand in a crate of their own, so that they are proved while node and bridge are.
+//! Each `measure_` call, and `hash_input`, is one of its words. Blocks of a `Purse`, a `Stopwatch`, `pairs_alone`, `leaves_alone` and
+//! `needs_of` serve the words that it has besides. They stand in a crate of their own, so that they are proved while node and bridge are.
 #![tactic(auto)]
 
+mod alone;
 mod arena;
 mod cache;
 mod codecs;
@@ -24,7 +25,8 @@ mod stopwatch;
 mod targets;
 mod verify;
 
-pub use arena::{digest_alone, measure_arena};
+pub use alone::{leaves_alone, pairs_alone};
+pub use arena::measure_arena;
 pub use cache::measure_cache;
 pub use codecs::measure_codecs;
 pub use digests::measure_digests;

@@ -218,7 +218,11 @@ fn check_proof<D: Digester>(
         assert!(rt; number_at(nodes, *place) == Some(*number));
     }
     let expected = siblings_of(alloc, forest.leaves(), nodes, &proof.places, places)?;
-    assert!(rt; proof.siblings.as_slice() == expected.as_slice());
+    let mut siblings = Vec::with_capacity(alloc, proof.count())?;
+    for row in &proof.rows {
+        siblings.extend_from_slice(row.as_slice())?;
+    }
+    assert!(rt; siblings.as_slice() == expected.as_slice());
     Ok(())
 }
 
