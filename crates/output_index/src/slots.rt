@@ -1,7 +1,7 @@
 //! The entries by their numbers.
 ghost use Rattle.std.specs.Prelude.{◌≡◌, ◌<◌, ◌++◌, [], ◌∷◌, length, true, Some, None, IfOk, OnOk, OnErr, IsSome, option_map};
 ghost use Rattle.std.specs.List.{AllByRecursion};
-ghost use Rattle.output_index.specs.Chains.{entry_at, changed, removed, set_live, set_older, entries_from};
+ghost use Rattle.output_index.specs.Chains.{entry_at, lives_in, changed, removed, set_live, set_older, entries_from};
 
 use crate::entry::{Entry, Slot};
 use leaf_record::RecordView;
@@ -62,6 +62,16 @@ impl Entries {
             unreachable!()
         };
         entry
+    }
+
+    /// Whether the number is that of a live entry.
+    pub fn live(&self, number: u64) -> bool
+        ensures { result ≡ lives_in (entry_at number self.now) }
+    {
+        match self.get(number) {
+            Some(entry) => entry.live,
+            None => false,
+        }
     }
 
     /// The entry is live, or spent, from now on.

@@ -1,14 +1,12 @@
-use Rattle.std.proofs.Common.{sym, ap, ◌∙◌}
+use Rattle.std.proofs.Common.{ap, ◌∙◌}
 use Rattle.output_index.specs.Held.{without}
-use Rattle.output_index.specs.Chains.{held_in, held_mark}
+use Rattle.output_index.specs.Chains.{held_in}
 use Rattle.output_index.proofs.Holding.{spent_held, held_there, held_back, held-removed}
-use Rattle.output_index.proofs.Forgetting.{mark-in}
+use Rattle.output_index.proofs.Forgetting.{mark-inside}
 use Rattle.output_index.proofs.outputs.Outputs.forget_marked.Goals as goal
 
 pub unlink-requires-clause-mark : goal.unlink-requires-clause-mark
-unlink-requires-clause-mark c =
-    let n = c.args.number in
-    sym (mark-in n c.self.inside.entries) ∙ (ap (λ hs. held_mark hs n) c.self.view_is ∙ c.requires.mark)
+unlink-requires-clause-mark c = mark-inside c.args.number c.args.mark c.self.inside.entries c.args.self.now c.self.view_is c.requires.mark
 
 pub remove-requires : goal.remove-requires
 remove-requires c =

@@ -1,0 +1,10 @@
+use Rattle.output_index.specs.Leaving.{IsTold}
+use Rattle.output_index.proofs.Forgetting.{zip-more}
+use Rattle.output_index.proofs.outputs.told_of.Goals as goal
+
+pub loop-number-preserved : goal.loop-number-preserved
+loop-number-preserved c =
+    let hs = c.args.outputs.now in
+    let ns = c.args.numbers.now in
+    let i = c.loop-number.number-index in
+    rw c.in_ok-push.ensures.items (zip-more (IsTold hs) ns c.loop-number.told.items i 0 c.told.result c.loop-number-test.true c.loop-number.invariant c.told.ensures)
