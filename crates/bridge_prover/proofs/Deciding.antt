@@ -4,7 +4,7 @@ use Rattle.std.specs.Option.{option_or}
 use Rattle.std.proofs.lemmas.List.{length-map}
 use Rattle.uo_digest.specs.declared.digest.Digest.{Digest}
 use Rattle.block_codec.specs.Block.{Block, BlockFits, block_hash_of}
-use Rattle.leaf_record.specs.Leaf.{Leaf}
+use Rattle.leaf_record.specs.Leaf.{Leaf, Rest}
 use Rattle.leaf_record.specs.History.{somes}
 use Rattle.block_rules.specs.declared.chain.Found.{Found}
 use Rattle.block_rules.specs.declared.chain.Outside.{Outside}
@@ -101,7 +101,7 @@ module _ (s : BridgeState) (b : Block) where
         pub block_passes : first_of (money_steps spends outputs) ≡ None → refusal_on s b ≡ None
         block_passes e = all_pass before (evidence.steps ++ on_money) shaped.passes (all_pass evidence.steps on_money none_missing (ap first_of (sym same_money) ∙ e))
 
-module _ (H : List ℕ → Digest) (text : Leaf → List ℕ) (s : BridgeState) (b : Block) (spends : BlockSpends) (numbers : List ℕ) (outputs : List Found) (is : IsBridge H text s) (shaped : IsShaped s.rules.net s.rules.limits s.chain b spends) (known : AreFound s.held spends.external numbers outputs) where
+module _ (H : List ℕ → Digest) (text : Leaf → List ℕ) (s : BridgeState) (b : Block) (spends : BlockSpends) (numbers : List ℕ) (outputs : List Found) (rests : List Rest) (is : IsBridge H text s) (shaped : IsShaped s.rules.net s.rules.limits s.chain b spends) (known : AreFound s.held spends.external numbers outputs rests) where
   pub money_refused_by : (why : Refusal) → first_of (money_steps spends outputs) ≡ Some why → refusal_on s b ≡ Some why
   money_refused_by why e = money_refused s b spends shaped numbers known.each known.passes outputs known.are why e
 

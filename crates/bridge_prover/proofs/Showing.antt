@@ -1,11 +1,12 @@
 -- What a message shows.
 use Rattle.std.proofs.Common.{◌≡◌, ℕ, zero, suc, ◌+◌, ◌*◌, ◌<◌, Bool, true, false, List, [], ◌∷◌, ◌++◌, map, length, take, get_or, All, Option, Some, None, refl, sym, ap, ap₂, ◌∙◌, subst, arith}
-use Rattle.std.specs.Prelude.{◌==◌, ◌&&◌, option_map, is_some, not, IsSome, if◌then◌else◌}
-use Rattle.std.specs.List.{AllByRecursion, filter, filter_map}
+use Rattle.std.specs.Prelude.{◌==◌, ◌&&◌, option_map, unwrap_or, is_some, not, IsSome, if◌then◌else◌}
+use Rattle.std.specs.List.{AllByRecursion, filter, filter_map, flat_map}
 use Rattle.std.specs.List.Sorted.{IsPermutation}
 use Rattle.std.proofs.Math.Path.{fun_ext}
-use Rattle.std.proofs.lemmas.List.{get_or-map, length-map, take_more}
-use Rattle.std.proofs.lemmas.List.Elements.{filter-append, All-from_recursion, recursion_from_All}
+use Rattle.std.proofs.lemmas.List.{append-nil, append_assoc, get_or-map, length-map, take_more}
+use Rattle.std.proofs.lemmas.List.Concat.{flat_map-append, flat_map-cons}
+use Rattle.std.proofs.lemmas.List.Elements.{filter-append, recursion_from_All}
 use Rattle.std.proofs.lemmas.List.Sorted.{All-permutation, list_any-IsPermutation}
 use Rattle.std.proofs.lemmas.Bool.{false≢true}
 use Rattle.std.proofs.lemmas.Option.{none-some, same_Some}
@@ -24,14 +25,14 @@ use Rattle.forest_model.proofs.Climbs.{tree_at-forest}
 use Rattle.forest_model.proofs.Covers.{some_from_test}
 use Rattle.forest_model.proofs.Deleting.{is_spent, target_entry, spent_is_target}
 use Rattle.forest_model.proofs.Living.{entry_found}
-use Rattle.leaf_record.specs.Leaf.{Leaf}
+use Rattle.leaf_record.specs.Leaf.{Leaf, Rest}
 use Rattle.leaf_record.specs.History.{somes}
 use Rattle.proof_shape.specs.declared.fault.ShapeFault.{ShapeFault}
 use Rattle.proof_shape.specs.declared.fault.ShapeFault.TheVariants as Shape
 use Rattle.proof_shape.specs.Shape.{IsShapeFault}
-use Rattle.proof_wire.specs.BlockProof.{Spend, BlockProof, targets_of}
+use Rattle.proof_wire.specs.BlockProof.{BlockProof, targets_of, spends_of}
 use Rattle.cache_model.specs.Known.{is_known}
-use Rattle.node_rules.specs.Messages.{Message}
+use Rattle.node_rules.specs.Messages.{Message, number_of}
 use Rattle.node_rules.specs.Accepting.{shape_fault}
 use Rattle.node_rules.proofs.Placing.{fault_told}
 use Rattle.bridge_forest.specs.State.{is_live}
@@ -40,9 +41,10 @@ use Rattle.bridge_forest.specs.declared.branch.Sibling.{Sibling}
 use Rattle.bridge_forest.proofs.Slotted.{stand_there}
 use Rattle.output_index.specs.Held.{Held, held_at, leaf_at, is_live as is_held_live}
 use Rattle.output_index.proofs.HeldLaws.{live_is_held}
-use Rattle.bridge_prover.specs.Bridge.{spend_of, spends_by}
+use Rattle.bridge_prover.specs.Bridge.{target_of, spend_of, spends_by}
+use Rattle.bridge_prover.specs.Own.{leaves_in}
 use Rattle.bridge_prover.specs.Judged.{proof_beside, hashes_unknown}
-use Rattle.bridge_prover.proofs.Gathering.{map-append, gathered_more}
+use Rattle.bridge_prover.proofs.Gathering.{map-append, mapped_more}
 
 pub live_within : (es : List (Option Digest)) (i : ℕ) (p : Place) → is_some (get_or es i None) ≡ true → tree_at es p.row p.off ≡ option_map (leaf i) (get_or es i None) → InForest (length es) p.row p.off
 live_within es i p live stands = by_entry (get_or es i None) live stands
@@ -78,13 +80,38 @@ placed_at es numbers places i d are lt =
     let long : length places ≡ length numbers = sym (length-map places Some) ∙ (ap length are ∙ length-map numbers (entry_place es)) in
     sym (get_or-map (entry_place es) numbers i 0 None lt) ∙ (ap (λ xs. get_or xs i None) (sym are) ∙ get_or-map Some places i d None (omega (arith, lt, long)))
 
-pub shown_more : (es : List (Option Digest)) (hs : List Held) (lean : Bool) (numbers : List ℕ) (i : ℕ) (old new : Message) → i < length numbers → old ≡ record { lean = lean; proof = record { spends = spends_by es hs (take i numbers); hashes = [] } } →
-    new ≡ record { lean = old.lean; proof = record { spends = old.proof.spends ++ spends_by es hs (get_or numbers i 0 ∷ []); hashes = old.proof.hashes } } → new ≡ record { lean = lean; proof = record { spends = spends_by es hs (take (i + 1) numbers); hashes = [] } }
-shown_more es hs lean numbers i old new lt was e =
-    let more : spends_by es hs (take (i + 1) numbers) ≡ spends_by es hs (take i numbers) ++ spends_by es hs (get_or numbers i 0 ∷ []) = gathered_more (λ j. option_map (spend_of es j) (leaf_at j hs)) numbers i 0 lt in
-    let one = spends_by es hs (get_or numbers i 0 ∷ []) in
-    e ∙ (ap (λ (m : Message). (let p : BlockProof = record { spends = m.proof.spends ++ one; hashes = m.proof.hashes } in let q : Message = record { lean = m.lean; proof = p } in q)) was
-    ∙ ap (λ xs. (let p : BlockProof = record { spends = xs; hashes = [] } in let q : Message = record { lean = lean; proof = p } in q)) (sym more))
+-- a place more, by its number
+pub targeted_more : (es : List (Option Digest)) (numbers : List ℕ) (i : ℕ) (n number : ℕ) (place : Place) (old new : List ℕ) → n ≡ length es → i < length numbers → entry_place es (get_or numbers i 0) ≡ Some place → number ≡ position n place.row place.off → old ≡ map (target_of es) (take i numbers) → new ≡ old ++ number ∷ [] → new ≡ map (target_of es) (take (i + 1) numbers)
+targeted_more es numbers i n number place old new count lt there is was e =
+    let here : number ≡ target_of es (get_or numbers i 0) = is ∙ (ap (λ m. position m place.row place.off) count ∙ sym (ap (λ p. unwrap_or (option_map (number_of (length es)) p) 0) there)) in
+    e ∙ (ap₂ (λ xs x. xs ++ x ∷ []) was here ∙ sym (mapped_more (target_of es) numbers i 0 lt))
+
+leaf_of_live : (i : ℕ) (hs : List Held) → is_held_live i hs ≡ true → (output : Leaf) × (leaf_at i hs ≡ Some output)
+leaf_of_live i hs live = by (held_at i hs) refl (live_is_held i hs live)
+  where
+    by : (x : Option Held) → held_at i hs ≡ x → IsSome x → (output : Leaf) × (leaf_at i hs ≡ Some output)
+    by None e some = absurd (false≢true some)
+    by (Some h) e some = (h.leaf, ap (option_map (λ (x : Held). x.leaf)) e)
+
+-- the rests of live entries that are held, each with the number of its place
+module _ (es : List (Option Digest)) (hs : List Held) where
+  shown_all : (numbers : List ℕ) → AllByRecursion (λ i. is_held_live i hs ≡ true) numbers → spends_of (map (target_of es) numbers) (map (λ (leaf : Leaf). leaf.rest) (leaves_in hs numbers)) ≡ spends_by es hs numbers
+  shown_all [] held = refl
+  shown_all (i ∷ is) held =
+      let output = leaf_of_live i hs held.0 in
+      let shown : leaf_at i hs ≡ Some output.0 = output.1 in
+      rw (shown) (ap (λ xs. spend_of es i output.0 ∷ xs) (shown_all is held.1))
+
+  leaves_all : (numbers : List ℕ) → AllByRecursion (λ i. is_held_live i hs ≡ true) numbers → length (leaves_in hs numbers) ≡ length numbers
+  leaves_all [] held = refl
+  leaves_all (i ∷ is) held =
+      let output = leaf_of_live i hs held.0 in
+      let shown : leaf_at i hs ≡ Some output.0 = output.1 in
+      rw (shown) (ap suc (leaves_all is held.1))
+
+-- as many rests as entries
+pub rests_each : (hs : List Held) (numbers : List ℕ) (rests : List Rest) → All (λ i. is_held_live i hs ≡ true) numbers → rests ≡ map (λ leaf. leaf.rest) (leaves_in hs numbers) → length rests ≡ length numbers
+rests_each hs numbers rests held are = ap length are ∙ (length-map (leaves_in hs numbers) (λ (leaf : Leaf). leaf.rest) ∙ leaves_all [] hs numbers (recursion_from_All (λ i. is_held_live i hs ≡ true) numbers held))
 
 -- ---- the hashes
 
@@ -93,13 +120,51 @@ unknown-append n kept xs ys =
     let free = λ (s : Sibling). not (is_known n kept s.place) in
     ap (map (λ (s : Sibling). s.digest)) (filter-append free xs ys) ∙ map-append (λ (s : Sibling). s.digest) (filter free xs) (filter free ys)
 
-pub hash_more : (n : ℕ) (kept : List Place) (lean : Bool) (spends : List Spend) (siblings : List Sibling) (i : ℕ) (d : Sibling) (old new : Message) → i < length siblings → old ≡ record { lean = lean; proof = record { spends = spends; hashes = hashes_unknown n kept (take i siblings) } } →
-    new ≡ record { lean = old.lean; proof = record { spends = old.proof.spends; hashes = old.proof.hashes ++ hashes_unknown n kept (get_or siblings i d ∷ []) } } → new ≡ record { lean = lean; proof = record { spends = spends; hashes = hashes_unknown n kept (take (i + 1) siblings) } }
-hash_more n kept lean spends siblings i d old new lt was e =
-    let one = hashes_unknown n kept (get_or siblings i d ∷ []) in
-    let more : hashes_unknown n kept (take (i + 1) siblings) ≡ hashes_unknown n kept (take i siblings) ++ one = ap (hashes_unknown n kept) (take_more siblings i d lt) ∙ unknown-append n kept (take i siblings) (get_or siblings i d ∷ []) in
-    e ∙ (ap (λ (m : Message). (let p : BlockProof = record { spends = m.proof.spends; hashes = m.proof.hashes ++ one } in let q : Message = record { lean = m.lean; proof = p } in q)) was
-    ∙ ap (λ xs. (let p : BlockProof = record { spends = spends; hashes = xs } in let q : Message = record { lean = lean; proof = p } in q)) (sym more))
+-- a sibling more
+pub unknown_more : (n : ℕ) (kept : List Place) (siblings : List Sibling) (i : ℕ) (d : Sibling) → i < length siblings → hashes_unknown n kept (take (i + 1) siblings) ≡ hashes_unknown n kept (take i siblings) ++ hashes_unknown n kept (get_or siblings i d ∷ [])
+unknown_more n kept siblings i d lt = ap (hashes_unknown n kept) (take_more siblings i d lt) ∙ unknown-append n kept (take i siblings) (get_or siblings i d ∷ [])
+
+known_alone : (n : ℕ) (kept : List Place) (s : Sibling) → is_known n kept s.place ≡ true → hashes_unknown n kept (s ∷ []) ≡ []
+known_alone n kept s is = rw is refl
+
+unknown_alone : (n : ℕ) (kept : List Place) (s : Sibling) → is_known n kept s.place ≡ false → hashes_unknown n kept (s ∷ []) ≡ s.digest ∷ []
+unknown_alone n kept s is = rw is refl
+
+module _ (n : ℕ) (kept : List Place) (siblings : List Sibling) (i : ℕ) (s : Sibling) (here : s ≡ get_or siblings i s) (lt : i < length siblings) (before old : List Digest) (was : old ≡ before ++ hashes_unknown n kept (take i siblings)) where
+  pub left_out : is_known n kept s.place ≡ true → old ≡ before ++ hashes_unknown n kept (take (i + 1) siblings)
+  left_out is =
+      let none : hashes_unknown n kept (get_or siblings i s ∷ []) ≡ [] = ap (λ (x : Sibling). hashes_unknown n kept (x ∷ [])) (sym here) ∙ known_alone n kept s is in
+      was ∙ ap (λ xs. before ++ xs) (sym (unknown_more n kept siblings i s lt ∙ (ap (λ xs. hashes_unknown n kept (take i siblings) ++ xs) none ∙ append-nil (hashes_unknown n kept (take i siblings)))))
+
+  pub given : (new : List Digest) → is_known n kept s.place ≡ false → new ≡ old ++ s.digest ∷ [] → new ≡ before ++ hashes_unknown n kept (take (i + 1) siblings)
+  given new is more =
+      let one : hashes_unknown n kept (get_or siblings i s ∷ []) ≡ s.digest ∷ [] = ap (λ (x : Sibling). hashes_unknown n kept (x ∷ [])) (sym here) ∙ unknown_alone n kept s is in
+      more ∙ (ap (λ xs. xs ++ s.digest ∷ []) was
+      ∙ (append_assoc before (hashes_unknown n kept (take i siblings)) (s.digest ∷ [])
+      ∙ ap (λ xs. before ++ xs) (ap (λ xs. hashes_unknown n kept (take i siblings) ++ xs) (sym one) ∙ sym (unknown_more n kept siblings i s lt))))
+
+-- a row more
+pub row_more : (n : ℕ) (kept : List Place) (rows : List (List Sibling)) (i : ℕ) (d : List Sibling) (old new : List Digest) → i < length rows → old ≡ hashes_unknown n kept (flat_map (λ row. row) (take i rows)) → new ≡ old ++ hashes_unknown n kept (get_or rows i d) → new ≡ hashes_unknown n kept (flat_map (λ row. row) (take (i + 1) rows))
+row_more n kept rows i d old new lt was more =
+    let row : List Sibling = get_or rows i d in
+    let front = take i rows in
+    more ∙ (ap (λ xs. xs ++ hashes_unknown n kept row) was
+    ∙ (sym (unknown-append n kept (flat_map (λ r. r) front) row)
+    ∙ ap (hashes_unknown n kept) (sym (ap (flat_map (λ r. r)) (take_more rows i d lt) ∙ (flat_map-append (λ (r : List Sibling). r) front (row ∷ []) ∙ ap (λ xs. flat_map (λ r. r) front ++ xs) (flat_map-cons (λ (r : List Sibling). r) row [] ∙ append-nil row))))))
+
+-- what holds of all in the rows holds of all in one
+pub all_in_row : {X : Type 0} (P : X → Type 0) (rows : List (List X)) (i : ℕ) (d : List X) → i < length rows → AllByRecursion P (flat_map (λ row. row) rows) → AllByRecursion P (get_or rows i d)
+all_in_row P [] i d lt all = absurd (omega (arith, lt))
+all_in_row P (row ∷ rows) zero d lt all = (parts_of row (flat_map (λ r. r) rows) (subst (AllByRecursion P) (flat_map-cons (λ r. r) row rows) all)).0
+  where
+    parts_of : (xs ys : List _) → AllByRecursion P (xs ++ ys) → AllByRecursion P xs × AllByRecursion P ys
+    parts_of [] ys a = (tt, a)
+    parts_of (x ∷ xs) ys a = let more = parts_of xs ys a.1 in ((a.0, more.0), more.1)
+all_in_row P (row ∷ rows) (suc i) d lt all = all_in_row P rows i d (omega (arith, lt)) (behind row (flat_map (λ r. r) rows) (subst (AllByRecursion P) (flat_map-cons (λ r. r) row rows) all))
+  where
+    behind : (xs ys : List _) → AllByRecursion P (xs ++ ys) → AllByRecursion P ys
+    behind [] ys a = a
+    behind (x ∷ xs) ys a = behind xs ys a.1
 
 -- the places of siblings are in the forest
 pub siblings_within : (H : List ℕ → Digest) (es : List (Option Digest)) (ps : List Place) → AllByRecursion (λ s. InForest (length es) s.place.row s.place.off) (filter_map (standing H es) ps)
@@ -110,11 +175,11 @@ siblings_within H es (p ∷ ps) = by (tree_at es p.row p.off) refl (siblings_wit
     by None e rest = rw e rest
     by (Some t) e rest = rw e (tree_at-forest es p.row p.off t e, rest)
 
-pub sibling_within : (H : List ℕ → Digest) (es : List (Option Digest)) (spent : List ℕ) (n : ℕ) (siblings : List Sibling) (i : ℕ) (d : Sibling) → n ≡ length es → siblings ≡ proof_of H es spent → i < length siblings → InForest n (get_or siblings i d).place.row (get_or siblings i d).place.off
-sibling_within H es spent n siblings i d count are lt =
-    let all = All-from_recursion (λ (s : Sibling). InForest (length es) s.place.row s.place.off) (proof_of H es spent) (siblings_within H es (need (length es) (places_of es spent))) in
-    subst (λ m. InForest m (get_or siblings i d).place.row (get_or siblings i d).place.off) (sym count)
-    (subst (λ xs. InForest (length es) (get_or xs i d).place.row (get_or xs i d).place.off) (sym are) (all i d (subst (λ xs. i < length xs) are lt)))
+-- those that prove entries among them
+pub proof_within : (H : List ℕ → Digest) (es : List (Option Digest)) (spent : List ℕ) (n : ℕ) (siblings : List Sibling) → n ≡ length es → siblings ≡ proof_of H es spent → AllByRecursion (λ s. InForest n s.place.row s.place.off) siblings
+proof_within H es spent n siblings count are =
+    subst (λ m. AllByRecursion (λ s. InForest m s.place.row s.place.off) siblings) (sym count)
+    (subst (AllByRecursion (λ s. InForest (length es) s.place.row s.place.off)) (sym are) (siblings_within H es (need (length es) (places_of es spent))))
 
 abbrev pub at : (List ℕ → Digest) → List (Option Digest) → Place → Option Digest
 at H es p = digest_at H es p.row p.off
@@ -163,13 +228,6 @@ module _ (es : List (Option Digest)) (numbers spent : List ℕ) (live : All (λ 
       (λ h. let w = target_entry es (places_of es numbers) numbers r o (stand_there es numbers live) h in
       sym (spent_is_target es (places_of es spent) spent (stand_there es spent live_too) r o w.0 w.1 w.2) ∙ (sym (same_spent w.0) ∙ w.3))
 
-leaf_of_live : (i : ℕ) (hs : List Held) → is_held_live i hs ≡ true → (output : Leaf) × (leaf_at i hs ≡ Some output)
-leaf_of_live i hs live = by (held_at i hs) refl (live_is_held i hs live)
-  where
-    by : (x : Option Held) → held_at i hs ≡ x → IsSome x → (output : Leaf) × (leaf_at i hs ≡ Some output)
-    by None e some = absurd (false≢true some)
-    by (Some h) e some = (h.leaf, ap (option_map (λ (x : Held). x.leaf)) e)
-
 -- the targets of what is shown of live entries that are held are their places
 targets_placed : (es : List (Option Digest)) (hs : List Held) (numbers : List ℕ) → AllByRecursion (λ i. is_live es i ≡ true) numbers → AllByRecursion (λ i. is_held_live i hs ≡ true) numbers → somes (map (place_at (length es)) (targets_of (spends_by es hs numbers))) ≡ places_of es numbers
 targets_placed es hs [] live held = refl
@@ -182,12 +240,14 @@ targets_placed es hs (i ∷ is) live held =
     let there : place_at (length es) (position (length es) found.0.row found.0.off) ≡ Some found.0 = place_at-position (length es) found.0 (tree_at-forest es found.0.row found.0.off _ found.2) in
     rw (shown, place, there) (ap (λ ps. found.0 ∷ ps) (targets_placed es hs is live.1 held.1))
 
-pub whole_proof : (H : List ℕ → Digest) (es : List (Option Digest)) (hs : List Held) (kept : List Place) (lean : Bool) (numbers spent : List ℕ) (siblings : List Sibling) (m : Message) → All (λ i. is_live es i ≡ true) numbers → All (λ i. is_held_live i hs ≡ true) numbers → IsPermutation numbers spent → siblings ≡ proof_of H es spent →
-    m ≡ record { lean = lean; proof = record { spends = spends_by es hs numbers; hashes = hashes_unknown (length es) kept siblings } } → m ≡ record { lean = lean; proof = proof_beside H kept es hs numbers }
-whole_proof H es hs kept lean numbers spent siblings m live held perm are e =
+pub whole_proof : (H : List ℕ → Digest) (es : List (Option Digest)) (hs : List Held) (kept : List Place) (lean : Bool) (numbers spent : List ℕ) (rests : List Rest) → All (λ i. is_live es i ≡ true) numbers → All (λ i. is_held_live i hs ≡ true) numbers → IsPermutation numbers spent → rests ≡ map (λ leaf. leaf.rest) (leaves_in hs numbers) →
+    (let p : BlockProof = record { spends = spends_of (map (target_of es) numbers) rests; hashes = hashes_unknown (length es) kept (proof_of H es spent) } in let m : Message = record { lean = lean; proof = p } in m) ≡ record { lean = lean; proof = proof_beside H kept es hs numbers }
+whole_proof H es hs kept lean numbers spent rests live held perm shown =
+    let held' = recursion_from_All (λ i. is_held_live i hs ≡ true) numbers held in
     let ts = somes (map (place_at (length es)) (targets_of (spends_by es hs numbers))) in
-    let placed : ts ≡ places_of es numbers = targets_placed es hs numbers (recursion_from_All (λ i. is_live es i ≡ true) numbers live) (recursion_from_All (λ i. is_held_live i hs ≡ true) numbers held) in
+    let placed : ts ≡ places_of es numbers = targets_placed es hs numbers (recursion_from_All (λ i. is_live es i ≡ true) numbers live) held' in
     let needed : need (length es) (places_of es spent) ≡ need (length es) ts = same_need (length es) (places_of es spent) (places_of es numbers) (same_places es numbers spent live perm) ∙ ap (need (length es)) (sym placed) in
-    let hashes : hashes_unknown (length es) kept siblings ≡ somes (map (at H es) (filter (λ p. not (is_known (length es) kept p)) (need (length es) ts))) =
-    ap (hashes_unknown (length es) kept) are ∙ (unknown_are H es kept (need (length es) (places_of es spent)) ∙ ap (λ ps. somes (map (at H es) (filter (λ p. not (is_known (length es) kept p)) ps))) needed) in
-    e ∙ ap (λ xs. (let p : BlockProof = record { spends = spends_by es hs numbers; hashes = xs } in let q : Message = record { lean = lean; proof = p } in q)) hashes
+    let hashes : hashes_unknown (length es) kept (proof_of H es spent) ≡ somes (map (at H es) (filter (λ p. not (is_known (length es) kept p)) (need (length es) ts))) =
+    unknown_are H es kept (need (length es) (places_of es spent)) ∙ ap (λ ps. somes (map (at H es) (filter (λ p. not (is_known (length es) kept p)) ps))) needed in
+    let spends : spends_of (map (target_of es) numbers) rests ≡ spends_by es hs numbers = ap (spends_of (map (target_of es) numbers)) shown ∙ shown_all es hs numbers held' in
+    ap₂ (λ xs ys. (let p : BlockProof = record { spends = xs; hashes = ys } in let m : Message = record { lean = lean; proof = p } in m)) spends hashes

@@ -6,7 +6,7 @@ use Rattle.forest_place.specs.declared.place.Place.{Place}
 use Rattle.forest_model.specs.Cover.{need}
 use Rattle.forest_model.specs.Standing.{digest_at}
 use Rattle.block_codec.specs.Block.{Block}
-use Rattle.leaf_record.specs.Leaf.{Leaf}
+use Rattle.leaf_record.specs.Leaf.{Leaf, Rest}
 use Rattle.leaf_record.specs.History.{somes}
 use Rattle.proof_wire.specs.BlockProof.{BlockProof}
 use Rattle.block_rules.specs.Blocks.{external}
@@ -32,10 +32,11 @@ abbrev pub first_missing : List Held → List Outside → Option Refusal
 first_missing hs ext = first_of (map (missing_in hs) ext)
 
 -- these are the entries that the external inputs spend, none of which is missing, and this is what they are
-pub record AreFound (hs : List Held) (ext : List Outside) (numbers : List ℕ) (found : List Found) : Type 0 where
+pub record AreFound (hs : List Held) (ext : List Outside) (numbers : List ℕ) (found : List Found) (rests : List Rest) : Type 0 where
   pub each : map Some numbers ≡ newest_in hs ext
   pub passes : first_missing hs ext ≡ None
   pub are : found ≡ map (λ leaf. found_of leaf.rest) (leaves_in hs numbers)
+  pub shown : rests ≡ map (λ leaf. leaf.rest) (leaves_in hs numbers)
 
 -- the proof of these entries, without the hashes that are known where the kept entries stand at these places
 abbrev pub proof_beside : (List ℕ → Digest) → List Place → List (Option Digest) → List Held → List ℕ → BlockProof

@@ -9,21 +9,19 @@ ghost use Rattle.uo_base.specs.FeedEvent.{event_of};
 mod judge;
 
 use crate::entries::{digests_of, restore_all, rising};
-use crate::find::{found_by, numbers_of};
+use crate::find::{Spent, found_by, numbers_of};
 use crate::held::{cut, insert_all, keep, spend_all, undo_of, unspend_all};
 use crate::message::message_of;
 use crate::watched::{append, cut_noted, hashes_of, keep_held, kept_targets, noted_of};
 use block_codec::{BareBlock, BlockFault, BlockView, block_hash, read_bare};
-use block_rules::{
-    Chain, Found, Outside, Refusal, RuleFault, Spends, Verdict, money_rules, shape_rules,
-};
+use block_rules::{Chain, Outside, Refusal, RuleFault, Spends, Verdict, money_rules, shape_rules};
 use bridge_forest::Forest;
 use forest_place::Place;
 use leaf_cache::Watch;
 use leaf_record::LeafBuf;
 use output_index::Outputs;
 use proof_shape::Targets;
-use proof_wire::Message;
+use proof_wire::{Message, Rests};
 use reorg_undo::{Ring, Undo};
 use std::alloc::Global;
 use std::marker::Model;
@@ -90,6 +88,7 @@ impl<D: Digester> Bridge<D> {
     ghost use Rattle.bridge_forest.specs.State.{is_live};
     ghost use Rattle.bridge_prover.specs.Watched.{scripts_of, kept_in, places_in, known_list};
     ghost use Rattle.bridge_prover.specs.Bridge.{bridge_with, fresh_bridge, gone_back, message_by, message_on, most_steps, next_bridge, refusal_on, spends_by, spent_by, undone_by, verdict_on};
+    ghost use Rattle.bridge_prover.specs.Own.{leaves_in};
     ghost use Rattle.bridge_prover.specs.Judged.{AreFound, IsProved, IsReady, first_missing};
     ghost use Rattle.bridge_prover.specs.Laws.{KnowsAsOwn, LevelsTold, SaysAsOwn};
     ghost use Rattle.bridge_prover.specs.Standing.{IsBridge};
@@ -292,25 +291,27 @@ impl<D: Digester> Bridge<D> {
         hashes_of::<D>(self.alloc, &self.forest, kept)
     }
 
-    // The bytes of the message beside a block that spends these entries, of which `spent` has the same in ascending order: none where nothing
-    // is spent from outside.
+    // The bytes of the message beside a block that spends these entries, which have these rests, and of which `spent` has the same in ascending
+    // order: none where nothing is spent from outside.
     fn message(
         &self,
         external: &[Outside],
         numbers: &[u64],
         spent: &[u64],
+        rests: Rests,
     ) -> Result<Option<Vec<u8>>, NoMemory>
         requires live { All (λ i. is_live self.now.entries i ≡ true) numbers.now }
         requires held { All (λ i. is_held_live i self.now.held ≡ true) numbers.now }
         requires same { IsPermutation numbers.now spent.now }
         requires rise { IsNonDecreasing spent.now }
+        requires rests { rests ≡ map (λ leaf. leaf.rest) (leaves_in self.now.held numbers.now) }
         ensures { IfOk result (λ m. option_map (λ bytes. bytes.items) m ≡ written_text external.now (message_by D.digest_of self.now.watch self.now.entries self.now.held numbers.now)) }
     {
         if external.is_empty() {
             return Ok(None);
         }
         let kept = self.kept()?;
-        let message = self.message_beside(&kept, numbers, spent)?;
+        let message = self.message_beside(&kept, numbers, spent, rests)?;
         let mut bytes = Vec::new(self.alloc);
         message.write(&mut bytes)?;
         Ok(Some(bytes))
@@ -322,6 +323,7 @@ impl<D: Digester> Bridge<D> {
         kept: &Targets,
         numbers: &[u64],
         spent: &[u64],
+        rests: Rests,
     ) -> Result<Message, NoMemory>
         requires leaves { kept.now.leaves ≡ length self.now.entries }
         requires targets { kept.now.targets ≡ places_in self.now.entries (kept_in (scripts_of self.now.watch) self.now.held) }
@@ -329,36 +331,39 @@ impl<D: Digester> Bridge<D> {
         requires held { All (λ i. is_held_live i self.now.held ≡ true) numbers.now }
         requires same { IsPermutation numbers.now spent.now }
         requires rise { IsNonDecreasing spent.now }
+        requires rests { rests ≡ map (λ leaf. leaf.rest) (leaves_in self.now.held numbers.now) }
         ensures { IfOk result (λ m. m ≡ message_by D.digest_of self.now.watch self.now.entries self.now.held numbers.now) }
     {
         message_of::<D>(
             self.alloc,
             &self.forest,
-            &self.outputs,
             kept,
             self.watch.is_some(),
             numbers,
             spent,
+            rests,
         )
     }
 
-    // Goes on by a block that spends these entries, and answers the message that shows them, or leaves all as it was where there
-    // is no memory.
+    // Goes on by a block that spends these entries, which have these rests, and answers the message that shows them, or leaves all as it was
+    // where there is no memory.
     fn extend<L: Ledger>(
         &mut self,
         hash: Digest,
         spends: &Spends<'_>,
         numbers: Vec<u64>,
+        rests: Rests,
         steps: &mut Steps<L>,
     ) -> Result<Option<Vec<u8>>, NoMemory>
-        requires { IsReady D.digest_of leaf_text self.old hash numbers.items spends.now.new }
+        requires ready { IsReady D.digest_of leaf_text self.old hash numbers.items spends.now.new }
+        requires rests { rests ≡ map (λ leaf. leaf.rest) (leaves_in self.old.held numbers.items) }
         ensures says { IfOk result (λ m. option_map (λ bytes. bytes.items) m ≡ written_text spends.now.external (message_by D.digest_of self.old.watch self.old.entries self.old.held numbers.items)) }
         ensures next { OnOk result (self.new ≡ bridge_with D.digest_of leaf_text self.old hash numbers.items spends.now.new) }
         ensures stays { OnErr result (self.new ≡ self.old) }
         ensures steps { steps.new ≤ steps.old + length numbers.items * rows (length self.old.entries) + 2 * length spends.now.new + 40 }
     {
         let spent = rising(self.alloc, &numbers)?;
-        let message = self.message(spends.external(), &numbers, &spent)?;
+        let message = self.message(spends.external(), &numbers, &spent, rests)?;
         self.take_rising(hash, spends, numbers, &spent, steps)?;
         Ok(message)
     }
@@ -431,9 +436,13 @@ impl<D: Digester> Bridge<D> {
         let spends = self.shape(block)?;
         // A block that is not too heavy has few inputs, since it has a text.
         let _bytes = block.bytes();
-        let (numbers, found) = self.look_up(spends.external())?;
+        let Spent {
+            numbers,
+            found,
+            rests,
+        } = self.look_up(spends.external())?;
         match money_rules(&spends, &found) {
-            Ok(_) => match self.extend(hash, &spends, numbers, steps) {
+            Ok(_) => match self.extend(hash, &spends, numbers, rests, steps) {
                 Ok(message) => Ok(message),
                 Err(NoMemory) => Err(RuleFault::NoMemory),
             },
@@ -449,15 +458,13 @@ impl<D: Digester> Bridge<D> {
         shape_rules(self.alloc, block, &self.chain, self.net, self.limits)
     }
 
-    // The newest live entry of each external input's outpoint, and what the rules on money ask of it; or the first input of
-    // which there is none.
-    fn look_up(&self, external: &[Outside]) -> Result<(Vec<u64>, Vec<Found>), RuleFault>
-        ensures ok { IfOk result (λ all. AreFound self.now.held external.now all.0.items all.1.items) }
+    // The newest live entry of each external input's outpoint, and what it is; or the first input of which there is none.
+    fn look_up(&self, external: &[Outside]) -> Result<Spent, RuleFault>
+        ensures ok { IfOk result (λ spent. AreFound self.now.held external.now spent.numbers.items spent.found.items spent.rests) }
         ensures err { IfErr result (λ fault. IsFirst (first_missing self.now.held external.now) fault) }
     {
         let numbers = numbers_of(self.alloc, &self.outputs, external)?;
-        let found = found_by(self.alloc, &self.outputs, &numbers)?;
-        Ok((numbers, found))
+        Ok(found_by(self.alloc, &self.outputs, numbers)?)
     }
 
     // The first rule is that a block names the tip. Where it does not, none of its transactions is hashed.

@@ -11,7 +11,9 @@ ghost use Rattle.bridge_prover.specs.Judged.{first_missing};
 use block_rules::{Found, Outside, Refusal, RuleFault};
 use leaf_record::RecordView;
 use output_index::{Outpoint, Outputs};
+use proof_wire::Rests;
 use std::alloc::{AllocError, Global};
+use uo_base::NoMemory;
 
 // The outpoint of each external input.
 fn names_of(alloc: Global, external: &[Outside]) -> Result<Vec<Outpoint>, AllocError>
@@ -64,27 +66,51 @@ fn found_in(leaf: &RecordView<'_>) -> Found
     }
 }
 
-fn put_found(found: &mut Vec<Found>, outputs: &Outputs, number: u64) -> Result<(), AllocError>
-    ensures { OnOk result (found.new.items ≡ found.old.items ++ map (λ leaf. found_of leaf.rest) (leaves_in outputs.now (number ∷ []))) }
+/// What the external inputs of a block spend: the numbers of the entries, what the rules on money ask of each, and the rest of each.
+#[derive(Drop)]
+pub(crate) struct Spent {
+    pub(crate) numbers: Vec<u64>,
+    pub(crate) found: Vec<Found>,
+    pub(crate) rests: Rests,
+}
+
+fn put_found(
+    found: &mut Vec<Found>,
+    rests: &mut Rests,
+    outputs: &Outputs,
+    number: u64,
+) -> Result<(), NoMemory>
+    ensures found { OnOk result (found.new.items ≡ found.old.items ++ map (λ leaf. found_of leaf.rest) (leaves_in outputs.now (number ∷ []))) }
+    ensures rests { OnOk result (rests.new ≡ rests.old ++ map (λ leaf. leaf.rest) (leaves_in outputs.now (number ∷ []))) }
 {
     match outputs.output(number) {
-        Some(leaf) => found.push(found_in(&leaf))?,
+        Some(leaf) => {
+            found.push(found_in(&leaf))?;
+            rests.push(&leaf.rest())?;
+        }
         None => {}
     }
     Ok(())
 }
 
-// What these entries are.
+// What these entries are. Each record is read once, for the rules and for the message, since later it would have to be waited for again.
 pub(crate) fn found_by(
     alloc: Global,
     outputs: &Outputs,
-    numbers: &[u64],
-) -> Result<Vec<Found>, AllocError>
-    ensures { IfOk result (λ found. found.items ≡ map (λ leaf. found_of leaf.rest) (leaves_in outputs.now numbers.now)) }
+    numbers: Vec<u64>,
+) -> Result<Spent, NoMemory>
+    ensures numbers { IfOk result (λ spent. spent.numbers ≡ numbers) }
+    ensures found { IfOk result (λ spent. spent.found.items ≡ map (λ leaf. found_of leaf.rest) (leaves_in outputs.now numbers.items)) }
+    ensures rests { IfOk result (λ spent. spent.rests ≡ map (λ leaf. leaf.rest) (leaves_in outputs.now numbers.items)) }
 {
     let mut found = Vec::with_capacity(alloc, numbers.len())?;
-    for number in numbers {
-        put_found(&mut found, outputs, *number)?;
+    let mut rests = Rests::with_room(alloc, numbers.len())?;
+    for number in &numbers {
+        put_found(&mut found, &mut rests, outputs, *number)?;
     }
-    Ok(found)
+    Ok(Spent {
+        numbers,
+        found,
+        rests,
+    })
 }

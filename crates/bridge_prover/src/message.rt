@@ -1,23 +1,25 @@
 //! The message beside a block: what it spends, where that stands, and the hashes that prove it.
-ghost use Rattle.std.specs.Prelude.{◌≡◌, ℕ, ◌<◌, ◌^◌, ◌++◌, ◌∷◌, [], true, Some, None, map, length, IfOk, OnOk, All};
+ghost use Rattle.std.specs.Prelude.{◌≡◌, ◌<◌, ◌^◌, ◌++◌, ◌∷◌, [], true, Some, None, map, length, IfOk, OnOk, All};
+ghost use Rattle.std.specs.List.{AllByRecursion, flat_map};
 ghost use Rattle.std.specs.List.Sorted.{IsNonDecreasing, IsPermutation};
+ghost use Rattle.uo_digest.specs.Reading.{IsDigest};
 ghost use Rattle.forest_place.specs.Forest.{InForest};
 ghost use Rattle.forest_place.specs.Position.{place_at};
 ghost use Rattle.forest_model.specs.EntryPlace.{entry_place};
 ghost use Rattle.node_rules.specs.Accepting.{shape_fault};
 ghost use Rattle.cache_model.specs.Known.{is_known as is_known_of};
 ghost use Rattle.bridge_forest.specs.State.{is_live};
-ghost use Rattle.output_index.specs.Held.{is_live as is_held_live};
-ghost use Rattle.bridge_prover.specs.Bridge.{target_of, spends_by};
-ghost use Rattle.bridge_prover.specs.Judged.{proof_beside, hashes_unknown};
+ghost use Rattle.bridge_forest.specs.Proving.{proof_of};
+ghost use Rattle.proof_wire.specs.BlockProof.{spends_of};
+ghost use Rattle.bridge_prover.specs.Bridge.{target_of};
+ghost use Rattle.bridge_prover.specs.Judged.{hashes_unknown};
 
-use bridge_forest::{Forest, Sibling};
+use bridge_forest::{BatchProof, Forest, Sibling};
 use cache_update::is_known;
 use forest_place::{Place, position};
-use output_index::Outputs;
 use proof_shape::{ShapeFault, TargetPaths, Targets};
-use proof_wire::Message;
-use std::alloc::Global;
+use proof_wire::{Message, Rests};
+use std::alloc::{AllocError, Global};
 use uo_base::NoMemory;
 use uo_digest::{Digest, Digester};
 
@@ -29,7 +31,8 @@ pub(crate) fn target<D: Digester>(forest: &Forest<D>, number: u64) -> u64
     position(forest.place(number), forest.leaves())
 }
 
-// The place at which a live entry stands, which is told beside its number where that is among these, which ascend.
+// The place at which a live entry stands. `spent` has entries in ascending order, and `places` has where each of them stands, so there it is
+// looked up first.
 fn place_of<D: Digester>(forest: &Forest<D>, spent: &[u64], places: &[Place], number: u64) -> Place
     requires live { is_live forest.now.entries number ≡ true }
     requires told { map Some places.now ≡ map (entry_place forest.now.entries) spent.now }
@@ -42,23 +45,25 @@ fn place_of<D: Digester>(forest: &Forest<D>, spent: &[u64], places: &[Place], nu
     }
 }
 
-// Shows an entry that stands at this place, if it is held.
-fn put_spend<D: Digester>(
-    message: &mut Message,
+// The numbers of the places at which these live entries stand. `spent` are the same entries, ascending, and `places` where they stand.
+fn targets_of<D: Digester>(
+    alloc: Global,
     forest: &Forest<D>,
-    outputs: &Outputs,
-    number: u64,
-    place: Place,
-) -> Result<(), NoMemory>
-    requires live { is_live forest.now.entries number ≡ true }
-    requires place { entry_place forest.now.entries number ≡ Some place }
-    ensures { OnOk result (message.new ≡ record { lean = message.old.lean; proof = record { spends = message.old.proof.spends ++ spends_by forest.now.entries outputs.now (number ∷ []); hashes = message.old.proof.hashes } }) }
+    numbers: &[u64],
+    spent: &[u64],
+    places: &[Place],
+) -> Result<Vec<u64>, AllocError>
+    requires live { All (λ i. is_live forest.now.entries i ≡ true) numbers.now }
+    requires told { map Some places.now ≡ map (entry_place forest.now.entries) spent.now }
+    requires rise { IsNonDecreasing spent.now }
+    ensures { IfOk result (λ targets. targets.items ≡ map (target_of forest.now.entries) numbers.now) }
 {
-    match outputs.output(number) {
-        Some(leaf) => message.push_spend(position(place, forest.leaves()), &leaf.rest())?,
-        None => {}
+    let mut targets = Vec::with_capacity(alloc, numbers.len())?;
+    for number in numbers {
+        let place = place_of::<D>(forest, spent, places, *number);
+        targets.push(position(place, forest.leaves()))?;
     }
-    Ok(())
+    Ok(targets)
 }
 
 // Whether a place is known where the kept entries stand at these places. Where none is kept nothing is, and nothing is looked up.
@@ -72,16 +77,44 @@ fn is_left_out(kept: &Targets, place: Place) -> bool
     is_known(kept, place)
 }
 
-// Gives the hash at a place, if that is not known where the kept entries stand at these places.
-fn put_hash(message: &mut Message, kept: &Targets, sibling: &Sibling) -> Result<(), NoMemory>
-    requires { InForest kept.now.leaves sibling.now.place.row sibling.now.place.off }
-    ensures { OnOk result (message.new ≡ record { lean = message.old.lean; proof = record { spends = message.old.proof.spends; hashes = message.old.proof.hashes ++ hashes_unknown kept.now.leaves kept.now.targets (sibling.now ∷ []) } }) }
+// Adds a digest.
+fn put_hash(hashes: &mut Vec<Digest>, digest: Digest) -> Result<(), AllocError>
+    ensures given { OnOk result (hashes.new.items ≡ hashes.old.items ++ digest ∷ []) }
+    ensures digests { AllByRecursion IsDigest hashes.old.items → AllByRecursion IsDigest hashes.new.items }
 {
-    if is_left_out(kept, sibling.place) {
-        return Ok(());
-    }
-    message.push_hash(sibling.digest)?;
+    hashes.push(digest)?;
     Ok(())
+}
+
+// Adds the digests of siblings, but for those that are known where the kept entries stand at these places.
+fn put_hashes(
+    hashes: &mut Vec<Digest>,
+    kept: &Targets,
+    siblings: &[Sibling],
+) -> Result<(), AllocError>
+    requires { AllByRecursion (λ s. InForest kept.now.leaves s.place.row s.place.off) siblings.now }
+    ensures given { OnOk result (hashes.new.items ≡ hashes.old.items ++ hashes_unknown kept.now.leaves kept.now.targets siblings.now) }
+    ensures digests { AllByRecursion IsDigest hashes.old.items → AllByRecursion IsDigest hashes.new.items }
+{
+    for sibling in siblings {
+        if !is_left_out(kept, sibling.place) {
+            put_hash(hashes, sibling.digest)?;
+        }
+    }
+    Ok(())
+}
+
+// The same of all siblings that prove entries.
+fn hashes_of(alloc: Global, kept: &Targets, proof: &BatchProof) -> Result<Vec<Digest>, AllocError>
+    requires { AllByRecursion (λ s. InForest kept.now.leaves s.place.row s.place.off) (flat_map (λ row. row) proof.now.rows.items) }
+    ensures given { IfOk result (λ hashes. hashes.items ≡ hashes_unknown kept.now.leaves kept.now.targets (flat_map (λ row. row) proof.now.rows.items)) }
+    ensures digests { IfOk result (λ hashes. AllByRecursion IsDigest hashes.items) }
+{
+    let mut hashes = Vec::with_capacity(alloc, proof.count())?;
+    for row in &proof.rows {
+        put_hashes(&mut hashes, kept, row.as_slice())?;
+    }
+    Ok(hashes)
 }
 
 // The targets at these positions, with their paths alone.
@@ -111,32 +144,26 @@ pub(crate) fn targets_at(alloc: Global, n: u64, positions: &[u64]) -> Result<Tar
     Ok(Targets::of(alloc, paths)?)
 }
 
-// Shows these live entries, which are held, and what proves them, but for the hashes that are known where the kept entries stand at these
-// places. `spent` are the same entries, ascending.
+// Shows these live entries, which have these rests, and what proves them, but for the hashes that are known where the kept entries stand at
+// these places. `spent` are the same entries, ascending.
 pub(crate) fn message_of<D: Digester>(
     alloc: Global,
     forest: &Forest<D>,
-    outputs: &Outputs,
     kept: &Targets,
     lean: bool,
     numbers: &[u64],
     spent: &[u64],
+    rests: Rests,
 ) -> Result<Message, NoMemory>
     requires kept { kept.now.leaves ≡ length forest.now.entries }
     requires live { All (λ i. is_live forest.now.entries i ≡ true) numbers.now }
-    requires held { All (λ i. is_held_live i outputs.now ≡ true) numbers.now }
     requires same { IsPermutation numbers.now spent.now }
     requires rise { IsNonDecreasing spent.now }
-    ensures { IfOk result (λ m. m ≡ record { lean = lean; proof = proof_beside D.digest_of kept.now.targets forest.now.entries outputs.now numbers.now }) }
+    requires each { length rests ≡ length numbers.now }
+    ensures { IfOk result (λ m. m ≡ record { lean = lean; proof = record { spends = spends_of (map (target_of forest.now.entries) numbers.now) rests; hashes = hashes_unknown (length forest.now.entries) kept.now.targets (proof_of D.digest_of forest.now.entries spent.now) } }) }
 {
     let proof = forest.proof_of(alloc, spent)?;
-    let mut message = Message::with_room(alloc, lean, numbers.len(), proof.siblings.len())?;
-    for number in numbers {
-        let place = place_of::<D>(forest, spent, &proof.places, *number);
-        put_spend::<D>(&mut message, forest, outputs, *number, place)?;
-    }
-    for sibling in &proof.siblings {
-        put_hash(&mut message, kept, sibling)?;
-    }
-    Ok(message)
+    let targets = targets_of::<D>(alloc, forest, numbers, spent, &proof.places)?;
+    let hashes = hashes_of(alloc, kept, &proof)?;
+    Ok(Message::of(lean, targets, rests, hashes))
 }
