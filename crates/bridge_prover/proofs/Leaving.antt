@@ -173,14 +173,11 @@ module _ (H : List ℕ → Digest) (text : Leaf → List ℕ) (s : BridgeState) 
       (λ (t : Targeted) e. e ∙ (ap (places_in inner.entries) (lives_are H text inner is numbers noted) ∙ ap (λ (x : BridgeState). places_in x.entries (kept_in (scripts_of x.watch) x.held)) same))
 
   -- the message
-  pub message_found : {E : Type 0} (inner : BridgeState) → inner ≡ s → (kept : List Place) → kept ≡ places_in s.entries (kept_in (scripts_of s.watch) s.held) → (lean : Bool) → lean ≡ is_some inner.watch → (numbers : List ℕ) → (r : Result Message E) →
-      IfOk r (λ m. m ≡ record { lean = lean; proof = proof_beside H kept inner.entries inner.held numbers }) → IfOk r (λ m. m ≡ message_by H s.watch s.entries s.held numbers)
-  message_found inner same kept at lean is numbers r =
-      let made : Bool → List Place → BridgeState → Message = λ b ps x. record { lean = b; proof = proof_beside H ps x.entries x.held numbers } in
-      let whole : made lean kept inner ≡ message_by H s.watch s.entries s.held numbers =
-      ap (λ b. made b kept inner) is ∙ (ap (λ (x : BridgeState). made (is_some x.watch) kept x) same
-      ∙ (ap (λ ps. made (is_some s.watch) ps s) at ∙ ap (λ (p : BlockProof). (let m : Message = record { lean = is_some s.watch; proof = p } in m)) (proof_same_beside H s.entries s.watch s.held numbers))) in
-      IfOk-weaker r (λ (m : Message). m ≡ made lean kept inner) (λ (m : Message). m ≡ message_by H s.watch s.entries s.held numbers) (λ m e. e ∙ whole)
+  pub message_told : (kept : List Place) → kept ≡ places_in s.entries (kept_in (scripts_of s.watch) s.held) → (lean : Bool) → lean ≡ is_some s.watch → (numbers : List ℕ) →
+      (let m : Message = record { lean = lean; proof = proof_beside H kept s.entries s.held numbers } in m) ≡ message_by H s.watch s.entries s.held numbers
+  message_told kept at lean is numbers =
+      let made : Bool → List Place → Message = λ b ps. record { lean = b; proof = proof_beside H ps s.entries s.held numbers } in
+      ap (λ b. made b kept) is ∙ (ap (λ ps. made (is_some s.watch) ps) at ∙ ap (λ (p : BlockProof). (let m : Message = record { lean = is_some s.watch; proof = p } in m)) (proof_same_beside H s.entries s.watch s.held numbers))
 
   -- what is known
   pub known_found : {X E : Type 0} (items : X → List (Place × Digest)) (P : List (Place × Digest) → Type 0) → P (known_list H (scripts_of s.watch) s.entries s.held) → (kept : List Place) → kept ≡ places_in s.entries (kept_in (scripts_of s.watch) s.held) → (r : Result X E) → IfOk r (λ known. items known ≡ held H s.entries kept) → IfOk r (λ known. P (items known))

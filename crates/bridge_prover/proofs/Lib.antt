@@ -1,6 +1,7 @@
 pub mod Gathering
 pub mod Rising
 pub mod Indexing
+pub mod Returning
 pub mod Showing
 pub mod Restoring
 pub mod Giving
@@ -8,6 +9,7 @@ pub mod Noting
 pub mod Kept
 pub mod Merging
 pub mod Leaving
+pub mod Drafting
 pub mod Owning
 pub mod Next
 pub mod Undoing

@@ -129,6 +129,10 @@ pub above-forgotten : (n : ℕ) (ns : List ℕ) (hs : List Held) → IsAbove n h
 above-forgotten n [] hs a = a
 above-forgotten n (m ∷ ns) hs a = above-forgotten n ns _ (above_filtered n (λ h. not (h.number == m)) hs a)
 
+pub above-spent : (n : ℕ) (ns : List ℕ) (hs : List Held) → IsAbove n hs → IsAbove n (spent_in ns hs)
+above-spent n [] hs a = a
+above-spent n (m ∷ ns) hs a = above-spent n ns (with_live m false hs) (above-with_live n m false hs a)
+
 pub above-unspent : (n : ℕ) (ns : List ℕ) (hs : List Held) → IsAbove n hs → IsAbove n (unspent_in ns hs)
 above-unspent n [] hs a = a
 above-unspent n (m ∷ ns) hs a = above-unspent n ns (with_live m true hs) (above-with_live n m true hs a)

@@ -10,8 +10,8 @@ mod judge;
 
 use crate::entries::{digests_of, restore_all, rising};
 use crate::find::{Spent, found_by, numbers_of};
-use crate::held::{cut, insert_all, keep, spend_all, undo_of, unspend_all};
-use crate::message::message_of;
+use crate::held::{cut, give_back, insert_all, keep, spend_all, undo_of, unspend_all};
+use crate::message::{Draft, written};
 use crate::watched::{append, cut_noted, hashes_of, keep_held, kept_targets, noted_of};
 use block_codec::{BareBlock, BlockFault, BlockView, block_hash, read_bare};
 use block_rules::{Chain, Outside, Refusal, RuleFault, Spends, Verdict, money_rules, shape_rules};
@@ -21,7 +21,7 @@ use leaf_cache::Watch;
 use leaf_record::LeafBuf;
 use output_index::Outputs;
 use proof_shape::Targets;
-use proof_wire::{Message, Rests};
+use proof_wire::Rests;
 use reorg_undo::{Ring, Undo};
 use std::alloc::Global;
 use std::marker::Model;
@@ -82,6 +82,7 @@ impl<D: Digester> Bridge<D> {
     ghost use Rattle.compact_node.specs.Node.{IsShort, gone_to};
     ghost use Rattle.std.specs.List.Sorted.{IsNonDecreasing, IsPermutation};
     ghost use Rattle.output_index.specs.Held.{is_live as is_held_live};
+    ghost use Rattle.proof_wire.specs.BlockProof.{message_text};
     ghost use Rattle.node_rules.specs.Proving.{written_text};
     ghost use Rattle.cache_model.specs.Cache.{held};
     ghost use Rattle.cache_model.specs.Lists.{AscendByPlace};
@@ -89,7 +90,7 @@ impl<D: Digester> Bridge<D> {
     ghost use Rattle.bridge_prover.specs.Watched.{scripts_of, kept_in, places_in, known_list};
     ghost use Rattle.bridge_prover.specs.Bridge.{bridge_with, fresh_bridge, gone_back, message_by, message_on, most_steps, next_bridge, refusal_on, spends_by, spent_by, undone_by, verdict_on};
     ghost use Rattle.bridge_prover.specs.Own.{leaves_in};
-    ghost use Rattle.bridge_prover.specs.Judged.{AreFound, IsProved, IsReady, first_missing};
+    ghost use Rattle.bridge_prover.specs.Judged.{AreFound, IsDraft, IsDraftOf, IsProved, IsReady, drafted, first_missing};
     ghost use Rattle.bridge_prover.specs.Laws.{KnowsAsOwn, LevelsTold, SaysAsOwn};
     ghost use Rattle.bridge_prover.specs.Standing.{IsBridge};
 
@@ -291,58 +292,16 @@ impl<D: Digester> Bridge<D> {
         hashes_of::<D>(self.alloc, &self.forest, kept)
     }
 
-    // The bytes of the message beside a block that spends these entries, which have these rests, and of which `spent` has the same in ascending
-    // order: none where nothing is spent from outside.
-    fn message(
-        &self,
-        external: &[Outside],
-        numbers: &[u64],
-        spent: &[u64],
-        rests: Rests,
-    ) -> Result<Option<Vec<u8>>, NoMemory>
-        requires live { All (λ i. is_live self.now.entries i ≡ true) numbers.now }
-        requires held { All (λ i. is_held_live i self.now.held ≡ true) numbers.now }
-        requires same { IsPermutation numbers.now spent.now }
-        requires rise { IsNonDecreasing spent.now }
-        requires rests { rests ≡ map (λ leaf. leaf.rest) (leaves_in self.now.held numbers.now) }
-        ensures { IfOk result (λ m. option_map (λ bytes. bytes.items) m ≡ written_text external.now (message_by D.digest_of self.now.watch self.now.entries self.now.held numbers.now)) }
+    // What the message beside a block tells besides the proof, where what it spends from outside has these rests: none where that is nothing.
+    fn draft(&self, external: &[Outside], rests: Rests) -> Result<Option<Draft>, NoMemory>
+        ensures { IfOk result (λ d. IsDraftOf self.now external.now rests d) }
     {
         if external.is_empty() {
             return Ok(None);
         }
         let kept = self.kept()?;
-        let message = self.message_beside(&kept, numbers, spent, rests)?;
-        let mut bytes = Vec::new(self.alloc);
-        message.write(&mut bytes)?;
-        Ok(Some(bytes))
-    }
-
-    // That message, where the kept entries stand at these places.
-    fn message_beside(
-        &self,
-        kept: &Targets,
-        numbers: &[u64],
-        spent: &[u64],
-        rests: Rests,
-    ) -> Result<Message, NoMemory>
-        requires leaves { kept.now.leaves ≡ length self.now.entries }
-        requires targets { kept.now.targets ≡ places_in self.now.entries (kept_in (scripts_of self.now.watch) self.now.held) }
-        requires live { All (λ i. is_live self.now.entries i ≡ true) numbers.now }
-        requires held { All (λ i. is_held_live i self.now.held ≡ true) numbers.now }
-        requires same { IsPermutation numbers.now spent.now }
-        requires rise { IsNonDecreasing spent.now }
-        requires rests { rests ≡ map (λ leaf. leaf.rest) (leaves_in self.now.held numbers.now) }
-        ensures { IfOk result (λ m. m ≡ message_by D.digest_of self.now.watch self.now.entries self.now.held numbers.now) }
-    {
-        message_of::<D>(
-            self.alloc,
-            &self.forest,
-            kept,
-            self.watch.is_some(),
-            numbers,
-            spent,
-            rests,
-        )
+        let lean = self.watch.is_some();
+        Ok(Some(Draft { lean, kept, rests }))
     }
 
     // Goes on by a block that spends these entries, which have these rests, and answers the message that shows them, or leaves all as it was
@@ -363,9 +322,8 @@ impl<D: Digester> Bridge<D> {
         ensures steps { steps.new ≤ steps.old + length numbers.items * rows (length self.old.entries) + 2 * length spends.now.new + 40 }
     {
         let spent = rising(self.alloc, &numbers)?;
-        let message = self.message(spends.external(), &numbers, &spent, rests)?;
-        self.take_rising(hash, spends, numbers, &spent, steps)?;
-        Ok(message)
+        let draft = self.draft(spends.external(), rests)?;
+        self.take_rising(hash, spends, numbers, &spent, draft, steps)
     }
 
     // The same with no message.
@@ -382,20 +340,27 @@ impl<D: Digester> Bridge<D> {
         ensures steps { steps.new ≤ steps.old + length numbers.items * rows (length self.old.entries) + 2 * length spends.now.new + 40 }
     {
         let spent = rising(self.alloc, &numbers)?;
-        self.take_rising(hash, spends, numbers, &spent, steps)
+        self.take_rising(hash, spends, numbers, &spent, None, steps)?;
+        Ok(())
     }
 
-    // The same, given these entries in ascending order besides.
+    // The same, given these entries in ascending order besides, and what the message that is answered tells besides the proof. The index changes
+    // before the message is made: what it changes was read a short while ago, and the message reads all over the forest. Where there is no memory
+    // for the message, that is taken back.
     fn take_rising<L: Ledger>(
         &mut self,
         hash: Digest,
         spends: &Spends<'_>,
         numbers: Vec<u64>,
         spent: &[u64],
+        draft: Option<Draft>,
         steps: &mut Steps<L>,
-    ) -> Result<(), NoMemory>
+    ) -> Result<Option<Vec<u8>>, NoMemory>
         requires ready { IsReady D.digest_of leaf_text self.old hash numbers.items spends.now.new }
         requires same { IsPermutation numbers.items spent.now }
+        requires rise { IsNonDecreasing spent.now }
+        requires draft { IsDraft self.old.entries numbers.items draft }
+        ensures says { IfOk result (λ m. option_map (λ bytes. bytes.items) m ≡ option_map (λ d. message_text (drafted D.digest_of self.old.entries numbers.items spent.now d)) draft) }
         ensures next { OnOk result (self.new ≡ bridge_with D.digest_of leaf_text self.old hash numbers.items spends.now.new) }
         ensures stays { OnErr result (self.new ≡ self.old) }
         ensures steps { steps.new ≤ steps.old + length numbers.items * rows (length self.old.entries) + 2 * length spends.now.new + 40 }
@@ -405,9 +370,14 @@ impl<D: Digester> Bridge<D> {
         self.forest.reserve(digests.len() as u64)?;
         self.noted.reserve(noted.len())?;
         insert_all(&mut self.outputs, self.chain.leaves, spends)?;
+        spend_all(&mut self.outputs, &numbers);
+        let Ok(message) = written::<D>(self.alloc, &self.forest, draft, &numbers, spent) else {
+            let end = self.chain.leaves + spends.new_count();
+            give_back(&mut self.outputs, &numbers, self.chain.leaves, end);
+            return Err(NoMemory);
+        };
         // Nothing can fail from here on.
         append(&mut self.noted, &noted);
-        spend_all(&mut self.outputs, &numbers);
         self.forest.apply_block(spent, &digests, steps);
         let undo = undo_of(&self.chain, numbers);
         keep(&mut self.undo, &mut self.outputs, undo);
@@ -417,7 +387,7 @@ impl<D: Digester> Bridge<D> {
             tip: hash,
             leaves: self.chain.leaves + digests.len() as u64,
         };
-        Ok(())
+        Ok(message)
     }
 
     // Judges a block, and goes on where it breaks no rule.

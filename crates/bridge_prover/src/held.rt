@@ -72,6 +72,20 @@ pub(crate) fn unspend_all(outputs: &mut Outputs, numbers: &[u64])
     }
 }
 
+// Takes back what `insert_all` and `spend_all` did: the entries of these numbers are live again, and those from n on, of which the last has the
+// number before `end`, are gone.
+pub(crate) fn give_back(outputs: &mut Outputs, numbers: &[u64], n: u64, end: u64)
+    requires spent { All (λ i. is_spent i outputs.old ≡ true) numbers.now }
+    requires apart { AllPairs (λ i j. i ≢ j) numbers.now }
+    requires live { (i : ℕ) → n ≤ i → i < end → is_live i (unspent_in numbers.now outputs.old) ≡ true }
+    requires above { IsAbove end outputs.old }
+    requires order { n ≤ end }
+    ensures { outputs.new ≡ cut_in n (unspent_in numbers.now outputs.old) }
+{
+    unspend_all(outputs, numbers);
+    cut(outputs, n, end);
+}
+
 // What undoes a block that comes behind this chain and spends these entries.
 pub(crate) fn undo_of(chain: &Chain, spent: Vec<u64>) -> Undo
     ensures { result ≡ record_of chain.now spent.items }

@@ -1,5 +1,5 @@
 //! The message beside a block: what it spends, where that stands, and the hashes that prove it.
-ghost use Rattle.std.specs.Prelude.{◌≡◌, ◌<◌, ◌^◌, ◌++◌, ◌∷◌, [], true, Some, None, map, length, IfOk, OnOk, All};
+ghost use Rattle.std.specs.Prelude.{◌≡◌, ◌<◌, ◌^◌, ◌++◌, ◌∷◌, [], true, Some, None, map, option_map, length, IfOk, OnOk, All};
 ghost use Rattle.std.specs.List.{AllByRecursion, flat_map};
 ghost use Rattle.std.specs.List.Sorted.{IsNonDecreasing, IsPermutation};
 ghost use Rattle.uo_digest.specs.Reading.{IsDigest};
@@ -9,10 +9,9 @@ ghost use Rattle.forest_model.specs.EntryPlace.{entry_place};
 ghost use Rattle.node_rules.specs.Accepting.{shape_fault};
 ghost use Rattle.cache_model.specs.Known.{is_known as is_known_of};
 ghost use Rattle.bridge_forest.specs.State.{is_live};
-ghost use Rattle.bridge_forest.specs.Proving.{proof_of};
-ghost use Rattle.proof_wire.specs.BlockProof.{spends_of};
+ghost use Rattle.proof_wire.specs.BlockProof.{message_text};
 ghost use Rattle.bridge_prover.specs.Bridge.{target_of};
-ghost use Rattle.bridge_prover.specs.Judged.{hashes_unknown};
+ghost use Rattle.bridge_prover.specs.Judged.{IsDraft, drafted, hashes_unknown};
 
 use bridge_forest::{BatchProof, Forest, Sibling};
 use cache_update::is_known;
@@ -144,26 +143,55 @@ pub(crate) fn targets_at(alloc: Global, n: u64, positions: &[u64]) -> Result<Tar
     Ok(Targets::of(alloc, paths)?)
 }
 
-// Shows these live entries, which have these rests, and what proves them, but for the hashes that are known where the kept entries stand at
-// these places. `spent` are the same entries, ascending.
-pub(crate) fn message_of<D: Digester>(
+/// What a message tells besides what the forest does: whether it is lean, where the kept entries stand, and the rests of what is spent.
+#[derive(Drop)]
+pub(crate) struct Draft {
+    pub(crate) lean: bool,
+    pub(crate) kept: Targets,
+    pub(crate) rests: Rests,
+}
+
+// Shows these live entries and what proves them, but for the hashes that are known where the kept entries stand. `spent` are the same
+// entries, ascending.
+fn message_of<D: Digester>(
     alloc: Global,
     forest: &Forest<D>,
-    kept: &Targets,
-    lean: bool,
+    draft: Draft,
     numbers: &[u64],
     spent: &[u64],
-    rests: Rests,
 ) -> Result<Message, NoMemory>
-    requires kept { kept.now.leaves ≡ length forest.now.entries }
+    requires draft { IsDraft forest.now.entries numbers.now (Some draft) }
     requires live { All (λ i. is_live forest.now.entries i ≡ true) numbers.now }
     requires same { IsPermutation numbers.now spent.now }
     requires rise { IsNonDecreasing spent.now }
-    requires each { length rests ≡ length numbers.now }
-    ensures { IfOk result (λ m. m ≡ record { lean = lean; proof = record { spends = spends_of (map (target_of forest.now.entries) numbers.now) rests; hashes = hashes_unknown (length forest.now.entries) kept.now.targets (proof_of D.digest_of forest.now.entries spent.now) } }) }
+    ensures { IfOk result (λ m. m ≡ drafted D.digest_of forest.now.entries numbers.now spent.now draft) }
 {
+    let Draft { lean, kept, rests } = draft;
     let proof = forest.proof_of(alloc, spent)?;
     let targets = targets_of::<D>(alloc, forest, numbers, spent, &proof.places)?;
-    let hashes = hashes_of(alloc, kept, &proof)?;
+    let hashes = hashes_of(alloc, &kept, &proof)?;
     Ok(Message::of(lean, targets, rests, hashes))
+}
+
+/// The bytes of that message, if one is drafted.
+pub(crate) fn written<D: Digester>(
+    alloc: Global,
+    forest: &Forest<D>,
+    draft: Option<Draft>,
+    numbers: &[u64],
+    spent: &[u64],
+) -> Result<Option<Vec<u8>>, NoMemory>
+    requires draft { IsDraft forest.now.entries numbers.now draft }
+    requires live { All (λ i. is_live forest.now.entries i ≡ true) numbers.now }
+    requires same { IsPermutation numbers.now spent.now }
+    requires rise { IsNonDecreasing spent.now }
+    ensures { IfOk result (λ m. option_map (λ bytes. bytes.items) m ≡ option_map (λ d. message_text (drafted D.digest_of forest.now.entries numbers.now spent.now d)) draft) }
+{
+    let Some(draft) = draft else {
+        return Ok(None);
+    };
+    let message = message_of::<D>(alloc, forest, draft, numbers, spent)?;
+    let mut bytes = Vec::new(alloc);
+    message.write(&mut bytes)?;
+    Ok(Some(bytes))
 }
