@@ -10,20 +10,21 @@ use std::time::{CpuClock, Duration};
 use uo_base::{Event, Limits, Net, NoMemory};
 use uo_digest::{Sha512t256, Steps, sha256d};
 
-/// Entries, spends of each block, blocks, and whether the bridge has a watch list.
+/// Entries, spends of each block, blocks, and whether the bridge has a watch list. With 500 spends each there are so many blocks that the lists
+/// of the forest over ten thousand entries double about once in them, as they do once in as many more.
 const CASES: [(u32, u32, u32, bool); 12] = [
     (10_000, 1, 2_000, false),
     (10_000, 20, 500, false),
-    (10_000, 500, 40, false),
+    (10_000, 500, 160, false),
     (100_000, 1, 2_000, false),
     (100_000, 1, 2_000, true),
     (100_000, 20, 500, false),
     (100_000, 20, 500, true),
-    (100_000, 500, 40, false),
-    (100_000, 500, 40, true),
+    (100_000, 500, 160, false),
+    (100_000, 500, 160, true),
     (1_000_000, 1, 2_000, false),
     (1_000_000, 20, 500, false),
-    (1_000_000, 500, 40, false),
+    (1_000_000, 500, 160, false),
 ];
 
 /// Outputs of a block that comes before those that are measured.
