@@ -10,8 +10,8 @@ use std::time::{CpuClock, Duration};
 use uo_base::{Event, Limits, Net, NoMemory};
 use uo_digest::{Sha512t256, Steps, sha256d};
 
-/// Entries, spends of each block, blocks, and whether the bridge has a watch list. With 500 spends each there are so many blocks that the lists
-/// of the forest over ten thousand entries double about once in them, as they do once in as many more.
+/// Entries, spends of each block, blocks, and whether the bridge has a watch list. There are so many blocks of 500 spends that the lists of the
+/// forest over ten thousand entries double about once in them: in fewer, that would count for too much or for nothing.
 const CASES: [(u32, u32, u32, bool); 12] = [
     (10_000, 1, 2_000, false),
     (10_000, 20, 500, false),
@@ -37,8 +37,7 @@ const ROUND: usize = 10;
 /// then on each block has as many outputs forgotten as it spends.
 const WARMING: usize = 11;
 
-// The digests of blocks, which are those of pairs, where no path is shared and where paths are, and those of leaves; and the bytes of
-// their messages.
+// The digests of blocks: those of pairs, where no path is shared and where paths are, and those of leaves. And the bytes of their messages.
 #[derive(Clone, Copy)]
 struct Needs {
     apart: u64,
