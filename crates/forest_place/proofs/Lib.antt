@@ -7,4 +7,5 @@ pub mod Counted
 pub mod Ascending
 pub mod Positions
 pub mod Numbered
+pub mod NamedLaws
 pub mod Examples

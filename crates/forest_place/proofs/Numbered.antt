@@ -1,4 +1,4 @@
--- The place of a position.
+-- The place that has a number, by any numbering of places.
 use Rattle.std.proofs.Common.{◌≡◌, ℕ, Bool, true, List, [], ◌∷◌, Option, Some, None, sym, ap, ◌∙◌, ⊎_elim, eq-eqb, refl}
 use Rattle.std.specs.Prelude.{◌==◌, find}
 use Rattle.std.proofs.lemmas.Bool.{cases_Bool, eqb-true, false≢true, or_cases, or_left, or_right, true≢false}
@@ -6,9 +6,7 @@ use Rattle.std.proofs.lemmas.Option.{none-some, same_Some}
 use Rattle.forest_place.specs.declared.place.Place.{Place}
 use Rattle.forest_place.specs.Forest.{InForest}
 use Rattle.forest_place.specs.Places.{is_at, has_place, places}
-use Rattle.forest_place.specs.Position.{position, place_at}
 use Rattle.forest_place.proofs.Listed.{places_have, places_had, is_at-same, same_from_is_at}
-use Rattle.forest_place.proofs.Positions.{one_position}
 
 -- what is found is in the list, and passes
 find_had : (t : Place → Bool) (ps : List Place) (p : Place) → find t ps ≡ Some p → (has_place ps p.row p.off ≡ true) × (t p ≡ true)
@@ -32,25 +30,25 @@ find_none t (q ∷ ps) r o e h k =
     (or_cases (is_at r o q) (has_place ps r o) h))
     (cases_Bool (t q))
 
--- the place of a position is the one of the forest that has it
-pub place_at-position : (n : ℕ) (p : Place) → InForest n p.row p.off → place_at n (position n p.row p.off) ≡ Some p
-place_at-position n p h = by_found (place_at n (position n p.row p.off)) refl
+-- the place of the forest that has a number, where no other has it
+pub found_with : (number_of : Place → ℕ) (n : ℕ) (p : Place) → ((q : Place) → InForest n q.row q.off → number_of q ≡ number_of p → q ≡ p) → InForest n p.row p.off → find (λ q. number_of q == number_of p) (places n) ≡ Some p
+found_with number_of n p alone h = by_found (find (λ q. number_of q == number_of p) (places n)) refl
   where
-    by_found : (x : Option Place) → place_at n (position n p.row p.off) ≡ x → x ≡ Some p
-    by_found None e = absurd (find_none (λ q. position n q.row q.off == position n p.row p.off) (places n) p.row p.off e (places_have n p.row p.off h) (eq-eqb _ _ refl))
+    by_found : (x : Option Place) → find (λ q. number_of q == number_of p) (places n) ≡ x → x ≡ Some p
+    by_found None e = absurd (find_none (λ q. number_of q == number_of p) (places n) p.row p.off e (places_have n p.row p.off h) (eq-eqb _ _ refl))
     by_found (Some q) e =
-        let w = find_had (λ q. position n q.row q.off == position n p.row p.off) (places n) q e in
-        ap Some (one_position n q p (places_had n q.row q.off w.0) h (eqb-true _ _ w.1))
+        let w = find_had (λ q. number_of q == number_of p) (places n) q e in
+        ap Some (alone q (places_had n q.row q.off w.0) (eqb-true _ _ w.1))
 
-pub place_at-some : (n number : ℕ) (p : Place) → place_at n number ≡ Some p → InForest n p.row p.off × (position n p.row p.off ≡ number)
-place_at-some n number p e =
-    let w = find_had (λ q. position n q.row q.off == number) (places n) p e in
+pub some_with : (number_of : Place → ℕ) (n number : ℕ) (p : Place) → find (λ q. number_of q == number) (places n) ≡ Some p → InForest n p.row p.off × (number_of p ≡ number)
+some_with number_of n number p e =
+    let w = find_had (λ q. number_of q == number) (places n) p e in
     (places_had n p.row p.off w.0, eqb-true _ _ w.1)
 
 -- and none where none has it
-pub place_at-none : (n number : ℕ) → ((q : Place) → InForest n q.row q.off → position n q.row q.off ≡ number → ⊥) → place_at n number ≡ None
-place_at-none n number h = by_found (place_at n number) refl
+pub none_with : (number_of : Place → ℕ) (n number : ℕ) → ((q : Place) → InForest n q.row q.off → number_of q ≡ number → ⊥) → find (λ q. number_of q == number) (places n) ≡ None
+none_with number_of n number h = by_found (find (λ q. number_of q == number) (places n)) refl
   where
-    by_found : (x : Option Place) → place_at n number ≡ x → x ≡ None
+    by_found : (x : Option Place) → find (λ q. number_of q == number) (places n) ≡ x → x ≡ None
     by_found None e = refl
-    by_found (Some q) e = let w = place_at-some n number q e in absurd (h q w.0 w.1)
+    by_found (Some q) e = let w = some_with number_of n number q e in absurd (h q w.0 w.1)

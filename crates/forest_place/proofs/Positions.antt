@@ -7,7 +7,7 @@ use Rattle.std.proofs.lemmas.Nat.{pow_pos, pow_below, or_shifted, or_comm, pow-a
 use Rattle.std.proofs.lemmas.Bool.{cases_Bool, cases_lt, cases_order, ltb-true, ltb-false, eqb-true}
 use Rattle.forest_place.specs.declared.place.Place.{Place}
 use Rattle.forest_place.specs.Forest.{InForest, is_slot, root_off}
-use Rattle.forest_place.specs.Position.{rows, rows_within, row_start, position}
+use Rattle.forest_place.specs.Position.{rows, rows_within, row_start, position, IsLow, fixed_position}
 use Rattle.forest_place.specs.Places.{IsBefore}
 use Rattle.forest_place.proofs.Slots.{in_forest_iff}
 
@@ -58,17 +58,19 @@ same_log x i j a b c d =
 mul_one_more : (a b : ℕ) → b ≤ (a + 1) * b
 mul_one_more a b = omega arith
 
--- a place of the forest, within the rows
-pub within_rows : (n r o : ℕ) → InForest n r o → (r ≤ rows n) × (o < 2 ^ (rows n - r))
-within_rows n r o h =
+-- a place of the forest, within rows that have room for n
+pub within_top : (top n r o : ℕ) → n ≤ 2 ^ top → InForest n r o → (r ≤ top) × (o < 2 ^ (top - r))
+within_top top n r o room h =
     let m = (in_forest_iff n r o).0 h in
-    let room = rows_fit n in
-    let le : r ≤ rows n = ⊎_elim (λ lt. let q : 2 ^ rows n < 2 ^ r = pow_below (rows n) r lt in absurd (omega (arith, m, room, q, mul_one_more o (2 ^ r)))) (λ ge. ge) (cases_lt (rows n) r) in
-    let e : rows n - r + r ≡ rows n = omega arith in
-    let split : 2 ^ rows n ≡ 2 ^ (rows n - r) * 2 ^ r = ap (λ x. 2 ^ x) (sym e) ∙ pow-add 2 (rows n - r) r in
-    let all : (o + 1) * 2 ^ r ≤ 2 ^ (rows n - r) * 2 ^ r = omega (arith, m, room, split) in
-    let low : o + 1 ≤ 2 ^ (rows n - r) = le_of_mul-le-mul_right all (pow_pos r) in
+    let le : r ≤ top = ⊎_elim (λ lt. let q : 2 ^ top < 2 ^ r = pow_below top r lt in absurd (omega (arith, m, room, q, mul_one_more o (2 ^ r)))) (λ ge. ge) (cases_lt top r) in
+    let e : top - r + r ≡ top = omega arith in
+    let split : 2 ^ top ≡ 2 ^ (top - r) * 2 ^ r = ap (λ x. 2 ^ x) (sym e) ∙ pow-add 2 (top - r) r in
+    let all : (o + 1) * 2 ^ r ≤ 2 ^ (top - r) * 2 ^ r = omega (arith, m, room, split) in
+    let low : o + 1 ≤ 2 ^ (top - r) = le_of_mul-le-mul_right all (pow_pos r) in
     (le, omega (arith, low))
+
+pub within_rows : (n r o : ℕ) → InForest n r o → (r ≤ rows n) × (o < 2 ^ (rows n - r))
+within_rows n r o h = within_top (rows n) n r o (rows_fit n) h
 
 -- a row of the forest over less than 2^k entries is below k
 pub row_small : (n r o k : ℕ) → InForest n r o → n < 2 ^ k → r < k
@@ -114,19 +116,23 @@ parent-position top r o lt inside =
     let one : 1 * 2 ^ top ≡ 2 ^ top = omega arith in
     or_comm (p / 2) (2 ^ top) ∙ ap (λ x. bit_or x (p / 2)) (sym one) ∙ or_shifted 1 top (p / 2) small ∙ (let z : 1 * 2 ^ top + p / 2 ≡ row_start top (r + 1) + o / 2 = omega (arith, half_of, s.all, s.low, c) in z)
 
+-- a place within so many rows above row 0
+abbrev pub IsWithin : ℕ → Place → Type 0
+IsWithin top p = (p.row ≤ top) × (p.off < 2 ^ (top - p.row))
+
 -- positions rise with the rows, and in a row with the offsets
-pub position_rises : (n : ℕ) (p q : Place) → InForest n p.row p.off → InForest n q.row q.off → IsBefore p q → position n p.row p.off < position n q.row q.off
-position_rises n p q h k b =
-    let top = rows n in
-    let w = within_rows n p.row p.off h in
-    let v = within_rows n q.row q.off k in
+rises_within : (top : ℕ) (p q : Place) → IsWithin top p → IsWithin top q → IsBefore p q → row_start top p.row + p.off < row_start top q.row + q.off
+rises_within top p q w v b =
     ⊎_elim
     (λ lt.
     let s = spans top p.row w.0 in
     let c : 2 ^ (top + 1 - q.row) ≤ 2 ^ (top - p.row) = pow_mono (omega (arith, v.0)) in
     omega (arith, s.all, s.from, s.low, c, w.1))
-    (λ e. subst (λ x. position n p.row p.off < position n x q.off) e.0 (omega (arith, e.1)))
+    (λ e. subst (λ x. row_start top p.row + p.off < row_start top x + q.off) e.0 (omega (arith, e.1)))
     b
+
+pub position_rises : (n : ℕ) (p q : Place) → InForest n p.row p.off → InForest n q.row q.off → IsBefore p q → position n p.row p.off < position n q.row q.off
+position_rises n p q h k b = rises_within (rows n) p q (within_rows n p.row p.off h) (within_rows n q.row q.off k) b
 
 pub place_order : (p q : Place) → IsBefore p q ⊎ ((p ≡ q) ⊎ IsBefore q p)
 place_order p q =
@@ -138,23 +144,29 @@ place_order p q =
     (⊎_elim (λ lt. inl (inl lt)) (λ gt. inr (inr (inl gt))))
     (cases_order p.row q.row)
 
-pub position_order : (n : ℕ) (p q : Place) → InForest n p.row p.off → InForest n q.row q.off → IsBefore p q ↔ (position n p.row p.off < position n q.row q.off)
-position_order n p q h k = (
-  position_rises n p q h k,
+order_within : (top : ℕ) (p q : Place) → IsWithin top p → IsWithin top q → IsBefore p q ↔ (row_start top p.row + p.off < row_start top q.row + q.off)
+order_within top p q w v = (
+  rises_within top p q w v,
   λ lt. ⊎_elim (λ b. b)
       (⊎_elim
-      (λ e. let f = ap (λ (x : Place). position n x.row x.off) e in absurd (omega (arith, f)))
-      (λ b. let g = position_rises n q p k h b in absurd (omega (arith, g))))
+      (λ e. let f = ap (λ (x : Place). row_start top x.row + x.off) e in absurd (omega (arith, f)))
+      (λ b. let g = rises_within top q p v w b in absurd (omega (arith, g))))
       (place_order p q),
 )
 
+pub position_order : (n : ℕ) (p q : Place) → InForest n p.row p.off → InForest n q.row q.off → IsBefore p q ↔ (position n p.row p.off < position n q.row q.off)
+position_order n p q h k = order_within (rows n) p q (within_rows n p.row p.off h) (within_rows n q.row q.off k)
+
 -- a place has its position alone
-pub one_position : (n : ℕ) (p q : Place) → InForest n p.row p.off → InForest n q.row q.off → position n p.row p.off ≡ position n q.row q.off → p ≡ q
-one_position n p q h k e =
+one_within : (top : ℕ) (p q : Place) → IsWithin top p → IsWithin top q → row_start top p.row + p.off ≡ row_start top q.row + q.off → p ≡ q
+one_within top p q w v e =
     ⊎_elim
-    (λ b. let g = position_rises n p q h k b in absurd (omega (arith, e)))
-    (⊎_elim (λ same. same) (λ b. let g = position_rises n q p k h b in absurd (omega (arith, e))))
+    (λ b. let g = rises_within top p q w v b in absurd (omega (arith, e)))
+    (⊎_elim (λ same. same) (λ b. let g = rises_within top q p v w b in absurd (omega (arith, e))))
     (place_order p q)
+
+pub one_position : (n : ℕ) (p q : Place) → InForest n p.row p.off → InForest n q.row q.off → position n p.row p.off ≡ position n q.row q.off → p ≡ q
+one_position n p q h k e = one_within (rows n) p q (within_rows n p.row p.off h) (within_rows n q.row q.off k) e
 
 -- `2 << top` is not cut
 pub shifted : (top : ℕ) → top ≤ 40 → 2 * 2 ^ top % 2 ^ 64 ≡ 2 ^ (top + 1)
@@ -171,11 +183,13 @@ shifted_start top r few h =
     ap (λ x. x - x / 2 ^ r) (shifted top few) ∙ ap (λ x. 2 ^ (top + 1) - x) c
 
 -- no position is at or past the end
+pub number_small : (top r o : ℕ) → r ≤ top → o < 2 ^ (top - r) → row_start top r + o < 2 ^ (top + 1) - 1
+number_small top r o le lt =
+    let s = spans top r le in
+    omega (arith, s.all, s.from, s.low, s.some, lt)
+
 pub position_small : (n r o : ℕ) → InForest n r o → position n r o < 2 ^ (rows n + 1) - 1
-position_small n r o h =
-    let w = within_rows n r o h in
-    let s = spans (rows n) r w.0 in
-    omega (arith, s.all, s.from, s.low, s.some, w.1)
+position_small n r o h = let w = within_rows n r o h in number_small (rows n) r o w.0 w.1
 
 -- a position, and the power of two in the count of positions from it on
 pub record IsFromEnd (top p j : ℕ) : Type 0 where
@@ -184,13 +198,11 @@ pub record IsFromEnd (top p j : ℕ) : Type 0 where
   pub most : 2 ^ (top + 1) - 1 - p < 2 * 2 ^ j
 
 -- that power tells the row
-pub row_from_end : (n r o j : ℕ) → InForest n r o → IsFromEnd (rows n) (position n r o) j → r ≡ rows n - j
-row_from_end n r o j h f =
-    let top = rows n in
-    let w = within_rows n r o h in
-    let s = spans top r w.0 in
-    let e = same_log (2 ^ (top + 1) - 1 - position n r o) (top - r) j (omega (arith, s.all, s.from, s.low, w.1)) (omega (arith, s.all, s.from, s.low, w.1)) f.least f.most in
-    omega (arith, e, w.0)
+pub row_from_end : (top r o j : ℕ) → r ≤ top → o < 2 ^ (top - r) → IsFromEnd top (row_start top r + o) j → r ≡ top - j
+row_from_end top r o j le lt f =
+    let s = spans top r le in
+    let e = same_log (2 ^ (top + 1) - 1 - (row_start top r + o)) (top - r) j (omega (arith, s.all, s.from, s.low, lt)) (omega (arith, s.all, s.from, s.low, lt)) f.least f.most in
+    omega (arith, e, le)
 
 pub row_in_range : (top p j : ℕ) → IsFromEnd top p j → (j ≤ top) × (row_start top (top - j) ≤ p)
 row_in_range top p j f =
@@ -199,3 +211,30 @@ row_in_range top p j f =
     let le : j ≤ top = omega (arith, lt) in
     let back : 2 ^ (top + 1 - (top - j)) ≡ 2 ^ j * 2 = (let e : top + 1 - (top - j) ≡ suc j = omega arith in ap (λ x. 2 ^ x) e ∙ pow-suc 2 j) in
     (le, omega (arith, back, f.most, f.before))
+
+-- ---- fixed positions
+
+low_within : (p : Place) → IsLow p.row p.off → IsWithin 40 p
+low_within p h = (omega (arith, h.0), h.1)
+
+pub places_low : (n row off : ℕ) → n ≤ 2 ^ 40 → InForest n row off → IsLow row off
+places_low n row off few h = let w = within_top 40 n row off few h in (omega (arith, w.0), w.1)
+
+pub fixed_order : (p q : Place) → IsLow p.row p.off → IsLow q.row q.off → IsBefore p q ↔ (fixed_position p.row p.off < fixed_position q.row q.off)
+fixed_order p q h k = order_within 40 p q (low_within p h) (low_within q k)
+
+-- a place has its fixed position alone
+pub one_fixed_position : (p q : Place) → IsLow p.row p.off → IsLow q.row q.off → fixed_position p.row p.off ≡ fixed_position q.row q.off → p ≡ q
+one_fixed_position p q h k e = one_within 40 p q (low_within p h) (low_within q k) e
+
+-- fixed positions have the order of positions
+pub fixed_keeps : (n : ℕ) (p q : Place) → n ≤ 2 ^ 40 → InForest n p.row p.off → InForest n q.row q.off →
+    (position n p.row p.off < position n q.row q.off) ↔ (fixed_position p.row p.off < fixed_position q.row q.off)
+fixed_keeps n p q few h k =
+    let here = position_order n p q h k in
+    let there = fixed_order p q (places_low n p.row p.off few h) (places_low n q.row q.off few k) in
+    (λ lt. there.0 (here.1 lt), λ lt. here.0 (there.1 lt))
+
+-- and fit 41 bits
+pub fixed_small : (row off : ℕ) → IsLow row off → fixed_position row off < 2 ^ 41
+fixed_small row off h = let z = number_small 40 row off (omega (arith, h.0)) h.1 in omega (arith, z)

@@ -1,9 +1,9 @@
 -- What holds of places and positions. The laws are the contracts of functions with no code.
-use Rattle.std.specs.Prelude.{◌≡◌, ℕ, true, ◌<◌, ◌↔◌}
+use Rattle.std.specs.Prelude.{◌≡◌, ℕ, true, ◌^◌, ◌<◌, ◌≤◌, ◌↔◌}
 use Rattle.forest_place.specs.declared.place.Place.{Place}
 use Rattle.forest_place.specs.Forest.{InForest, IsSlotOf}
 use Rattle.forest_place.specs.Places.{has_place, places, IsBefore, IsAscending}
-use Rattle.forest_place.specs.Position.{position}
+use Rattle.forest_place.specs.Position.{position, IsLow, fixed_position}
 
 -- the places of the forest are the roots of its slots and what is beneath them
 abbrev pub PlacesAreBeneathRoots : Type 0
@@ -24,3 +24,16 @@ PlacesAscend = (n : ℕ) → IsAscending (places n)
 -- positions have the order of places
 abbrev pub PositionsAscend : Type 0
 PositionsAscend = (n : ℕ) (p q : Place) → InForest n p.row p.off → InForest n q.row q.off → IsBefore p q ↔ (position n p.row p.off < position n q.row q.off)
+
+-- each place of a forest over up to 2^40 entries has a fixed position
+abbrev pub PlacesAreLow : Type 0
+PlacesAreLow = (n row off : ℕ) → n ≤ 2 ^ 40 → InForest n row off → IsLow row off
+
+-- fixed positions have the order of places
+abbrev pub FixedPositionsAscend : Type 0
+FixedPositionsAscend = (p q : Place) → IsLow p.row p.off → IsLow q.row q.off → IsBefore p q ↔ (fixed_position p.row p.off < fixed_position q.row q.off)
+
+-- and so that of positions
+abbrev pub FixedPositionsKeepOrder : Type 0
+FixedPositionsKeepOrder = (n : ℕ) (p q : Place) → n ≤ 2 ^ 40 → InForest n p.row p.off → InForest n q.row q.off →
+    (position n p.row p.off < position n q.row q.off) ↔ (fixed_position p.row p.off < fixed_position q.row q.off)

@@ -2,4 +2,5 @@
 pub mod Forest
 pub mod Places
 pub mod Position
+pub mod Named
 pub mod Laws

@@ -1,7 +1,6 @@
 -- The number of a place: rows one after another from the leaves up, each with room for all of its places.
-use Rattle.std.specs.Prelude.{ℕ, zero, suc, ◌+◌, ◌-◌, ◌^◌, ◌==◌, if◌then◌else◌, nat_lt, List, map, Option, find}
+use Rattle.std.specs.Prelude.{ℕ, zero, suc, ◌+◌, ◌-◌, ◌^◌, ◌<◌, if◌then◌else◌, nat_lt, List, map}
 use Rattle.forest_place.specs.declared.place.Place.{Place}
-use Rattle.forest_place.specs.Places.{places}
 
 -- the least R below k with room for n entries in 2^R, or k
 abbrev pub rows_within : ℕ → ℕ → ℕ
@@ -20,9 +19,17 @@ row_start top row = 2 ^ (top + 1) - 2 ^ (top + 1 - row)
 abbrev pub position : ℕ → ℕ → ℕ → ℕ
 position n row off = row_start (rows n) row + off
 
--- the place of the forest over n that has a position
-abbrev pub place_at : ℕ → ℕ → Option Place
-place_at n number = find (λ p. position n p.row p.off == number) (places n)
+-- ---- the same for all counts of entries
+
+-- a place of the forest over 2^40 entries, which has all places of the forests over fewer
+abbrev pub IsLow : ℕ → ℕ → Type 0
+IsLow row off = (row < 41) × (off < 2 ^ (40 - row))
+
+-- the fixed position of a place: that in the forest over 2^40 entries, which has 40 rows above row 0
+abbrev pub fixed_position : ℕ → ℕ → ℕ
+fixed_position row off = row_start 40 row + off
+
+-- ---- of a list of places
 
 -- the positions of a list of places
 abbrev pub positions_of : ℕ → List Place → List ℕ

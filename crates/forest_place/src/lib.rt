@@ -3,10 +3,14 @@
 
 mod laws;
 mod lists;
+mod naming;
 mod numbering;
 mod place;
 
-pub use laws::{places_are_beneath_roots, places_are_listed, positions_ascend};
+pub use laws::{
+    fixed_positions_ascend, places_are_beneath_roots, places_are_listed, positions_ascend,
+};
 pub use lists::is_near;
-pub use numbering::{parent_position, place_of, position, rows};
+pub use naming::Naming;
+pub use numbering::{fixed_position, parent_position, place_of, place_of_fixed, position, rows};
 pub use place::{Place, children, is_root, parent, root_place, sibling, slot_of};

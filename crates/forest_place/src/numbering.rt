@@ -2,7 +2,9 @@
 ghost use Rattle.std.specs.Prelude.{◌≡◌, ◌≢◌, ℕ, ◌+◌, ◌-◌, ◌/◌, ◌^◌, ◌<◌, ◌≤◌, MatchOption, bit_or};
 ghost use Rattle.forest_place.specs.declared.place.Place.{Place as Placed};
 ghost use Rattle.forest_place.specs.Forest.{InForest};
-ghost use Rattle.forest_place.specs.Position.{rows as rows_of, row_start as start_of, position as position_of, place_at};
+ghost use Rattle.forest_place.specs.Position.{rows as rows_of, row_start as start_of, position as position_of, IsLow, fixed_position as fixed_position_of};
+ghost use Rattle.forest_place.specs.declared.naming.Naming.TheVariants.{Position, FixedPosition};
+ghost use Rattle.forest_place.specs.Named.{place_by};
 
 use crate::Place;
 
@@ -36,15 +38,14 @@ pub fn position(place: Place, n: u64) -> u64
     row_start(rows(n), place.row) + place.off
 }
 
-/// The place that has a position. `None` where no place of the forest over `n` entries has it.
-pub fn place_of(position: u64, n: u64) -> Option<Place>
-    requires { n < 2 ^ 40 }
-    ensures is { result ≡ place_at n position }
-    ensures exact { MatchOption result
-        ((q : Placed) → InForest n q.row q.off → position_of n q.row q.off ≢ position)
-        (λ p. InForest n p.row p.off × (position_of n p.row p.off ≡ position)) }
+// The place of the forest over `n` entries that has a position, where `top` rows stand above row 0.
+fn place_among(position: u64, top: u8, n: u64) -> Option<Place>
+    requires few { top ≤ 40 }
+    requires room { n ≤ 2 ^ top }
+    ensures { MatchOption result
+        ((q : Placed) → InForest n q.row q.off → start_of top q.row + q.off ≢ position)
+        (λ p. InForest n p.row p.off × (start_of top p.row + p.off ≡ position)) }
 {
-    let top = rows(n);
     let end = (2 << top) - 1;
     if position >= end {
         return None;
@@ -57,6 +58,39 @@ pub fn place_of(position: u64, n: u64) -> Option<Place>
     } else {
         None
     }
+}
+
+/// The place that has a position. `None` where no place of the forest over `n` entries has it.
+pub fn place_of(position: u64, n: u64) -> Option<Place>
+    requires { n < 2 ^ 40 }
+    ensures is { result ≡ place_by Position n position }
+    ensures exact { MatchOption result
+        ((q : Placed) → InForest n q.row q.off → position_of n q.row q.off ≢ position)
+        (λ p. InForest n p.row p.off × (position_of n p.row p.off ≡ position)) }
+{
+    place_among(position, rows(n), n)
+}
+
+/// The fixed position of a place, which is the same in each forest that has the place: the rows are numbered as those of the forest
+/// over 2^40 entries.
+pub fn fixed_position(place: Place) -> u64
+    requires row { place.row < 41 }
+    requires off { place.off < 2 ^ (40 - place.row) }
+    ensures is { result ≡ fixed_position_of place.row place.off }
+    ensures alone { (q : Placed) → IsLow q.row q.off → fixed_position_of q.row q.off ≡ result → q ≡ place }
+{
+    row_start(40, place.row) + place.off
+}
+
+/// The place that has a fixed position. `None` where no place of the forest over `n` entries has it.
+pub fn place_of_fixed(position: u64, n: u64) -> Option<Place>
+    requires { n < 2 ^ 40 }
+    ensures is { result ≡ place_by FixedPosition n position }
+    ensures exact { MatchOption result
+        ((q : Placed) → InForest n q.row q.off → fixed_position_of q.row q.off ≢ position)
+        (λ p. InForest n p.row p.off × (fixed_position_of p.row p.off ≡ position)) }
+{
+    place_among(position, 40, n)
 }
 
 /// The position of the place above, where `rows` rows stand above row 0 and `p` is not the highest position.

@@ -1,24 +1,22 @@
 -- What is wrong with places is wrong with their positions.
-use Rattle.std.proofs.Common.{◌≡◌, ℕ, zero, suc, ◌<◌, ◌≤◌, List, [], ◌∷◌, length, get_or, take, Some, refl, sym, ap, ◌∙◌, subst, ap₂, arith}
+use Rattle.std.proofs.Common.{◌≡◌, ℕ, zero, suc, ◌^◌, ◌<◌, ◌≤◌, List, [], ◌∷◌, map, length, get_or, take, Some, Result, Ok, Err, refl, sym, ap, ◌∙◌, subst, ap₂, arith}
+use Rattle.std.specs.Prelude.{MatchResult}
 use Rattle.std.proofs.lemmas.List.{get_or-take}
 use Rattle.std.proofs.Math.Seq.{take-length}
 use Rattle.forest_place.specs.declared.place.Place.{Place}
 use Rattle.forest_place.specs.Forest.{InForest}
-use Rattle.forest_place.specs.Position.{position, place_at, positions_of}
-use Rattle.forest_place.proofs.Positions.{one_position}
-use Rattle.forest_place.proofs.Numbered.{place_at-position}
+use Rattle.forest_place.specs.Position.{position, positions_of}
+use Rattle.forest_place.specs.declared.naming.Naming.{Naming}
+use Rattle.forest_place.specs.Named.{number_by, place_by}
+use Rattle.forest_place.proofs.NamedLaws.{one_number, place_by-number}
 use Rattle.forest_place.specs.Places.{place_in}
 use Rattle.forest_model.specs.Cover.{HasShape}
 use Rattle.proof_shape.specs.declared.fault.ShapeFault.{ShapeFault}
 use Rattle.proof_shape.specs.declared.fault.ShapeFault.TheVariants.{Outside, Repeated, Beneath, NoMemory}
-use Rattle.proof_shape.specs.Shape.{is_crossing, AreTargets, IsSoundTo, IsShapeFault}
-use Rattle.proof_shape.specs.Found.{IsFront, IsSoundLength, IsFaultAt, crosses}
+use Rattle.proof_shape.specs.Shape.{is_crossing, AreTargetsBy, IsSoundBy, IsFaultBy}
+use Rattle.proof_shape.specs.Targeted.{Targeted}
+use Rattle.proof_shape.specs.Found.{IsFront, IsSoundLength, IsFaultAt, IsPlaceFault, crosses}
 use Rattle.proof_shape.proofs.Ordered.{has_at}
-
-positions_taken : (n : ℕ) (ps : List Place) (k : ℕ) → positions_of n (take k ps) ≡ take k (positions_of n ps)
-positions_taken n ps zero = refl
-positions_taken n [] (suc k) = refl
-positions_taken n (p ∷ ps) (suc k) = ap (λ l. position n p.row p.off ∷ l) (positions_taken n ps k)
 
 take_of_take : (xs : List ℕ) (i k : ℕ) → i ≤ k → take i (take k xs) ≡ take i xs
 take_of_take xs zero k h = refl
@@ -32,72 +30,92 @@ position_at n [] k h = absurd (omega arith)
 position_at n (p ∷ ps) zero h = refl
 position_at n (p ∷ ps) (suc k) h = position_at n ps k (omega arith)
 
-module _ (n : ℕ) (numbers : List ℕ) (ps : List Place) (f : IsFront n numbers ps) where
+numbers_taken : (number : Place → ℕ) (ps : List Place) (k : ℕ) → map number (take k ps) ≡ take k (map number ps)
+numbers_taken number ps zero = refl
+numbers_taken number [] (suc k) = refl
+numbers_taken number (p ∷ ps) (suc k) = ap (λ l. number p ∷ l) (numbers_taken number ps k)
+
+number_at : (number : Place → ℕ) (ps : List Place) (k : ℕ) → k < length ps → get_or (map number ps) k 0 ≡ number (place_in ps k)
+number_at number [] k h = absurd (omega arith)
+number_at number (p ∷ ps) zero h = refl
+number_at number (p ∷ ps) (suc k) h = number_at number ps k (omega arith)
+
+-- what is found of the places at an index
+pub place_fault : (n : ℕ) (ps : List Place) (count i : ℕ) (fault : ShapeFault) → i < length ps → HasShape n (take i ps) → IsFaultAt ps i fault → IsPlaceFault n ps count fault
+place_fault n ps count i (Outside k) h s w = absurd w
+place_fault n ps count i (Repeated k j) h s w = subst (λ x. IsPlaceFault n ps count (Repeated x j)) (sym w.0) (h, s, (refl, w.1))
+place_fault n ps count i (Beneath k j) h s w = subst (λ x. IsPlaceFault n ps count (Beneath x j)) (sym w.0) (h, s, (refl, w.1, w.2))
+place_fault n ps count i NoMemory h s w = absurd w
+
+-- or at their end
+pub whole : (n : ℕ) (ps : List Place) (k : ℕ) → IsSoundLength n ps k → (k < length ps → ⊥) → (k ≡ length ps) × HasShape n ps
+whole n ps k s top =
+    let fits = s.fits in
+    let e : k ≡ length ps = omega (arith, fits, top) in
+    (e, subst (HasShape n) (ap (λ x. take x ps) e ∙ take-length ps) s.sound)
+
+module _ (by : Naming) (n : ℕ) (few : n ≤ 2 ^ 40) (numbers : List ℕ) (ps : List Place) (f : IsFront by n numbers ps) where
   in_forest : (k : ℕ) → k < length ps → InForest n (place_in ps k).row (place_in ps k).off
   in_forest k h = f.within (place_in ps k).row (place_in ps k).off (has_at ps k (record { row = 0; off = 0 }) h)
 
-  number_of_place : (k : ℕ) → k < length ps → get_or numbers k 0 ≡ position n (place_in ps k).row (place_in ps k).off
-  number_of_place k h = sym (get_or-take (length ps) numbers k 0 h) ∙ (ap (λ l. get_or l k 0) (sym f.numbered) ∙ position_at n ps k h)
+  number_of_place : (k : ℕ) → k < length ps → get_or numbers k 0 ≡ number_by by n (place_in ps k)
+  number_of_place k h = sym (get_or-take (length ps) numbers k 0 h) ∙ (ap (λ l. get_or l k 0) (sym f.numbered) ∙ number_at (number_by by n) ps k h)
 
-  place_is : (k : ℕ) → k < length ps → place_at n (get_or numbers k 0) ≡ Some (place_in ps k)
-  place_is k h = ap (place_at n) (number_of_place k h) ∙ place_at-position n (place_in ps k) (in_forest k h)
+  place_is : (k : ℕ) → k < length ps → place_by by n (get_or numbers k 0) ≡ Some (place_in ps k)
+  place_is k h = ap (place_by by n) (number_of_place k h) ∙ place_by-number by n (place_in ps k) few (in_forest k h)
 
-  front_sound : (i : ℕ) → i ≤ length ps → i < length numbers → HasShape n (take i ps) → IsSoundTo n numbers i
+  front_sound : (i : ℕ) → i ≤ length ps → i < length numbers → HasShape n (take i ps) → IsSoundBy by n numbers i
   front_sound i h below s = record {
     below = below;
-    before = (take i ps, record { numbered = positions_taken n ps i ∙ (ap (take i) f.numbered ∙ take_of_take numbers i (length ps) h); shape = s });
+    before = (take i ps, record { numbered = numbers_taken (number_by by n) ps i ∙ (ap (take i) f.numbered ∙ take_of_take numbers i (length ps) h); shape = s });
   }
 
   same_number : (j i : ℕ) → j < length ps → i < length ps → place_in ps j ≡ place_in ps i → get_or numbers j 0 ≡ get_or numbers i 0
-  same_number j i h k e = number_of_place j h ∙ (ap (λ (p : Place). position n p.row p.off) e ∙ sym (number_of_place i k))
+  same_number j i h k e = number_of_place j h ∙ (ap (number_by by n) e ∙ sym (number_of_place i k))
 
   same_place : (j i : ℕ) → j < length ps → i < length ps → get_or numbers j 0 ≡ get_or numbers i 0 → place_in ps j ≡ place_in ps i
-  same_place j i h k e = one_position n (place_in ps j) (place_in ps i) (in_forest j h) (in_forest i k) (sym (number_of_place j h) ∙ (e ∙ number_of_place i k))
+  same_place j i h k e = one_number by n (place_in ps j) (place_in ps i) few (in_forest j h) (in_forest i k) (sym (number_of_place j h) ∙ (e ∙ number_of_place i k))
 
-  crossing_is : (i j : ℕ) → i < length ps → j < length ps → is_crossing (place_at n (get_or numbers i 0)) (place_at n (get_or numbers j 0)) ≡ crosses (place_in ps i) (place_in ps j)
+  crossing_is : (i j : ℕ) → i < length ps → j < length ps → is_crossing (place_by by n (get_or numbers i 0)) (place_by by n (get_or numbers j 0)) ≡ crosses (place_in ps i) (place_in ps j)
   crossing_is i j h k = ap₂ is_crossing (place_is i h) (place_is j k)
 
   -- a fault of the places is the list's
-  pub fault_from : (i : ℕ) (fault : ShapeFault) → i < length ps → HasShape n (take i ps) → IsFaultAt ps i fault → IsShapeFault n numbers fault
-  fault_from i (Outside k) h s w = absurd w
-  fault_from i (Repeated k j) h s w =
+  pub fault_from : (fault : ShapeFault) → IsPlaceFault n ps (length numbers) fault → IsFaultBy by n numbers fault
+  fault_from (Outside i) w =
+      (front_sound i (omega (arith, w.0)) w.1 (subst (HasShape n) (sym (ap (λ x. take x ps) w.0 ∙ take-length ps)) w.2), ap (λ x. place_by by n (get_or numbers x 0)) w.0 ∙ f.ends (omega (arith, w.0, w.1)))
+  fault_from (Repeated i j) w =
       let fits = f.fits in
-      let lt = w.1.earlier in
-      subst (λ x. IsShapeFault n numbers (Repeated x j)) (sym w.0)
+      let at = w.2.1 in
+      let lt = at.earlier in
       record {
-        first = front_sound i (omega arith) (omega (arith, h, fits)) s;
+        first = front_sound i (omega (arith, w.0)) (omega (arith, w.0, fits)) w.1;
         earlier = lt;
-        same = same_number j i (omega (arith, lt, h)) h w.1.same;
-        least = λ m l e. w.1.least m l (same_place m i (omega (arith, l, lt, h)) h e);
+        same = same_number j i (omega (arith, lt, w.0)) w.0 at.same;
+        least = λ m l e. at.least m l (same_place m i (omega (arith, l, lt, w.0)) w.0 e);
       }
-  fault_from i (Beneath k j) h s w =
+  fault_from (Beneath i j) w =
       let fits = f.fits in
-      let lt = w.2.earlier in
-      subst (λ x. IsShapeFault n numbers (Beneath x j)) (sym w.0)
+      let at = w.2.2 in
+      let lt = at.earlier in
       record {
-        first = front_sound i (omega arith) (omega (arith, h, fits)) s;
+        first = front_sound i (omega (arith, w.0)) (omega (arith, w.0, fits)) w.1;
         earlier = lt;
-        new = λ m l e. w.1 m l (same_place m i (omega (arith, l, h)) h e);
-        crosses = crossing_is i j h (omega (arith, lt, h)) ∙ w.2.crossed;
-        least = λ m l. crossing_is i m h (omega (arith, l, lt, h)) ∙ w.2.least m l;
+        new = λ m l e. w.2.1 m l (same_place m i (omega (arith, l, w.0)) w.0 e);
+        crosses = crossing_is i j w.0 (omega (arith, lt, w.0)) ∙ at.crossed;
+        least = λ m l. crossing_is i m w.0 (omega (arith, l, lt, w.0)) ∙ at.least m l;
       }
-  fault_from i NoMemory h s w = absurd w
+  fault_from NoMemory w = tt
 
-  whole : (k : ℕ) → IsSoundLength n ps k → (k < length ps → ⊥) → k ≡ length ps
-  whole k s top = let fits = s.fits in omega (arith, fits, top)
-
-  -- positions that are sound as far as they are places
-  pub outside_from : (k : ℕ) → IsSoundLength n ps k → (k < length ps → ⊥) → k < length numbers → IsShapeFault n numbers (Outside k)
-  outside_from k s top lt =
-      let e = whole k s top in
-      (front_sound k (omega (arith, e)) lt s.sound, ap (λ x. place_at n (get_or numbers x 0)) e ∙ f.ends (omega (arith, e, lt)))
-
-  pub targets_from : (k : ℕ) → IsSoundLength n ps k → (k < length ps → ⊥) → (k < length numbers → ⊥) → AreTargets n numbers ps
-  targets_from k s top all =
-      let e = whole k s top in
+  -- numbers that are all those of places with shape
+  pub targets_from : HasShape n ps → length numbers ≤ length ps → AreTargetsBy by n numbers ps
+  targets_from shape all =
       let fits = f.fits in
-      let full : length ps ≡ length numbers = omega (arith, e, fits, all) in
-      record {
-        numbered = f.numbered ∙ (ap (λ x. take x numbers) full ∙ take-length numbers);
-        shape = subst (HasShape n) (ap (λ x. take x ps) e ∙ take-length ps) s.sound;
-      }
+      let full : length ps ≡ length numbers = omega (arith, fits, all) in
+      record { numbered = f.numbered ∙ (ap (λ x. take x numbers) full ∙ take-length numbers); shape = shape }
+
+  -- what is answered for the places is answered for the numbers
+  pub answered : (r : Result Targeted ShapeFault) →
+      MatchResult r (λ t. (t.leaves ≡ n) × (t.targets ≡ ps) × HasShape n ps × (length numbers ≤ length ps)) (λ e. IsPlaceFault n ps (length numbers) e) →
+      MatchResult r (λ t. (t.leaves ≡ n) × AreTargetsBy by n numbers t.targets) (λ e. IsFaultBy by n numbers e)
+  answered (Ok t) w = (w.0, subst (AreTargetsBy by n numbers) (sym w.1) (targets_from w.2 w.3))
+  answered (Err e) w = fault_from e w

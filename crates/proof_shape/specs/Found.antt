@@ -1,9 +1,11 @@
 -- What is found of a list of places.
-use Rattle.std.specs.Prelude.{◌≡◌, ◌≢◌, ℕ, ◌+◌, ◌<◌, ◌≤◌, Bool, true, false, ◌||◌, List, take, length, get_or, None}
+use Rattle.std.specs.Prelude.{◌≡◌, ◌≢◌, ℕ, ◌+◌, ◌<◌, ◌≤◌, Bool, true, false, ◌||◌, List, take, map, length, get_or, None}
 use Rattle.forest_place.specs.declared.place.Place.{Place}
 use Rattle.forest_place.specs.Forest.{InForest}
 use Rattle.forest_place.specs.Places.{AreWithin, place_in}
-use Rattle.forest_place.specs.Position.{position, place_at, positions_of}
+use Rattle.forest_place.specs.Position.{position}
+use Rattle.forest_place.specs.declared.naming.Naming.{Naming}
+use Rattle.forest_place.specs.Named.{number_by, place_by}
 use Rattle.forest_model.specs.Cover.{is_above, HasShape}
 use Rattle.proof_shape.specs.Shape.{has_number}
 use Rattle.proof_shape.specs.declared.fault.ShapeFault.{ShapeFault}
@@ -24,12 +26,12 @@ HasNoneAbove n xs p = (q : Place) → InForest n q.row q.off → is_above q p �
 abbrev pub AreLow : List Place → Type 0
 AreLow ps = (k : ℕ) → k < length ps → (place_in ps k).row < 40
 
--- the places of the positions before the first that is outside the forest
-pub record IsFront (n : ℕ) (numbers : List ℕ) (ps : List Place) : Type 0 where
+-- the places that have the numbers before the first that names none of the forest
+pub record IsFront (by : Naming) (n : ℕ) (numbers : List ℕ) (ps : List Place) : Type 0 where
   pub fits : length ps ≤ length numbers
-  pub numbered : positions_of n ps ≡ take (length ps) numbers
+  pub numbered : map (number_by by n) ps ≡ take (length ps) numbers
   pub within : AreWithin n ps
-  pub ends : length ps < length numbers → place_at n (get_or numbers (length ps) 0) ≡ None
+  pub ends : length ps < length numbers → place_by by n (get_or numbers (length ps) 0) ≡ None
 
 -- k places from the front have shape, and not one more
 pub record IsSoundLength (n : ℕ) (ps : List Place) (k : ℕ) : Type 0 where
@@ -56,3 +58,10 @@ IsFaultAt ps i (Outside k) = ⊥
 IsFaultAt ps i (Repeated k j) = (k ≡ i) × IsFirstEqual ps i j
 IsFaultAt ps i (Beneath k j) = (k ≡ i) × ((k : ℕ) → k < i → place_in ps k ≢ place_in ps i) × IsFirstCrossing ps i j
 IsFaultAt ps i NoMemory = ⊥
+
+-- what is wrong with places that are the first of so many
+abbrev pub IsPlaceFault : ℕ → List Place → ℕ → ShapeFault → Type 0
+IsPlaceFault n ps count (Outside i) = (i ≡ length ps) × (i < count) × HasShape n ps
+IsPlaceFault n ps count (Repeated i j) = (i < length ps) × HasShape n (take i ps) × IsFaultAt ps i (Repeated i j)
+IsPlaceFault n ps count (Beneath i j) = (i < length ps) × HasShape n (take i ps) × IsFaultAt ps i (Beneath i j)
+IsPlaceFault n ps count NoMemory = Unit {0}

@@ -1,5 +1,5 @@
 //! Targets of a deletion with the places above them.
-ghost use Rattle.std.specs.Prelude.{◌≡◌, ◌^◌, ◌<◌, [], IfOk, MatchResult, length};
+ghost use Rattle.std.specs.Prelude.{◌≡◌, ◌^◌, ◌<◌, ◌≤◌, [], IfOk, MatchResult, length};
 
 use crate::ShapeFault;
 use crate::locate::locate;
@@ -7,7 +7,7 @@ use crate::need::{needed_count, needed_of};
 use crate::order::sorted_positions;
 use crate::survey::covered_places;
 use crate::wrong::{fault_at, sound_length};
-use forest_place::Place;
+use forest_place::{Naming, Place};
 use std::alloc::{AllocError, Global};
 use std::marker::Model;
 
@@ -40,9 +40,11 @@ impl Model for TargetPaths {
 }
 
 impl TargetPaths {
-    ghost use Rattle.forest_model.specs.Cover.{need};
+    ghost use Rattle.forest_place.specs.Places.{AreWithin};
+    ghost use Rattle.forest_model.specs.Cover.{HasShape, need};
     ghost use Rattle.proof_shape.specs.Paths.{ArePaths};
-    ghost use Rattle.proof_shape.specs.Shape.{AreTargets, IsShapeFault};
+    ghost use Rattle.proof_shape.specs.Shape.{AreTargetsBy, IsFaultBy, AreTargets, IsShapeFault, AreFixedTargets, IsFixedFault};
+    ghost use Rattle.proof_shape.specs.Found.{IsPlaceFault};
     ghost use Rattle.proof_shape.specs.Survey.{IsCoverOf};
     ghost use Rattle.proof_shape.specs.Targeted.{IsTargeted};
 
@@ -53,14 +55,53 @@ impl TargetPaths {
         requires few { length positions.now < 2 ^ 32 }
         ensures { MatchResult result (λ t. (t.leaves ≡ n) × AreTargets n positions.now t.targets) (λ e. IsShapeFault n positions.now e) }
     {
-        let places = locate(alloc, n, positions)?;
+        TargetPaths::named(alloc, Naming::Position, n, positions)
+    }
+
+    /// The same at these fixed positions.
+    pub fn new_fixed(alloc: Global, n: u64, positions: &[u64]) -> Result<TargetPaths, ShapeFault>
+        requires small { n < 2 ^ 40 }
+        requires few { length positions.now < 2 ^ 32 }
+        ensures { MatchResult result (λ t. (t.leaves ≡ n) × AreFixedTargets n positions.now t.targets) (λ e. IsFixedFault n positions.now e) }
+    {
+        TargetPaths::named(alloc, Naming::FixedPosition, n, positions)
+    }
+
+    /// The same at the places that these numbers name.
+    pub fn named(
+        alloc: Global,
+        naming: Naming,
+        n: u64,
+        numbers: &[u64],
+    ) -> Result<TargetPaths, ShapeFault>
+        requires small { n < 2 ^ 40 }
+        requires few { length numbers.now < 2 ^ 32 }
+        ensures { MatchResult result (λ t. (t.leaves ≡ n) × AreTargetsBy naming n numbers.now t.targets) (λ e. IsFaultBy naming n numbers.now e) }
+    {
+        let places = locate(alloc, naming, n, numbers)?;
+        TargetPaths::found(alloc, n, places, numbers.len())
+    }
+
+    // The targets at these places, which are the first of so many that were asked for.
+    fn found(
+        alloc: Global,
+        n: u64,
+        places: Vec<Place>,
+        count: usize,
+    ) -> Result<TargetPaths, ShapeFault>
+        requires small { n < 2 ^ 40 }
+        requires within { AreWithin n places.items }
+        requires fits { length places.items ≤ count }
+        requires few { count < 2 ^ 32 }
+        ensures { MatchResult result (λ t. (t.leaves ≡ n) × (t.targets ≡ places.items) × HasShape n places.items × (count ≤ length places.items)) (λ e. IsPlaceFault n places.items count e) }
+    {
         let sorted = sorted_positions(alloc, n, &places)?;
         let (covered, shaped) = covered_places(alloc, n, &places, &sorted)?;
         let sound = sound_length(alloc, n, &places, shaped)?;
         if sound < places.len() {
             return Err(fault_at(n, &places, sound));
         }
-        if sound < positions.len() {
+        if sound < count {
             return Err(ShapeFault::Outside(sound as u32));
         }
         let needed = needed_count(n, &covered);

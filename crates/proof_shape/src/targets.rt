@@ -44,7 +44,7 @@ impl Targets {
     ghost use Rattle.forest_model.specs.Cover.{need};
     ghost use Rattle.forest_model.specs.Deletion.{moved, is_gone};
     ghost use Rattle.proof_shape.specs.Laws.{WhatStaysGoes, EntryGoes};
-    ghost use Rattle.proof_shape.specs.Shape.{AreTargets, IsShapeFault};
+    ghost use Rattle.proof_shape.specs.Shape.{AreTargets, IsShapeFault, AreFixedTargets, IsFixedFault};
     ghost use Rattle.proof_shape.specs.Survey.{IsCoverOf};
     ghost use Rattle.proof_shape.specs.Targeted.{IsTargeted, IsBeneathTarget, NoneGonePast, IsGoneAt};
 
@@ -75,6 +75,16 @@ impl Targets {
         ensures { MatchResult result (λ t. (t.leaves ≡ n) × AreTargets n positions.now t.targets) (λ e. IsShapeFault n positions.now e) }
     {
         let paths = TargetPaths::new(alloc, n, positions)?;
+        Ok(Targets::of(alloc, paths)?)
+    }
+
+    /// The targets at these fixed positions, of which the same holds.
+    pub fn new_fixed(alloc: Global, n: u64, positions: &[u64]) -> Result<Targets, ShapeFault>
+        requires small { n < 2 ^ 40 }
+        requires few { length positions.now < 2 ^ 32 }
+        ensures { MatchResult result (λ t. (t.leaves ≡ n) × AreFixedTargets n positions.now t.targets) (λ e. IsFixedFault n positions.now e) }
+    {
+        let paths = TargetPaths::new_fixed(alloc, n, positions)?;
         Ok(Targets::of(alloc, paths)?)
     }
 
