@@ -139,7 +139,7 @@ module _ (H : List ℕ → Digest) (long : (x : List ℕ) → IsDigest (H x)) (u
   n = length es
 
   abbrev ts : List Place
-  ts = targets n m.proof
+  ts = targets n m
 
   abbrev rs : List Leaf
   rs = claims ext m
@@ -180,7 +180,7 @@ module _ (H : List ℕ → Digest) (long : (x : List ℕ) → IsDigest (H x)) (u
   points_count : length m.proof.spends ≡ length (points_of ext)
   points_count = count ∙ sym (length-map ext point_of)
 
-  acc : IsAccepted H n (root H es) ts k (leaves_of H leaf_text (points_of ext) m) hs × (named n m.proof ≡ map Some ts)
+  acc : IsAccepted H n (root H es) ts k (leaves_of H leaf_text (points_of ext) m) hs × (named n m ≡ map Some ts)
   acc = accepted H leaf_text (record { n = n; roots = root H es; known = known }) (points_of ext) m points_count none
 
   no_pair : (l : Leaf) → LeafFits l → length (leaf_text l) ≢ 64
@@ -269,7 +269,7 @@ module _ (H : List ℕ → Digest) (long : (x : List ℕ) → IsDigest (H x)) (u
       acc.0.agrees row c slot e ∙ ap Some (value-same H (beside (H []) ts (leaves_of H leaf_text (points_of ext) m)) (λ r o. H (leaf_texts r o)) hashes (leaves_are H leaf_text ts rs) c)
 
   abbrev RightBy : ℕ → Type 0
-  RightBy j = IsRight H leaf_text us (targets j m.proof) k rs hs
+  RightBy j = IsRight H leaf_text us (targets j m) k rs hs
 
   right : first_of (map shown_at (places n)) ≡ None → RightBy n
   right silent =
@@ -284,7 +284,7 @@ module _ (H : List ℕ → Digest) (long : (x : List ℕ) → IsDigest (H x)) (u
 
   right_then : first_of (map shown_at (places n)) ≡ None → is_right H leaf_text us known (points_of ext) m ≡ true
   right_then silent =
-      (right_is_tested H leaf_text us known (points_of ext) m).1 (to_us RightBy (right silent), to_us (λ j. named j m.proof ≡ map Some (targets j m.proof)) acc.1, points_count)
+      (right_is_tested H leaf_text us known (points_of ext) m).1 (to_us RightBy (right silent), to_us (λ j. named j m ≡ map Some (targets j m)) acc.1, points_count)
 
   -- ---- where two texts are shown
 
@@ -310,7 +310,7 @@ module _ (H : List ℕ → Digest) (long : (x : List ℕ) → IsDigest (H x)) (u
           of_slot = to_us (λ j. content es node.row (root_off j node.row) ≡ Some node.tree) node.of_slot;
           listed = node.listed;
         });
-        of_proof = to_us (λ j. IsValueText H leaf_text j (targets j m.proof) k rs hs x.second) (subst (IsValueText H leaf_text n ts k rs hs) (sym made.second) (record {
+        of_proof = to_us (λ j. IsValueText H leaf_text j (targets j m) k rs hs x.second) (subst (IsValueText H leaf_text n ts k rs hs) (sym made.second) (record {
           row = covered.row;
           covered = covered.covered;
           slot = covered.slot;

@@ -62,17 +62,6 @@ fn places(forest: &Forest<Sha512t256>, rounds: u64) -> u64 {
     seen
 }
 
-fn branches(forest: &Forest<Sha512t256>, rounds: u64) -> u64 {
-    let mut seen = 0;
-    for i in 0..rounds {
-        let number = chosen(i, forest.leaves());
-        if forest.live(number) {
-            seen ^= forest.branch(number).siblings.len() as u64;
-        }
-    }
-    seen
-}
-
 fn digests_at(forest: &Forest<Sha512t256>, rounds: u64) -> u8 {
     let mut seen = 0;
     for i in 0..rounds {
@@ -129,13 +118,10 @@ fn measure_look_ups<R: CpuClock + Print>(
     let placing = watch.lap(rt)?;
     let digest = digests_at(forest, rounds);
     let reading = watch.lap(rt)?;
-    let siblings = branches(forest, rounds);
-    let proving = watch.lap(rt)?;
     println!(rt;
-        "  {rounds} times: place {} us, digest_at {} us, branch {} us; {place} {digest} {siblings}",
+        "  {rounds} times: place {} us, digest_at {} us; {place} {digest}",
         placing.as_micros(),
-        reading.as_micros(),
-        proving.as_micros()
+        reading.as_micros()
     )
 }
 

@@ -8,7 +8,7 @@ use crate::stopwatch::Stopwatch;
 use crate::targets::{hashes_of, targets_of};
 use bridge_forest::Forest;
 use cache_update::{Mark, after_add, after_delete, begin, undo};
-use forest_place::position;
+use forest_place::Naming;
 use forest_roots::{Joins, Roots};
 use leaf_cache::{Cache, Kept, Parts, Watch};
 use leaf_record::Record;
@@ -106,7 +106,7 @@ fn prove(alloc: Global, forest: &Forest<Sha512t256>) -> io::Result<Proof> {
         if forest.live(number) {
             let at = forest.place(number);
             if n < 1 << 40 && at.row < 40 && at.off < n >> at.row {
-                positions.push(position(at, n))?;
+                positions.push(Naming::FixedPosition.number(at, n))?;
                 leaves.push(name_of(number))?;
             }
         }

@@ -92,7 +92,7 @@ fn grow<D: Digester, L: Ledger>(
 }
 
 // The entries that are spent: all different, and all over either half of the forest in turn. While none is spent each stands in the
-// lowest row, so these are their positions too.
+// lowest row, so these are their fixed positions too.
 fn chosen(alloc: Global, entries: u32) -> Result<Vec<u64>, NoMemory> {
     let mut positions = Vec::new(alloc);
     let half = (entries / 2).max(1);

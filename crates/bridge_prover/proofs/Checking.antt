@@ -7,7 +7,6 @@ use Rattle.std.proofs.lemmas.List.{length-map}
 use Rattle.uo_digest.specs.declared.digest.Digest.{Digest}
 use Rattle.forest_place.specs.declared.place.Place.{Place}
 use Rattle.forest_place.specs.Forest.{is_slot}
-use Rattle.forest_place.specs.Position.{place_at}
 use Rattle.forest_model.specs.Cover.{Cover, need}
 use Rattle.forest_model.specs.Standing.{root}
 use Rattle.forest_model.specs.Evaluation.{IsAccepted, asked, evaluation, nothing_known}
@@ -19,7 +18,7 @@ use Rattle.proof_verify.specs.declared.fault.ProofFault.TheVariants as Fault
 use Rattle.proof_verify.specs.Verified.{IsProofFault, IsDeleted}
 use Rattle.leaf_record.specs.Leaf.{Outpoint, Leaf}
 use Rattle.leaf_record.specs.History.{somes, History}
-use Rattle.proof_wire.specs.BlockProof.{BlockProof, targets_of}
+use Rattle.proof_wire.specs.BlockProof.{targets_of}
 use Rattle.block_rules.specs.declared.chain.Outside.{Outside}
 use Rattle.block_rules.specs.declared.fault.RuleFault.{RuleFault}
 use Rattle.block_rules.specs.declared.fault.RuleFault.TheVariants.{Refused, NoMemory}
@@ -30,6 +29,7 @@ use Rattle.block_rules.specs.declared.refusal.ProofRefusal.TheVariants as Proof
 use Rattle.block_rules.specs.Steps.{unless, first_of}
 use Rattle.cache_model.specs.Cache.{look}
 use Rattle.cache_model.specs.Known.{known_at}
+use Rattle.forest_place.specs.Named.{place_by}
 use Rattle.node_rules.specs.Messages.{Message, in_full, named, targets, points_of, known_to}
 use Rattle.node_rules.specs.Accepting.{View, shape_fault, leaves_of, first_slot, empty_root, root_differs, proof_fault}
 use Rattle.node_rules.specs.Known.{view_of}
@@ -45,31 +45,31 @@ use Rattle.bridge_prover.proofs.Gathering.{somes-map}
 
 -- ---- what is refused of targets and hashes is a fault of the proof
 
-record IsTargetFault (n : ℕ) (p : BlockProof) (why : Refusal) : Type 0 where
+record IsTargetFault (n : ℕ) (m : Message) (why : Refusal) : Type 0 where
   fault : ProofRefusal
   told : why ≡ Why.Proof fault
-  first : shape_fault n [] 0 (named n p) ≡ Some fault
+  first : shape_fault n [] 0 (named n m) ≡ Some fault
 
-targets_told : (n : ℕ) (p : BlockProof) (why : Refusal) → TargetsJudged n p (Err (Refused why)) → IsTargetFault n p why
-targets_told n p Why.Block h = absurd h
-targets_told n p Why.Link h = absurd h
-targets_told n p Why.MerkleRoot h = absurd h
-targets_told n p (Why.MerkleRepeated level place) h = absurd h
-targets_told n p (Why.Witness f) h = absurd h
-targets_told n p (Why.Weight w) h = absurd h
-targets_told n p (Why.Coinbase t) h = absurd h
-targets_told n p (Why.Value t) h = absurd h
-targets_told n p (Why.Double t i) h = absurd h
-targets_told n p Why.Full h = absurd h
-targets_told n p Why.NoProof h = absurd h
-targets_told n p Why.MessageForm h = absurd h
-targets_told n p (Why.MessageVersion v) h = absurd h
-targets_told n p (Why.Spends got want) h = absurd h
-targets_told n p (Why.Proof f) h = record { fault = f; told = refl; first = h }
-targets_told n p (Why.Missing t i) h = absurd h
-targets_told n p (Why.Immature t i) h = absurd h
-targets_told n p (Why.Overspend t) h = absurd h
-targets_told n p (Why.Subsidy c a) h = absurd h
+targets_told : (n : ℕ) (m : Message) (why : Refusal) → TargetsJudged n m (Err (Refused why)) → IsTargetFault n m why
+targets_told n m Why.Block h = absurd h
+targets_told n m Why.Link h = absurd h
+targets_told n m Why.MerkleRoot h = absurd h
+targets_told n m (Why.MerkleRepeated level place) h = absurd h
+targets_told n m (Why.Witness f) h = absurd h
+targets_told n m (Why.Weight w) h = absurd h
+targets_told n m (Why.Coinbase t) h = absurd h
+targets_told n m (Why.Value t) h = absurd h
+targets_told n m (Why.Double t i) h = absurd h
+targets_told n m Why.Full h = absurd h
+targets_told n m Why.NoProof h = absurd h
+targets_told n m Why.MessageForm h = absurd h
+targets_told n m (Why.MessageVersion v) h = absurd h
+targets_told n m (Why.Spends got want) h = absurd h
+targets_told n m (Why.Proof f) h = record { fault = f; told = refl; first = h }
+targets_told n m (Why.Missing t i) h = absurd h
+targets_told n m (Why.Immature t i) h = absurd h
+targets_told n m (Why.Overspend t) h = absurd h
+targets_told n m (Why.Subsidy c a) h = absurd h
 
 record IsCountFault (m : Message) (t : Targeted) (known : ℕ → ℕ → Option Digest) (why : Refusal) : Type 0 where
   want : ℕ
@@ -107,10 +107,10 @@ hashes_told m t known (Why.Subsidy c a) h = absurd h
 same_in_slots : (H : List ℕ → Digest) (text : Leaf → List ℕ) (points : List Outpoint) (m : Message) (n : ℕ) (f g : ℕ → Option Digest) (known : ℕ → ℕ → Option Digest) → ((row : ℕ) → is_slot n row ≡ true → f row ≡ g row) →
     proof_fault H text (record { n = n; roots = f; known = known }) points m ≡ proof_fault H text (record { n = n; roots = g; known = known }) points m
 same_in_slots H text points m n f g known h =
-    let ts = targets n m.proof in
+    let ts = targets n m in
     let wanted = length (asked n ts (known_to m.lean known)) in
     let value = λ (c : Cover). evaluation H n ts (known_to m.lean known) (leaves_of H text points m) m.proof.hashes c in
-    ap₂ (λ (x y : Option ProofRefusal). first_of (shape_fault n [] 0 (named n m.proof) ∷ unless (length m.proof.hashes == wanted) (Proof.HashCount wanted (length m.proof.hashes)) ∷ x ∷ y ∷ []))
+    ap₂ (λ (x y : Option ProofRefusal). first_of (shape_fault n [] 0 (named n m) ∷ unless (length m.proof.hashes == wanted) (Proof.HashCount wanted (length m.proof.hashes)) ∷ x ∷ y ∷ []))
     (slots_alike (λ row c. empty_root (f row) row) (λ row c. empty_root (g row) row) n ts n (λ row c s. ap (λ x. empty_root x row) (h row s)))
     (slots_alike (λ row c. root_differs (f row) (value c) row) (λ row c. root_differs (g row) (value c) row) n ts n (λ row c s. ap (λ x. root_differs x (value c) row) (h row s)))
 
@@ -124,7 +124,7 @@ module _ (H : List ℕ → Digest) (text : Leaf → List ℕ) (es : List (Option
   -- the steps behind that on the targets
   abbrev behind : ℕ → Option ProofRefusal
   behind n =
-      let ts = targets n m.proof in
+      let ts = targets n m in
       let wanted = length (asked n ts (known_to m.lean known)) in
       first_of (
       unless (length m.proof.hashes == wanted) (Proof.HashCount wanted (length m.proof.hashes))
@@ -133,19 +133,19 @@ module _ (H : List ℕ → Digest) (text : Leaf → List ℕ) (es : List (Option
       ∷ []
       )
 
-  pub misplaced : (n : ℕ) (fault : RuleFault) → n ≡ length es → TargetsJudged n m.proof (Err fault) → IsFirst (option_map Why.Proof (fault_in H text es known ext m)) fault
+  pub misplaced : (n : ℕ) (fault : RuleFault) → n ≡ length es → TargetsJudged n m (Err fault) → IsFirst (option_map Why.Proof (fault_in H text es known ext m)) fault
   misplaced n NoMemory same h = tt
   misplaced n (Refused why) same h =
-      let w = targets_told n m.proof why h in
-      let first : shape_fault (length es) [] 0 (named (length es) m.proof) ≡ Some w.fault = subst (λ k. shape_fault k [] 0 (named k m.proof) ≡ Some w.fault) same w.first in
+      let w = targets_told n m why h in
+      let first : shape_fault (length es) [] 0 (named (length es) m) ≡ Some w.fault = subst (λ k. shape_fault k [] 0 (named k m) ≡ Some w.fault) same w.first in
       ap (option_map Why.Proof) (ap (λ x. option_or x (behind (length es))) first) ∙ ap Some (sym w.told)
 
-  module _ (t : Targeted) (is_named : AreNamed (length es) m.proof t) where
-    targets-are : t.targets ≡ targets (length es) m.proof
+  module _ (t : Targeted) (is_named : AreNamed (length es) m t) where
+    targets-are : t.targets ≡ targets (length es) m
     targets-are = sym (somes-map t.targets) ∙ ap somes (sym is_named.places)
 
-    same_targets : t ≡ record { leaves = length es; targets = targets (length es) m.proof }
-    same_targets = targeted t (length es) (targets (length es) m.proof) is_named.leaves targets-are
+    same_targets : t ≡ record { leaves = length es; targets = targets (length es) m }
+    same_targets = targeted t (length es) (targets (length es) m) is_named.leaves targets-are
 
     pub miscounted : (fault : RuleFault) → HashesJudged m t known (Err fault) → IsFirst (option_map Why.Proof (fault_in H text es known ext m)) fault
     miscounted NoMemory h = tt
@@ -158,27 +158,27 @@ module _ (H : List ℕ → Digest) (text : Leaf → List ℕ) (es : List (Option
         ∙ ap Some (sym w.told)
 
     as_many : length t.targets ≡ length m.proof.spends
-    as_many = sym (length-map t.targets Some) ∙ (ap length (sym is_named.places) ∙ (length-map (targets_of m.proof.spends) (place_at (length es)) ∙ length-map m.proof.spends (λ s. s.target)))
+    as_many = sym (length-map t.targets Some) ∙ (ap length (sym is_named.places) ∙ (length-map (targets_of m.proof.spends) (place_by m.naming (length es)) ∙ length-map m.proof.spends (λ s. s.target)))
 
     -- there is a leaf for each target
     pub leaf_each : (leaves : List Digest) → leaves ≡ leaves_of H text (points_of ext) m → length m.proof.spends ≡ length ext → length leaves ≡ length t.targets
-    leaf_each leaves e count = ap length e ∙ (leaves-long H text ext m.proof count ∙ (sym count ∙ sym as_many))
+    leaf_each leaves e count = ap length e ∙ (leaves-long H text ext m count ∙ (sym count ∙ sym as_many))
 
     module _ (f : Stump) (stands : StandsFor H es f) (hashes : List Digest) (full : AreHashes m t known hashes) where
-      abbrev p : BlockProof
-      p = record { spends = m.proof.spends; hashes = hashes }
+      abbrev p : Message
+      p = in_full m hashes
 
       abbrev seen : View
       seen = record { n = f.leaves; roots = root_in f; known = known }
 
       abbrev ts : List Place
-      ts = targets f.leaves m.proof
+      ts = targets f.leaves m
 
       abbrev leaves : List Digest
       leaves = leaves_of H text (points_of ext) m
 
-      named-here : AreNamed f.leaves m.proof t
-      named-here = subst (λ n. AreNamed n m.proof t) (sym stands.leaves) is_named
+      named-here : AreNamed f.leaves m t
+      named-here = subst (λ n. AreNamed n m t) (sym stands.leaves) is_named
 
       targets-here : t.targets ≡ ts
       targets-here = sym (somes-map t.targets) ∙ ap somes (sym named-here.places)
@@ -187,7 +187,7 @@ module _ (H : List ℕ → Digest) (text : Leaf → List ℕ) (es : List (Option
       full-here = subst (λ (x : Targeted). AreHashes m x known hashes) (targeted t f.leaves ts named-here.leaves targets-here) full
 
       -- the fault is that of the same proof in full, over the roots
-      fault-here : fault_in H text es known ext m ≡ proof_fault H text seen (points_of ext) (in_full p)
+      fault-here : fault_in H text es known ext m ≡ proof_fault H text seen (points_of ext) p
       fault-here =
           ap (λ k. proof_fault H text (record { n = k; roots = root H es; known = known }) (points_of ext) m) (sym stands.leaves)
           ∙ (same_in_slots H text (points_of ext) m f.leaves (root H es) (root_in f) known (λ row s. sym (stands.roots row s))
@@ -196,14 +196,14 @@ module _ (H : List ℕ → Digest) (text : Leaf → List ℕ) (es : List (Option
       all_asked : length (asked f.leaves ts nothing_known) ≡ length (need f.leaves ts)
       all_asked = ap length (asked_all f.leaves ts)
 
-      fault_is : (fault : ProofFault) → IsProofFault H f ts leaves hashes fault → proof_fault H text seen (points_of ext) (in_full p) ≡ Some (proof_refusal fault)
+      fault_is : (fault : ProofFault) → IsProofFault H f ts leaves hashes fault → proof_fault H text seen (points_of ext) p ≡ Some (proof_refusal fault)
       fault_is (Fault.HashCount want got) (wanted, given, other) =
           let w : length (asked f.leaves ts nothing_known) ≡ want = all_asked ∙ sym wanted in
-          count_told H text seen (points_of ext) (in_full p) named-here.passes (λ e. other (given ∙ (e ∙ w)))
+          count_told H text seen (points_of ext) p named-here.passes (λ e. other (given ∙ (e ∙ w)))
           ∙ ap₂ (λ (a b : ℕ). Some (Proof.HashCount a b)) w (sym given)
-      fault_is (Fault.EmptyRoot row) (count, greatest) = empty_told H text seen (points_of ext) (in_full p) named-here.passes row (count ∙ sym all_asked) greatest
+      fault_is (Fault.EmptyRoot row) (count, greatest) = empty_told H text seen (points_of ext) p named-here.passes row (count ∙ sym all_asked) greatest
       fault_is (Fault.RootDiffers row had computed) (count, never, greatest, was, is) =
-          other_told H text seen (points_of ext) (in_full p) named-here.passes row (count ∙ sym all_asked) never greatest
+          other_told H text seen (points_of ext) p named-here.passes row (count ∙ sym all_asked) never greatest
 
       pub refused_by : (fault : ProofFault) (leaves' hashes' : List Digest) → leaves' ≡ leaves → hashes' ≡ hashes → IsProofFault H f t.targets leaves' hashes' fault →
           option_map Why.Proof (fault_in H text es known ext m) ≡ Some (Why.Proof (proof_refusal fault))
@@ -215,12 +215,12 @@ module _ (H : List ℕ → Digest) (text : Leaf → List ℕ) (es : List (Option
 
       pub checked_by : (leaves' hashes' : List Digest) (pairs : List (Place × Digest)) (g : Stump) → leaves' ≡ leaves → hashes' ≡ hashes → IsDeleted H f t.targets leaves' hashes' pairs g → IsChecked H text es known ext m t hashes
       checked_by leaves' hashes' pairs g e h d =
-          let named_all : named f.leaves m.proof ≡ map Some ts = named-here.places ∙ ap (map Some) targets-here in
+          let named_all : named f.leaves m ≡ map Some ts = named-here.places ∙ ap (map Some) targets-here in
           let accepted : IsAccepted H f.leaves (root_in f) ts nothing_known leaves hashes =
           subst (λ xs. IsAccepted H f.leaves (root_in f) xs nothing_known leaves hashes) targets-here
           (subst (λ xs. IsAccepted H f.leaves (root_in f) t.targets nothing_known xs hashes) e
           (subst (λ xs. IsAccepted H f.leaves (root_in f) t.targets nothing_known leaves' xs) h d.accepted)) in
-          record { passes = fault-here ∙ passes H text seen (points_of ext) (in_full p) accepted named_all; named = is_named; full = full }
+          record { passes = fault-here ∙ passes H text seen (points_of ext) p accepted named_all; named = is_named; full = full }
 
 -- ---- by a history
 

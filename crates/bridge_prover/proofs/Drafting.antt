@@ -1,5 +1,5 @@
 -- What a message is made of: what is drafted of it before the index changes, and the message itself.
-use Rattle.std.proofs.Common.{◌≡◌, ℕ, true, false, List, [], ◌∷◌, map, length, All, Option, Some, None, refl, sym, ap, ◌∙◌}
+use Rattle.std.proofs.Common.{◌≡◌, ℕ, ◌^◌, ◌≤◌, true, false, List, [], ◌∷◌, map, length, All, Option, Some, None, refl, sym, ap, ◌∙◌}
 use Rattle.std.specs.Prelude.{◌==◌, option_map}
 use Rattle.std.specs.List.Sorted.{IsPermutation}
 use Rattle.std.proofs.lemmas.Bool.{false≢true}
@@ -31,9 +31,9 @@ module _ (H : List ℕ → Digest) (text : Leaf → List ℕ) (s : BridgeState) 
   draft_fits (at ∷ ext) None is = absurd is
   draft_fits (at ∷ ext) (Some d) is = (is.leaves, ap length is.rests ∙ rests_each s.held numbers rests held shown)
 
-  module _ (live : All (λ i. is_live s.entries i ≡ true) numbers) (perm : IsPermutation numbers spent) where
+  module _ (few : length s.entries ≤ 2 ^ 40) (live : All (λ i. is_live s.entries i ≡ true) numbers) (perm : IsPermutation numbers spent) where
     message_is : (d : Draft) → IsDraftIn s rests d → drafted H s.entries numbers spent d ≡ message_by H s.watch s.entries s.held numbers
-    message_is d is = whole_proof H s.entries s.held d.kept.targets d.lean numbers spent d.rests live held perm (is.rests ∙ shown) ∙ message_told H text s d.kept.targets is.kept d.lean is.lean numbers
+    message_is d is = whole_proof H s.entries few s.held d.kept.targets d.lean numbers spent d.rests live held perm (is.rests ∙ shown) ∙ message_told H text s d.kept.targets is.kept d.lean is.lean numbers
 
     pub draft_told : (ext : List Outside) (draft : Option Draft) → IsDraftOf s ext rests draft → option_map (λ d. message_text (drafted H s.entries numbers spent d)) draft ≡ written_text ext (message_by H s.watch s.entries s.held numbers)
     draft_told [] draft is = rw is refl

@@ -9,7 +9,8 @@ use Rattle.std.proofs.lemmas.Option.{none-some}
 use Rattle.uo_digest.specs.declared.digest.Digest.{Digest}
 use Rattle.forest_place.specs.declared.place.Place.{Place}
 use Rattle.forest_place.specs.Places.{is_at, has_place, IsDistinct}
-use Rattle.forest_place.specs.Position.{positions_of, place_at}
+use Rattle.forest_place.specs.declared.naming.Naming.TheVariants.{FixedPosition}
+use Rattle.forest_place.specs.Named.{place_by}
 use Rattle.forest_place.proofs.Listed.{same_from_is_at}
 use Rattle.forest_model.specs.Content.{leaf}
 use Rattle.forest_model.specs.Standing.{tree_at}
@@ -18,10 +19,10 @@ use Rattle.forest_model.specs.Cover.{HasShape, is_above}
 use Rattle.forest_model.proofs.Climbs.{tree_at-forest, nothing_beneath}
 use Rattle.forest_model.proofs.Living.{entry_found}
 use Rattle.leaf_record.specs.History.{somes}
-use Rattle.proof_shape.specs.Shape.{AreTargets}
+use Rattle.proof_shape.specs.Shape.{AreFixedTargets}
 use Rattle.proof_shape.specs.Targeted.{Targeted}
 use Rattle.node_rules.specs.Messages.{number_of}
-use Rattle.node_rules.proofs.Placing.{targets_named}
+use Rattle.node_rules.proofs.Placing.{named_by}
 use Rattle.bridge_forest.specs.State.{is_live}
 use Rattle.bridge_prover.specs.Bridge.{target_of}
 use Rattle.bridge_prover.specs.Watched.{places_in}
@@ -49,12 +50,12 @@ module _ (es : List (Option Digest)) where
 
   -- ---- their positions
 
-  targets_are : (ns : List ℕ) → AllByRecursion (λ n. is_live es n ≡ true) ns → map (target_of es) ns ≡ positions_of (length es) (places_in es ns)
+  targets_are : (ns : List ℕ) → AllByRecursion (λ n. is_live es n ≡ true) ns → map (target_of es) ns ≡ map number_of (places_in es ns)
   targets_are [] a = refl
   targets_are (n ∷ ns) a =
       let w = stands n a.0 in
-      ap₂ (λ (x : Option Place) (xs : List ℕ). unwrap_or (option_map (number_of (length es)) x) 0 ∷ xs) w.found (targets_are ns a.1)
-      ∙ sym (ap (positions_of (length es)) (placed n ns w))
+      ap₂ (λ (x : Option Place) (xs : List ℕ). unwrap_or (option_map number_of x) 0 ∷ xs) w.found (targets_are ns a.1)
+      ∙ sym (ap (map number_of) (placed n ns w))
 
   -- ---- which entry stands at a place
 
@@ -118,7 +119,7 @@ module _ (es : List (Option Digest)) where
       by true e r = (h n e, r)
       by false e r = r
 
-  pub are_targets : (ns positions : List ℕ) → positions ≡ map (target_of es) ns → AllByRecursion (λ n. is_live es n ≡ true) ns → HasShape (length es) (places_in es ns) → AreTargets (length es) positions (places_in es ns)
+  pub are_targets : (ns positions : List ℕ) → positions ≡ map (target_of es) ns → AllByRecursion (λ n. is_live es n ≡ true) ns → HasShape (length es) (places_in es ns) → AreFixedTargets (length es) positions (places_in es ns)
   are_targets ns positions e a shape = record { numbered = sym (e ∙ targets_are ns a); shape = shape }
 
 -- one more position
@@ -127,6 +128,6 @@ positions_more f p xs i old new lt was e =
     e ∙ (ap (λ ys. ys ++ map f (filter p (get_or xs i 0 ∷ []))) was
     ∙ (sym (map-append f (filter p (take i xs)) (filter p (get_or xs i 0 ∷ []))) ∙ ap (map f) (sym (filter-append p (take i xs) (get_or xs i 0 ∷ [])) ∙ ap (filter p) (sym (take_more xs i 0 lt)))))
 
-pub targets_found : {E : Type 0} (n : ℕ) (positions : List ℕ) (places : List Place) → AreTargets n positions places → (r : Result Targeted E) → IfOk r (λ t. (t.leaves ≡ n) × (map (place_at n) positions ≡ map Some t.targets)) → IfOk r (λ t. t.targets ≡ places)
-targets_found n positions places a (Ok t) f = sym (somes-map t.targets) ∙ (ap somes (sym f.1 ∙ targets_named n positions places a) ∙ somes-map places)
-targets_found n positions places a (Err e) f = tt
+pub targets_found : {E : Type 0} (n : ℕ) (positions : List ℕ) (places : List Place) → n < 2 ^ 40 → AreFixedTargets n positions places → (r : Result Targeted E) → IfOk r (λ t. (t.leaves ≡ n) × (map (place_by FixedPosition n) positions ≡ map Some t.targets)) → IfOk r (λ t. t.targets ≡ places)
+targets_found n positions places few a (Ok t) f = sym (somes-map t.targets) ∙ (ap somes (sym f.1 ∙ named_by FixedPosition n (omega (arith, few)) positions places a) ∙ somes-map places)
+targets_found n positions places few a (Err e) f = tt

@@ -20,7 +20,7 @@ use Rattle.cache_model.specs.Cache.{held}
 use Rattle.cache_model.specs.Lists.{kept_leaves, IsCacheOf}
 use Rattle.cache_model.proofs.Histories.{known_is, is_ordered}
 use Rattle.proof_wire.specs.BlockProof.{BlockProof}
-use Rattle.node_rules.specs.Messages.{Message, targets}
+use Rattle.node_rules.specs.Messages.{Message, sent, targets}
 use Rattle.node_rules.specs.Judging.{known_for}
 use Rattle.node_rules.specs.Machine.{State}
 use Rattle.node_rules.proofs.Righting.{got_back, got_entry}
@@ -160,7 +160,7 @@ module _ (H : List ℕ → Digest) (es : List (Option Digest)) where
   hashes_same (Some scripts) hs ts = left_out (is_known (length es) (places_in es (kept_in scripts hs))) (need (length es) ts)
 
   pub proof_same_beside : (watch : Option (List (List ℕ))) (hs : List Held) (numbers : List ℕ) → proof_beside H (places_in es (kept_in (scripts_of watch) hs)) es hs numbers ≡ proof_by H watch es hs numbers
-  proof_same_beside watch hs numbers = ap (λ ds. (let p : BlockProof = record { spends = spends_by es hs numbers; hashes = ds } in p)) (sym (hashes_same watch hs (targets (length es) (record { spends = spends_by es hs numbers; hashes = [] }))))
+  proof_same_beside watch hs numbers = ap (λ ds. (let p : BlockProof = record { spends = spends_by es hs numbers; hashes = ds } in p)) (sym (hashes_same watch hs (targets (length es) (sent false (record { spends = spends_by es hs numbers; hashes = [] })))))
 
 -- ---- what the calls answer
 
@@ -174,10 +174,10 @@ module _ (H : List ℕ → Digest) (text : Leaf → List ℕ) (s : BridgeState) 
 
   -- the message
   pub message_told : (kept : List Place) → kept ≡ places_in s.entries (kept_in (scripts_of s.watch) s.held) → (lean : Bool) → lean ≡ is_some s.watch → (numbers : List ℕ) →
-      (let m : Message = record { lean = lean; proof = proof_beside H kept s.entries s.held numbers } in m) ≡ message_by H s.watch s.entries s.held numbers
+      sent lean (proof_beside H kept s.entries s.held numbers) ≡ message_by H s.watch s.entries s.held numbers
   message_told kept at lean is numbers =
-      let made : Bool → List Place → Message = λ b ps. record { lean = b; proof = proof_beside H ps s.entries s.held numbers } in
-      ap (λ b. made b kept) is ∙ (ap (λ ps. made (is_some s.watch) ps) at ∙ ap (λ (p : BlockProof). (let m : Message = record { lean = is_some s.watch; proof = p } in m)) (proof_same_beside H s.entries s.watch s.held numbers))
+      let made : Bool → List Place → Message = λ b ps. sent b (proof_beside H ps s.entries s.held numbers) in
+      ap (λ b. made b kept) is ∙ (ap (λ ps. made (is_some s.watch) ps) at ∙ ap (sent (is_some s.watch)) (proof_same_beside H s.entries s.watch s.held numbers))
 
   -- what is known
   pub known_found : {X E : Type 0} (items : X → List (Place × Digest)) (P : List (Place × Digest) → Type 0) → P (known_list H (scripts_of s.watch) s.entries s.held) → (kept : List Place) → kept ≡ places_in s.entries (kept_in (scripts_of s.watch) s.held) → (r : Result X E) → IfOk r (λ known. items known ≡ held H s.entries kept) → IfOk r (λ known. P (items known))

@@ -18,6 +18,7 @@ use Rattle.block_rules.specs.declared.verdict.Verdict.{Verdict}
 use Rattle.block_rules.specs.declared.verdict.Verdict.TheVariants.{Accepted, RolledBack, TooDeep}
 use Rattle.block_rules.specs.Blocks.{external, new_records}
 use Rattle.node_rules.specs.Reading.{Handed}
+use Rattle.node_rules.specs.Messages.{sent}
 use Rattle.node_rules.specs.Judging.{Rules, Evidence, own, refusal, proof_of}
 use Rattle.node_rules.specs.Machine.{ChainEvent, BlockCame, RollbackCame, StrayCame, Level, State, Outcome, chain_of, height_of, back, by_refusal, is_made, verdict_by}
 use Rattle.node_rules.specs.Proving.{written_text, text_beside}
@@ -216,7 +217,7 @@ module _ (H : List ℕ → Digest) (text : Leaf → List ℕ) (rules : Rules) (w
           let numbers : (own_in hs ext).numbers ≡ evidence.numbers = ap (λ (e : Evidence). e.numbers) (own_same hs us at.rise at.stands.index ext) in
           let proof : proof_by H watch (entries H text us) hs evidence.numbers ≡ proof_of H text watch us ext = ap (proof_by H watch (entries H text us) hs) (sym numbers) ∙ proof_same hs us at.rise at.stands.index H text watch ext in (
             ap (λ n. Some (Accepted t.now.blocks (block_hash_of b) n)) long,
-            ap (λ (p : BlockProof). written_text ext (record { lean = is_some watch; proof = p })) proof,
+            ap (λ (p : BlockProof). written_text ext (sent (is_some watch) p)) proof,
             (at-then H text t bridge at evidence.numbers new (own_live H text t bridge at b passes) (own_apart H text t bridge at b passes) (block_hash_of b)).stands,
           )
 

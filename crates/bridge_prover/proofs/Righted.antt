@@ -206,7 +206,7 @@ module _ (H : List ℕ → Digest) (text : Leaf → List ℕ) (hs : List Held) (
   one-missing (p ∷ ts) (c ∷ claims) zero e long = ap (λ x. x && all_stand H text us (map Some ts) claims) (sym (shown-same p c) ∙ ap is_some (same_Some _ None e))
   one-missing (p ∷ ts) (c ∷ claims) (suc i) e long = and-false (stands_for H text us (Some p) c) _ (one-missing ts claims i e (omega (arith, long)))
 
-  module _ (ext : List Outside) (m : Message) (t : Targeted) (count : length m.proof.spends ≡ length ext) (are : AreNamed (length us) m.proof t) (scripts : List (List ℕ)) where
+  module _ (ext : List Outside) (m : Message) (t : Targeted) (count : length m.proof.spends ≡ length ext) (are : AreNamed (length us) m t) (scripts : List (List ℕ)) where
     abbrev claims : List Leaf
     claims = claimed (points_of ext) (rests_of m.proof.spends)
 
@@ -221,9 +221,9 @@ module _ (H : List ℕ → Digest) (text : Leaf → List ℕ) (hs : List Held) (
 
     -- what stands at the places whose hashes the message gives
     abbrev given : List (Option Digest)
-    given = map stands (asked (length us) (targets (length us) m.proof) known)
+    given = map stands (asked (length us) (targets (length us) m) known)
 
-    targets-are : targets (length us) m.proof ≡ t.targets
+    targets-are : targets (length us) m ≡ t.targets
     targets-are = ap somes are.places ∙ somes-map t.targets
 
     right-is : is_right_message H text scripts us ext (read m) ≡ (all_stand H text us (map Some t.targets) claims && same_digests m.proof.hashes given)
@@ -248,7 +248,7 @@ module _ (H : List ℕ → Digest) (text : Leaf → List ℕ) (hs : List Held) (
       hashes-are : hashes ≡ filled m.proof.hashes 0 (map f (need t.leaves t.targets))
       hashes-are = full.hashes_are H ∙ sym (filled_is (H []) f (need t.leaves t.targets) m.proof.hashes 0 (distinct_from_ascending (need t.leaves t.targets) (need_ascending t.leaves t.targets)) full.count)
 
-      asked-are : asked t.leaves t.targets known ≡ asked (length us) (targets (length us) m.proof) known
+      asked-are : asked t.leaves t.targets known ≡ asked (length us) (targets (length us) m) known
       asked-are = ap₂ (λ n ts. asked n ts known) are.leaves (sym targets-are)
 
       all-given : map Some hashes ≡ map stands (need t.leaves t.targets) → map Some m.proof.hashes ≡ given
@@ -274,12 +274,12 @@ module _ (H : List ℕ → Digest) (text : Leaf → List ℕ) (hs : List Held) (
 -- ---- as the calls answer it
 
 module _ (H : List ℕ → Digest) (text : Leaf → List ℕ) (es' : List (Option Digest)) (hs : List Held) (us : History) (scripts : List (List ℕ)) (h : IsHistory H text es' hs us) (ext : List Outside) (m : Message) (t : Targeted)
-    (count : length m.proof.spends ≡ length ext) (are : AreNamed (length es') m.proof t) (places : List Place) (at : places ≡ t.targets) where
+    (count : length m.proof.spends ≡ length ext) (are : AreNamed (length es') m t) (places : List Place) (at : places ≡ t.targets) where
   entries-long : length es' ≡ length us
   entries-long = ap length h.entries_are ∙ length-map us (option_map (λ r. H (text r)))
 
-  named-so : AreNamed (length us) m.proof t
-  named-so = subst (λ n. AreNamed n m.proof t) entries-long are
+  named-so : AreNamed (length us) m t
+  named-so = subst (λ n. AreNamed n m t) entries-long are
 
   shown-so : shown_all es' hs places (claimed (points_of ext) (rests_of m.proof.spends)) ≡ shown_all (entries H text us) hs t.targets (claimed (points_of ext) (rests_of m.proof.spends))
   shown-so = ap₂ (λ x ps. shown_all x hs ps (claimed (points_of ext) (rests_of m.proof.spends))) h.entries_are at

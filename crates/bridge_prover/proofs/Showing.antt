@@ -1,5 +1,5 @@
 -- What a message shows.
-use Rattle.std.proofs.Common.{◌≡◌, ℕ, zero, suc, ◌+◌, ◌*◌, ◌<◌, Bool, true, false, List, [], ◌∷◌, ◌++◌, map, length, take, get_or, All, Option, Some, None, refl, sym, ap, ap₂, ◌∙◌, subst, arith}
+use Rattle.std.proofs.Common.{◌≡◌, ℕ, zero, suc, ◌+◌, ◌*◌, ◌^◌, ◌<◌, ◌≤◌, Bool, true, false, List, [], ◌∷◌, ◌++◌, map, length, take, get_or, All, Option, Some, None, refl, sym, ap, ap₂, ◌∙◌, subst, arith}
 use Rattle.std.specs.Prelude.{◌==◌, ◌&&◌, option_map, unwrap_or, is_some, not, IsSome, if◌then◌else◌}
 use Rattle.std.specs.List.{AllByRecursion, filter, filter_map, flat_map}
 use Rattle.std.specs.List.Sorted.{IsPermutation}
@@ -14,9 +14,10 @@ use Rattle.uo_digest.specs.declared.digest.Digest.{Digest}
 use Rattle.forest_place.specs.declared.place.Place.{Place}
 use Rattle.forest_place.specs.Forest.{InForest, is_root, sibling_off}
 use Rattle.forest_place.specs.Places.{has_place, places}
-use Rattle.forest_place.specs.Position.{position, place_at}
 use Rattle.forest_place.proofs.Listed.{same_Bools}
-use Rattle.forest_place.proofs.Numbered.{place_at-position}
+use Rattle.forest_place.specs.declared.naming.Naming.TheVariants.{FixedPosition}
+use Rattle.forest_place.specs.Named.{place_by}
+use Rattle.forest_place.proofs.NamedLaws.{place_by-number}
 use Rattle.forest_model.specs.Content.{Tree, leaf}
 use Rattle.forest_model.specs.Standing.{tree_at, digest_at}
 use Rattle.forest_model.specs.EntryPlace.{entry_place}
@@ -29,15 +30,15 @@ use Rattle.leaf_record.specs.Leaf.{Leaf, Rest}
 use Rattle.leaf_record.specs.History.{somes}
 use Rattle.proof_shape.specs.declared.fault.ShapeFault.{ShapeFault}
 use Rattle.proof_shape.specs.declared.fault.ShapeFault.TheVariants as Shape
-use Rattle.proof_shape.specs.Shape.{IsShapeFault}
+use Rattle.proof_shape.specs.Shape.{IsFixedFault}
 use Rattle.proof_wire.specs.BlockProof.{BlockProof, targets_of, spends_of}
 use Rattle.cache_model.specs.Known.{is_known}
-use Rattle.node_rules.specs.Messages.{Message, number_of}
+use Rattle.node_rules.specs.Messages.{sent, number_of}
 use Rattle.node_rules.specs.Accepting.{shape_fault}
-use Rattle.node_rules.proofs.Placing.{fault_told}
+use Rattle.node_rules.proofs.Placing.{told_by}
 use Rattle.bridge_forest.specs.State.{is_live}
 use Rattle.bridge_forest.specs.Proving.{places_of, standing, proof_of}
-use Rattle.bridge_forest.specs.declared.branch.Sibling.{Sibling}
+use Rattle.bridge_forest.specs.declared.batch.Sibling.{Sibling}
 use Rattle.bridge_forest.proofs.Slotted.{stand_there}
 use Rattle.output_index.specs.Held.{Held, held_at, leaf_at, is_live as is_held_live}
 use Rattle.output_index.proofs.HeldLaws.{live_is_held}
@@ -60,11 +61,11 @@ is_of_shape (Shape.Repeated i j) = true
 is_of_shape (Shape.Beneath i j) = true
 is_of_shape Shape.NoMemory = false
 
-pub no_fault : (n : ℕ) (numbers : List ℕ) (f : ShapeFault) → shape_fault n [] 0 (map (place_at n) numbers) ≡ None → IsShapeFault n numbers f → is_of_shape f ≡ true → ⊥
-no_fault n numbers (Shape.Outside i) passes fault other = none-some _ (sym passes ∙ fault_told n numbers (Shape.Outside i) fault)
-no_fault n numbers (Shape.Repeated i j) passes fault other = none-some _ (sym passes ∙ fault_told n numbers (Shape.Repeated i j) fault)
-no_fault n numbers (Shape.Beneath i j) passes fault other = none-some _ (sym passes ∙ fault_told n numbers (Shape.Beneath i j) fault)
-no_fault n numbers Shape.NoMemory passes fault other = false≢true other
+pub no_fault : (n : ℕ) → n < 2 ^ 40 → (numbers : List ℕ) (f : ShapeFault) → shape_fault n [] 0 (map (place_by FixedPosition n) numbers) ≡ None → IsFixedFault n numbers f → is_of_shape f ≡ true → ⊥
+no_fault n few numbers (Shape.Outside i) passes fault other = none-some _ (sym passes ∙ told_by FixedPosition n (omega (arith, few)) numbers (Shape.Outside i) fault)
+no_fault n few numbers (Shape.Repeated i j) passes fault other = none-some _ (sym passes ∙ told_by FixedPosition n (omega (arith, few)) numbers (Shape.Repeated i j) fault)
+no_fault n few numbers (Shape.Beneath i j) passes fault other = none-some _ (sym passes ∙ told_by FixedPosition n (omega (arith, few)) numbers (Shape.Beneath i j) fault)
+no_fault n few numbers Shape.NoMemory passes fault other = false≢true other
 
 -- ---- the spends
 
@@ -81,9 +82,9 @@ placed_at es numbers places i d are lt =
     sym (get_or-map (entry_place es) numbers i 0 None lt) ∙ (ap (λ xs. get_or xs i None) (sym are) ∙ get_or-map Some places i d None (omega (arith, lt, long)))
 
 -- a place more, by its number
-pub targeted_more : (es : List (Option Digest)) (numbers : List ℕ) (i : ℕ) (n number : ℕ) (place : Place) (old new : List ℕ) → n ≡ length es → i < length numbers → entry_place es (get_or numbers i 0) ≡ Some place → number ≡ position n place.row place.off → old ≡ map (target_of es) (take i numbers) → new ≡ old ++ number ∷ [] → new ≡ map (target_of es) (take (i + 1) numbers)
-targeted_more es numbers i n number place old new count lt there is was e =
-    let here : number ≡ target_of es (get_or numbers i 0) = is ∙ (ap (λ m. position m place.row place.off) count ∙ sym (ap (λ p. unwrap_or (option_map (number_of (length es)) p) 0) there)) in
+pub targeted_more : (es : List (Option Digest)) (numbers : List ℕ) (i : ℕ) (number : ℕ) (place : Place) (old new : List ℕ) → i < length numbers → entry_place es (get_or numbers i 0) ≡ Some place → number ≡ number_of place → old ≡ map (target_of es) (take i numbers) → new ≡ old ++ number ∷ [] → new ≡ map (target_of es) (take (i + 1) numbers)
+targeted_more es numbers i number place old new lt there is was e =
+    let here : number ≡ target_of es (get_or numbers i 0) = is ∙ sym (ap (λ p. unwrap_or (option_map number_of p) 0) there) in
     e ∙ (ap₂ (λ xs x. xs ++ x ∷ []) was here ∙ sym (mapped_more (target_of es) numbers i 0 lt))
 
 leaf_of_live : (i : ℕ) (hs : List Held) → is_held_live i hs ≡ true → (output : Leaf) × (leaf_at i hs ≡ Some output)
@@ -229,25 +230,25 @@ module _ (es : List (Option Digest)) (numbers spent : List ℕ) (live : All (λ 
       sym (spent_is_target es (places_of es spent) spent (stand_there es spent live_too) r o w.0 w.1 w.2) ∙ (sym (same_spent w.0) ∙ w.3))
 
 -- the targets of what is shown of live entries that are held are their places
-targets_placed : (es : List (Option Digest)) (hs : List Held) (numbers : List ℕ) → AllByRecursion (λ i. is_live es i ≡ true) numbers → AllByRecursion (λ i. is_held_live i hs ≡ true) numbers → somes (map (place_at (length es)) (targets_of (spends_by es hs numbers))) ≡ places_of es numbers
-targets_placed es hs [] live held = refl
-targets_placed es hs (i ∷ is) live held =
+targets_placed : (es : List (Option Digest)) → length es ≤ 2 ^ 40 → (hs : List Held) (numbers : List ℕ) → AllByRecursion (λ i. is_live es i ≡ true) numbers → AllByRecursion (λ i. is_held_live i hs ≡ true) numbers → somes (map (place_by FixedPosition (length es)) (targets_of (spends_by es hs numbers))) ≡ places_of es numbers
+targets_placed es few hs [] live held = refl
+targets_placed es few hs (i ∷ is) live held =
     let d = some_from_test (get_or es i None) live.0 in
     let found = entry_found es i d.0 d.1 in
     let place : entry_place es i ≡ Some found.0 = found.1 in
     let output = leaf_of_live i hs held.0 in
     let shown : leaf_at i hs ≡ Some output.0 = output.1 in
-    let there : place_at (length es) (position (length es) found.0.row found.0.off) ≡ Some found.0 = place_at-position (length es) found.0 (tree_at-forest es found.0.row found.0.off _ found.2) in
-    rw (shown, place, there) (ap (λ ps. found.0 ∷ ps) (targets_placed es hs is live.1 held.1))
+    let there : place_by FixedPosition (length es) (number_of found.0) ≡ Some found.0 = place_by-number FixedPosition (length es) found.0 few (tree_at-forest es found.0.row found.0.off _ found.2) in
+    rw (shown, place, there) (ap (λ ps. found.0 ∷ ps) (targets_placed es few hs is live.1 held.1))
 
-pub whole_proof : (H : List ℕ → Digest) (es : List (Option Digest)) (hs : List Held) (kept : List Place) (lean : Bool) (numbers spent : List ℕ) (rests : List Rest) → All (λ i. is_live es i ≡ true) numbers → All (λ i. is_held_live i hs ≡ true) numbers → IsPermutation numbers spent → rests ≡ map (λ leaf. leaf.rest) (leaves_in hs numbers) →
-    (let p : BlockProof = record { spends = spends_of (map (target_of es) numbers) rests; hashes = hashes_unknown (length es) kept (proof_of H es spent) } in let m : Message = record { lean = lean; proof = p } in m) ≡ record { lean = lean; proof = proof_beside H kept es hs numbers }
-whole_proof H es hs kept lean numbers spent rests live held perm shown =
+pub whole_proof : (H : List ℕ → Digest) (es : List (Option Digest)) → length es ≤ 2 ^ 40 → (hs : List Held) (kept : List Place) (lean : Bool) (numbers spent : List ℕ) (rests : List Rest) → All (λ i. is_live es i ≡ true) numbers → All (λ i. is_held_live i hs ≡ true) numbers → IsPermutation numbers spent → rests ≡ map (λ leaf. leaf.rest) (leaves_in hs numbers) →
+    (let p : BlockProof = record { spends = spends_of (map (target_of es) numbers) rests; hashes = hashes_unknown (length es) kept (proof_of H es spent) } in sent lean p) ≡ sent lean (proof_beside H kept es hs numbers)
+whole_proof H es few hs kept lean numbers spent rests live held perm shown =
     let held' = recursion_from_All (λ i. is_held_live i hs ≡ true) numbers held in
-    let ts = somes (map (place_at (length es)) (targets_of (spends_by es hs numbers))) in
-    let placed : ts ≡ places_of es numbers = targets_placed es hs numbers (recursion_from_All (λ i. is_live es i ≡ true) numbers live) held' in
+    let ts = somes (map (place_by FixedPosition (length es)) (targets_of (spends_by es hs numbers))) in
+    let placed : ts ≡ places_of es numbers = targets_placed es few hs numbers (recursion_from_All (λ i. is_live es i ≡ true) numbers live) held' in
     let needed : need (length es) (places_of es spent) ≡ need (length es) ts = same_need (length es) (places_of es spent) (places_of es numbers) (same_places es numbers spent live perm) ∙ ap (need (length es)) (sym placed) in
     let hashes : hashes_unknown (length es) kept (proof_of H es spent) ≡ somes (map (at H es) (filter (λ p. not (is_known (length es) kept p)) (need (length es) ts))) =
     unknown_are H es kept (need (length es) (places_of es spent)) ∙ ap (λ ps. somes (map (at H es) (filter (λ p. not (is_known (length es) kept p)) ps))) needed in
     let spends : spends_of (map (target_of es) numbers) rests ≡ spends_by es hs numbers = ap (spends_of (map (target_of es) numbers)) shown ∙ shown_all es hs numbers held' in
-    ap₂ (λ xs ys. (let p : BlockProof = record { spends = xs; hashes = ys } in let m : Message = record { lean = lean; proof = p } in m)) spends hashes
+    ap₂ (λ xs ys. (let p : BlockProof = record { spends = xs; hashes = ys } in sent lean p)) spends hashes

@@ -1,5 +1,5 @@
 -- What a bridge keeps, what it says of an event, what it passes on, and what it keeps then.
-use Rattle.std.specs.Prelude.{ℕ, zero, suc, ◌+◌, ◌*◌, nat_le, List, [], ◌∷◌, ◌++◌, map, take, length, sum_by, slice_get, Option, Some, None, is_some, option_map, unwrap_or, if◌then◌else◌}
+use Rattle.std.specs.Prelude.{false, ℕ, zero, suc, ◌+◌, ◌*◌, nat_le, List, [], ◌∷◌, ◌++◌, map, take, length, sum_by, slice_get, Option, Some, None, is_some, option_map, unwrap_or, if◌then◌else◌}
 use Rattle.uo_base.specs.declared.event.Limits.{Limits}
 use Rattle.uo_base.specs.declared.event.Net.{Net}
 use Rattle.uo_digest.specs.declared.digest.Digest.{Digest}
@@ -18,7 +18,7 @@ use Rattle.block_rules.specs.declared.refusal.Refusal.TheVariants as Why
 use Rattle.block_rules.specs.declared.verdict.Verdict.{Verdict}
 use Rattle.block_rules.specs.declared.verdict.Verdict.TheVariants.{Refused, TooDeep, Stray}
 use Rattle.block_rules.specs.Blocks.{external, new_records}
-use Rattle.node_rules.specs.Messages.{Message, number_of, targets}
+use Rattle.node_rules.specs.Messages.{Message, sent, number_of, targets}
 use Rattle.node_rules.specs.Judging.{Rules, refusal}
 use Rattle.node_rules.specs.Machine.{ChainEvent, BlockCame, RollbackCame, StrayCame, no_tip, verdict_by}
 use Rattle.node_rules.specs.Proving.{written_text}
@@ -137,7 +137,7 @@ next_bridge H text s StrayCame = s
 
 -- the number of the place of an entry
 abbrev pub target_of : List (Option Digest) → ℕ → ℕ
-target_of es i = unwrap_or (option_map (number_of (length es)) (entry_place es i)) 0
+target_of es i = unwrap_or (option_map number_of (entry_place es i)) 0
 
 abbrev pub spend_of : List (Option Digest) → ℕ → Leaf → Spend
 spend_of es i leaf = record { target = target_of es i; rest = leaf.rest }
@@ -149,12 +149,12 @@ spends_by es hs numbers = somes (map (λ i. option_map (spend_of es i) (leaf_at 
 abbrev pub proof_by : (List ℕ → Digest) → Option (List (List ℕ)) → List (Option Digest) → List Held → List ℕ → BlockProof
 proof_by H watch es hs numbers =
     let spends = spends_by es hs numbers in
-    let ts = targets (length es) (record { spends = spends; hashes = [] }) in
+    let ts = targets (length es) (sent false (record { spends = spends; hashes = [] })) in
     record { spends = spends; hashes = somes (map (λ p. digest_at H es p.row p.off) (asked (length es) ts (known_in H watch es hs))) }
 
 -- lean exactly where there is a list
 abbrev pub message_by : (List ℕ → Digest) → Option (List (List ℕ)) → List (Option Digest) → List Held → List ℕ → Message
-message_by H watch es hs numbers = record { lean = is_some watch; proof = proof_by H watch es hs numbers }
+message_by H watch es hs numbers = sent (is_some watch) (proof_by H watch es hs numbers)
 
 abbrev pub told_if : Option Refusal → Option (List ℕ) → Option (List ℕ)
 told_if None message = message

@@ -17,11 +17,11 @@ use Rattle.block_rules.specs.Money.{found_of}
 use Rattle.block_rules.specs.Steps.{first_of}
 use Rattle.cache_model.specs.Known.{is_known}
 use Rattle.cache_model.specs.Undo.{is_before_place}
-use Rattle.node_rules.specs.Messages.{Message, targets}
+use Rattle.node_rules.specs.Messages.{Message, sent, targets}
 use Rattle.node_rules.specs.Proving.{written_text}
 use Rattle.bridge_forest.specs.State as forest
 use Rattle.bridge_forest.specs.Proving.{proof_of}
-use Rattle.bridge_forest.specs.declared.branch.Sibling.{Sibling}
+use Rattle.bridge_forest.specs.declared.batch.Sibling.{Sibling}
 use Rattle.output_index.specs.Held.{Held, is_live, is_spent}
 use Rattle.reorg_undo.specs.Undo.{UndoRecord}
 use Rattle.bridge_prover.specs.Own.{newest_in, missing_in, leaves_in, own_in, numbered, spent_in, cut_in}
@@ -45,7 +45,7 @@ pub record AreFound (hs : List Held) (ext : List Outside) (numbers : List ℕ) (
 abbrev pub proof_beside : (List ℕ → Digest) → List Place → List (Option Digest) → List Held → List ℕ → BlockProof
 proof_beside H kept es hs numbers =
     let spends = spends_by es hs numbers in
-    let ts = targets (length es) (record { spends = spends; hashes = [] }) in
+    let ts = targets (length es) (sent false (record { spends = spends; hashes = [] })) in
     record { spends = spends; hashes = somes (map (λ p. digest_at H es p.row p.off) (filter (λ p. not (is_known (length es) kept p)) (need (length es) ts))) }
 
 -- the hashes of siblings, without those that are known where the kept entries stand at these places
@@ -54,7 +54,7 @@ hashes_unknown n kept siblings = map (λ s. s.digest) (filter (λ s. not (is_kno
 
 -- the message that a draft gives of these entries, of which spent has the same in ascending order
 abbrev pub drafted : (List ℕ → Digest) → List (Option Digest) → List ℕ → List ℕ → Draft → Message
-drafted H es numbers spent d = record { lean = d.lean; proof = record { spends = spends_of (map (target_of es) numbers) d.rests; hashes = hashes_unknown (length es) d.kept.targets (proof_of H es spent) } }
+drafted H es numbers spent d = sent d.lean (record { spends = spends_of (map (target_of es) numbers) d.rests; hashes = hashes_unknown (length es) d.kept.targets (proof_of H es spent) })
 
 -- it has the kept places of this forest, and a rest for each of these entries
 abbrev pub IsDraft : List (Option Digest) → List ℕ → Option Draft → Type 0

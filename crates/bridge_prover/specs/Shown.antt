@@ -40,7 +40,7 @@ fault_in H text es known ext m = proof_fault H text (record { n = length es; roo
 -- they accept it, it names these places, and these are the hashes of all places that its proof needs
 pub record IsChecked (H : List ℕ → Digest) (text : Leaf → List ℕ) (es : List (Option Digest)) (known : ℕ → ℕ → Option Digest) (ext : List Outside) (m : Message) (t : Targeted) (hashes : List Digest) : Type 0 where
   pub passes : fault_in H text es known ext m ≡ None
-  pub named : AreNamed (length es) m.proof t
+  pub named : AreNamed (length es) m t
   pub full : AreHashes m t known hashes
 
 -- the live entry at a place, if its output is the one that is claimed

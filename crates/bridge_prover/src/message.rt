@@ -4,7 +4,8 @@ ghost use Rattle.std.specs.List.{AllByRecursion, flat_map};
 ghost use Rattle.std.specs.List.Sorted.{IsNonDecreasing, IsPermutation};
 ghost use Rattle.uo_digest.specs.Reading.{IsDigest};
 ghost use Rattle.forest_place.specs.Forest.{InForest};
-ghost use Rattle.forest_place.specs.Position.{place_at};
+ghost use Rattle.forest_place.specs.declared.naming.Naming.TheVariants.{FixedPosition};
+ghost use Rattle.forest_place.specs.Named.{place_by};
 ghost use Rattle.forest_model.specs.EntryPlace.{entry_place};
 ghost use Rattle.node_rules.specs.Accepting.{shape_fault};
 ghost use Rattle.cache_model.specs.Known.{is_known as is_known_of};
@@ -15,19 +16,20 @@ ghost use Rattle.bridge_prover.specs.Judged.{IsDraft, drafted, hashes_unknown};
 
 use bridge_forest::{BatchProof, Forest, Sibling};
 use cache_update::is_known;
-use forest_place::{Place, position};
+use forest_place::{Place, fixed_position};
 use proof_shape::{ShapeFault, TargetPaths, Targets};
 use proof_wire::{Message, Rests};
 use std::alloc::{AllocError, Global};
 use uo_base::NoMemory;
 use uo_digest::{Digest, Digester};
 
-// The number of the place at which a live entry stands.
+// The fixed position of the place at which a live entry stands.
 pub(crate) fn target<D: Digester>(forest: &Forest<D>, number: u64) -> u64
     requires { is_live forest.now.entries number ≡ true }
     ensures { result ≡ target_of forest.now.entries number }
 {
-    position(forest.place(number), forest.leaves())
+    let _leaves = forest.leaves();
+    fixed_position(forest.place(number))
 }
 
 // The place at which a live entry stands. `spent` has entries in ascending order, and `places` has where each of them stands, so there it is
@@ -44,7 +46,7 @@ fn place_of<D: Digester>(forest: &Forest<D>, spent: &[u64], places: &[Place], nu
     }
 }
 
-// The numbers of the places at which these live entries stand. `spent` are the same entries, ascending, and `places` where they stand.
+// The fixed positions of the places at which these live entries stand. `spent` are the same entries, ascending, and `places` where they stand.
 fn targets_of<D: Digester>(
     alloc: Global,
     forest: &Forest<D>,
@@ -57,10 +59,11 @@ fn targets_of<D: Digester>(
     requires rise { IsNonDecreasing spent.now }
     ensures { IfOk result (λ targets. targets.items ≡ map (target_of forest.now.entries) numbers.now) }
 {
+    let _leaves = forest.leaves();
     let mut targets = Vec::with_capacity(alloc, numbers.len())?;
     for number in numbers {
         let place = place_of::<D>(forest, spent, places, *number);
-        targets.push(position(place, forest.leaves()))?;
+        targets.push(fixed_position(place))?;
     }
     Ok(targets)
 }
@@ -116,14 +119,14 @@ fn hashes_of(alloc: Global, kept: &Targets, proof: &BatchProof) -> Result<Vec<Di
     Ok(hashes)
 }
 
-// The targets at these positions, with their paths alone.
+// The targets at these fixed positions, with their paths alone.
 fn paths_at(alloc: Global, n: u64, positions: &[u64]) -> Result<TargetPaths, NoMemory>
     requires few { n < 2 ^ 40 }
     requires short { length positions.now < 2 ^ 32 }
-    requires shape { shape_fault n [] 0 (map (place_at n) positions.now) ≡ None }
-    ensures { IfOk result (λ t. (t.leaves ≡ n) × (map (place_at n) positions.now ≡ map Some t.targets)) }
+    requires shape { shape_fault n [] 0 (map (place_by FixedPosition n) positions.now) ≡ None }
+    ensures { IfOk result (λ t. (t.leaves ≡ n) × (map (place_by FixedPosition n) positions.now ≡ map Some t.targets)) }
 {
-    match TargetPaths::new(alloc, n, positions) {
+    match TargetPaths::new_fixed(alloc, n, positions) {
         Ok(paths) => Ok(paths),
         Err(ShapeFault::NoMemory) => Err(NoMemory),
         Err(ShapeFault::Outside(_)) => unreachable!(),
@@ -132,12 +135,12 @@ fn paths_at(alloc: Global, n: u64, positions: &[u64]) -> Result<TargetPaths, NoM
     }
 }
 
-// The targets at these positions.
+// The targets at these fixed positions.
 pub(crate) fn targets_at(alloc: Global, n: u64, positions: &[u64]) -> Result<Targets, NoMemory>
     requires few { n < 2 ^ 40 }
     requires short { length positions.now < 2 ^ 32 }
-    requires shape { shape_fault n [] 0 (map (place_at n) positions.now) ≡ None }
-    ensures { IfOk result (λ t. (t.leaves ≡ n) × (map (place_at n) positions.now ≡ map Some t.targets)) }
+    requires shape { shape_fault n [] 0 (map (place_by FixedPosition n) positions.now) ≡ None }
+    ensures { IfOk result (λ t. (t.leaves ≡ n) × (map (place_by FixedPosition n) positions.now ≡ map Some t.targets)) }
 {
     let paths = paths_at(alloc, n, positions)?;
     Ok(Targets::of(alloc, paths)?)

@@ -108,7 +108,7 @@ pub(crate) fn right_entries<D: Digester>(
     hashes: &[Digest],
 ) -> Result<Option<Vec<u64>>, NoMemory>
     requires count { length message.now.proof.spends ≡ length external.now }
-    requires named { AreNamed (length forest.now.entries) message.now.proof targets.now }
+    requires named { AreNamed (length forest.now.entries) message.now targets.now }
     requires many { length hashes.now ≡ length (need targets.now.leaves targets.now.targets) }
     ensures { IfOk result (λ numbers. IsShownBy D.digest_of leaf_text forest.now.entries outputs.now external.now message.now targets.now hashes.now numbers) }
 {

@@ -94,7 +94,7 @@ pub(crate) fn keep_held(noted: &mut Vec<u64>, outputs: &Outputs)
     noted.retain(|number| outputs.output(*number).is_some());
 }
 
-// The position of an entry, if it is live.
+// The fixed position of an entry's place, if it is live.
 fn put_position<D: Digester>(
     positions: &mut Vec<u64>,
     forest: &Forest<D>,

@@ -137,7 +137,7 @@ module _ (H : List ℕ → Digest) (long : (x : List ℕ) → IsDigest (H x)) (u
   n = length es
 
   abbrev ts : List Place
-  ts = targets n m.proof
+  ts = targets n m
 
   abbrev rs : List Leaf
   rs = claims ext m
@@ -229,7 +229,7 @@ module _ (H : List ℕ → Digest) (long : (x : List ℕ) → IsDigest (H x)) (u
         ∙ (sym (beside_slice [] ts (map leaf_text rs) i ready.shape.distinct long_list lt) ∙ ap (λ (q : Place). leaf_texts q.row q.off) e)
       where
         targets_count : length m.proof.spends ≡ length ts
-        targets_count = sym (length-named n m.proof.spends) ∙ (ap length ready.named_all ∙ length-map ts Some)
+        targets_count = sym (length-named n m) ∙ (ap length ready.named_all ∙ length-map ts Some)
 
     item_from : (item : CoveredPlace) → IsEvaluatedAt H n ts (leaves_of H leaf_text (points_of ext) m) ready.full item → IsItem item
     item_from item e = by_made e.beneath e.covered e.digest item.made refl e.made
@@ -284,7 +284,7 @@ module _ (H : List ℕ → Digest) (long : (x : List ℕ) → IsDigest (H x)) (u
 
     leaves_count : length (leaves_of H leaf_text (points_of ext) m) ≡ length ts
     leaves_count =
-        length-map rs (λ (l : Leaf). H (leaf_text l)) ∙ (claims-long ext m count ∙ (sym count ∙ (sym (length-named n m.proof.spends) ∙ (ap length ready.named_all ∙ length-map ts Some))))
+        length-map rs (λ (l : Leaf). H (leaf_text l)) ∙ (claims-long ext m count ∙ (sym count ∙ (sym (length-named n m) ∙ (ap length ready.named_all ∙ length-map ts Some))))
 
     -- the digest at a covered place, by its item
     root_is : DoRootsAgree H es items true → (row : ℕ) (c : Cover) → is_slot n row ≡ true → cover ts row (root_off n row) ≡ Some c → root H es row ≡ Some (V c)
@@ -373,7 +373,7 @@ module _ (H : List ℕ → Digest) (long : (x : List ℕ) → IsDigest (H x)) (u
     all_fit (l ∷ ls) h (suc j) d lt = all_fit ls h.1 j d (omega (arith, lt))
 
     abbrev RightBy : ℕ → Type 0
-    RightBy j = IsRight H leaf_text us (targets j m.proof) k rs hs
+    RightBy j = IsRight H leaf_text us (targets j m) k rs hs
 
     right : DoRootsAgree H es items true → AreCompared H es outputs ext m items None → RightBy n
     right agree compared =
@@ -388,7 +388,7 @@ module _ (H : List ℕ → Digest) (long : (x : List ℕ) → IsDigest (H x)) (u
 
     pub right_answer : DoRootsAgree H es items true → AreCompared H es outputs ext m items None → IsAnswer H us known (points_of ext) m None
     right_answer agree compared none =
-        (right_is_tested H leaf_text us known (points_of ext) m).1 (to_us RightBy (right agree compared), to_us (λ j. named j m.proof ≡ map Some (targets j m.proof)) ready.named_all, points_count)
+        (right_is_tested H leaf_text us known (points_of ext) m).1 (to_us RightBy (right agree compared), to_us (λ j. named j m ≡ map Some (targets j m)) ready.named_all, points_count)
 
     -- ---- which clash is found
 
@@ -527,7 +527,7 @@ module _ (H : List ℕ → Digest) (long : (x : List ℕ) → IsDigest (H x)) (u
               of_slot = to_us (λ j. content es node.row (root_off j node.row) ≡ Some node.tree) node.of_slot;
               listed = node.listed;
             });
-            of_proof = to_us (λ j. IsValueText H leaf_text j (targets j m.proof) k rs hs c.second) (subst (IsValueText H leaf_text n ts k rs hs) (sym second) (record {
+            of_proof = to_us (λ j. IsValueText H leaf_text j (targets j m) k rs hs c.second) (subst (IsValueText H leaf_text n ts k rs hs) (sym second) (record {
               row = covered.row;
               covered = covered.covered;
               slot = covered.slot;
@@ -592,13 +592,13 @@ module _ (H : List ℕ → Digest) (long : (x : List ℕ) → IsDigest (H x)) (e
   pub targets_within : (items : List CoveredPlace) → IsReady H (length es0) ext known m items → (i : ℕ) (d : CoveredPlace) → i < length items → IsWithin (length ext) (get_or items i d).made
   targets_within items ready i d lt = by_made (get_or items i d) (ready.evaluated.each i d lt)
     where
-      few : length (targets (length es0) m.proof) ≡ length ext
-      few = sym (length-map (targets (length es0) m.proof) Some) ∙ (ap length (sym ready.named_all) ∙ (length-named (length es0) m.proof.spends ∙ count))
+      few : length (targets (length es0) m) ≡ length ext
+      few = sym (length-map (targets (length es0) m) Some) ∙ (ap length (sym ready.named_all) ∙ (length-named (length es0) m ∙ count))
 
-      by_made : (item : CoveredPlace) → IsEvaluatedAt H (length es0) (targets (length es0) m.proof) (leaves_of H leaf_text (points_of ext) m) ready.full item → IsWithin (length ext) item.made
+      by_made : (item : CoveredPlace) → IsEvaluatedAt H (length es0) (targets (length es0) m) (leaves_of H leaf_text (points_of ext) m) ready.full item → IsWithin (length ext) item.made
       by_made item e = at e.beneath item.made e.made
         where
-          at : (c : Cover) (made : Made) → IsMade H (length es0) (targets (length es0) m.proof) (leaves_of H leaf_text (points_of ext) m) ready.full item.place c made → IsWithin (length ext) made
+          at : (c : Cover) (made : Made) → IsMade H (length es0) (targets (length es0) m) (leaves_of H leaf_text (points_of ext) m) ready.full item.place c made → IsWithin (length ext) made
           at (target a b) (Target j) h = let l = h.0 in omega (arith, l, few)
           at (target a b) (Halves x y) h = tt
           at (given a b) (Target j) h = absurd h

@@ -8,7 +8,6 @@ use Rattle.forest_place.specs.declared.place.Place.{Place}
 use Rattle.forest_model.specs.Cover.{need, HasShape}
 use Rattle.leaf_record.specs.Leaf.{LeafFits, leaf_text}
 use Rattle.leaf_record.specs.History.{somes}
-use Rattle.proof_wire.specs.BlockProof.{BlockProof}
 use Rattle.proof_shape.specs.Targeted.{Targeted}
 use Rattle.proof_verify.specs.Evaluation.{AreEvaluatedAt}
 use Rattle.proof_verify.specs.declared.evaluation.CoveredPlace.{CoveredPlace}
@@ -26,26 +25,26 @@ use Rattle.clash_find.specs.Texts.{claims}
 use Rattle.clash_find.specs.Searched.{IsReady}
 use Rattle.clash_find.proofs.Claiming.{claims-long}
 
-targets_refused : (n : ℕ) (p : BlockProof) (why : Refusal) → TargetsJudged n p (Err (Refused why)) → shape_fault n [] 0 (named n p) ≢ None
-targets_refused n p Why.Block h e = h
-targets_refused n p Why.Link h e = h
-targets_refused n p Why.MerkleRoot h e = h
-targets_refused n p (Why.MerkleRepeated level place) h e = h
-targets_refused n p (Why.Witness f) h e = h
-targets_refused n p (Why.Weight w) h e = h
-targets_refused n p (Why.Coinbase t) h e = h
-targets_refused n p (Why.Value t) h e = h
-targets_refused n p (Why.Double t i) h e = h
-targets_refused n p Why.Full h e = h
-targets_refused n p Why.NoProof h e = h
-targets_refused n p Why.MessageForm h e = h
-targets_refused n p (Why.MessageVersion v) h e = h
-targets_refused n p (Why.Spends got want) h e = h
-targets_refused n p (Why.Proof fault) h e = none-some _ (sym e ∙ h)
-targets_refused n p (Why.Missing t i) h e = h
-targets_refused n p (Why.Immature t i) h e = h
-targets_refused n p (Why.Overspend t) h e = h
-targets_refused n p (Why.Subsidy c a) h e = h
+targets_refused : (n : ℕ) (m : Message) (why : Refusal) → TargetsJudged n m (Err (Refused why)) → shape_fault n [] 0 (named n m) ≢ None
+targets_refused n m Why.Block h e = h
+targets_refused n m Why.Link h e = h
+targets_refused n m Why.MerkleRoot h e = h
+targets_refused n m (Why.MerkleRepeated level place) h e = h
+targets_refused n m (Why.Witness f) h e = h
+targets_refused n m (Why.Weight w) h e = h
+targets_refused n m (Why.Coinbase t) h e = h
+targets_refused n m (Why.Value t) h e = h
+targets_refused n m (Why.Double t i) h e = h
+targets_refused n m Why.Full h e = h
+targets_refused n m Why.NoProof h e = h
+targets_refused n m Why.MessageForm h e = h
+targets_refused n m (Why.MessageVersion v) h e = h
+targets_refused n m (Why.Spends got want) h e = h
+targets_refused n m (Why.Proof fault) h e = none-some _ (sym e ∙ h)
+targets_refused n m (Why.Missing t i) h e = h
+targets_refused n m (Why.Immature t i) h e = h
+targets_refused n m (Why.Overspend t) h e = h
+targets_refused n m (Why.Subsidy c a) h e = h
 
 hashes_refused : (m : Message) (t : Targeted) (known : ℕ → ℕ → Option Digest) (why : Refusal) → HashesJudged m t known (Err (Refused why)) → (want : ℕ) × (got : ℕ) × IsOtherCount m t known want got
 hashes_refused m t known Why.Block h = absurd h
@@ -81,44 +80,44 @@ targeted : (t : Targeted) (n : ℕ) (ts : List Place) → t.leaves ≡ n → t.t
 targeted t n ts a b = ap₂ (λ (k : ℕ) (ps : List Place). let x : Targeted = record { leaves = k; targets = ps } in x) a b
 
 -- the targets are those of the message
-pub targets_are : (n : ℕ) (p : BlockProof) (t : Targeted) → AreNamed n p t → t ≡ record { leaves = n; targets = targets n p }
-targets_are n p t a = targeted t n (targets n p) a.leaves (sym (somes-map t.targets) ∙ ap somes (sym a.places))
+pub targets_are : (n : ℕ) (m : Message) (t : Targeted) → AreNamed n m t → t ≡ record { leaves = n; targets = targets n m }
+targets_are n m t a = targeted t n (targets n m) a.leaves (sym (somes-map t.targets) ∙ ap somes (sym a.places))
 
-pub named_all : (n : ℕ) (p : BlockProof) (t : Targeted) → AreNamed n p t → named n p ≡ map Some (targets n p)
-named_all n p t a = a.places ∙ ap (map Some) (sym (somes-map t.targets) ∙ ap somes (sym a.places))
+pub named_all : (n : ℕ) (m : Message) (t : Targeted) → AreNamed n m t → named n m ≡ map Some (targets n m)
+named_all n m t a = a.places ∙ ap (map Some) (sym (somes-map t.targets) ∙ ap somes (sym a.places))
 
 module _ (H : List ℕ → Digest) (n : ℕ) (ext : List Outside) (m : Message) (known : ℕ → ℕ → Option Digest) (roots : ℕ → Option Digest) where
   abbrev view : View
   view = record { n = n; roots = roots; known = known }
 
-  pub no_shape : (why : Refusal) → TargetsJudged n m.proof (Err (Refused why)) → proof_fault H leaf_text view (points_of ext) m ≢ None
-  no_shape why h e = targets_refused n m.proof why h (option_or-none (shape_fault n [] 0 (named n m.proof)) _ e).0
+  pub no_shape : (why : Refusal) → TargetsJudged n m (Err (Refused why)) → proof_fault H leaf_text view (points_of ext) m ≢ None
+  no_shape why h e = targets_refused n m why h (option_or-none (shape_fault n [] 0 (named n m)) _ e).0
 
-  pub no_count : (t : Targeted) (why : Refusal) → length m.proof.spends ≡ length ext → AreNamed n m.proof t → HashesJudged m t known (Err (Refused why)) → proof_fault H leaf_text view (points_of ext) m ≢ None
+  pub no_count : (t : Targeted) (why : Refusal) → length m.proof.spends ≡ length ext → AreNamed n m t → HashesJudged m t known (Err (Refused why)) → proof_fault H leaf_text view (points_of ext) m ≢ None
   no_count t why count a h e =
       let w = hashes_refused m t known why h in
-      let o = subst (λ (x : Targeted). IsOtherCount m x known w.0 w.1) (targets_are n m.proof t a) w.2 in
+      let o = subst (λ (x : Targeted). IsOtherCount m x known w.0 w.1) (targets_are n m t a) w.2 in
       let acc = accepted H leaf_text view (points_of ext) m (count ∙ sym (length-map ext point_of)) e in
       o.differ (o.got_is ∙ (acc.0.one_hash_each ∙ sym o.want_is))
 
 -- ---- what the calls on the way ask for, and what they give
 
-pub targets_long : (n : ℕ) (p : BlockProof) (t : Targeted) → AreNamed n p t → length t.targets ≡ length p.spends
-targets_long n p t a = sym (length-map t.targets Some) ∙ (ap length (sym a.places) ∙ length-named n p.spends)
+pub targets_long : (n : ℕ) (m : Message) (t : Targeted) → AreNamed n m t → length t.targets ≡ length m.proof.spends
+targets_long n m t a = sym (length-map t.targets Some) ∙ (ap length (sym a.places) ∙ length-named n m)
 
-pub leaves_long : (H : List ℕ → Digest) (n : ℕ) (ext : List Outside) (m : Message) (t : Targeted) (leaves seen : List Digest) → length m.proof.spends ≡ length ext → AreNamed n m.proof t → seen ≡ leaves → leaves ≡ leaves_of H leaf_text (points_of ext) m → length seen ≡ length t.targets
+pub leaves_long : (H : List ℕ → Digest) (n : ℕ) (ext : List Outside) (m : Message) (t : Targeted) (leaves seen : List Digest) → length m.proof.spends ≡ length ext → AreNamed n m t → seen ≡ leaves → leaves ≡ leaves_of H leaf_text (points_of ext) m → length seen ≡ length t.targets
 leaves_long H n ext m t leaves seen count a same is =
-    ap length (same ∙ is) ∙ (length-map (claims ext m) (λ leaf. H (leaf_text leaf)) ∙ (claims-long ext m count ∙ (sym count ∙ sym (targets_long n m.proof t a))))
+    ap length (same ∙ is) ∙ (length-map (claims ext m) (λ leaf. H (leaf_text leaf)) ∙ (claims-long ext m count ∙ (sym count ∙ sym (targets_long n m t a))))
 
 pub hashes_long : (H : List ℕ → Digest) (m : Message) (t : Targeted) (known : ℕ → ℕ → Option Digest) (hashes seen : List Digest) → seen ≡ hashes → AreHashes m t known hashes → length seen ≡ length (need t.leaves t.targets)
 hashes_long H m t known hashes seen same a = ap length (same ∙ a.hashes_are H) ∙ length-map (need t.leaves t.targets) _
 
-pub is_ready : (H : List ℕ → Digest) (n : ℕ) (ext : List Outside) (known : ℕ → ℕ → Option Digest) (m : Message) (t : Targeted) (leaves leaves' hashes hashes' : List Digest) (items : List CoveredPlace) → AreNamed n m.proof t → HasShape t.leaves t.targets →
+pub is_ready : (H : List ℕ → Digest) (n : ℕ) (ext : List Outside) (known : ℕ → ℕ → Option Digest) (m : Message) (t : Targeted) (leaves leaves' hashes hashes' : List Digest) (items : List CoveredPlace) → AreNamed n m t → HasShape t.leaves t.targets →
     leaves' ≡ leaves → leaves ≡ leaves_of H leaf_text (points_of ext) m → hashes' ≡ hashes → AreHashes m t known hashes → AllByRecursion LeafFits (claims ext m) → AreEvaluatedAt H t.leaves t.targets leaves' hashes' items → IsReady H n ext known m items
 is_ready H n ext known m t leaves leaves' hashes hashes' items a shape same is same' are fit evaluated =
-    let e = targets_are n m.proof t a in
+    let e = targets_are n m t a in
     record {
-      named_all = named_all n m.proof t a;
+      named_all = named_all n m t a;
       shape = subst (λ (x : Targeted). HasShape x.leaves x.targets) e shape;
       full = hashes;
       hashes = subst (λ (x : Targeted). AreHashes m x known hashes) e are;

@@ -25,7 +25,7 @@ view_over H us known = record { n = length us; roots = root H (entries H leaf_te
 -- two different texts with one digest: a node's of the forest, and one that the message's proof digests
 pub record IsClash (H : List ℕ → Digest) (us : History) (known : ℕ → ℕ → Option Digest) (points : List Outpoint) (m : Message) (c : TextClash) : Type 0 where
   pub of_forest : IsNodeText H leaf_text us c.first
-  pub of_proof : IsValueText H leaf_text (length us) (targets (length us) m.proof) (known_to m.lean known) (claimed points (rests_of m.proof.spends)) m.proof.hashes c.second
+  pub of_proof : IsValueText H leaf_text (length us) (targets (length us) m) (known_to m.lean known) (claimed points (rests_of m.proof.spends)) m.proof.hashes c.second
   pub differ : c.first ≢ c.second
   pub first_is : H c.first ≡ c.digest
   pub second_is : H c.second ≡ c.digest

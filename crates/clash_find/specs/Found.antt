@@ -19,11 +19,11 @@ use Rattle.clash_find.specs.Texts.{claims, text_at}
 
 -- the leaf text that a message claims at a target
 abbrev pub claimed_at : ℕ → List Outside → Message → ℕ → ℕ → List ℕ
-claimed_at n ext m = beside [] (targets n m.proof) (map leaf_text (claims ext m))
+claimed_at n ext m = beside [] (targets n m) (map leaf_text (claims ext m))
 
 -- what its proof comes to for a cover
 abbrev pub digest_for : (List ℕ → Digest) → ℕ → (ℕ → ℕ → Option Digest) → List Outside → Message → Cover → Digest
-digest_for H n known ext m c = value H (λ r o. H (claimed_at n ext m r o)) (hash_of H n (targets n m.proof) (known_to m.lean known) m.proof.hashes) c
+digest_for H n known ext m c = value H (λ r o. H (claimed_at n ext m r o)) (hash_of H n (targets n m) (known_to m.lean known) m.proof.hashes) c
 
 -- the text that has this digest
 abbrev pub text_for : (List ℕ → Digest) → ℕ → (ℕ → ℕ → Option Digest) → List Outside → Message → Cover → List ℕ
@@ -42,7 +42,7 @@ clash_over H es outputs known ext m p c =
     if is_digest d (digest_at H es p.row p.off) then option_and_then (λ x. differing x (text_for H (length es) known ext m c) d) (text_at H es outputs p.row p.off) else None
 
 abbrev pub clash_at : (List ℕ → Digest) → List (Option Digest) → List Held → (ℕ → ℕ → Option Digest) → List Outside → Message → Place → Option TextClash
-clash_at H es outputs known ext m p = option_and_then (clash_over H es outputs known ext m p) (cover (targets (length es) m.proof) p.row p.off)
+clash_at H es outputs known ext m p = option_and_then (clash_over H es outputs known ext m p) (cover (targets (length es) m) p.row p.off)
 
 -- nothing where the roots do not accept the message
 abbrev pub clash_in : (List ℕ → Digest) → List (Option Digest) → List Held → (ℕ → ℕ → Option Digest) → List Outside → Message → Option TextClash

@@ -19,12 +19,12 @@ use Rattle.clash_find.specs.Texts.{claims, text_at, made_text, AreDigests}
 
 -- what the proof in a message comes to at each covered place of the forest over n
 pub record IsReady (H : List ℕ → Digest) (n : ℕ) (ext : List Outside) (known : ℕ → ℕ → Option Digest) (m : Message) (items : List CoveredPlace) : Type 0 where
-  pub named_all : named n m.proof ≡ map Some (targets n m.proof)
-  pub shape : HasShape n (targets n m.proof)
+  pub named_all : named n m ≡ map Some (targets n m)
+  pub shape : HasShape n (targets n m)
   pub full : List Digest
-  pub hashes : AreHashes m (record { leaves = n; targets = targets n m.proof }) known full
+  pub hashes : AreHashes m (record { leaves = n; targets = targets n m }) known full
   pub fit : AllByRecursion LeafFits (claims ext m)
-  pub evaluated : AreEvaluatedAt H n (targets n m.proof) (leaves_of H leaf_text (points_of ext) m) full items
+  pub evaluated : AreEvaluatedAt H n (targets n m) (leaves_of H leaf_text (points_of ext) m) full items
 
 -- or no roots accept the message
 abbrev pub IsEvaluated : (List ℕ → Digest) → ℕ → List Outside → (ℕ → ℕ → Option Digest) → Message → Option (Vec CoveredPlace) → Type 0

@@ -9,7 +9,7 @@ use Rattle.uo_digest.specs.declared.digest.Digest.{Digest}
 use Rattle.forest_place.specs.declared.place.Place.{Place}
 use Rattle.forest_place.specs.Forest.{root_off}
 use Rattle.forest_place.specs.Places.{places}
-use Rattle.forest_place.specs.Position.{place_at, rows}
+use Rattle.forest_place.specs.Position.{rows}
 use Rattle.forest_model.specs.Cover.{is_needed, need}
 use Rattle.forest_model.specs.Evaluation.{IsAccepted, asked, hash_of, nothing_known}
 use Rattle.forest_roots.specs.Stump.{Stump, IsStump, root_in}
@@ -29,6 +29,7 @@ use Rattle.block_rules.specs.declared.refusal.Refusal.TheVariants as Why
 use Rattle.block_rules.specs.declared.refusal.ProofRefusal.{ProofRefusal}
 use Rattle.block_rules.specs.declared.refusal.ProofRefusal.TheVariants as Fault
 use Rattle.block_rules.specs.Steps.{first_of}
+use Rattle.forest_place.specs.Named.{place_by}
 use Rattle.node_rules.specs.Messages.{Message, in_full, named, targets, points_of, known_to}
 use Rattle.node_rules.specs.Accepting.{View, shape_fault, leaves_of, proof_fault}
 use Rattle.node_rules.specs.Reading.{Handed, nothing, unread, read, handed_in}
@@ -55,12 +56,12 @@ somes-map [] = refl
 somes-map (x ∷ xs) = ap (λ ys. x ∷ ys) (somes-map xs)
 
 -- the targets are those of the message
-pub targets_are : (n : ℕ) (p : BlockProof) (t : Targeted) → AreNamed n p t → t ≡ record { leaves = n; targets = targets n p }
-targets_are n p t a =
+pub targets_are : (n : ℕ) (m : Message) (t : Targeted) → AreNamed n m t → t ≡ record { leaves = n; targets = targets n m }
+targets_are n m t a =
     ap₂ (λ (k : ℕ) (ps : List Place). let x : Targeted = record { leaves = k; targets = ps } in x) a.leaves (sym (somes-map t.targets) ∙ ap somes (sym a.places))
 
-named_all : (n : ℕ) (p : BlockProof) (t : Targeted) → AreNamed n p t → named n p ≡ map Some (targets n p)
-named_all n p t a = a.places ∙ ap (map Some) (sym (somes-map t.targets) ∙ ap somes (sym a.places))
+named_all : (n : ℕ) (m : Message) (t : Targeted) → AreNamed n m t → named n m ≡ map Some (targets n m)
+named_all n m t a = a.places ∙ ap (map Some) (sym (somes-map t.targets) ∙ ap somes (sym a.places))
 
 filter-all : {X : Type 0} (xs : List X) → filter (λ x. true) xs ≡ xs
 filter-all [] = refl
@@ -82,10 +83,10 @@ module _ (H : List ℕ → Digest) (text : Leaf → List ℕ) (v : View) (ext : 
   abbrev IsFaulted : RuleFault → Type 0
   IsFaulted e = IsFirst (option_map Why.Proof fault) e
 
-  shape_first : (e : ProofRefusal) → shape_fault v.n [] 0 (named v.n m.proof) ≡ Some e → fault ≡ Some e
+  shape_first : (e : ProofRefusal) → shape_fault v.n [] 0 (named v.n m) ≡ Some e → fault ≡ Some e
   shape_first e h = rw h refl
 
-  pub targets_told : (e : RuleFault) → TargetsJudged v.n m.proof (Err e) → IsFaulted e
+  pub targets_told : (e : RuleFault) → TargetsJudged v.n m (Err e) → IsFaulted e
   targets_told NoMemory h = tt
   targets_told (Refused Why.Block) h = absurd h
   targets_told (Refused Why.Link) h = absurd h
@@ -107,11 +108,11 @@ module _ (H : List ℕ → Digest) (text : Leaf → List ℕ) (v : View) (ext : 
   targets_told (Refused (Why.Overspend x)) h = absurd h
   targets_told (Refused (Why.Subsidy c a)) h = absurd h
 
-  module _ (t : Targeted) (judged : AreNamed v.n m.proof t) where
+  module _ (t : Targeted) (judged : AreNamed v.n m t) where
     other_count : (want got : ℕ) → IsOtherCount m t v.known want got → fault ≡ Some (Fault.HashCount want got)
     other_count want got o =
-        let e = targets_are v.n m.proof t judged in
-        let wanted : want ≡ length (asked v.n (targets v.n m.proof) (known_to m.lean v.known)) = o.want_is ∙ ap (λ (x : Targeted). length (asked x.leaves x.targets (known_to m.lean v.known))) e in
+        let e = targets_are v.n m t judged in
+        let wanted : want ≡ length (asked v.n (targets v.n m) (known_to m.lean v.known)) = o.want_is ∙ ap (λ (x : Targeted). length (asked x.leaves x.targets (known_to m.lean v.known))) e in
         count_told H text v (points_of ext) m judged.passes (λ same. o.differ (o.got_is ∙ (same ∙ sym wanted)))
         ∙ ap₂ (λ a b. Some (Fault.HashCount a b)) (sym wanted) (sym o.got_is)
 
@@ -157,47 +158,47 @@ module _ (H : List ℕ → Digest) (text : Leaf → List ℕ) (f : Stump) (hs : 
   p = m.proof
 
   abbrev ts : List Place
-  ts = targets f.leaves p
+  ts = targets f.leaves m
 
   -- the message with the hashes of all needed places
-  abbrev full : BlockProof
-  full = record { spends = p.spends; hashes = hashes }
+  abbrev full : Message
+  full = in_full m hashes
 
   module _ (c : IsFilledOut H text v ext m t leaves hashes) where
     same_targets : t ≡ record { leaves = f.leaves; targets = ts }
-    same_targets = targets_are f.leaves p t c.named
+    same_targets = targets_are f.leaves m t c.named
 
     read_hashes : hashes ≡ hashes_over H v m
     read_hashes = c.filled.hashes_are H ∙ ap (λ (x : Targeted). map (λ q. hash_of H x.leaves x.targets (known_to m.lean v.known) p.hashes q.row q.off) (need x.leaves x.targets)) same_targets
 
-    same_leaves : leaves ≡ leaves_of H text (points_of ext) (in_full full)
+    same_leaves : leaves ≡ leaves_of H text (points_of ext) full
     same_leaves = c.leaves_are
 
     read_count : length t.targets ≡ length ext
     read_count =
         sym (length-map t.targets Some)
-        ∙ (ap length (sym c.named.places) ∙ (length-map (targets_of p.spends) (place_at f.leaves) ∙ (length-map p.spends (λ s. s.target) ∙ c.count)))
+        ∙ (ap length (sym c.named.places) ∙ (length-map (targets_of p.spends) (place_by m.naming f.leaves) ∙ (length-map p.spends (λ s. s.target) ∙ c.count)))
 
     read_leaves : length leaves ≡ length t.targets
     read_leaves = ap length same_leaves ∙ (leaves-long H text ext full c.count ∙ sym read_count)
 
     -- it is judged as in full
-    serves : proof_fault H text v (points_of ext) m ≡ proof_fault H text v (points_of ext) (in_full full)
+    serves : proof_fault H text v (points_of ext) m ≡ proof_fault H text v (points_of ext) full
     serves = same_fault H text v (points_of ext) m hashes (subst (λ x. AreHashes m x v.known hashes) same_targets c.filled)
 
     all_asked : length (asked f.leaves ts nothing_known) ≡ length (need f.leaves ts)
     all_asked = ap length (filter-all (need f.leaves ts))
 
     -- a fault of the proof is that of the message
-    full_fault : (fault : ProofFault) → IsProofFault H f ts leaves hashes fault → proof_fault H text v (points_of ext) (in_full full) ≡ Some (proof_refusal fault)
+    full_fault : (fault : ProofFault) → IsProofFault H f ts leaves hashes fault → proof_fault H text v (points_of ext) full ≡ Some (proof_refusal fault)
     full_fault (Found.HashCount want got) (wanted, given, other) =
         let w : length (asked f.leaves ts nothing_known) ≡ want = all_asked ∙ sym wanted in
-        count_told H text v (points_of ext) (in_full full) c.named.passes (λ e. other (given ∙ (e ∙ w)))
+        count_told H text v (points_of ext) full c.named.passes (λ e. other (given ∙ (e ∙ w)))
         ∙ ap₂ (λ a b. Some (Fault.HashCount a b)) w (sym given)
     full_fault (Found.EmptyRoot row) (count, greatest) =
-        empty_told H text v (points_of ext) (in_full full) c.named.passes row (count ∙ sym all_asked) greatest
+        empty_told H text v (points_of ext) full c.named.passes row (count ∙ sym all_asked) greatest
     full_fault (Found.RootDiffers row had computed) (count, never, greatest, was, is) =
-        other_told H text v (points_of ext) (in_full full) c.named.passes row (count ∙ sym all_asked) never
+        other_told H text v (points_of ext) full c.named.passes row (count ∙ sym all_asked) never
         (subst (λ xs. IsGreatest f.leaves ts (λ row c. root_in f row ≢ Some (evaluation H f.leaves ts nothing_known xs hashes c)) row) same_leaves greatest)
 
     read_fault : (fault : ProofFault) → IsProofFault H f t.targets leaves hashes fault → proof_fault H text v (points_of ext) m ≡ Some (proof_refusal fault)
@@ -206,9 +207,9 @@ module _ (H : List ℕ → Digest) (text : Leaf → List ℕ) (f : Stump) (hs : 
     read_passes : IsAccepted H f.leaves (root_in f) t.targets nothing_known leaves hashes → proof_fault H text v (points_of ext) m ≡ None
     read_passes a =
         serves
-        ∙ passes H text v (points_of ext) (in_full full)
+        ∙ passes H text v (points_of ext) full
         (subst (λ xs. IsAccepted H f.leaves (root_in f) ts nothing_known xs hashes) same_leaves (subst (λ (x : Targeted). IsAccepted H f.leaves (root_in f) x.targets nothing_known leaves hashes) same_targets a))
-        (named_all f.leaves p t c.named)
+        (named_all f.leaves m t c.named)
 
 -- ---- of whatever was handed in
 

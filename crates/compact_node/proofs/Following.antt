@@ -1,5 +1,5 @@
 -- A node from its start follows what the proving node passes on.
-use Rattle.std.proofs.Common.{ℕ, ◌<◌, ◌≤◌, ◌^◌, List, [], Option, ◌∙◌, subst}
+use Rattle.std.proofs.Common.{ℕ, ◌<◌, ◌≤◌, ◌^◌, List, [], Option, ◌∙◌, subst, arith}
 use Rattle.uo_base.specs.declared.event.Limits.{Limits}
 use Rattle.uo_base.specs.declared.event.Net.{Net}
 use Rattle.uo_digest.specs.declared.digest.Digest.{Digest}
@@ -7,6 +7,7 @@ use Rattle.leaf_record.specs.Leaf.{Leaf}
 use Rattle.node_rules.specs.Judging.{Rules}
 use Rattle.node_rules.specs.Laws.{Serves}
 use Rattle.node_rules.specs.Machine.{ChainEvent, start, proof_feed}
+use Rattle.node_rules.proofs.Within.{start_within}
 use Rattle.node_rules.proofs.Following.{followed}
 use Rattle.compact_node.specs.Node.{Stands, fresh_node}
 use Rattle.compact_node.specs.Throughout.{node_after}
@@ -20,6 +21,6 @@ fresh_follows_proving H text net limits scripts few short watch serves events =
     let rules : Rules = record { net = net; limits = limits } in
     let s = fresh_node net limits scripts in
     let feed = proof_feed H text watch rules start events in
-    let f = followed H text watch scripts serves rules start events in
+    let f = followed H text watch scripts serves rules (omega (arith, few)) start (start_within rules) events in
     let a = (fresh_is_full H text net limits scripts few short feed [] f.2).0 in
     record { honest = f.2; said = a.said ∙ f.0; stands = subst (λ t. Stands H text t (node_after H text s feed)) f.1 a.stands }

@@ -84,9 +84,9 @@ module _ (H : List ℕ → Digest) (text : Leaf → List ℕ) (scripts : List (L
   abbrev hashes_by : ℕ → (ℕ → ℕ → Option Digest) → Message → List Digest
   hashes_by n known m = hashes_over H (record { n = n; roots = λ row. None; known = known }) m
 
-  message_right : (points : List Outside) (m : Message) → is_right H text us (known_at H text scripts us) (points_of points) m ≡ true → AreRight H es (targets (length us) m.proof) (hashes_by (length us) (known_at H text scripts us) m)
+  message_right : (points : List Outside) (m : Message) → is_right H text us (known_at H text scripts us) (points_of points) m ≡ true → AreRight H es (targets (length us) m) (hashes_by (length us) (known_at H text scripts us) m)
   message_right points m h r o within needed =
-      let ts = targets (length us) m.proof in
+      let ts = targets (length us) m in
       let known = known_to m.lean (known_at H text scripts us) in
       let shown = ((right_is_tested H text us (known_at H text scripts us) (points_of points) m).0 h).0.shown in
       let shown' : map Some m.proof.hashes ≡ map (λ p. digest_at H es p.row p.off) (asked (length es) ts known) = subst (λ k. map Some m.proof.hashes ≡ map (λ p. digest_at H es p.row p.off) (asked k ts known)) (sym count) shown in
@@ -105,12 +105,12 @@ module _ (H : List ℕ → Digest) (text : Leaf → List ℕ) (scripts : List (L
     spending nothing h = record { at = tt; right = λ r o within needed. absurd (false≢true (sym (needed-none (length es) r o) ∙ needed)) }
     spending (unread why) h = record { at = tt; right = λ r o within needed. absurd (false≢true (sym (needed-none (length es) r o) ∙ needed)) }
     spending (read m) h =
-        let base : IsSpending H es (targets (length us) m.proof) (entries_shown H text us (read m)) (hashes_by (length us) (known_at H text scripts us) m) = record {
+        let base : IsSpending H es (targets (length us) m) (entries_shown H text us (read m)) (hashes_by (length us) (known_at H text scripts us) m) = record {
           at = right_stands H text us scripts (points_of ext) m h;
           right = message_right ext m h;
         } in
-        subst (λ k. IsSpending H es (targets l.roots.leaves m.proof) (entries_shown H text us (read m)) (hashes_by l.roots.leaves k m)) (sym knows)
-        (subst (λ n. IsSpending H es (targets n m.proof) (entries_shown H text us (read m)) (hashes_by n (known_at H text scripts us) m)) (sym as_long) base)
+        subst (λ k. IsSpending H es (targets l.roots.leaves m) (entries_shown H text us (read m)) (hashes_by l.roots.leaves k m)) (sym knows)
+        (subst (λ n. IsSpending H es (targets n m) (entries_shown H text us (read m)) (hashes_by n (known_at H text scripts us) m)) (sym as_long) base)
 
     module _ (stump : IsStump l.roots) (handed : Handed) (right : is_right_message H text scripts us ext handed ≡ true) where
       abbrev ts : List Place

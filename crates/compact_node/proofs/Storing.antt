@@ -15,7 +15,7 @@ use Rattle.leaf_cache.specs.Watched.{AreWatched}
 use Rattle.block_rules.specs.declared.chain.Chain.{Chain}
 use Rattle.node_rules.specs.Judging.{Rules}
 use Rattle.node_rules.specs.Machine.{Level, State}
-use Rattle.state_text.specs.Stored.{LevelValue, StateValue, state_text}
+use Rattle.state_text.specs.Stored.{LevelValue, StateValue, IsTextOf}
 use Rattle.state_text.specs.OfHistory.{AreChained, IsHistory, level_of, state_of}
 use Rattle.state_text.specs.Cached.{StandsForLevel, level_in}
 use Rattle.state_text.proofs.CacheLaws.{standing_is_stored, stored_is_standing}
@@ -70,12 +70,12 @@ all_few : (blocks most bound : ℕ) (ms : List Level) → most < bound → AreCh
 all_few blocks most bound [] few chained = tt
 all_few blocks most bound (m ∷ ms) few chained = (omega (arith, few, chained.0.within), all_few (blocks - 1) (length m.history) bound ms (omega (arith, few, chained.0.within)) chained.1)
 
-pub written_comes_back : (H : List ℕ → Digest) (net : Net) (scripts : List (List ℕ)) (t : State) (s : NodeState) → ((x : List ℕ) → IsDigest (H x)) → AreWatched scripts →
-    IsNode s → IsHistory s.rules.limits.leaves t → IsReadAs H (state_text (state_of H net scripts t)) s → IsBack H net scripts t s
-written_comes_back H net scripts t s digests watched is history read =
+pub written_comes_back : (H : List ℕ → Digest) (net : Net) (scripts : List (List ℕ)) (t : State) (text : List ℕ) (s : NodeState) → ((x : List ℕ) → IsDigest (H x)) → AreWatched scripts →
+    IsNode s → IsHistory s.rules.limits.leaves t → IsTextOf (state_of H net scripts t) text → IsReadAs H text s → IsBack H net scripts t s
+written_comes_back H net scripts t text s digests watched is history of read =
     let most = s.rules.limits.leaves in
     let whole = history_has_state H net scripts most t digests is.few watched history in
-    let same : state_of H net scripts t ≡ stored_state s = one_state H most (state_of H net scripts t) (stored_state s) is.few whole read.state read.is in
+    let same : state_of H net scripts t ≡ stored_state s = one_state H most text (state_of H net scripts t) (stored_state s) is.few whole read.state of read.is in
     let blocks : s.newest.chain.blocks ≡ t.now.blocks = ap (λ (v : StateValue). v.blocks) (sym same) in
     let z = stored_is_standing H net scripts t (cached_state s) (all_few t.now.blocks most (2 ^ 40) (t.now ∷ t.older) is.few history.levels) (sym same) read.filled in
     let names : s.scripts ≡ scripts = ap (λ (v : StateValue). v.scripts) (sym same) in

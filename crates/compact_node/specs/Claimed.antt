@@ -30,9 +30,9 @@ WatchesNothing s = (s.scripts ≡ []) × (s.newest.kept ≡ []) × (s.newest.hel
 
 -- of a message, over n entries of which some digests are known, the targets have shape, and these are the hashes of all needed places
 pub record IsProofOf (n : ℕ) (known : ℕ → ℕ → Option Digest) (m : Message) (proof : SpendProof) : Type 0 where
-  pub named : AreNamed n m.proof (targets_of proof)
+  pub named : AreNamed n m (targets_of proof)
   pub filled : AreHashes m (targets_of proof) known (hashes_of proof)
 
 -- or the targets have no shape, or there are more or fewer hashes than are asked for
 abbrev pub IsMisplaced : ℕ → (ℕ → ℕ → Option Digest) → Message → RuleFault → Type 0
-IsMisplaced n known m fault = TargetsJudged n m.proof (Err fault) ⊎ ((t : Targeted) × AreNamed n m.proof t × IsMiscounted m t known fault)
+IsMisplaced n known m fault = TargetsJudged n m (Err fault) ⊎ ((t : Targeted) × AreNamed n m t × IsMiscounted m t known fault)

@@ -9,7 +9,7 @@ use Rattle.leaf_cache.specs.Watched.{AreWatched}
 use Rattle.node_rules.specs.Machine.{State}
 use Rattle.state_text.specs.declared.fault.StateFault.{StateFault}
 use Rattle.state_text.specs.declared.fault.StateFault.TheVariants.{NotAState, Version, NoMemory}
-use Rattle.state_text.specs.Stored.{StateValue, state_text}
+use Rattle.state_text.specs.Stored.{StateValue, state_text, IsTextOf}
 use Rattle.state_text.specs.Fits.{IsState}
 use Rattle.state_text.specs.OfHistory.{IsHistory, state_of}
 use Rattle.state_text.specs.Cached.{CachedLevel, CachedState, IsFilled, state_in}
@@ -21,7 +21,7 @@ cached_level l = record { tip = l.chain.tip; roots = l.roots; kept = l.kept; hel
 abbrev pub cached_state : NodeState → CachedState
 cached_state s = record { net = s.rules.net; blocks = s.newest.chain.blocks; scripts = s.scripts; levels = map cached_level (s.newest ∷ s.older) }
 
--- what is stored of a node, and the text of it
+-- what is stored of a node, and the text that is written of it
 abbrev pub stored_state : NodeState → StateValue
 stored_state s = state_in (cached_state s)
 
@@ -32,10 +32,10 @@ stored_text s = state_text (stored_state s)
 abbrev pub AreFilled : (List ℕ → Digest) → NodeState → Type 0
 AreFilled H s = AllByRecursion (IsFilled H) (cached_state s).levels
 
--- the node that a text says: it is the text of a state, and the node is that state, with all that it tells
+-- the node that a text says: it is a text of a state, in either version, and the node is that state, with all that it tells
 pub record IsReadAs (H : List ℕ → Digest) (text : List ℕ) (s : NodeState) : Type 0 where
   pub state : IsState H s.rules.limits.leaves (stored_state s)
-  pub is : text ≡ stored_text s
+  pub is : IsTextOf (stored_state s) text
   pub filled : AreFilled H s
 
 -- there was no memory, or this holds of what was read
@@ -51,15 +51,15 @@ UnlessNoMemory P (Err NoMemory) = Unit {0}
 abbrev pub StandingIsWritten : Type 0
 StandingIsWritten = (H : List ℕ → Digest) (t : State) (s : NodeState) → IsNode s → Stands H leaf_text t s → stored_state s ≡ state_of H s.rules.net s.scripts t
 
--- what is read from the text of what that one stores stands for it, in the same network, with the same scripts
+-- what is read from a text of what that one stores, in either version, stands for it, in the same network, with the same scripts
 pub record IsBack (H : List ℕ → Digest) (net : Net) (scripts : List (List ℕ)) (t : State) (s : NodeState) : Type 0 where
   pub net_is : s.rules.net ≡ net
   pub scripts_are : s.scripts ≡ scripts
   pub stands : Stands H leaf_text t s
 
 abbrev pub WrittenComesBack : Type 0
-WrittenComesBack = (H : List ℕ → Digest) (net : Net) (scripts : List (List ℕ)) (t : State) (s : NodeState) → ((x : List ℕ) → IsDigest (H x)) → AreWatched scripts →
-    IsNode s → IsHistory s.rules.limits.leaves t → IsReadAs H (state_text (state_of H net scripts t)) s → IsBack H net scripts t s
+WrittenComesBack = (H : List ℕ → Digest) (net : Net) (scripts : List (List ℕ)) (t : State) (text : List ℕ) (s : NodeState) → ((x : List ℕ) → IsDigest (H x)) → AreWatched scripts →
+    IsNode s → IsHistory s.rules.limits.leaves t → IsTextOf (state_of H net scripts t) text → IsReadAs H text s → IsBack H net scripts t s
 
 -- two nodes that stand for the same are the same, so a run that was stopped goes on as if it had not been
 abbrev pub OneNodeStands : Type 0

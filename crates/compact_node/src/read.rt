@@ -4,7 +4,7 @@ ghost use Rattle.std.specs.List.{AllByRecursion};
 ghost use Rattle.leaf_cache.specs.Parted.{HasNothing, HaveSameLists};
 ghost use Rattle.state_text.specs.Cached.{IsFilled, state_in};
 ghost use Rattle.state_text.specs.Fits.{IsState};
-ghost use Rattle.state_text.specs.Stored.{IsOfVersion, StateValue, state_text};
+ghost use Rattle.state_text.specs.Stored.{IsOfVersion, IsTextOf, StateValue};
 ghost use Rattle.compact_node.specs.Levels.{AreMarked, IsPastOf};
 ghost use Rattle.compact_node.specs.State.{IsReadAs, cached_state};
 
@@ -146,9 +146,9 @@ fn node_of<D: Digester>(
 }
 
 impl<D: Digester> Node<D> {
-    /// The node whose state the whole text is, with these limits: its chain, roots and watched outputs, and up to a hundred older
-    /// levels to go back to. `NotAState` comes exactly where the text is that of no state of at most `limits.leaves` entries, and
-    /// begins as that of no other version; `Version` exactly where it does that.
+    /// The node whose state the whole text is, in version 1 or 2, with these limits: its chain, roots and watched outputs, and up to a
+    /// hundred older levels to go back to. `NotAState` comes exactly where the text is that of no state of at most `limits.leaves`
+    /// entries, and begins as that of no other version; `Version` exactly where it does that.
     ///
     /// Whether its blocks are those of a chain that the rules let pass is not known from the text: the node goes on over what it says.
     pub fn read_state<L: Ledger>(
@@ -161,7 +161,7 @@ impl<D: Digester> Node<D> {
         requires bytes { limits.bytes ≤ 2 ^ 48 }
         ensures found { IfOk result (λ node. IsReadAs D.digest_of text.now node) }
         ensures limits { IfOk result (λ node. node.rules.limits ≡ limits) }
-        ensures none { IsErrOf result StateFault.NotAState → (s : StateValue) → IsState D.digest_of limits.leaves s → text.now ≡ state_text s → ⊥ }
+        ensures none { IsErrOf result StateFault.NotAState → (s : StateValue) → IsState D.digest_of limits.leaves s → IsTextOf s text.now → ⊥ }
         ensures version { (v : ℕ) → IsErrOf result (StateFault.Version v) ↔ IsOfVersion v text.now }
     {
         match state_text::read_state(alloc, text, limits.leaves, steps) {

@@ -121,7 +121,7 @@ impl<D: Digester> Node<D> {
         }
     }
 
-    /// Writes the node's state as text: `UTXS`, a version, the network, how many blocks there are, the watched scripts, how many
+    /// Writes the node's state as text: `UTXS`, the version 2, the network, how many blocks there are, the watched scripts, how many
     /// levels follow, and the levels, the present one first: of each its newest block, its roots, the kept entries, and the
     /// digests that a proof of these needs. Where a fault comes, a front of it is written.
     pub fn write_state<W: Sink>(&self, sink: &mut W) -> Result<(), SinkFault>

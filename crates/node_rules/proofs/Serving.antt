@@ -84,10 +84,10 @@ hash_of_all H n ts k hashes is r o h needed =
     ∙ beside_at (λ (d : Digest). d) (λ (p : Place). k p.row p.off) (H []) (need n ts) hashes r o (map-id hashes ∙ is) (need_has n ts r o h needed))
 
 pub same_evaluation : (H : List ℕ → Digest) (n : ℕ) (m : Message) (known : ℕ → ℕ → Option Digest) (hashes leaves : List Digest) (row off : ℕ) (c : Cover) →
-    AreHashes m (record { leaves = n; targets = targets n m.proof }) known hashes → InForest n row off → cover (targets n m.proof) row off ≡ Some c →
-    evaluation H n (targets n m.proof) (known_to m.lean known) leaves m.proof.hashes c ≡ evaluation H n (targets n m.proof) nothing_known leaves hashes c
+    AreHashes m (record { leaves = n; targets = targets n m }) known hashes → InForest n row off → cover (targets n m) row off ≡ Some c →
+    evaluation H n (targets n m) (known_to m.lean known) leaves m.proof.hashes c ≡ evaluation H n (targets n m) nothing_known leaves hashes c
 same_evaluation H n m known hashes leaves row off c are h e =
-    let ts = targets n m.proof in
+    let ts = targets n m in
     let f = hash_of H n ts (known_to m.lean known) m.proof.hashes in
     let g = hash_of H n ts nothing_known hashes in
     same_value H n ts f g (hash_of_all H n ts f hashes (are.hashes_are H)) (beside (H []) ts leaves) c (same_cover H n ts f g (hash_of_all H n ts f hashes (are.hashes_are H)) row off c h e)
@@ -107,17 +107,17 @@ first_slot-same f g n ts (suc row) e = ap₂ option_or (here (is_slot n row) ref
     here false s = refl
 
 pub same_fault : (H : List ℕ → Digest) (text : Leaf → List ℕ) (v : View) (points : List Outpoint) (m : Message) (hashes : List Digest) →
-    AreHashes m (record { leaves = v.n; targets = targets v.n m.proof }) v.known hashes →
-    proof_fault H text v points m ≡ proof_fault H text v points (in_full (record { spends = m.proof.spends; hashes = hashes }))
+    AreHashes m (record { leaves = v.n; targets = targets v.n m }) v.known hashes →
+    proof_fault H text v points m ≡ proof_fault H text v points (in_full m hashes)
 same_fault H text v points m hashes are =
-    let ts = targets v.n m.proof in
+    let ts = targets v.n m in
     let leaves = leaves_of H text points m in
     let wanted = length (asked v.n ts (known_to m.lean v.known)) in
     let all = length (asked v.n ts nothing_known) in
     let many : length hashes ≡ all = ap length (are.hashes_are H) ∙ (length-map (need v.n ts) _ ∙ ap length (sym (asked_all v.n ts))) in
     let passes : (length m.proof.hashes == wanted) ≡ true = eq-eqb _ _ are.count in
     let passes_all : (length hashes == all) ≡ true = eq-eqb _ _ many in
-    let shape = shape_fault v.n [] 0 (named v.n m.proof) in
+    let shape = shape_fault v.n [] 0 (named v.n m) in
     let empties = first_slot (λ row c. empty_root (v.roots row) row) v.n ts v.n in
     let roots = first_slot-same
     (λ row c. root_differs (v.roots row) (evaluation H v.n ts (known_to m.lean v.known) leaves m.proof.hashes c) row)

@@ -1,14 +1,13 @@
 -- The reading of a body, part by part.
-use Rattle.std.proofs.Common.{◌≡◌, ℕ, ◌-◌, ◌*◌, ◌/◌, ◌≤◌, eqb, Bool, List, [], ◌∷◌, length, take, drop, get_or, true, false, Some, None, refl, sym, ap, ap₂, ◌∙◌, arith}
+use Rattle.std.proofs.Common.{◌≡◌, ℕ, ◌*◌, ◌/◌, eqb, List, [], length, true, false, Some, None, refl, sym, ap, ◌∙◌, arith}
 use Rattle.std.specs.Prelude.{Result, Ok, Err, IfOk, IsErrOf}
 use Rattle.std.specs.Borrow.{Bor}
 use Rattle.std.specs.Int.{w64, from_le_bytes}
 use Rattle.std.specs.List.{AllByRecursion}
 use Rattle.std.proofs.lemmas.Bool.{eqb-true}
-use Rattle.std.proofs.lemmas.List.{nil_from_length, take_rest}
+use Rattle.std.proofs.lemmas.List.{nil_from_length}
 use Rattle.uo_base.specs.Reading.{IsBytes, number_at, times, GivesOrFails}
 use Rattle.uo_base.specs.Compact.{counted_at}
-use Rattle.uo_base.proofs.Formats.{found}
 use Rattle.uo_base.proofs.Walks.{times-length}
 use Rattle.uo_base.proofs.EvenParts.{length-parts}
 use Rattle.uo_digest.specs.declared.digest.Digest.{Digest}
@@ -17,7 +16,7 @@ use Rattle.leaf_record.specs.Leaf.{Rest}
 use Rattle.leaf_record.specs.Reading.{rest_at}
 use Rattle.proof_wire.specs.declared.fault.MessageFault.{MessageFault}
 use Rattle.proof_wire.specs.declared.fault.MessageFault.TheVariants.{NotAMessage, Version, NoMemory}
-use Rattle.proof_wire.specs.BlockProof.{BlockProof, ProofMessage, ProofFits, kind_of, body_text, message_text, spends_of}
+use Rattle.proof_wire.specs.BlockProof.{BlockProof, ProofFits, body_text, spends_of}
 use Rattle.proof_wire.specs.Reading.{body_at, whole_at, claims}
 use Rattle.proof_wire.specs.Views.{targets_in, rests_in, BeginsWithRest, IsMessageView}
 use Rattle.proof_wire.proofs.ProofLaws.{whole_took, no_body}
@@ -88,22 +87,3 @@ full_version (Ok m) bytes gives v is = cc
 full_version (Err NotAMessage) bytes gives v is = cc
 full_version (Err NoMemory) bytes gives v is = cc
 full_version (Err (Version u)) bytes gives v is = gives
-
--- a text that begins with two bytes
-pub front_two : (text : List ℕ) (a b : ℕ) → 2 ≤ length text → get_or text 0 0 ≡ a → get_or text 1 0 ≡ b → text ≡ a ∷ b ∷ take (length text - 2) (drop 2 text)
-front_two [] a b long ea eb = absurd (omega arith)
-front_two (x ∷ []) a b long ea eb = absurd (omega arith)
-front_two (x ∷ y ∷ rest) a b long ea eb = rw (take_rest (x ∷ y ∷ rest) 2, ← ea, ← eb) refl
-
--- version and kind stand before what was read
-pub behind_front : (r : Result ProofMessage MessageFault) (lean : Bool) (text body : List ℕ) → text ≡ 1 ∷ kind_of lean ∷ body → IfOk r (λ m. (m.lean ≡ lean) × ProofFits m.proof × (body ≡ body_text m.proof))
-    → IfOk r (λ m. ProofFits m.proof × (text ≡ message_text m))
-behind_front (Ok m) lean text body front found = (found.1, front ∙ ap₂ (λ (k : Bool) (b : List ℕ). 1 ∷ kind_of k ∷ b) (sym found.0) found.2)
-behind_front (Err e) lean text body front found = tt
-
--- and no message has that body
-pub none_behind : (r : Result ProofMessage MessageFault) (lean : Bool) (text body : List ℕ) → text ≡ 1 ∷ kind_of lean ∷ body → (IsErrOf r NotAMessage → (p : BlockProof) → ProofFits p → body ≡ body_text p → ⊥)
-    → IsErrOf r NotAMessage → (m : ProofMessage) → ProofFits m.proof → text ≡ message_text m → ⊥
-none_behind r lean text body front none is m fits e =
-    let z : 1 ∷ kind_of lean ∷ body ≡ 1 ∷ kind_of m.lean ∷ body_text m.proof = sym front ∙ e in
-    none is m.proof fits (cc)

@@ -11,6 +11,8 @@ use Rattle.uo_base.proofs.CompactLaws.{AreCounted, counted_lawful}
 use Rattle.uo_digest.specs.declared.digest.Digest.{Digest}
 use Rattle.uo_digest.specs.Reading.{IsDigest, digest_text, digest_in_front}
 use Rattle.uo_digest.proofs.DigestLaws.{digest_lawful}
+use Rattle.forest_place.specs.declared.naming.Naming.{Naming}
+use Rattle.forest_place.proofs.NamedLaws.{one_naming}
 use Rattle.leaf_record.specs.Leaf.{Rest, RestFits, rest_text}
 use Rattle.leaf_record.specs.Reading.{rest_at}
 use Rattle.leaf_record.proofs.LeafLaws.{rest_lawful}
@@ -144,13 +146,16 @@ one_kind true true e = refl
 pub one_message : OneReading MessageFits message_text
 one_message x y a b fx fy e =
     let body = one_reading _ _ _ body_lawful x.proof y.proof a b fx fy (tails e) in
-    (ap₂ made (one_kind x.lean y.lean (kinds e)) body.0, body.1)
+    (ap (λ v. made v x.lean x.proof) (one_naming x.naming y.naming (versions e)) ∙ ap₂ (made y.naming) (one_kind x.lean y.lean (kinds e)) body.0, body.1)
   where
-    tails : {k l : ℕ} {xs ys : List ℕ} → 1 ∷ k ∷ xs ≡ 1 ∷ l ∷ ys → xs ≡ ys
+    tails : {v w k l : ℕ} {xs ys : List ℕ} → v ∷ k ∷ xs ≡ w ∷ l ∷ ys → xs ≡ ys
     tails e = cc
 
-    kinds : {k l : ℕ} {xs ys : List ℕ} → 1 ∷ k ∷ xs ≡ 1 ∷ l ∷ ys → k ≡ l
+    kinds : {v w k l : ℕ} {xs ys : List ℕ} → v ∷ k ∷ xs ≡ w ∷ l ∷ ys → k ≡ l
     kinds e = cc
 
-    made : Bool → BlockProof → ProofMessage
-    made lean p = record { lean = lean; proof = p }
+    versions : {v w : ℕ} {xs ys : List ℕ} → v ∷ xs ≡ w ∷ ys → v ≡ w
+    versions e = cc
+
+    made : Naming → Bool → BlockProof → ProofMessage
+    made naming lean p = record { naming = naming; lean = lean; proof = p }

@@ -5,6 +5,8 @@ use Rattle.std.specs.Int.{w64, to_le_bytes}
 use Rattle.uo_base.specs.Compact.{counted}
 use Rattle.uo_digest.specs.declared.digest.Digest.{Digest}
 use Rattle.uo_digest.specs.Reading.{IsDigest, digest_text}
+use Rattle.forest_place.specs.declared.naming.Naming.{Naming}
+use Rattle.forest_place.specs.Named.{version_of}
 use Rattle.leaf_record.specs.Leaf.{Rest, RestFits, rest_text}
 
 -- where the leaf of a spent output stands, and what the output is beside its name
@@ -38,8 +40,10 @@ body_text p =
     counted (to_le_bytes w64) (targets_of p.spends) ++ flat_map rest_text (rests_of p.spends)
     ++ counted digest_text p.hashes
 
--- a whole message: what it says, and whether it is lean. Then the hashes that its reader knows are left out
+-- a whole message: how its targets name places, which its version tells, whether it is lean, and what it says. In a lean message the
+-- hashes that its reader knows are left out
 pub record ProofMessage : Type 0 where
+  pub naming : Naming
   pub lean : Bool
   pub proof : BlockProof
 
@@ -47,9 +51,9 @@ abbrev pub kind_of : Bool → ℕ
 kind_of false = 0
 kind_of true = 1
 
--- the version 1, the kind and the body
+-- the version, the kind and the body
 abbrev pub message_text : ProofMessage → List ℕ
-message_text m = 1 ∷ kind_of m.lean ∷ body_text m.proof
+message_text m = version_of m.naming ∷ kind_of m.lean ∷ body_text m.proof
 
 -- ---- which have a text
 

@@ -6,16 +6,19 @@ ghost use Rattle.uo_base.specs.Moved.{Grew};
 ghost use Rattle.uo_base.specs.Reading.{OneReading};
 ghost use Rattle.uo_base.specs.Compact.{counted};
 ghost use Rattle.uo_digest.specs.Reading.{IsDigest, digest_text};
-ghost use Rattle.proof_wire.specs.BlockProof.{ProofFits, MessageFits, kind_of, message_text, spends_of};
+ghost use Rattle.forest_place.specs.Named.{version_of};
+ghost use Rattle.forest_place.specs.declared.naming.Naming.TheVariants.{FixedPosition};
+ghost use Rattle.proof_wire.specs.BlockProof.{MessageFits, kind_of, message_text, spends_of};
 
 use crate::Rests;
+use forest_place::Naming;
 use leaf_record::{RestView, write_rest};
 use std::alloc::Global;
 use std::marker::Model;
 use uo_base::{NoMemory, put_compact};
 use uo_digest::Digest;
 
-/// A message that is made spend by spend and hash by hash; contracts see what it says.
+/// A message of version 2 that is made spend by spend and hash by hash; contracts see what it says.
 #[derive(Debug, Drop)]
 pub struct Message {
     lean: bool,
@@ -26,12 +29,13 @@ pub struct Message {
 }
 
 impl Model for Message {
+    ghost use Rattle.forest_place.specs.declared.naming.Naming.TheVariants.{FixedPosition};
     ghost use Rattle.proof_wire.specs.BlockProof.{ProofMessage};
     ghost use Rattle.proof_wire.specs.Making.{proof_made, IsMade};
 
     ghost Value = { ProofMessage };
 
-    ghost view = { λ m. record { lean = m.lean; proof = proof_made m.targets.items m.rests.items m.hashes.items } };
+    ghost view = { λ m. record { naming = FixedPosition; lean = m.lean; proof = proof_made m.targets.items m.rests.items m.hashes.items } };
 
     ghost invariant = { λ m. IsMade m.targets.items m.rests.items m.hashes.items };
 }
@@ -39,7 +43,7 @@ impl Model for Message {
 impl Message {
     /// No spend and no hash, in a message that is full or lean.
     pub fn new(alloc: Global, lean: bool) -> Message
-        ensures { result ≡ record { lean = lean; proof = record { spends = []; hashes = [] } } }
+        ensures { result ≡ record { naming = FixedPosition; lean = lean; proof = record { spends = []; hashes = [] } } }
     {
         Message {
             lean,
@@ -49,12 +53,12 @@ impl Message {
         }
     }
 
-    /// The message of the spends with these targets and rests, in the same order, and with these hashes. Takes no memory.
+    /// The message of the spends with these fixed positions and rests, in the same order, and with these hashes. Takes no memory.
     pub fn of(lean: bool, targets: Vec<u64>, rests: Rests, hashes: Vec<Digest>) -> Message
         requires same { length targets.items ≡ length rests }
         // That an array has its length is known of a value, but not of those in a `Vec`.
         requires fit { AllByRecursion IsDigest hashes.items }
-        ensures { result ≡ record { lean = lean; proof = record { spends = spends_of targets.items rests; hashes = hashes.items } } }
+        ensures { result ≡ record { naming = FixedPosition; lean = lean; proof = record { spends = spends_of targets.items rests; hashes = hashes.items } } }
     {
         Message {
             lean,
@@ -64,9 +68,9 @@ impl Message {
         }
     }
 
-    /// One more spend: the position of its leaf in the forest before the block, and its rest.
+    /// One more spend: the fixed position of its leaf's place in the forest before the block, and its rest.
     pub fn push_spend(&mut self, target: u64, rest: &RestView<'_>) -> Result<(), NoMemory>
-        ensures ok { OnOk result (self.new ≡ record { lean = self.old.lean; proof = record { spends = self.old.proof.spends ++ record { target = target; rest = rest.now } ∷ []; hashes = self.old.proof.hashes } }) }
+        ensures ok { OnOk result (self.new ≡ record { naming = self.old.naming; lean = self.old.lean; proof = record { spends = self.old.proof.spends ++ record { target = target; rest = rest.now } ∷ []; hashes = self.old.proof.hashes } }) }
         ensures err { OnErr result (self.new ≡ self.old) }
     {
         let start = self.rests.len();
@@ -82,7 +86,7 @@ impl Message {
 
     /// One more hash.
     pub fn push_hash(&mut self, hash: Digest) -> Result<(), NoMemory>
-        ensures ok { OnOk result (self.new ≡ record { lean = self.old.lean; proof = record { spends = self.old.proof.spends; hashes = self.old.proof.hashes ++ hash ∷ [] } }) }
+        ensures ok { OnOk result (self.new ≡ record { naming = self.old.naming; lean = self.old.lean; proof = record { spends = self.old.proof.spends; hashes = self.old.proof.hashes ++ hash ∷ [] } }) }
         ensures err { OnErr result (self.new ≡ self.old) }
     {
         self.hashes.push(hash)?;
@@ -92,18 +96,20 @@ impl Message {
     fn put(&self, out: &mut Vec<u8>) -> Result<(), NoMemory>
         ensures ok { OnOk result (out.new.items ≡ out.old.items ++ message_text self.now) }
         ensures err { OnErr result (Grew out.old.items out.new.items) }
-        ensures fits { ProofFits self.now.proof }
+        ensures fits { MessageFits self.now }
+        ensures version { version_of self.now.naming ≡ 2 }
     {
         put_parts(self.lean, &self.targets, &self.rests, &self.hashes, out)
     }
 
-    /// Appends the one text of the message. Memory is asked for once at most. Where there is none, the text before it
+    /// Appends the one text of the message, in version 2. Memory is asked for once at most. Where there is none, the text before it
     /// stays as it was.
     pub fn write(&self, out: &mut Vec<u8>) -> Result<(), NoMemory>
         ensures ok { OnOk result (out.new.items ≡ out.old.items ++ message_text self.now) }
         ensures err { OnErr result (out.new.items ≡ out.old.items) }
         // What was written is a message, so it is read again.
-        ensures fits { ProofFits self.now.proof }
+        ensures fits { MessageFits self.now }
+        ensures version { version_of self.now.naming ≡ 2 }
     {
         let start = out.len();
         match self.put(out) {
@@ -148,12 +154,12 @@ fn put_parts(
     hashes: &[Digest],
     out: &mut Vec<u8>,
 ) -> Result<(), NoMemory>
-    ensures ok { OnOk result (out.new.items ≡ out.old.items ++ 1 ∷ kind_of lean ∷ (counted (to_le_bytes w64) targets.now ++ rests.now ++ counted digest_text hashes.now)) }
+    ensures ok { OnOk result (out.new.items ≡ out.old.items ++ version_of FixedPosition ∷ kind_of lean ∷ (counted (to_le_bytes w64) targets.now ++ rests.now ++ counted digest_text hashes.now)) }
     ensures err { OnErr result (Grew out.old.items out.new.items) }
     ensures few { (length targets.now < 2 ^ 64) × (length hashes.now < 2 ^ 64) }
 {
     out.reserve(room_for(targets.len(), rests.len(), hashes.len()))?;
-    out.extend_from_slice(&[1, kind_byte(lean)])?;
+    out.extend_from_slice(&[Naming::FixedPosition.version(), kind_byte(lean)])?;
     put_targets(targets, out)?;
     out.extend_from_slice(rests)?;
     put_hashes(hashes, out)

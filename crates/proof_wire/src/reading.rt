@@ -1,17 +1,20 @@
 //! Reading a message.
-ghost use Rattle.std.specs.Prelude.{◌≡◌, ◌≢◌, ◌↔◌, ◌*◌, ◌/◌, ◌<◌, ℕ, [], Some, length, slice_get, IfSome, IfOk, IsErrOf};
+ghost use Rattle.std.specs.Prelude.{◌≡◌, ◌≢◌, ◌↔◌, ◌*◌, ◌/◌, ◌<◌, ◌∷◌, ℕ, Bool, [], Some, false, length, slice_get, IfSome, IfOk, IsErrOf};
 ghost use Rattle.std.specs.Int.{w64};
 ghost use Rattle.std.specs.List.{AllByRecursion};
 ghost use Rattle.uo_base.specs.Reading.{Gives, GivesOrFails, number_at, times};
 ghost use Rattle.uo_base.specs.Compact.{counted_at};
 ghost use Rattle.uo_digest.specs.Reading.{digest_in_front, digests_in};
+ghost use Rattle.forest_place.specs.declared.naming.Naming.{Naming as Named};
+ghost use Rattle.forest_place.specs.Named.{version_of};
 ghost use Rattle.leaf_record.specs.Reading.{rest_at};
-ghost use Rattle.proof_wire.specs.BlockProof.{BlockProof, ProofMessage, ProofFits, body_text, message_text};
+ghost use Rattle.proof_wire.specs.BlockProof.{BlockProof, ProofMessage, ProofFits, MessageFits, kind_of, body_text, message_text};
 ghost use Rattle.proof_wire.specs.Reading.{parts_at, whole_at, claims};
 ghost use Rattle.proof_wire.specs.Views.{targets_in, rests_in, BeginsWithRest};
 
 use crate::fault::MessageFault;
 use crate::view::{BodyView, MessageView};
+use forest_place::Naming;
 use leaf_record::read_rest;
 use std::alloc::Global;
 use uo_base::Cursor;
@@ -96,28 +99,51 @@ fn read_whole<'a>(alloc: Global, body: &'a [u8]) -> Result<BodyView<'a>, Message
 }
 
 /// The message that is full or lean, and has this body.
-fn read_kind<'a>(alloc: Global, lean: bool, body: &'a [u8]) -> Result<MessageView<'a>, MessageFault>
-    ensures found { IfOk result (λ m. (m.lean ≡ lean) × ProofFits m.proof × (body.now ≡ body_text m.proof)) }
+fn read_kind<'a>(
+    alloc: Global,
+    naming: Naming,
+    lean: bool,
+    body: &'a [u8],
+) -> Result<MessageView<'a>, MessageFault>
+    ensures found { IfOk result (λ m. (m.naming ≡ naming) × (m.lean ≡ lean) × ProofFits m.proof × (body.now ≡ body_text m.proof)) }
     ensures none { IsErrOf result MessageFault.NotAMessage → (p : BlockProof) → ProofFits p → body.now ≡ body_text p → ⊥ }
     ensures version { (v : ℕ) → IsErrOf result (MessageFault.Version v) → ⊥ }
 {
     match read_whole(alloc, body) {
-        Ok(body) => Ok(MessageView { lean, body }),
+        Ok(body) => Ok(MessageView { naming, lean, body }),
         Err(fault) => Err(fault),
     }
 }
 
-/// The message that the whole text is: the version 1, the kind (0, or 1 where it is lean), a count and the targets of the
-/// spends (8 bytes each), their rests, and a count and the hashes (32 bytes each).
-pub fn read_message<'a>(alloc: Global, text: &'a [u8]) -> Result<MessageView<'a>, MessageFault>
-    ensures found { IfOk result (λ m. ProofFits m.proof × (text.now ≡ message_text m)) }
-    ensures none { IsErrOf result MessageFault.NotAMessage → (m : ProofMessage) → ProofFits m.proof → text.now ≡ message_text m → ⊥ }
-    ensures version { (v : ℕ) → IsErrOf result (MessageFault.Version v) ↔ ((slice_get text.now 0 ≡ Some v) × (v ≢ 1)) }
+/// The message that has this kind and body, and names places so.
+fn read_behind<'a>(
+    alloc: Global,
+    naming: Naming,
+    text: &'a [u8],
+) -> Result<MessageView<'a>, MessageFault>
+    ensures found { IfOk result (λ m. (m.naming ≡ naming) × ProofFits m.proof × (text.now ≡ kind_of m.lean ∷ body_text m.proof)) }
+    ensures none { IsErrOf result MessageFault.NotAMessage → (lean : Bool) (p : BlockProof) → ProofFits p → text.now ≡ kind_of lean ∷ body_text p → ⊥ }
+    ensures version { (v : ℕ) → IsErrOf result (MessageFault.Version v) → ⊥ }
 {
     match text {
-        [1, 0, body @ ..] => read_kind(alloc, false, body),
-        [1, 1, body @ ..] => read_kind(alloc, true, body),
-        [] | [1, ..] => Err(MessageFault::NotAMessage),
-        [version, ..] => Err(MessageFault::Version(*version)),
+        [0, body @ ..] => read_kind(alloc, naming, false, body),
+        [1, body @ ..] => read_kind(alloc, naming, true, body),
+        _ => Err(MessageFault::NotAMessage),
+    }
+}
+
+/// The message that the whole text is: the version (1 or 2), the kind (0, or 1 where it is lean), a count and the targets of
+/// the spends (8 bytes each), their rests, and a count and the hashes (32 bytes each).
+pub fn read_message<'a>(alloc: Global, text: &'a [u8]) -> Result<MessageView<'a>, MessageFault>
+    ensures found { IfOk result (λ m. MessageFits m × (text.now ≡ message_text m)) }
+    ensures none { IsErrOf result MessageFault.NotAMessage → (m : ProofMessage) → MessageFits m → text.now ≡ message_text m → ⊥ }
+    ensures version { (v : ℕ) → IsErrOf result (MessageFault.Version v) ↔ ((slice_get text.now 0 ≡ Some v) × ((by : Named) → v ≢ version_of by)) }
+{
+    match text {
+        [] => Err(MessageFault::NotAMessage),
+        [version, behind @ ..] => match Naming::of_version(*version) {
+            Some(naming) => read_behind(alloc, naming, behind),
+            None => Err(MessageFault::Version(*version)),
+        },
     }
 }

@@ -1,8 +1,10 @@
 //! A message as it lies in its source.
 ghost use Rattle.std.specs.Prelude.{◌≡◌, ◌+◌, ◌*◌, ◌<◌, ◌≤◌, length, take, drop, slice_get, Some};
 ghost use Rattle.std.specs.Int.{w64, from_le_bytes};
+ghost use Rattle.forest_place.specs.Named.{version_of};
 ghost use Rattle.proof_wire.specs.BlockProof.{targets_of, rests_of};
 
+use forest_place::Naming;
 use leaf_record::{RestView, read_rest};
 use std::marker::Model;
 use uo_base::Cursor;
@@ -83,6 +85,7 @@ impl<'a> BodyView<'a> {
 /// it says.
 #[derive(Drop)]
 pub struct MessageView<'a> {
+    pub(crate) naming: Naming,
     pub(crate) lean: bool,
     pub(crate) body: BodyView<'a>,
 }
@@ -92,10 +95,24 @@ impl<'a> Model for MessageView<'a> {
 
     ghost Value = { ProofMessage };
 
-    ghost view = { λ s. record { lean = s.lean; proof = s.body } };
+    ghost view = { λ s. record { naming = s.naming; lean = s.lean; proof = s.body } };
 }
 
 impl<'a> MessageView<'a> {
+    /// How its targets name places, which its version tells.
+    pub fn naming(&self) -> Naming
+        ensures { result ≡ self.now.naming }
+    {
+        self.naming
+    }
+
+    /// In which version it is written.
+    pub fn version(&self) -> u8
+        ensures { result ≡ version_of self.now.naming }
+    {
+        self.naming.version()
+    }
+
     /// Whether the hashes that its reader knows are left out.
     pub fn lean(&self) -> bool
         ensures { result ≡ self.now.lean }
@@ -110,7 +127,8 @@ impl<'a> MessageView<'a> {
         self.body.spends()
     }
 
-    /// The position of the leaf of a spent output, in the forest before the block.
+    /// The number of the place of a spent output's leaf in the forest before the block: its position in version 1, its fixed
+    /// position in version 2.
     pub fn target(&self, i: u64) -> u64
         requires { i < length self.now.proof.spends }
         ensures { slice_get (targets_of self.now.proof.spends) i ≡ Some result }

@@ -1,7 +1,7 @@
 use Rattle.std.proofs.Common.{ap, ap₂, sym, ◌∙◌, length}
 use Rattle.std.proofs.lemmas.List.{length-map}
 use Rattle.proof_wire.specs.BlockProof.{BlockProof, spends_of}
-use Rattle.node_rules.specs.Messages.{Message}
+use Rattle.node_rules.specs.Messages.{sent}
 use Rattle.bridge_prover.specs.Bridge.{target_of}
 use Rattle.bridge_prover.specs.Judged.{hashes_unknown}
 use Rattle.bridge_prover.proofs.Showing.{live_too, proof_within}
@@ -21,5 +21,5 @@ returns g c =
     let es = c.args.forest.now.entries in
     let kept = c.args.draft.kept.targets in
     c.of.ensures
-    ∙ ap₂ (λ ts hs. (let p : BlockProof = record { spends = spends_of ts c.args.draft.rests; hashes = hs } in let m : Message = record { lean = c.args.draft.lean; proof = p } in m)) c.in_ok-targets.ensures
+    ∙ ap₂ (λ ts hs. (let p : BlockProof = record { spends = spends_of ts c.args.draft.rests; hashes = hs } in sent c.args.draft.lean p)) c.in_ok-targets.ensures
     (c.in_ok-hashes.ensures.given ∙ ap₂ (λ n ss. hashes_unknown n kept ss) c.requires.draft.0 c.in_ok-proof.ensures.siblings)

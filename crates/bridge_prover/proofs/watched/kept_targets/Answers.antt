@@ -1,10 +1,11 @@
 use Rattle.std.proofs.Common.{◌≡◌, ℕ, Bool, [], map, length, None, sym, ap, ◌∙◌, subst, arith}
 use Rattle.std.specs.List.{filter}
 use Rattle.std.proofs.lemmas.List.{take_all}
-use Rattle.forest_place.specs.Position.{place_at}
-use Rattle.proof_shape.specs.Shape.{AreTargets}
+use Rattle.forest_place.specs.declared.naming.Naming.TheVariants.{FixedPosition}
+use Rattle.forest_place.specs.Named.{place_by}
+use Rattle.proof_shape.specs.Shape.{AreFixedTargets}
 use Rattle.node_rules.specs.Accepting.{shape_fault}
-use Rattle.node_rules.proofs.Placing.{targets_pass}
+use Rattle.node_rules.proofs.Placing.{passes_by}
 use Rattle.output_index.specs.Held.{is_live}
 use Rattle.bridge_prover.specs.Bridge.{target_of}
 use Rattle.bridge_prover.specs.Watched.{places_in}
@@ -21,8 +22,8 @@ targets_at-requires-clause-shape g c =
     let live : ℕ → Bool = λ i. is_live i c.args.outputs.now in
     let ns = filter live c.args.noted.now in
     let at : c.deref.result.now ≡ map (target_of es) ns = c.deref.ensures.value ∙ (c.loop-number.invariant ∙ ap (λ xs. map (target_of es) (filter live xs)) (take_all c.loop-number.number-index c.args.noted.now (omega (arith, c.loop-number-test.false)))) in
-    subst (λ n. shape_fault n [] 0 (map (place_at n) c.deref.result.now) ≡ None) (sym c.leaves.ensures.is)
-    (targets_pass (length es) c.deref.result.now (places_in es ns) (are_targets es ns c.deref.result.now at (passed_all es live c.args.noted.now c.requires.live) c.requires.shape))
+    subst (λ n. shape_fault n [] 0 (map (place_by FixedPosition n) c.deref.result.now) ≡ None) (sym c.leaves.ensures.is)
+    (passes_by FixedPosition (length es) (omega (arith, c.leaves.ensures.few)) c.deref.result.now (places_in es ns) (are_targets es ns c.deref.result.now at (passed_all es live c.args.noted.now c.requires.live) c.requires.shape))
 
 pub returns-clause-targets : goal.returns-clause-targets
 returns-clause-targets g c =
@@ -30,5 +31,5 @@ returns-clause-targets g c =
     let live : ℕ → Bool = λ i. is_live i c.args.outputs.now in
     let ns = filter live c.args.noted.now in
     let at : c.deref.result.now ≡ map (target_of es) ns = c.deref.ensures.value ∙ (c.loop-number.invariant ∙ ap (λ xs. map (target_of es) (filter live xs)) (take_all c.loop-number.number-index c.args.noted.now (omega (arith, c.loop-number-test.false)))) in
-    targets_found c.leaves.result c.deref.result.now (places_in es ns)
-    (subst (λ n. AreTargets n c.deref.result.now (places_in es ns)) (sym c.leaves.ensures.is) (are_targets es ns c.deref.result.now at (passed_all es live c.args.noted.now c.requires.live) c.requires.shape)) c.targets_at.result c.targets_at.ensures
+    targets_found c.leaves.result c.deref.result.now (places_in es ns) (omega (arith, c.leaves.ensures.is, c.leaves.ensures.few))
+    (subst (λ n. AreFixedTargets n c.deref.result.now (places_in es ns)) (sym c.leaves.ensures.is) (are_targets es ns c.deref.result.now at (passed_all es live c.args.noted.now c.requires.live) c.requires.shape)) c.targets_at.result c.targets_at.ensures

@@ -18,4 +18,4 @@ evaluate_covered-requires-clause-hashes g c =
 pub returns : goal.returns
 returns g c =
     is_ready g.D.Digester.digest_of c.args.n c.args.external.now (look c.args.known.now) c.args.message.now c.in-Ok.targets c.in_ok-leaves.leaves.items c.deref.result.now c.in-Ok-full_hashes.hashes.items c.deref-2.result.now c.in_ok-items.items.items
-    c.in-Ok.ensures c.leaves-count.ensures.targets.shape c.deref.ensures.value c.in_ok-leaves.ensures.leaves c.deref-2.ensures.value c.in-Ok-full_hashes.ensures c.in_ok-leaves.ensures.fit c.in_ok-items.ensures
+    c.in-Ok.ensures c.leaves-count.ensures.targets.shape c.deref.ensures.value c.in_ok-leaves.ensures.leaves c.deref-2.ensures.value c.in-Ok-full_hashes.ensures c.in_ok-leaves.ensures.fit c.in_ok-items.ensures.evaluated

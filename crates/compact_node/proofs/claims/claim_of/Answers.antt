@@ -21,7 +21,7 @@ returns-clause-filled g c =
     let made = c.in_ok-proof.ensures.ok in
     record {
       count = c.requires.shown;
-      named = subst (λ n. AreNamed n c.args.message.now.proof (targets_of c.in_ok-proof.proof)) c.leaves.ensures.is made.named;
+      named = subst (λ n. AreNamed n c.args.message.now (targets_of c.in_ok-proof.proof)) c.leaves.ensures.is made.named;
       leaves_are = c.in_ok-leaves.ensures.leaves;
       filled = made.filled;
     }

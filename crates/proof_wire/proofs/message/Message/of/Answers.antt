@@ -1,4 +1,5 @@
 use Rattle.std.proofs.Common.{rules, ℕ, ◌<◌, ◌^◌, ◌≡◌, List, length, get_or, ap, ◌∙◌, sym}
+use Rattle.forest_place.specs.declared.naming.Naming.TheVariants.{FixedPosition}
 use Rattle.proof_wire.specs.BlockProof.{Spend, ProofMessage}
 use Rattle.proof_wire.specs.Making.{rests_made}
 use Rattle.proof_wire.proofs.MakingLaws.{of_rests, spends_are}
@@ -15,4 +16,4 @@ invariant_of-result c =
 pub returns : goal.returns
 returns c = rw (← c.rests.view_is) (ap (λ (ss : List Spend). with_spends ss) (spends_are _ _ _ c.rests.invariant (same c))) where
   with_spends : List Spend → ProofMessage
-  with_spends ss = record { lean = c.args.lean; proof = record { spends = ss; hashes = c.args.hashes.items } }
+  with_spends ss = record { naming = FixedPosition; lean = c.args.lean; proof = record { spends = ss; hashes = c.args.hashes.items } }

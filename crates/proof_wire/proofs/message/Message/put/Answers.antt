@@ -1,3 +1,4 @@
+use Rattle.std.proofs.Common.{refl}
 use Rattle.proof_wire.proofs.MakingLaws.{proof_fits, text_made}
 use Rattle.proof_wire.proofs.message.Message.put.Goals as goal
 
@@ -10,3 +11,6 @@ pub returns-clause-fits : goal.returns-clause-fits
 returns-clause-fits c =
     let few = rw (c.deref.ensures.value, c.deref-3.ensures.value) at c.put_parts.ensures.few in
     rw (← c.self.view_is) (proof_fits _ _ _ c.self.invariant few.0 few.1)
+
+pub returns-clause-version : goal.returns-clause-version
+returns-clause-version c = rw (← c.self.view_is) refl
