@@ -65,6 +65,8 @@ pub enum Line {
         rollbacks: u32,
         bytes: u64,
     },
+    /// A state was written anew, with so many levels.
+    UpgradedState(u32),
 }
 
 impl fmt::Display for Line {
@@ -107,6 +109,7 @@ impl fmt::Display for Line {
                 rollbacks,
                 bytes,
             } => write!(f, "generated {blocks} {rollbacks} {bytes}"),
+            Line::UpgradedState(levels) => write!(f, "upgraded state {levels}"),
         }
     }
 }

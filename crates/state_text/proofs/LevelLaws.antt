@@ -28,7 +28,9 @@ use Rattle.node_rules.specs.Machine.{Level}
 use Rattle.node_rules.proofs.Hashes.{hashes_there}
 use Rattle.node_rules.proofs.Righting.{got_entry}
 use Rattle.state_text.specs.declared.entry.StoredEntry.{StoredEntry}
-use Rattle.state_text.specs.Stored.{places_of, leaves_of, body_text}
+use Rattle.forest_place.specs.Named.{version_of}
+use Rattle.forest_place.proofs.NamedLaws.{one_naming}
+use Rattle.state_text.specs.Stored.{StateValue, places_of, leaves_of, body_text, IsTextOf, IsOfVersion}
 use Rattle.state_text.specs.Fits.{RootFits, LevelFits, ScriptFits, IsLevel, IsNext, AreLevels}
 use Rattle.leaf_cache.specs.Watched.{IsScript}
 use Rattle.state_text.specs.OfHistory.{stump_of, level_kept, digests_at, level_of, IsChained, AreChained, HistoryHasState, OneState}
@@ -232,8 +234,16 @@ history_has_state = λ H net scripts most s long few watch h.
       };
     }
 
-tail_same : (a b c d e : ℕ) (xs ys : List ℕ) → a ∷ b ∷ c ∷ d ∷ e ∷ xs ≡ a ∷ b ∷ c ∷ d ∷ e ∷ ys → xs ≡ ys
-tail_same a b c d e xs ys h = cc
+-- a fifth byte, and what follows it
+behind_same : (a b c d v w : ℕ) (xs ys : List ℕ) → a ∷ b ∷ c ∷ d ∷ v ∷ xs ≡ a ∷ b ∷ c ∷ d ∷ w ∷ ys → (v ≡ w) × (xs ≡ ys)
+behind_same a b c d v w xs ys h = (cc, cc)
 
 pub one_state : OneState
-one_state = λ H most s t few a b e. one_body most few s t a.fits b.fits (tail_same 85 84 88 83 1 (body_text s) (body_text t) e)
+one_state = λ H most text s t few a b e f.
+    let same = behind_same 85 84 88 83 (version_of e.0) (version_of f.0) (body_text e.0 s) (body_text f.0 t) (sym e.1 ∙ f.1) in
+    let way : e.0 ≡ f.0 = one_naming e.0 f.0 same.0 in
+    one_body e.0 most few s t a.fits b.fits (same.1 ∙ ap (λ by. body_text by t) (sym way))
+
+-- a text of a state is of no version that is not read
+pub one_version : (s : StateValue) (text : List ℕ) (v : ℕ) → IsTextOf s text → IsOfVersion v text → ⊥
+one_version s text v is of = of.other is.0 (sym (behind_same 85 84 88 83 (version_of is.0) v (body_text is.0 s) of.body (sym is.1 ∙ of.begins)).0)

@@ -14,6 +14,7 @@ use Rattle.uo_digest.specs.declared.digest.Digest.{Digest}
 use Rattle.uo_digest.specs.Reading.{digest_text, IsDigest}
 use Rattle.uo_digest.specs.Reading.{digest_in_front}
 use Rattle.uo_digest.proofs.DigestLaws.{digest_lawful}
+use Rattle.forest_place.specs.declared.naming.Naming.{Naming}
 use Rattle.forest_roots.specs.Stump.{Stump, IsStump, root_in, empty_roots}
 use Rattle.state_text.specs.Stored.{LevelValue, StateValue, net_code, roots_text, entry_text, level_text, body_text}
 use Rattle.state_text.specs.Fits.{RootFits, EntryFits, LevelFits, ScriptFits, StateFits}
@@ -81,31 +82,31 @@ head_of l = (l.tip, l.roots)
 abbrev Behind : LevelValue → Type 0
 Behind l = AreCounted (EntryFits l.roots.leaves) l.kept × (AreCounted IsDigest l.hashes × Unit {0})
 
-abbrev behind_text : LevelValue → List ℕ
-behind_text l = counted (entry_text l.roots.leaves) l.kept ++ (counted digest_text l.hashes ++ [])
+abbrev behind_text : Naming → LevelValue → List ℕ
+behind_text by l = counted (entry_text by l.roots.leaves) l.kept ++ (counted digest_text l.hashes ++ [])
 
 abbrev LevelTold : Head → LevelValue → Type 0
 LevelTold h l = Unit {0} × (head_of l ≡ h)
 
-level_behind : (h : Head) → h.1.leaves < 2 ^ 40 → Lawful (λ (l : LevelValue). LevelTold h l × Behind l) behind_text
-    (λ bytes. counted_at (entry_at h.1.leaves) bytes >>= λ kept. counted_at digest_in_front kept.1 >>= λ hashes. Some (record { tip = h.0; roots = h.1; kept = kept.0; hashes = hashes.0 }, hashes.1))
-level_behind h few =
-    same _ (λ (l : LevelValue). LevelTold h l × Behind l) _ behind_text _
-    (led (LevelTold h) (AreCounted (EntryFits h.1.leaves)) (counted (entry_text h.1.leaves)) (counted_at (entry_at h.1.leaves)) (λ l. l.kept) _ _ _
-    (counted_lawful (EntryFits h.1.leaves) (entry_text h.1.leaves) (entry_at h.1.leaves) (entry_lawful h.1.leaves few)) (λ kept _.
+level_behind : (by : Naming) (h : Head) → h.1.leaves < 2 ^ 40 → Lawful (λ (l : LevelValue). LevelTold h l × Behind l) (behind_text by)
+    (λ bytes. counted_at (entry_at by h.1.leaves) bytes >>= λ kept. counted_at digest_in_front kept.1 >>= λ hashes. Some (record { tip = h.0; roots = h.1; kept = kept.0; hashes = hashes.0 }, hashes.1))
+level_behind by h few =
+    same _ (λ (l : LevelValue). LevelTold h l × Behind l) _ (behind_text by) _
+    (led (LevelTold h) (AreCounted (EntryFits h.1.leaves)) (counted (entry_text by h.1.leaves)) (counted_at (entry_at by h.1.leaves)) (λ l. l.kept) _ _ _
+    (counted_lawful (EntryFits h.1.leaves) (entry_text by h.1.leaves) (entry_at by h.1.leaves) (entry_lawful by h.1.leaves few)) (λ kept _.
     led (λ (l : LevelValue). LevelTold h l × (l.kept ≡ kept)) (AreCounted IsDigest) (counted digest_text) (counted_at digest_in_front) (λ l. l.hashes) _ _ _ (counted_lawful IsDigest digest_text digest_in_front digest_lawful) (λ hashes _.
     ended (λ (l : LevelValue). (LevelTold h l × (l.kept ≡ kept)) × (l.hashes ≡ hashes))
     (record { tip = h.0; roots = h.1; kept = kept; hashes = hashes }) (((tt, refl), refl), refl)
     (λ l e. rw (← e.0.0.1, ← e.0.1, ← e.1) refl))))
     (λ l f. (f.0, (subst (λ (x : Head). AreCounted (EntryFits x.1.leaves) l.kept) (sym f.0.1) f.1.0, f.1.1)))
     (λ l f. (f.0, (subst (λ (x : Head). AreCounted (EntryFits x.1.leaves) l.kept) f.0.1 f.1.0, f.1.1)))
-    (λ l f. ap (λ (x : Head). counted (entry_text x.1.leaves) l.kept ++ (counted digest_text l.hashes ++ [])) (sym f.0.1))
+    (λ l f. ap (λ (x : Head). counted (entry_text by x.1.leaves) l.kept ++ (counted digest_text l.hashes ++ [])) (sym f.0.1))
 
-pub level_lawful : (most : ℕ) → most < 2 ^ 40 → Lawful (LevelFits most) level_text (level_at most)
+pub level_lawful : (by : Naming) (most : ℕ) → most < 2 ^ 40 → Lawful (LevelFits most) (level_text by) (level_at by most)
 unfolding level_at level_text
-level_lawful most few =
-    same _ (LevelFits most) _ level_text (level_at most)
-    (led Always (HeadFits most) head_text (head_at most) head_of _ _ _ (head_lawful most few) (λ h fits. level_behind h (omega (arith, fits.leaves, few))))
+level_lawful by most few =
+    same _ (LevelFits most) _ (level_text by) (level_at by most)
+    (led Always (HeadFits most) head_text (head_at most) head_of _ _ _ (head_lawful most few) (λ h fits. level_behind by h (omega (arith, fits.leaves, few))))
     (λ l f. record {
       tip = f.1.0.tip;
       leaves = f.1.0.leaves;
@@ -117,7 +118,7 @@ level_lawful most few =
       hashes = f.1.1.1.0.1;
     })
     (λ l f. (tt, (record { tip = f.tip; leaves = f.leaves; roots = record { stump = f.roots; digests = f.digests } }, ((f.count_of_kept, f.kept), ((f.count_of_hashes, f.hashes), tt)))))
-    (λ l _. regrouped l.tip.0 (to_le_bytes w64 l.roots.leaves) (roots_text 40 l.roots) (counted (entry_text l.roots.leaves) l.kept) (counted digest_text l.hashes))
+    (λ l _. regrouped l.tip.0 (to_le_bytes w64 l.roots.leaves) (roots_text 40 l.roots) (counted (entry_text by l.roots.leaves) l.kept) (counted digest_text l.hashes))
   where
     regrouped : (t n r k h : List ℕ) → (t ++ (n ++ (r ++ []))) ++ (k ++ (h ++ [])) ≡ t ++ n ++ r ++ k ++ h
     regrouped t n r k h = simp (append_assoc, append-nil)
@@ -201,13 +202,13 @@ front_of s = (s.net, s.blocks)
 abbrev BodyTold : Front → List (List ℕ) → ℕ → StateValue → Type 0
 BodyTold front scripts count s = ((Unit {0} × (front_of s ≡ front)) × (s.scripts ≡ scripts)) × (length s.levels ≡ count)
 
-body_levels : (most : ℕ) → most < 2 ^ 40 → (front : Front) (scripts : List (List ℕ)) (count : ℕ)
-    → Lawful (λ (s : StateValue). BodyTold front scripts count s × (AllByRecursion (LevelFits most) s.levels × Unit {0})) (λ s. flat_map level_text s.levels ++ [])
-    (λ bytes. times (level_at most) count bytes >>= λ levels. Some (record { net = front.0; blocks = front.1; scripts = scripts; levels = levels.0 }, levels.1))
-body_levels most few front scripts count =
-    same _ (λ (s : StateValue). BodyTold front scripts count s × (AllByRecursion (LevelFits most) s.levels × Unit {0})) _ (λ s. flat_map level_text s.levels ++ []) _
-    (led (BodyTold front scripts count) (λ ls. (length ls ≡ count) × AllByRecursion (LevelFits most) ls) (flat_map level_text) (times (level_at most) count) (λ (s : StateValue). s.levels) _ _ _
-    (repeated (LevelFits most) level_text (level_at most) (level_lawful most few) count) (λ levels fits.
+body_levels : (by : Naming) (most : ℕ) → most < 2 ^ 40 → (front : Front) (scripts : List (List ℕ)) (count : ℕ)
+    → Lawful (λ (s : StateValue). BodyTold front scripts count s × (AllByRecursion (LevelFits most) s.levels × Unit {0})) (λ s. flat_map (level_text by) s.levels ++ [])
+    (λ bytes. times (level_at by most) count bytes >>= λ levels. Some (record { net = front.0; blocks = front.1; scripts = scripts; levels = levels.0 }, levels.1))
+body_levels by most few front scripts count =
+    same _ (λ (s : StateValue). BodyTold front scripts count s × (AllByRecursion (LevelFits most) s.levels × Unit {0})) _ (λ s. flat_map (level_text by) s.levels ++ []) _
+    (led (BodyTold front scripts count) (λ ls. (length ls ≡ count) × AllByRecursion (LevelFits most) ls) (flat_map (level_text by)) (times (level_at by most) count) (λ (s : StateValue). s.levels) _ _ _
+    (repeated (LevelFits most) (level_text by) (level_at by most) (level_lawful by most few) count) (λ levels fits.
     ended (λ (s : StateValue). BodyTold front scripts count s × (s.levels ≡ levels))
     (record { net = front.0; blocks = front.1; scripts = scripts; levels = levels }) ((((tt, refl), refl), fits.0), refl)
     (λ s e. rw (← e.0.0.0.1, ← e.0.0.1, ← e.1) refl)))
@@ -215,17 +216,17 @@ body_levels most few front scripts count =
     (λ s f. (f.0, ((f.0.1, f.1.0), tt)))
     (λ s _. refl)
 
-pub body_lawful : (most : ℕ) → most < 2 ^ 40 → Lawful (StateFits most) body_text (body_at most)
+pub body_lawful : (by : Naming) (most : ℕ) → most < 2 ^ 40 → Lawful (StateFits most) (body_text by) (body_at by most)
 unfolding body_at body_text
-body_lawful most few =
-    same _ (StateFits most) _ body_text (body_at most)
+body_lawful by most few =
+    same _ (StateFits most) _ (body_text by) (body_at by most)
     (led Always FrontFits front_text front_at front_of _ _ _ front_lawful (λ front _.
     led (λ (s : StateValue). Unit {0} × (front_of s ≡ front)) (AreCounted ScriptFits) (counted sized) (counted_at sized_at) (λ s. s.scripts) _ _ _ (counted_lawful ScriptFits sized sized_at sized_lawful) (λ scripts _.
     led (λ (s : StateValue). (Unit {0} × (front_of s ≡ front)) × (s.scripts ≡ scripts)) (λ n. n < 256) (λ n. n ∷ []) byte_at (λ s. length s.levels) _ _ _ byte_lawful (λ count _.
-    body_levels most few front scripts count))))
+    body_levels by most few front scripts count))))
     (λ s f. record { blocks = f.1.0; count_of_scripts = f.1.1.0.0; scripts = f.1.1.0.1; count_of_levels = f.1.1.1.0; levels = f.1.1.1.1.0 })
     (λ s f. (tt, (f.blocks, ((f.count_of_scripts, f.scripts), (f.count_of_levels, (f.levels, tt))))))
-    (λ s _. regrouped (net_code s.net ∷ []) (to_le_bytes w32 s.blocks) (counted sized s.scripts) (length s.levels ∷ []) (flat_map level_text s.levels))
+    (λ s _. regrouped (net_code s.net ∷ []) (to_le_bytes w32 s.blocks) (counted sized s.scripts) (length s.levels ∷ []) (flat_map (level_text by) s.levels))
   where
     regrouped : (n b s c l : List ℕ) → (n ++ (b ++ [])) ++ (s ++ (c ++ (l ++ []))) ≡ n ++ b ++ s ++ c ++ l
     regrouped n b s c l = simp (append_assoc, append-nil)
@@ -233,26 +234,26 @@ body_lawful most few =
 -- ---- the whole
 
 -- bytes are the body of what has a text
-pub record IsBody (most : ℕ) (bytes : List ℕ) (s : StateValue) : Type 0 where
+pub record IsBody (by : Naming) (most : ℕ) (bytes : List ℕ) (s : StateValue) : Type 0 where
   pub fits : StateFits most s
-  pub text : bytes ≡ body_text s
+  pub text : bytes ≡ body_text by s
 
-pub whole_took : (most : ℕ) → most < 2 ^ 40 → (bytes : List ℕ) (s : StateValue) (left : List ℕ) → IsBytes bytes → whole_at most bytes ≡ Some (s, left) → IsBody most bytes s
+pub whole_took : (by : Naming) (most : ℕ) → most < 2 ^ 40 → (bytes : List ℕ) (s : StateValue) (left : List ℕ) → IsBytes bytes → whole_at by most bytes ≡ Some (s, left) → IsBody by most bytes s
 unfolding whole_at
-whole_took most few bytes s left is_bytes e =
-    let b = bind_some (body_at most bytes) (λ x. cond (eqb (length x.1) 0) (Some x) None) (s, left) e in
+whole_took by most few bytes s left is_bytes e =
+    let b = bind_some (body_at by most bytes) (λ x. cond (eqb (length x.1) 0) (Some x) None) (s, left) e in
     let g = passed (eqb (length b.0.1) 0) b.0 (s, left) b.2 in
-    let t = (body_lawful most few).took bytes b.0.0 b.0.1 is_bytes b.1 in
+    let t = (body_lawful by most few).took bytes b.0.0 b.0.1 is_bytes b.1 in
     let none : b.0.1 ≡ [] = nil_from_length b.0.1 (eqb-true _ _ g.0) in
-    let text : bytes ≡ body_text b.0.0 = t.parts ∙ ap (λ (r : List ℕ). body_text b.0.0 ++ r) none ∙ append-nil (body_text b.0.0) in
-    subst (λ (q : StateValue × List ℕ). IsBody most bytes q.0) g.1 (record { fits = t.fits; text = text })
+    let text : bytes ≡ body_text by b.0.0 = t.parts ∙ ap (λ (r : List ℕ). body_text by b.0.0 ++ r) none ∙ append-nil (body_text by b.0.0) in
+    subst (λ (q : StateValue × List ℕ). IsBody by most bytes q.0) g.1 (record { fits = t.fits; text = text })
 
-pub whole_again : (most : ℕ) → most < 2 ^ 40 → (s : StateValue) → StateFits most s → whole_at most (body_text s) ≡ Some (s, [])
+pub whole_again : (by : Naming) (most : ℕ) → most < 2 ^ 40 → (s : StateValue) → StateFits most s → whole_at by most (body_text by s) ≡ Some (s, [])
 unfolding whole_at
-whole_again most few s fits =
-    let e : body_at most (body_text s) ≡ Some (s, []) = ap (body_at most) (sym (append-nil (body_text s))) ∙ (body_lawful most few).again s [] fits in
+whole_again by most few s fits =
+    let e : body_at by most (body_text by s) ≡ Some (s, []) = ap (body_at by most) (sym (append-nil (body_text by s))) ∙ (body_lawful by most few).again s [] fits in
     rw e refl
 
 -- a text is that of one state
-pub one_body : (most : ℕ) → most < 2 ^ 40 → (s t : StateValue) → StateFits most s → StateFits most t → body_text s ≡ body_text t → s ≡ t
-one_body most few s t fs ft e = ap (λ p. p.0) (some_is (s, []) (t, []) (sym (whole_again most few s fs) ∙ (ap (whole_at most) e ∙ whole_again most few t ft)))
+pub one_body : (by : Naming) (most : ℕ) → most < 2 ^ 40 → (s t : StateValue) → StateFits most s → StateFits most t → body_text by s ≡ body_text by t → s ≡ t
+one_body by most few s t fs ft e = ap (λ p. p.0) (some_is (s, []) (t, []) (sym (whole_again by most few s fs) ∙ (ap (whole_at by most) e ∙ whole_again by most few t ft)))

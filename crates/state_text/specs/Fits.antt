@@ -10,6 +10,7 @@ use Rattle.cache_model.specs.Known.{is_watched}
 use Rattle.leaf_cache.specs.Watched.{AreWatched}
 use Rattle.node_rules.specs.Machine.{no_tip}
 use Rattle.state_text.specs.declared.entry.StoredEntry.{StoredEntry}
+use Rattle.forest_place.specs.declared.naming.Naming.{Naming}
 use Rattle.state_text.specs.Stored.{LevelValue, StateValue, StandsWithin, places_of, leaves_of, body_text}
 
 -- ---- which have a text
@@ -102,6 +103,6 @@ pub record IsState (H : List ℕ → Digest) (most : ℕ) (s : StateValue) : Typ
   pub fits : StateFits most s
   pub sound : IsSound H most s
 
--- some state's text has this behind its version
-abbrev pub HasBody : (List ℕ → Digest) → ℕ → List ℕ → Type 0
-HasBody H most body = (s : StateValue) × IsState H most s × (body ≡ body_text s)
+-- some state's text, with places named so, has this behind its version
+abbrev pub HasBody : (List ℕ → Digest) → Naming → ℕ → List ℕ → Type 0
+HasBody H by most body = (s : StateValue) × IsState H most s × (body ≡ body_text by s)

@@ -16,7 +16,7 @@ use Rattle.forest_roots.specs.Stump.{Stump}
 use Rattle.cache_model.specs.Known.{is_watched}
 use Rattle.node_rules.specs.Machine.{Level, State, no_tip}
 use Rattle.state_text.specs.declared.entry.StoredEntry.{StoredEntry}
-use Rattle.state_text.specs.Stored.{LevelValue, StateValue, places_of, state_text}
+use Rattle.state_text.specs.Stored.{LevelValue, StateValue, places_of, IsTextOf}
 use Rattle.leaf_cache.specs.Watched.{AreWatched}
 use Rattle.state_text.specs.Fits.{IsState}
 
@@ -89,6 +89,6 @@ abbrev pub HistoryHasState : Type 0
 HistoryHasState = (H : List ℕ → Digest) (net : Net) (scripts : List (List ℕ)) (most : ℕ) (s : State) →
     ((x : List ℕ) → IsDigest (H x)) → most < 2 ^ 40 → AreWatched scripts → IsHistory most s → IsState H most (state_of H net scripts s)
 
--- and a text is that of one state alone
+-- and a text is that of one state alone, whatever its version
 abbrev pub OneState : Type 0
-OneState = (H : List ℕ → Digest) (most : ℕ) (s t : StateValue) → most < 2 ^ 40 → IsState H most s → IsState H most t → state_text s ≡ state_text t → s ≡ t
+OneState = (H : List ℕ → Digest) (most : ℕ) (text : List ℕ) (s t : StateValue) → most < 2 ^ 40 → IsState H most s → IsState H most t → IsTextOf s text → IsTextOf t text → s ≡ t

@@ -8,6 +8,7 @@ use Rattle.uo_digest.specs.declared.digest.Digest.{Digest}
 use Rattle.forest_place.specs.declared.place.Place.{Place}
 use Rattle.proof_shape.specs.Shape.{AreTargets}
 use Rattle.leaf_cache.specs.Watched.{IsScript}
+use Rattle.forest_place.specs.declared.naming.Naming.TheVariants.{FixedPosition}
 use Rattle.state_text.specs.Stored.{LevelValue, level_text}
 use Rattle.state_text.specs.Fits.{IsLevel}
 use Rattle.state_text.specs.Cached.{CachedLevel, level_in, IsFilled}
@@ -28,9 +29,9 @@ pub record AreScripts (scripts : List (List ℕ)) : Type 0 where
 abbrev pub HasTargets : ℕ → List ℕ → Type 0
 HasTargets n positions = (ts : List Place) × AreTargets n positions ts
 
--- the text of a level as a node keeps it
+-- the text that is written of a level as a node keeps it
 abbrev pub kept_text : CachedLevel → List ℕ
-kept_text l = level_text (level_in l)
+kept_text l = level_text FixedPosition (level_in l)
 
 -- what was made of a level that was read
 pub record IsMadeLevel (H : List ℕ → Digest) (scripts : List (List ℕ)) (l : LevelValue) (made : CachedLevel) : Type 0 where

@@ -10,7 +10,8 @@ use Rattle.leaf_record.specs.Reading.{rest_at}
 use Rattle.uo_digest.specs.Reading.{digest_in_front}
 use Rattle.forest_place.specs.declared.place.Place.{Place}
 use Rattle.forest_place.specs.Forest.{is_slot}
-use Rattle.forest_place.specs.Position.{place_at}
+use Rattle.forest_place.specs.declared.naming.Naming.{Naming}
+use Rattle.forest_place.specs.Named.{place_by}
 use Rattle.forest_roots.specs.Stump.{Stump, empty_roots, with_root}
 use Rattle.state_text.specs.declared.fault.StateFault.{StateFault}
 use Rattle.state_text.specs.declared.fault.StateFault.TheVariants.{NotAState, Version, NoMemory}
@@ -38,17 +39,17 @@ roots_at (suc row) f bytes =
     then (root_at bytes >>= λ root. roots_at row (with_root f row root.0) root.1)
     else roots_at row f bytes
 
--- the place of the forest over n that a position names
-unfoldable pub placed_at : ℕ → List ℕ → Option (Place × List ℕ)
-placed_at n bytes = do
+-- the place of the forest over n that is named
+unfoldable pub placed_at : Naming → ℕ → List ℕ → Option (Place × List ℕ)
+placed_at by n bytes = do
   number ← number_at w64 bytes
-  place ← place_at n number.0
+  place ← place_by by n number.0
   Some (place, number.1)
 
-unfoldable pub entry_at : ℕ → List ℕ → Option (StoredEntry × List ℕ)
-entry_at n bytes = do
+unfoldable pub entry_at : Naming → ℕ → List ℕ → Option (StoredEntry × List ℕ)
+entry_at by n bytes = do
   number ← number_at w64 bytes
-  place ← placed_at n number.1
+  place ← placed_at by n number.1
   txid ← digest_in_front place.1
   index ← number_at w32 txid.1
   rest ← rest_at index.1
@@ -62,10 +63,10 @@ head_at most bytes = do
   roots ← roots_at 40 (empty_roots n.0) n.1
   Some ((tip.0, roots.0), roots.1)
 
-unfoldable pub level_at : ℕ → List ℕ → Option (LevelValue × List ℕ)
-level_at most bytes = do
+unfoldable pub level_at : Naming → ℕ → List ℕ → Option (LevelValue × List ℕ)
+level_at by most bytes = do
   head ← head_at most bytes
-  kept ← counted_at (entry_at head.0.1.leaves) head.1
+  kept ← counted_at (entry_at by head.0.1.leaves) head.1
   hashes ← counted_at digest_in_front kept.1
   Some (record { tip = head.0.0; roots = head.0.1; kept = kept.0; hashes = hashes.0 }, hashes.1)
 
@@ -82,18 +83,18 @@ front_at bytes = do
   Some ((net.0, blocks.0), blocks.1)
 
 -- what follows the version
-unfoldable pub body_at : ℕ → List ℕ → Option (StateValue × List ℕ)
-body_at most bytes = do
+unfoldable pub body_at : Naming → ℕ → List ℕ → Option (StateValue × List ℕ)
+body_at by most bytes = do
   front ← front_at bytes
   scripts ← counted_at sized_at front.1
   count ← byte_at scripts.1
-  levels ← times (level_at most) count.0 count.1
+  levels ← times (level_at by most) count.0 count.1
   Some (record { net = front.0.0; blocks = front.0.1; scripts = scripts.0; levels = levels.0 }, levels.1)
 
 -- a body, and nothing after it
-unfoldable pub whole_at : ℕ → List ℕ → Option (StateValue × List ℕ)
-whole_at most bytes = do
-  body ← body_at most bytes
+unfoldable pub whole_at : Naming → ℕ → List ℕ → Option (StateValue × List ℕ)
+whole_at by most bytes = do
+  body ← body_at by most bytes
   if length body.1 == 0 then Some body else None
 
 -- What a fault says of a claim that there is nothing: that there is nothing, or that there was no memory. No version is told.

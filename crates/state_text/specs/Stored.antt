@@ -1,4 +1,4 @@
--- What a node stores of itself, and its one text.
+-- What a node stores of itself, and its text in each version: they differ in how places are named.
 use Rattle.std.specs.Prelude.{◌≡◌, ◌≢◌, ℕ, zero, suc, List, [], ◌∷◌, ◌++◌, map, length, Option, Some, None, if◌then◌else◌}
 use Rattle.std.specs.Int.{w32, w64, to_le_bytes}
 use Rattle.std.specs.List.{flat_map}
@@ -10,7 +10,9 @@ use Rattle.leaf_record.specs.Leaf.{Leaf, rest_text}
 use Rattle.uo_digest.specs.Reading.{digest_text}
 use Rattle.forest_place.specs.declared.place.Place.{Place}
 use Rattle.forest_place.specs.Forest.{InForest, is_slot}
-use Rattle.forest_place.specs.Position.{position}
+use Rattle.forest_place.specs.declared.naming.Naming.{Naming}
+use Rattle.forest_place.specs.declared.naming.Naming.TheVariants.{FixedPosition}
+use Rattle.forest_place.specs.Named.{version_of, number_by}
 use Rattle.forest_roots.specs.Stump.{Stump, root_in}
 use Rattle.state_text.specs.declared.entry.StoredEntry.{StoredEntry}
 
@@ -56,34 +58,42 @@ unfoldable pub roots_text : ℕ → Stump → List ℕ
 roots_text zero f = []
 roots_text (suc row) f = if is_slot f.leaves row then root_text (root_in f row) ++ roots_text row f else roots_text row f
 
--- among n entries: number, position, outpoint and rest
-unfoldable pub entry_text : ℕ → StoredEntry → List ℕ
-entry_text n e =
-    to_le_bytes w64 e.number ++ to_le_bytes w64 (position n e.place.row e.place.off)
+-- among n entries: number, what names the place, outpoint and rest
+unfoldable pub entry_text : Naming → ℕ → StoredEntry → List ℕ
+entry_text by n e =
+    to_le_bytes w64 e.number ++ to_le_bytes w64 (number_by by n e.place)
     ++ e.leaf.point.txid.0 ++ to_le_bytes w32 e.leaf.point.index ++ rest_text e.leaf.rest
 
 -- newest block, count of entries, roots, kept entries, hashes
-unfoldable pub level_text : LevelValue → List ℕ
-level_text l =
+unfoldable pub level_text : Naming → LevelValue → List ℕ
+level_text by l =
     l.tip.0 ++ to_le_bytes w64 l.roots.leaves ++ roots_text 40 l.roots
-    ++ counted (entry_text l.roots.leaves) l.kept ++ counted digest_text l.hashes
+    ++ counted (entry_text by l.roots.leaves) l.kept ++ counted digest_text l.hashes
 
 -- what follows the version: network, count of blocks, watched scripts, count of levels, levels
-unfoldable pub body_text : StateValue → List ℕ
-body_text s =
+unfoldable pub body_text : Naming → StateValue → List ℕ
+body_text by s =
     net_code s.net ∷ [] ++ to_le_bytes w32 s.blocks ++ counted sized s.scripts
-    ++ length s.levels ∷ [] ++ flat_map level_text s.levels
+    ++ length s.levels ∷ [] ++ flat_map (level_text by) s.levels
 
--- `UTXS`, the version 1 and the body
+-- `UTXS`, the version and the body
+abbrev pub text_by : Naming → StateValue → List ℕ
+text_by by s = 85 ∷ 84 ∷ 88 ∷ 83 ∷ version_of by ∷ body_text by s
+
+-- the text that is written
 abbrev pub state_text : StateValue → List ℕ
-state_text s = 85 ∷ 84 ∷ 88 ∷ 83 ∷ 1 ∷ body_text s
+state_text s = text_by FixedPosition s
 
--- the text begins as that of a state of this other version
+-- the text is that of the state in a version that is read
+abbrev pub IsTextOf : StateValue → List ℕ → Type 0
+IsTextOf s text = (by : Naming) × (text ≡ text_by by s)
+
+-- the text begins as that of a state of this version, which is not read
 pub record IsOfVersion (v : ℕ) (text : List ℕ) : Type 0 where
-  pub other : v ≢ 1
+  pub other : (by : Naming) → v ≢ version_of by
   pub body : List ℕ
   pub begins : text ≡ 85 ∷ 84 ∷ 88 ∷ 83 ∷ v ∷ body
 
--- what stands before the levels
+-- what stands before the levels that are written
 abbrev pub front_text : Net → ℕ → List (List ℕ) → ℕ → List ℕ
-front_text net blocks scripts levels = 85 ∷ 84 ∷ 88 ∷ 83 ∷ 1 ∷ net_code net ∷ [] ++ to_le_bytes w32 blocks ++ counted sized scripts ++ levels ∷ []
+front_text net blocks scripts levels = 85 ∷ 84 ∷ 88 ∷ 83 ∷ version_of FixedPosition ∷ net_code net ∷ [] ++ to_le_bytes w32 blocks ++ counted sized scripts ++ levels ∷ []

@@ -4,6 +4,11 @@
 //! block, the roots of its entries, those entries that are kept because their script is watched, and the digests that a proof
 //! of these needs. [`read_state`] reads a whole text and refuses every one that is not a state's; [`StoredState::write`] writes
 //! the one text of a state, and [`write_front`] and [`write_level`] write it level by level.
+//!
+//! A text names places in one of two ways ([`Naming`]): in version 1 by positions, in version 2 by fixed positions. Both are read, and
+//! version 2 is written.
+//!
+//! [`Naming`]: forest_place::Naming
 #![tactic(auto)]
 
 mod entry;

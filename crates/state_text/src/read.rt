@@ -1,7 +1,7 @@
 //! Reading a state.
 ghost use Rattle.std.specs.List.{AllByRecursion};
 ghost use Rattle.std.specs.Prelude.{◌≡◌, ◌↔◌, ◌<◌, ◌^◌, ◌∷◌, ℕ, List, IfOk, IsErrOf, MatchOption, MatchResult};
-ghost use Rattle.state_text.specs.Stored.{StateValue, IsOfVersion, body_text, state_text};
+ghost use Rattle.state_text.specs.Stored.{StateValue, IsOfVersion, IsTextOf, body_text};
 ghost use Rattle.state_text.specs.Fits.{IsState, HasBody};
 ghost use Rattle.state_text.specs.Cached.{state_in, IsFilled};
 ghost use Rattle.state_text.specs.Reading.{claims};
@@ -10,6 +10,7 @@ use crate::fault::StateFault;
 use crate::judging::judge_state;
 use crate::reading::read_body;
 use crate::state::StoredState;
+use forest_place::Naming;
 use std::alloc::Global;
 use std::sync::ledger::Ledger;
 use uo_digest::{Digester, Steps};
@@ -29,24 +30,25 @@ fn split_version(text: &[u8]) -> Option<(u8, &[u8])>
     Some((text[4], &text[5..]))
 }
 
-// What follows the version 1.
-fn read_first<D: Digester, L: Ledger>(
+// What follows the version of texts that name places so.
+fn read_behind<D: Digester, L: Ledger>(
     alloc: Global,
     body: &[u8],
+    naming: Naming,
     most: u64,
     steps: &mut Steps<L>,
 ) -> Result<StoredState<D>, StateFault>
     requires { most < 2 ^ 40 }
     ensures { MatchResult result
-        (λ s. IsState D.digest_of most (state_in s) × (body.now ≡ body_text (state_in s)) × AllByRecursion (IsFilled D.digest_of) s.levels)
-        (λ e. claims e (HasBody D.digest_of most body.now → ⊥)) }
+        (λ s. IsState D.digest_of most (state_in s) × (body.now ≡ body_text naming (state_in s)) × AllByRecursion (IsFilled D.digest_of) s.levels)
+        (λ e. claims e (HasBody D.digest_of naming most body.now → ⊥)) }
 {
-    let state = read_body(alloc, body, most)?;
+    let state = read_body(alloc, body, naming, most)?;
     judge_state(alloc, state, most, steps)
 }
 
-/// Reads the state of a node of at most `most` entries, by the digester `D`: the whole text is that of a state. The lists of each
-/// level's cache are what its kept entries and hashes tell.
+/// Reads the state of a node of at most `most` entries, by the digester `D`: the whole text is that of a state, in version 1 or 2. The
+/// lists of each level's cache are what its kept entries and hashes tell.
 pub fn read_state<D: Digester, L: Ledger>(
     alloc: Global,
     text: &[u8],
@@ -54,16 +56,16 @@ pub fn read_state<D: Digester, L: Ledger>(
     steps: &mut Steps<L>,
 ) -> Result<StoredState<D>, StateFault>
     requires { most < 2 ^ 40 }
-    ensures found { IfOk result (λ s. IsState D.digest_of most (state_in s) × (text.now ≡ state_text (state_in s))) }
+    ensures found { IfOk result (λ s. IsState D.digest_of most (state_in s) × IsTextOf (state_in s) text.now) }
     ensures filled { IfOk result (λ s. AllByRecursion (IsFilled D.digest_of) s.levels) }
-    ensures none { IsErrOf result StateFault.NotAState → (s : StateValue) → IsState D.digest_of most s → text.now ≡ state_text s → ⊥ }
+    ensures none { IsErrOf result StateFault.NotAState → (s : StateValue) → IsState D.digest_of most s → IsTextOf s text.now → ⊥ }
     ensures version { (v : ℕ) → IsErrOf result (StateFault.Version v) ↔ IsOfVersion v text.now }
 {
     let Some((version, body)) = split_version(text) else {
         return Err(StateFault::NotAState);
     };
-    if version != 1 {
+    let Some(naming) = Naming::of_version(version) else {
         return Err(StateFault::Version(version));
-    }
-    read_first(alloc, body, most, steps)
+    };
+    read_behind(alloc, body, naming, most, steps)
 }

@@ -9,7 +9,7 @@ ghost use Rattle.state_text.specs.Reading.{leaves_at, root_at, roots_at, placed_
 use crate::entry::StoredEntry;
 use crate::fault::StateFault;
 use crate::spelled::{SpelledLevel, SpelledState};
-use forest_place::{Place, place_of};
+use forest_place::{Naming, Place};
 use forest_roots::Roots;
 use leaf_record::{RecordView, read_rest};
 use std::alloc::Global;
@@ -67,33 +67,42 @@ fn read_roots<D: Digester>(at: &mut Cursor<'_>, n: u64) -> Option<Roots<D>>
 }
 
 #[tactic(auto, unfolding(crate::specs::Reading::placed_at))]
-fn read_place(at: &mut Cursor<'_>, n: u64) -> Option<Place>
+fn read_place(at: &mut Cursor<'_>, naming: Naming, n: u64) -> Option<Place>
     requires { n < 2 ^ 40 }
-    ensures { Gives (λ place. place) result at.new (placed_at n at.old) }
+    ensures { Gives (λ place. place) result at.new (placed_at naming n at.old) }
 {
     let number = at.u64()?;
-    place_of(number, n)
+    naming.place(number, n)
 }
 
 // Number, place and output of an entry.
 #[tactic(auto, unfolding(crate::specs::Reading::entry_at))]
-fn read_parts<'a>(at: &mut Cursor<'a>, n: u64) -> Option<(u64, Place, RecordView<'a>)>
+fn read_parts<'a>(
+    at: &mut Cursor<'a>,
+    naming: Naming,
+    n: u64,
+) -> Option<(u64, Place, RecordView<'a>)>
     requires { n < 2 ^ 40 }
-    ensures { Gives (λ parts. record { number = parts.0; place = parts.1; leaf = parts.2 }) result at.new (entry_at n at.old) }
+    ensures { Gives (λ parts. record { number = parts.0; place = parts.1; leaf = parts.2 }) result at.new (entry_at naming n at.old) }
 {
     let number = at.u64()?;
-    let place = read_place(at, n)?;
+    let place = read_place(at, naming, n)?;
     let txid = read_digest(at)?;
     let index = at.u32()?;
     let rest = read_rest(at)?;
     Some((number, place, rest.with_outpoint(txid, index)))
 }
 
-fn read_entry(alloc: Global, at: &mut Cursor<'_>, n: u64) -> Result<StoredEntry, StateFault>
+fn read_entry(
+    alloc: Global,
+    at: &mut Cursor<'_>,
+    naming: Naming,
+    n: u64,
+) -> Result<StoredEntry, StateFault>
     requires { n < 2 ^ 40 }
-    ensures { GivesOrFails (λ e. e) claims result at.new (entry_at n at.old) }
+    ensures { GivesOrFails (λ e. e) claims result at.new (entry_at naming n at.old) }
 {
-    let Some((number, place, leaf)) = read_parts(at, n) else {
+    let Some((number, place, leaf)) = read_parts(at, naming, n) else {
         return Err(StateFault::NotAState);
     };
     Ok(StoredEntry {
@@ -103,28 +112,34 @@ fn read_entry(alloc: Global, at: &mut Cursor<'_>, n: u64) -> Result<StoredEntry,
     })
 }
 
-fn read_entries(alloc: Global, at: &mut Cursor<'_>, n: u64) -> Result<Vec<StoredEntry>, StateFault>
+fn read_entries(
+    alloc: Global,
+    at: &mut Cursor<'_>,
+    naming: Naming,
+    n: u64,
+) -> Result<Vec<StoredEntry>, StateFault>
     requires { n < 2 ^ 40 }
-    ensures { GivesOrFails (λ entries. entries.items) claims result at.new (counted_at (entry_at n) at.old) }
+    ensures { GivesOrFails (λ entries. entries.items) claims result at.new (counted_at (entry_at naming n) at.old) }
 {
     let Some(count) = at.compact() else {
         return Err(StateFault::NotAState);
     };
-    gather_entries(alloc, at, n, count)
+    gather_entries(alloc, at, naming, n, count)
 }
 
 fn gather_entries(
     alloc: Global,
     at: &mut Cursor<'_>,
+    naming: Naming,
     n: u64,
     count: u64,
 ) -> Result<Vec<StoredEntry>, StateFault>
     requires { n < 2 ^ 40 }
-    ensures { GivesOrFails (λ entries. entries.items) claims result at.new (times (entry_at n) count at.old) }
+    ensures { GivesOrFails (λ entries. entries.items) claims result at.new (times (entry_at naming n) count at.old) }
 {
     let mut entries = Vec::new(alloc);
     for _ in 0..count {
-        entries.push(read_entry(alloc, at, n)?)?;
+        entries.push(read_entry(alloc, at, naming, n)?)?;
     }
     Ok(entries)
 }
@@ -155,15 +170,16 @@ fn gather_hashes(alloc: Global, at: &mut Cursor<'_>, count: u64) -> Result<Vec<D
 fn read_level<D: Digester>(
     alloc: Global,
     at: &mut Cursor<'_>,
+    naming: Naming,
     most: u64,
 ) -> Result<SpelledLevel<D>, StateFault>
     requires { most < 2 ^ 40 }
-    ensures { GivesOrFails (λ l. l) claims result at.new (level_at most at.old) }
+    ensures { GivesOrFails (λ l. l) claims result at.new (level_at naming most at.old) }
 {
     let Some((tip, roots)) = read_head(at, most) else {
         return Err(StateFault::NotAState);
     };
-    let kept = read_entries(alloc, at, roots.leaves())?;
+    let kept = read_entries(alloc, at, naming, roots.leaves())?;
     let hashes = read_hashes(alloc, at)?;
     Ok(SpelledLevel {
         tip,
@@ -188,15 +204,16 @@ fn read_head<D: Digester>(at: &mut Cursor<'_>, most: u64) -> Option<(Digest, Roo
 fn gather_levels<D: Digester>(
     alloc: Global,
     at: &mut Cursor<'_>,
+    naming: Naming,
     most: u64,
     count: u8,
 ) -> Result<Vec<SpelledLevel<D>>, StateFault>
     requires { most < 2 ^ 40 }
-    ensures { GivesOrFails (λ levels. levels.items) claims result at.new (times (level_at most) count at.old) }
+    ensures { GivesOrFails (λ levels. levels.items) claims result at.new (times (level_at naming most) count at.old) }
 {
     let mut levels = Vec::new(alloc);
     for _ in 0..count {
-        levels.push(read_level(alloc, at, most)?)?;
+        levels.push(read_level(alloc, at, naming, most)?)?;
     }
     Ok(levels)
 }
@@ -268,10 +285,11 @@ fn read_front(at: &mut Cursor<'_>) -> Option<(Net, u32)>
 pub(crate) fn read_body<D: Digester>(
     alloc: Global,
     body: &[u8],
+    naming: Naming,
     most: u64,
 ) -> Result<SpelledState<D>, StateFault>
     requires { most < 2 ^ 40 }
-    ensures { GivesOrFails (λ s. s) claims result [] (whole_at most body.now) }
+    ensures { GivesOrFails (λ s. s) claims result [] (whole_at naming most body.now) }
 {
     let mut at = Cursor::new(body);
     let Some((net, blocks)) = read_front(&mut at) else {
@@ -281,7 +299,7 @@ pub(crate) fn read_body<D: Digester>(
     let Some(count) = at.u8() else {
         return Err(StateFault::NotAState);
     };
-    let levels = gather_levels(alloc, &mut at, most, count)?;
+    let levels = gather_levels(alloc, &mut at, naming, most, count)?;
     if !at.rest().is_empty() {
         return Err(StateFault::NotAState);
     }

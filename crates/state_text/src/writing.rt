@@ -9,6 +9,7 @@ ghost use Rattle.uo_base.specs.Moved.{Grew, AppendsPart};
 ghost use Rattle.uo_base.specs.Compact.{sized, counted};
 ghost use Rattle.uo_digest.specs.Reading.{digest_text};
 ghost use Rattle.leaf_record.specs.Leaf.{rest_text};
+ghost use Rattle.forest_place.specs.declared.naming.Naming.TheVariants.{FixedPosition};
 ghost use Rattle.forest_place.specs.Forest.{InForest};
 ghost use Rattle.forest_place.specs.Places.{AreWithin};
 ghost use Rattle.forest_model.specs.Cover.{HasShape, need};
@@ -22,7 +23,7 @@ use crate::fault::StateFault;
 use crate::level::StoredLevel;
 use crate::state::StoredState;
 use crate::targets::targets_of;
-use forest_place::{Place, position};
+use forest_place::{Naming, Place};
 use forest_roots::Roots;
 use leaf_cache::{Kept, Parts, Watch, digest_in};
 use leaf_record::{Record, RecordView, write_rest};
@@ -71,12 +72,12 @@ fn put_leaf(out: &mut Vec<u8>, leaf: &RecordView<'_>) -> Result<(), NoMemory>
     Ok(())
 }
 
-fn put_numbers(out: &mut Vec<u8>, number: u64, position: u64) -> Result<(), NoMemory>
-    ensures ok { OnOk result (out.new.items ≡ out.old.items ++ (to_le_bytes w64 number ++ to_le_bytes w64 position)) }
+fn put_numbers(out: &mut Vec<u8>, number: u64, place: u64) -> Result<(), NoMemory>
+    ensures ok { OnOk result (out.new.items ≡ out.old.items ++ (to_le_bytes w64 number ++ to_le_bytes w64 place)) }
     ensures err { OnErr result (Grew out.old.items out.new.items) }
 {
     out.extend_from_slice(&number.to_le_bytes())?;
-    out.extend_from_slice(&position.to_le_bytes())?;
+    out.extend_from_slice(&place.to_le_bytes())?;
     Ok(())
 }
 
@@ -91,11 +92,11 @@ fn put_entry(
 ) -> Result<(), NoMemory>
     requires few { n < 2 ^ 40 }
     requires within { InForest n place.row place.off }
-    ensures ok { OnOk result (out.new.items ≡ out.old.items ++ entry_text n (record { number = number; place = place; leaf = leaf.now })) }
+    ensures ok { OnOk result (out.new.items ≡ out.old.items ++ entry_text FixedPosition n (record { number = number; place = place; leaf = leaf.now })) }
     ensures err { OnErr result (Grew out.old.items out.new.items) }
 {
     let view = leaf.view();
-    let at = position(place, n);
+    let at = Naming::FixedPosition.number(place, n);
     put_numbers(out, number, at)?;
     put_leaf(out, &view)?;
     Ok(())
@@ -105,7 +106,7 @@ fn put_entry(
 fn put_entries(out: &mut Vec<u8>, n: u64, kept: &[Kept]) -> Result<(), NoMemory>
     requires few { n < 2 ^ 40 }
     requires within { AreWithin n (leaf_places kept.now) }
-    ensures ok { OnOk result (out.new.items ≡ out.old.items ++ counted (entry_text n) (map entry_of kept.now)) }
+    ensures ok { OnOk result (out.new.items ≡ out.old.items ++ counted (entry_text FixedPosition n) (map entry_of kept.now)) }
     ensures err { OnErr result (Grew out.old.items out.new.items) }
 {
     put_compact(out, kept.len() as u64)?;
@@ -181,7 +182,7 @@ fn put_level<D: Digester>(
     hashes: &[Digest],
 ) -> Result<(), NoMemory>
     requires { AreWithin roots.now.leaves (leaf_places kept.now) }
-    ensures ok { OnOk result (out.new.items ≡ out.old.items ++ level_text (record { tip = tip; roots = roots.now; kept = map entry_of kept.now; hashes = hashes.now })) }
+    ensures ok { OnOk result (out.new.items ≡ out.old.items ++ level_text FixedPosition (record { tip = tip; roots = roots.now; kept = map entry_of kept.now; hashes = hashes.now })) }
     ensures err { OnErr result (Grew out.old.items out.new.items) }
 {
     let n = roots.leaves();
@@ -234,7 +235,14 @@ fn put_front(
     ensures ok { OnOk result (out.new.items ≡ out.old.items ++ front_text net blocks watch.now levels) }
     ensures err { OnErr result (Grew out.old.items out.new.items) }
 {
-    out.extend_from_slice(&[b'U', b'T', b'X', b'S', 1, code_of(net)])?;
+    out.extend_from_slice(&[
+        b'U',
+        b'T',
+        b'X',
+        b'S',
+        Naming::FixedPosition.version(),
+        code_of(net),
+    ])?;
     out.extend_from_slice(&blocks.to_le_bytes())?;
     put_scripts(out, watch)?;
     out.push(levels)?;
@@ -262,7 +270,7 @@ fn level_bytes<D: Digester>(
     parts: &Parts,
 ) -> Result<Vec<u8>, NoMemory>
     requires { HasShape roots.now.leaves (leaf_places parts.now.kept) }
-    ensures { IfOk result (λ bytes. bytes.items ≡ level_text (level_in (record { tip = tip; roots = roots.now; kept = parts.now.kept; held = parts.now.held }))) }
+    ensures { IfOk result (λ bytes. bytes.items ≡ level_text FixedPosition (level_in (record { tip = tip; roots = roots.now; kept = parts.now.kept; held = parts.now.held }))) }
 {
     let targets = targets_in(alloc, roots.leaves(), &parts.kept)?;
     let hashes = digests_at(alloc, &parts.held, targets.needed())?;
@@ -313,8 +321,8 @@ pub fn write_level<W: Sink, D: Digester>(
     parts: &Parts,
 ) -> Result<(), SinkFault>
     requires { HasShape roots.now.leaves (leaf_places parts.now.kept) }
-    ensures whole { OnOk result (Appends (W.held sink.old) (W.held sink.new) (level_text (level_in (record { tip = tip; roots = roots.now; kept = parts.now.kept; held = parts.now.held })))) }
-    ensures part { AppendsPart (W.held sink.old) (W.held sink.new) (level_text (level_in (record { tip = tip; roots = roots.now; kept = parts.now.kept; held = parts.now.held }))) }
+    ensures whole { OnOk result (Appends (W.held sink.old) (W.held sink.new) (level_text FixedPosition (level_in (record { tip = tip; roots = roots.now; kept = parts.now.kept; held = parts.now.held })))) }
+    ensures part { AppendsPart (W.held sink.old) (W.held sink.new) (level_text FixedPosition (level_in (record { tip = tip; roots = roots.now; kept = parts.now.kept; held = parts.now.held }))) }
     ensures later { W.faults sink.old ≤ W.faults sink.new }
     ensures cause { IsErrOf result SinkFault.Failed → Rose (W.faults sink.old) (W.faults sink.new) }
 {
