@@ -1,5 +1,5 @@
 //! A long list of coins, cut into piles.
-ghost use Rattle.std.specs.Prelude.{◌≡◌, ◌≤◌, ◌<◌, ◌++◌, [], length, IfOk, OnOk, OnErr};
+ghost use Rattle.std.specs.Prelude.{◌≡◌, ◌≤◌, ◌<◌, ◌+◌, ◌++◌, [], length, IfOk, OnOk, OnErr};
 ghost use Rattle.std.specs.List.{remove};
 ghost use Rattle.chain_gen.specs.Coins.{coin_at};
 ghost use Rattle.chain_gen.specs.Piles.{IsAt, all_of};
@@ -9,9 +9,6 @@ use crate::pile::Pile;
 use std::alloc::Global;
 use std::marker::Model;
 use uo_base::NoMemory;
-
-/// Thousands of times the coins of the longest feed, and few enough to be counted with those behind them.
-const MOST_COINS: usize = u32::MAX as usize;
 
 /// A long list of coins, cut into piles: where one is taken out, only its pile is made anew, and a copy of the list shares all of them.
 #[derive(Drop)]
@@ -61,14 +58,12 @@ impl Piles {
         })
     }
 
-    /// Puts a pile behind the others. More than the most coins are refused as a want of memory.
+    /// Puts a pile behind the others.
     pub fn push(&mut self, pile: Pile) -> Result<(), NoMemory>
+        requires { length self.old + length pile ≤ 4294967295 }
         ensures pushed { OnOk result (self.new ≡ self.old ++ pile) }
         ensures kept { OnErr result (self.new ≡ self.old) }
     {
-        if MOST_COINS - self.len < pile.len() {
-            return Err(NoMemory);
-        }
         let len = self.len + pile.len();
         self.piles.push(pile)?;
         self.len = len;

@@ -98,7 +98,8 @@ impl Purse {
 
     /// The chain has one more block.
     pub fn rise(&mut self, alloc: Global) -> Result<(), NoMemory>
-        requires { self.old.height < 100001 }
+        requires height { self.old.height < 100001 }
+        requires few { length self.old.coins ≤ 4294967295 }
         ensures { OnOk result (self.new ≡ record { height = self.old.height + 1; coins = self.old.coins }) }
     {
         self.height += 1;

@@ -1,5 +1,5 @@
 //! The entries by their numbers.
-ghost use Rattle.std.specs.Prelude.{◌≡◌, ◌<◌, ◌++◌, [], ◌∷◌, length, true, Some, None, IfOk, OnOk, OnErr, IsSome, option_map};
+ghost use Rattle.std.specs.Prelude.{◌≡◌, ◌<◌, ◌≤◌, ◌+◌, ◌^◌, ◌++◌, [], ◌∷◌, length, true, Some, None, IfOk, OnOk, OnErr, IsSome, option_map, vec_len, vec_capacity};
 ghost use Rattle.std.specs.List.{AllByRecursion};
 ghost use Rattle.output_index.specs.Chains.{entry_at, lives_in, changed, removed, set_live, set_older, entries_from};
 
@@ -14,21 +14,25 @@ use uo_base::NoMemory;
 ///
 /// The cells of entries that were taken out are kept for the next ones, so that a block which spends as many outputs as it makes asks
 /// for no memory here. A new cell is made only where none is spare, so there are never more, held and spare, than the most entries that
-/// were held at once.
+/// were held at once. For each cell that is made there is made room among the spare ones too, so to take out an entry takes no memory.
 #[derive(Drop)]
 pub(crate) struct Entries {
     slots: Vec<Option<Slot>>,
+    held: usize,
     spare: Vec<Slot>,
 }
 
 impl Model for Entries {
-    ghost use Rattle.std.specs.Prelude.{ℕ, List};
+    ghost use Rattle.std.specs.Prelude.{ℕ, List, vec_len, vec_capacity};
     ghost use Rattle.output_index.specs.declared.entry.Entry.{Entry};
     ghost use Rattle.output_index.specs.Chains.{entries_from};
+    ghost use Rattle.output_index.specs.Spare.{CanKeepAll};
 
     ghost Value = { List (ℕ × Entry) };
 
     ghost view = { λ s. entries_from 0 s.slots.items };
+
+    ghost invariant = { λ s. CanKeepAll (entries_from 0 s.slots.items) s.held (vec_len s.spare) (vec_capacity s.spare) };
 }
 
 impl Entries {
@@ -38,6 +42,7 @@ impl Entries {
     {
         Entries {
             slots: Vec::new(alloc),
+            held: 0,
             spare: Vec::new(alloc),
         }
     }
@@ -103,12 +108,14 @@ impl Entries {
         ensures err { OnErr result (self.new ≡ self.old) }
     {
         end_at(&mut self.slots, number as usize)?;
-        let slot = cell(&mut self.spare, alloc, leaf)?;
-        self.slots.push(Some(slot))?;
+        self.slots.reserve(1)?;
+        let slot = cell(&mut self.spare, self.held, alloc, leaf)?;
+        self.slots.push_reserved(Some(slot));
+        self.held += 1;
         Ok(())
     }
 
-    /// Takes out the entry of a number that is held. Where there is no memory to keep its cell, that is given back.
+    /// Takes out the entry of a number that is held. Its cell is spare from now on.
     pub fn remove(&mut self, number: u64)
         requires { IsSome (entry_at number self.old) }
         ensures { self.new ≡ removed number self.old }
@@ -117,20 +124,34 @@ impl Entries {
             unreachable!()
         };
         slot.clear_script();
-        drop(self.spare.push(slot));
+        self.spare.push_reserved(slot);
+        self.held -= 1;
     }
 }
 
-/// A spare cell, or a new one where none is spare, with this output, live.
-fn cell(spare: &mut Vec<Slot>, alloc: Global, leaf: &RecordView<'_>) -> Result<Slot, NoMemory>
-    ensures { IfOk result (λ slot. slot ≡ record { leaf = leaf.now; live = true; older = None }) }
+/// A spare cell, or a new one where none is spare, with this output, live. There is room for it among the spare ones, and for the cells of as
+/// many entries as are held.
+fn cell(
+    spare: &mut Vec<Slot>,
+    held: usize,
+    alloc: Global,
+    leaf: &RecordView<'_>,
+) -> Result<Slot, NoMemory>
+    requires few { held + 1 < 2 ^ 64 }
+    requires room { held + vec_len spare.old ≤ vec_capacity spare.old }
+    ensures is { IfOk result (λ slot. slot ≡ record { leaf = leaf.now; live = true; older = None }) }
+    ensures room { held + vec_len spare.new ≤ vec_capacity spare.new }
+    ensures one_more { OnOk result (held + 1 + vec_len spare.new ≤ vec_capacity spare.new) }
 {
     match spare.pop() {
         Some(mut slot) => {
             slot.fill(alloc, leaf)?;
             Ok(slot)
         }
-        None => Slot::new(alloc, leaf),
+        None => {
+            spare.reserve(held + 1)?;
+            Slot::new(alloc, leaf)
+        }
     }
 }
 

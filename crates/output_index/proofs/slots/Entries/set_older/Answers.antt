@@ -1,8 +1,9 @@
-use Rattle.std.proofs.Common.{◌≡◌, get_or, Some, sym, ap, subst, ◌∙◌, arith}
+use Rattle.std.proofs.Common.{◌≡◌, get_or, length, Some, sym, ap, subst, ◌∙◌, arith}
 use Rattle.std.specs.Prelude.{IsSome, set}
 use Rattle.std.proofs.lemmas.Bool.{false≢true}
 use Rattle.output_index.specs.Chains.{entry_at, entries_from, changed, set_older}
 use Rattle.output_index.proofs.Numbered.{stands-within, read-some, set-there}
+use Rattle.output_index.proofs.Counted.{count-changed}
 use Rattle.output_index.proofs.slots.Entries.set_older.Goals as goal
 
 pub unreachable-requires : goal.unreachable-requires
@@ -15,6 +16,17 @@ pub index_mut-requires : goal.index_mut-requires
 index_mut-requires c =
     let within = stands-within c.args.number c.self.inside.slots.items (subst (λ es. IsSome (entry_at c.args.number es)) (sym c.self.view_is) c.requires) in
     omega (arith, within, c.self.inside.slots.ok.0)
+
+pub invariant_of-self : goal.invariant_of-self
+invariant_of-self c =
+    let n = c.args.number in
+    let xs = c.self.inside.slots.items in
+    let held = subst (λ es. IsSome (entry_at n es)) (sym c.self.view_is) c.requires in
+    let there = set-there n (set_older c.args.older) c.in-Some.slot xs held (subst (λ x. x ≡ get_or xs n x) c.in-Some.is c.index_mut.ensures.value) in
+    record {
+      count = c.self.invariant.count ∙ sym (ap length (ap (λ e. entries_from 0 (set xs n (Some e))) c.set_older.ensures ∙ there) ∙ count-changed n (set_older c.args.older) (entries_from 0 xs));
+      room = c.self.invariant.room;
+    }
 
 pub returns : goal.returns
 returns c =
