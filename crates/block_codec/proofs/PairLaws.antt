@@ -1,11 +1,11 @@
 -- Pairs of a level, one after the other.
-use Rattle.std.proofs.Common.{◌≡◌, ℕ, suc, ◌+◌, ◌*◌, ◌<◌, ◌≤◌, true, false, List, [], ◌∷◌, ◌++◌, length, take, drop, set, get_or, Some, None, refl, sym, ap, ◌∙◌, arith, append_assoc, append-nil}
+use Rattle.std.proofs.Common.{◌≡◌, ℕ, suc, ◌+◌, ◌*◌, ◌<◌, ◌≤◌, Bool, true, false, List, [], ◌∷◌, ◌++◌, length, take, drop, set, get_or, refl, sym, ap, ◌∙◌, arith, append_assoc, append-nil}
 use Rattle.std.proofs.lemmas.List.{take_more_set, drop-set-lt, drop_all, drop-drop}
 use Rattle.std.proofs.Math.ListN.{length-set}
 use Rattle.std.proofs.Math.Seq.{drop-cons}
 use Rattle.uo_digest.specs.declared.digest.Digest.{Digest}
 use Rattle.block_codec.specs.Merkle.{hash_over, is_same, paired, repeats_from}
-use Rattle.block_codec.specs.Pairs.{HasFirst, IsAbove, PairGives}
+use Rattle.block_codec.specs.Pairs.{HasFirst, IsAbove, TellsRepeat}
 
 -- ---- what is left of a level
 
@@ -22,33 +22,26 @@ at_pair xs k d right lt is =
 
 -- ---- what its first pair gives
 
-last-gives : (last : Digest) → PairGives (Some (hash_over last last)) (last ∷ [])
-unfolding paired repeats_from
-last-gives last = (refl, λ place. refl)
+pub last_above : (xs : List Digest) (k : ℕ) (d : Digest) → k < length xs → length xs ≤ k + 1 → IsAbove (hash_over (get_or xs k d) (get_or xs k d)) (drop k xs)
+unfolding paired
+last_above xs k d lt end = rw (at_last xs k d lt end) refl
 
-differing-gives : (left right : Digest) (others : List Digest) → is_same left right ≡ false → PairGives (Some (hash_over left right)) (left ∷ right ∷ others)
-unfolding paired repeats_from
-differing-gives left right others e = (refl, λ place. rw e refl)
-
-same-gives : (left right : Digest) (others : List Digest) → is_same left right ≡ true → PairGives None (left ∷ right ∷ others)
-unfolding repeats_from
-same-gives left right others e = λ place. rw e refl
-
-pub last_gives : (xs : List Digest) (k : ℕ) (d : Digest) → k < length xs → length xs ≤ k + 1 → PairGives (Some (hash_over (get_or xs k d) (get_or xs k d))) (drop k xs)
-last_gives xs k d lt end = rw (at_last xs k d lt end) (last-gives (get_or xs k d))
-
-pub differing_gives : (xs : List Digest) (k : ℕ) (d right : Digest) → k + 1 < length xs → right ≡ get_or xs (k + 1) right → is_same (get_or xs k d) right ≡ false
-    → PairGives (Some (hash_over (get_or xs k d) right)) (drop k xs)
-differing_gives xs k d right lt is e = rw (at_pair xs k d right lt is) (differing-gives (get_or xs k d) right (drop (k + 2) xs) e)
-
-pub same_gives : (xs : List Digest) (k : ℕ) (d right : Digest) → k + 1 < length xs → right ≡ get_or xs (k + 1) right → is_same (get_or xs k d) right ≡ true
-    → PairGives None (drop k xs)
-same_gives xs k d right lt is e = rw (at_pair xs k d right lt is) (same-gives (get_or xs k d) right (drop (k + 2) xs) e)
-
--- whether they are equal or not
 pub both_above : (xs : List Digest) (k : ℕ) (d right : Digest) → k + 1 < length xs → right ≡ get_or xs (k + 1) right → IsAbove (hash_over (get_or xs k d) right) (drop k xs)
 unfolding paired
 both_above xs k d right lt is = rw (at_pair xs k d right lt is) refl
+
+-- the last one alone is no repeat
+pub last_tells : (xs : List Digest) (k : ℕ) → k < length xs → length xs ≤ k + 1 → TellsRepeat false (drop k xs)
+unfolding repeats_from
+last_tells xs k lt end = let none : Digest = record { 0 = [] } in rw (at_last xs k none lt end) (λ place. refl)
+
+pub both_tell : (xs : List Digest) (k : ℕ) (d right : Digest) → k + 1 < length xs → right ≡ get_or xs (k + 1) right → TellsRepeat (is_same (get_or xs k d) right) (drop k xs)
+unfolding repeats_from
+both_tell xs k d right lt is = rw (at_pair xs k d right lt is) (by_test (is_same (get_or xs k d) right) refl)
+  where
+    by_test : (b : Bool) → is_same (get_or xs k d) right ≡ b → TellsRepeat b (get_or xs k d ∷ right ∷ drop (k + 2) xs)
+    by_test true e = λ place. rw e refl
+    by_test false e = λ place. rw e refl
 
 -- ---- going over the pairs of a level, with the level above in place
 
@@ -81,25 +74,20 @@ lifted-end start now i end r =
     let nothing : paired (drop (2 * i) now) ≡ [] = rw (drop_all (2 * i) now end) refl in
     sym (r.above ∙ rw nothing (append-nil (take i now)))
 
--- They are, and none of them is a repeat.
-pub record Raised (start now : List Digest) (i : ℕ) : Type 0 where
-  pub lifted : Lifted start now i
-  pub none : repeats_from 0 start ≡ repeats_from (2 * i) (drop (2 * i) now)
+-- ---- going over the pairs of a level for the first repeat
 
-pub raised-start : (start : List Digest) → Raised start start 0
-raised-start start = record { lifted = lifted-start start; none = refl }
+-- None of the first i pairs is one.
+abbrev pub NoRepeat : List Digest → ℕ → Type 0
+NoRepeat level i = repeats_from 0 level ≡ repeats_from (2 * i) (drop (2 * i) level)
 
-pub raised-more : (start now : List Digest) (i : ℕ) (hash : Digest) → 2 * i < length now → PairGives (Some hash) (drop (2 * i) now) → Raised start now i → Raised start (set now i hash) (i + 1)
-raised-more start now i hash lt gives r =
+pub no-repeat-more : (level : List Digest) (i : ℕ) → TellsRepeat false (drop (2 * i) level) → NoRepeat level i → NoRepeat level (i + 1)
+no-repeat-more level i tells r =
     let next : 2 * i + 2 ≡ 2 * (i + 1) = omega arith in
-    record {
-      lifted = lifted-more start now i hash lt gives.0 r.lifted;
-      none = r.none ∙ gives.1 (2 * i) ∙ rw (left-of now i hash, next) refl;
-    }
+    r ∙ tells (2 * i) ∙ rw (drop-drop, next) refl
 
-pub raised-repeat : (start now : List Digest) (i : ℕ) → PairGives None (drop (2 * i) now) → Raised start now i → HasFirst (2 * i) (repeats_from 0 start)
-raised-repeat start now i gives r = (repeats_from (2 * i + 2) (drop 2 (drop (2 * i) now)), r.none ∙ gives (2 * i))
+pub repeat-here : (level : List Digest) (i : ℕ) → TellsRepeat true (drop (2 * i) level) → NoRepeat level i → HasFirst (2 * i) (repeats_from 0 level)
+repeat-here level i tells r = (repeats_from (2 * i + 2) (drop 2 (drop (2 * i) level)), r ∙ tells (2 * i))
 
-pub raised-none : (start now : List Digest) (i : ℕ) → length now ≤ 2 * i → Raised start now i → repeats_from 0 start ≡ []
+pub no-repeat-end : (level : List Digest) (i : ℕ) → length level ≤ 2 * i → NoRepeat level i → repeats_from 0 level ≡ []
 unfolding repeats_from
-raised-none start now i end r = r.none ∙ rw (drop_all (2 * i) now end) refl
+no-repeat-end level i end r = r ∙ rw (drop_all (2 * i) level end) refl

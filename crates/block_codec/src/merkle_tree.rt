@@ -2,7 +2,7 @@
 ghost use Rattle.std.specs.Prelude.{◌≡◌, ◌*◌, ◌<◌, ◌^◌, [], length, drop, IfOk, IfSome, IfNone};
 ghost use Rattle.block_codec.specs.Block.{txids_of};
 ghost use Rattle.block_codec.specs.Merkle.{hash_over, paired, repeats_from, merkle_of, IsMerkle};
-ghost use Rattle.block_codec.specs.Pairs.{HasFirst, PairGives};
+ghost use Rattle.block_codec.specs.Pairs.{HasFirst, IsAbove, TellsRepeat};
 
 use crate::block_view::BlockView;
 use std::alloc::Global;
@@ -21,7 +21,7 @@ pub enum MerkleOutcome {
 }
 
 /// The hash over two hashes.
-pub(crate) fn hash_of_pair(left: &Digest, right: &Digest) -> Digest
+fn hash_of_pair(left: &Digest, right: &Digest) -> Digest
     ensures { result ≡ hash_over left.now right.now }
 {
     let mut stream = Sha256dStream::new();
@@ -30,34 +30,53 @@ pub(crate) fn hash_of_pair(left: &Digest, right: &Digest) -> Digest
     stream.finish()
 }
 
-/// The hash over the pair of a level that has this number, from 0; None where its two places hold equal hashes.
-fn hash_above(level: &[Digest], pair: usize) -> Option<Digest>
+/// The hash over the pair of a level that has this number, from 0.
+fn hash_above(level: &[Digest], pair: usize) -> Digest
     requires { 2 * pair < length level.now }
-    ensures { PairGives result (drop (2 * pair) level.now) }
+    ensures { IsAbove result (drop (2 * pair) level.now) }
 {
     let left = level[2 * pair];
     match level.get(2 * pair + 1) {
-        None => Some(hash_of_pair(&left, &left)),
-        Some(right) if left == *right => None,
-        Some(right) => Some(hash_of_pair(&left, right)),
+        None => hash_of_pair(&left, &left),
+        Some(right) => hash_of_pair(&left, right),
     }
 }
 
-/// Puts the level above in the place of a level. It stops at the first repeat, and answers its place.
-fn raise(hashes: &mut Vec<Digest>) -> Option<u32>
+/// Puts the level above in the place of a level, whatever is repeated.
+pub(crate) fn lift(hashes: &mut Vec<Digest>)
     requires { length hashes.old.items < 2 ^ 32 }
-    ensures first { IfSome result (λ place. HasFirst place (repeats_from 0 hashes.old.items)) }
-    ensures none { IfNone result (repeats_from 0 hashes.old.items ≡ []) }
-    ensures above { IfNone result (hashes.new.items ≡ paired hashes.old.items) }
+    ensures { hashes.new.items ≡ paired hashes.old.items }
 {
     let count = hashes.len().div_ceil(2);
     for pair in 0..count {
-        let Some(hash) = hash_above(hashes, pair) else {
-            return Some((2 * pair) as u32);
-        };
-        hashes[pair] = hash;
+        hashes[pair] = hash_above(hashes, pair);
     }
     hashes.truncate(count);
+}
+
+/// Whether the two places of this pair of a level hold equal hashes.
+fn is_repeat(level: &[Digest], pair: usize) -> bool
+    requires { 2 * pair < length level.now }
+    ensures { TellsRepeat result (drop (2 * pair) level.now) }
+{
+    let left = level[2 * pair];
+    match level.get(2 * pair + 1) {
+        None => false,
+        Some(right) => left == *right,
+    }
+}
+
+/// The place of a level's first repeat.
+fn first_repeat(level: &[Digest]) -> Option<u32>
+    requires { length level.now < 2 ^ 32 }
+    ensures first { IfSome result (λ place. HasFirst place (repeats_from 0 level.now)) }
+    ensures none { IfNone result (repeats_from 0 level.now ≡ []) }
+{
+    for pair in 0..level.len().div_ceil(2) {
+        if is_repeat(level, pair) {
+            return Some((2 * pair) as u32);
+        }
+    }
     None
 }
 
@@ -70,9 +89,10 @@ fn climb(mut hashes: Vec<Digest>) -> MerkleOutcome
 {
     let mut level = 0;
     while hashes.len() > 1 {
-        if let Some(place) = raise(&mut hashes) {
+        if let Some(place) = first_repeat(&hashes) {
             return MerkleOutcome::Repeated { level, place };
         }
+        lift(&mut hashes);
         level += 1;
     }
     MerkleOutcome::Root(hashes[0])

@@ -1,13 +1,12 @@
 //! What a block commits to of its witnesses (BIP 141).
-ghost use Rattle.std.specs.Prelude.{◌≡◌, ◌*◌, ◌<◌, ◌^◌, length, drop, map, IfOk};
+ghost use Rattle.std.specs.Prelude.{◌≡◌, ◌<◌, ◌^◌, length, map, IfOk};
 ghost use Rattle.std.specs.Option.{option_or};
 ghost use Rattle.tx_codec.specs.Ids.{wtxid_of};
-ghost use Rattle.block_codec.specs.Merkle.{paired, merkle_root};
-ghost use Rattle.block_codec.specs.Pairs.{IsAbove};
+ghost use Rattle.block_codec.specs.Merkle.{merkle_root};
 ghost use Rattle.block_codec.specs.Witness.{commitment_in, commitment_of, witness_ids, witness_root_of};
 
 use crate::block_view::BlockView;
-use crate::merkle_tree::hash_of_pair;
+use crate::merkle_tree::lift;
 use std::alloc::{AllocError, Global};
 use uo_base::NoMemory;
 use uo_digest::Digest;
@@ -39,30 +38,6 @@ pub fn commitment(block: &BlockView<'_>) -> Option<Digest>
         }
     }
     last
-}
-
-// The hash above this pair of a level, from 0.
-fn hash_above(level: &[Digest], pair: usize) -> Digest
-    requires { 2 * pair < length level.now }
-    ensures { IsAbove result (drop (2 * pair) level.now) }
-{
-    let left = level[2 * pair];
-    match level.get(2 * pair + 1) {
-        None => hash_of_pair(&left, &left),
-        Some(right) => hash_of_pair(&left, right),
-    }
-}
-
-// Puts the level above in the place of a level, whatever is repeated.
-fn lift(hashes: &mut Vec<Digest>)
-    requires { length hashes.old.items < 2 ^ 32 }
-    ensures { hashes.new.items ≡ paired hashes.old.items }
-{
-    let count = hashes.len().div_ceil(2);
-    for pair in 0..count {
-        hashes[pair] = hash_above(hashes, pair);
-    }
-    hashes.truncate(count);
 }
 
 // The root over these ids, whatever is repeated.

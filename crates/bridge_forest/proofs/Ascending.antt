@@ -15,10 +15,6 @@ use Rattle.bridge_forest.specs.Parts.{PartLists, kept}
 use Rattle.bridge_forest.specs.Lookups.{AreAlike}
 use Rattle.bridge_forest.proofs.Seeking.{up_code, kept_above_some, place_same, place_children, place_child_within}
 
--- where a tree stands that lies so many rows beneath another and so far from its left
-abbrev pub beneath : ℕ → ℕ → ℕ → Place → Place
-beneath rows width left q = record { row = q.row - rows; off = q.off * width + left }
-
 -- whatever place stands for the part above, the part that is sought stands beneath it
 pub record IsAscent (es : List (Option Digest)) (parts : PartLists) (from : Place) (row off rows width left : ℕ) : Type 0 where
   pub within : InForest (length es) row off
@@ -44,16 +40,6 @@ not_there None e = refl
 not_there (Some d) e = absurd (true≢false (sym e))
 
 module _ (es : List (Option Digest)) (parts : PartLists) (right : AreAlike es parts) (from : Place) where
-  pub ascent-begins : InForest (length es) from.row from.off → (kept es parts from.row from.off ≡ None → ⊥) → 0 < 2 ^ from.row → IsAscent es parts from from.row from.off 0 1 0
-  ascent-begins within some one = record {
-    within = within;
-    some = some;
-    few = omega arith;
-    wide = omega (arith, one);
-    inside = omega arith;
-    stands = λ q s. (omega arith, (let r : q.row - 0 ≡ q.row = omega arith in let o : q.off * 1 + 0 ≡ q.off = omega arith in ap₂ (tree_at es) r o ∙ s));
-  }
-
   -- nothing is beside the part
   pub ascent-same : (row off rows width left : ℕ) → is_root (length es) row off ≡ false → None ≡ kept es parts row (sibling_off off) → 2 ^ (row + 1) ≡ 2 ^ row * 2 → IsAscent es parts from row off rows width left → IsAscent es parts from (row + 1) (off / 2) rows width left
   ascent-same row off rows width left other told twice a =

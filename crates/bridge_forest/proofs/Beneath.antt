@@ -17,7 +17,7 @@ use Rattle.forest_place.proofs.Siblings.{sibling_half}
 use Rattle.forest_model.specs.Standing.{digest_at}
 use Rattle.forest_model.specs.Cover.{Cover, cover, is_needed}
 use Rattle.forest_model.proofs.Covers.{needed_parts}
-use Rattle.bridge_forest.specs.declared.branch.Sibling.{Sibling}
+use Rattle.bridge_forest.specs.declared.batch.Sibling.{Sibling}
 use Rattle.bridge_forest.specs.Proving.{standing, in_row, beneath, list_of, AreMore}
 
 -- ---- what is in a row

@@ -18,7 +18,7 @@ use Rattle.forest_model.specs.Deletion.{StandAt}
 use Rattle.forest_model.proofs.Deleting.{is_spent, place_at}
 use Rattle.forest_model.proofs.Covers.{some_from_test}
 use Rattle.forest_model.proofs.Living.{found_where_it_stands, content_none_iff}
-use Rattle.bridge_forest.specs.declared.branch.Sibling.{Sibling}
+use Rattle.bridge_forest.specs.declared.batch.Sibling.{Sibling}
 use Rattle.bridge_forest.specs.State.{is_live}
 use Rattle.bridge_forest.specs.Proving.{beneath, AreIn, AreBehind, AreMore, AreOfPart}
 use Rattle.bridge_forest.proofs.Seeking.{within_left, within_right}

@@ -11,7 +11,7 @@ use Rattle.forest_model.specs.Content.{Tree, content, digest_of}
 use Rattle.forest_model.specs.Standing.{tree_at}
 use Rattle.forest_model.specs.Deletion.{StandAt}
 use Rattle.forest_model.proofs.Deleting.{is_spent}
-use Rattle.bridge_forest.specs.declared.branch.Sibling.{Sibling}
+use Rattle.bridge_forest.specs.declared.batch.Sibling.{Sibling}
 use Rattle.bridge_forest.specs.Parts.{PartLists, AreParts, kept}
 use Rattle.bridge_forest.specs.State.{is_live}
 use Rattle.bridge_forest.specs.Proving.{standing, beneath, list_of, AreMore, AreOfPart}

@@ -11,7 +11,7 @@ use Rattle.forest_model.specs.Content.{inner, join, content, digest_of}
 use Rattle.forest_model.specs.Standing.{tree_at, digest_at}
 use Rattle.forest_model.proofs.Climbs.{tree_at-forest}
 use Rattle.forest_model.proofs.Moving.{child_stands}
-use Rattle.bridge_forest.specs.declared.branch.Sibling.{Sibling}
+use Rattle.bridge_forest.specs.declared.batch.Sibling.{Sibling}
 use Rattle.bridge_forest.specs.Parts.{PartLists, AreParts, kept}
 use Rattle.bridge_forest.specs.Proving.{HasRows}
 use Rattle.bridge_forest.proofs.Refreshing.{kept_right}
@@ -69,10 +69,3 @@ module _ (H : List ℕ → Digest) (es : List (Option Digest)) (parts : PartList
       let two = child_stands es q l.0 r.0 stands in
       let o : 2 * q.off ≡ 2 * q.off + 0 = omega arith in
       record { high = node_high es parts a q l.0 r.0 stands; low = ap (tree_at es (q.row - 1)) o ∙ (two.0 ∙ sym l.1); above = two.1 ∙ sym r.1 }
-
-  pub place_here : (row off : ℕ) (q : Place) (x y : Digest) → 0 < row → InForest (length es) row off → tree_at es q.row q.off ≡ content es row off → Some x ≡ kept es parts (row - 1) (2 * off) → Some y ≡ kept es parts (row - 1) (2 * off + 1) → InForest (length es) q.row q.off
-  place_here row off q x y some h s e f =
-      let a = alike H es parts right in
-      let l = tree_some es parts a (row - 1) (2 * off) x (within_left (length es) row off some h) e in
-      let r = tree_some es parts a (row - 1) (2 * off + 1) y (within_right (length es) row off some h) f in
-      tree_at-forest es q.row q.off (inner l.0 r.0) (s ∙ (tree_above es row off some ∙ ap₂ join l.1 r.1))

@@ -163,10 +163,6 @@ but_added H n leaves parts x all =
     let e : suc n ≡ n + 1 = omega arith in
     subst (λ m. ArePartsBut H m (set leaves n x) parts n 0) e (record { is = λ r o h off_path. all.is r o (parts_before n (suc r) o h (off_path (omega arith))) ∙ ap (option_map (digest_of H)) (sym (content-set_other leaves n x (suc r) o (off_path (omega arith)))) })
 
--- the last entries are cut off
-pub cut_off : (H : List ℕ → Digest) (n m : ℕ) (leaves : List (Option Digest)) (parts : PartLists) → ((r o : ℕ) → InForest m r o → InForest n r o) → AreParts H n leaves parts → AreParts H m leaves parts
-cut_off H n m leaves parts fewer all = record { is = λ r o h. all.is r o (fewer (suc r) o h) }
-
 pairs-mapped : (H : List ℕ → Digest) (x y : Option Tree) → pairs (option_map (digest_of H) x) (option_map (digest_of H) y) ≡ pairs x y
 pairs-mapped H None y = refl
 pairs-mapped H (Some l) None = refl

@@ -21,7 +21,7 @@ use Rattle.forest_model.proofs.Climbs.{tree_at-root}
 use Rattle.forest_model.proofs.Covers.{some_from_test}
 use Rattle.forest_model.proofs.Living.{entry_found}
 use Rattle.bridge_forest.specs.State.{is_live}
-use Rattle.bridge_forest.specs.declared.branch.Sibling.{Sibling}
+use Rattle.bridge_forest.specs.declared.batch.Sibling.{Sibling}
 use Rattle.bridge_forest.specs.Proving.{places_of, standing, proof_of, in_row, beneath, list_of, HasRows, AreMore, width_from, AreFrom, behind}
 use Rattle.bridge_forest.proofs.Parting.{filter_alike, filter_twice, filter_spent, none_spent}
 use Rattle.bridge_forest.proofs.Beneath.{twice, next, in_row-append, in_row-none, not_needed-root, beneath_above, beneath_row, beneath_here, beneath_nothing, more_nothing}
@@ -180,14 +180,6 @@ from_nothing H es ts rows few none = record { is = λ row. none row ∙ ap (in_r
         (λ over. width_over (length es) 40 row over ∙ outside (length es) row (λ h. omega (arith, row_small (length es) row 0 40 h few, over)))
         (λ under. let nothing : 0 * 2 ^ (40 - row) ≡ 0 = omega arith in width_under (length es) 40 row under ∙ (ap (λ x. x * 2 ^ (40 - row)) empty ∙ nothing))
         (cases_lt 40 row)
-
-pub from_all : (H : List ℕ → Digest) (es : List (Option Digest)) (ts : List Place) (rows : List (List Sibling)) → AreFrom H es ts 0 rows → (row : ℕ) → list_of rows row ≡ in_row H es ts row 0 (length es / 2 ^ row)
-from_all H es ts rows f row = f.is row ∙ ap (in_row H es ts row 0) (⊎_elim (λ over. width_over (length es) 0 row over) (λ low. bottom row (omega (arith, low))) (cases_lt 0 row))
-  where
-    bottom : (r : ℕ) → r ≡ 0 → width_from (length es) 0 r ≡ length es / 2 ^ r
-    bottom r e =
-        let one : length es / 2 ^ 0 * 1 ≡ length es / 2 ^ 0 = omega arith in
-        subst (λ k. width_from (length es) 0 k ≡ length es / 2 ^ k) (sym e) one
 
 -- live entries stand at their places
 pub stand_there : (es : List (Option Digest)) (numbers : List ℕ) → All (λ i. is_live es i ≡ true) numbers → StandAt es (places_of es numbers) numbers

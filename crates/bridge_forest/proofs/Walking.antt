@@ -1,29 +1,20 @@
 -- What stands at places, each told from what stands above it.
-use Rattle.std.proofs.Common.{◌≡◌, ℕ, ◌+◌, ◌-◌, ◌*◌, ◌/◌, ◌%◌, ◌<◌, ◌≤◌, Bool, false, ◌↔◌, IsTrue, List, length, get_or, set, Option, Some, None, refl, sym, ◌∙◌, subst, ⊎_elim, arith}
+use Rattle.std.proofs.Common.{◌≡◌, ℕ, ◌+◌, ◌-◌, ◌*◌, ◌/◌, ◌%◌, ◌<◌, ◌≤◌, Bool, false, ◌↔◌, IsTrue, List, length, get_or, set, Option, Some, None, sym, ◌∙◌, subst, ⊎_elim, arith}
 use Rattle.std.proofs.lemmas.Bool.{cases_eq, true≢false}
 use Rattle.std.proofs.lemmas.List.{get_or_default, get_or-set_same, get_or-set_other}
 use Rattle.uo_digest.specs.declared.digest.Digest.{Digest}
 use Rattle.forest_place.specs.declared.place.Place.{Place}
 use Rattle.forest_place.specs.Forest.{InForest}
-use Rattle.forest_model.specs.Standing.{tree_at}
 use Rattle.bridge_forest.specs.Parts.{PartLists}
-use Rattle.bridge_forest.specs.Lookups.{AreAlike, IsSmallest, IsPartAt, IsNodeAt, AreNodes, IsParentAt}
-use Rattle.bridge_forest.proofs.Seeking.{nothing_below, entry_above, node_above}
+use Rattle.bridge_forest.specs.Lookups.{AreAlike, IsPartAt, IsNodeAt, AreNodes, IsParentAt}
+use Rattle.bridge_forest.proofs.Seeking.{node_above}
 
 pub not_within : (b : Bool) (P : Type 0) → b ≡ false → IsTrue b ↔ P → P → ⊥
 not_within b P e w p = true≢false (sym (w.1 p) ∙ e)
 
--- the smallest part with the tree that stands there
-pub node_told : (es : List (Option Digest)) (row off : ℕ) (p q : Place) → IsPartAt es row off p → IsSmallest es p.row p.off q → IsNodeAt es row off (Some q)
-node_told es row off p q a s =
-    (record { within = s.within; is = a.is ∙ s.same; some = (a.some.0, sym s.same ∙ a.some.1) }, record { within = s.within; same = refl; split = s.split })
-
 -- what is told is told of fewer
 pub fewer_told : (es : List (Option Digest)) (ps : List Place) (nodes : List (Option Place)) (from at : ℕ) → from ≤ at → AreNodes es ps nodes from → AreNodes es ps nodes at
 fewer_told es ps nodes from at le all = record { is = λ i p ge lt. all.is i p (omega (arith, le, ge)) lt }
-
-pub none_told : (es : List (Option Digest)) (ps : List Place) (nodes : List (Option Place)) → AreNodes es ps nodes (length ps)
-none_told es ps nodes = record { is = λ i p ge lt. absurd (omega (arith, ge, lt)) }
 
 -- one more is told
 pub one_told : (es : List (Option Digest)) (ps : List Place) (nodes : List (Option Place)) (i : ℕ) (node : Option Place) (d : Place) → i < length ps → length nodes ≡ length ps → IsNodeAt es (get_or ps i d).row (get_or ps i d).off node → AreNodes es ps nodes (i + 1) → AreNodes es ps (set nodes i node) i
@@ -41,14 +32,6 @@ module _ (es : List (Option Digest)) (parts : PartLists) (right : AreAlike es pa
   told_above x e =
       subst (IsNodeAt es (p.row + 1) (p.off / 2)) e
       (subst (λ (q : Place). IsNodeAt es q.row q.off (get_or nodes at None)) (up.is p) (told.is at p (omega arith) up.low))
-
-  -- nothing stands above
-  pub nothing_told : get_or nodes at None ≡ None → tree_at es p.row p.off ≡ None
-  nothing_told e = nothing_below es parts right p.row p.off h up.inner (told_above None e)
-
-  -- an entry stands above
-  pub entry_told : (q : Place) → get_or nodes at None ≡ Some q → q.row ≡ 0 → tree_at es p.row p.off ≡ None
-  entry_told q e low = let t = told_above (Some q) e in entry_above es parts right p.row p.off q q h up.inner t.0 t.1 low
 
   -- an inner node stands above
   pub inner_told : (q : Place) → get_or nodes at None ≡ Some q → 0 < q.row → IsPartAt es p.row p.off (record { row = q.row - 1; off = 2 * q.off + p.off % 2 })

@@ -9,7 +9,7 @@ use Rattle.forest_model.specs.Standing.{digest_at}
 use Rattle.forest_model.specs.EntryPlace.{entry_place}
 use Rattle.forest_model.specs.Cover.{Cover, cover, is_needed, need}
 use Rattle.bridge_forest.specs.State.{is_live}
-use Rattle.bridge_forest.specs.declared.branch.Sibling.{Sibling}
+use Rattle.bridge_forest.specs.declared.batch.Sibling.{Sibling}
 
 -- where these entries stand
 abbrev pub places_of : List (Option Digest) → List ℕ → List Place

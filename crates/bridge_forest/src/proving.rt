@@ -14,7 +14,7 @@ ghost use Rattle.bridge_forest.specs.Proving.{places_of, standing, proof_of, in_
 ghost use Rattle.bridge_forest.specs.State.{is_live};
 
 use crate::arena::part_in;
-use crate::branch::{BatchProof, Sibling};
+use crate::batch::{BatchProof, Sibling};
 use crate::parts::Parts;
 use crate::seek::child;
 use forest_place::{Place, children, sibling};
@@ -38,7 +38,7 @@ pub struct Row {
 
 impl Model for Row {
     ghost use Rattle.std.specs.Prelude.{List};
-    ghost use Rattle.bridge_forest.specs.declared.branch.Sibling.{Sibling};
+    ghost use Rattle.bridge_forest.specs.declared.batch.Sibling.{Sibling};
 
     ghost Value = { List Sibling };
 

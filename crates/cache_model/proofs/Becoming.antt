@@ -22,13 +22,13 @@ use Rattle.forest_model.proofs.Moving.{child_stands}
 use Rattle.forest_model.proofs.Adding.{onto, last_tree, same_length, parts_more}
 use Rattle.forest_model.proofs.Carrying.{is_empty, root_tree, carried_stands}
 use Rattle.forest_place.proofs.Siblings.{sibling_cases}
-use Rattle.cache_model.specs.Cache.{kept_entries, entry_places, held, look, look_in, child, raised, shown_known, noted, is_root_held, raised_held}
+use Rattle.cache_model.specs.Cache.{held, look, child, raised, shown_known, noted, is_root_held, raised_held}
 use Rattle.cache_model.specs.Known.{is_known}
 use Rattle.cache_model.proofs.Tables.{same_options, look_all}
 use Rattle.cache_model.proofs.Known.{has_watched, AreKeptPlaces, known_stands, known_covered, known_beside, stands_covered, IsKnownBy}
-use Rattle.cache_model.proofs.Keeping.{kept_are}
+use Rattle.cache_model.proofs.Keeping.{watched_places, kept_are}
 use Rattle.cache_model.proofs.Deleted.{some_or, or_from_either}
-use Rattle.cache_model.proofs.Looking.{look_held, look_known, look_within, All-weaker}
+use Rattle.cache_model.proofs.Looking.{look_held, look_known, look_within, look_in, All-weaker}
 use Rattle.cache_model.proofs.Raising.{slot_from, raised_stands, raised-left, raised-right}
 use Rattle.cache_model.proofs.Adding.{Origin, old, join, carried_on, all_come, child_left, child_right}
 use Rattle.cache_model.proofs.Added.{look_behind, look_past, look_first, on, same_empty, carried_right, joined_right, old_raised, raised_from}
@@ -116,15 +116,15 @@ module _ (H : List ℕ → Digest) (es : List (Option Digest)) (d : Digest) (w :
 
   -- what is known by an addition, and right
   abbrev pub IsNew : Place × Digest → Type 0
-  IsNew x = InForest (length new) x.0.row x.0.off × ((is_known (length new) (entry_places (kept_entries new w)) x.0 ≡ true) × (digest_at H new x.0.row x.0.off ≡ Some x.1))
+  IsNew x = InForest (length new) x.0.row x.0.off × ((is_known (length new) (watched_places new w) x.0 ≡ true) × (digest_at H new x.0.row x.0.off ≡ Some x.1))
 
   carried_stands_at : (k row : ℕ) → all_slots (length es) (row + k) ≡ true → is_slot (length es) (row + k) ≡ false → tree_at new (at_place k row).row (at_place k row).off ≡ Some (last_tree es d row)
   carried_stands_at k row a f = ap (λ e. tree_at new (carried_place e (length es) k row).row (carried_place e (length es) k row).off) (sym (same_empty H es d)) ∙ carried_stands es d k row a f
 
-  carried_known : (k row : ℕ) → all_slots (length es) (row + k) ≡ true → is_slot (length es) (row + k) ≡ false → has_watched w (last_tree es d row) ≡ true → is_known (length new) (entry_places (kept_entries new w)) (at_place k row) ≡ true
+  carried_known : (k row : ℕ) → all_slots (length es) (row + k) ≡ true → is_slot (length es) (row + k) ≡ false → has_watched w (last_tree es d row) ≡ true → is_known (length new) (watched_places new w) (at_place k row) ≡ true
   carried_known k row a f h =
-      known_covered (length new) (entry_places (kept_entries new w)) (at_place k row).row (at_place k row).off
-      (stands_covered new w (entry_places (kept_entries new w)) (kept_are new w) (last_tree es d row) (at_place k row).row (at_place k row).off (carried_stands_at k row a f) h)
+      known_covered (length new) (watched_places new w) (at_place k row).row (at_place k row).off
+      (stands_covered new w (watched_places new w) (kept_are new w) (last_tree es d row) (at_place k row).row (at_place k row).off (carried_stands_at k row a f) h)
 
   empty_from : (row : ℕ) (x : Option Tree) → root_tree es d row ≡ x → is_none (root H es row) ≡ is_none x
   empty_from row None e = ap (λ y. is_none (option_map (digest_of H) y)) e
@@ -138,10 +138,10 @@ module _ (H : List ℕ → Digest) (es : List (Option Digest)) (d : Digest) (w :
   same_as k row e = let z = empty_from row None e in rw z refl
 
   joined_known : (k row : ℕ) (l : Tree) → all_slots (length es) (suc row + k) ≡ true → is_slot (length es) (suc row + k) ≡ false → root_tree es d row ≡ Some l → (has_watched w (last_tree es d row) || watched row) ≡ true →
-      (InForest (length new) (child 0 (at_place k (suc row))).row (child 0 (at_place k (suc row))).off × (is_known (length new) (entry_places (kept_entries new w)) (child 0 (at_place k (suc row))) ≡ true))
-      × (InForest (length new) (child 1 (at_place k (suc row))).row (child 1 (at_place k (suc row))).off × (is_known (length new) (entry_places (kept_entries new w)) (child 1 (at_place k (suc row))) ≡ true))
+      (InForest (length new) (child 0 (at_place k (suc row))).row (child 0 (at_place k (suc row))).off × (is_known (length new) (watched_places new w) (child 0 (at_place k (suc row))) ≡ true))
+      × (InForest (length new) (child 1 (at_place k (suc row))).row (child 1 (at_place k (suc row))).off × (is_known (length new) (watched_places new w) (child 1 (at_place k (suc row))) ≡ true))
   joined_known k row l a f e h =
-      children_known new w (entry_places (kept_entries new w)) (kept_are new w) (at_place k (suc row)) l (last_tree es d row)
+      children_known new w (watched_places new w) (kept_are new w) (at_place k (suc row)) l (last_tree es d row)
       (carried_stands_at k (suc row) a f ∙ ap Some (last_fork row l e))
       (ap (has_watched w) (sym (last_fork row l e)) ∙ (last_watched row ∙ h))
 
@@ -161,9 +161,9 @@ module _ (H : List ℕ → Digest) (es : List (Option Digest)) (d : Digest) (w :
       (λ t y g. beside a' f' t y (root_tree es d row) refl g)
       (shown_new k (suc row) (c || watched row) next a' f')
     where
-      here : all_slots (length es) (suc row + k) ≡ true → is_slot (length es) (suc row + k) ≡ false → (c || watched row) ≡ has_watched w (last_tree es d (suc row)) → (c || watched row) ≡ true → (x : Option Tree) → root_tree es d row ≡ x → is_known (length new) (entry_places (kept_entries new w)) (at_place (suc k) row) ≡ true
-      here a' f' next t None g = ap (is_known (length new) (entry_places (kept_entries new w))) (same_as k row g) ∙ carried_known k (suc row) a' f' (sym next ∙ t)
-      here a' f' next t (Some l) g = ap (is_known (length new) (entry_places (kept_entries new w))) (right_of k row l g) ∙ (joined_known k row l a' f' g (ap (λ b. b || watched row) (sym e) ∙ t)).1.1
+      here : all_slots (length es) (suc row + k) ≡ true → is_slot (length es) (suc row + k) ≡ false → (c || watched row) ≡ has_watched w (last_tree es d (suc row)) → (c || watched row) ≡ true → (x : Option Tree) → root_tree es d row ≡ x → is_known (length new) (watched_places new w) (at_place (suc k) row) ≡ true
+      here a' f' next t None g = ap (is_known (length new) (watched_places new w)) (same_as k row g) ∙ carried_known k (suc row) a' f' (sym next ∙ t)
+      here a' f' next t (Some l) g = ap (is_known (length new) (watched_places new w)) (right_of k row l g) ∙ (joined_known k row l a' f' g (ap (λ b. b || watched row) (sym e) ∙ t)).1.1
 
       beside : all_slots (length es) (suc row + k) ≡ true → is_slot (length es) (suc row + k) ≡ false → (c || watched row) ≡ true → (y : Place × Digest) (x : Option Tree) → root_tree es d row ≡ x → option_map (λ x. (child 0 (at_place k (suc row)), x)) (root H es row) ≡ Some y → IsNew y
       beside a' f' t y None g m = absurd (none-some y (ap (λ x. option_map (λ x. (child 0 (at_place k (suc row)), x)) (option_map (digest_of H) x)) (sym g) ∙ m))
@@ -220,7 +220,7 @@ module _ (H : List ℕ → Digest) (es : List (Option Digest)) (d : Digest) (w :
     news = table_of (w (length es)) m zero
 
     abbrev pub IsBy : ℕ → ℕ → Tree → Type 0
-    IsBy r o t = IsKnownBy new w (entry_places (kept_entries new w)) (kept_are new w) r o t
+    IsBy r o t = IsKnownBy new w (watched_places new w) (kept_are new w) r o t
 
     -- the last of the rows is a root
     top_root : is_root (length new) m (length es / 2 ^ m) ≡ true
@@ -285,12 +285,12 @@ module _ (H : List ℕ → Digest) (es : List (Option Digest)) (d : Digest) (w :
         by
 
     abbrev pub olds : List (Place × Digest)
-    olds = raised_held (λ r. is_none (root H es r)) (length es) m (held H es (entry_places (kept_entries es w)))
+    olds = raised_held (λ r. is_none (root H es r)) (length es) m (held H es (watched_places es w))
 
-    known_in : (r o : ℕ) (t : Tree) → IsBy r o t → Origin es d m w (entry_places (kept_entries es w)) r o t → is_some (look_in news olds r o) ≡ true
+    known_in : (r o : ℕ) (t : Tree) → IsBy r o t → Origin es d m w (watched_places es w) r o t → is_some (look_in news olds r o) ≡ true
     known_in r o t by (old r' o' s e b) =
         let k = ⊎_elim
-        (λ h. known_covered (length es) (entry_places (kept_entries es w)) r' o' (stands_covered es w (entry_places (kept_entries es w)) (kept_are es w) t r' o' s h))
+        (λ h. known_covered (length es) (watched_places es w) r' o' (stands_covered es w (watched_places es w) (kept_are es w) t r' o' s h))
         (λ u. b u.1.0 (ap (λ n. is_root n r o) (sym (same_length es d)) ∙ u.0) u.1.1 u.1.2)
         by in
         some_or (look news r o) (look olds r o) (inr (ap (λ (q : Place). is_some (look olds q.row q.off)) (sym e) ∙ old_raised H es d w m all free r' o' t s k))
@@ -302,18 +302,18 @@ module _ (H : List ℕ → Digest) (es : List (Option Digest)) (d : Digest) (w :
         some_or (look news r o) (look olds r o) (inl (carried_in k j r o t a e q by))
 
     -- what was known is known where it goes
-    raised_known : (r o : ℕ) (t : Tree) → tree_at es r o ≡ Some t → IsKnownBy es w (entry_places (kept_entries es w)) (kept_are es w) r o t → (q : Place) → raised (is_empty es d) (length es) m r o ≡ q →
-        InForest (length new) q.row q.off × (is_known (length new) (entry_places (kept_entries new w)) q ≡ true)
+    raised_known : (r o : ℕ) (t : Tree) → tree_at es r o ≡ Some t → IsKnownBy es w (watched_places es w) (kept_are es w) r o t → (q : Place) → raised (is_empty es d) (length es) m r o ≡ q →
+        InForest (length new) q.row q.off × (is_known (length new) (watched_places new w) q ≡ true)
     raised_known r o t s by q e =
         let st : tree_at new q.row q.off ≡ Some t = ap (λ (p : Place). tree_at new p.row p.off) (sym e) ∙ raised_stands es d m all free r o t s in (
           tree_at-forest new q.row q.off t st,
           ⊎_elim
-              (λ h. known_covered (length new) (entry_places (kept_entries new w)) q.row q.off (stands_covered new w (entry_places (kept_entries new w)) (kept_are new w) t q.row q.off st h))
+              (λ h. known_covered (length new) (watched_places new w) q.row q.off (stands_covered new w (watched_places new w) (kept_are new w) t q.row q.off st h))
               (λ b. beside r o t s b.0 b.1.0 b.1.1 b.1.2 q e)
               by,
         )
       where
-        beside : (r o : ℕ) (t : Tree) → tree_at es r o ≡ Some t → is_root (length es) r o ≡ false → (s : Tree) → tree_at es r (sibling_off o) ≡ Some s → has_watched w s ≡ true → (q : Place) → raised (is_empty es d) (length es) m r o ≡ q → is_known (length new) (entry_places (kept_entries new w)) q ≡ true
+        beside : (r o : ℕ) (t : Tree) → tree_at es r o ≡ Some t → is_root (length es) r o ≡ false → (s : Tree) → tree_at es r (sibling_off o) ≡ Some s → has_watched w s ≡ true → (q : Place) → raised (is_empty es d) (length es) m r o ≡ q → is_known (length new) (watched_places new w) q ≡ true
         beside r o t s other u su h q e =
             let up = InForest-up (length es) r o (tree_at-forest es r o t s) other in
             from_fork (o % 2) (half_beside o) refl (inner_from_half (o % 2) (tree_at es (suc r) (o / 2)) t (sym (tree_at-up es r o up) ∙ s))
@@ -321,89 +321,89 @@ module _ (H : List ℕ → Digest) (es : List (Option Digest)) (d : Digest) (w :
             half_beside : (o : ℕ) → ((o % 2 ≡ 0) × (2 * (o / 2) ≡ o) × (sibling_off o ≡ 2 * (o / 2) + 1)) ⊎ ((o % 2 ≡ 1) × (2 * (o / 2) + 1 ≡ o) × (sibling_off o ≡ 2 * (o / 2)))
             half_beside o = ⊎_elim (λ a. inl (a.0, omega (arith, a), omega (arith, a))) (λ a. inr (a.0, omega (arith, a), omega (arith, a))) (sibling_cases o)
 
-            from_fork : (side : ℕ) → ((o % 2 ≡ 0) × (2 * (o / 2) ≡ o) × (sibling_off o ≡ 2 * (o / 2) + 1)) ⊎ ((o % 2 ≡ 1) × (2 * (o / 2) + 1 ≡ o) × (sibling_off o ≡ 2 * (o / 2))) → o % 2 ≡ side → (a : Tree) × (b : Tree) × (tree_at es (suc r) (o / 2) ≡ Some (inner a b)) × (half (o % 2) (Some (inner a b)) ≡ Some t) → is_known (length new) (entry_places (kept_entries new w)) q ≡ true
+            from_fork : (side : ℕ) → ((o % 2 ≡ 0) × (2 * (o / 2) ≡ o) × (sibling_off o ≡ 2 * (o / 2) + 1)) ⊎ ((o % 2 ≡ 1) × (2 * (o / 2) + 1 ≡ o) × (sibling_off o ≡ 2 * (o / 2))) → o % 2 ≡ side → (a : Tree) × (b : Tree) × (tree_at es (suc r) (o / 2) ≡ Some (inner a b)) × (half (o % 2) (Some (inner a b)) ≡ Some t) → is_known (length new) (watched_places new w) q ≡ true
             from_fork side cases z f =
                 let up = tree_at-forest es (suc r) (o / 2) (inner f.0 f.1) f.2 in
                 let Q = raised (is_empty es d) (length es) m (suc r) (o / 2) in
                 let st = raised_stands es d m all free (suc r) (o / 2) (inner f.0 f.1) f.2 in
-                let c = λ (h' : has_watched w (inner f.0 f.1) ≡ true). children_known new w (entry_places (kept_entries new w)) (kept_are new w) (raised (is_empty es d) (length es) m (suc r) (o / 2)) f.0 f.1 st h' in
+                let c = λ (h' : has_watched w (inner f.0 f.1) ≡ true). children_known new w (watched_places new w) (kept_are new w) (raised (is_empty es d) (length es) m (suc r) (o / 2)) f.0 f.1 st h' in
                 ⊎_elim
                 (λ even.
                 let same : u ≡ f.1 = same_Some u f.1 (sym su ∙ (ap (tree_at es r) even.2 ∙ (tree_at-right es r (o / 2) up ∙ ap (half 1) f.2))) in
                 let at : q ≡ child 0 (raised (is_empty es d) (length es) m (suc r) (o / 2)) = sym e ∙ (ap (raised (is_empty es d) (length es) m r) (sym even.1) ∙ raised-left (is_empty es d) (length es) m r (o / 2) up) in
-                ap (is_known (length new) (entry_places (kept_entries new w))) at ∙ (c (or_right (has_watched w f.0) (has_watched w f.1) (ap (has_watched w) (sym same) ∙ h))).0.1)
+                ap (is_known (length new) (watched_places new w)) at ∙ (c (or_right (has_watched w f.0) (has_watched w f.1) (ap (has_watched w) (sym same) ∙ h))).0.1)
                 (λ odd.
                 let same : u ≡ f.0 = same_Some u f.0 (sym su ∙ (ap (tree_at es r) odd.2 ∙ (tree_at-left es r (o / 2) up ∙ ap (half 0) f.2))) in
                 let at : q ≡ child 1 (raised (is_empty es d) (length es) m (suc r) (o / 2)) = sym e ∙ (ap (raised (is_empty es d) (length es) m r) (sym odd.1) ∙ raised-right (is_empty es d) (length es) m r (o / 2) up) in
-                ap (is_known (length new) (entry_places (kept_entries new w))) at ∙ (c (or_left (has_watched w f.0) (has_watched w f.1) (ap (has_watched w) (sym same) ∙ h))).1.1)
+                ap (is_known (length new) (watched_places new w)) at ∙ (c (or_left (has_watched w f.0) (has_watched w f.1) (ap (has_watched w) (sym same) ∙ h))).1.1)
                 cases
 
     -- what was held is held where it goes
-    pub old_found : (r o : ℕ) (x : Digest) (p : Place) → is_known (length es) (entry_places (kept_entries es w)) p ≡ true → digest_at H es p.row p.off ≡ Some x → raised (is_empty es d) (length es) m p.row p.off ≡ place r o → look (held H new (entry_places (kept_entries new w))) r o ≡ Some x
+    pub old_found : (r o : ℕ) (x : Digest) (p : Place) → is_known (length es) (watched_places es w) p ≡ true → digest_at H es p.row p.off ≡ Some x → raised (is_empty es d) (length es) m p.row p.off ≡ place r o → look (held H new (watched_places new w)) r o ≡ Some x
     old_found r o x p k g z = by_tree (tree_at es p.row p.off) refl g
       where
-        by_tree : (y : Option Tree) → tree_at es p.row p.off ≡ y → option_map (digest_of H) y ≡ Some x → look (held H new (entry_places (kept_entries new w))) r o ≡ Some x
+        by_tree : (y : Option Tree) → tree_at es p.row p.off ≡ y → option_map (digest_of H) y ≡ Some x → look (held H new (watched_places new w)) r o ≡ Some x
         by_tree None s g = absurd (none-some x g)
         by_tree (Some t) s g =
-            let v = known_stands es w (entry_places (kept_entries es w)) (kept_are es w) p.row p.off (tree_at-forest es p.row p.off t s) k in
+            let v = known_stands es w (watched_places es w) (kept_are es w) p.row p.off (tree_at-forest es p.row p.off t s) k in
             let same : v.0 ≡ t = same_Some v.0 t (sym v.1 ∙ s) in
-            let by = subst (IsKnownBy es w (entry_places (kept_entries es w)) (kept_are es w) p.row p.off) same v.2 in
+            let by = subst (IsKnownBy es w (watched_places es w) (kept_are es w) p.row p.off) same v.2 in
             let u = raised_known p.row p.off t s by (place r o) z in
             look_held H new w r o u.0 u.1 ∙ (ap (λ (q : Place). digest_at H new q.row q.off) (sym z) ∙ (ap (option_map (digest_of H)) (raised_stands es d m all free p.row p.off t s) ∙ g))
 
     -- and what is shown is held
-    pub news_found : All (λ x. look (held H new (entry_places (kept_entries new w))) x.0.row x.0.off ≡ Some x.1) news
+    pub news_found : All (λ x. look (held H new (watched_places new w)) x.0.row x.0.off ≡ Some x.1) news
     news_found =
-        All-weaker IsNew (λ x. look (held H new (entry_places (kept_entries new w))) x.0.row x.0.off ≡ Some x.1) (λ x v. look_held H new w x.0.row x.0.off v.0 v.1.0 ∙ v.1.1) news
+        All-weaker IsNew (λ x. look (held H new (watched_places new w)) x.0.row x.0.off ≡ Some x.1) (λ x v. look_held H new w x.0.row x.0.off v.0 v.1.0 ∙ v.1.1) news
         (shown_new m zero (w (length es)) (sym last_watched_zero) (slots_at zero m (omega arith)).0 (slots_at zero m (omega arith)).1)
 
     -- what is found is known and right
-    found_right : (r o : ℕ) (x : Digest) → look_in news olds r o ≡ Some x → look (held H new (entry_places (kept_entries new w))) r o ≡ Some x
+    found_right : (r o : ℕ) (x : Digest) → look_in news olds r o ≡ Some x → look (held H new (watched_places new w)) r o ≡ Some x
     found_right r o x e =
         or_from_either (look news r o) (look olds r o) x
-        (λ f. look_all (λ r o x. look (held H new (entry_places (kept_entries new w))) r o ≡ Some x) news r o x news_found f)
+        (λ f. look_all (λ r o x. look (held H new (watched_places new w)) r o ≡ Some x) news r o x news_found f)
         (λ f. let v = raised_from H es d w m all free r o x f in old_found r o x v.0 v.1 v.2 v.3)
         e
 
     -- what is known after an addition
-    pub known_after : (r o : ℕ) → look (held H new (entry_places (kept_entries new w))) r o ≡ look_in news olds r o
+    pub known_after : (r o : ℕ) → look (held H new (watched_places new w)) r o ≡ look_in news olds r o
     known_after r o =
-        same_options (look (held H new (entry_places (kept_entries new w))) r o) (look_in news olds r o)
+        same_options (look (held H new (watched_places new w)) r o) (look_in news olds r o)
         (λ x e. was x e)
         (λ x e. found_right r o x e)
       where
-        was : (x : Digest) → look (held H new (entry_places (kept_entries new w))) r o ≡ Some x → look_in news olds r o ≡ Some x
+        was : (x : Digest) → look (held H new (watched_places new w)) r o ≡ Some x → look_in news olds r o ≡ Some x
         was x e =
             let k = look_known H new w r o x e in
             let h = held_within r o x e in
-            let v = known_stands new w (entry_places (kept_entries new w)) (kept_are new w) r o h k in
-            let u = some_from_test (look_in news olds r o) (known_in r o v.0 v.2 (all_come es d m all free w (entry_places (kept_entries es w)) (kept_are es w) r o v.0 v.1)) in
+            let v = known_stands new w (watched_places new w) (kept_are new w) r o h k in
+            let u = some_from_test (look_in news olds r o) (known_in r o v.0 v.2 (all_come es d m all free w (watched_places es w) (kept_are es w) r o v.0 v.1)) in
             u.1 ∙ (sym (found_right r o u.0 u.1) ∙ e)
           where
-            held_within : (r o : ℕ) (x : Digest) → look (held H new (entry_places (kept_entries new w))) r o ≡ Some x → InForest (length new) r o
+            held_within : (r o : ℕ) (x : Digest) → look (held H new (watched_places new w)) r o ≡ Some x → InForest (length new) r o
             held_within r o x e = look_within H new w r o x e
 
     -- a root is held exactly where it has a watched entry
-    pub root_held : (row : ℕ) → row < m → is_root_held (length es) (held H es (entry_places (kept_entries es w))) row ≡ watched row
+    pub root_held : (row : ℕ) → row < m → is_root_held (length es) (held H es (watched_places es w)) row ≡ watched row
     root_held row lt =
         let n = length es in
         let off = root_off n row in
         let top = is_root-root_off n row (slot_from n m row all lt) in
-        same_Bools (is_some (look (held H es (entry_places (kept_entries es w))) row off)) (watched row)
-        (λ h. let x = some_from_test (look (held H es (entry_places (kept_entries es w))) row off) h in
-        let v = known_stands es w (entry_places (kept_entries es w)) (kept_are es w) row off (look_within H es w row off x.0 x.1) (look_known H es w row off x.0 x.1) in
+        same_Bools (is_some (look (held H es (watched_places es w)) row off)) (watched row)
+        (λ h. let x = some_from_test (look (held H es (watched_places es w)) row off) h in
+        let v = known_stands es w (watched_places es w) (kept_are es w) row off (look_within H es w row off x.0 x.1) (look_known H es w row off x.0 x.1) in
         let g : root_tree es d row ≡ Some v.0 = sym (tree_at-root es row off top) ∙ v.1 in
         ap root_watched g ∙ ⊎_elim (λ t. t) (λ b. absurd (true≢false (sym top ∙ b.0))) v.2)
         (λ h. by_root (root_tree es d row) refl h)
       where
-        by_root : (x : Option Tree) → root_tree es d row ≡ x → root_watched x ≡ true → is_some (look (held H es (entry_places (kept_entries es w))) row (root_off (length es) row)) ≡ true
+        by_root : (x : Option Tree) → root_tree es d row ≡ x → root_watched x ≡ true → is_some (look (held H es (watched_places es w)) row (root_off (length es) row)) ≡ true
         by_root None g h = absurd (false≢true h)
         by_root (Some t) g h =
             let n = length es in
             let off = root_off n row in
             let top = is_root-root_off n row (slot_from n m row all lt) in
             let s = tree_at-root es row off top ∙ g in
-            let k = known_covered n (entry_places (kept_entries es w)) row off (stands_covered es w (entry_places (kept_entries es w)) (kept_are es w) t row off s h) in
+            let k = known_covered n (watched_places es w) row off (stands_covered es w (watched_places es w) (kept_are es w) t row off s h) in
             ap is_some (look_held H es w row off (tree_at-forest es row off t s) k ∙ ap (option_map (digest_of H)) s)
 
 -- the same with tests that are the same beneath
@@ -417,16 +417,16 @@ shown_same H roots d n f g c (suc k) row h =
 
 -- what a cache has after an addition
 pub becomes : (H : List ℕ → Digest) (es : List (Option Digest)) (d : Digest) (w : ℕ → Bool) (m : ℕ) → all_slots (length es) m ≡ true → is_slot (length es) m ≡ false → (r o : ℕ) →
-    look (held H (es ++ Some d ∷ []) (entry_places (kept_entries (es ++ Some d ∷ []) w))) r o ≡ look_in (shown_known H (root H es) d (length es) (is_root_held (length es) (held H es (entry_places (kept_entries es w)))) (w (length es)) m zero) (raised_held (λ r. is_none (root H es r)) (length es) m (held H es (entry_places (kept_entries es w)))) r o
+    look (held H (es ++ Some d ∷ []) (watched_places (es ++ Some d ∷ []) w)) r o ≡ look_in (shown_known H (root H es) d (length es) (is_root_held (length es) (held H es (watched_places es w))) (w (length es)) m zero) (raised_held (λ r. is_none (root H es r)) (length es) m (held H es (watched_places es w))) r o
 becomes H es d w m all free r o =
     known_after H es d w m all free r o
-    ∙ ap (λ t. look_in t (raised_held (λ r. is_none (root H es r)) (length es) m (held H es (entry_places (kept_entries es w)))) r o)
-    (sym (shown_same H (root H es) d (length es) (is_root_held (length es) (held H es (entry_places (kept_entries es w)))) (watched H es d w) (w (length es)) m zero (λ j lt. root_held H es d w m all free j (omega arith))))
+    ∙ ap (λ t. look_in t (raised_held (λ r. is_none (root H es r)) (length es) m (held H es (watched_places es w))) r o)
+    (sym (shown_same H (root H es) d (length es) (is_root_held (length es) (held H es (watched_places es w))) (watched H es d w) (w (length es)) m zero (λ j lt. root_held H es d w m all free j (omega arith))))
 
 -- what becomes known is held
 pub becomes_held : (H : List ℕ → Digest) (es : List (Option Digest)) (d : Digest) (w : ℕ → Bool) (m : ℕ) → all_slots (length es) m ≡ true → is_slot (length es) m ≡ false →
-    All (λ x. look (held H (es ++ Some d ∷ []) (entry_places (kept_entries (es ++ Some d ∷ []) w))) x.0.row x.0.off ≡ Some x.1) (shown_known H (root H es) d (length es) (is_root_held (length es) (held H es (entry_places (kept_entries es w)))) (w (length es)) m zero)
+    All (λ x. look (held H (es ++ Some d ∷ []) (watched_places (es ++ Some d ∷ []) w)) x.0.row x.0.off ≡ Some x.1) (shown_known H (root H es) d (length es) (is_root_held (length es) (held H es (watched_places es w))) (w (length es)) m zero)
 becomes_held H es d w m all free =
-    subst (All (λ x. look (held H (es ++ Some d ∷ []) (entry_places (kept_entries (es ++ Some d ∷ []) w))) x.0.row x.0.off ≡ Some x.1))
-    (sym (shown_same H (root H es) d (length es) (is_root_held (length es) (held H es (entry_places (kept_entries es w)))) (watched H es d w) (w (length es)) m zero (λ j lt. root_held H es d w m all free j (omega arith))))
+    subst (All (λ x. look (held H (es ++ Some d ∷ []) (watched_places (es ++ Some d ∷ []) w)) x.0.row x.0.off ≡ Some x.1))
+    (sym (shown_same H (root H es) d (length es) (is_root_held (length es) (held H es (watched_places es w))) (watched H es d w) (w (length es)) m zero (λ j lt. root_held H es d w m all free j (omega arith))))
     (news_found H es d w m all free)

@@ -16,7 +16,7 @@ use Rattle.forest_model.proofs.Covers.{some_from_test, needed_parts, uncovered_h
 use Rattle.forest_model.proofs.Lists.{need_has, need_had, need_ascending}
 use Rattle.cache_model.specs.Cache.{look}
 use Rattle.cache_model.specs.Climbed.{led, beside_way}
-use Rattle.cache_model.proofs.Known.{target_covered}
+use Rattle.proof_shape.proofs.Needing.{covered_target}
 
 -- the siblings of a place and of those above it, in k rows, up to the root
 abbrev pub siblings : ℕ → ℕ → ℕ → ℕ → List Place
@@ -179,7 +179,7 @@ module _ (n : ℕ) (p : Place) where
       siblings_have k p.row p.off a b c.0 (few a b v.0) c.1 v.0 w.0)
     where
       on_way : IsOnWay p.row p.off
-      on_way = (within, target_covered (p ∷ []) p.row p.off (or_left (is_at p.row p.off p) false (is_at-same p.row p.off)))
+      on_way = (within, covered_target (p ∷ []) p.row p.off (or_left (is_at p.row p.off p) false (is_at-same p.row p.off)))
 
   -- what is held on a way up is what is held beside it
   pub way_held : (hs : List (Place × Digest)) (k r o : ℕ) → ((a b : ℕ) → has_place (siblings n k r o) a b ≡ true → (d : Digest) × (look hs a b ≡ Some d)) → ((a b : ℕ) (d : Digest) → look hs a b ≡ Some d → InForest n a b) →

@@ -1,5 +1,5 @@
 -- The proof of a kept entry, read off what is held on its way up.
-use Rattle.std.proofs.Common.{◌≡◌, ℕ, ◌-◌, ◌^◌, ◌<◌, Bool, true, false, List, [], ◌∷◌, map, length, filter_map, Option, Some, None, refl, sym, ap, ◌∙◌, subst, ⊎_elim, arith}
+use Rattle.std.proofs.Common.{◌≡◌, ℕ, ◌-◌, ◌^◌, ◌<◌, Bool, true, false, List, [], ◌∷◌, map, length, get_or, filter_map, Option, Some, None, refl, sym, ap, ◌∙◌, subst, ⊎_elim, arith}
 use Rattle.std.specs.Prelude.{option_map}
 use Rattle.std.specs.List.{cons_option}
 use Rattle.std.proofs.lemmas.Bool.{cases_Bool, or_cases, false≢true}
@@ -17,60 +17,59 @@ use Rattle.forest_model.proofs.Climbs.{tree_at-forest}
 use Rattle.forest_model.proofs.EntryPlaces.{entry_place-leaf}
 use Rattle.forest_model.proofs.Lists.{need_had}
 use Rattle.forest_model.proofs.Living.{needed_stands}
-use Rattle.cache_model.specs.Entry.{KeptEntry}
-use Rattle.cache_model.specs.Cache.{numbers, kept_at, kept_entries, entry_places, held, look, StandsForCache}
+use Rattle.cache_model.specs.Cache.{held, look}
 use Rattle.forest_model.specs.Right.{entries}
 use Rattle.cache_model.specs.declared.kept.Kept.{Kept}
 use Rattle.cache_model.specs.Lists.{leaf_key}
-use Rattle.cache_model.specs.Undo.{find, is_same_number, is_before_number, kept_key}
+use Rattle.cache_model.specs.Undo.{find, is_same_number, is_before_number}
 use Rattle.cache_model.specs.Climbed.{beside_way, IsProofOf, ProofIsClimbed}
-use Rattle.cache_model.proofs.Lists.{bare, watch, stands_for, same_count}
+use Rattle.cache_model.proofs.Lists.{watch, there, leaf_at, leaves_are, places_are, same_count}
 use Rattle.cache_model.proofs.Logs.{found_key}
 use Rattle.cache_model.proofs.Undoing.{number_order}
 use Rattle.cache_model.proofs.Climbing.{siblings, need_alone, way_held}
-use Rattle.cache_model.proofs.Keeping.{IsKept, kept_stands}
+use Rattle.cache_model.proofs.Keeping.{numbers, watched_place, watched_places, IsKept, place_kept}
 use Rattle.cache_model.proofs.Looking.{look_held, look_within, need_known, proof_right}
 
-module _ (H : List ℕ → Digest) (es : List (Option Digest)) (w : ℕ → Bool) (k : KeptEntry) (s : IsKept es w k) where
+module _ (H : List ℕ → Digest) (es : List (Option Digest)) (w : ℕ → Bool) (i : ℕ) (d : Digest) (q : Place) (s : IsKept es w i d q) where
   abbrev all_held : List (Place × Digest)
-  all_held = held H es (entry_places (kept_entries es w))
+  all_held = held H es (watched_places es w)
 
-  within : InForest (length es) k.place.row k.place.off
-  within = tree_at-forest es k.place.row k.place.off (leaf k.number k.digest) s.stands
+  within : InForest (length es) q.row q.off
+  within = tree_at-forest es q.row q.off (leaf i d) s.stands
 
-  stand : (r o : ℕ) → has_place (k.place ∷ []) r o ≡ true → InForest (length es) r o → (t : Tree) × (tree_at es r o ≡ Some t)
-  stand r o h i =
+  stand : (r o : ℕ) → has_place (q ∷ []) r o ≡ true → InForest (length es) r o → (t : Tree) × (tree_at es r o ≡ Some t)
+  stand r o h f =
       ⊎_elim
-      (λ t. (leaf k.number k.digest, ap (λ (q : Place). tree_at es q.row q.off) (sym (same_from_is_at r o k.place t)) ∙ s.stands))
+      (λ t. (leaf i d, ap (λ (p : Place). tree_at es p.row p.off) (sym (same_from_is_at r o q t)) ∙ s.stands))
       (λ f. absurd (false≢true f))
-      (or_cases (is_at r o k.place) false h)
+      (or_cases (is_at r o q) false h)
 
   -- each needed place has a digest
-  each_held : (a b : ℕ) → has_place (need (length es) (k.place ∷ [])) a b ≡ true → (d : Digest) × (look all_held a b ≡ Some d)
+  each_held : (a b : ℕ) → has_place (need (length es) (q ∷ [])) a b ≡ true → (x : Digest) × (look all_held a b ≡ Some x)
   each_held a b h =
-      let v = need_known H es w k s a b h in
-      let u = need_had (length es) (k.place ∷ []) a b h in
-      let t = needed_stands es (k.place ∷ []) stand a b u.0 u.1 in
+      let v = need_known H es w i d q s a b h in
+      let u = need_had (length es) (q ∷ []) a b h in
+      let t = needed_stands es (q ∷ []) stand a b u.0 u.1 in
       (digest_of H t.0, look_held H es w a b v.0 v.1 ∙ ap (option_map (digest_of H)) t.1)
 
-  pub climbed : length es < 2 ^ 40 → IsProofOf H es k.number (beside_way (40 - k.place.row) all_held k.place.row k.place.off)
+  pub climbed : length es < 2 ^ 40 → IsProofOf H es i (beside_way (40 - q.row) all_held q.row q.off)
   climbed few =
-      let row : k.place.row < 40 = row_small (length es) k.place.row k.place.off 40 within few in
-      let same : siblings (length es) (40 - k.place.row) k.place.row k.place.off ≡ need (length es) (k.place ∷ []) =
-      need_alone (length es) k.place (40 - k.place.row) within (λ r o i. let z = row_small (length es) r o 40 i few in omega (arith, row, z)) in
+      let row : q.row < 40 = row_small (length es) q.row q.off 40 within few in
+      let same : siblings (length es) (40 - q.row) q.row q.off ≡ need (length es) (q ∷ []) =
+      need_alone (length es) q (40 - q.row) within (λ r o i. let z = row_small (length es) r o 40 i few in omega (arith, row, z)) in
       record {
-        place = k.place;
-        stands = entry_place-leaf es k.number k.place.row k.place.off k.digest s.stands;
-        right = way_held (length es) k.place all_held (40 - k.place.row) k.place.row k.place.off (λ a b h. each_held a b (subst (λ ps. has_place ps a b ≡ true) same h)) (λ a b d e. look_within H es w a b d e)
-            ∙ (ap (map (λ (q : Place). look all_held q.row q.off)) same ∙ proof_right H es w k s);
+        place = q;
+        stands = entry_place-leaf es i q.row q.off d s.stands;
+        right = way_held (length es) q all_held (40 - q.row) q.row q.off (λ a b h. each_held a b (subst (λ ps. has_place ps a b ≡ true) same h)) (λ a b d e. look_within H es w a b d e)
+            ∙ (ap (map (λ (p : Place). look all_held p.row p.off)) same ∙ proof_right H es w i d q s);
       }
 
 -- what is found comes from one element
-found_from : {X : Type 0} (f : X → Option KeptEntry) (i : ℕ) (xs : List X) (v : KeptEntry) → find is_same_number kept_key i (filter_map f xs) ≡ Some v → (x : X) × (f x ≡ Some v)
+found_from : {X : Type 0} (f : X → Option Kept) (i : ℕ) (xs : List X) (v : Kept) → find is_same_number leaf_key i (filter_map f xs) ≡ Some v → (x : X) × (f x ≡ Some v)
 found_from f i [] v e = absurd (none-some v e)
 found_from {X = X} f i (x ∷ xs) v e = by_first (f x) refl e (found_from f i xs v)
   where
-    by_first : (y : Option KeptEntry) → f x ≡ y → find is_same_number kept_key i (cons_option y (filter_map f xs)) ≡ Some v → (find is_same_number kept_key i (filter_map f xs) ≡ Some v → (z : X) × (f z ≡ Some v)) → (z : X) × (f z ≡ Some v)
+    by_first : (y : Option Kept) → f x ≡ y → find is_same_number leaf_key i (cons_option y (filter_map f xs)) ≡ Some v → (find is_same_number leaf_key i (filter_map f xs) ≡ Some v → (z : X) × (f z ≡ Some v)) → (z : X) × (f z ≡ Some v)
     by_first None g e rest = rest e
     by_first (Some y) g e rest =
         ⊎_elim
@@ -78,25 +77,18 @@ found_from {X = X} f i (x ∷ xs) v e = by_first (f x) refl e (found_from f i xs
         (λ t. rest (rw t at e))
         (cases_Bool (is_same_number i y.number))
 
-find_bare : (i : ℕ) (ks : List Kept) → find is_same_number kept_key i (map bare ks) ≡ option_map bare (find is_same_number leaf_key i ks)
-find_bare i [] = refl
-find_bare i (k ∷ ks) = ⊎_elim (λ t. rw t refl) (λ t. rw t (find_bare i ks)) (cases_Bool (is_same_number i k.number))
-
 pub proof_climbed : ProofIsClimbed
 proof_climbed H text scripts us ks hs number hashes few s e = by_found (find is_same_number leaf_key number ks) refl e
   where
-    st : StandsForCache H (entries H text us) (watch scripts us) (map bare ks) hs
-    st = stands_for H text scripts us ks hs s
-
     by_found : (x : Option Kept) → find is_same_number leaf_key number ks ≡ x → option_map (λ (p : Place). beside_way (40 - p.row) hs p.row p.off) (option_map (λ (k : Kept). k.place) x) ≡ Some hashes → IsProofOf H (entries H text us) number hashes
     by_found None g e = absurd (none-some hashes e)
     by_found (Some k) g e =
-        let found : find is_same_number kept_key number (kept_entries (entries H text us) (watch scripts us)) ≡ Some (bare k) = ap (find is_same_number kept_key number) (sym st.of_kept) ∙ (find_bare number ks ∙ ap (option_map bare) g) in
-        let from = found_from (kept_at (entries H text us) (watch scripts us)) number (numbers (length (entries H text us))) (bare k) found in
-        let kept = kept_stands (entries H text us) (watch scripts us) from.0 (bare k) from.1 in
-        let same : k.number ≡ number = found_key is_same_number is_before_number leaf_key number_order number ks k g in
-        let all : hs ≡ all_held H (entries H text us) (watch scripts us) (bare k) kept.0 = st.of_held ∙ ap (λ es. held H (entries H text us) (entry_places es)) st.of_kept in
-        let proof = climbed H (entries H text us) (watch scripts us) (bare k) kept.0 (subst (λ n. n < 2 ^ 40) (sym (same_count H text us)) few) in
+        let from = found_from (leaf_at H text scripts us) number (numbers (length us)) k (ap (find is_same_number leaf_key number) (sym (s.of_kept ∙ leaves_are H text scripts us)) ∙ g) in
+        let is = there (λ leaf. H (text leaf)) from.0 (get_or us from.0 None) (watched_place (entries H text us) (watch scripts us) from.0) k from.1 in
+        let kept = place_kept (entries H text us) (watch scripts us) from.0 k.place is.1 in
+        let same : from.0 ≡ number = sym is.0 ∙ found_key is_same_number is_before_number leaf_key number_order number ks k g in
+        let all : hs ≡ held H (entries H text us) (watched_places (entries H text us) (watch scripts us)) = s.of_held ∙ ap (held H (entries H text us)) (sym (places_are H text scripts us)) in
+        let proof = climbed H (entries H text us) (watch scripts us) from.0 kept.0 k.place kept.1 (subst (λ n. n < 2 ^ 40) (sym (same_count H text us)) few) in
         subst (λ (n : ℕ). IsProofOf H (entries H text us) n hashes) same
-        (subst (IsProofOf H (entries H text us) k.number) (same_Some (beside_way (40 - k.place.row) hs k.place.row k.place.off) hashes e)
-        (subst (λ xs. IsProofOf H (entries H text us) k.number (beside_way (40 - k.place.row) xs k.place.row k.place.off)) (sym all) proof))
+        (subst (IsProofOf H (entries H text us) from.0) (same_Some (beside_way (40 - k.place.row) hs k.place.row k.place.off) hashes e)
+        (subst (λ xs. IsProofOf H (entries H text us) from.0 (beside_way (40 - k.place.row) xs k.place.row k.place.off)) (sym all) proof))

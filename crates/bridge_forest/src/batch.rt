@@ -1,9 +1,8 @@
-//! What proves a live entry, and what proves many.
+//! What proves live entries.
 ghost use Rattle.std.specs.Prelude.{◌≡◌, ◌^◌, ◌<◌, length};
 ghost use Rattle.std.specs.List.{flat_map};
 
 use crate::proving::Row;
-use arrayvec::ArrayVec;
 use forest_place::Place;
 use uo_digest::Digest;
 
@@ -23,15 +22,6 @@ impl Default for Sibling {
             digest: Digest([0; 32]),
         }
     }
-}
-
-/// Where a live entry stands, and what proves it: the merkle branch from there up.
-#[derive(Drop)]
-pub struct Branch {
-    /// The place at which the entry stands.
-    pub place: Place,
-    /// The siblings of this place and of those above it, from below the root of the slot down.
-    pub siblings: ArrayVec<Sibling, 40>,
 }
 
 /// Where live entries stand, and what proves them all.

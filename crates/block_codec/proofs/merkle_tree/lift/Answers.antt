@@ -1,6 +1,6 @@
 use Rattle.std.proofs.Common.{◌≡◌, arith}
 use Rattle.block_codec.proofs.PairLaws.{lifted-start, lifted-more, lifted-end}
-use Rattle.block_codec.proofs.witness.lift.Goals as goal
+use Rattle.block_codec.proofs.merkle_tree.lift.Goals as goal
 
 pub loop-pair-init : goal.loop-pair-init
 loop-pair-init c = lifted-start _
