@@ -6,8 +6,7 @@ use Rattle.uo_base.specs.declared.event.Net.{Net}
 use Rattle.uo_digest.specs.declared.digest.Digest.{Digest}
 use Rattle.bridge_prover.specs.Watched.{scripts_of}
 use Rattle.state_text.specs.Fits.{IsState}
-use Rattle.state_text.specs.Stored.{StateValue, IsOfVersion, state_text, body_text}
-use Rattle.state_text.proofs.LevelLaws.{one_state}
+use Rattle.state_text.proofs.LevelLaws.{one_state, one_version}
 use Rattle.compact_node.specs.Node.{NodeState}
 use Rattle.compact_node.specs.State.{stored_state}
 use Rattle.feed_frame.specs.declared.fault.FeedFault.{FeedFault}
@@ -69,17 +68,14 @@ module _ (H : List ℕ → Digest) (limits : Limits) where
   -- ---- from a state
 
   module _ (few : limits.leaves < 2 ^ 40) (prior feed : List ℕ) (g : IsGoodBehind H limits prior feed) where
-    fifth : (v : ℕ) (body other : List ℕ) → 85 ∷ 84 ∷ 88 ∷ 83 ∷ 1 ∷ body ≡ 85 ∷ 84 ∷ 88 ∷ 83 ∷ v ∷ other → v ≡ 1
-    fifth v body other e = cc
-
     no_bad : (bad : BadInput) → IsStart H limits prior (Err bad) → ⊥
     no_bad bad (inl l) = absurd (omega (arith, g.short, l.long))
-    no_bad bad (inr (inl o)) = absurd (o.other.other (fifth o.version _ _ (sym g.text ∙ o.other.begins)))
+    no_bad bad (inr (inl o)) = absurd (one_version g.state prior o.version g.text o.other)
     no_bad bad (inr (inr n)) = n.none g.state g.is g.text
 
     resumes : (begun : Start) → IsStart H limits prior begun → IsEnd (start_answer H begun feed).status
     resumes (Ok node) s =
-        let same = one_state H limits.leaves g.state (stored_state node) few g.is (subst (λ m. IsState H m.leaves (stored_state node)) s.limits_are s.reads.state) (sym g.text ∙ s.reads.is) in
+        let same = one_state H limits.leaves prior g.state (stored_state node) few g.is (subst (λ m. IsState H m.leaves (stored_state node)) s.limits_are s.reads.state) g.text s.reads.is in
         let whole = subst (λ m. (events_of node.rules.net m.bytes feed).ending ≡ None) (sym s.limits_are) (subst (λ w. (events_of w.net limits.bytes feed).ending ≡ None) same g.whole) in
         followed node feed whole
     resumes (Err bad) s = absurd (no_bad bad s)

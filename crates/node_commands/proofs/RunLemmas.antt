@@ -19,7 +19,7 @@ use Rattle.command_words.specs.declared.words.WordFault.{WordFault}
 use Rattle.node_commands.specs.Within.{StaysWithin, EndsOver, StaysOver, EndsRun, StaysWithinRun}
 use Rattle.uo_base.specs.Faults.{Rose}
 use Rattle.node_commands.specs.Runs.{Inputs, Agrees, uses_by, uses_of, UsedRose, GivesBy, IsAsFull, IsAsProved, Did, answer_of, ReportsTaken, StoresBefore}
-use Rattle.node_commands.specs.Order.{FollowsLast, ProvesFirst}
+use Rattle.node_commands.specs.Order.{FollowsLast, ProvesFirst, GeneratesFirst}
 use Rattle.node_commands.specs.Follow.{fresh_for}
 use Rattle.node_commands.specs.Machine.{follower_of, follow_machine}
 use Rattle.node_commands.specs.Prover.{fresh_prover, prove_machine}
@@ -125,6 +125,11 @@ module _ (H : List ℕ → Digest) (words : List (List ℕ)) (limits : Limits) (
   resumed-first w =
       subst (λ r. ResumedStores H r limits prior feed report report' out out') is
       (subst (λ b. Resumed b (StoresBehind H (IsStartOf H limits prior) feed report report' out out') (Unit {0})) (sym resumed) w)
+
+-- `gen` stores before it prints
+pub first-gen : (H : List ℕ → Digest) (words : List (List ℕ)) (limits : Limits) (net : Net) (number blocks : ℕ) (to : Option (List ℕ)) → Ok (AskedGen net number blocks to) ≡ command_of words
+    → (watch feed report report' out out' : Option (List ℕ)) → GeneratesFirst number blocks net report report' out out' → StoresBefore H (command_of words) limits watch feed report report' out out'
+first-gen H words limits net number blocks to is watch feed report report' out out' f = subst (λ r. StoresBefore H r limits watch feed report report' out out') is f
 
 -- whether a borrowed value is there
 pub copied_some : {T : Type 0} (x : Option (Bor T)) → is_some x ≡ is_some (option_copied x)

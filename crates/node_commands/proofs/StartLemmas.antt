@@ -20,12 +20,12 @@ use Rattle.node_rules.proofs.Fitting.{read_event_fits}
 use Rattle.state_text.specs.declared.fault.StateFault.{StateFault}
 use Rattle.state_text.specs.declared.fault.StateFault.TheVariants.{NotAState, Version}
 use Rattle.state_text.specs.Fits.{IsState}
+use Rattle.state_text.specs.Stored.{IsTextOf}
 use Rattle.state_text.specs.OfHistory.{IsHistory, state_of}
 use Rattle.state_text.specs.Reached.{EventFits}
-use Rattle.state_text.proofs.LevelLaws.{history_has_state}
+use Rattle.state_text.proofs.LevelLaws.{history_has_state, one_version}
 use Rattle.state_text.proofs.Reaching.{reached_is_history}
 use Rattle.compact_node.specs.Node.{NodeState, IsNode, Stands}
-use Rattle.compact_node.specs.State.{IsReadAs}
 use Rattle.compact_node.specs.Throughout.{full_after}
 use Rattle.compact_node.proofs.Storing.{written_comes_back}
 use Rattle.feed_run.specs.Answer.{Answer}
@@ -34,7 +34,7 @@ use Rattle.feed_run.specs.declared.status.Status.TheVariants.{InputLimit}
 use Rattle.report_lines.specs.declared.line.Line.TheVariants.{LimitPrior}
 use Rattle.report_lines.specs.Lines.{whole_line}
 use Rattle.node_commands.specs.declared.bad_input.BadInput.{BadInput}
-use Rattle.node_commands.specs.Follow.{follow_answer, full_text, rules_of, IsAsOfFull}
+use Rattle.node_commands.specs.Follow.{follow_answer, rules_of, IsAsOfFull}
 use Rattle.node_commands.specs.Resuming.{EndsBehind, StaysBehind, WritesNothing}
 use Rattle.node_commands.specs.Runs.{Inputs}
 use Rattle.node_commands.specs.Starting.{Start, IsNodeOf, IsLong, IsOther, IsNone, IsStart, IsStartOf, start_answer, begun_answer, MayStart, ResumesAsFull}
@@ -77,22 +77,18 @@ module _ (H : List ℕ → Digest) (long : (x : List ℕ) → length (H x).0 ≡
     pub scripts_are : node.scripts ≡ scripts
     pub stands : Stands H leaf_text reached node
 
-  module _ (text : List ℕ) (is : text ≡ full_text H scripts rules reached) where
+  module _ (text : List ℕ) (is : IsTextOf (state_of H net scripts reached) text) where
     pub back_at : (node : NodeState) → IsNodeOf H limits text node → IsBackAt node
     back_at node n =
-        let read = subst (λ w. IsReadAs H w node) is n.reads in
-        let b = written_comes_back H net scripts reached node long watched n.is (subst (λ m. IsHistory m.leaves reached) (sym n.limits_are) reached_history) read in
+        let b = written_comes_back H net scripts reached text node long watched n.is (subst (λ m. IsHistory m.leaves reached) (sym n.limits_are) reached_history) is n.reads in
         record { is = n.is; rules_are = same_rules node.rules b.net_is n.limits_are; scripts_are = b.scripts_are; stands = b.stands }
 
     -- and nothing else is
     not_long : (bad : BadInput) → length text ≤ limits.bytes → IsLong limits text bad → ⊥
     not_long bad short l = absurd (omega (arith, short, l.long))
 
-    fifth : (v : ℕ) (body other : List ℕ) → 85 ∷ 84 ∷ 88 ∷ 83 ∷ 1 ∷ body ≡ 85 ∷ 84 ∷ 88 ∷ 83 ∷ v ∷ other → v ≡ 1
-    fifth v body other e = cc
-
     not_other : (bad : BadInput) → IsOther limits text bad → ⊥
-    not_other bad o = absurd (o.other.other (fifth o.version _ _ (sym is ∙ o.other.begins)))
+    not_other bad o = absurd (one_version (state_of H net scripts reached) text o.version is o.other)
 
     not_none : (bad : BadInput) → IsNone H limits text bad → ⊥
     not_none bad n = n.none (state_of H net scripts reached) whole is

@@ -1,24 +1,30 @@
 -- A run that is stopped and goes on is one run.
-use Rattle.std.proofs.Common.{◌≡◌, ℕ, ◌<◌, ◌^◌, Bool, true, List, [], ◌∷◌, ◌++◌, length, map, Option, Some, None, is_some, refl, sym, ap, ap₂, subst, ◌∙◌}
+use Rattle.std.proofs.Common.{◌≡◌, ℕ, ◌<◌, ◌^◌, Bool, true, List, [], ◌∷◌, ◌++◌, length, map, Option, Some, None, is_some, option_map, refl, sym, ap, ap₂, subst, ◌∙◌, ◌⊎◌, inl, inr}
 use Rattle.std.specs.List.{flat_map, AllByRecursion}
-use Rattle.std.proofs.lemmas.Bool.{and_parts}
+use Rattle.std.proofs.lemmas.Bool.{and_parts, false≢true}
 use Rattle.std.proofs.lemmas.List.{map-append}
 use Rattle.std.proofs.lemmas.Grind.{flat_map-append}
 use Rattle.uo_base.specs.declared.event.Limits.{Limits}
 use Rattle.uo_base.specs.declared.event.Net.{Net}
 use Rattle.uo_base.specs.FeedEvent.{FeedEvent}
 use Rattle.uo_digest.specs.declared.digest.Digest.{Digest}
+use Rattle.forest_place.specs.declared.naming.Naming.TheVariants.{Position, FixedPosition}
 use Rattle.leaf_record.specs.Leaf.{leaf_text}
 use Rattle.leaf_cache.specs.Watched.{AreWatched}
 use Rattle.block_rules.specs.declared.verdict.Verdict.{Verdict}
 use Rattle.feed_frame.specs.declared.fault.FeedFault.{FeedFault}
+use Rattle.feed_frame.specs.declared.fault.FeedFault.TheVariants as Fault
+use Rattle.feed_frame.specs.Parted.{further}
+use Rattle.feed_frame.proofs.PartedLaws.{are_parted}
 use Rattle.node_rules.specs.Fitting.{AreEventBytes}
 use Rattle.node_rules.specs.Judging.{Rules}
 use Rattle.node_rules.specs.Machine.{ChainEvent, State, start, full_judge, step, goes_on, never_stops, event_in}
 use Rattle.compact_node.specs.Node.{NodeState, Stands, next_node}
-use Rattle.compact_node.specs.State.{stored_text}
+use Rattle.compact_node.specs.State.{stored_state, stored_text}
+use Rattle.state_text.specs.Stored.{StateValue, text_by, state_text, IsTextOf}
+use Rattle.state_text.specs.OfHistory.{state_of}
 use Rattle.compact_node.specs.Throughout.{verdicts_on, node_after, full_after, AreHonest}
-use Rattle.compact_node.proofs.Storing.{one_node_stands}
+use Rattle.compact_node.proofs.Storing.{one_node_stands, standing_is_written}
 use Rattle.compact_node.proofs.Throughout.{compact_is_full_throughout, verdicts_on-append, told_after, node_throughout, fresh-stands, fresh-node}
 use Rattle.feed_run.specs.declared.status.Status.{Status}
 use Rattle.report_lines.specs.declared.line.Line.{Line}
@@ -26,7 +32,7 @@ use Rattle.node_commands.specs.Answers.{bad_end, last_of}
 use Rattle.node_commands.specs.Follow.{line_of, events_for, chain_events, follow_answer, full_text, rules_of, AreTrue}
 use Rattle.node_commands.specs.Machine.{end_by}
 use Rattle.node_commands.specs.Starting.{IsNodeOf}
-use Rattle.node_commands.specs.Stopping.{StandsBehind, IsParted, lines_on, left_on, ResumedIsWhole, FreshBegins}
+use Rattle.node_commands.specs.Stopping.{StandsBehind, IsParted, PiecesAreParted, lines_on, left_on, IsLeftBy, ResumedIsWhole, FreshBegins}
 use Rattle.node_commands.proofs.FollowLemmas.{stores_full}
 use Rattle.node_commands.proofs.StartLemmas.{back_at}
 
@@ -64,15 +70,43 @@ module _ (H : List ℕ → Digest) (scripts : List (List ℕ)) (rules : Rules) w
 ends-stored : (refused : Bool) (count : ℕ) (node : NodeState) (ending : Option FeedFault) → ending ≡ None → (last_of (end_by refused count node.newest.chain (stored_text node)) (bad_end ending)).out ≡ stored_text node
 ends-stored refused count node ending e = ap (λ x. (last_of (end_by refused count node.newest.chain (stored_text node)) (bad_end x)).out) e
 
--- what is stored is told by what is kept and how the feed ended
-same-stored : (r r' : Bool) (n n' : ℕ) (s s' : NodeState) (ending ending' : Option FeedFault) → s ≡ s' → ending ≡ ending'
+-- what is stored is told by what is kept, and whether the feed ended well
+same-stored : (r r' : Bool) (n n' : ℕ) (s s' : NodeState) (ending ending' : Option FeedFault) → s ≡ s' → is_some (bad_end ending) ≡ is_some (bad_end ending')
     → (last_of (end_by r n s.newest.chain (stored_text s)) (bad_end ending)).out ≡ (last_of (end_by r' n' s'.newest.chain (stored_text s')) (bad_end ending')).out
 same-stored r r' n n' s s' ending ending' e f =
-    ap (λ x. (last_of (end_by r n x.newest.chain (stored_text x)) (bad_end ending)).out) e ∙ ap (λ x. (last_of (end_by r n s'.newest.chain (stored_text s')) (bad_end x)).out) f ∙ by (bad_end ending')
+    ap (λ x. (last_of (end_by r n x.newest.chain (stored_text x)) (bad_end ending)).out) e ∙ by (bad_end ending) (bad_end ending') f
   where
-    by : (bad : Option (Status × Line)) → (last_of (end_by r n s'.newest.chain (stored_text s')) bad).out ≡ (last_of (end_by r' n' s'.newest.chain (stored_text s')) bad).out
-    by None = refl
-    by (Some (status, line)) = refl
+    by : (bad bad' : Option (Status × Line)) → is_some bad ≡ is_some bad'
+        → (last_of (end_by r n s'.newest.chain (stored_text s')) bad).out ≡ (last_of (end_by r' n' s'.newest.chain (stored_text s')) bad').out
+    by None None same = refl
+    by None (Some bad') same = absurd (false≢true same)
+    by (Some bad) None same = absurd (false≢true (sym same))
+    by (Some (status, line)) (Some (status', line')) same = refl
+
+-- a fault that comes further on ends a feed as badly
+bad-further : (n : ℕ) (ending : Option FeedFault) → is_some (bad_end (option_map (further n) ending)) ≡ is_some (bad_end ending)
+bad-further n None = refl
+bad-further n (Some Fault.ReadFault) = refl
+bad-further n (Some (Fault.Magic offset found)) = refl
+bad-further n (Some (Fault.Cut offset missing)) = refl
+bad-further n (Some (Fault.TooLong offset length)) = refl
+bad-further n (Some (Fault.BadRollback offset length)) = refl
+bad-further n (Some (Fault.Limit bytes)) = refl
+bad-further n (Some Fault.NoMemory) = refl
+
+-- what was stored, or the text of version 1 of the same state, is a text of it
+text_left : (s t : StateValue) (out prior : List ℕ) → out ≡ state_text s → t ≡ s → (prior ≡ out) ⊎ (prior ≡ text_by Position t) → IsTextOf s prior
+text_left s t out prior stored kept (inl e) = (FixedPosition, e ∙ stored)
+text_left s t out prior stored kept (inr e) = (Position, e ∙ ap (text_by Position) kept)
+
+pub pieces_are_parted : PiecesAreParted
+pieces_are_parted = λ rules front back room ends settled.
+    let parted = are_parted rules.net rules.limits.bytes front back room ends settled in
+    record {
+      events = parted.events;
+      front_ends = ends;
+      back_ends = ap (λ e. is_some (bad_end e)) parted.ending ∙ bad-further (length front) (events_for rules back).ending;
+    }
 
 module _ (H : List ℕ → Digest) (long : (x : List ℕ) → length (H x).0 ≡ 32) (limits : Limits) (few : limits.leaves < 2 ^ 40) (net : Net) (scripts : List (List ℕ)) (watched : AreWatched scripts)
     (before : List FeedEvent) (node again : NodeState) (whole front back : List ℕ) (begun : StandsBehind H limits net scripts before node) where
@@ -120,10 +154,20 @@ module _ (H : List ℕ → Digest) (long : (x : List ℕ) → length (H x).0 ≡
         ∙ ap (λ r. stored_text (last r)) begun.rules_are
         ∙ stores_full H node es far begun.is stands ∙ ap₂ (λ w r. full_text H w r far) begun.scripts_are begun.rules_are
 
-    module _ (read : IsNodeOf H limits (follow_answer H node front).out again) where
+    -- and what the node keeps is that state
+    kept : stored_state (left_on H node front) ≡ state_of H net scripts far
+    kept =
+        ap (λ xs. stored_state (node_after H leaf_text node (chain_events xs))) (over front)
+        ∙ standing_is_written H far then (node_throughout H leaf_text node es begun.is) stands
+        ∙ ap₂ (λ (r : Rules) w. state_of H r.net w far) told.0 told.1
+
+    module _ (prior : List ℕ) (left_by : IsLeftBy H node front prior) (read : IsNodeOf H limits prior again) where
+      is_text : IsTextOf (state_of H net scripts far) prior
+      is_text = text_left (state_of H net scripts far) (stored_state (left_on H node front)) (follow_answer H node front).out prior stored kept left_by
+
       again_is : again ≡ then
       again_is =
-          let b = back_at H long limits few net scripts watched (before ++ events) (all-append AreEventBytes before events begun.bytes bytes) (follow_answer H node front).out stored again read in
+          let b = back_at H long limits few net scripts watched (before ++ events) (all-append AreEventBytes before events begun.bytes bytes) prior is_text again read in
           one_node_stands H leaf_text far again then b.is (node_throughout H leaf_text node es begun.is) (b.rules_are ∙ sym told.0) (b.scripts_are ∙ sym told.1) b.stands stands
 
       again_stands : StandsBehind H limits net scripts (before ++ events) again
@@ -163,16 +207,16 @@ module _ (H : List ℕ → Digest) (long : (x : List ℕ) → length (H x).0 ≡
       unfolding follow_answer
       same_stored =
           same-stored _ _ _ _ (left_on H node whole) (left_on H again back) (events_for node.rules whole).ending (events_for again.rules back).ending left
-          (ap (λ x. x.ending) (over whole) ∙ parted.back_ends ∙ ap (λ r. (events_for r back).ending) (sym again_stands.rules_are))
+          (ap (λ x. is_some (bad_end x.ending)) (over whole) ∙ parted.back_ends ∙ ap (λ r. is_some (bad_end (events_for r back).ending)) (sym again_stands.rules_are))
 
 pub resumed_is_whole : ResumedIsWhole
-resumed_is_whole = λ H long limits few net scripts watched before node again whole front back begun parted bytes honest read. (
+resumed_is_whole = λ H long limits few net scripts watched before node again whole front back prior begun parted bytes honest left_by read. (
   record {
-    lines = lines H long limits few net scripts watched before node again whole front back begun parted bytes honest read;
-    left = left H long limits few net scripts watched before node again whole front back begun parted bytes honest read;
-    stored = same_stored H long limits few net scripts watched before node again whole front back begun parted bytes honest read;
+    lines = lines H long limits few net scripts watched before node again whole front back begun parted bytes honest prior left_by read;
+    left = left H long limits few net scripts watched before node again whole front back begun parted bytes honest prior left_by read;
+    stored = same_stored H long limits few net scripts watched before node again whole front back begun parted bytes honest prior left_by read;
   },
-  again_stands H long limits few net scripts watched before node again whole front back begun parted bytes honest read,
+  again_stands H long limits few net scripts watched before node again whole front back begun parted bytes honest prior left_by read,
 )
 
 pub fresh_begins : FreshBegins

@@ -5,7 +5,7 @@ use Rattle.uo_base.specs.declared.event.Limits.{Limits}
 use Rattle.uo_base.specs.declared.event.Net.{Net}
 use Rattle.uo_digest.specs.declared.digest.Digest.{Digest}
 use Rattle.state_text.specs.Fits.{IsState}
-use Rattle.state_text.specs.Stored.{StateValue, state_text}
+use Rattle.state_text.specs.Stored.{StateValue, IsTextOf}
 use Rattle.feed_frame.specs.Events.{events_of}
 use Rattle.feed_run.specs.declared.status.Status.{Status}
 use Rattle.feed_run.specs.declared.status.Status.TheVariants.{AllAccepted, SomeRefused, Clash}
@@ -21,11 +21,11 @@ pub record IsGood (named : Bool) (net : Net) (limits : Limits) (list feed : List
   pub usable : list_in named limits.bytes list ≡ Ok scripts
   pub whole : (events_of net limits.bytes feed).ending ≡ None
 
--- the prior bytes are a state, and no more than may be read; so it is with the feed of the state's network
+-- the prior bytes are a state, in either version, and no more than may be read; so it is with the feed of the state's network
 pub record IsGoodBehind (H : List ℕ → Digest) (limits : Limits) (prior feed : List ℕ) : Type 0 where
   pub state : StateValue
   pub is : IsState H limits.leaves state
-  pub text : prior ≡ state_text state
+  pub text : IsTextOf state prior
   pub short : length prior ≤ limits.bytes
   pub whole : (events_of state.net limits.bytes feed).ending ≡ None
 

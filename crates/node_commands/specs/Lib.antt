@@ -13,6 +13,7 @@ pub mod Resuming
 pub mod Runs
 pub mod Starting
 pub mod Stopping
+pub mod Upgrading
 pub mod Watching
 -- what only this crate's own proofs and private functions cite
 pub mod Within

@@ -1,5 +1,5 @@
 -- What is stored before what is printed.
-use Rattle.std.specs.Prelude.{◌≡◌, ◌⊎◌, ℕ, List, ◌++◌, true, is_some}
+use Rattle.std.specs.Prelude.{◌≡◌, ◌⊎◌, ℕ, List, [], ◌++◌, true, is_some}
 use Rattle.std.specs.declared.option.Option.{Option}
 use Rattle.std.specs.List.{flat_map}
 use Rattle.std.specs.Io.KnownBytes.{Appends}
@@ -10,6 +10,7 @@ use Rattle.uo_base.specs.Moved.{AppendsPart}
 use Rattle.uo_base.specs.Told.{Tells}
 use Rattle.uo_digest.specs.declared.digest.Digest.{Digest}
 use Rattle.leaf_record.specs.Leaf.{leaf_text}
+use Rattle.chain_gen.specs.Generated.{generated}
 use Rattle.feed_frame.specs.Events.{events_of}
 use Rattle.feed_run.specs.Answer.{Answer}
 use Rattle.compact_node.specs.Node.{NodeState}
@@ -46,3 +47,7 @@ abbrev pub ProvesFirst : (List ℕ → Digest) → Limits → Net → Option (Li
 ProvesFirst H limits net watch feed report report' out out' =
     let rules = rules_of limits net in
     StoresFirst (λ events. flat_map line_of (proving_verdicts rules events)) (λ events. proving_text H watch rules events) net limits.bytes feed report report' out out'
+
+-- and `gen`: it prints nothing, or its whole feed is stored
+abbrev pub GeneratesFirst : (number blocks : ℕ) → Net → (report report' out out' : Option (List ℕ)) → Type 0
+GeneratesFirst number blocks net report report' out out' = Appends report report' [] ⊎ Appends out out' (generated number blocks net)

@@ -23,7 +23,7 @@ use Rattle.node_commands.specs.Forging.{AuditsFeed}
 use Rattle.node_commands.specs.Generating.{gen_answer}
 use Rattle.node_commands.specs.Machine.{follower_of, follow_machine}
 use Rattle.node_commands.specs.Prover.{fresh_prover, prove_machine, prove_for}
-use Rattle.node_commands.specs.Order.{FollowsLast, ProvesFirst}
+use Rattle.node_commands.specs.Order.{FollowsLast, ProvesFirst, GeneratesFirst}
 use Rattle.node_commands.specs.Proving.{FollowsProving}
 use Rattle.node_commands.specs.Starting.{Start, MayStart, begun_answer, ResumesAsFull, Resumed}
 use Rattle.node_commands.specs.Watching.{list_in, ByList}
@@ -151,15 +151,15 @@ ReportsTaken H (Ok (AskedGen net number blocks to)) limits watch feed feed' repo
 
 -- ---- what is stored before what is printed
 
--- whenever the report of `prove` has the lines of some first events, their frames are stored; and whenever that of `follow` has more than the lines
--- of all events, its state is
+-- whenever the report of `prove` has the lines of some first events, their frames are stored; whenever that of `follow` has more than the lines
+-- of all events, its state is; and whenever that of `gen` has anything, its feed is
 abbrev pub StoresBefore : (List ℕ → Digest) → Result Asked WordFault → Limits → (watch feed report report' out out' : Option (List ℕ)) → Type 0
 StoresBefore H (Err fault) limits watch feed report report' out out' = Unit {0}
 StoresBefore H (Ok (AskedFollow f)) limits watch feed report report' out out' =
     Resumed (is_some f.from) (Unit {0}) (ByList (is_some f.watch) limits.bytes watch (λ list. FollowsLast H (fresh_for limits (net_for f.net) list) feed report report' out out'))
 StoresBefore H (Ok (AskedProve net file to list)) limits watch feed report report' out out' = ByList (is_some list) limits.bytes watch (λ scripts. ProvesFirst H limits net scripts feed report report' out out')
 StoresBefore H (Ok (AskedAudit net file list)) limits watch feed report report' out out' = Unit {0}
-StoresBefore H (Ok (AskedGen net number blocks to)) limits watch feed report report' out out' = Unit {0}
+StoresBefore H (Ok (AskedGen net number blocks to)) limits watch feed report report' out out' = GeneratesFirst number blocks net report report' out out'
 
 -- a port that is used failed
 abbrev pub UsedRose : Bool → ℕ → ℕ → Type 0

@@ -12,7 +12,8 @@ use Rattle.leaf_cache.specs.Watched.{AreWatched}
 use Rattle.node_rules.specs.Fitting.{AreEventBytes}
 use Rattle.node_rules.specs.Machine.{start, event_in}
 use Rattle.state_text.specs.Fits.{IsState}
-use Rattle.state_text.specs.Stored.{StateValue, IsOfVersion, state_text}
+use Rattle.state_text.specs.Stored.{StateValue, IsOfVersion, IsTextOf}
+use Rattle.state_text.specs.OfHistory.{state_of}
 use Rattle.compact_node.specs.Node.{NodeState, IsNode}
 use Rattle.compact_node.specs.State.{IsReadAs}
 use Rattle.compact_node.specs.Throughout.{full_after}
@@ -21,7 +22,7 @@ use Rattle.feed_run.specs.declared.status.Status.TheVariants as Status
 use Rattle.report_lines.specs.declared.line.Line.TheVariants as Line
 use Rattle.node_commands.specs.declared.bad_input.BadInput.{BadInput}
 use Rattle.node_commands.specs.Answers.{said}
-use Rattle.node_commands.specs.Follow.{follow_answer, full_text, rules_of, AreTrue, IsAsOfFull}
+use Rattle.node_commands.specs.Follow.{follow_answer, rules_of, AreTrue, IsAsOfFull}
 
 -- ---- what is read
 
@@ -41,7 +42,7 @@ pub record IsLong (limits : Limits) (text : List ℕ) (bad : BadInput) : Type 0 
   pub long : limits.bytes < length text
   pub is : bad ≡ record { status = Status.InputLimit; line = Line.LimitPrior limits.bytes }
 
--- it is that of another version
+-- it is that of a version that is not read
 pub record IsOther (limits : Limits) (text : List ℕ) (bad : BadInput) : Type 0 where
   pub short : length text ≤ limits.bytes
   pub version : ℕ
@@ -51,7 +52,7 @@ pub record IsOther (limits : Limits) (text : List ℕ) (bad : BadInput) : Type 0
 -- it is that of no state of any version
 pub record IsNone (H : List ℕ → Digest) (limits : Limits) (text : List ℕ) (bad : BadInput) : Type 0 where
   pub short : length text ≤ limits.bytes
-  pub none : (s : StateValue) → IsState H limits.leaves s → text ≡ state_text s → ⊥
+  pub none : (s : StateValue) → IsState H limits.leaves s → IsTextOf s text → ⊥
   pub no_other : (version : ℕ) → IsOfVersion version text → ⊥
   pub is : bad ≡ record { status = Status.Prior; line = Line.PriorForm }
 
@@ -87,12 +88,12 @@ abbrev pub Resumed : (resumed : Bool) → (goes_on fresh : Type 0) → Type 0
 Resumed true goes_on fresh = goes_on
 Resumed false goes_on fresh = fresh
 
--- The state of a node that holds every output and watches these scripts, after any events from its start of which no proof is forged: a run that
--- goes on from it answers what that node answers.
+-- The state, in either version, of a node that holds every output and watches these scripts, after any events from its start of which no proof is
+-- forged: a run that goes on from it answers what that node answers.
 abbrev pub ResumesAsFull : (List ℕ → Digest) → Limits → (prior feed : List ℕ) → Option Start → Type 0
 ResumesAsFull H limits prior feed begun =
     (net : Net) (scripts : List (List ℕ)) (before : List FeedEvent) → AreWatched scripts → AllByRecursion AreEventBytes before →
     let rules = rules_of limits net in
     AreTrue H scripts rules start before →
     let s = full_after H leaf_text scripts rules start (map event_in before) in
-    prior ≡ full_text H scripts rules s → length prior ≤ limits.bytes → IfSome begun (λ b. IsAsOfFull H scripts rules s feed (start_answer H b feed))
+    IsTextOf (state_of H net scripts s) prior → length prior ≤ limits.bytes → IfSome begun (λ b. IsAsOfFull H scripts rules s feed (start_answer H b feed))

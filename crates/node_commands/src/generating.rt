@@ -6,6 +6,7 @@ ghost use Rattle.uo_base.specs.Moved.{AppendsPart};
 ghost use Rattle.chain_gen.specs.Generated.{generated};
 ghost use Rattle.report_lines.specs.Lines.{whole_line};
 ghost use Rattle.node_commands.specs.Generating.{generated_line};
+ghost use Rattle.node_commands.specs.Order.{GeneratesFirst};
 ghost use Rattle.node_commands.specs.Within.{stop_of_gen};
 
 use chain_gen::{GenFault, generate};
@@ -29,6 +30,7 @@ pub fn store_generated<O: Sink, R: Sink>(
     ensures said { OnOk result (Appends (R.held report.old) (R.held report.new) (whole_line (generated_line number blocks net))) }
     ensures part_sent { AppendsPart (O.held out.old) (O.held out.new) (generated number blocks net) }
     ensures part_said { AppendsPart (R.held report.old) (R.held report.new) (whole_line (generated_line number blocks net)) }
+    ensures first { GeneratesFirst number blocks net (R.held report.old) (R.held report.new) (O.held out.old) (O.held out.new) }
     ensures read { IsErrOf result Stop.ReadFault → ⊥ }
     ensures write { IsErrOf result Stop.WriteFault → Rose (O.faults out.old) (O.faults out.new) ⊎ Rose (R.faults report.old) (R.faults report.new) }
 {

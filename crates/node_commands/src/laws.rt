@@ -1,14 +1,25 @@
-//! What holds of runs that are stopped and go on. There is no code here.
-ghost use Rattle.node_commands.specs.Stopping.{FreshBegins, ResumedIsWhole};
+//! What holds of runs that are stopped and go on, and of states that are written anew. There is no code here.
+ghost use Rattle.node_commands.specs.Stopping.{FreshBegins, PiecesAreParted, ResumedIsWhole};
+ghost use Rattle.node_commands.specs.Upgrading.{StatesAreUpgraded};
 
 /// A run of `follow` that ends between two events, and a second one from the state that it stored, print the lines and store the bytes
-/// of one run over both, however often a run is stopped, where no proof is forged before. The lines of the ends differ, since each tells
-/// the events of its own run.
+/// of one run over both, however often a run is stopped, where no proof is forged before. The last lines differ: that of an end, since each
+/// tells the events of its own run, and that of a bad frame, since each counts the offset from the first byte of its own feed.
 pub fn resumed_is_whole()
     ensures { ResumedIsWhole }
+{}
+
+/// A feed that is read to its end, and that does not end with a proof, is such a first piece, whatever comes behind it within the limit of bytes.
+pub fn pieces_are_parted()
+    ensures { PiecesAreParted }
 {}
 
 /// The first of these runs may begin with a node that has no block.
 pub fn fresh_begins()
     ensures { FreshBegins }
+{}
+
+/// Of each state, in either version, `upgrade state` stores the text of version 2, and tells how many levels it has.
+pub fn states_are_upgraded()
+    ensures { StatesAreUpgraded }
 {}

@@ -17,9 +17,11 @@ mod prover;
 mod running;
 mod serve;
 mod starting;
+mod upgrading;
 
 pub use command_words::{Command, WordFault, read_words};
 pub use feed_run::Status;
-pub use laws::{fresh_begins, resumed_is_whole};
+pub use laws::{fresh_begins, pieces_are_parted, resumed_is_whole, states_are_upgraded};
 pub use report_lines::line_of;
 pub use running::run;
+pub use upgrading::upgrade_state;

@@ -44,8 +44,8 @@ pub fn follow_from<D: Digester, F: Source, P: Source, O: Sink, R: Sink, L: Ledge
     }
 }
 
-// Reads the prior state, of at most `limits.bytes` bytes.
-fn read_prior<D: Digester, P: Source, L: Ledger>(
+/// Reads the prior state, of at most `limits.bytes` bytes.
+pub fn read_prior<D: Digester, P: Source, L: Ledger>(
     alloc: Global,
     limits: Limits,
     source: &mut P,

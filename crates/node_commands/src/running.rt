@@ -66,7 +66,7 @@ pub fn run<D: Digester, F: Source, P: Source, W: Source, O: Sink, R: Sink, L: Le
 
     // `prove` stores an event's frames before it prints its line: whenever the report has the lines of some first events, whatever
     // stops the run then, what is stored has at least their frames. `follow` stores its state before it prints the last line: whenever
-    // the report has more than the lines of the events, all that is to be stored is there.
+    // the report has more than the lines of the events, all that is to be stored is there. `gen` stores its feed before it prints.
     ensures first { StoresBefore D.digest_of (command_of (map string_bytes words.now)) limits (W.left watch.old)
         (F.left feed.old) (R.held report.old) (R.held report.new) (O.held out.old) (O.held out.new) }
 

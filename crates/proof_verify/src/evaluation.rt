@@ -1,9 +1,11 @@
 //! What a proof comes to at each covered place.
-ghost use Rattle.std.specs.Prelude.{◌≡◌, length, map, IfOk};
+ghost use Rattle.std.specs.Prelude.{◌≡◌, ◌+◌, ◌*◌, ◌≤◌, length, map, IfOk};
 ghost use Rattle.std.specs.List.{range_with_len};
+ghost use Rattle.forest_place.specs.Position.{rows};
 ghost use Rattle.forest_model.specs.Cover.{need};
 ghost use Rattle.proof_verify.specs.Evaluation.{AreEvaluatedAt};
 ghost use Rattle.proof_verify.specs.Gathered.{made_from, item_from, AreHalvesWithin, AreHalfwise};
+ghost use Rattle.proof_verify.specs.Verified.{above_targets};
 
 use crate::evaluate::{evaluate, half};
 use crate::node::Node;
@@ -86,7 +88,9 @@ pub fn evaluate_covered<D: Digester, L: Ledger>(
 ) -> Result<Vec<CoveredPlace>, NoMemory>
     requires leaves { length leaves.now ≡ length targets.now.targets }
     requires hashes { length hashes.now ≡ length (need targets.now.leaves targets.now.targets) }
-    ensures { IfOk result (λ items. AreEvaluatedAt D.digest_of targets.now.leaves targets.now.targets leaves.now hashes.now items.items) }
+    ensures evaluated { IfOk result (λ items. AreEvaluatedAt D.digest_of targets.now.leaves targets.now.targets leaves.now hashes.now items.items) }
+    ensures fewer { steps.new ≤ steps.old + 2 * length (above_targets targets.now.leaves targets.now.targets) }
+    ensures few { steps.new ≤ steps.old + 2 * (length targets.now.targets * rows targets.now.leaves) }
 {
     let (covered, positions) = targets.covered();
     // That the targets have shape.

@@ -1,5 +1,8 @@
--- What sources and sinks of the system hold.
-use Rattle.std.specs.Prelude.{List, ℕ, IsSome, string_bytes}
+-- What sources and sinks of the system hold, and which file their calls go to.
+use Rattle.std.specs.Prelude.{List, ℕ, IsSome, string_bytes, ⊤, Option, Some, None, Result, Ok, Err}
+use Rattle.std.specs.Io.KnownBytes.{prepend_known, ReadConsumes, WriteAppends}
+use Rattle.uo_base.specs.declared.ports.Failed.{Failed}
+use Rattle.uo_base.specs.declared.ports.SinkFault.{SinkFault}
 use Rattle.uo_base.specs.declared.system.FileSource.{FileSource}
 use Rattle.uo_base.specs.declared.system.FileSink.{FileSink}
 use Rattle.uo_base.specs.declared.system.StdSource.{StdSource}
@@ -9,6 +12,10 @@ use Rattle.uo_base.specs.Ahead.{ahead}
 abbrev pub file_name : {R F D : Type 0} → FileSource R F D → List ℕ
 file_name s = string_bytes s.name
 
+-- the file that it has opened, if any
+abbrev pub file_of : {R F D : Type 0} → FileSource R F D → Option F
+file_of s = s.file
+
 -- its file was opened
 abbrev pub IsOpen : {R F D : Type 0} → FileSource R F D → Type 0
 IsOpen s = IsSome s.file
@@ -17,6 +24,10 @@ IsOpen s = IsSome s.file
 abbrev pub sink_name : {R F D : Type 0} → FileSink R F D → List ℕ
 sink_name s = string_bytes s.name
 
+-- the file that it has made, if any
+abbrev pub sink_file : {R F D : Type 0} → FileSink R F D → Option F
+sink_file s = s.file
+
 -- what was read of a file and not given yet
 abbrev pub file_ahead : {R F D : Type 0} → FileSource R F D → List ℕ
 file_ahead s = ahead s.window
@@ -24,3 +35,27 @@ file_ahead s = ahead s.window
 -- what was read of standard input and not given yet
 abbrev pub std_ahead : {R I : Type 0} → StdSource R I → List ℕ
 std_ahead s = ahead s.window
+
+-- ---- which file a call goes to, where files tell what they have left and what they hold
+
+-- a read of this file, with these bytes of it held before and after, by which it stays open
+abbrev pub ReadsOf : {F : Type 0} → (told : F → Option (List ℕ)) → (held held' : List ℕ) → F → Option F → Result ℕ Failed → List ℕ → Type 0
+ReadsOf told held held' file None result into = ⊥
+ReadsOf told held held' file (Some file') result into = ReadConsumes (prepend_known held (told file)) (prepend_known held' (told file')) result into
+
+-- a read goes on in the file that is open, and else begins in one that is open then
+abbrev pub ReadsFile : {F : Type 0} → (told : F → Option (List ℕ)) → (held held' : List ℕ) → (file file' : Option F) → Result ℕ Failed → List ℕ → Type 0
+ReadsFile told held held' (Some file) file' result into = ReadsOf told held held' file file' result into
+ReadsFile {F = F} told held held' None file' (Ok n) into = (opened : F) × ReadsOf told held held' opened file' (Ok n) into
+ReadsFile told held held' None file' (Err fault) into = ⊤
+
+-- a write to this file, by which it stays open
+abbrev pub WritesTo : {F : Type 0} → (told : F → Option (List ℕ)) → F → Option F → Result ℕ SinkFault → List ℕ → Type 0
+WritesTo told file None result piece = ⊥
+WritesTo told file (Some file') result piece = WriteAppends (told file) (told file') result piece
+
+-- a write goes behind what the file has that was made, and else into one that is made for it
+abbrev pub WritesFile : {F : Type 0} → (told : F → Option (List ℕ)) → (file file' : Option F) → Result ℕ SinkFault → List ℕ → Type 0
+WritesFile told (Some file) file' result piece = WritesTo told file file' result piece
+WritesFile {F = F} told None file' (Ok n) piece = (made : F) × WritesTo told made file' (Ok n) piece
+WritesFile told None file' (Err fault) piece = ⊤

@@ -18,7 +18,7 @@ use Rattle.node_commands.specs.Prover.{prove_for}
 use Rattle.node_commands.specs.Runs.{Inputs, follow_by, answer_by, answer_of}
 use Rattle.node_commands.specs.Starting.{begun_answer}
 use Rattle.node_commands.proofs.AuditLemmas.{audit_for-stores, EndsOver-quiet, StaysOver-quiet}
-use Rattle.node_commands.proofs.RunLemmas.{copied_some, on-false, watch-follow, read-follow, first-follow, taken-follow, resumed-first, resumed-taken, taken-audit, taken-prove, first-prove, EndsRun-watch, StaysWithinRun-watch, EndsRun-fixed, StaysWithinRun-fixed}
+use Rattle.node_commands.proofs.RunLemmas.{copied_some, on-false, watch-follow, read-follow, first-follow, taken-follow, resumed-first, resumed-taken, taken-audit, taken-prove, first-prove, first-gen, EndsRun-watch, StaysWithinRun-watch, EndsRun-fixed, StaysWithinRun-fixed}
 use Rattle.node_commands.proofs.ServeLemmas.{OnOk-any}
 use Rattle.node_commands.proofs.StartLemmas.{EndsRun-from, StaysWithinRun-from}
 use Rattle.node_commands.proofs.running.run_command.Goals as goal
@@ -182,3 +182,8 @@ returns-in-Ok-Gen-clause-part g c =
     let exact = rw c.in-Ok-Gen.field-0-is at c.in-Ok-Gen.ensures.exact in
     StaysWithinRun-fixed _ _ _ _ (is_gen _ _ c.args.limits _ _ _ _ exact) _ _ _ _ _ _ _
     c.store_generated.ensures.part_said c.store_generated.ensures.part_sent
+
+pub returns-in-Ok-Gen-clause-first : goal.returns-in-Ok-Gen-clause-first
+returns-in-Ok-Gen-clause-first g c =
+    let exact = rw c.in-Ok-Gen.field-0-is at c.in-Ok-Gen.ensures.exact in
+    first-gen g.D.Digester.digest_of _ c.args.limits _ _ _ _ exact (g.W.Source.left c.args.watch.now) (g.F.Source.left c.args.feed.now) _ _ _ _ c.store_generated.ensures.first

@@ -1,11 +1,13 @@
 use Rattle.std.proofs.Common.{◌≡◌, List, map, length, sym, ap, ◌∙◌, subst, arith}
+use Rattle.std.specs.Prelude.{count_by}
 use Rattle.std.specs.List.{range_with_len}
-use Rattle.proof_verify.specs.Nodes.{CanEvaluate, AreEvaluated}
+use Rattle.proof_verify.specs.Nodes.{CanEvaluate, AreEvaluated, is_inner}
 use Rattle.proof_verify.specs.Gathered.{AreHalfwise, item_from}
 use Rattle.proof_verify.specs.declared.node.Node.{Node}
 use Rattle.proof_verify.specs.declared.origin.Origin.{Origin}
 use Rattle.proof_verify.proofs.Links.{refilled}
 use Rattle.proof_verify.proofs.Values.{can}
+use Rattle.proof_verify.proofs.Counts.{above_few, inner_count}
 use Rattle.proof_verify.proofs.Covering.{halfwise, items_are}
 use Rattle.proof_verify.proofs.evaluation.evaluate_covered.Goals as goal
 
@@ -33,8 +35,8 @@ gather-requires-clause-within g c =
     subst (λ (l : List Origin). AreHalfwise l (length c.deref-3.result.now) (length c.args.hashes.now)) (sym c.deref-2.ensures.value)
     (halfwise os (length c.args.leaves.now) (length c.args.hashes.now) (length c.deref-3.result.now) (sym long ∙ sym (ap length same)) made)
 
-pub returns : goal.returns
-returns g c =
+pub returns-clause-evaluated : goal.returns-clause-evaluated
+returns-clause-evaluated g c =
     let H = g.D.Digester.digest_of in
     let t = c.args.targets.now in
     let cs = c.covered.result.0.now in
@@ -55,3 +57,37 @@ returns g c =
     let gathered = c.in_ok-gather.ensures in
     items_are H t.leaves t.targets cs os plan c.leaves-count.ensures.targets.shape leaves hashes c.requires.leaves c.requires.hashes new evaluated c.in_ok-gather.field-0.items
     (gathered ∙ (ap (λ (l : List Origin). map (item_from cs l c.deref-3.result.now hashes) (range_with_len 0 (length cs))) c.deref-2.ensures.value ∙ ap (λ (l : List Node). map (item_from cs os l hashes) (range_with_len 0 (length cs))) same))
+
+pub returns-clause-fewer : goal.returns-clause-fewer
+returns-clause-fewer g c =
+    let t = c.args.targets.now in
+    let counted = inner_count t.leaves t.targets c.covered.result.0.now c.in_ok-origins.origins.items c.in_ok-origins.ensures.0 in
+    let same = ap (count_by is_inner) c.deref.ensures.value in
+    let some = c.evaluate.ensures.steps in
+    omega (arith, some, same, counted)
+
+pub returns-clause-few : goal.returns-clause-few
+returns-clause-few g c =
+    let t = c.args.targets.now in
+    let counted = inner_count t.leaves t.targets c.covered.result.0.now c.in_ok-origins.origins.items c.in_ok-origins.ensures.0 in
+    let same = ap (count_by is_inner) c.deref.ensures.value in
+    let some = c.evaluate.ensures.steps in
+    let few = above_few t.leaves t.targets in
+    omega (arith, some, same, counted, few)
+
+pub returns-in_err-gather-clause-fewer : goal.returns-in_err-gather-clause-fewer
+returns-in_err-gather-clause-fewer g c =
+    let t = c.args.targets.now in
+    let counted = inner_count t.leaves t.targets c.covered.result.0.now c.in_ok-origins.origins.items c.in_ok-origins.ensures.0 in
+    let same = ap (count_by is_inner) c.deref.ensures.value in
+    let some = c.evaluate.ensures.steps in
+    omega (arith, some, same, counted)
+
+pub returns-in_err-gather-clause-few : goal.returns-in_err-gather-clause-few
+returns-in_err-gather-clause-few g c =
+    let t = c.args.targets.now in
+    let counted = inner_count t.leaves t.targets c.covered.result.0.now c.in_ok-origins.origins.items c.in_ok-origins.ensures.0 in
+    let same = ap (count_by is_inner) c.deref.ensures.value in
+    let some = c.evaluate.ensures.steps in
+    let few = above_few t.leaves t.targets in
+    omega (arith, some, same, counted, few)

@@ -1,0 +1,49 @@
+-- What `upgrade state` answers.
+use Rattle.std.specs.Prelude.{◌≡◌, ◌≤◌, ◌<◌, ◌^◌, ℕ, suc, List, length, Ok, Err}
+use Rattle.std.specs.declared.option.Option.{Option}
+use Rattle.std.specs.Io.KnownBytes.{Appends}
+use Rattle.uo_base.specs.declared.event.Limits.{Limits}
+use Rattle.uo_base.specs.Moved.{AppendsPart}
+use Rattle.uo_digest.specs.declared.digest.Digest.{Digest}
+use Rattle.state_text.specs.Fits.{IsState}
+use Rattle.state_text.specs.Stored.{StateValue, state_text, IsTextOf}
+use Rattle.compact_node.specs.Node.{NodeState}
+use Rattle.compact_node.specs.State.{stored_text}
+use Rattle.feed_run.specs.Answer.{Answer}
+use Rattle.feed_run.specs.declared.status.Status.{Status}
+use Rattle.feed_run.specs.declared.status.Status.TheVariants.{AllAccepted}
+use Rattle.report_lines.specs.declared.line.Line.TheVariants.{UpgradedState}
+use Rattle.report_lines.specs.Lines.{whole_line}
+use Rattle.node_commands.specs.Answers.{said}
+use Rattle.node_commands.specs.Starting.{Start, IsStart}
+
+-- how many levels there are, and what is stored of them
+abbrev pub upgraded : (levels : ℕ) → (stored : List ℕ) → Answer
+upgraded levels stored = record { status = AllAccepted; report = whole_line (UpgradedState levels); out = stored }
+
+-- by the node that was read, or the one line that says why there is none
+abbrev pub upgrade_answer : Start → Answer
+upgrade_answer (Ok node) = upgraded (suc (length node.older)) (stored_text node)
+upgrade_answer (Err bad) = said bad.status bad.line
+
+-- what was read is of no state but this one: so of each state, in either version, the text of version 2 is stored
+abbrev pub UpgradesState : (List ℕ → Digest) → Limits → (prior : List ℕ) → Start → Type 0
+UpgradesState H limits prior begun = (s : StateValue) → IsState H limits.leaves s → IsTextOf s prior → length prior ≤ limits.bytes → upgrade_answer begun ≡ upgraded (length s.levels) (state_text s)
+
+abbrev pub StatesAreUpgraded : Type 0
+StatesAreUpgraded = (H : List ℕ → Digest) (limits : Limits) (prior : List ℕ) (begun : Start) → limits.leaves < 2 ^ 40 → IsStart H limits prior begun → UpgradesState H limits prior begun
+
+-- the whole answer was given, by what was read of the prior state
+pub record EndsUpgraded (IsFirst : Start → Type 0) (report report' out out' : Option (List ℕ)) (status : Status) : Type 0 where
+  pub begun : Start
+  pub is : IsFirst begun
+  pub answered : status ≡ (upgrade_answer begun).status
+  pub reported : Appends report report' (upgrade_answer begun).report
+  pub sent : Appends out out' (upgrade_answer begun).out
+
+-- a part of it was written
+pub record StaysUpgraded (IsFirst : Start → Type 0) (report report' out out' : Option (List ℕ)) : Type 0 where
+  pub begun : Start
+  pub is : IsFirst begun
+  pub reported : AppendsPart report report' (upgrade_answer begun).report
+  pub sent : AppendsPart out out' (upgrade_answer begun).out
