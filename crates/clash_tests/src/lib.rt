@@ -10,15 +10,15 @@ mod tests;
 
 /// The number of a row's first place in the forest of eight entries.
 pub fn first_of(row: u8) -> u64
-    ensures { result ≡ (if row == 0 then 0 else if row == 1 then 8 else if row == 2 then 12 else 14) }
+    ensures { result ≡ (if row == 0 then 0 else if row == 1 then 1099511627776 else if row == 2 then 1649267441664 else 1924145348608) }
 {
     if row == 0 {
         0
     } else if row == 1 {
-        8
+        1_099_511_627_776
     } else if row == 2 {
-        12
+        1_649_267_441_664
     } else {
-        14
+        1_924_145_348_608
     }
 }

@@ -9,9 +9,13 @@ use uo_digest::XorFold;
 const CHAIN: &str =
     "f9beb4d9920000000100000000000000000000000000000000000000000000000000000000000000000000005b2aaaebfd30c7a2b4f23b7e024fd0cf1be01e56fc46b39358a8b724b8ed81e60000000000000000000000000101000000010000000000000000000000000000000000000000000000000000000000000000ffffffff0400000000ffffffff0100f2052a01000000015100000000f9beb4d992000000010000005d1f208cb770b9cea3ac6509bad966689e74a97c51435bb9ede640cabbf6f3332a7d6a5ce258e9692bb459c6409fee2bdd16bd4c37f1ff1ac242d3591d03764f0000000000000000000000000101000000010000000000000000000000000000000000000000000000000000000000000000ffffffff0401000000ffffffff0100f2052a01000000015100000000f9beb4d99200000001000000a9ebbd3795610d483af663a66e5cc73440fe1a8e9aaf1d5902b99563a3a045b64b4eacdfc6d16a919f48681788a3156c46f9a445c1bc3a898f9cb9b672a5e6130000000000000000000000000101000000010000000000000000000000000000000000000000000000000000000000000000ffffffff0402000000ffffffff0100f2052a01000000015100000000";
 
-/// A proof but for its hash: at the first output's place it shows one that was never made.
+/// The head of a proof's frame, before the version of its message.
+const HEAD: &str = "555458505a000000";
+
+/// The message behind its version, but for its hash: at the first output's place, whose number is 0 in both versions, it shows one that
+/// was never made.
 const PROOF: &str =
-    "555458505a00000001000100000000000000000505050505050505050505050505050505050505050505050505050505050505020000000700000000000000015101";
+    "000100000000000000000505050505050505050505050505050505050505050505050505050505050505020000000700000000000000015101";
 
 /// The hash that makes up for the claim, so that both come to the root.
 const FITTING: &str = "00d51ddccba37e43bac36fcebca23581ecbc56ee5ed911e8c731cf8c1f2a1564";
@@ -44,20 +48,20 @@ struct Row {
 const ROWS: [Row; 5] = [
     Row {
         list: "",
-        feed: &[CHAIN, PROOF, FITTING, BLOCK],
+        feed: &[CHAIN, HEAD, "02", PROOF, FITTING, BLOCK],
         status: Status::Clash,
         report: &[LINES, CLASH],
     },
     // what comes behind it is not read
     Row {
         list: "51",
-        feed: &[CHAIN, PROOF, FITTING, BLOCK, BLOCK, "ff"],
+        feed: &[CHAIN, HEAD, "01", PROOF, FITTING, BLOCK, BLOCK, "ff"],
         status: Status::Clash,
         report: &[LINES, CLASH],
     },
     Row {
         list: "51",
-        feed: &[CHAIN, PROOF, OTHER, BLOCK],
+        feed: &[CHAIN, HEAD, "02", PROOF, OTHER, BLOCK],
         status: Status::SomeRefused,
         report: &[LINES, REFUSED],
     },

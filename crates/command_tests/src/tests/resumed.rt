@@ -19,7 +19,7 @@ struct Row {
     report: &'static [u8],
 }
 
-const ROWS: [Row; 4] = [
+const ROWS: [Row; 6] = [
     Row {
         prior: b"",
         length: 0,
@@ -33,6 +33,21 @@ const ROWS: [Row; 4] = [
         failing: None,
         status: Status::Prior,
         report: b"prior version 9\n",
+    },
+    Row {
+        prior: b"UTXS\x03",
+        length: 5,
+        failing: None,
+        status: Status::Prior,
+        report: b"prior version 3\n",
+    },
+    // a version that is read, and nothing behind it
+    Row {
+        prior: b"UTXS\x02",
+        length: 5,
+        failing: None,
+        status: Status::Prior,
+        report: b"prior form\n",
     },
     Row {
         prior: b"UTXS",
@@ -96,19 +111,30 @@ fn three_blocks(alloc: Global) -> Result<Vec<u8>, Fail> {
     Ok(chain.feed)
 }
 
+// Puts another byte at this place.
+fn change(text: &mut [u8], at: usize, byte: u8) {
+    if let Some(old) = text.get_mut(at) {
+        *old = byte;
+    }
+}
+
 // The state behind these blocks under the list `51`, with another byte in the amount of the first coin of its newest level: a front of 14
-// bytes, tip, count, one root, the count of kept coins, and of the first its number, position, outpoint, block and code.
+// bytes, tip, count, one root, the count of kept coins, and of the first its number, place, outpoint, block and code. All places are in
+// row 0, so both versions have the same bytes but one.
 #[test]
 fn another_amount(rt: HostRuntime) -> Result<(), Fail> {
     let alloc = rt.alloc();
     let feed = three_blocks(alloc)?;
-    let mut state = run_on(alloc, &["follow", "--watch", "w"], &feed, b"51")?.out;
-    let amount = 14 + 32 + 8 + 33 + 1 + 8 + 8 + 36 + 36;
-    for byte in state.iter_mut().skip(amount).take(1) {
-        *byte = byte.wrapping_add(1);
+    let state = run_on(alloc, &["follow", "--watch", "w"], &feed, b"51")?.out;
+    for version in [1, 2] {
+        let mut changed = Vec::from_slice(alloc, &state)?;
+        change(&mut changed, 4, version);
+        let outcome = follow_from(alloc, &changed, b"")?;
+        assert!(rt; outcome.out.as_slice() == state.as_slice());
+        change(&mut changed, 14 + 32 + 8 + 33 + 1 + 8 + 8 + 36 + 36, 1);
+        let outcome = follow_from(alloc, &changed, b"")?;
+        check(&rt, &outcome, Status::Prior, b"prior form\n");
     }
-    let outcome = follow_from(alloc, &state, b"")?;
-    check(&rt, &outcome, Status::Prior, b"prior form\n");
     Ok(())
 }
 

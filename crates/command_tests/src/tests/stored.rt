@@ -18,7 +18,7 @@ const ROWS: [Row; 4] = [
     Row {
         feed: &[],
         status: Status::AllAccepted,
-        front: "555458530100000000000001",
+        front: "555458530200000000000001",
         zeros: 42,
     },
     // the genesis block
@@ -31,7 +31,7 @@ const ROWS: [Row; 4] = [
             "00000000",
         ],
         status: Status::AllAccepted,
-        front: "5554585301000100000000026fe28c0ab6f1b372c1a6a246ae63f74f931e8365e15a089c68d6190000000000",
+        front: "5554585302000100000000026fe28c0ab6f1b372c1a6a246ae63f74f931e8365e15a089c68d6190000000000",
         zeros: 52,
     },
     // its count of inputs written in three bytes
@@ -44,7 +44,7 @@ const ROWS: [Row; 4] = [
             "00000000",
         ],
         status: Status::SomeRefused,
-        front: "555458530100000000000001",
+        front: "555458530200000000000001",
         zeros: 42,
     },
     // a cut frame behind the block

@@ -17,9 +17,10 @@ use uo_digest::{Digest, Sha512t256, Steps};
 /// A text, which is two pieces and so many zero bytes, and how many older levels the node has that is read from it.
 struct Row(&'static [u8], &'static [u8], usize, Result<u32, StateFault>);
 
-const ROWS: [Row; 5] = [
-    // No block.
+const ROWS: [Row; 7] = [
+    // No block, in both versions.
     Row(b"UTXS\x01\0\0\0\0\0\0\x01", &[], 42, Ok(0)),
+    Row(b"UTXS\x02\0\0\0\0\0\0\x01", &[], 42, Ok(0)),
     // Mainnet's first block, and then a byte behind the last level.
     Row(b"UTXS\x01\0\x01\0\0\0\0\x02", &GENESIS_HASH, 52, Ok(1)),
     Row(
@@ -28,6 +29,7 @@ const ROWS: [Row; 5] = [
         53,
         Err(StateFault::NotAState),
     ),
+    Row(b"UTXS\x03", &[], 0, Err(StateFault::Version(3))),
     Row(b"UTXS\x09", &[], 0, Err(StateFault::Version(9))),
     Row(&[], &[], 0, Err(StateFault::NotAState)),
 ];

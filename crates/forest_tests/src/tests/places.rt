@@ -1,8 +1,9 @@
 //! Numbers of the forest from tables that were made by hand, and a walk over all places.
 use forest_place::{
-    Place, children, parent, parent_position, place_of, position, root_place, rows, sibling,
-    slot_of,
+    Naming, Place, children, parent, parent_position, place_of, position, root_place, rows,
+    sibling, slot_of,
 };
+use std::test::Fail;
 
 /// How many rows a forest of so many entries has.
 const ROWS: [(u64, u8); 11] = [
@@ -82,6 +83,40 @@ fn numbers_slots(rt: HostRuntime) {
         assert!(rt; root_place(row, n) == place);
         assert!(rt; slot_of(place, n) == Some(row));
         assert!(rt; position(place, n) == want);
+    }
+}
+
+/// A version, the entries, a row, an offset, and the number that names the place.
+const NAMES: [(u8, u64, u8, u64, u64); 10] = [
+    (1, 4, 1, 0, 4),
+    (2, 4, 1, 0, 1_099_511_627_776),
+    (1, 5, 2, 0, 12),
+    (2, 5, 2, 0, 1_649_267_441_664),
+    (1, 100, 0, 99, 99),
+    (2, 100, 0, 99, 99),
+    (1, 100, 5, 2, 250),
+    (2, 100, 5, 2, 2_130_303_778_818),
+    // The highest tree of the largest forest.
+    (1, (1 << 40) - 1, 39, 0, 2_199_023_255_548),
+    (2, (1 << 40) - 1, 39, 0, 2_199_023_255_548),
+];
+
+#[test]
+fn names_places(rt: HostRuntime) -> Result<(), Fail> {
+    for (version, n, row, off, number) in NAMES {
+        assert!(rt; n < 1 << 40 && row < 40 && off < n >> row);
+        let naming = Naming::of_version(version).ok_or("a version")?;
+        let place = Place { row, off };
+        assert!(rt; naming.number(place, n) == number);
+        assert!(rt; naming.place(number, n) == Some(place));
+    }
+    Ok(())
+}
+
+#[test]
+fn other_versions_name_nothing(rt: HostRuntime) {
+    for version in [0, 3, 9, 255] {
+        assert!(rt; Naming::of_version(version).is_none());
     }
 }
 

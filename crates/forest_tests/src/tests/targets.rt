@@ -34,6 +34,36 @@ fn judges_positions(rt: HostRuntime) {
     }
 }
 
+/// The same of fixed positions: those of rows 1 and 2 begin at 2^40 and at 2^40 + 2^39, whatever the count of entries.
+const FIXED: [(u64, &[u64], Option<ShapeFault>); 8] = [
+    (4, &[1_099_511_627_776], None),
+    (5, &[1_099_511_627_778], Some(ShapeFault::Outside(0))),
+    (5, &[8], Some(ShapeFault::Outside(0))),
+    (8, &[0, 1_649_267_441_664], Some(ShapeFault::Beneath(1, 0))),
+    (8, &[3, 1_099_511_627_777], Some(ShapeFault::Beneath(1, 0))),
+    (8, &[3, 4, 3], Some(ShapeFault::Repeated(2, 0))),
+    (8, &[2_199_023_255_551], Some(ShapeFault::Outside(0))),
+    (8, &[7, u64::MAX], Some(ShapeFault::Outside(1))),
+];
+
+#[test]
+fn judges_fixed_positions(rt: HostRuntime) {
+    for (n, positions, want) in &FIXED {
+        assert!(rt; *n < 1 << 40 && positions.len() < 1 << 32);
+        assert!(rt; Targets::new_fixed(rt.alloc(), *n, positions).err() == *want);
+        assert!(rt; TargetPaths::new_fixed(rt.alloc(), *n, positions).err() == *want);
+    }
+}
+
+// The left half of four entries, whose proof needs the right half.
+#[test]
+fn names_a_half(rt: HostRuntime) -> Result<(), Fail> {
+    let targets = Targets::new_fixed(rt.alloc(), 4, &[1_099_511_627_776])?;
+    assert!(rt; targets.places() == [Place { row: 1, off: 0 }].as_slice());
+    assert!(rt; targets.needed() == [Place { row: 1, off: 1 }].as_slice());
+    Ok(())
+}
+
 // Where a place of the forest goes: row and offset.
 fn goes(rt: &impl Abort, targets: &Targets, row: u8, off: u64) -> Option<(u8, u64)> {
     assert!(rt; row < 40 && off < targets.leaves() >> row);

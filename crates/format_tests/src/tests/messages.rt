@@ -99,8 +99,14 @@ fn put_hashes(text: &mut Vec<u8>, hashes: &Count) -> Result<(), AllocError> {
     Ok(())
 }
 
-fn spelled(alloc: Global, kind: u8, spends: &Count, hashes: &Count) -> Result<Vec<u8>, AllocError> {
-    let mut text = Vec::from_slice(alloc, &[1, kind])?;
+fn spelled(
+    alloc: Global,
+    version: u8,
+    kind: u8,
+    spends: &Count,
+    hashes: &Count,
+) -> Result<Vec<u8>, AllocError> {
+    let mut text = Vec::from_slice(alloc, &[version, kind])?;
     put_targets(&mut text, spends)?;
     put_rests(&mut text, spends)?;
     put_hashes(&mut text, hashes)?;
@@ -138,15 +144,18 @@ fn check_hashes(
     Ok(())
 }
 
+// A message of either version is read, and written in version 2.
 fn check_whole(
     rt: &impl Abort,
     alloc: Global,
+    version: u8,
     kind: u8,
     spends: &Count,
     hashes: &Count,
 ) -> Result<(), Fail> {
-    let text = spelled(alloc, kind, spends, hashes)?;
+    let text = spelled(alloc, version, kind, spends, hashes)?;
     let view = read_message(alloc, &text)?;
+    assert!(rt; view.version() == version);
     assert!(rt; view.lean() == (kind == 1));
     let mut message = Message::new(alloc, view.lean());
     assert!(rt; view.spends() == spends.count);
@@ -155,7 +164,8 @@ fn check_whole(
     check_hashes(rt, &view, &mut message)?;
     let mut written = Vec::new(alloc);
     message.write(&mut written)?;
-    assert!(rt; written.as_slice() == text.as_slice());
+    let want = spelled(alloc, 2, kind, spends, hashes)?;
+    assert!(rt; written.as_slice() == want.as_slice());
     Ok(())
 }
 
@@ -164,7 +174,8 @@ fn messages_whole(rt: HostRuntime) -> Result<(), Fail> {
     for spends in &SPENDS {
         for hashes in &HASHES {
             let kind = (hashes.count % 2) as u8;
-            check_whole(&rt, rt.alloc(), kind, spends, hashes)?;
+            check_whole(&rt, rt.alloc(), 1, kind, spends, hashes)?;
+            check_whole(&rt, rt.alloc(), 2, kind, spends, hashes)?;
         }
     }
     Ok(())
@@ -181,7 +192,8 @@ fn check_cuts(rt: &impl Abort, alloc: Global, text: &[u8]) {
 fn messages_cut(rt: HostRuntime) -> Result<(), Fail> {
     for spends in &SPENDS {
         for hashes in &HASHES {
-            let text = spelled(rt.alloc(), 1, spends, hashes)?;
+            let version = 1 + (hashes.count % 2) as u8;
+            let text = spelled(rt.alloc(), version, 1, spends, hashes)?;
             check_cuts(&rt, rt.alloc(), &text);
         }
     }
@@ -208,7 +220,7 @@ fn check_counts(
     spends: &Count,
     hashes: &Count,
 ) -> Result<(), Fail> {
-    let mut text = spelled(alloc, 0, spends, hashes)?;
+    let mut text = spelled(alloc, 2, 0, spends, hashes)?;
     let size = hashes.hash_bytes.saturating_add(hashes.form.len());
     let behind = text.len().saturating_sub(size);
     for place in 0..spends.form.len() {
@@ -237,7 +249,7 @@ struct Refused {
 
 /// No byte, other versions, the kinds 2 and 255, a byte after the message, 9,375,000 hashes (300
 /// megabytes) of which none is there, and 2^61 targets.
-const REFUSED: [Refused; 8] = [
+const REFUSED: [Refused; 12] = [
     Refused {
         text: &[],
         fault: MessageFault::NotAMessage,
@@ -249,6 +261,22 @@ const REFUSED: [Refused; 8] = [
     Refused {
         text: &[0, 1, 0, 0],
         fault: MessageFault::Version(0),
+    },
+    Refused {
+        text: &[3, 0, 0, 0],
+        fault: MessageFault::Version(3),
+    },
+    Refused {
+        text: &[2],
+        fault: MessageFault::NotAMessage,
+    },
+    Refused {
+        text: &[2, 2, 0, 0],
+        fault: MessageFault::NotAMessage,
+    },
+    Refused {
+        text: &[2, 0, 0, 0, 0],
+        fault: MessageFault::NotAMessage,
     },
     Refused {
         text: &[1, 255, 0, 0],

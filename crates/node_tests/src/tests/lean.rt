@@ -29,7 +29,7 @@ fn targets_of(alloc: Global, n: u64, message: &MessageView<'_>) -> Result<Target
     if positions.len() >= 1 << 32 {
         return Err("few spends".into());
     }
-    Targets::new(alloc, n, &positions).map_err(|_| "targets".into())
+    Targets::new_fixed(alloc, n, &positions).map_err(|_| "targets".into())
 }
 
 /// Whether these are the message's hashes.

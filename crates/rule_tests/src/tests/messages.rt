@@ -24,11 +24,12 @@ const SPENDING: &str =
     5100f90295000000000151000000000100000001af9e13c3f43a27003a6b35e9d6be64bb73d77a5c126824dde288c2595527\
     d9c90000000000000000000100f9029500000000015100000000";
 
-/// A message that names these positions, each for an output of 50 coins that the coinbase of height 1 made.
+/// A message of a version that names the places with these numbers, each for an output of 50 coins that the coinbase of height 1 made.
 fn spell(
     alloc: Global,
+    version: u8,
     lean: bool,
-    positions: &[u64],
+    numbers: &[u64],
     hashes: &[Digest],
 ) -> Result<Vec<u8>, NoMemory> {
     let rest = RestView {
@@ -39,14 +40,18 @@ fn spell(
         script: &[0x51],
     };
     let mut message = Message::new(alloc, lean);
-    for position in positions {
-        message.push_spend(*position, &rest)?;
+    for number in numbers {
+        message.push_spend(*number, &rest)?;
     }
     for hash in hashes {
         message.push_hash(*hash)?;
     }
     let mut text = Vec::new(alloc);
     message.write(&mut text)?;
+    // Version 2 is what is written, and the versions differ in the first byte and in the numbers.
+    if let Some(first) = text.first_mut() {
+        *first = version;
+    }
     Ok(text)
 }
 
@@ -64,7 +69,9 @@ type Told = Result<Option<u64>, Refusal>;
 
 const FORM: Told = Err(Refusal::MessageForm);
 
-const VERSION: Told = Err(Refusal::MessageVersion { version: 9 });
+const VERSION_3: Told = Err(Refusal::MessageVersion { version: 3 });
+
+const VERSION_9: Told = Err(Refusal::MessageVersion { version: 9 });
 
 fn wrong(got: u64, want: u64) -> Told {
     Err(Refusal::Spends { got, want })
@@ -84,10 +91,15 @@ fn check_short(rt: &impl Abort, alloc: Global, spends: &Spends<'_>, none: Told, 
     let rows = [
         (None, none),
         (Some([].as_slice()), FORM),
-        (Some([9].as_slice()), VERSION),
+        (Some([9].as_slice()), VERSION_9),
+        (Some([3, 0, 0, 0].as_slice()), VERSION_3),
         (Some([1, 2, 0, 0].as_slice()), FORM),
         (Some([1, 1, 0, 0].as_slice()), empty),
         (Some([1, 0, 0, 0].as_slice()), empty),
+        (Some([2].as_slice()), FORM),
+        (Some([2, 2, 0, 0].as_slice()), FORM),
+        (Some([2, 1, 0, 0].as_slice()), empty),
+        (Some([2, 0, 0, 0].as_slice()), empty),
     ];
     for (message, told) in rows {
         assert!(rt; is_told(&message_rules(alloc, spends, message), told));
@@ -99,12 +111,13 @@ fn check_long(
     rt: &impl Abort,
     alloc: Global,
     spends: &Spends<'_>,
+    version: u8,
     one: Told,
     two: Told,
 ) -> Result<(), Fail> {
-    let mut text = spell(alloc, false, &[0, 0], &SIX)?;
+    let mut text = spell(alloc, version, false, &[0, 0], &SIX)?;
     assert!(rt; is_told(&message_rules(alloc, spends, Some(&text)), two));
-    text = spell(alloc, false, &[0], &SIX)?;
+    text = spell(alloc, version, false, &[0], &SIX)?;
     assert!(rt; text.len() == 250);
     assert!(rt; is_told(&message_rules(alloc, spends, Some(&text)), one));
     text.push(0)?;
@@ -123,7 +136,8 @@ fn messages_beside_nothing(rt: HostRuntime) -> Result<(), Fail> {
     let block = read_block(rt.alloc(), &GENESIS)?;
     let spends = shape_rules(rt.alloc(), &block, &start, Net::Main, Limits::standard())?;
     check_short(&rt, rt.alloc(), &spends, Ok(None), Ok(Some(0)));
-    check_long(&rt, rt.alloc(), &spends, wrong(1, 0), wrong(2, 0))
+    check_long(&rt, rt.alloc(), &spends, 1, wrong(1, 0), wrong(2, 0))?;
+    check_long(&rt, rt.alloc(), &spends, 2, wrong(1, 0), wrong(2, 0))
 }
 
 #[test]
@@ -138,26 +152,45 @@ fn messages_beside_one(rt: HostRuntime) -> Result<(), Fail> {
     let block = read_block(rt.alloc(), &text)?;
     let spends = shape_rules(rt.alloc(), &block, &late, Net::Main, Limits::standard())?;
     check_short(&rt, rt.alloc(), &spends, Err(Refusal::NoProof), wrong(0, 1));
-    check_long(&rt, rt.alloc(), &spends, Ok(Some(1)), wrong(2, 1))
+    check_long(&rt, rt.alloc(), &spends, 1, Ok(Some(1)), wrong(2, 1))?;
+    check_long(&rt, rt.alloc(), &spends, 2, Ok(Some(1)), wrong(2, 1))
 }
 
-/// Entries, positions, and what is wrong with them.
-const NAMED: [(u64, &[u64], Option<ProofRefusal>); 8] = [
-    (8, &[12, 0], Some(ProofRefusal::Beneath(1, 0))),
-    (8, &[3, 3], Some(ProofRefusal::Repeated(1, 0))),
-    (8, &[15], Some(ProofRefusal::Outside(0))),
-    (5, &[10], Some(ProofRefusal::Outside(0))),
-    (8, &[1, 0, 15, 12, 0], Some(ProofRefusal::Outside(2))),
-    (100, &[100], Some(ProofRefusal::Outside(0))),
-    (100, &[0, 99], None),
-    (0, &[], None),
+/// The fixed position of the first place of row 2.
+const ROW_2: u64 = 1_649_267_441_664;
+
+/// A version, the entries, the numbers of a message of this version, and what is wrong with them.
+const NAMED: [(u8, u64, &[u64], Option<ProofRefusal>); 17] = [
+    (1, 8, &[12, 0], Some(ProofRefusal::Beneath(1, 0))),
+    (1, 8, &[3, 3], Some(ProofRefusal::Repeated(1, 0))),
+    (1, 8, &[15], Some(ProofRefusal::Outside(0))),
+    (1, 5, &[10], Some(ProofRefusal::Outside(0))),
+    (1, 8, &[1, 0, 15, 12, 0], Some(ProofRefusal::Outside(2))),
+    (1, 100, &[100], Some(ProofRefusal::Outside(0))),
+    (1, 100, &[252], None),
+    (1, 100, &[0, 99], None),
+    (1, 0, &[], None),
+    (2, 8, &[ROW_2, 0], Some(ProofRefusal::Beneath(1, 0))),
+    (2, 8, &[3, 3], Some(ProofRefusal::Repeated(1, 0))),
+    (2, 8, &[12], Some(ProofRefusal::Outside(0))),
+    (2, 5, &[1_099_511_627_778], Some(ProofRefusal::Outside(0))),
+    (
+        2,
+        8,
+        &[1, 0, u64::MAX, ROW_2, 0],
+        Some(ProofRefusal::Outside(2)),
+    ),
+    (2, 100, &[252], Some(ProofRefusal::Outside(0))),
+    (2, 100, &[0, 99], None),
+    (2, 0, &[], None),
 ];
 
 #[test]
 fn targets_named(rt: HostRuntime) -> Result<(), Fail> {
-    for (n, positions, fault) in &NAMED {
-        let text = spell(rt.alloc(), false, positions, &SIX)?;
+    for (version, n, numbers, fault) in &NAMED {
+        let text = spell(rt.alloc(), *version, false, numbers, &SIX)?;
         let message = read_message(rt.alloc(), &text)?;
+        assert!(rt; message.version() == *version);
         assert!(rt; *n < 1 << 40 && message.spends() < 1 << 32);
         let want = fault.map(|fault| RuleFault::Refused(Refusal::Proof(fault)));
         assert!(rt; targets_of(rt.alloc(), *n, &message).err() == want);
@@ -170,7 +203,7 @@ fn targets_named(rt: HostRuntime) -> Result<(), Fail> {
 #[test]
 fn first_of_a_hundred(rt: HostRuntime) -> Result<(), Fail> {
     let alloc = rt.alloc();
-    let text = spell(alloc, false, &[0], &SIX)?;
+    let text = spell(alloc, 2, false, &[0], &SIX)?;
     let message = read_message(alloc, &text)?;
     assert!(rt; message.spends() < 1 << 32);
     let targets = targets_of(alloc, 100, &message)?;
@@ -204,7 +237,7 @@ fn hashes_with(
 ) -> Result<Vec<Digest>, RuleFault>
     requires { AscendByPlace known.now }
 {
-    let Ok(text) = spell(alloc, lean, &[1], given) else {
+    let Ok(text) = spell(alloc, 2, lean, &[1], given) else {
         return Err(RuleFault::NoMemory);
     };
     let Ok(message) = read_message(alloc, &text) else {

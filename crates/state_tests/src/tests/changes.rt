@@ -26,8 +26,8 @@ struct Change {
     outcome: Outcome,
 }
 
-const CHANGES: [Change; 17] = [
-    // another magic, another version
+const CHANGES: [Change; 18] = [
+    // another magic, other versions
     Change {
         at: 3,
         new: b'P',
@@ -36,6 +36,11 @@ const CHANGES: [Change; 17] = [
     Change {
         at: 4,
         new: 9,
+        outcome: Outcome::OtherVersion,
+    },
+    Change {
+        at: 4,
+        new: 3,
         outcome: Outcome::OtherVersion,
     },
     // the network: none, and regtest
@@ -89,7 +94,7 @@ const CHANGES: [Change; 17] = [
         new: 1,
         outcome: Outcome::NotAState,
     },
-    // a number of no entry, one that is there twice, two equal positions
+    // a number of no entry, one that is there twice, two equal places
     Change {
         at: 186,
         new: 2,
@@ -134,18 +139,26 @@ fn outcome_of<L: Ledger>(
     match read_state::<XorFold, L>(alloc, text, most_entries(), steps) {
         Ok(_) => Outcome::Read,
         Err(StateFault::NotAState) => Outcome::NotAState,
-        Err(StateFault::Version(9)) => Outcome::OtherVersion,
-        Err(_) => panic!(rt; "another version, or no memory"),
+        Err(StateFault::Version(version)) if text.get(4) == Some(&version) => Outcome::OtherVersion,
+        Err(_) => panic!(rt; "a version that is not there, or no memory"),
     }
 }
 
-fn check_changes<L: Ledger>(rt: &impl Abort, alloc: Global, blank: Blank) -> Result<(), Fail>
+// The text of this version: all places are in row 0, where both have the same numbers.
+fn check_changes<L: Ledger>(
+    rt: &impl Abort,
+    alloc: Global,
+    version: u8,
+    blank: Blank,
+) -> Result<(), Fail>
     requires name { blank.name ≡ L.name }
     requires parts { blank.parts ≡ L.parts }
     requires some { 0 < blank.parts }
 {
     let mut steps = Steps::<L>::new(blank);
     let mut text = two_kept(alloc)?;
+    assert!(rt; text.len() > 4);
+    text[4] = version;
     for change in &CHANGES {
         assert!(rt; change.at < text.len());
         let was = text[change.at];
@@ -164,5 +177,8 @@ fn check_changes<L: Ledger>(rt: &impl Abort, alloc: Global, blank: Blank) -> Res
 
 #[test]
 fn bytes_changed(rt: HostRuntime) -> Result<(), Fail> {
-    check_changes::<Brand>(&rt, rt.alloc(), Blank::new(1))
+    for version in [1, 2] {
+        check_changes::<Brand>(&rt, rt.alloc(), version, Blank::new(1))?;
+    }
+    Ok(())
 }

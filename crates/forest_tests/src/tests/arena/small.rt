@@ -4,9 +4,9 @@ ghost use Rattle.std.specs.List.Sorted.{IsNonDecreasing};
 ghost use Rattle.bridge_forest.specs.State.{is_live};
 
 use crate::tests::plain::{Node, digest_at, nodes_of, number_at};
-use bridge_forest::{Branch, Forest, Sibling};
+use bridge_forest::{Forest, Sibling};
 use forest_place::{Place, sibling};
-use forest_roots::{Roots, pair};
+use forest_roots::Roots;
 use std::alloc::{AllocError, Global};
 use std::marker::Brand;
 use std::process::Abort;
@@ -261,40 +261,6 @@ fn check_entries<D: Digester>(
     }
 }
 
-// Joins an entry's digest with its siblings, from the lowest up.
-fn climb<D: Digester, L: Ledger>(leaf: Digest, branch: &Branch, steps: &mut Steps<L>) -> Digest {
-    let mut digest = leaf;
-    let mut off = branch.place.off;
-    for sibling in branch.siblings.as_slice().iter().rev() {
-        digest = if off % 2 == 0 {
-            pair::<D, L>(digest, sibling.digest, steps)
-        } else {
-            pair::<D, L>(sibling.digest, digest, steps)
-        };
-        off /= 2;
-    }
-    digest
-}
-
-// Whether the branches of the live entries lead to the roots.
-fn check_branches<D: Digester, L: Ledger>(
-    rt: &impl Abort,
-    both: &Both<D>,
-    roots: &Roots<D>,
-    steps: &mut Steps<L>,
-) {
-    for number in 0..12 {
-        let entry = both.entries.get(number as usize).copied().flatten();
-        if let Some(leaf) = entry {
-            assert!(rt; both.forest.live(number));
-            let branch = both.forest.branch(number);
-            let row = branch.place.row.wrapping_add(branch.siblings.len() as u8);
-            let root = climb::<D, L>(leaf, &branch, steps);
-            assert!(rt; roots.root(row) == Some(Some(root)));
-        }
-    }
-}
-
 fn check<D: Digester, L: Ledger>(
     rt: &impl Abort,
     alloc: Global,
@@ -315,7 +281,6 @@ fn check<D: Digester, L: Ledger>(
         check_root(rt, &both.forest, &roots, &nodes, row);
     }
     check_entries(rt, &both.forest, &both.entries, &nodes);
-    check_branches(rt, both, &roots, steps);
     Ok(())
 }
 
