@@ -1,9 +1,9 @@
 #!/usr/bin/env python3
 """Sets the program beside examples/follower.py over feeds that are changed at random: compare_followers.py FEEDS [SEED].
 
-Each feed is one of two chains with proofs, with one to three changes: bits of proofs and blocks, the last block with other transactions
-under a merkle root that is right, other targets, hashes too many or too few, proofs left out, rollbacks, other ways on behind a rollback, an
-end in the middle. Report and status have to be the same.
+Each feed is one of two chains, with the messages of version 2 or the same ones of version 1, and has one to three changes: bits of proofs and
+blocks, the last block with other transactions under a merkle root that is right, other versions and kinds, other targets, hashes too many or too
+few, proofs left out, rollbacks, other ways on behind a rollback, an end in the middle. Report and status have to be the same.
 """
 import collections
 import pathlib
@@ -14,7 +14,8 @@ import sys
 TOP = pathlib.Path(__file__).resolve().parent.parent
 sys.path.insert(0, str(TOP / "examples"))
 sys.dont_write_bytecode = True
-from follower import NotSo, Refused, merkle_root, read_block  # noqa: E402
+from first_version import first_version, framed  # noqa: E402
+from follower import NotSo, Refused, merkle_root, read_block, row_start  # noqa: E402
 
 PROGRAM = [TOP / "utreexo", "follow"]
 FOLLOWER = [sys.executable, TOP / "examples/follower.py"]
@@ -33,21 +34,23 @@ def split(feed):
     return frames
 
 
-def frame(magic, body):
-    return magic + len(body).to_bytes(4, "little") + body
-
-
 def flipped(draw, bytes_, least):
     text = bytearray(bytes_)
     text[draw.randrange(least, len(text))] ^= 1 << draw.randrange(8)
     return bytes(text)
 
 
+def reheaded(draw, proof):
+    """Another version or kind before the same targets."""
+    return framed(b"UTXP", bytes([draw.choice([1, 2, 1, 2, 0, 3, 255]), draw.choice([0, 1, 2])]) + proof[10:])
+
+
 def retargeted(draw, proof):
     body = proof[8:]
-    at = 3 + 8 * draw.randrange(body[2])
-    other = draw.choice([0, 1, int.from_bytes(body[3:11], "little"), draw.randrange(300), draw.randrange(3000)])
-    return frame(b"UTXP", body[:at] + other.to_bytes(8, "little") + body[at + 8 :])
+    at = 3 + 8 * draw.randrange(body[2] or 1)
+    fixed = row_start(40, draw.randrange(9)) + draw.randrange(4)
+    other = draw.choice([0, 1, int.from_bytes(body[3:11], "little"), draw.randrange(300), draw.randrange(3000), fixed])
+    return framed(b"UTXP", body[:at] + other.to_bytes(8, "little") + body[at + 8 :])
 
 
 def remade(draw, block):
@@ -59,12 +62,12 @@ def remade(draw, block):
     try:
         root = merkle_root([one.txid for one in read_block(body)[1]])
     except (NotSo, Refused):
-        return frame(block[:4], body)
-    return frame(block[:4], body[:36] + root + body[68:])
+        return framed(block[:4], body)
+    return framed(block[:4], body[:36] + root + body[68:])
 
 
 def rollback(count):
-    return frame(b"UTXR", count.to_bytes(4, "little"))
+    return framed(b"UTXR", count.to_bytes(4, "little"))
 
 
 def change(draw, frames):
@@ -74,9 +77,9 @@ def change(draw, frames):
     if kind < 3 or kind == 8:
         frames[at] = flipped(draw, frames[at], 0 if kind == 8 else 8)
     elif kind == 3 and proofs:
-        frames[at] = retargeted(draw, frames[at])
+        frames[at] = draw.choice([reheaded, retargeted])(draw, frames[at])
     elif kind == 4 and proofs:
-        frames[at] = frame(b"UTXP", draw.choice([frames[at][8:-32], frames[at][8:] + bytes(32)]))
+        frames[at] = framed(b"UTXP", draw.choice([frames[at][8:-32], frames[at][8:] + bytes(32)]))
     elif kind == 5:
         del frames[at]
     elif kind == 6:
@@ -92,6 +95,7 @@ def change(draw, frames):
 def main():
     feeds, draw = int(sys.argv[1]), random.Random(int(sys.argv[2]) if len(sys.argv) > 2 else 1)
     chains = [output([TOP / "bench/worked_bytes.py", "feed"]).stdout, output([TOP / "bench/proved_feed.py", "40", "4", "5"]).stdout]
+    chains += [b"".join(first_version(chain, "main")) for chain in chains]
     told, wrong = collections.Counter(), 0
     for _ in range(feeds):
         frames = split(draw.choice(chains))

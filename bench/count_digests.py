@@ -1,5 +1,5 @@
 #!/usr/bin/env python3
-"""Counts what a block needs that spends outputs by a proof: count_digests.py ENTRIES SPENDS BLOCKS prints a line of docs/figures.csv.
+"""Counts what a block needs that spends outputs by a proof: count_digests.py ENTRIES SPENDS BLOCKS prints a line of docs/figures/needs.csv.
 
 The blocks are those of bench/proved_feed.py: each spends SPENDS entries, drawn by its rule, and makes as many and one more. Nothing is
 hashed here: the forest is kept as the number of live entries in each of its parts.

@@ -1,12 +1,14 @@
 #!/usr/bin/env python3
 """Counts the instructions that a block takes: count_instructions.py 'PROGRAM WORD..' ['PROGRAM WORD..' ..]
+or count_instructions.py versions 'PROGRAM WORD..'
 
 Each command is given `--feed FILE` besides, over feeds of coinbase blocks and of blocks that spend by proofs. A block takes the
 difference between two feeds of which one begins the other, divided by the blocks between them. Counted by callgrind of valgrind
 (a package of Debian's), on one thread and without the system's own work: the same on every run, whatever else the machine does. A
 program that asks for the processor's instructions for hashes is told by valgrind that there are none for SHA-256.
 
-Prints a row for each kind of block, as Markdown: the instructions of each command, and those of the first by each other's.
+Prints a row for each kind of block, as Markdown: the instructions of each command, and those of the first by each other's. With the word
+`versions` the rows are those of blocks that spend by messages of version 2, of the same ones by messages of version 1, and the first by the second.
 """
 import pathlib
 import re
@@ -49,6 +51,12 @@ def feeds(room):
         for file, blocks in ((shorter, few), (longer, many)):
             make(file, BENCH / "make_feed", str(frame * blocks), *words)
         yield name, shorter, longer, many - few
+    yield from spending(room)
+
+
+def spending(room):
+    """The same of blocks that spend by proofs. The shorter feed has no message."""
+    shorter, longer = room / "shorter", room / "longer"
     for entries in PROVED:
         make(shorter, BENCH / "proved_feed.py", str(entries), "0", "0")
         for spends, blocks in SPENT:
@@ -56,14 +64,28 @@ def feeds(room):
             yield f"{spends} spend{'s' if spends > 1 else ''} over {entries:,}", shorter, longer, blocks
 
 
+def by_commands(commands, room):
+    for name, shorter, longer, blocks in feeds(room):
+        yield name, [(counted(command, longer) - counted(command, shorter)) / blocks for command in commands]
+
+
+def by_versions(command, room):
+    older = room / "older"
+    for name, shorter, longer, blocks in spending(room):
+        with open(longer, "rb") as feed, open(older, "wb") as out:
+            subprocess.run([BENCH / "first_version.py"], stdin=feed, stdout=out, check=True)
+        before = counted(command, shorter)
+        yield name, [(counted(command, feed) - before) / blocks for feed in (longer, older)]
+
+
 def main():
-    commands = sys.argv[1:]
-    if not commands:
+    words = sys.argv[1:]
+    if not words or words == ["versions"]:
         sys.exit(__doc__)
-    with tempfile.TemporaryDirectory() as room:
-        for name, shorter, longer, blocks in feeds(pathlib.Path(room)):
-            each = [(counted(command, longer) - counted(command, shorter)) / blocks for command in commands]
-            ratios = [f"{each[0] / other:.2f}" for other in each[1:]]
+    with tempfile.TemporaryDirectory() as folder:
+        room = pathlib.Path(folder)
+        for name, each in by_versions(words[1], room) if words[0] == "versions" else by_commands(words, room):
+            ratios = [f"{each[0] / other:.{3 if words[0] == 'versions' else 2}f}" for other in each[1:]]
             print("| " + " | ".join([name, *(f"{count:,.0f}" for count in each), *ratios]) + " |", flush=True)
 
 

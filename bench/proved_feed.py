@@ -72,6 +72,10 @@ class Node:
             left.parent = right.parent = self
 
 
+def fixed_position(row, off):
+    return (1 << 41) - (1 << 41 - row) + off
+
+
 def join(left, right):
     return Node(digest(left.digest + right.digest), left, right)
 
@@ -93,14 +97,6 @@ class Forest:
         self.roots[row] = leaf
         self.count += 1
 
-    def rows(self):
-        return max(self.count - 1, 0).bit_length()
-
-    def position(self, place):
-        row, off = place
-        rows = self.rows()
-        return (1 << rows + 1) - (1 << rows + 1 - row) + off
-
     def root_of(self, node):
         while node.parent is not None:
             node = node.parent
@@ -120,11 +116,11 @@ class Forest:
         return list(zip(nodes, places[::-1]))
 
     def prove(self, leaves):
-        """The targets' positions, and the digests that are needed beside them, by place in ascending position."""
+        """The targets' fixed positions, and the digests that are needed beside them, by place in ascending position."""
         covered, targets, beside = {}, [], {}
         for leaf in leaves:
             path = self.path(leaf)
-            targets.append(self.position(path[0][1]))
+            targets.append(fixed_position(*path[0][1]))
             for node, place in path:
                 covered[place] = node
                 if node.parent is not None:
@@ -253,7 +249,7 @@ class Chain:
 
     def write_message(self, spent, targets, beside):
         self.out.write(frame(PROOF, (
-            b"\x01\x00" + compact(len(spent)) + b"".join(struct.pack("<Q", target) for target in targets)
+            b"\x02\x00" + compact(len(spent)) + b"".join(struct.pack("<Q", target) for target in targets)
             + b"".join(entry.rest for entry in spent) + compact(len(beside)) + b"".join(beside.values())
         )))
 

@@ -12,6 +12,7 @@ NULL = (bytes(32), 0xFFFFFFFF)
 COMMITS = bytes.fromhex("6a24aa21a9ed")
 ALL_MONEY = 2_100_000_000_000_000
 TAG = hashlib.sha512(b"UtreexoV1").digest()
+FIXED_ROWS = 40  # above row 0, by which fixed positions count
 
 
 class Refused(Exception):
@@ -106,7 +107,7 @@ def read_block(text):
 
 @dataclass
 class Shown:
-    position: int
+    number: int  # that names its place
     rest: bytes
     height: int
     is_coinbase: bool
@@ -124,20 +125,22 @@ def read_rest(reader):
 
 
 def read_message(text):
-    if text and text[0] != 1:
+    """Its version, what it shows, and its hashes. To one who watches nothing a lean message leaves out no hash."""
+    if text and text[0] not in (1, 2):
         raise Refused(f"message version {text[0]}")
     try:
         reader = Reader(text)
-        if reader.take(2) != b"\1\0":
+        version, kind = reader.take(2)
+        if kind > 1:
             raise NotSo
-        positions = [reader.number(8) for _ in range(reader.compact())]
-        shown = [Shown(position, *read_rest(reader)) for position in positions]
+        numbers = [reader.number(8) for _ in range(reader.compact())]
+        shown = [Shown(number, *read_rest(reader)) for number in numbers]
         hashes = [reader.take(32) for _ in range(reader.compact())]
         if reader.at != len(text):
             raise NotSo
     except NotSo:
         raise Refused("message form") from None
-    return shown, hashes
+    return version, shown, hashes
 
 
 # ---- rules that need no proof
@@ -194,7 +197,7 @@ def can_be_spent(script):
 
 
 def outputs_of(t, transaction, height, block):
-    """The outputs that can be spent: outpoint, and what is known of it; the position of none is known."""
+    """The outputs that can be spent: outpoint, and what is known of it; where none of them stands is not known."""
     for index, (amount, script) in enumerate(transaction.outputs):
         if can_be_spent(script):
             length = bytes([len(script)]) if len(script) < 253 else b"\xfd" + struct.pack("<H", len(script))
@@ -244,14 +247,17 @@ def rows(count):
     return max(count - 1, 0).bit_length()
 
 
-def row_start(count, row):
-    top = 2 << rows(count)
+def row_start(greatest, row):
+    """The number at which a row begins, where rows up to the greatest are numbered one after the other."""
+    top = 2 << greatest
     return top - (top >> row)
 
 
-def place_of(count, position):
+def place_of(version, count, number):
+    """The place of the forest that a number names: by its position in version 1, by its fixed position in version 2."""
+    greatest = rows(count) if version == 1 else FIXED_ROWS
     for row in range(rows(count) + 1):
-        offset = position - row_start(count, row)
+        offset = number - row_start(greatest, row)
         if 0 <= offset < count >> row:
             return row, offset
     return None
@@ -265,10 +271,10 @@ def is_above(high, low):
     return high[0] > low[0] and low[1] >> (high[0] - low[0]) == high[1]
 
 
-def places_of(count, positions):
+def places_of(version, count, numbers):
     places = []
-    for i, position in enumerate(positions):
-        place = place_of(count, position)
+    for i, number in enumerate(numbers):
+        place = place_of(version, count, number)
         if place is None:
             raise Refused(f"proof outside {i}")
         if place in places:
@@ -294,9 +300,8 @@ def joined(left, right):
     return digest(left + right) if left and right else left or right
 
 
-def spend(count, roots, positions, leaves, hashes):
+def spend(count, roots, places, leaves, hashes):
     """The roots once these are spent, where the proof comes to the roots that there are."""
-    places = places_of(count, positions)
     covered, needed = cover(count, places)
     if len(hashes) != len(needed):
         raise Refused(f"proof hashes {len(needed)} {len(hashes)}")
@@ -387,11 +392,12 @@ class Node:
             if external:
                 raise Refused("noproof")
             return [], now.roots
-        shown, hashes = read_message(message)
+        version, shown, hashes = read_message(message)
         if len(shown) != len(external):
             raise Refused(f"spends {len(shown)} {len(external)}")
         leaves = [leaf(outpoint, one.rest) for outpoint, one in zip(external, shown)]
-        return shown, spend(now.count, now.roots, [one.position for one in shown], leaves, hashes)
+        places = places_of(version, now.count, [one.number for one in shown])
+        return shown, spend(now.count, now.roots, places, leaves, hashes)
 
     def go_back(self, count):
         kept = len(self.levels) - 1
