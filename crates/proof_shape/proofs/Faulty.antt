@@ -1,6 +1,6 @@
 -- What is wrong with places is wrong with their positions.
 use Rattle.std.proofs.Common.{◌≡◌, ℕ, zero, suc, ◌^◌, ◌<◌, ◌≤◌, List, [], ◌∷◌, map, length, get_or, take, Some, Result, Ok, Err, refl, sym, ap, ◌∙◌, subst, ap₂, arith}
-use Rattle.std.specs.Prelude.{MatchResult}
+use Rattle.std.specs.Prelude.{IfOk, MatchResult}
 use Rattle.std.proofs.lemmas.List.{get_or-take}
 use Rattle.std.proofs.Math.Seq.{take-length}
 use Rattle.forest_place.specs.declared.place.Place.{Place}
@@ -14,7 +14,8 @@ use Rattle.forest_model.specs.Cover.{HasShape}
 use Rattle.proof_shape.specs.declared.fault.ShapeFault.{ShapeFault}
 use Rattle.proof_shape.specs.declared.fault.ShapeFault.TheVariants.{Outside, Repeated, Beneath, NoMemory}
 use Rattle.proof_shape.specs.Shape.{is_crossing, AreTargetsBy, IsSoundBy, IsFaultBy}
-use Rattle.proof_shape.specs.Targeted.{Targeted}
+use Rattle.proof_shape.specs.declared.paths.Paths.{Paths}
+use Rattle.proof_shape.specs.Moves.{ArePaths}
 use Rattle.proof_shape.specs.Found.{IsFront, IsSoundLength, IsFaultAt, IsPlaceFault, crosses}
 use Rattle.proof_shape.proofs.Ordered.{has_at}
 
@@ -114,8 +115,9 @@ module _ (by : Naming) (n : ℕ) (few : n ≤ 2 ^ 40) (numbers : List ℕ) (ps :
       record { numbered = f.numbered ∙ (ap (λ x. take x numbers) full ∙ take-length numbers); shape = shape }
 
   -- what is answered for the places is answered for the numbers
-  pub answered : (r : Result Targeted ShapeFault) →
-      MatchResult r (λ t. (t.leaves ≡ n) × (t.targets ≡ ps) × HasShape n ps × (length numbers ≤ length ps)) (λ e. IsPlaceFault n ps (length numbers) e) →
-      MatchResult r (λ t. (t.leaves ≡ n) × AreTargetsBy by n numbers t.targets) (λ e. IsFaultBy by n numbers e)
-  answered (Ok t) w = (w.0, subst (AreTargetsBy by n numbers) (sym w.1) (targets_from w.2 w.3))
-  answered (Err e) w = fault_from e w
+  pub answered : (r : Result Paths ShapeFault) →
+      MatchResult r (λ p. (p.targets.items ≡ ps) × (length numbers ≤ length ps)) (λ e. IsPlaceFault n ps (length numbers) e) →
+      IfOk r (λ p. ArePaths n p.targets.items p.covered.items p.sorted.items) →
+      MatchResult r (λ p. AreTargetsBy by n numbers p.targets.items) (λ e. IsFaultBy by n numbers e)
+  answered (Ok p) w paths = subst (AreTargetsBy by n numbers) (sym w.0) (targets_from (subst (HasShape n) w.0 paths.targeted.shape) w.1)
+  answered (Err e) w paths = fault_from e w

@@ -1,19 +1,16 @@
 -- Where nothing is a target, nothing is covered and nothing is needed.
-use Rattle.std.proofs.Common.{◌≡◌, ℕ, zero, suc, ◌*◌, ◌+◌, ◌<◌, ◌^◌, Bool, true, false, List, [], ◌∷◌, None, is_some, filter, length, refl, sym, ap, arith}
+use Rattle.std.proofs.Common.{◌≡◌, ℕ, zero, suc, ◌*◌, ◌+◌, ◌<◌, ◌^◌, Bool, true, false, List, [], ◌∷◌, None, is_some, filter, refl, sym, ap, arith}
 use Rattle.std.specs.Prelude.{◌&&◌, not}
 use Rattle.std.proofs.lemmas.Bool.{false≢true}
-use Rattle.std.proofs.lemmas.List.Sorted.{IsPermutation-refl}
 use Rattle.forest_place.specs.declared.place.Place.{Place}
 use Rattle.forest_place.specs.Forest.{is_root, sibling_off}
 use Rattle.forest_place.specs.Places.{places}
 use Rattle.forest_model.specs.Cover.{cover, is_needed}
 use Rattle.forest_model.specs.Deletion.{is_gone}
 use Rattle.proof_shape.specs.Moves.{HasPart, IsSurveyed}
-use Rattle.proof_shape.specs.Paths.{ArePaths}
 use Rattle.proof_shape.specs.Survey.{IsCoverOf}
 use Rattle.proof_shape.specs.Targeted.{IsTargeted}
 use Rattle.proof_shape.proofs.Longer.{shape_none}
-use Rattle.proof_shape.proofs.Ordered.{sorted_from_rising}
 
 pub none_covered : (row off : ℕ) → cover [] row off ≡ None
 none_covered zero off = refl
@@ -56,12 +53,4 @@ surveyed n = record {
   cover_is = covers n;
   numbers_are = refl;
   gone = record { part = no_part; places = λ k lt. absurd (omega (arith, lt)); tell = λ row off h. sym (none_gone row off) };
-}
-
-pub pathless : (n : ℕ) → ArePaths n [] [] [] 0
-pathless n = record {
-  cover_is = covers n;
-  ascending = sorted_from_rising [] no_part.rises;
-  same = IsPermutation-refl [];
-  needed_is = sym (ap length (none_of n (places n)));
 }

@@ -7,4 +7,3 @@ pub mod Laws
 pub mod Found
 pub mod Swept
 pub mod Moves
-pub mod Paths

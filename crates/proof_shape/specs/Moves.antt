@@ -1,6 +1,6 @@
 -- How the places at and above the targets, and those above needed places, tell what is gone.
 use Rattle.std.specs.Prelude.{◌≡◌, ℕ, suc, Bool, true, false, not, ◌&&◌, List, is_some}
-use Rattle.std.specs.List.Sorted.{IsStrictlyIncreasing}
+use Rattle.std.specs.List.Sorted.{IsNonDecreasing, IsStrictlyIncreasing, IsPermutation}
 use Rattle.forest_place.specs.declared.place.Place.{Place}
 use Rattle.forest_place.specs.Forest.{InForest}
 use Rattle.forest_place.specs.Position.{position, positions_of}
@@ -9,6 +9,7 @@ use Rattle.forest_model.specs.Deletion.{is_gone}
 use Rattle.proof_shape.specs.Shape.{has_number}
 use Rattle.proof_shape.specs.Survey.{pos, IsCoverOf}
 use Rattle.proof_shape.specs.Swept.{ArePositions}
+use Rattle.proof_shape.specs.Targeted.{IsTargeted}
 
 -- the numbers tell which places are covered
 abbrev pub CoversTell : ℕ → List Place → List ℕ → Type 0
@@ -44,6 +45,13 @@ HasNeighbours xs = (x : ℕ) × (has_number xs x ≡ true) × (has_number xs (su
 -- no two do
 abbrev pub AreApart : List ℕ → Type 0
 AreApart xs = (x : ℕ) → has_number xs x ≡ true → has_number xs (suc x) ≡ false
+
+-- targets, the places at and above them, and their own positions in ascending order
+pub record ArePaths (n : ℕ) (ts cover : List Place) (sorted : List ℕ) : Type 0 where
+  pub targeted : IsTargeted (record { leaves = n; targets = ts })
+  pub cover_is : IsCoverOf n ts cover
+  pub ascending : IsNonDecreasing sorted
+  pub same : IsPermutation (positions_of n ts) sorted
 
 -- what is kept beside the targets
 pub record IsSurveyed (n : ℕ) (ts needed cover : List Place) (numbers among kept : List ℕ) : Type 0 where

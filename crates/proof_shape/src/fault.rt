@@ -5,7 +5,7 @@ ghost use Rattle.proof_shape.specs.declared.fault.ShapeFault.TheVariants.{NoMemo
 use std::alloc::{AllocError, AllocFailed};
 use thiserror::Error;
 
-/// Why `TargetPaths::new` or `Targets::new` refused a list of positions. The first number is the least index at which the list goes wrong.
+/// Why `Targets::new` refused a list of positions. The first number is the least index at which the list goes wrong.
 #[derive(Clone, Copy, Debug, PartialEq, Eq, Error)]
 pub enum ShapeFault {
     /// The position at this index is that of no place of the forest.

@@ -18,5 +18,4 @@ mod wrong;
 
 pub use fault::ShapeFault;
 pub use moves::child_of;
-pub use paths::TargetPaths;
 pub use targets::Targets;

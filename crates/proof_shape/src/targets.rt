@@ -1,12 +1,13 @@
 //! The targets of a deletion.
 ghost use Rattle.std.specs.Prelude.{◌≡◌, ◌↔◌, ◌⊎◌, ◌^◌, ◌<◌, [], IfOk, MatchResult, length, true};
 
+use crate::ShapeFault;
 use crate::leaving::{gone_among, last_gone};
 use crate::moves::moved_from;
-use crate::need::needed_of;
+use crate::need::{needed_count, needed_of};
 use crate::order::positions_of;
-use crate::{ShapeFault, TargetPaths};
-use forest_place::Place;
+use crate::paths::{Paths, paths_named};
+use forest_place::{Naming, Place};
 use std::alloc::{AllocError, Global};
 use std::marker::Model;
 
@@ -44,20 +45,27 @@ impl Targets {
     ghost use Rattle.forest_model.specs.Cover.{need};
     ghost use Rattle.forest_model.specs.Deletion.{moved, is_gone};
     ghost use Rattle.proof_shape.specs.Laws.{WhatStaysGoes, EntryGoes};
-    ghost use Rattle.proof_shape.specs.Shape.{AreTargets, IsShapeFault, AreFixedTargets, IsFixedFault};
+    ghost use Rattle.proof_shape.specs.Moves.{ArePaths};
+    ghost use Rattle.proof_shape.specs.Shape.{AreTargetsBy, IsFaultBy, AreTargets, IsShapeFault, AreFixedTargets, IsFixedFault};
     ghost use Rattle.proof_shape.specs.Survey.{IsCoverOf};
     ghost use Rattle.proof_shape.specs.Targeted.{IsTargeted, IsBeneathTarget, NoneGonePast, IsGoneAt};
 
-    /// What these targets tell of all other places. Their lists are taken over, and let go where there is no memory.
-    pub fn of(alloc: Global, paths: TargetPaths) -> Result<Targets, AllocError>
-        ensures { IfOk result (λ t. t ≡ paths) }
+    // What these targets tell of all other places.
+    fn of(alloc: Global, n: u64, paths: Paths) -> Result<Targets, AllocError>
+        requires { ArePaths n paths.targets.items paths.covered.items paths.sorted.items }
+        ensures { IfOk result (λ t. t ≡ record { leaves = n; targets = paths.targets.items }) }
     {
-        let (count, list, covered, sorted, asked) = paths.into_parts();
-        let needed = needed_of(alloc, count, &covered, asked)?;
-        let numbers = positions_of(alloc, count, &covered)?;
-        let (among, kept) = gone_among(alloc, count, &list, sorted, &numbers, &needed)?;
+        let Paths {
+            targets: list,
+            covered,
+            sorted,
+        } = paths;
+        let count = needed_count(n, &covered);
+        let needed = needed_of(alloc, n, &covered, count)?;
+        let numbers = positions_of(alloc, n, &covered)?;
+        let (among, kept) = gone_among(alloc, n, &list, sorted, &numbers, &needed)?;
         Ok(Targets {
-            count,
+            count: n,
             list,
             needed,
             covered,
@@ -74,18 +82,31 @@ impl Targets {
         requires few { length positions.now < 2 ^ 32 }
         ensures { MatchResult result (λ t. (t.leaves ≡ n) × AreTargets n positions.now t.targets) (λ e. IsShapeFault n positions.now e) }
     {
-        let paths = TargetPaths::new(alloc, n, positions)?;
-        Ok(Targets::of(alloc, paths)?)
+        Targets::named(alloc, Naming::Position, n, positions)
     }
 
-    /// The targets at these fixed positions, of which the same holds.
+    /// The same at these fixed positions.
     pub fn new_fixed(alloc: Global, n: u64, positions: &[u64]) -> Result<Targets, ShapeFault>
         requires small { n < 2 ^ 40 }
         requires few { length positions.now < 2 ^ 32 }
         ensures { MatchResult result (λ t. (t.leaves ≡ n) × AreFixedTargets n positions.now t.targets) (λ e. IsFixedFault n positions.now e) }
     {
-        let paths = TargetPaths::new_fixed(alloc, n, positions)?;
-        Ok(Targets::of(alloc, paths)?)
+        Targets::named(alloc, Naming::FixedPosition, n, positions)
+    }
+
+    /// The same at the places that these numbers name.
+    pub fn named(
+        alloc: Global,
+        naming: Naming,
+        n: u64,
+        numbers: &[u64],
+    ) -> Result<Targets, ShapeFault>
+        requires small { n < 2 ^ 40 }
+        requires few { length numbers.now < 2 ^ 32 }
+        ensures { MatchResult result (λ t. (t.leaves ≡ n) × AreTargetsBy naming n numbers.now t.targets) (λ e. IsFaultBy naming n numbers.now e) }
+    {
+        let paths = paths_named(alloc, naming, n, numbers)?;
+        Ok(Targets::of(alloc, n, paths)?)
     }
 
     /// No target, in the forest over `n` entries. It takes no memory.

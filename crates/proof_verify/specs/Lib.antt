@@ -9,4 +9,3 @@ pub mod Nodes
 pub mod Judged
 pub mod Room
 pub mod Gathered
-pub mod Sweep

@@ -148,7 +148,7 @@ impl<'a> MessageView<'a> {
     pub fn hash_count(&self) -> u64
         ensures { result ≡ length self.now.proof.hashes }
     {
-        self.hashes().len() as u64
+        self.body.hashes().len() as u64
     }
 
     /// A hash, in the order of positions.
@@ -156,13 +156,6 @@ impl<'a> MessageView<'a> {
         requires { i < length self.now.proof.hashes }
         ensures { slice_get self.now.proof.hashes i ≡ Some result }
     {
-        self.hashes().get(i as usize)
-    }
-
-    /// All of them, as they lie in the message.
-    pub fn hashes(&self) -> Digests<'a>
-        ensures { result ≡ self.now.proof.hashes }
-    {
-        self.body.hashes()
+        self.body.hashes().get(i as usize)
     }
 }

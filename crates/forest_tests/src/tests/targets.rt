@@ -3,7 +3,7 @@ ghost use Rattle.std.specs.Prelude.{◌^◌, ◌<◌};
 ghost use Rattle.forest_place.specs.Forest.{InForest};
 
 use forest_place::{Place, place_of, sibling};
-use proof_shape::{ShapeFault, TargetPaths, Targets};
+use proof_shape::{ShapeFault, Targets};
 use std::alloc::Global;
 use std::process::Abort;
 use std::test::Fail;
@@ -30,7 +30,6 @@ fn judges_positions(rt: HostRuntime) {
     for (n, positions, want) in &LISTS {
         assert!(rt; *n < 1 << 40 && positions.len() < 1 << 32);
         assert!(rt; Targets::new(rt.alloc(), *n, positions).err() == *want);
-        assert!(rt; TargetPaths::new(rt.alloc(), *n, positions).err() == *want);
     }
 }
 
@@ -51,7 +50,6 @@ fn judges_fixed_positions(rt: HostRuntime) {
     for (n, positions, want) in &FIXED {
         assert!(rt; *n < 1 << 40 && positions.len() < 1 << 32);
         assert!(rt; Targets::new_fixed(rt.alloc(), *n, positions).err() == *want);
-        assert!(rt; TargetPaths::new_fixed(rt.alloc(), *n, positions).err() == *want);
     }
 }
 
@@ -117,17 +115,14 @@ const BESIDE: [Place; 2] = [Place { row: 1, off: 0 }, Place { row: 2, off: 1 }];
 
 #[test]
 fn paths_in_eight(rt: HostRuntime) -> Result<(), Fail> {
-    let paths = TargetPaths::new(rt.alloc(), 8, &[2, 3])?;
-    assert!(rt; paths.leaves() == 8);
-    assert!(rt; paths.places() == &PATHS[..2]);
-    assert!(rt; paths.covered() == PATHS.as_slice());
-    assert!(rt; paths.needed_count() == 2);
-    let needed = paths.needed(rt.alloc())?;
-    assert!(rt; needed.as_slice() == BESIDE.as_slice());
-    let targets = Targets::of(rt.alloc(), paths)?;
+    let targets = Targets::new(rt.alloc(), 8, &[2, 3])?;
+    assert!(rt; targets.places() == &PATHS[..2]);
+    let (covered, positions) = targets.covered();
+    assert!(rt; covered == PATHS.as_slice());
+    assert!(rt; positions == [2, 3, 9, 12, 14].as_slice());
     assert!(rt; targets.needed() == BESIDE.as_slice());
-    assert!(rt; goes(&rt, &targets, 0, 0) == Some((1, 0)));
-    assert!(rt; TargetPaths::none(rt.alloc(), 8).covered().is_empty());
+    let none = Targets::none(rt.alloc(), 8);
+    assert!(rt; none.covered().0.is_empty());
     Ok(())
 }
 

@@ -6,7 +6,7 @@ use block_rules::{Chain, ProofRefusal, Refusal, RuleFault, Spends, shape_rules};
 use forest_place::Place;
 use genesis_block::GENESIS;
 use leaf_record::RestView;
-use node_rules::{full_hashes, message_rules, paths_of, sent_hashes, targets_of};
+use node_rules::{full_hashes, message_rules, targets_of};
 use proof_wire::{Message, MessageView, read_message};
 use std::alloc::Global;
 use std::process::Abort;
@@ -194,7 +194,6 @@ fn targets_named(rt: HostRuntime) -> Result<(), Fail> {
         assert!(rt; *n < 1 << 40 && message.spends() < 1 << 32);
         let want = fault.map(|fault| RuleFault::Refused(Refusal::Proof(fault)));
         assert!(rt; targets_of(rt.alloc(), *n, &message).err() == want);
-        assert!(rt; paths_of(rt.alloc(), *n, &message).err() == want);
     }
     Ok(())
 }
@@ -220,10 +219,8 @@ fn first_of_a_hundred(rt: HostRuntime) -> Result<(), Fail> {
                 }
         );
     }
-    let paths = paths_of(alloc, 100, &message)?;
-    let hashes = sent_hashes(&message, &paths)?;
-    assert!(rt; hashes.len() == 6);
-    assert!(rt; hashes.get(0) == SIX[0] && hashes.get(5) == SIX[5]);
+    let hashes = full_hashes(alloc, &message, &targets, &[])?;
+    assert!(rt; hashes.as_slice() == SIX.as_slice());
     Ok(())
 }
 
