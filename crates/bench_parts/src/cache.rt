@@ -185,6 +185,7 @@ fn cached_block<L: Ledger>(
         return None;
     }
     add_unwatched(cache, &mut mark, roots, BLOCK, steps);
+    mark.shrink();
     Some(mark)
 }
 

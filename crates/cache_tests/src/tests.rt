@@ -125,6 +125,7 @@ fn spend<L: Ledger>(
         panic!(rt; "refused")
     };
     after_delete(cache, &mut mark, &targets, &changes);
+    mark.shrink();
     mark
 }
 

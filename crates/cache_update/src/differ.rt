@@ -113,7 +113,8 @@ pub(crate) fn note_all_lost(
     requires newer { AscendByPlace newer.now }
     requires older { AscendByPlace older.now }
     requires room { vec_len lost.old + length older.now ≤ vec_capacity lost.old }
-    ensures { lost.new.items ≡ lost.old.items ++ filter_map (lost_of newer.now) older.now }
+    ensures items { lost.new.items ≡ lost.old.items ++ filter_map (lost_of newer.now) older.now }
+    ensures capacity { vec_capacity lost.old ≤ vec_capacity lost.new }
 {
     let mut at = 0;
     for i in 0..older.len() {
@@ -131,7 +132,8 @@ pub(crate) fn note_all_gained(
     requires newer { AscendByPlace newer.now }
     requires older { AscendByPlace older.now }
     requires room { vec_len gained.old + length newer.now ≤ vec_capacity gained.old }
-    ensures { gained.new.items ≡ gained.old.items ++ filter_map (gained_of older.now) newer.now }
+    ensures items { gained.new.items ≡ gained.old.items ++ filter_map (gained_of older.now) newer.now }
+    ensures capacity { vec_capacity gained.old ≤ vec_capacity gained.new }
 {
     let mut at = 0;
     for i in 0..newer.len() {
@@ -144,7 +146,8 @@ pub(crate) fn note_all_gained(
 pub(crate) fn note_all_moved(moved: &mut Vec<(u64, Place)>, kept: &[Kept], stood: &[(u64, Place)])
     requires kept { AscendByNumber kept.now }
     requires room { vec_len moved.old + length stood.now ≤ vec_capacity moved.old }
-    ensures { moved.new.items ≡ moved.old.items ++ filter_map (moved_since kept.now) stood.now }
+    ensures items { moved.new.items ≡ moved.old.items ++ filter_map (moved_since kept.now) stood.now }
+    ensures capacity { vec_capacity moved.old ≤ vec_capacity moved.new }
 {
     for i in 0..stood.len() {
         note_moved(moved, kept, stood[i].0, stood[i].1);

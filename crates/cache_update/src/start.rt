@@ -1,7 +1,7 @@
 //! A mark for one block, with all the memory that the block takes.
-ghost use Rattle.std.specs.Prelude.{◌≡◌, ◌+◌, ◌<◌, ◌≤◌, ◌^◌, [], length, map, ◌++◌, All, IfOk, IfSome, OnOk, vec_len};
+ghost use Rattle.std.specs.Prelude.{◌≡◌, ◌+◌, ◌<◌, ◌≤◌, ◌^◌, [], length, map, ◌++◌, All, IfOk, IfErr, IfSome, OnOk, vec_len};
 ghost use Rattle.std.specs.Option.{option_to_list};
-ghost use Rattle.std.specs.Bool.{OnTrue};
+ghost use Rattle.std.specs.Bool.{OnTrue, OnFalse};
 ghost use Rattle.forest_place.specs.Forest.{InForest};
 ghost use Rattle.forest_place.specs.Position.{positions_of};
 ghost use Rattle.cache_model.specs.Lists.{AscendByPlace, moved_leaves, leaf_places};
@@ -9,14 +9,16 @@ ghost use Rattle.leaf_cache.specs.Parted.{HaveSameLists, IsParted};
 ghost use Rattle.cache_update.specs.Descent.{TellGoals};
 ghost use Rattle.cache_update.specs.Differences.{where_stood};
 ghost use Rattle.cache_update.specs.Begun.{IsRoom, IsMark, IsIdleMark, new_position};
+ghost use Rattle.cache_update.specs.Refused.{IsOfForest, IsKeptFault, IsBeginFault};
 ghost use Rattle.cache_update.specs.Marks.{AreOfForest, Fits, WasBegun, HoldKnown, growth, kept_back, held_back};
 
 use crate::descend::{goal_at, tell_goals};
+use crate::fault::BeginFault;
 use crate::known::is_within;
 use crate::mark::{Mark, Room, Scratch};
 use forest_place::{Place, position};
 use leaf_cache::{Cache, Kept, Parts};
-use proof_shape::Targets;
+use proof_shape::{ShapeFault, Targets};
 use std::alloc::Global;
 use uo_base::NoMemory;
 use uo_digest::Digest;
@@ -26,6 +28,7 @@ fn are_kept_in(n: u64, kept: &[Kept]) -> bool
     requires { n < 2 ^ 40 }
     ensures numbers { OnTrue result (All (λ k. k.number < n) kept.now) }
     ensures places { OnTrue result (All (λ k. InForest n k.place.row k.place.off) kept.now) }
+    ensures other { OnFalse result (All (λ k. k.number < n) kept.now → All (λ k. InForest n k.place.row k.place.off) kept.now → ⊥) }
 {
     for i in 0..kept.len() {
         if kept[i].number >= n || !is_within(n, kept[i].place) {
@@ -38,7 +41,8 @@ fn are_kept_in(n: u64, kept: &[Kept]) -> bool
 // Whether the digests are held at places of the forest over `n` entries.
 fn are_held_in(n: u64, held: &[(Place, Digest)]) -> bool
     requires { n < 2 ^ 40 }
-    ensures { OnTrue result (All (λ x. InForest n x.0.row x.0.off) held.now) }
+    ensures there { OnTrue result (All (λ x. InForest n x.0.row x.0.off) held.now) }
+    ensures other { OnFalse result (All (λ x. InForest n x.0.row x.0.off) held.now → ⊥) }
 {
     for i in 0..held.len() {
         if !is_within(n, held[i].0) {
@@ -52,6 +56,7 @@ fn are_held_in(n: u64, held: &[(Place, Digest)]) -> bool
 fn is_of_forest(n: u64, parts: &Parts) -> bool
     requires { n < 2 ^ 40 }
     ensures forest { OnTrue result (AreOfForest n parts.now) }
+    ensures other { OnFalse result (AreOfForest n parts.now → ⊥) }
     ensures ordered { IsParted parts.now }
 {
     are_kept_in(n, &parts.kept) && are_held_in(n, &parts.held)
@@ -112,27 +117,30 @@ fn new_positions(
     Ok(positions)
 }
 
-// Where the kept entries stand once the targets are gone. No places of a forest's entries stand above each other, so other
-// lists of them have none.
+// Where the kept entries stand once the targets are gone. Where places have shape, the new ones have.
 fn new_places(
     alloc: Global,
     targets: &Targets,
     kept: &[Kept],
     held: &[(Place, Digest)],
     goals: &[Option<Place>],
-) -> Result<Targets, NoMemory>
+) -> Result<Targets, BeginFault>
     requires within { All (λ k. InForest targets.now.leaves k.place.row k.place.off) kept.now }
     requires ascends { AscendByPlace held.now }
     requires told { TellGoals targets.now.leaves targets.now.targets held.now goals.now }
-    ensures { IfOk result (λ t. t ≡ record { leaves = targets.now.leaves; targets = leaf_places (moved_leaves targets.now.leaves targets.now.targets kept.now) }) }
+    ensures ok { IfOk result (λ t. t ≡ record { leaves = targets.now.leaves; targets = leaf_places (moved_leaves targets.now.leaves targets.now.targets kept.now) }) }
+    ensures err { IfErr result (λ fault. IsKeptFault targets.now.leaves targets.now.targets kept.now fault) }
 {
     let positions = new_positions(alloc, targets, kept, held, goals)?;
     if positions.len() >= 1 << 32 {
-        return Err(NoMemory);
+        return Err(BeginFault::TooMany);
     }
     match Targets::new(alloc, targets.leaves(), &positions) {
         Ok(places) => Ok(places),
-        Err(_) => Err(NoMemory),
+        Err(ShapeFault::NoMemory) => Err(BeginFault::NoMemory),
+        Err(ShapeFault::Outside(_)) => Err(BeginFault::Elsewhere),
+        Err(ShapeFault::Repeated(_, _)) => Err(BeginFault::Elsewhere),
+        Err(ShapeFault::Beneath(_, _)) => Err(BeginFault::Elsewhere),
     }
 }
 
@@ -165,20 +173,20 @@ fn places_of(alloc: Global, kept: &[Kept]) -> Result<Vec<(u64, Place)>, NoMemory
     Ok(kept.iter().map(|entry| stands_at(entry)).collect(alloc)?)
 }
 
-// Room for a block of these targets and this many additions.
-fn room_for(
+// Room for a block of this many additions, where this is told of its deletion.
+fn room_with(
     alloc: Global,
     parts: &Parts,
     targets: &Targets,
     adds: u64,
+    kept: Targets,
+    goals: Vec<Option<Place>>,
 ) -> Result<Box<Room>, NoMemory>
-    requires kept { All (λ k. InForest targets.now.leaves k.place.row k.place.off) parts.now.kept }
-    requires held { All (λ x. InForest targets.now.leaves x.0.row x.0.off) parts.now.held }
-    requires ascends { AscendByPlace parts.now.held }
+    requires kept { kept ≡ record { leaves = targets.now.leaves; targets = leaf_places (moved_leaves targets.now.leaves targets.now.targets parts.now.kept) } }
+    requires goals { TellGoals targets.now.leaves targets.now.targets parts.now.held goals.items }
+    requires each { vec_len goals ≡ length parts.now.held }
     ensures { IfOk result (λ r. IsRoom targets.now parts.now adds r.value) }
 {
-    let goals = goals_of(alloc, targets, &parts.held)?;
-    let kept = new_places(alloc, targets, &parts.kept, &parts.held, &goals)?;
     let Some(most) = most_of(&kept, parts.held.len(), targets.leaves(), adds) else {
         return Err(NoMemory);
     };
@@ -196,6 +204,24 @@ fn room_for(
         moved: Vec::with_capacity(alloc, parts.kept.len())?,
     };
     Ok(Box::new(alloc, room)?)
+}
+
+// Room for a block of these targets and this many additions.
+fn room_for(
+    alloc: Global,
+    parts: &Parts,
+    targets: &Targets,
+    adds: u64,
+) -> Result<Box<Room>, BeginFault>
+    requires kept { All (λ k. InForest targets.now.leaves k.place.row k.place.off) parts.now.kept }
+    requires held { All (λ x. InForest targets.now.leaves x.0.row x.0.off) parts.now.held }
+    requires ascends { AscendByPlace parts.now.held }
+    ensures ok { IfOk result (λ r. IsRoom targets.now parts.now adds r.value) }
+    ensures err { IfErr result (λ fault. IsKeptFault targets.now.leaves targets.now.targets parts.now.kept fault) }
+{
+    let goals = goals_of(alloc, targets, &parts.held)?;
+    let kept = new_places(alloc, targets, &parts.kept, &parts.held, &goals)?;
+    Ok(room_with(alloc, parts, targets, adds, kept, goals)?)
 }
 
 // A mark for a block of these targets and additions.
@@ -272,14 +298,18 @@ fn begin_idle(
     Ok(idle_mark(alloc, targets.leaves(), adds))
 }
 
-// A mark for a block, with the room that it takes, and room in the lists for what it adds to them.
-fn begin_changing(
+// A mark with this room, and room in the lists for what the block adds to them. Of 2^64 entries there is no room for one more.
+fn begin_with(
     alloc: Global,
     parts: &mut Parts,
     targets: &Targets,
     adds: u64,
     watched: u64,
+    room: Box<Room>,
 ) -> Result<Mark, NoMemory>
+    requires forest { AreOfForest targets.now.leaves parts.old }
+    requires room { IsRoom targets.now parts.old adds room.value }
+    requires ordered { IsParted parts.old }
     ensures lists { HaveSameLists parts.new parts.old }
     ensures kept_room { parts.old.kept_room ≤ parts.new.kept_room }
     ensures held_room { parts.old.held_room ≤ parts.new.held_room }
@@ -289,18 +319,39 @@ fn begin_changing(
     ensures held_back { IfOk result (λ m. held_back m parts.new.held ≡ parts.old.held) }
     ensures left { IfOk result (λ m. (m.leaves ≡ targets.now.leaves) × (m.adds ≡ adds) × (m.watched ≡ watched)) }
 {
-    if !is_of_forest(targets.leaves(), parts) {
-        return Err(NoMemory);
-    }
     let Some(entries) = (watched as usize).checked_add(1) else {
         return Err(NoMemory);
     };
-    let room = room_for(alloc, parts, targets, adds)?;
     let most = room.most;
     let mark = mark_for(alloc, parts, targets, adds, watched, room)?;
     parts.kept.reserve(entries)?;
     parts.held.reserve(most)?;
     Ok(mark)
+}
+
+// A mark for a block, with the room that it takes, and room in the lists for what it adds to them.
+fn begin_changing(
+    alloc: Global,
+    parts: &mut Parts,
+    targets: &Targets,
+    adds: u64,
+    watched: u64,
+) -> Result<Mark, BeginFault>
+    ensures lists { HaveSameLists parts.new parts.old }
+    ensures kept_room { parts.old.kept_room ≤ parts.new.kept_room }
+    ensures held_room { parts.old.held_room ≤ parts.new.held_room }
+    ensures fits { IfOk result (λ m. Fits m parts.new) }
+    ensures begun { IfOk result (λ m. WasBegun targets.now m parts.new) }
+    ensures kept_back { IfOk result (λ m. kept_back m parts.new.kept ≡ parts.old.kept) }
+    ensures held_back { IfOk result (λ m. held_back m parts.new.held ≡ parts.old.held) }
+    ensures left { IfOk result (λ m. (m.leaves ≡ targets.now.leaves) × (m.adds ≡ adds) × (m.watched ≡ watched)) }
+    ensures err { IfErr result (λ fault. IsBeginFault targets.now.leaves targets.now.targets parts.old fault) }
+{
+    if !is_of_forest(targets.leaves(), parts) {
+        return Err(BeginFault::Elsewhere);
+    }
+    let room = room_for(alloc, parts, targets, adds)?;
+    Ok(begin_with(alloc, parts, targets, adds, watched, room)?)
 }
 
 // A mark for a block, and room in the lists for what the block adds to them.
@@ -310,7 +361,7 @@ fn begin_in(
     targets: &Targets,
     adds: u64,
     watched: u64,
-) -> Result<Mark, NoMemory>
+) -> Result<Mark, BeginFault>
     ensures lists { HaveSameLists parts.new parts.old }
     ensures kept_room { parts.old.kept_room ≤ parts.new.kept_room }
     ensures held_room { parts.old.held_room ≤ parts.new.held_room }
@@ -319,9 +370,10 @@ fn begin_in(
     ensures kept_back { IfOk result (λ m. kept_back m parts.new.kept ≡ parts.old.kept) }
     ensures held_back { IfOk result (λ m. held_back m parts.new.held ≡ parts.old.held) }
     ensures left { IfOk result (λ m. (m.leaves ≡ targets.now.leaves) × (m.adds ≡ adds) × (m.watched ≡ watched)) }
+    ensures err { IfErr result (λ fault. IsBeginFault targets.now.leaves targets.now.targets parts.old fault) }
 {
     if is_idle(parts, adds, watched) {
-        begin_idle(alloc, parts, targets, adds, watched)
+        Ok(begin_idle(alloc, parts, targets, adds, watched)?)
     } else {
         begin_changing(alloc, parts, targets, adds, watched)
     }
@@ -330,15 +382,15 @@ fn begin_in(
 /// Takes all memory for one block: the deletion of `targets`, then `adds` additions of which `watched` are watched. What the
 /// cache keeps and holds stays. The mark gives back this cache, through the deletion and the additions.
 ///
-/// The cache is one of the forest over as many entries as the targets are of. There is no mark for another one, whose places
-/// that forest lacks, or where one stands above another: the answer is want of memory then.
+/// The cache is one of the forest over as many entries as the targets are of. For another one there is no mark, nor where 2^32 or
+/// more entries would be kept.
 pub fn begin<D>(
     alloc: Global,
     cache: &mut Cache<D>,
     targets: &Targets,
     adds: u64,
     watched: u64,
-) -> Result<Mark, NoMemory>
+) -> Result<Mark, BeginFault>
     ensures lists { HaveSameLists cache.new.parts cache.old.parts }
     ensures watch { cache.new.watch ≡ cache.old.watch }
     ensures kept_room { cache.old.parts.kept_room ≤ cache.new.parts.kept_room }
@@ -348,6 +400,7 @@ pub fn begin<D>(
     ensures kept_back { IfOk result (λ m. kept_back m cache.new.parts.kept ≡ cache.old.parts.kept) }
     ensures held_back { IfOk result (λ m. held_back m cache.new.parts.held ≡ cache.old.parts.held) }
     ensures left { IfOk result (λ m. (m.leaves ≡ targets.now.leaves) × (m.adds ≡ adds) × (m.watched ≡ watched)) }
+    ensures err { IfErr result (λ fault. IsBeginFault targets.now.leaves targets.now.targets cache.old.parts fault) }
 {
     begin_in(alloc, cache.parts(), targets, adds, watched)
 }

@@ -318,7 +318,8 @@ fn there_and_back<D: Digester, L: Ledger>(
     let next = after(alloc, plain, spent, added)?;
     let then = told_of::<D, L>(rt, alloc, &next, steps)?;
     let old = roots.copy();
-    let mark = block(rt, alloc, cache, roots, plain, spent, added, steps);
+    let mut mark = block(rt, alloc, cache, roots, plain, spent, added, steps);
+    mark.shrink();
     assert_is(rt, cache, &then);
     undo(cache, mark);
     assert_is(rt, cache, told);

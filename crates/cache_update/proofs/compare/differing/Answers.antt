@@ -24,8 +24,8 @@ returns-clause-held c =
     let newer = ap (λ (p : Parted). p.held) c.newer.view_is in
     let older = ap (λ (p : Parted). p.held) c.older.view_is in
     ap₂ (λ (x : List (Place × Digest)) (y : List Place). held_given x y c.args.newer.now.held)
-    (from_nothing (lost c.deref-3.result.now) c.in_ok-lost.lost.items _ c.deref-4.result.now c.in_ok-lost.ensures.items c.note_all_lost.ensures
+    (from_nothing (lost c.deref-3.result.now) c.in_ok-lost.lost.items _ c.deref-4.result.now c.in_ok-lost.ensures.items c.note_all_lost.ensures.items
     ∙ ap₂ (λ (x : List (Place × Digest)) (y : List (Place × Digest)). filter_map (lost x) y) (c.deref-3.ensures.value ∙ newer) (c.deref-4.ensures.value ∙ older))
-    (from_nothing (gained c.deref-6.result.now) c.in_ok-gained.gained.items _ c.deref-5.result.now c.in_ok-gained.ensures.items c.note_all_gained.ensures
+    (from_nothing (gained c.deref-6.result.now) c.in_ok-gained.gained.items _ c.deref-5.result.now c.in_ok-gained.ensures.items c.note_all_gained.ensures.items
     ∙ ap₂ (λ (x : List (Place × Digest)) (y : List (Place × Digest)). filter_map (gained y) x) (c.deref-5.ensures.value ∙ newer) (c.deref-6.ensures.value ∙ older))
     ∙ differences_give c.args.newer.now.held c.args.older.now.held (subst AscendByPlace newer c.newer.invariant.1) (subst AscendByPlace older c.older.invariant.1)

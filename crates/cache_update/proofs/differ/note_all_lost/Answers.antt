@@ -18,5 +18,5 @@ loop-i-preserved c = record {
   room = omega (arith, c.loop-i.invariant.room, c.note_lost.ensures.capacity);
 }
 
-pub returns : goal.returns
-returns c = sym (c.loop-i.invariant.rest ∙ gather_end (lost c.args.newer.now) c.args.older.now c.loop-i.lost.items c.loop-i.i (omega arith))
+pub returns-clause-items : goal.returns-clause-items
+returns-clause-items c = sym (c.loop-i.invariant.rest ∙ gather_end (lost c.args.newer.now) c.args.older.now c.loop-i.lost.items c.loop-i.i (omega arith))

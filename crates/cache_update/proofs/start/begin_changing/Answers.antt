@@ -1,27 +1,7 @@
-use Rattle.std.proofs.Common.{ℕ, length, vec_capacity, ap, ◌∙◌, subst, arith}
-use Rattle.leaf_cache.specs.Parted.{Parted}
+use Rattle.std.proofs.Common.{ℕ, sym, subst}
 use Rattle.cache_update.specs.Marks.{AreOfForest}
-use Rattle.cache_update.specs.declared.mark.Room.{Room}
-use Rattle.cache_update.proofs.Beginning.{begun_kept, begun_fits, was_begun}
+use Rattle.cache_update.proofs.Refusing.{forest_lists}
 use Rattle.cache_update.proofs.start.begin_changing.Goals as goal
 
-pub returns-clause-fits : goal.returns-clause-fits
-returns-clause-fits c = begun_fits c.args.targets.now c.args.parts.now (record { kept = c.reserve.new.self.items; held = c.reserve-2.new.self.items; kept_room = vec_capacity c.reserve.new.self; held_room = vec_capacity c.reserve-2.new.self })
-    c.args.adds c.args.watched c.in_ok-room.room c.in_ok-mark.mark c.is_of_forest.ensures.ordered (subst (λ (n : ℕ). AreOfForest n c.args.parts.now) c.leaves.ensures.is c.if-not-is_of_forest.ensures.forest) c.in_ok-room.ensures c.in_ok-mark.ensures
-    (c.reserve.ensures.items ∙ ap (λ (p : Parted). p.kept) c.parts.view_is) (c.reserve-2.ensures.items ∙ ap (λ (p : Parted). p.held) c.parts.view_is)
-    (let kept = ap length (c.reserve.ensures.items ∙ ap (λ (p : Parted). p.kept) c.parts.view_is) in omega (arith, kept, c.in_ok-reserve.ensures.ok, c.in-Some.ensures.1, c.reserve.new.self.ok.0))
-    (let most = ap (λ (r : Room). r.most) c.deref.ensures in omega (arith, most, c.in_ok-reserve-2.ensures.ok))
-
-pub returns-clause-begun : goal.returns-clause-begun
-returns-clause-begun c = was_begun c.args.targets.now c.args.parts.now (record { kept = c.reserve.new.self.items; held = c.reserve-2.new.self.items; kept_room = vec_capacity c.reserve.new.self; held_room = vec_capacity c.reserve-2.new.self })
-    c.args.adds c.args.watched c.in_ok-room.room c.in_ok-mark.mark c.is_of_forest.ensures.ordered (subst (λ (n : ℕ). AreOfForest n c.args.parts.now) c.leaves.ensures.is c.if-not-is_of_forest.ensures.forest) c.in_ok-room.ensures c.in_ok-mark.ensures
-    (c.reserve.ensures.items ∙ ap (λ (p : Parted). p.kept) c.parts.view_is) (c.reserve-2.ensures.items ∙ ap (λ (p : Parted). p.held) c.parts.view_is)
-    (let kept = ap length (c.reserve.ensures.items ∙ ap (λ (p : Parted). p.kept) c.parts.view_is) in omega (arith, kept, c.in_ok-reserve.ensures.ok, c.in-Some.ensures.1, c.reserve.new.self.ok.0))
-    (let most = ap (λ (r : Room). r.most) c.deref.ensures in omega (arith, most, c.in_ok-reserve-2.ensures.ok))
-
-pub returns-clause-kept_back : goal.returns-clause-kept_back
-returns-clause-kept_back c = begun_kept c.args.targets.now c.args.parts.now (record { kept = c.reserve.new.self.items; held = c.reserve-2.new.self.items; kept_room = vec_capacity c.reserve.new.self; held_room = vec_capacity c.reserve-2.new.self })
-    c.args.adds c.args.watched c.in_ok-room.room c.in_ok-mark.mark c.is_of_forest.ensures.ordered (subst (λ (n : ℕ). AreOfForest n c.args.parts.now) c.leaves.ensures.is c.if-not-is_of_forest.ensures.forest) c.in_ok-room.ensures c.in_ok-mark.ensures
-    (c.reserve.ensures.items ∙ ap (λ (p : Parted). p.kept) c.parts.view_is) (c.reserve-2.ensures.items ∙ ap (λ (p : Parted). p.held) c.parts.view_is)
-    (let kept = ap length (c.reserve.ensures.items ∙ ap (λ (p : Parted). p.kept) c.parts.view_is) in omega (arith, kept, c.in_ok-reserve.ensures.ok, c.in-Some.ensures.1, c.reserve.new.self.ok.0))
-    (let most = ap (λ (r : Room). r.most) c.deref.ensures in omega (arith, most, c.in_ok-reserve-2.ensures.ok))
+pub returns-then-not-is_of_forest-clause-err : goal.returns-then-not-is_of_forest-clause-err
+returns-then-not-is_of_forest-clause-err c = λ f. c.if-not-is_of_forest.ensures.other (subst (λ (n : ℕ). AreOfForest n c.args.parts.now) (sym c.leaves.ensures.is) (forest_lists c.args.targets.now.leaves c.args.parts.now f))
