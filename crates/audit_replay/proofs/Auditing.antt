@@ -7,7 +7,7 @@ use Rattle.leaf_record.specs.Leaf.{Leaf}
 use Rattle.block_rules.specs.declared.refusal.Refusal.{Refusal}
 use Rattle.block_rules.specs.declared.verdict.Verdict.{Verdict}
 use Rattle.node_rules.specs.Judging.{Rules}
-use Rattle.node_rules.specs.Machine.{ChainEvent, BlockCame, RollbackCame, StrayCame, start, full_judge, goes_on, state_after}
+use Rattle.node_rules.specs.Machine.{ChainEvent, BlockCame, RollbackCame, StrayCame, start, full_judge, goes_on, state_after, full_outcome}
 use Rattle.node_rules.specs.Fitting.{EventFits, StateFits}
 use Rattle.node_rules.specs.Laws.{IsSoundState}
 use Rattle.node_rules.proofs.Fitting.{after_fits, start_fits}
@@ -15,7 +15,7 @@ use Rattle.node_rules.proofs.Value.{after_sound, start_sound, full_judge-pays}
 use Rattle.bridge_prover.specs.Bridge.{BridgeState, fresh_bridge, bridge_by}
 use Rattle.bridge_prover.specs.Standing.{IsBridge}
 use Rattle.bridge_prover.specs.Watched.{scripts_of}
-use Rattle.bridge_prover.specs.Full.{watched_by, full_outcome, is_forged_on, full_refusal_on, judged_on, after_shown, kept_if, next_judged, LevelsJudged}
+use Rattle.bridge_prover.specs.Full.{watched_by, is_forged_on, full_refusal_on, judged_on, after_shown, kept_if, next_judged, LevelsJudged}
 use Rattle.bridge_prover.proofs.Fully.{bridge_is_full, next_judged_is_bridge, levels_judged}
 use Rattle.bridge_prover.proofs.Refining.{fresh_is_bridge, fresh_stands}
 use Rattle.bridge_prover.proofs.Throughout.{kept_rules, kept_watch}

@@ -27,12 +27,12 @@ use Rattle.node_rules.specs.Right.{is_right}
 use Rattle.node_rules.specs.Reading.{read}
 use Rattle.node_rules.specs.Fitting.{EventFits}
 use Rattle.node_rules.specs.Judging.{Rules, message_steps, is_forged}
-use Rattle.node_rules.specs.Machine.{ChainEvent, BlockCame, Level, State, start, chain_of, full_judge, goes_on, state_after, never_stops}
+use Rattle.node_rules.specs.Machine.{ChainEvent, BlockCame, Level, State, start, chain_of, full_judge, goes_on, state_after, never_stops, full_outcome}
 use Rattle.node_rules.proofs.Forging.{none_from}
 use Rattle.node_rules.proofs.Judging.{view_known}
 use Rattle.bridge_prover.specs.Bridge.{BridgeState}
 use Rattle.bridge_prover.specs.Standing.{Stands}
-use Rattle.bridge_prover.specs.Full.{watched_by, history_of, full_outcome, is_forged_on, unless_forged, judged_on, next_judged}
+use Rattle.bridge_prover.specs.Full.{watched_by, history_of, is_forged_on, unless_forged, judged_on, next_judged}
 use Rattle.bridge_prover.proofs.Fully.{bridge_is_full}
 use Rattle.bridge_prover.proofs.Historied.{is_history, newest_history}
 use Rattle.bridge_prover.proofs.Refining.{fresh_stands}

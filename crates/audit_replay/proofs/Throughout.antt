@@ -7,9 +7,9 @@ use Rattle.leaf_record.specs.History.{supply}
 use Rattle.block_rules.specs.declared.chain.Chain.{Chain}
 use Rattle.block_rules.specs.declared.verdict.Verdict.{Verdict}
 use Rattle.node_rules.specs.Judging.{Rules}
-use Rattle.node_rules.specs.Machine.{ChainEvent, State, start, issued, full_judge, verdict_before, verdicts, goes_on, state_after, never_stops}
+use Rattle.node_rules.specs.Machine.{ChainEvent, State, start, issued, full_judge, verdict_before, verdicts, goes_on, state_after, never_stops, full_outcome}
 use Rattle.bridge_prover.specs.Standing.{Stands, IsBridge}
-use Rattle.bridge_prover.specs.Full.{watched_by, full_outcome, judged_on, next_judged}
+use Rattle.bridge_prover.specs.Full.{watched_by, judged_on, next_judged}
 use Rattle.bridge_prover.proofs.Fully.{bridge_is_full, next_judged_is_bridge}
 use Rattle.bridge_prover.proofs.Historied.{is_history, newest_history}
 use Rattle.bridge_prover.proofs.Refining.{fresh_is_bridge, fresh_stands}

@@ -47,7 +47,7 @@ impl<D: Digester> Model for Audit<D> {
 impl<D: Digester> Audit<D> {
     ghost use Rattle.node_rules.specs.Machine.{event_in};
     ghost use Rattle.node_rules.specs.Machine as machine;
-    ghost use Rattle.compact_node.specs.Node.{IsShort};
+    ghost use Rattle.node_rules.specs.Fitting.{IsShort};
     ghost use Rattle.bridge_prover.specs.Full.{JudgesAsFull, history_of, judged_on};
     ghost use Rattle.audit_replay.specs.Audit.{fresh_audit, next_audit, verdict_in, ShowsClash};
 

@@ -5,7 +5,7 @@ ghost use Rattle.leaf_record.specs.Leaf.{leaf_text};
 ghost use Rattle.uo_base.specs.FeedEvent.{event_of};
 ghost use Rattle.node_rules.specs.Machine.{BlockCame, event_in};
 ghost use Rattle.node_rules.specs.Reading.{handed_in};
-ghost use Rattle.compact_node.specs.Node.{IsShort};
+ghost use Rattle.node_rules.specs.Fitting.{IsShort};
 ghost use Rattle.bridge_prover.specs.Full.{judged_on};
 ghost use Rattle.block_rules.specs.Blocks.{external};
 ghost use Rattle.audit_replay.specs.Audit.{IsAudit, IsClashOf, ShowsClashOf, clash_beside, clash_on};

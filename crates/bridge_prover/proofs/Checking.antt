@@ -38,8 +38,9 @@ use Rattle.node_rules.proofs.Agreeing.{slots_alike}
 use Rattle.node_rules.proofs.Faults.{passes}
 use Rattle.node_rules.proofs.Serving.{asked_all, same_fault}
 use Rattle.node_rules.proofs.Telling.{count_told, empty_told, other_told}
-use Rattle.compact_node.specs.Judged.{IsFirst, proof_refusal}
-use Rattle.compact_node.proofs.Taking.{leaves-long}
+use Rattle.node_rules.specs.Judged.{IsFirst}
+use Rattle.node_rules.specs.Refusing.{proof_refusal}
+use Rattle.node_rules.proofs.ClaimedLeaves.{leaves-long}
 use Rattle.bridge_prover.specs.Shown.{AreKnown, IsChecked, fault_in}
 use Rattle.bridge_prover.proofs.Gathering.{somes-map}
 

@@ -1,6 +1,5 @@
 -- The first rule that a block breaks.
 use Rattle.std.proofs.Common.{◌≡◌, ℕ, ◌+◌, ◌*◌, ◌≤◌, List, [], ◌∷◌, ◌++◌, map, length, Option, Some, None, Err, sym, ap, ap₂, ◌∙◌, subst, arith}
-use Rattle.std.specs.Option.{option_or}
 use Rattle.std.proofs.lemmas.List.{length-map}
 use Rattle.uo_digest.specs.declared.digest.Digest.{Digest}
 use Rattle.block_codec.specs.Block.{Block, BlockFits, block_hash_of}
@@ -16,31 +15,21 @@ use Rattle.block_rules.specs.Blocks.{external, new_records}
 use Rattle.block_rules.specs.Rules.{block_steps}
 use Rattle.block_rules.specs.Money.{BlockSpends, spends_of, money_steps, found_of}
 use Rattle.block_rules.specs.Judged.{ShapeJudged, IsShaped}
-use Rattle.block_rules.proofs.Firsts.{first_of-append, each_passes}
+use Rattle.block_rules.proofs.Firsts.{each_passes}
 use Rattle.node_rules.specs.Judging.{Evidence, own, newest_of}
 use Rattle.node_rules.specs.Proving.{written_text}
 use Rattle.node_rules.proofs.Newest.{all_found}
 use Rattle.forest_place.specs.Position.{rows}
 use Rattle.bridge_prover.proofs.Owning.{own_same}
 use Rattle.bridge_prover.specs.Own.{own_in, newest_in, leaves_in}
-use Rattle.compact_node.specs.Judged.{IsFirst}
-use Rattle.compact_node.proofs.Deciding.{external_few}
+use Rattle.node_rules.specs.Judged.{IsFirst}
+use Rattle.node_rules.proofs.Counted.{external_few}
+use Rattle.node_rules.proofs.Firsts.{first-in, first-behind, none-both}
 use Rattle.bridge_prover.specs.Bridge.{BridgeState, refusal_on, message_by, bridge_with}
 use Rattle.bridge_prover.specs.Judged.{AreFound, IsReady, IsProved, first_missing}
 use Rattle.bridge_prover.specs.Standing.{IsBridge}
 use Rattle.bridge_prover.proofs.Gathering.{somes-map}
 use Rattle.bridge_prover.proofs.Next.{ready}
-
-pub first-in : (xs ys : List (Option Refusal)) (fault : RuleFault) → IsFirst (first_of xs) fault → IsFirst (first_of (xs ++ ys)) fault
-first-in xs ys (Refused why) e = first_of-append xs ys ∙ ap (λ x. option_or x (first_of ys)) e
-first-in xs ys NoMemory e = tt
-
-pub first-behind : (xs ys : List (Option Refusal)) (fault : RuleFault) → first_of xs ≡ None → IsFirst (first_of ys) fault → IsFirst (first_of (xs ++ ys)) fault
-first-behind xs ys (Refused why) passes e = first_of-append xs ys ∙ (ap (λ x. option_or x (first_of ys)) passes ∙ e)
-first-behind xs ys NoMemory passes e = tt
-
-pub all_pass : (xs ys : List (Option Refusal)) → first_of xs ≡ None → first_of ys ≡ None → first_of (xs ++ ys) ≡ None
-all_pass xs ys a b = first_of-append xs ys ∙ (ap (λ x. option_or x (first_of ys)) a ∙ b)
 
 one_first : (x : Option Refusal) (fault : RuleFault) → IsFirst x fault → IsFirst (first_of (x ∷ [])) fault
 one_first None (Refused why) e = e
@@ -99,7 +88,7 @@ module _ (s : BridgeState) (b : Block) where
             (first-behind evidence.steps on_money (Refused why) none_missing (ap first_of (sym same_money) ∙ e))
 
         pub block_passes : first_of (money_steps spends outputs) ≡ None → refusal_on s b ≡ None
-        block_passes e = all_pass before (evidence.steps ++ on_money) shaped.passes (all_pass evidence.steps on_money none_missing (ap first_of (sym same_money) ∙ e))
+        block_passes e = none-both before (evidence.steps ++ on_money) shaped.passes (none-both evidence.steps on_money none_missing (ap first_of (sym same_money) ∙ e))
 
 module _ (H : List ℕ → Digest) (text : Leaf → List ℕ) (s : BridgeState) (b : Block) (spends : BlockSpends) (numbers : List ℕ) (outputs : List Found) (rests : List Rest) (is : IsBridge H text s) (shaped : IsShaped s.rules.net s.rules.limits s.chain b spends) (known : AreFound s.held spends.external numbers outputs rests) where
   pub money_refused_by : (why : Refusal) → first_of (money_steps spends outputs) ≡ Some why → refusal_on s b ≡ Some why

@@ -14,7 +14,7 @@ use Rattle.block_rules.specs.Steps.{first_of}
 use Rattle.node_rules.specs.Machine.{BlockCame, verdict_by}
 use Rattle.node_rules.specs.Proving.{written_text}
 use Rattle.node_rules.specs.Reading.{Handed}
-use Rattle.compact_node.proofs.Firsts.{unlinked}
+use Rattle.node_rules.proofs.Firsts.{unlinked}
 use Rattle.bridge_prover.specs.Bridge.{BridgeState, refusal_on, verdict_on, message_on, next_bridge, bridge_by, after_block, told_if, message_by}
 use Rattle.bridge_prover.specs.Own.{own_in}
 use Rattle.bridge_prover.specs.Full.{judged_on, next_judged, unless_forged, kept_if, after_shown}

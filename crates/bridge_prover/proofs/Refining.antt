@@ -25,7 +25,7 @@ use Rattle.node_rules.specs.Proving.{written_text, text_beside}
 use Rattle.bridge_forest.specs.Blocks.{all_restored}
 use Rattle.output_index.specs.Held.{Held}
 use Rattle.reorg_undo.specs.Undo.{UndoRecord}
-use Rattle.compact_node.specs.Node.{gone_to}
+use Rattle.node_rules.specs.Machine.{gone_to}
 use Rattle.bridge_prover.specs.Own.{own_in, cut_in, unspent_in}
 use Rattle.bridge_prover.specs.Bridge.{BridgeState, fresh_bridge, refusal_on, chain_before, chain_back, restored_in, verdict_on, bridge_with, bridge_by, after_block, undone_by, gone_back, next_bridge, proof_by, message_by, told_if, message_on}
 use Rattle.bridge_prover.specs.Judged.{CanUndo}

@@ -35,7 +35,7 @@ use Rattle.cache_model.specs.Known.{known_at}
 use Rattle.output_index.specs.Held.{Held, leaf_at, NumbersRise}
 use Rattle.output_index.specs.Indexed.{IsIndexOf}
 use Rattle.output_index.proofs.Standing.{there_is_live}
-use Rattle.compact_node.proofs.Taking.{claim_at, claims-long}
+use Rattle.node_rules.proofs.ClaimedLeaves.{claim_at, claims-long}
 use Rattle.bridge_prover.specs.Shown.{IsHistory, shown_by, shown_at, shown_all, AreShown, IsShown}
 use Rattle.bridge_prover.proofs.Gathering.{somes-map}
 

@@ -38,8 +38,8 @@ use Rattle.node_rules.specs.Judging.{Evidence, message_steps, view_step, compact
 use Rattle.node_rules.specs.Machine.{SpendEach}
 use Rattle.node_rules.proofs.Judging.{view_judges}
 use Rattle.node_rules.proofs.Value.{middle, once, full_pays}
-use Rattle.compact_node.specs.Judged.{IsFirst}
-use Rattle.compact_node.proofs.Deciding.{external_few, found_long}
+use Rattle.node_rules.specs.Judged.{IsFirst}
+use Rattle.node_rules.proofs.Counted.{external_few, found_long}
 use Rattle.bridge_prover.specs.declared.bridge.judge.Shown.{Shown}
 use Rattle.bridge_prover.specs.Bridge.{BridgeState, bridge_with}
 use Rattle.bridge_prover.specs.Standing.{IsLiveIn, IsBridge}
@@ -48,7 +48,7 @@ use Rattle.bridge_prover.specs.Shown.{IsHistory, AreKnown, IsChecked, IsShown, I
 use Rattle.bridge_prover.specs.Full.{watched_by, history_of}
 use Rattle.bridge_prover.specs.Taken.{IsRightOf, IsWrongOf, IsAcceptedBy, AreRight, AreNotTaken, IsGone, IsCaught, IsNotTaken, fault_for}
 use Rattle.bridge_prover.proofs.Checking.{same_known, fault_same}
-use Rattle.bridge_prover.proofs.Deciding.{first-in, first-behind, all_pass}
+use Rattle.node_rules.proofs.Firsts.{first-in, first-behind, none-both}
 use Rattle.bridge_prover.proofs.Historied.{is_history, own_history, newest_history}
 use Rattle.bridge_prover.proofs.Next.{room, can_take}
 
@@ -96,7 +96,7 @@ module _ (H : List ℕ → Digest) (text : Leaf → List ℕ) (s : BridgeState) 
     honest right = and-false (is_none (first_of (before ++ message_steps ext handed))) _ (and-false (is_accepted H text (view_of H text scripts us) ext handed) _ (ap not right))
 
     by_all_passes : forged ≡ false → first_of before ≡ None → first_of by_view.steps ≡ None → first_of on_money ≡ None → refusal s.rules s.chain b by_all ≡ None
-    by_all_passes f shape steps money = view_judges H text scripts us s.rules s.chain b handed f ∙ all_pass before (by_view.steps ++ on_money) shape (all_pass by_view.steps on_money steps money)
+    by_all_passes f shape steps money = view_judges H text scripts us s.rules s.chain b handed f ∙ none-both before (by_view.steps ++ on_money) shape (none-both by_view.steps on_money steps money)
 
     by_money : (why : Refusal) → forged ≡ false → first_of before ≡ None → first_of by_view.steps ≡ None → first_of on_money ≡ Some why → refusal s.rules s.chain b by_all ≡ Some why
     by_money why f shape steps money =
@@ -151,7 +151,7 @@ module _ (H : List ℕ → Digest) (text : Leaf → List ℕ) (s : BridgeState) 
       let ms = message_steps (external b s.chain.blocks) (read m) in
       let parts = append_passes ms (view_step H text (view_of H text (watched_by s) us) (external b s.chain.blocks) (read m) ∷ []) w.passes in
       let fault : proof_fault H text (view_of H text (watched_by s) us) (points_of (external b s.chain.blocks)) m ≡ None = mapped-none _ (each_passes (view_step H text (view_of H text (watched_by s) us) (external b s.chain.blocks) (read m) ∷ []) 0 parts.1) in
-      let first = all_pass (block_steps s.rules.net s.rules.limits s.chain b) ms shape parts.0 in
+      let first = none-both (block_steps s.rules.net s.rules.limits s.chain b) ms shape parts.0 in
       forged-so _ _ _ first fault w.wrong
     where
       forged-so : (x : Option Refusal) (fault : Option ProofRefusal) (right : Bool) → x ≡ None → fault ≡ None → right ≡ false → (is_none x && (is_none fault && not right)) ≡ true
@@ -258,9 +258,9 @@ module _ (H : List ℕ → Digest) (text : Leaf → List ℕ) (s : BridgeState) 
   seen = view_of H text (watched_by s) (history_of s)
 
   read_right : (m : Message) (shown : Option Shown) → first_of (message_steps ext (read m)) ≡ None → IsAcceptedBy H text s ext m shown → AreRight H text s ext (read m) shown
-  read_right m None passes a = record { passes = all_pass (message_steps ext (read m)) (view_step H text seen ext (read m) ∷ []) passes (ap (λ x. option_or (option_map Why.Proof x) None) a.0); wrong = a.1 }
+  read_right m None passes a = record { passes = none-both (message_steps ext (read m)) (view_step H text seen ext (read m) ∷ []) passes (ap (λ x. option_or (option_map Why.Proof x) None) a.0); wrong = a.1 }
   read_right m (Some shown) passes a =
-      record { passes = all_pass (message_steps ext (read m)) (view_step H text seen ext (read m) ∷ []) passes (ap (λ x. option_or (option_map Why.Proof x) None) a.passes); right = a.right; numbers = a.numbers; found = a.found }
+      record { passes = none-both (message_steps ext (read m)) (view_step H text seen ext (read m) ∷ []) passes (ap (λ x. option_or (option_map Why.Proof x) None) a.passes); right = a.right; numbers = a.numbers; found = a.found }
 
   -- a message that was read
   pub message_right : (handed : Handed) (m : Message) (shown : Option Shown) → handed ≡ read m → first_of (message_steps ext handed) ≡ None → IsAcceptedBy H text s ext m shown → AreRight H text s ext handed shown
@@ -272,7 +272,7 @@ module _ (H : List ℕ → Digest) (text : Leaf → List ℕ) (s : BridgeState) 
   nothing_right handed shown is passes numbers found =
       subst (λ h. IsRightOf H text (watched_by s) (history_of s) ext h shown) (sym is)
       (let p : first_of (message_steps ext nothing) ≡ None = subst (λ h. first_of (message_steps ext h) ≡ None) is passes in
-      record { passes = all_pass (message_steps ext nothing) (None ∷ []) p refl; right = refl; numbers = numbers; found = found })
+      record { passes = none-both (message_steps ext nothing) (None ∷ []) p refl; right = refl; numbers = numbers; found = found })
 
 -- ---- a message, by forest and index
 

@@ -20,12 +20,11 @@ use Rattle.block_rules.specs.declared.verdict.Verdict.TheVariants.{Refused, TooD
 use Rattle.block_rules.specs.Blocks.{external, new_records}
 use Rattle.node_rules.specs.Messages.{Message, sent, number_of, targets}
 use Rattle.node_rules.specs.Judging.{Rules, refusal}
-use Rattle.node_rules.specs.Machine.{ChainEvent, BlockCame, RollbackCame, StrayCame, no_tip, verdict_by}
+use Rattle.node_rules.specs.Machine.{ChainEvent, BlockCame, RollbackCame, StrayCame, no_tip, gone_to, verdict_by}
 use Rattle.node_rules.specs.Proving.{written_text}
 use Rattle.bridge_forest.specs.Blocks.{all_restored}
 use Rattle.output_index.specs.Held.{Held, leaf_at}
 use Rattle.reorg_undo.specs.Undo.{UndoRecord}
-use Rattle.compact_node.specs.Node.{gone_to}
 use Rattle.bridge_prover.specs.Own.{own_in, numbered, spent_in, forgotten_in, cut_in, unspent_in}
 use Rattle.bridge_prover.specs.Watched.{known_in}
 

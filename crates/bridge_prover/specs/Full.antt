@@ -11,8 +11,8 @@ use Rattle.block_rules.specs.declared.verdict.Verdict.{Verdict}
 use Rattle.block_rules.specs.declared.verdict.Verdict.TheVariants.{Refused, Stray}
 use Rattle.block_rules.specs.Blocks.{external, new_records}
 use Rattle.node_rules.specs.Reading.{Handed}
-use Rattle.node_rules.specs.Judging.{Rules, Evidence, refusal, full, is_forged}
-use Rattle.node_rules.specs.Machine.{ChainEvent, BlockCame, RollbackCame, StrayCame, State, Outcome, full_judge, step, verdict_by}
+use Rattle.node_rules.specs.Judging.{Evidence, refusal, full, is_forged}
+use Rattle.node_rules.specs.Machine.{ChainEvent, BlockCame, RollbackCame, StrayCame, State, full_outcome, verdict_by}
 use Rattle.output_index.specs.Held.{Held, is_live, leaf_at}
 use Rattle.bridge_prover.specs.Bridge.{BridgeState, bridge_with, bridge_by, verdict_on, next_bridge}
 use Rattle.bridge_prover.specs.Standing.{IsBridge, Stands}
@@ -73,10 +73,6 @@ next_judged H text s StrayCame = s
 abbrev pub verdict_in : Judged → Option Verdict
 verdict_in (Said.Verdict v) = Some v
 verdict_in Said.Forged = None
-
--- what the node that holds every output makes of an event
-abbrev pub full_outcome : (List ℕ → Digest) → (Leaf → List ℕ) → List (List ℕ) → Rules → State → ChainEvent → Outcome
-full_outcome H text scripts rules t e = step rules (full_judge H text scripts rules) t e
 
 -- where s stands for what that node holds, that node says v of the event, nothing where it is forged, and s' stands for what it holds then
 abbrev pub JudgesAsFull : (List ℕ → Digest) → (Leaf → List ℕ) → BridgeState → ChainEvent → Option Verdict → BridgeState → Type 0

@@ -14,7 +14,7 @@ use Rattle.node_rules.specs.Known.{view_of}
 use Rattle.node_rules.specs.Messages.{Message, points_of}
 use Rattle.node_rules.specs.Reading.{Handed, read}
 use Rattle.node_rules.specs.Judging.{compact, is_right_message, entries_shown, found_by}
-use Rattle.compact_node.specs.Judged.{IsFirst}
+use Rattle.node_rules.specs.Judged.{IsFirst}
 use Rattle.bridge_prover.specs.declared.bridge.judge.Shown.{Shown}
 use Rattle.bridge_prover.specs.Bridge.{BridgeState}
 use Rattle.bridge_prover.specs.Full.{watched_by, history_of, is_forged_on, full_refusal_on, after_shown}

@@ -4,17 +4,17 @@ ghost use Rattle.leaf_record.specs.Leaf.{leaf_text};
 ghost use Rattle.block_rules.specs.declared.refusal.Refusal.TheVariants as Why;
 ghost use Rattle.cache_model.specs.Cache.{look};
 ghost use Rattle.cache_model.specs.Lists.{AscendByPlace};
-ghost use Rattle.compact_node.specs.Judged.{IsFirst, proof_refusal};
+ghost use Rattle.node_rules.specs.Judged.{IsFirst};
 ghost use Rattle.bridge_prover.specs.Shown.{IsChecked, fault_in};
 
 use crate::claims::claimed_leaves;
-use block_rules::{Outside, ProofRefusal, Refusal, RuleFault};
+use block_rules::{Outside, Refusal, RuleFault};
 use bridge_forest::Forest;
 use forest_place::Place;
 use leaf_record::LeafBuf;
-use node_rules::{full_hashes, targets_of};
+use node_rules::{full_hashes, proof_refusal_of, targets_of};
 use proof_shape::Targets;
-use proof_verify::{ProofFault, Scratch, check_and_delete};
+use proof_verify::{Scratch, check_and_delete};
 use proof_wire::MessageView;
 use std::alloc::Global;
 use std::sync::ledger::Ledger;
@@ -25,17 +25,6 @@ use uo_digest::{Digest, Digester, Steps};
 pub(crate) struct Checked {
     pub(crate) targets: Targets,
     pub(crate) hashes: Vec<Digest>,
-}
-
-// How a fault of a proof is told: the digests of a root that differs are left out.
-fn refusal_of(fault: ProofFault) -> ProofRefusal
-    ensures { result ≡ proof_refusal fault }
-{
-    match fault {
-        ProofFault::HashCount { want, got } => ProofRefusal::HashCount { want, got },
-        ProofFault::EmptyRoot { row } => ProofRefusal::EmptyRoot { row },
-        ProofFault::RootDiffers { row, .. } => ProofRefusal::RootDiffers { row },
-    }
 }
 
 /// Checks the proof in a message against the roots of the forest. `known` has the digests that a lean message leaves out. The
@@ -63,6 +52,6 @@ pub(crate) fn check_proof<D: Digester, L: Ledger>(
     let mut roots = forest.roots();
     match check_and_delete(&mut roots, &targets, &leaves, &hashes, &mut scratch, steps) {
         Ok(_) => Ok(Checked { targets, hashes }),
-        Err(fault) => Err(RuleFault::Refused(Refusal::Proof(refusal_of(fault)))),
+        Err(fault) => Err(RuleFault::Refused(Refusal::Proof(proof_refusal_of(fault)))),
     }
 }

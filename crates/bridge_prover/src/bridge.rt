@@ -3,7 +3,6 @@ ghost use Rattle.std.specs.Prelude.{◌≡◌, ◌+◌, ◌*◌, ◌<◌, ◌≤
 ghost use Rattle.block_codec.specs.Reading.{block_in};
 ghost use Rattle.forest_place.specs.Position.{rows};
 ghost use Rattle.leaf_record.specs.Leaf.{leaf_text};
-ghost use Rattle.node_rules.specs.Machine.{height_of};
 ghost use Rattle.uo_base.specs.FeedEvent.{event_of};
 
 mod judge;
@@ -13,12 +12,13 @@ use crate::find::{Spent, found_by, numbers_of};
 use crate::held::{cut, give_back, insert_all, keep, spend_all, undo_of, unspend_all};
 use crate::message::{Draft, written};
 use crate::watched::{append, cut_noted, hashes_of, keep_held, kept_targets, noted_of};
-use block_codec::{BareBlock, BlockFault, BlockView, block_hash, read_bare};
+use block_codec::{BlockView, block_hash};
 use block_rules::{Chain, Outside, Refusal, RuleFault, Spends, Verdict, money_rules, shape_rules};
 use bridge_forest::Forest;
 use forest_place::Place;
 use leaf_cache::Watch;
 use leaf_record::LeafBuf;
+use node_rules::{Arrival, receive, rolled_back};
 use output_index::Outputs;
 use proof_shape::Targets;
 use proof_wire::Rests;
@@ -76,10 +76,10 @@ impl<D: Digester> Bridge<D> {
     ghost use Rattle.block_rules.specs.Judged.{ShapeJudged};
     ghost use Rattle.block_rules.specs.declared.verdict.Verdict.TheVariants as Said;
     ghost use Rattle.node_rules.specs.Laws.{kept_after};
-    ghost use Rattle.node_rules.specs.Machine.{BlockCame, RollbackCame, event_in};
+    ghost use Rattle.node_rules.specs.Machine.{BlockCame, RollbackCame, event_in, gone_to};
     ghost use Rattle.node_rules.specs.Reading.{nothing};
-    ghost use Rattle.compact_node.specs.Judged.{IsFirst};
-    ghost use Rattle.compact_node.specs.Node.{IsShort, gone_to};
+    ghost use Rattle.node_rules.specs.Fitting.{IsShort};
+    ghost use Rattle.node_rules.specs.Judged.{IsFirst};
     ghost use Rattle.std.specs.List.Sorted.{IsNonDecreasing, IsPermutation};
     ghost use Rattle.output_index.specs.Held.{is_live as is_held_live};
     ghost use Rattle.proof_wire.specs.BlockProof.{message_text};
@@ -232,12 +232,7 @@ impl<D: Digester> Bridge<D> {
     fn gone_to(&self, count: u32) -> Verdict
         ensures { result ≡ gone_to count self.now.chain }
     {
-        Verdict::RolledBack {
-            count,
-            height: newest_height(self.chain.blocks),
-            hash: self.chain.tip,
-            leaves: self.chain.leaves,
-        }
+        rolled_back(count, self.chain())
     }
 
     fn go_back<L: Ledger>(&mut self, count: u32, steps: &mut Steps<L>)
@@ -437,27 +432,6 @@ impl<D: Digester> Bridge<D> {
         Ok(found_by(self.alloc, &self.outputs, numbers)?)
     }
 
-    // The first rule is that a block names the tip. Where it does not, none of its transactions is hashed.
-    fn take_bare<L: Ledger>(
-        &mut self,
-        block: BareBlock<'_>,
-        steps: &mut Steps<L>,
-    ) -> Result<Proved, NoMemory>
-        ensures verdict { IfOk result (λ p. p.verdict ≡ verdict_on self.old (BlockCame (Some block.entry) nothing)) }
-        ensures message { IfOk result (λ p. option_map (λ bytes. bytes.items) p.message ≡ message_on D.digest_of self.old (BlockCame (Some block.entry) nothing)) }
-        ensures next { OnOk result (self.new ≡ next_bridge D.digest_of leaf_text self.old (BlockCame (Some block.entry) nothing)) }
-        ensures stays { OnErr result (self.new ≡ self.old) }
-        ensures steps { steps.new ≤ steps.old + most_steps self.old (BlockCame (Some block.entry) nothing) }
-    {
-        let chain = self.chain();
-        if block.prev() == chain.tip {
-            let block = block.with_ids(self.alloc)?;
-            self.take_block(&block, steps)
-        } else {
-            Ok(self.refused(Some(block.hash()), Refusal::Link))
-        }
-    }
-
     fn take_block<L: Ledger>(
         &mut self,
         block: &BlockView<'_>,
@@ -497,10 +471,11 @@ impl<D: Digester> Bridge<D> {
         ensures stays { OnErr result (self.new ≡ self.old) }
         ensures steps { steps.new ≤ steps.old + most_steps self.old (BlockCame (block_in bytes.now) nothing) }
     {
-        match read_bare(self.alloc, bytes) {
-            Ok(block) => self.take_bare(block, steps),
-            Err(BlockFault::NotABlock) => Ok(self.refused(None, Refusal::Block)),
-            Err(BlockFault::NoMemory) => Err(NoMemory),
+        let chain = self.chain();
+        match receive(self.alloc, chain.tip, bytes)? {
+            Arrival::NoBlock => Ok(self.refused(None, Refusal::Block)),
+            Arrival::Unlinked(hash) => Ok(self.refused(Some(hash), Refusal::Link)),
+            Arrival::Linked(block) => self.take_block(&block, steps),
         }
     }
 
@@ -525,11 +500,4 @@ fn alone(verdict: Verdict) -> Proved
         verdict,
         message: None,
     }
-}
-
-// The height of the newest of so many blocks.
-fn newest_height(blocks: u32) -> Option<u32>
-    ensures { result ≡ height_of blocks }
-{
-    blocks.checked_sub(1)
 }

@@ -17,7 +17,7 @@ ghost use Rattle.bridge_prover.specs.Judged.{IsDraft, drafted, hashes_unknown};
 use bridge_forest::{BatchProof, Forest, Sibling};
 use cache_update::is_known;
 use forest_place::{Place, fixed_position};
-use proof_shape::{ShapeFault, TargetPaths, Targets};
+use proof_shape::{ShapeFault, Targets};
 use proof_wire::{Message, Rests};
 use std::alloc::{AllocError, Global};
 use uo_base::NoMemory;
@@ -119,22 +119,6 @@ fn hashes_of(alloc: Global, kept: &Targets, proof: &BatchProof) -> Result<Vec<Di
     Ok(hashes)
 }
 
-// The targets at these fixed positions, with their paths alone.
-fn paths_at(alloc: Global, n: u64, positions: &[u64]) -> Result<TargetPaths, NoMemory>
-    requires few { n < 2 ^ 40 }
-    requires short { length positions.now < 2 ^ 32 }
-    requires shape { shape_fault n [] 0 (map (place_by FixedPosition n) positions.now) ≡ None }
-    ensures { IfOk result (λ t. (t.leaves ≡ n) × (map (place_by FixedPosition n) positions.now ≡ map Some t.targets)) }
-{
-    match TargetPaths::new_fixed(alloc, n, positions) {
-        Ok(paths) => Ok(paths),
-        Err(ShapeFault::NoMemory) => Err(NoMemory),
-        Err(ShapeFault::Outside(_)) => unreachable!(),
-        Err(ShapeFault::Repeated(..)) => unreachable!(),
-        Err(ShapeFault::Beneath(..)) => unreachable!(),
-    }
-}
-
 // The targets at these fixed positions.
 pub(crate) fn targets_at(alloc: Global, n: u64, positions: &[u64]) -> Result<Targets, NoMemory>
     requires few { n < 2 ^ 40 }
@@ -142,8 +126,13 @@ pub(crate) fn targets_at(alloc: Global, n: u64, positions: &[u64]) -> Result<Tar
     requires shape { shape_fault n [] 0 (map (place_by FixedPosition n) positions.now) ≡ None }
     ensures { IfOk result (λ t. (t.leaves ≡ n) × (map (place_by FixedPosition n) positions.now ≡ map Some t.targets)) }
 {
-    let paths = paths_at(alloc, n, positions)?;
-    Ok(Targets::of(alloc, paths)?)
+    match Targets::new_fixed(alloc, n, positions) {
+        Ok(targets) => Ok(targets),
+        Err(ShapeFault::NoMemory) => Err(NoMemory),
+        Err(ShapeFault::Outside(_)) => unreachable!(),
+        Err(ShapeFault::Repeated(..)) => unreachable!(),
+        Err(ShapeFault::Beneath(..)) => unreachable!(),
+    }
 }
 
 /// What a message tells besides what the forest does: whether it is lean, where the kept entries stand, and the rests of what is spent.

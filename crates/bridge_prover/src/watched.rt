@@ -5,7 +5,6 @@ ghost use Rattle.forest_place.specs.Places.{places};
 ghost use Rattle.forest_model.specs.Cover.{HasShape};
 ghost use Rattle.cache_model.specs.Known.{is_watched, is_known};
 ghost use Rattle.cache_model.specs.Cache.{held};
-ghost use Rattle.cache_model.specs.Undo.{is_before_place};
 ghost use Rattle.bridge_forest.specs.State as forest_state;
 ghost use Rattle.output_index.specs.Held.{is_live, leaf_at};
 ghost use Rattle.bridge_prover.specs.Bridge.{target_of};
@@ -19,6 +18,7 @@ use bridge_forest::Forest;
 use forest_place::Place;
 use leaf_cache::Watch;
 use leaf_record::RecordView;
+use node_rules::is_before;
 use output_index::Outputs;
 use proof_shape::Targets;
 use std::alloc::{AllocError, Global};
@@ -130,13 +130,6 @@ pub(crate) fn kept_targets<D: Digester>(
         return Err(NoMemory);
     }
     targets_at(alloc, forest.leaves(), &positions)
-}
-
-// Whether one place comes before another: in a lower row, or in its row at a lower offset.
-fn is_before(place: Place, other: Place) -> bool
-    ensures { result ≡ is_before_place place other }
-{
-    place.row < other.row || (place.row == other.row && place.off < other.off)
 }
 
 // Two ascending lists as one.

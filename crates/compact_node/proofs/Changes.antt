@@ -18,8 +18,9 @@ use Rattle.forest_model.proofs.Moving.{moved-is_gone}
 use Rattle.forest_model.proofs.Pairs.{pair_right}
 use Rattle.proof_verify.specs.Verified.{IsChange, AreChanges, above_targets}
 use Rattle.cache_model.specs.Cache.{look, ArePairs, HasPairs, IsPairOf}
-use Rattle.cache_model.specs.Lists.{AscendByPlace}
-use Rattle.cache_model.specs.Steps.{put_all}
+use Rattle.cache_model.specs.declared.kept.Kept.{Kept}
+use Rattle.cache_model.specs.Lists.{AscendByPlace, leaf_places, moved_leaves}
+use Rattle.cache_model.specs.Steps.{held_deleted, put_all}
 use Rattle.cache_model.specs.Undo.{find, is_same_place, is_before_place, held_key}
 use Rattle.cache_model.proofs.Looking.{pairs_serve}
 use Rattle.cache_model.proofs.Stepping.{same_look, put_all_table, put_all_only, put_all_each, find_is}
@@ -29,7 +30,7 @@ use Rattle.cache_update.specs.Marks.{is_within, pairs_within}
 use Rattle.cache_update.proofs.Moves.{goes_within}
 use Rattle.cache_update.proofs.Passes.{filter_all}
 use Rattle.cache_update.proofs.Within.{put_all_in, passed}
-use Rattle.compact_node.specs.After.{left_at, left_of, changes_of}
+use Rattle.compact_node.specs.After.{left_at, left_of, changes_of, held_without}
 
 -- ---- lists of pairs that ascend
 
@@ -182,6 +183,10 @@ module _ (H : List ℕ → Digest) (n : ℕ) (ts : List Place) (hashes : List Di
       lt-ltb x.0.off (n / 2 ^ x.0.row) (goes_within n ts (n - change.place.row) change.place.row change.place.off x.0 refl change.within change.goes).1)
       (above_targets n ts) all_above)
       (All-nil (λ (x : Place × Digest). is_within n x.0 ≡ true)))
+
+  -- so by them as much is left of what is held
+  pub left_held : (pairs : List (Place × Digest)) → AreChanges H n ts hashes pairs → (ks : List Kept) (hs : List (Place × Digest)) → held_deleted n ts (pairs_within n pairs) (leaf_places (moved_leaves n ts ks)) hs ≡ held_without H n ts hashes ks hs
+  left_held pairs are ks hs = ap (λ ps. held_deleted n ts ps (leaf_places (moved_leaves n ts ks)) hs) (ap (pairs_within n) (changes_are pairs are) ∙ within_all)
 
 -- ---- of right hashes they are what the cache needs
 

@@ -1,5 +1,5 @@
 -- What was judged of a message: what it claims, the check of its proof, and what is deleted.
-use Rattle.std.proofs.Common.{◌≡◌, ◌≢◌, ℕ, ◌+◌, ◌*◌, ◌≤◌, Bool, true, false, List, [], ◌∷◌, ◌++◌, map, length, Option, Some, None, Err, refl, sym, ap, ap₂, ◌∙◌, subst, arith, inl, inr}
+use Rattle.std.proofs.Common.{◌≡◌, ◌≢◌, ℕ, ◌+◌, ◌*◌, ◌≤◌, Bool, true, false, List, [], ◌∷◌, ◌++◌, map, length, Option, Some, None, Err, refl, sym, ap, ap₂, ◌∙◌, subst, arith}
 use Rattle.std.specs.Prelude.{filter, option_map}
 use Rattle.std.specs.Option.{option_or}
 use Rattle.std.proofs.lemmas.List.{length-map}
@@ -16,7 +16,7 @@ use Rattle.forest_roots.specs.Stump.{Stump, IsStump, root_in}
 use Rattle.proof_shape.specs.Targeted.{Targeted}
 use Rattle.proof_verify.specs.declared.fault.ProofFault.{ProofFault}
 use Rattle.proof_verify.specs.declared.fault.ProofFault.TheVariants as Found
-use Rattle.proof_verify.specs.Verified.{IsProofFault, IsDeletedFrom, AreRootsAfter}
+use Rattle.proof_verify.specs.Verified.{IsProofFault, IsDeleted, AreRootsAfter}
 use Rattle.leaf_record.specs.Leaf.{Leaf}
 use Rattle.leaf_record.specs.History.{somes}
 use Rattle.proof_wire.specs.BlockProof.{BlockProof, targets_of}
@@ -33,23 +33,23 @@ use Rattle.forest_place.specs.Named.{place_by}
 use Rattle.node_rules.specs.Messages.{Message, in_full, named, targets, points_of, known_to}
 use Rattle.node_rules.specs.Accepting.{View, shape_fault, leaves_of, proof_fault}
 use Rattle.node_rules.specs.Reading.{Handed, nothing, unread, read, handed_in}
-use Rattle.node_rules.specs.Judged.{AreNamed, AreHashes, IsOtherCount, TargetsJudged, HashesJudged, IsMessageRead}
+use Rattle.node_rules.specs.Judged.{IsFirst, AreNamed, AreHashes, IsOtherCount, TargetsJudged, HashesJudged, IsMessageRead}
+use Rattle.node_rules.specs.Refusing.{proof_refusal}
 use Rattle.node_rules.specs.Judging.{message_steps, view_step}
 use Rattle.node_rules.proofs.Faults.{passes}
 use Rattle.node_rules.proofs.Serving.{same_fault}
 use Rattle.node_rules.proofs.Telling.{count_told, empty_told, other_told}
 use Rattle.compact_node.specs.After.{without}
 use Rattle.compact_node.specs.Node.{view_by, places_spent, hashes_over, hashes_spent}
-use Rattle.compact_node.specs.Claimed.{IsMisplaced}
-use Rattle.compact_node.specs.Judged.{IsFirst, proof_refusal, steps_over, IsFilledOut, IsClaim}
+use Rattle.compact_node.specs.Judged.{steps_over, IsFilledOut, IsClaim}
 use Rattle.std.specs.Prelude.{Result, Ok, IfErr}
 use Rattle.forest_model.specs.Cover.{IsGreatest}
 use Rattle.forest_model.specs.Evaluation.{evaluation}
 use Rattle.block_rules.proofs.Firsts.{first_of-append}
-use Rattle.compact_node.proofs.Firsts.{first-behind}
+use Rattle.node_rules.proofs.Firsts.{first-behind}
 use Rattle.compact_node.proofs.Deletions.{is_without}
 use Rattle.compact_node.proofs.Spending.{cover-none, needed-none}
-use Rattle.compact_node.proofs.Taking.{leaves-long}
+use Rattle.node_rules.proofs.ClaimedLeaves.{leaves-long}
 
 somes-map : {X : Type 0} (xs : List X) → somes (map Some xs) ≡ xs
 somes-map [] = refl
@@ -142,11 +142,6 @@ module _ (H : List ℕ → Digest) (text : Leaf → List ℕ) (v : View) (ext : 
     hashes_told (Refused (Why.Immature x i)) h = absurd h
     hashes_told (Refused (Why.Overspend x)) h = absurd h
     hashes_told (Refused (Why.Subsidy c a)) h = absurd h
-
-  -- so what is wrong with targets or hashes is the fault
-  pub misplaced_told : (e : RuleFault) → IsMisplaced v.n v.known m e → IsFaulted e
-  misplaced_told e (inl h) = targets_told e h
-  misplaced_told e (inr (t, judged, h)) = hashes_told t judged e h
 
 -- ---- the check of the proof of a message that was read, over roots and held digests
 
@@ -279,8 +274,8 @@ module _ (H : List ℕ → Digest) (text : Leaf → List ℕ) (f : Stump) (hs : 
       ∙ ap (λ z. option_or z None) (ap (option_map Why.Proof) (read_passes H text f hs ext m t leaves hashes c.claims a))
 
   -- an accepted proof deletes what was handed in
-  pub claim_taken : (handed : Handed) → IsClaimed handed → (g : Stump) → IsStump f → IsStump g → IsDeletedFrom H f t.targets leaves hashes g → IsTaken H text view f ext handed g
-  claim_taken handed c g s u d = record {
+  pub claim_taken : (handed : Handed) → IsClaimed handed → (pairs : List (Place × Digest)) (g : Stump) → IsStump f → IsStump g → IsDeleted H f t.targets leaves hashes pairs g → IsTaken H text view f ext handed g
+  claim_taken handed c pairs g s u d = record {
     passes = claim_passes handed c d.accepted;
     roots = is_without H f (places_spent f.leaves handed) (hashes_spent H view handed) g s u (claim_is handed c (λ xs ys. AreRootsAfter H f xs ys g) d.roots);
   }

@@ -21,7 +21,8 @@ use Rattle.compact_node.specs.After.{with_leaf, with_leaves, kept_with, held_wit
 use Rattle.compact_node.specs.Judged.{watched_leaf}
 use Rattle.compact_node.specs.Marked.{GoesOn}
 use Rattle.compact_node.proofs.Additions.{with_leaf-leaves}
-use Rattle.compact_node.proofs.Taking.{IsAppending, appending_begins, appended_once, take_one, got-map}
+use Rattle.node_rules.proofs.ClaimedLeaves.{got-map}
+use Rattle.compact_node.proofs.Taking.{IsAppending, appending_begins, appended_once, take_one}
 
 -- ---- lists whose head is taken off
 

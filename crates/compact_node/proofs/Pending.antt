@@ -9,7 +9,7 @@ use Rattle.leaf_record.specs.Leaf.{Leaf}
 use Rattle.cache_model.specs.Known.{is_watched}
 use Rattle.compact_node.specs.Judged.{watched_leaf}
 use Rattle.compact_node.specs.Pending.{pending}
-use Rattle.compact_node.proofs.Taking.{got-map}
+use Rattle.node_rules.proofs.ClaimedLeaves.{got-map}
 
 -- ---- the last of a list
 

@@ -6,19 +6,18 @@ ghost use Rattle.forest_roots.specs.Joined.{joins_of};
 ghost use Rattle.cache_model.specs.Known.{is_watched};
 ghost use Rattle.cache_model.specs.Lists.{moved_leaves, leaf_places, leaves_more};
 ghost use Rattle.cache_model.specs.Steps.{held_deleted};
-ghost use Rattle.leaf_cache.specs.Parted.{HasNothing, HaveSameLists};
+ghost use Rattle.leaf_cache.specs.Parted.{HaveSameLists};
 ghost use Rattle.cache_update.specs.Joins.{is_empty_of, added_by};
-ghost use Rattle.cache_update.specs.Marks.{Fits, kept_back, held_back, pairs_within};
+ghost use Rattle.cache_update.specs.Marks.{Fits, WasBegun, kept_back, held_back, pairs_within};
+ghost use Rattle.cache_update.specs.Refused.{IsOfForest};
 ghost use Rattle.compact_node.specs.After.{with_leaf, with_leaves, kept_with_all, held_with_all};
-ghost use Rattle.compact_node.specs.Claimed.{IfSent, targets_of};
 ghost use Rattle.compact_node.specs.Judged.{watched_leaf};
 ghost use Rattle.compact_node.specs.Marked.{GoesOn};
 ghost use Rattle.compact_node.specs.Pending.{pending};
 
-use crate::claims::SpendProof;
-use crate::unwatched::grow_unwatched;
+use crate::unwatched::{grow_unwatched, watches_nothing};
 use block_rules::Spends;
-use cache_update::{Mark, after_add, after_delete, begin};
+use cache_update::{BeginFault, Mark, after_add, after_delete, begin};
 use forest_roots::{Joins, Roots};
 use leaf_cache::{Cache, Watch};
 use leaf_record::{LeafBuf, Record, RecordView, leaf_digest};
@@ -151,6 +150,34 @@ fn append<D: Digester, L: Ledger>(
     }
 }
 
+// A mark for the block. The cache is of the targets' forest. Where 2^32 or more entries would be kept, the node says that there
+// is no memory.
+fn begin_block<D>(
+    alloc: Global,
+    cache: &mut Cache<D>,
+    targets: &Targets,
+    adds: u64,
+    watched: u64,
+) -> Result<Mark, NoMemory>
+    requires { IsOfForest targets.now.leaves cache.old.parts }
+    ensures lists { HaveSameLists cache.new.parts cache.old.parts }
+    ensures watch { cache.new.watch ≡ cache.old.watch }
+    ensures kept_room { cache.old.parts.kept_room ≤ cache.new.parts.kept_room }
+    ensures held_room { cache.old.parts.held_room ≤ cache.new.parts.held_room }
+    ensures fits { IfOk result (λ m. Fits m cache.new.parts) }
+    ensures begun { IfOk result (λ m. WasBegun targets.now m cache.new.parts) }
+    ensures kept_back { IfOk result (λ m. kept_back m cache.new.parts.kept ≡ cache.old.parts.kept) }
+    ensures held_back { IfOk result (λ m. held_back m cache.new.parts.held ≡ cache.old.parts.held) }
+    ensures left { IfOk result (λ m. (m.leaves ≡ targets.now.leaves) × (m.adds ≡ adds) × (m.watched ≡ watched)) }
+{
+    match begin(alloc, cache, targets, adds, watched) {
+        Ok(mark) => Ok(mark),
+        Err(BeginFault::Elsewhere) => unreachable!(),
+        Err(BeginFault::TooMany) => Err(NoMemory),
+        Err(BeginFault::NoMemory) => Err(NoMemory),
+    }
+}
+
 // The same where something may be watched.
 fn grow_watched<D: Digester, L: Ledger>(
     alloc: Global,
@@ -164,6 +191,7 @@ fn grow_watched<D: Digester, L: Ledger>(
     steps: &mut Steps<L>,
 ) -> Result<Mark, NoMemory>
     requires entries { targets.now.leaves ≡ roots.old.leaves }
+    requires forest { IsOfForest roots.old.leaves cache.old.parts }
     requires few { roots.old.leaves + length spends.now.new < 2 ^ 40 }
     ensures roots { OnOk result (roots.new ≡ with_leaves D.digest_of roots.old (map (λ leaf. D.digest_of (leaf_text leaf)) spends.now.new)) }
     ensures kept { OnOk result (cache.new.parts.kept ≡ kept_with_all D.digest_of leaf_text cache.old.watch roots.old spends.now.new (moved_leaves targets.now.leaves targets.now.targets cache.old.parts.kept)) }
@@ -180,9 +208,10 @@ fn grow_watched<D: Digester, L: Ledger>(
 {
     let leaves = watched_in(alloc, cache.watch(), spends)?;
     let watched = leaves.len() as u64;
-    let mut mark = begin(alloc, cache, targets, spends.new_count(), watched)?;
+    let mut mark = begin_block(alloc, cache, targets, spends.new_count(), watched)?;
     after_delete(cache, &mut mark, targets, changes);
     append(cache, &mut mark, roots, room, joins, spends, leaves, steps);
+    mark.shrink();
     Ok(mark)
 }
 
@@ -195,18 +224,18 @@ pub(crate) fn grow<D: Digester, L: Ledger>(
     roots: &mut Roots<D>,
     room: &mut LeafBuf<D>,
     joins: &mut Joins,
-    proof: &SpendProof<'_>,
+    targets: &Targets,
     changes: &Changes<'_>,
     spends: &Spends<'_>,
     steps: &mut Steps<L>,
 ) -> Result<Mark, NoMemory>
-    requires entries { (targets_of proof.now).leaves ≡ roots.old.leaves }
-    requires sent { IfSent proof.now ((cache.old.watch ≡ []) × HasNothing cache.old.parts) }
+    requires entries { targets.now.leaves ≡ roots.old.leaves }
+    requires forest { IsOfForest roots.old.leaves cache.old.parts }
     requires few { roots.old.leaves + length spends.now.new < 2 ^ 40 }
     ensures roots { OnOk result (roots.new ≡ with_leaves D.digest_of roots.old (map (λ leaf. D.digest_of (leaf_text leaf)) spends.now.new)) }
-    ensures kept { OnOk result (cache.new.parts.kept ≡ kept_with_all D.digest_of leaf_text cache.old.watch roots.old spends.now.new (moved_leaves (targets_of proof.now).leaves (targets_of proof.now).targets cache.old.parts.kept)) }
+    ensures kept { OnOk result (cache.new.parts.kept ≡ kept_with_all D.digest_of leaf_text cache.old.watch roots.old spends.now.new (moved_leaves targets.now.leaves targets.now.targets cache.old.parts.kept)) }
     ensures held { OnOk result (cache.new.parts.held ≡ held_with_all D.digest_of leaf_text cache.old.watch roots.old spends.now.new
-        (held_deleted (targets_of proof.now).leaves (targets_of proof.now).targets (pairs_within (targets_of proof.now).leaves changes.now) (leaf_places (moved_leaves (targets_of proof.now).leaves (targets_of proof.now).targets cache.old.parts.kept)) cache.old.parts.held)) }
+        (held_deleted targets.now.leaves targets.now.targets (pairs_within targets.now.leaves changes.now) (leaf_places (moved_leaves targets.now.leaves targets.now.targets cache.old.parts.kept)) cache.old.parts.held)) }
     ensures fits { IfOk result (λ mark. Fits mark cache.new.parts) }
     ensures kept_back { IfOk result (λ mark. kept_back mark cache.new.parts.kept ≡ cache.old.parts.kept) }
     ensures held_back { IfOk result (λ mark. held_back mark cache.new.parts.held ≡ cache.old.parts.held) }
@@ -216,10 +245,11 @@ pub(crate) fn grow<D: Digester, L: Ledger>(
     ensures held_room { cache.old.parts.held_room ≤ cache.new.parts.held_room }
     ensures steps { steps.new ≤ steps.old + 2 * length spends.now.new + 40 }
 {
-    match proof {
-        SpendProof::Sent(..) => grow_unwatched(alloc, cache, roots, room, spends, steps),
-        SpendProof::Whole(targets, _) => grow_watched(
+    if watches_nothing(cache) {
+        grow_unwatched(alloc, cache, roots, room, spends, steps)
+    } else {
+        grow_watched(
             alloc, cache, roots, room, joins, targets, changes, spends, steps,
-        ),
+        )
     }
 }

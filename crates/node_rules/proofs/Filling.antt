@@ -15,10 +15,7 @@ use Rattle.forest_model.specs.Evaluation.{beside, asked}
 use Rattle.forest_model.proofs.Lists.{need_ascending}
 use Rattle.proof_shape.specs.Targeted.{Targeted}
 use Rattle.node_rules.specs.Messages.{Message, known_to}
-use Rattle.std.specs.Prelude.{Result, Ok, Err, IsErrAnd}
-use Rattle.std.specs.Global.{Vec}
-use Rattle.block_rules.specs.declared.fault.RuleFault.{RuleFault}
-use Rattle.node_rules.specs.Judged.{AreHashes, IsOtherCount, IsMiscounted, HashesJudged}
+use Rattle.node_rules.specs.Judged.{AreHashes, IsOtherCount}
 use Rattle.cache_model.specs.Cache.{look}
 use Rattle.cache_model.specs.Lists.{AscendByPlace}
 use Rattle.cache_model.specs.Undo.{find, is_same_place, is_before_place, held_key}
@@ -297,9 +294,3 @@ module _ (m : Message) (t : Targeted) (known : ℕ → ℕ → Option Digest) (n
   pub given_are : (want got : ℕ) (hashes : List Digest) → want ≡ length needed → got ≡ length m.proof.hashes → got ≡ want → hashes ≡ m.proof.hashes → AreHashes m t known hashes
   given_are want got hashes w g e is =
       are_hashes m t known [] unknown needed (unknown_all needed) needed_is refl want got hashes (w ∙ sym (nothing_found needed)) g e (is ∙ nothing_filled needed m.proof.hashes 0 (omega (arith, w, g, e)))
-
--- a wrong count that is handed on
-pub handed_judged : (m : Message) (t : Targeted) (known : ℕ → ℕ → Option Digest) (result : Result (Vec Digest) RuleFault) (fault : RuleFault) → IsErrAnd result (λ e. e ≡ fault) →
-    IsMiscounted m t known fault → HashesJudged m t known result
-handed_judged m t known (Ok x) fault h p = absurd h
-handed_judged m t known (Err e) fault h p = subst (IsMiscounted m t known) (sym h) p

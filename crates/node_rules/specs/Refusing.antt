@@ -1,13 +1,16 @@
--- How faults of reading and of targets are told.
+-- How faults of reading, of targets and of proofs are told.
 use Rattle.std.specs.Prelude.{◌≡◌, ℕ, List, Result, Ok, Err}
 use Rattle.proof_wire.specs.declared.fault.MessageFault.{MessageFault}
 use Rattle.proof_wire.specs.declared.fault.MessageFault.TheVariants.{NotAMessage, Version}
 use Rattle.proof_wire.specs.declared.fault.MessageFault.TheVariants as Unread
 use Rattle.proof_shape.specs.declared.fault.ShapeFault.{ShapeFault}
 use Rattle.proof_shape.specs.declared.fault.ShapeFault.TheVariants as Shape
+use Rattle.proof_verify.specs.declared.fault.ProofFault.{ProofFault}
+use Rattle.proof_verify.specs.declared.fault.ProofFault.TheVariants as Fault
 use Rattle.block_rules.specs.declared.fault.RuleFault.{RuleFault}
 use Rattle.block_rules.specs.declared.fault.RuleFault.TheVariants.{Refused, NoMemory}
 use Rattle.block_rules.specs.declared.refusal.Refusal.TheVariants as Why
+use Rattle.block_rules.specs.declared.refusal.ProofRefusal.{ProofRefusal}
 use Rattle.block_rules.specs.declared.refusal.ProofRefusal.TheVariants as Target
 use Rattle.node_rules.specs.Messages.{Message}
 use Rattle.node_rules.specs.Reading.{unread, read, message_in}
@@ -28,3 +31,9 @@ IsRefusedAs (Shape.Outside i) fault = fault ≡ Refused (Why.Proof (Target.Outsi
 IsRefusedAs (Shape.Repeated i j) fault = fault ≡ Refused (Why.Proof (Target.Repeated i j))
 IsRefusedAs (Shape.Beneath i j) fault = fault ≡ Refused (Why.Proof (Target.Beneath i j))
 IsRefusedAs Shape.NoMemory fault = fault ≡ NoMemory
+
+-- the digests of a root that differs are left out
+abbrev pub proof_refusal : ProofFault → ProofRefusal
+proof_refusal (Fault.HashCount want got) = Target.HashCount want got
+proof_refusal (Fault.EmptyRoot row) = Target.EmptyRoot row
+proof_refusal (Fault.RootDiffers row had computed) = Target.RootDiffers row

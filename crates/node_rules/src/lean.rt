@@ -6,21 +6,21 @@ ghost use Rattle.forest_place.specs.Places.{IsBefore, IsAscending};
 ghost use Rattle.node_rules.specs.Messages.{known_to};
 ghost use Rattle.cache_model.specs.Cache.{look};
 ghost use Rattle.cache_model.specs.Lists.{AscendByPlace};
-ghost use Rattle.forest_model.specs.Cover.{need};
-ghost use Rattle.proof_shape.specs.Targeted.{Targeted};
-ghost use Rattle.node_rules.specs.Judged.{HashesJudged, SentJudged};
+ghost use Rattle.cache_model.specs.Undo.{is_before_place};
+ghost use Rattle.node_rules.specs.Judged.{HashesJudged};
 ghost use Rattle.node_rules.specs.Filled.{IsFrom, nones, filled, IsNextHash};
 
 use block_rules::{ProofRefusal, Refusal, RuleFault};
 use forest_place::Place;
-use proof_shape::{TargetPaths, Targets};
+use proof_shape::Targets;
 use proof_wire::MessageView;
 use std::alloc::{AllocError, Global};
-use uo_digest::{Digest, Digests};
+use uo_digest::Digest;
 
 /// Whether one place comes before another: in a lower row, or in its row at a lower offset.
-fn is_before(place: Place, other: Place) -> bool
-    ensures { IsTrue result ↔ IsBefore place other }
+pub fn is_before(place: Place, other: Place) -> bool
+    ensures means { IsTrue result ↔ IsBefore place other }
+    ensures is { result ≡ is_before_place place other }
 {
     place.row < other.row || (place.row == other.row && place.off < other.off)
 }
@@ -134,30 +134,7 @@ fn all_hashes(alloc: Global, message: &MessageView<'_>) -> Result<Vec<Digest>, A
     Ok(hashes)
 }
 
-/// The hashes of all needed places, of which there are so many, where nothing is known: a message gives them all.
-fn counted_hashes<'a>(message: &MessageView<'a>, want: u64) -> Result<Digests<'a>, RuleFault>
-    ensures is { IfOk result (λ hashes. hashes ≡ message.now.proof.hashes) }
-    ensures judged { (t : Targeted) (k : ℕ → ℕ → Option Digested) → want ≡ length (need t.leaves t.targets) → ((row off : ℕ) → known_to message.now.lean k row off ≡ None) → SentJudged message.now t k result }
-{
-    let got = message.hash_count();
-    if got != want {
-        return Err(RuleFault::Refused(Refusal::Proof(ProofRefusal::HashCount { want, got })));
-    }
-    Ok(message.hashes())
-}
-
-/// The hashes of all needed places, in ascending position, for one who knows none of them: as they lie in the message. It refuses
-/// a message that gives another number of hashes.
-pub fn sent_hashes<'a>(
-    message: &MessageView<'a>,
-    paths: &TargetPaths,
-) -> Result<Digests<'a>, RuleFault>
-    ensures { (k : ℕ → ℕ → Option Digested) → ((row off : ℕ) → known_to message.now.lean k row off ≡ None) → SentJudged message.now paths.now k result }
-{
-    counted_hashes(message, paths.needed_count() as u64)
-}
-
-/// A list of the same.
+/// The hashes of all needed places, where nothing is known: a message gives them all.
 fn given_hashes(
     alloc: Global,
     message: &MessageView<'_>,
@@ -165,7 +142,11 @@ fn given_hashes(
 ) -> Result<Vec<Digest>, RuleFault>
     ensures { (k : ℕ → ℕ → Option Digested) → ((row off : ℕ) → known_to message.now.lean k row off ≡ None) → HashesJudged message.now targets.now k result }
 {
-    counted_hashes(message, targets.needed().len() as u64)?;
+    let want = targets.needed().len() as u64;
+    let got = message.hash_count();
+    if got != want {
+        return Err(RuleFault::Refused(Refusal::Proof(ProofRefusal::HashCount { want, got })));
+    }
     Ok(all_hashes(alloc, message)?)
 }
 

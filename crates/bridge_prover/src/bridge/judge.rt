@@ -9,10 +9,10 @@ use crate::Judged;
 use crate::accept::check_proof;
 use crate::claims::found_shown;
 use crate::shown::right_entries;
-use block_codec::{BareBlock, BlockFault, BlockView, block_hash, read_bare};
+use block_codec::{BlockView, block_hash};
 use block_rules::{Found, Outside, Refusal, RuleFault, Spends, Verdict, money_rules};
 use forest_place::Place;
-use node_rules::message_rules;
+use node_rules::{Arrival, message_rules, receive};
 use proof_wire::MessageView;
 use std::sync::ledger::Ledger;
 use uo_base::{Event, NoMemory};
@@ -29,11 +29,10 @@ impl<D: Digester> Bridge<D> {
     ghost use Rattle.block_codec.specs.Block.{BlockFits, block_hash_of};
     ghost use Rattle.block_rules.specs.declared.refusal.Refusal.TheVariants as Why;
     ghost use Rattle.block_rules.specs.declared.verdict.Verdict.TheVariants as Said;
-    ghost use Rattle.node_rules.specs.Fitting.{EventFits};
+    ghost use Rattle.node_rules.specs.Fitting.{EventFits, IsShort};
+    ghost use Rattle.node_rules.specs.Judged.{IsFirst};
     ghost use Rattle.node_rules.specs.Machine.{BlockCame, event_in};
     ghost use Rattle.node_rules.specs.Reading.{handed_in};
-    ghost use Rattle.compact_node.specs.Judged.{IsFirst};
-    ghost use Rattle.compact_node.specs.Node.{IsShort};
     ghost use Rattle.bridge_prover.specs.Full.{JudgesAsFull, LevelsJudged, history_of, judged_on, next_judged, verdict_in, watched_by};
     ghost use Rattle.bridge_prover.specs.Shown.{AreKnown};
     ghost use Rattle.bridge_prover.specs.Taken.{AreRight, AreNotTaken, IsAcceptedBy, IsTaken, IsNotTaken, fault_for};
@@ -82,32 +81,11 @@ impl<D: Digester> Bridge<D> {
         ensures stays { OnErr result (self.new ≡ self.old) }
         ensures fits { IfOk result (λ j. EventFits (BlockCame (block_in bytes.now) (handed_in (option_copied message.entry)))) }
     {
-        match read_bare(self.alloc, bytes) {
-            Ok(block) => self.judge_bare(block, message, steps),
-            Err(BlockFault::NotABlock) => Ok(self.turned_down(None, Refusal::Block)),
-            Err(BlockFault::NoMemory) => Err(NoMemory),
-        }
-    }
-
-    // The first rule is that a block names the tip. Where it does not, none of its transactions is hashed.
-    fn judge_bare<L: Ledger>(
-        &mut self,
-        block: BareBlock<'_>,
-        message: Option<&[u8]>,
-        steps: &mut Steps<L>,
-    ) -> Result<Judged, NoMemory>
-        requires { BlockFits block }
-        ensures verdict { IfOk result (λ j. verdict_in j ≡ judged_on D.digest_of leaf_text self.old (BlockCame (Some block.entry) (handed_in (option_copied message.entry)))) }
-        ensures next { OnOk result (self.new ≡ next_judged D.digest_of leaf_text self.old (BlockCame (Some block.entry) (handed_in (option_copied message.entry)))) }
-        ensures stays { OnErr result (self.new ≡ self.old) }
-        ensures fits { BlockFits block.entry }
-    {
         let chain = self.chain();
-        if block.prev() == chain.tip {
-            let block = block.with_ids(self.alloc)?;
-            self.judge_block(&block, message, steps)
-        } else {
-            Ok(self.turned_down(Some(block.hash()), Refusal::Link))
+        match receive(self.alloc, chain.tip, bytes)? {
+            Arrival::NoBlock => Ok(self.turned_down(None, Refusal::Block)),
+            Arrival::Unlinked(hash) => Ok(self.turned_down(Some(hash), Refusal::Link)),
+            Arrival::Linked(block) => self.judge_block(&block, message, steps),
         }
     }
 

@@ -1,7 +1,7 @@
 //! The auditor, by a digester whose digests are worked out by hand.
 ghost use Rattle.std.specs.Prelude.{◌≡◌};
 ghost use Rattle.uo_base.specs.FeedEvent.{event_of};
-ghost use Rattle.compact_node.specs.Node.{IsShort};
+ghost use Rattle.node_rules.specs.Fitting.{IsShort};
 
 mod forged;
 mod supplies;

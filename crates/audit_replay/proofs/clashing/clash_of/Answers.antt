@@ -5,7 +5,7 @@ use Rattle.block_rules.specs.Money.{BlockSpends}
 use Rattle.node_rules.specs.Judged.{MessageJudged, handed_as}
 use Rattle.node_rules.specs.Reading.{handed_in}
 use Rattle.std.proofs.Common.{Err}
-use Rattle.compact_node.proofs.Deciding.{external_few}
+use Rattle.node_rules.proofs.Counted.{external_few}
 use Rattle.bridge_prover.specs.Full.{history_of, watched_by}
 use Rattle.bridge_prover.specs.Shown.{AreKnown}
 use Rattle.bridge_prover.proofs.Historied.{known_so}

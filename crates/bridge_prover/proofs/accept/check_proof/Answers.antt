@@ -3,7 +3,7 @@ use Rattle.leaf_record.specs.Leaf.{leaf_text}
 use Rattle.block_rules.specs.declared.refusal.Refusal.TheVariants as Why
 use Rattle.cache_model.specs.Cache.{look}
 use Rattle.node_rules.specs.Judged.{AreNamed}
-use Rattle.compact_node.proofs.Deciding.{handed_on}
+use Rattle.node_rules.proofs.Handing.{handed_on}
 use Rattle.bridge_prover.proofs.Checking.{miscounted, leaf_each, refused_by, checked_by}
 use Rattle.bridge_prover.proofs.accept.check_proof.Goals as goal
 
@@ -32,4 +32,4 @@ returns-in-Err-clause-err g c =
     refused_by g.D.Digester.digest_of leaf_text c.args.forest.now.entries (look c.args.known.now) c.args.external.now c.args.message.now c.in_ok-targets.targets named
     c.roots-roots.result c.roots-roots.ensures c.in_ok-hashes.hashes.items c.in_ok-hashes.ensures
     c.in-Err.fault _ _ (c.deref.ensures.value ∙ c.in_ok-leaves.ensures) c.deref-2.ensures.value c.in-Err.ensures.answer.0
-    ∙ ap (λ x. Some (Why.Proof x)) (sym c.refusal_of.ensures)
+    ∙ ap (λ x. Some (Why.Proof x)) (sym c.proof_refusal_of.ensures)

@@ -1,6 +1,6 @@
 use Rattle.leaf_record.specs.Leaf.{leaf_text}
 use Rattle.node_rules.proofs.Told.{one_more}
-use Rattle.compact_node.proofs.Taking.{claim_next, claims_all}
+use Rattle.node_rules.proofs.ClaimedLeaves.{claim_next, claims_all}
 use Rattle.bridge_prover.proofs.claims.claimed_leaves.Goals as goal
 
 pub loop-i-preserved : goal.loop-i-preserved

@@ -2,8 +2,8 @@ use Rattle.std.proofs.Common.{◌≡◌, None, sym, ap, ◌∙◌, subst, length
 use Rattle.leaf_record.specs.Leaf.{leaf_text}
 use Rattle.block_rules.specs.Steps.{first_of}
 use Rattle.block_rules.specs.Money.{money_steps}
-use Rattle.compact_node.specs.Judged.{IsFirst}
-use Rattle.compact_node.proofs.Deciding.{handed_on}
+use Rattle.node_rules.specs.Judged.{IsFirst}
+use Rattle.node_rules.proofs.Handing.{handed_on}
 use Rattle.bridge_prover.specs.Judged.{AreFound, first_missing}
 use Rattle.bridge_prover.proofs.Deciding.{shape_refused, missing_refused, money_refused_by, found_count, ready_by, proved_by, steps_by}
 use Rattle.bridge_prover.proofs.bridge.Bridge.pass.Goals as goal

@@ -2,7 +2,7 @@ use Rattle.std.proofs.Common.{◌≡◌, true, length, ap, ◌∙◌, arith}
 use Rattle.std.specs.Prelude.{nat_le}
 use Rattle.std.proofs.lemmas.Bool.{le-leb}
 use Rattle.leaf_record.specs.Leaf.{leaf_text}
-use Rattle.compact_node.specs.Node.{gone_to}
+use Rattle.node_rules.specs.Machine.{gone_to}
 use Rattle.bridge_prover.specs.Bridge.{BridgeState}
 use Rattle.bridge_prover.proofs.Refining.{chain-back}
 use Rattle.bridge_prover.proofs.bridge.Bridge.roll_back.Goals as goal

@@ -5,7 +5,7 @@ use Rattle.block_rules.specs.declared.refusal.Refusal.TheVariants as Why
 use Rattle.node_rules.specs.Judged.{handed_as}
 use Rattle.node_rules.specs.Known.{view_of}
 use Rattle.node_rules.specs.Reading.{handed_in}
-use Rattle.compact_node.specs.Judged.{IsFirst}
+use Rattle.node_rules.specs.Judged.{IsFirst}
 use Rattle.bridge_prover.specs.Full.{history_of, watched_by}
 use Rattle.bridge_prover.specs.Shown.{AreKnown}
 use Rattle.bridge_prover.specs.Standing.{IsBridge}

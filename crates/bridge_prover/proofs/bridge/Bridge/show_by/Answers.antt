@@ -3,8 +3,8 @@ use Rattle.std.specs.Prelude.{option_map}
 use Rattle.leaf_record.specs.Leaf.{leaf_text}
 use Rattle.block_rules.specs.declared.refusal.Refusal.TheVariants as Why
 use Rattle.cache_model.specs.Cache.{look}
-use Rattle.compact_node.specs.Judged.{IsFirst}
-use Rattle.compact_node.proofs.Deciding.{handed_on}
+use Rattle.node_rules.specs.Judged.{IsFirst}
+use Rattle.node_rules.proofs.Handing.{handed_on}
 use Rattle.bridge_prover.specs.Bridge.{BridgeState}
 use Rattle.bridge_prover.specs.Standing.{IsBridge}
 use Rattle.bridge_prover.specs.Shown.{IsChecked, IsShownBy, fault_in}

@@ -4,7 +4,8 @@ use Rattle.leaf_record.specs.Leaf.{leaf_text}
 use Rattle.block_rules.specs.Steps.{first_of}
 use Rattle.block_rules.specs.Money.{money_steps}
 use Rattle.node_rules.specs.Reading.{handed_in}
-use Rattle.compact_node.proofs.Deciding.{external_few, handed_on}
+use Rattle.node_rules.proofs.Counted.{external_few}
+use Rattle.node_rules.proofs.Handing.{handed_on}
 use Rattle.bridge_prover.specs.Bridge.{BridgeState, bridge_with}
 use Rattle.bridge_prover.specs.Judged.{IsReady}
 use Rattle.bridge_prover.specs.Taken.{AreRight}

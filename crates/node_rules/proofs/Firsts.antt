@@ -14,7 +14,7 @@ use Rattle.block_rules.specs.declared.refusal.Refusal.TheVariants as Why
 use Rattle.block_rules.specs.Steps.{first_of, unless}
 use Rattle.block_rules.specs.Rules.{block_steps}
 use Rattle.block_rules.proofs.Firsts.{first_of-append}
-use Rattle.compact_node.specs.Judged.{IsFirst}
+use Rattle.node_rules.specs.Judged.{IsFirst}
 
 pub first-in : (xs ys : List (Option Refusal)) (fault : RuleFault) → IsFirst (first_of xs) fault → IsFirst (first_of (xs ++ ys)) fault
 first-in xs ys (Refused why) e = first_of-append xs ys ∙ ap (λ z. option_or z (first_of ys)) e
