@@ -1,15 +1,12 @@
 -- What `audit` writes of a feed is what an auditor says and shows, and that is what the node says that holds every output, up to the first forged
 -- event.
-use Rattle.std.proofs.Common.{◌≡◌, ℕ, suc, ◌+◌, ◌<◌, ◌^◌, Bool, true, false, cond, ◌||◌, List, [], ◌∷◌, ◌++◌, length, map, Option, Some, None, Result, Ok, Err, IfOk, refl, sym, ap, ap₂, subst, ◌∙◌, arith, append-nil, append_assoc}
+use Rattle.std.proofs.Common.{◌≡◌, ℕ, suc, ◌+◌, ◌<◌, ◌^◌, Bool, true, false, cond, ◌||◌, List, [], ◌∷◌, ◌++◌, length, map, Option, Some, None, refl, sym, ap, ap₂, ◌∙◌, arith, append-nil, append_assoc}
 use Rattle.std.specs.Prelude.{not, is_none}
 use Rattle.std.specs.List.{flat_map, list_any}
-use Rattle.std.specs.Io.KnownBytes.{Appends}
-use Rattle.std.proofs.KnownBytes.{Appends-nil}
 use Rattle.std.proofs.lemmas.Bool.{false≢true}
 use Rattle.uo_base.specs.declared.event.Limits.{Limits}
 use Rattle.uo_base.specs.declared.event.Net.{Net}
 use Rattle.uo_base.specs.FeedEvent.{FeedEvent}
-use Rattle.uo_base.proofs.PortLemmas.{AppendsPart-none}
 use Rattle.uo_digest.specs.declared.digest.Digest.{Digest}
 use Rattle.leaf_record.specs.Leaf.{leaf_text}
 use Rattle.leaf_record.specs.History.{supply}
@@ -26,7 +23,6 @@ use Rattle.node_rules.specs.Machine.{ChainEvent, State, start, issued, full_judg
 use Rattle.compact_node.specs.Throughout.{full_verdicts, full_after}
 use Rattle.bridge_prover.specs.Standing.{IsBridge}
 use Rattle.bridge_prover.specs.Full.{history_of, judged_on}
-use Rattle.bridge_prover.specs.Watched.{scripts_of}
 use Rattle.bridge_prover.proofs.Fully.{next_judged_is_bridge}
 use Rattle.bridge_prover.proofs.Refining.{fresh_is_bridge}
 use Rattle.clash_find.specs.Clashes.{TextClash}
@@ -37,14 +33,13 @@ use Rattle.audit_replay.specs.Laws.{verdicts_on, ends_at, audit_after, shown_or,
 use Rattle.audit_replay.proofs.Auditing.{judged_rules}
 use Rattle.audit_replay.proofs.Throughout.{fresh_is_full, supply_is_of_level}
 use Rattle.report_lines.specs.declared.line.Line.{Line}
-use Rattle.node_commands.specs.declared.bad_input.BadInput.{BadInput}
 use Rattle.node_commands.specs.Answers.{bad_end, last_of, answer_with, served, served_feed}
-use Rattle.node_commands.specs.Auditor.{AuditorState, fresh_auditor, judged_of, refuses, next_auditor, clash_text, judged_text, audited_text, judged_line, supply_end, end_unless, audit_end, audit_machine, level_end, answer_unless, audit_answer, audit_for}
+use Rattle.node_commands.specs.Auditor.{AuditorState, fresh_auditor, judged_of, refuses, next_auditor, clash_text, judged_text, audited_text, judged_line, supply_end, end_unless, audit_end, audit_machine, level_end, answer_unless, audit_answer}
 use Rattle.node_commands.specs.Follow.{line_of, rules_of}
 use Rattle.node_commands.specs.Machine.{is_refused}
-use Rattle.node_commands.specs.Watching.{list_in, with_list}
-use Rattle.node_commands.specs.Within.{StaysOver, EndsOver}
+use Rattle.node_commands.specs.Runs.{Serves}
 use Rattle.node_commands.proofs.FollowLemmas.{or_none, or_again}
+use Rattle.node_commands.proofs.ServeLemmas.{Serves-same, Serves-quiet}
 
 -- ---- one event
 
@@ -297,7 +292,7 @@ module _ (H : List ℕ → Digest) where
     unfolding served_feed
     served-fresh = by-forged last.audit.ended refl
 
-  pub served-audit : (limits : Limits) (net : Net) (scripts : List (List ℕ)) → limits.leaves < 2 ^ 40 → (a : AuditorState) → a ≡ fresh_auditor net limits scripts
+  served-audit : (limits : Limits) (net : Net) (scripts : List (List ℕ)) → limits.leaves < 2 ^ 40 → (a : AuditorState) → a ≡ fresh_auditor net limits scripts
       → (feed : List ℕ) → served_feed (audit_machine H) a net limits.bytes feed ≡ audit_answer H limits net scripts feed
   served-audit limits net scripts few a e feed = ap (λ s. served_feed (audit_machine H) s net limits.bytes feed) e ∙ served-fresh limits net scripts few feed
 
@@ -315,26 +310,12 @@ pub audit-stores : (H : List ℕ → Digest) (limits : Limits) (net : Net) (scri
 unfolding audit_answer
 audit-stores H limits net scripts feed = unless-none _ _ _ _ (last-none _ _ _ _ _ (bad_end (events_of net limits.bytes feed).ending))
 
-pub audit_for-stores : (H : List ℕ → Digest) (limits : Limits) (net : Net) (named : Bool) (list feed : List ℕ) → (audit_for H limits net named list feed).out ≡ []
-audit_for-stores H limits net named list feed = by (list_in named limits.bytes list)
-  where
-    by : (r : Result (Option (List (List ℕ))) BadInput) → (with_list r (λ watch. audit_answer H limits net (scripts_of watch) feed)).out ≡ []
-    by (Ok watch) = audit-stores H limits net (scripts_of watch) feed
-    by (Err bad) = refl
-
--- so the port that takes what is stored stays as it was
-module _ (answer : (whole feed : List ℕ) → Answer) (none : (whole text : List ℕ) → (answer whole text).out ≡ []) (whole feed report report' out : Option (List ℕ)) where
-  pub EndsOver-quiet : {E : Type 0} (r : Result Status E) → IfOk r (EndsOver answer whole feed report report' None None) → IfOk r (EndsOver answer whole feed report report' out out)
-  EndsOver-quiet (Ok status) e = record {
-    first = e.first;
-    told_first = e.told_first;
-    text = e.text;
-    told = e.told;
-    answered = e.answered;
-    reported = e.reported;
-    sent = subst (Appends out out) (sym (none e.first e.text)) (Appends-nil out);
-  }
-  EndsOver-quiet (Err stop) e = tt
-
-  pub StaysOver-quiet : StaysOver answer whole feed report report' None None → StaysOver answer whole feed report report' out out
-  StaysOver-quiet e = record { first = e.first; told_first = e.told_first; text = e.text; told = e.told; reported = e.reported; sent = AppendsPart-none out _ }
+-- what a call over the machine gave is what it gave of the node that holds every output
+pub audit-serves : (H : List ℕ → Digest) (limits : Limits) (net : Net) (scripts : List (List ℕ)) → limits.leaves < 2 ^ 40 → (a : AuditorState) → a ≡ fresh_auditor net limits scripts
+    → {feed feed' report report' o o' : Option (List ℕ)} (out : Option (List ℕ)) (stopped : Bool) (status : Status)
+    → Serves (said_by (audit_machine H) a) (sent_by (audit_machine H) a) (served_feed (audit_machine H) a net limits.bytes) net limits.bytes feed feed' report report' o o' stopped status
+    → Serves (λ events. said_by (audit_machine H) (fresh_auditor net limits scripts) events) (λ events. []) (audit_answer H limits net scripts) net limits.bytes
+    feed feed' report report' out out stopped status
+audit-serves H limits net scripts few a e {o = o} {o' = o'} out stopped status s =
+    Serves-quiet (audit-stores H limits net scripts) o o' out stopped status
+    (Serves-same (λ events. ap (λ b. said_by (audit_machine H) b events) e) (λ events. sent-none H events a) (served-audit H limits net scripts few a e) stopped status s)

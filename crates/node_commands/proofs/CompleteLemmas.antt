@@ -1,5 +1,5 @@
 -- Where nothing that is read is bad, the answer's status is that of a feed that was read to its end.
-use Rattle.std.proofs.Common.{arith, ◌≡◌, ◌⊎◌, inl, inr, ◌∷◌, ◌<◌, ◌≤◌, ◌^◌, ℕ, Bool, true, false, List, length, Some, None, Result, Ok, Err, is_some, refl, sym, ap, subst, ◌∙◌}
+use Rattle.std.proofs.Common.{arith, ◌≡◌, ◌⊎◌, inl, inr, ◌<◌, ◌^◌, ℕ, Bool, true, false, List, None, Result, Ok, Err, is_some, refl, sym, ap, subst, ◌∙◌}
 use Rattle.std.specs.declared.option.Option.{Option}
 use Rattle.uo_base.specs.declared.event.Limits.{Limits}
 use Rattle.uo_base.specs.declared.event.Net.{Net}
@@ -13,20 +13,22 @@ use Rattle.feed_frame.specs.declared.fault.FeedFault.{FeedFault}
 use Rattle.feed_frame.specs.Events.{events_of}
 use Rattle.feed_run.specs.Answer.{Answer}
 use Rattle.feed_run.specs.declared.status.Status.{Status}
-use Rattle.feed_run.specs.declared.status.Status.TheVariants.{AllAccepted, SomeRefused, Clash}
+use Rattle.feed_run.specs.declared.status.Status.TheVariants.{Clash}
 use Rattle.feed_run.specs.Status.{is_stop, status_of}
 use Rattle.command_words.specs.declared.words.WordFault.{WordFault}
-use Rattle.command_words.specs.Words.{ToFollow, Asked, AskedFollow, AskedProve, AskedAudit, AskedGen, net_for}
+use Rattle.command_words.specs.Words.{Asked, AskedFollow, AskedProve, AskedAudit, AskedGen, net_for}
 use Rattle.node_commands.specs.declared.bad_input.BadInput.{BadInput}
 use Rattle.node_commands.specs.Answers.{bad_end, last_of}
-use Rattle.node_commands.specs.Auditor.{answer_unless, audit_answer, audit_for}
-use Rattle.node_commands.specs.Complete.{IsGood, IsGoodBehind, AreGood, IsEnd, EndsBy}
-use Rattle.node_commands.specs.Follow.{events_for, fresh_for, follow_answer, follow_for}
-use Rattle.node_commands.specs.Generating.{gen_answer}
-use Rattle.node_commands.specs.Prover.{prove_answer, prove_for}
-use Rattle.node_commands.specs.Runs.{Inputs, follow_by, answer_by}
-use Rattle.node_commands.specs.Starting.{Start, Resumed, IsLong, IsOther, IsNone, IsStart, MayStart, start_answer, begun_answer}
-use Rattle.node_commands.specs.Watching.{with_list}
+use Rattle.node_commands.specs.Auditing.{auditing}
+use Rattle.node_commands.specs.Auditor.{answer_unless, audit_answer}
+use Rattle.node_commands.specs.Commands.{following_from, meaning_by}
+use Rattle.node_commands.specs.Follow.{events_for, fresh_for, follow_answer}
+use Rattle.node_commands.specs.Following.{fresh_start, following_afresh, following_on}
+use Rattle.node_commands.specs.Generating.{gen_answer, generating}
+use Rattle.node_commands.specs.Meaning.{answer_by, IsEnd}
+use Rattle.node_commands.specs.Prover.{prove_answer, proving}
+use Rattle.node_commands.specs.Starting.{Start, IsNodeOf, IsStart, IsUsable, IsGoodBehind}
+use Rattle.node_commands.specs.Watching.{list_in, IsGood}
 
 read_to_end : (refused : Bool) → IsEnd (status_of refused)
 read_to_end true = inr (inl refl)
@@ -54,56 +56,66 @@ module _ (H : List ℕ → Digest) (limits : Limits) where
   unfolding audit_answer
   audited net scripts feed whole = unless_forged _ _ _ _ (at_end _ _ whole (read_to_end _))
 
-  follow-ends : (net : Net) (named : Bool) (list feed : List ℕ) → IsGood named net limits list feed → IsEnd (follow_for H limits net named list feed).status
-  follow-ends net named list feed g = subst (λ r. IsEnd (with_list r (λ l. follow_answer H (fresh_for limits net l) feed)).status) (sym g.usable) (followed (fresh_for limits net g.scripts) feed g.whole)
-
-  prove-ends : (net : Net) (named : Bool) (list feed : List ℕ) → IsGood named net limits list feed → IsEnd (prove_for H limits net named list feed).status
-  prove-ends net named list feed g = subst (λ r. IsEnd (with_list r (λ l. prove_answer H limits net l feed)).status) (sym g.usable) (proved net g.scripts feed g.whole)
-
-  audit-ends : (net : Net) (named : Bool) (list feed : List ℕ) → IsGood named net limits list feed
-      → IsEnd (audit_for H limits net named list feed).status ⊎ ((audit_for H limits net named list feed).status ≡ Clash)
-  audit-ends net named list feed g =
-      subst (λ r. let a = with_list r (λ l. audit_answer H limits net (scripts_of l) feed) in IsEnd a.status ⊎ (a.status ≡ Clash)) (sym g.usable) (audited net (scripts_of g.scripts) feed g.whole)
-
   -- ---- from a state
 
-  module _ (few : limits.leaves < 2 ^ 40) (prior feed : List ℕ) (g : IsGoodBehind H limits prior feed) where
-    no_bad : (bad : BadInput) → IsStart H limits prior (Err bad) → ⊥
+  module _ (few : limits.leaves < 2 ^ 40) (prior : List ℕ) (g : IsUsable H limits prior) where
+    pub no_bad : (bad : BadInput) → IsStart H limits prior (Err bad) → ⊥
     no_bad bad (inl l) = absurd (omega (arith, g.short, l.long))
     no_bad bad (inr (inl o)) = absurd (one_version g.state prior o.version g.text o.other)
     no_bad bad (inr (inr n)) = n.none g.state g.is g.text
 
-    resumes : (begun : Start) → IsStart H limits prior begun → IsEnd (start_answer H begun feed).status
-    resumes (Ok node) s =
+    pub resumes : (feed : List ℕ) (node : NodeState) → IsNodeOf H limits prior node → (events_of g.state.net limits.bytes feed).ending ≡ None → IsEnd (follow_answer H node feed).status
+    resumes feed node s whole =
         let same = one_state H limits.leaves prior g.state (stored_state node) few g.is (subst (λ m. IsState H m.leaves (stored_state node)) s.limits_are s.reads.state) g.text s.reads.is in
-        let whole = subst (λ m. (events_of node.rules.net m.bytes feed).ending ≡ None) (sym s.limits_are) (subst (λ w. (events_of w.net limits.bytes feed).ending ≡ None) same g.whole) in
-        followed node feed whole
-    resumes (Err bad) s = absurd (no_bad bad s)
+        followed node feed (subst (λ m. (events_of node.rules.net m.bytes feed).ending ≡ None) (sym s.limits_are) (subst (λ w. (events_of w.net limits.bytes feed).ending ≡ None) same whole))
 
-    from-ends : (begun : Option Start) → MayStart H limits prior begun → IsEnd (begun_answer H begun feed).status
-    from-ends None s = inr (inr refl)
-    from-ends (Some begun) s = resumes begun s
+-- ---- each command comes to its end where nothing that it reads is bad
 
-  follow-by : (few : limits.leaves < 2 ^ 40) (resumed : Bool) (f : ToFollow) (inputs : Inputs) → MayStart H limits inputs.prior inputs.begun
-      → Resumed resumed (IsGoodBehind H limits inputs.prior inputs.feed) (IsGood (is_some f.watch) (net_for f.net) limits inputs.watch inputs.feed) → IsEnd (follow_by resumed H limits f inputs).status
-  follow-by few true f inputs m g = from-ends few inputs.prior inputs.feed g inputs.begun m
-  follow-by few false f inputs m g = follow-ends (net_for f.net) (is_some f.watch) inputs.watch inputs.feed g
+module _ (H : List ℕ → Digest) (limits : Limits) (few : limits.leaves < 2 ^ 40) (prior watch feed : List ℕ) where
+  afresh-ends : (net : Net) (named : Bool) (begun : Start) → begun ≡ fresh_start limits net (list_in named limits.bytes watch) → IsGood named net limits watch feed
+      → IsEnd (answer_by (following_afresh H limits net named) begun feed).status
+  afresh-ends net named begun is g =
+      let fresh = is ∙ ap (fresh_start limits net) g.usable in
+      subst (λ (b : Start). IsEnd (answer_by (following_afresh H limits net named) b feed).status) (sym fresh) (followed H limits (fresh_for limits net g.scripts) feed g.whole)
 
-  gen-ends : (net : Net) (number blocks : ℕ) → IsEnd (gen_answer number blocks net).status
+  on-ends : (begun : Start) → IsStart H limits prior begun → IsGoodBehind H limits prior feed → IsEnd (answer_by (following_on H limits) begun feed).status
+  on-ends (Ok node) is g = resumes H limits few prior g.usable feed node is g.whole
+  on-ends (Err bad) is g = absurd (no_bad H limits few prior g.usable bad is)
+
+  from-ends : (resumed : Bool) (net : Net) (named : Bool) (begun : Result (following_from resumed H limits net named).Begun BadInput) → (following_from resumed H limits net named).Begins prior watch begun
+      → (following_from resumed H limits net named).AreGood feed prior watch → (following_from resumed H limits net named).Ends (answer_by (following_from resumed H limits net named) begun feed).status
+  from-ends true net named begun is g = on-ends begun is g
+  from-ends false net named begun is g = afresh-ends net named begun is g
+
+  prove-ends : (net : Net) (named : Bool) (begun : Result (Option (List (List ℕ))) BadInput) → begun ≡ list_in named limits.bytes watch → IsGood named net limits watch feed
+      → IsEnd (answer_by (proving H limits net named) begun feed).status
+  prove-ends net named begun is g =
+      subst (λ (b : Result (Option (List (List ℕ))) BadInput). IsEnd (answer_by (proving H limits net named) b feed).status) (sym (is ∙ g.usable)) (proved H limits net g.scripts feed g.whole)
+
+  audit-ends : (net : Net) (named : Bool) (begun : Result (Option (List (List ℕ))) BadInput) → begun ≡ list_in named limits.bytes watch → IsGood named net limits watch feed
+      → (auditing H limits net named).Ends (answer_by (auditing H limits net named) begun feed).status
+  audit-ends net named begun is g =
+      subst (λ (b : Result (Option (List (List ℕ))) BadInput). (auditing H limits net named).Ends (answer_by (auditing H limits net named) b feed).status) (sym (is ∙ g.usable)) (audited H limits net (scripts_of g.scripts) feed g.whole)
+
+  gen-ends : (number blocks : ℕ) (net : Net) (begun : Result (Unit {0}) BadInput) → begun ≡ Ok tt → IsEnd (answer_by (generating number blocks net) begun feed).status
   unfolding gen_answer
-  gen-ends net number blocks = inl refl
+  gen-ends number blocks net begun is = subst (λ (b : Result (Unit {0}) BadInput). IsEnd (answer_by (generating number blocks net) b feed).status) (sym is) (inl refl)
 
-  pub ends-by : (asked : Result Asked WordFault) (few : limits.leaves < 2 ^ 40) (inputs : Inputs) → MayStart H limits inputs.prior inputs.begun → AreGood H asked limits inputs.feed inputs.prior inputs.watch
-      → EndsBy asked (answer_by H asked limits inputs).status
-  ends-by (Err fault) few inputs m g = absurd g
-  ends-by (Ok (AskedFollow f)) few inputs m g = follow-by few (is_some f.from) f inputs m g
-  ends-by (Ok (AskedProve net file to list)) few inputs m g = prove-ends net (is_some list) inputs.watch inputs.feed g
-  ends-by (Ok (AskedAudit net file list)) few inputs m g = audit-ends net (is_some list) inputs.watch inputs.feed g
-  ends-by (Ok (AskedGen net number blocks to)) few inputs m g = gen-ends net number blocks
+  pub ends-by : (asked : Result Asked WordFault) (begun : Result (meaning_by H limits asked).Begun BadInput) → (meaning_by H limits asked).Begins prior watch begun → (meaning_by H limits asked).AreGood feed prior watch
+      → (meaning_by H limits asked).Ends (answer_by (meaning_by H limits asked) begun feed).status
+  ends-by (Err fault) begun is g = absurd g
+  ends-by (Ok (AskedFollow f)) begun is g = from-ends (is_some f.from) (net_for f.net) (is_some f.watch) begun is g
+  ends-by (Ok (AskedProve net file to list)) begun is g = prove-ends net (is_some list) begun is g
+  ends-by (Ok (AskedAudit net file list)) begun is g = audit-ends net (is_some list) begun is g
+  ends-by (Ok (AskedGen net number blocks to)) begun is g = gen-ends number blocks net begun is
 
-pub stops-by : (asked : Result Asked WordFault) (status : Status) → is_stop status ≡ true → EndsBy asked status
-stops-by (Err fault) status stops = inr (inr stops)
-stops-by (Ok (AskedFollow f)) status stops = inr (inr stops)
-stops-by (Ok (AskedProve net file to list)) status stops = inr (inr stops)
-stops-by (Ok (AskedAudit net file list)) status stops = inl (inr (inr stops))
-stops-by (Ok (AskedGen net number blocks to)) status stops = inr (inr stops)
+follow-stops : (resumed : Bool) (H : List ℕ → Digest) (limits : Limits) (net : Net) (named : Bool) (status : Status) → is_stop status ≡ true → (following_from resumed H limits net named).Ends status
+follow-stops true H limits net named status stops = inr (inr stops)
+follow-stops false H limits net named status stops = inr (inr stops)
+
+pub stops-by : (H : List ℕ → Digest) (limits : Limits) (asked : Result Asked WordFault) (status : Status) → is_stop status ≡ true → (meaning_by H limits asked).Ends status
+stops-by H limits (Err fault) status stops = inr (inr stops)
+stops-by H limits (Ok (AskedFollow f)) status stops = follow-stops (is_some f.from) H limits (net_for f.net) (is_some f.watch) status stops
+stops-by H limits (Ok (AskedProve net file to list)) status stops = inr (inr stops)
+stops-by H limits (Ok (AskedAudit net file list)) status stops = inl (inr (inr stops))
+stops-by H limits (Ok (AskedGen net number blocks to)) status stops = inr (inr stops)

@@ -1,5 +1,5 @@
 -- What `follow` writes of a feed is what its verdicts say, and these are those of a node that holds every output as long as no proof is forged.
-use Rattle.std.proofs.Common.{◌≡◌, ℕ, suc, ◌+◌, ◌<◌, ◌≤◌, ◌^◌, Bool, true, false, ◌||◌, List, [], ◌∷◌, ◌++◌, length, map, Option, None, Result, Ok, Err, IfOk, refl, ap, subst, ◌∙◌, arith}
+use Rattle.std.proofs.Common.{◌≡◌, ℕ, suc, ◌+◌, ◌<◌, ◌≤◌, ◌^◌, Bool, true, false, ◌||◌, List, [], ◌∷◌, ◌++◌, length, map, Option, refl, ap, subst, ◌∙◌, arith}
 use Rattle.std.specs.Prelude.{unwrap_or}
 use Rattle.std.specs.List.{flat_map, list_any}
 use Rattle.std.proofs.lemmas.List.{append_assoc, map-append}
@@ -7,15 +7,11 @@ use Rattle.std.proofs.lemmas.Grind.{flat_map-append}
 use Rattle.uo_base.specs.declared.event.Limits.{Limits}
 use Rattle.uo_base.specs.declared.event.Net.{Net}
 use Rattle.uo_base.specs.FeedEvent.{FeedEvent}
-use Rattle.std.specs.Io.KnownBytes.{Appends}
-use Rattle.uo_base.specs.Moved.{AppendsPart}
-use Rattle.uo_base.proofs.PortLemmas.{AppendsPart-none}
 use Rattle.uo_digest.specs.declared.digest.Digest.{Digest}
 use Rattle.leaf_record.specs.Leaf.{leaf_text}
 use Rattle.block_rules.specs.declared.verdict.Verdict.{Verdict}
 use Rattle.feed_frame.specs.Events.{events_of}
 use Rattle.feed_run.specs.declared.status.Status.{Status}
-use Rattle.feed_run.specs.Answer.{Answer}
 use Rattle.feed_run.specs.Machine.{left_by, said_by, sent_by}
 use Rattle.node_rules.specs.Machine.{ChainEvent, State, start, chain_of, event_in}
 use Rattle.compact_node.specs.Node.{NodeState, IsNode, Stands}
@@ -25,10 +21,9 @@ use Rattle.compact_node.proofs.Storing.{standing_is_written}
 use Rattle.compact_node.proofs.Throughout.{compact_is_full_throughout, verdicts_on-append, told_after, node_throughout, fresh-stands, fresh-node}
 use Rattle.state_text.specs.Stored.{state_text}
 use Rattle.node_commands.specs.Answers.{bad_end, last_of, answer_with, served_feed}
-use Rattle.node_commands.specs.Follow.{line_of, answer_told, events_for, chain_events, follow_answer, full_text, full_answer, fresh_for, AreTrue, IsAsOfFull, PrintsAsFull}
-use Rattle.node_commands.specs.Within.{Ends, StaysWithin}
-use Rattle.node_commands.specs.Order.{StoresAtEnd, FollowsLast}
-use Rattle.node_commands.proofs.OrderLemmas.{last-same}
+use Rattle.node_commands.specs.Follow.{line_of, follow_lines, answer_told, events_for, chain_events, follow_answer, full_text, full_answer, fresh_for, AreTrue, IsAsOfFull, PrintsAsFull}
+use Rattle.node_commands.specs.Runs.{Serves}
+use Rattle.node_commands.proofs.ServeLemmas.{Serves-same}
 use Rattle.node_commands.specs.Machine.{Following, follower_of, event_line, told_of, next_follower, end_by, stored_end, follow_machine, is_refused}
 
 -- ---- what is stored
@@ -96,14 +91,15 @@ module _ (H : List ℕ → Digest) where
       ap (λ s. served_feed (follow_machine H) s net bytes feed) e ∙ ap (λ k. served_feed (follow_machine H) (follower_of node) k bytes feed) n
       ∙ ap (λ k. served_feed (follow_machine H) (follower_of node) node.rules.net k feed) b ∙ served-node node feed
 
-  -- the state is stored before the last line is printed
-  pub follows-last : (node : NodeState) (f : Following) (net : Net) (bytes : ℕ) → f ≡ follower_of node → net ≡ node.rules.net → bytes ≡ node.rules.limits.bytes → (feed report report' out out' : Option (List ℕ))
-      → StoresAtEnd (λ text. said_by (follow_machine H) f (events_of net bytes text).events) (served_feed (follow_machine H) f net bytes) feed report report' out out' → FollowsLast H node feed report report' out out'
-  follows-last node f net bytes e n b feed report report' out out' s =
-      last-same _ _ _ _ feed report report' out out'
-      (λ text. said-told (events_of net bytes text).events f ∙ ap (λ g. flat_map line_of (verdicts g (events_of net bytes text).events)) e
-      ∙ ap (λ k. flat_map line_of (verdicts (follower_of node) (events_of k bytes text).events)) n ∙ ap (λ k. flat_map line_of (verdicts (follower_of node) (events_of node.rules.net k text).events)) b)
-      (served-follow node f net bytes e n b) s
+  -- what a call over the machine gave is what it gave of the node
+  pub follow-serves : (node : NodeState) (f : Following) (net : Net) (bytes : ℕ) → f ≡ follower_of node → net ≡ node.rules.net → bytes ≡ node.rules.limits.bytes
+      → {feed feed' report report' out out' : Option (List ℕ)} (stopped : Bool) (status : Status)
+      → Serves (said_by (follow_machine H) f) (sent_by (follow_machine H) f) (served_feed (follow_machine H) f net bytes) net bytes feed feed' report report' out out' stopped status
+      → Serves (follow_lines H node) (λ events. []) (follow_answer H node) node.rules.net bytes feed feed' report report' out out' stopped status
+  follow-serves node f net bytes e n b {feed} {feed'} {report} {report'} {out} {out'} stopped status s =
+      let m = follow_machine H in
+      Serves-same (λ events. said-told events f ∙ ap (λ g. flat_map line_of (verdicts g events)) e) (λ events. sent-none events f) (λ text. served-follow node f node.rules.net bytes e refl b text)
+      stopped status (subst (λ k. Serves (said_by m f) (sent_by m f) (served_feed m f k bytes) k bytes feed feed' report report' out out' stopped status) n s)
 
   -- ---- beside the node that holds every output
 
@@ -147,19 +143,3 @@ module _ (H : List ℕ → Digest) where
   prints-as-full limits net few short list feed =
       let scripts = unwrap_or list [] in
       as-of-full start (fresh_for limits net list) (fresh-node H leaf_text net limits scripts few short) (fresh-stands H leaf_text net limits scripts) feed
-
--- ---- the answer of a machine by another name, where it stores nothing
-
-module _ (served of_feed : List ℕ → Answer) (is : (feed : List ℕ) → served feed ≡ of_feed feed) (feed report report' out out' : Option (List ℕ)) where
-  pub Ends-named : {E : Type 0} (r : Result Status E) → IfOk r (Ends served feed report report' out out') → IfOk r (Ends of_feed feed report report' None None)
-  Ends-named (Ok status) e = record {
-    text = e.text;
-    told = e.told;
-    answered = e.answered ∙ ap (λ a. a.status) (is e.text);
-    reported = subst (λ a. Appends report report' a.report) (is e.text) e.reported;
-    sent = tt;
-  }
-  Ends-named (Err stop) e = tt
-
-  pub StaysWithin-named : StaysWithin served feed report report' out out' → StaysWithin of_feed feed report report' None None
-  StaysWithin-named e = record { text = e.text; told = e.told; reported = subst (λ a. AppendsPart report report' a.report) (is e.text) e.reported; sent = AppendsPart-none None _ }

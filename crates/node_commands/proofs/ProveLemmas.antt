@@ -1,21 +1,17 @@
 -- What `prove` writes of a feed is what a bridge says and passes on, and that is what the proving node says and passes on.
-use Rattle.std.proofs.Common.{◌≡◌, ℕ, suc, ◌+◌, ◌<◌, ◌^◌, Bool, true, false, cond, ◌||◌, List, [], ◌∷◌, ◌++◌, length, map, Option, Some, Result, Ok, Err, IfOk, OnOk, refl, sym, ap, subst, ◌∙◌, arith, length-append}
+use Rattle.std.proofs.Common.{◌≡◌, ℕ, suc, ◌+◌, ◌<◌, ◌^◌, Bool, true, false, cond, ◌||◌, List, [], ◌∷◌, ◌++◌, length, map, Option, Some, Result, Ok, Err, OnOk, refl, sym, ap, subst, ◌∙◌, arith}
 use Rattle.std.specs.List.{flat_map, list_any, AllByRecursion}
-use Rattle.std.specs.Io.KnownBytes.{Appends}
 use Rattle.std.proofs.lemmas.List.{map-append}
 use Rattle.uo_base.specs.declared.event.Limits.{Limits}
 use Rattle.uo_base.specs.declared.event.Net.{Net}
 use Rattle.uo_base.specs.FeedEvent.{FeedEvent, BlockCame, RollbackCame, StrayCame}
-use Rattle.uo_base.specs.Moved.{AppendsPart}
 use Rattle.uo_digest.specs.declared.digest.Digest.{Digest}
 use Rattle.leaf_record.specs.Leaf.{leaf_text}
 use Rattle.block_rules.specs.declared.verdict.Verdict.{Verdict}
 use Rattle.feed_frame.specs.Events.{events_of}
 use Rattle.feed_frame.specs.FeedText.{event_text, feed_text}
-use Rattle.feed_frame.specs.Streamed.{SendsFirst}
 use Rattle.feed_run.specs.declared.status.Status.{Status}
-use Rattle.feed_run.specs.Answer.{Answer}
-use Rattle.feed_run.specs.Machine.{goes, says, sends, left_by, said_by, sent_by}
+use Rattle.feed_run.specs.Machine.{left_by, said_by, sent_by}
 use Rattle.node_rules.specs.Fitting.{AreEventBytes}
 use Rattle.node_rules.specs.Judging.{Rules}
 use Rattle.node_rules.specs.Machine.{ChainEvent, event_in, is_made}
@@ -24,17 +20,14 @@ use Rattle.node_rules.proofs.Proving.{events_short}
 use Rattle.bridge_prover.specs.Bridge.{BridgeState, fresh_bridge, verdict_on, next_bridge, message_on}
 use Rattle.bridge_prover.specs.Throughout.{verdicts_on, bridge_after, passed_by, passed_by_bridge}
 use Rattle.bridge_prover.proofs.Throughout.{fresh_proves_throughout}
-use Rattle.report_lines.specs.declared.line.Line.TheVariants as Line
-use Rattle.report_lines.specs.Lines.{line_text, whole_line}
 use Rattle.node_commands.specs.Answers.{answer_with, served_feed}
-use Rattle.node_commands.specs.Within.{Ends, StaysWithin}
+use Rattle.node_commands.specs.Runs.{Serves}
 use Rattle.node_commands.specs.Follow.{line_of, rules_of}
 use Rattle.node_commands.specs.Machine.{follow_end, is_refused}
-use Rattle.node_commands.specs.Order.{ProvesFirst}
 use Rattle.node_commands.specs.Proving.{proving_text, proving_verdicts}
 use Rattle.node_commands.specs.Prover.{ProverState, fresh_prover, proved_of, next_prover, proved_line, beside, proved_frames, prove_machine, prove_answer, IsReached}
 use Rattle.node_commands.proofs.FollowLemmas.{or_none, or_again}
-use Rattle.node_commands.proofs.OrderLemmas.{stores-first, StoresFirst-same}
+use Rattle.node_commands.proofs.ServeLemmas.{Serves-same}
 
 module _ (H : List ℕ → Digest) where
   abbrev verdicts : ProverState → List FeedEvent → List Verdict
@@ -76,11 +69,6 @@ module _ (H : List ℕ → Digest) where
       ∙ frames-if (is_made (Some (verdict_on p.bridge (event_in event)))) p.net (beside (message_on H p.bridge (event_in event)) event) (passed_by H p.bridge event)
       (passed_by_bridge H leaf_text (next_bridge H leaf_text p.bridge (event_in event)) events) (ap (event_text p.net) (sym (passed-beside p.bridge event)))
 
-  -- each event has a line
-  some_line : (p : ProverState) (event : FeedEvent) → 0 < length (proved_line p event)
-  unfolding proved_line whole_line
-  some_line p event = omega (arith, length-append (line_text (Line.Verdict (proved_of p event))) (10 ∷ []))
-
   module _ (limits : Limits) (net : Net) (watch : Option (List (List ℕ))) (few : limits.leaves < 2 ^ 40) where
     served-fresh : (feed : List ℕ) → served_feed (prove_machine H) (fresh_prover net limits watch) net limits.bytes feed ≡ prove_answer H limits net watch feed
     unfolding served_feed prove_answer proving_text
@@ -115,16 +103,15 @@ module _ (H : List ℕ → Digest) where
         let t = fresh_proves_throughout H leaf_text net limits watch few events in
         sent-told events (fresh_prover net limits watch) ∙ ap (feed_text net) t.passed
 
-    -- whatever the loop wrote, frames come before their lines
-    pub proves-first : (p : ProverState) → p ≡ fresh_prover net limits watch → (feed report report' out out' : Option (List ℕ))
-        → SendsFirst (goes (prove_machine H)) (says (prove_machine H)) (sends (prove_machine H)) p net limits.bytes feed report report' out out' → ProvesFirst H limits net watch feed report report' out out'
-    proves-first p e feed report report' out out' w =
+    -- what a call over the machine gave is what it gave of the proving node
+    pub prove-serves : (p : ProverState) → p ≡ fresh_prover net limits watch → {feed feed' report report' out out' : Option (List ℕ)} (stopped : Bool) (status : Status)
+        → Serves (said_by (prove_machine H) p) (sent_by (prove_machine H) p) (served_feed (prove_machine H) p net limits.bytes) net limits.bytes feed feed' report report' out out' stopped status
+        → Serves (λ events. flat_map line_of (proving_verdicts (rules_of limits net) events)) (λ events. proving_text H watch (rules_of limits net) events) (prove_answer H limits net watch) net limits.bytes
+        feed feed' report report' out out' stopped status
+    prove-serves p e {feed} {feed'} {report} {report'} {out} {out'} stopped status s =
         let m = prove_machine H in
-        StoresFirst-same said-by sent-by
-        (stores-first m some_line (subst (λ q. SendsFirst (goes m) (says m) (sends m) q net limits.bytes feed report report' out out') e w))
-
-    pub served-prove : (p : ProverState) → p ≡ fresh_prover net limits watch → (feed : List ℕ) → served_feed (prove_machine H) p net limits.bytes feed ≡ prove_answer H limits net watch feed
-    served-prove p e feed = ap (λ s. served_feed (prove_machine H) s net limits.bytes feed) e ∙ served-fresh feed
+        Serves-same said-by sent-by served-fresh stopped status
+        (subst (λ q. Serves (said_by m q) (sent_by m q) (served_feed m q net limits.bytes) net limits.bytes feed feed' report report' out out' stopped status) e s)
 
   -- ---- what is passed on is no longer than its frames may be
 
@@ -173,22 +160,6 @@ module _ (H : List ℕ → Digest) where
       let passed = subst (AllByRecursion CanBeWritten) (sym t.passed) short in
       let there = last-passed (fresh_bridge p.net r.limits r.watch) r.events event passed (ap (λ s. is_made (Some (verdict_on s (event_in event)))) (sym r.is) ∙ made) in
       subst CanBeWritten (ap (λ s. passed_by H s event) (sym r.is) ∙ passed-beside p.bridge event) there
-
--- ---- the answer of the machine, by another name
-
-module _ (served of_feed : List ℕ → Answer) (is : (feed : List ℕ) → served feed ≡ of_feed feed) (feed report report' out out' : Option (List ℕ)) where
-  pub Ends-same : {E : Type 0} (r : Result Status E) → IfOk r (Ends served feed report report' out out') → IfOk r (Ends of_feed feed report report' out out')
-  Ends-same (Ok status) e = record {
-    text = e.text;
-    told = e.told;
-    answered = e.answered ∙ ap (λ a. a.status) (is e.text);
-    reported = subst (λ a. Appends report report' a.report) (is e.text) e.reported;
-    sent = subst (λ a. Appends out out' a.out) (is e.text) e.sent;
-  }
-  Ends-same (Err stop) e = tt
-
-  pub StaysWithin-same : StaysWithin served feed report report' out out' → StaysWithin of_feed feed report report' out out'
-  StaysWithin-same e = record { text = e.text; told = e.told; reported = subst (λ a. AppendsPart report report' a.report) (is e.text) e.reported; sent = subst (λ a. AppendsPart out out' a.out) (is e.text) e.sent }
 
 -- ---- what a call gives where it succeeds
 

@@ -1,19 +1,23 @@
--- From what was written of a feed to the answer of a command.
-use Rattle.std.proofs.Common.{◌≡◌, ℕ, List, [], ◌++◌, Option, Some, None, Result, Ok, Err, IfOk, OnOk, refl, sym, ap, subst, ◌∙◌, append-nil}
+-- From what was written of a feed to what a call within a run gave.
+use Rattle.std.proofs.Common.{◌≡◌, ◌⊎◌, inl, inr, ℕ, Bool, true, false, List, [], ◌++◌, Option, Some, None, Result, Ok, Err, IfOk, OnOk, IsErrOf, IsErr, IsErrAnd, is_err, refl, sym, ap, subst, ◌∙◌, append-nil, append_assoc}
 use Rattle.std.specs.Io.KnownBytes.{Appends}
-use Rattle.std.proofs.KnownBytes.{Appends-trans}
+use Rattle.std.proofs.KnownBytes.{Appends-nil, Appends-trans}
+use Rattle.std.proofs.lemmas.Bool.{false≢true}
 use Rattle.uo_base.specs.declared.event.Net.{Net}
+use Rattle.uo_base.specs.FeedEvent.{FeedEvent}
 use Rattle.uo_base.specs.Moved.{AppendsPart}
-use Rattle.uo_base.proofs.PortLemmas.{AppendsPart-after, AppendsPart-front}
+use Rattle.uo_base.proofs.PortLemmas.{AppendsPart-after, AppendsPart-front, AppendsPart-whole, AppendsPart-none}
 use Rattle.feed_frame.specs.declared.fault.FeedFault.{FeedFault}
 use Rattle.feed_frame.specs.Events.{events_of}
-use Rattle.feed_frame.specs.Streamed.{WritesPart}
-use Rattle.feed_run.specs.Machine.{Machine, goes, says, sends, left_by, said_by, sent_by, wanted_end, TakesAll}
+use Rattle.feed_frame.specs.Streamed.{WritesInOrder, WritesTaken, KeepsUp}
+use Rattle.feed_frame.proofs.Progress.{written-append}
+use Rattle.feed_run.specs.Machine.{Machine, goes, says, left_by, said_by, sent_by, wanted_end, TakesAll}
 use Rattle.feed_run.specs.Answer.{Answer}
 use Rattle.feed_run.specs.declared.status.Status.{Status}
+use Rattle.feed_run.specs.declared.stop.Stop.{Stop}
 use Rattle.report_lines.specs.declared.line.Line.{Line}
 use Rattle.node_commands.specs.Answers.{said, bad_end, last_of, served_feed}
-use Rattle.node_commands.specs.Within.{Ends, StaysWithin}
+use Rattle.node_commands.specs.Runs.{Serves, stop_status, status_in}
 
 -- what comes last
 pub last-line : (at_end : Answer) (ending : Option FeedFault) (status : Status) (line : Line) → bad_end ending ≡ Some (status, line) → said status line ≡ last_of at_end (bad_end ending)
@@ -27,62 +31,220 @@ pub OnOk-any : {T E P : Type 0} (r : Result T E) → P → OnOk r P
 OnOk-any (Ok x) p = p
 OnOk-any (Err e) p = tt
 
--- the events were written in part
-pub part-stays : {S : Type 0} (m : Machine S) (start : S) (net : Net) (limit : ℕ) (feed report report' out out' : Option (List ℕ)) → WritesPart (goes m) (says m) (sends m) start net limit feed report report' out out'
-    → StaysWithin (served_feed m start net limit) feed report report' out out'
-unfolding served_feed
-part-stays m start net limit feed report report' out out' w = record { text = w.text; told = w.told; reported = AppendsPart-front report report' _ _ _ w.reported refl; sent = AppendsPart-front out out' _ _ _ w.sent refl }
+-- only where the feed failed is this the status
+pub write-failed : (stop : Stop) → stop_status stop ≡ Status.WriteFault → stop ≡ Stop.WriteFault
+write-failed Stop.ReadFault e = cc
+write-failed Stop.WriteFault e = refl
+write-failed Stop.NoMemory e = cc
 
-module _ {S : Type 0} (m : Machine S) (start : S) (net : Net) (limit : ℕ) (feed report report' report'' out out' out'' : Option (List ℕ)) where
-  -- all events were written, and the feed ended so
-  module _ (state : S) (ending : Option FeedFault) (t : TakesAll m start net limit state feed report report' out out' ending) where
-    abbrev last : Answer
-    last = last_of (m.at_end state) (bad_end ending)
+pub failed-so : (stop : Stop) → stop_status stop ≡ Status.ReadFault → stop ≡ Stop.ReadFault
+failed-so Stop.ReadFault e = refl
+failed-so Stop.WriteFault e = cc
+failed-so Stop.NoMemory e = cc
 
-    served_last : Answer
-    served_last =
-        let s = left_by m start (events_of net limit t.text).events in
-        last_of (m.at_end s) (bad_end (wanted_end m s (events_of net limit t.text).ending))
+-- ---- a fault or want of memory stopped the loop over the events
 
-    last_is : last ≡ served_last
-    unfolding served_last
-    last_is =
-        ap (λ e. last_of (m.at_end state) (bad_end e)) t.ends
-        ∙ ap (λ s. last_of (m.at_end s) (bad_end (wanted_end m s (events_of net limit t.text).ending))) t.reached
-
-    module _ (is : Answer) (e : is ≡ last) where
-      same : is ≡ served_last
-      same = e ∙ last_is
-
-      reported_is : (served_feed m start net limit t.text).report ≡ said_by m start (events_of net limit t.text).events ++ is.report
-      unfolding served_feed served_last
-      reported_is = ap (λ a. said_by m start (events_of net limit t.text).events ++ a.report) (sym same)
-
-      pub sent_is : (served_feed m start net limit t.text).out ≡ sent_by m start (events_of net limit t.text).events ++ is.out
-      unfolding served_feed served_last
-      sent_is = ap (λ a. sent_by m start (events_of net limit t.text).events ++ a.out) (sym same)
-
-      status_is : is.status ≡ (served_feed m start net limit t.text).status
-      unfolding served_feed served_last
-      status_is = ap (λ a. a.status) same
-
-      -- and what comes last
-      pub took-ends : {E : Type 0} (r : Result Status E) → IfOk r (λ status. status ≡ is.status) → OnOk r (Appends report' report'' is.report) → OnOk r (Appends out' out'' is.out)
-          → IfOk r (Ends (served_feed m start net limit) feed report report'' out out'')
-      took-ends (Ok status) p q s = record {
-        text = t.text;
-        told = t.told;
-        answered = p ∙ status_is;
-        reported = subst (Appends report report'') (sym reported_is) (Appends-trans report report' report'' _ _ t.reported q);
-        sent = subst (Appends out out'') (sym sent_is) (Appends-trans out out' out'' _ _ t.sent s);
+module _ {S : Type 0} (m : Machine S) (start : S) (net : Net) (limit : ℕ) (feed feed' report report' out out' : Option (List ℕ)) where
+  stopped-at : (stop : Stop) → WritesInOrder (said_by m start) (sent_by m start) net limit feed report report' out out'
+      → (stop ≡ Stop.ReadFault → WritesTaken (said_by m start) (sent_by m start) net limit feed feed' report report' out out')
+      → (stop ≡ Stop.WriteFault → KeepsUp (said_by m start) net limit feed feed' report report')
+      → Serves (said_by m start) (sent_by m start) (served_feed m start net limit) net limit feed feed' report report' out out' true (stop_status stop)
+  unfolding served_feed
+  stopped-at stop w taken at_once =
+      let all = ap (said_by m start) w.split ∙ written-append (goes m) (says m) start w.begun w.more in
+      record {
+        text = w.text;
+        told = w.told;
+        gives = record {
+          reported = AppendsPart-front report report' _ _ _ (AppendsPart-front report report' _ _ _ w.reported all) refl;
+          sent = AppendsPart-front out out' _ _ _ w.within refl;
+          begun = w.begun;
+          later = w.more;
+          split = w.split;
+          stored = record { more = w.extra; grew = w.sent };
+          said = inl w.reported;
+          taken = λ e. taken (failed-so stop e);
+          at_once = λ e. at_once (write-failed stop e);
+        };
       }
-      took-ends (Err stop) p q s = tt
 
-      -- or a part of it
-      pub took-stays : AppendsPart report' report'' is.report → AppendsPart out' out'' is.out → StaysWithin (served_feed m start net limit) feed report report'' out out''
-      took-stays q s = record {
-        text = t.text;
-        told = t.told;
-        reported = AppendsPart-after report report' report'' _ is.report [] _ t.reported q (reported_is ∙ ap (λ w. said_by m start (events_of net limit t.text).events ++ w) (sym (append-nil _)));
-        sent = AppendsPart-after out out' out'' _ is.out [] _ t.sent s (sent_is ∙ ap (λ w. sent_by m start (events_of net limit t.text).events ++ w) (sym (append-nil _)));
-      }
+  -- and an exit by `?` hands that on
+  pub serves-stopped : (r : Result Status Stop) (stop : Stop) → IsErr r → IsErrAnd r (λ e. e ≡ stop) → WritesInOrder (said_by m start) (sent_by m start) net limit feed report report' out out'
+      → (stop ≡ Stop.ReadFault → WritesTaken (said_by m start) (sent_by m start) net limit feed feed' report report' out out')
+      → (stop ≡ Stop.WriteFault → KeepsUp (said_by m start) net limit feed feed' report report')
+      → Serves (said_by m start) (sent_by m start) (served_feed m start net limit) net limit feed feed' report report' out out' (is_err r) (status_in r)
+  serves-stopped (Ok status) stop is h w taken at_once = absurd (false≢true is)
+  serves-stopped (Err e) stop is h w taken at_once =
+      subst (λ s. Serves (said_by m start) (sent_by m start) (served_feed m start net limit) net limit feed feed' report report' out out' true (stop_status s)) (sym h) (stopped-at stop w taken at_once)
+
+-- more is printed
+kept-more : (lines : List FeedEvent → List ℕ) (net : Net) (limit : ℕ) (feed feed' report report' report'' : Option (List ℕ)) {text : List ℕ} → KeepsUp lines net limit feed feed' report report' → AppendsPart report' report'' text
+    → KeepsUp lines net limit feed feed' report report''
+kept-more lines net limit feed feed' report report' report'' k part = record {
+  taken = k.taken;
+  lost = k.lost;
+  told = k.told;
+  late = k.late;
+  few = k.few;
+  settled = k.settled;
+  begun = k.begun ++ part.done;
+  reported = subst (Appends report report'') (append_assoc (lines k.told) k.begun part.done) (Appends-trans report report' report'' _ _ k.reported part.grew);
+}
+
+-- ---- all events were written, and the feed ended so
+
+module _ {S : Type 0} (m : Machine S) (start : S) (net : Net) (limit : ℕ) (feed feed' report report' report'' out out' out'' : Option (List ℕ)) (state : S) (ending : Option FeedFault)
+    (t : TakesAll m start net limit state feed report report' out out' ending) (is : Answer) (e : is ≡ last_of (m.at_end state) (bad_end ending)) where
+  served_last : Answer
+  served_last =
+      let s = left_by m start (events_of net limit t.text).events in
+      last_of (m.at_end s) (bad_end (wanted_end m s (events_of net limit t.text).ending))
+
+  same : is ≡ served_last
+  unfolding served_last
+  same =
+      e ∙ ap (λ e. last_of (m.at_end state) (bad_end e)) t.ends
+      ∙ ap (λ s. last_of (m.at_end s) (bad_end (wanted_end m s (events_of net limit t.text).ending))) t.reached
+
+  reported_is : (served_feed m start net limit t.text).report ≡ said_by m start (events_of net limit t.text).events ++ is.report
+  unfolding served_feed served_last
+  reported_is = ap (λ a. said_by m start (events_of net limit t.text).events ++ a.report) (sym same)
+
+  sent_is : (served_feed m start net limit t.text).out ≡ sent_by m start (events_of net limit t.text).events ++ is.out
+  unfolding served_feed served_last
+  sent_is = ap (λ a. sent_by m start (events_of net limit t.text).events ++ a.out) (sym same)
+
+  status_is : is.status ≡ (served_feed m start net limit t.text).status
+  unfolding served_feed served_last
+  status_is = ap (λ a. a.status) same
+
+  -- nothing more was printed, or all was stored
+  said-then : Appends report' report'' [] ⊎ Appends out' out'' is.out
+      → AppendsPart report report'' (said_by m start (events_of net limit t.text).events) ⊎ Appends out out'' (served_feed m start net limit t.text).out
+  said-then (inl none) = inl (AppendsPart-whole report report'' _ (subst (Appends report report'') (append-nil _) (Appends-trans report report' report'' _ _ t.reported none)))
+  said-then (inr all) = inr (subst (Appends out out'') (sym sent_is) (Appends-trans out out' out'' _ _ t.sent all))
+
+  -- and what comes last, or a part of it
+  pub serves-last : (r : Result Status Stop) → IfOk r (λ status. status ≡ is.status) → OnOk r (Appends report' report'' is.report) → OnOk r (Appends out' out'' is.out)
+      → AppendsPart report' report'' is.report → AppendsPart out' out'' is.out → Appends report' report'' [] ⊎ Appends out' out'' is.out → (IsErrOf r Stop.ReadFault → ⊥)
+      → KeepsUp (said_by m start) net limit feed feed' report report'
+      → Serves (said_by m start) (sent_by m start) (served_feed m start net limit) net limit feed feed' report report'' out out'' (is_err r) (status_in r)
+  serves-last (Ok status) p q s part_said part_sent order never kept = record {
+    text = t.text;
+    told = t.told;
+    gives = record {
+      answered = p ∙ status_is;
+      reported = subst (Appends report report'') (sym reported_is) (Appends-trans report report' report'' _ _ t.reported q);
+      sent = subst (Appends out out'') (sym sent_is) (Appends-trans out out' out'' _ _ t.sent s);
+    };
+  }
+  serves-last (Err stop) p q s part_said part_sent order never kept = record {
+    text = t.text;
+    told = t.told;
+    gives = record {
+      reported = AppendsPart-after report report' report'' _ is.report [] _ t.reported part_said (reported_is ∙ ap (λ w. said_by m start (events_of net limit t.text).events ++ w) (sym (append-nil _)));
+      sent = AppendsPart-after out out' out'' _ is.out [] _ t.sent part_sent (sent_is ∙ ap (λ w. sent_by m start (events_of net limit t.text).events ++ w) (sym (append-nil _)));
+      begun = (events_of net limit t.text).events;
+      later = [];
+      split = sym (append-nil _);
+      stored = record { more = part_sent.done; grew = Appends-trans out out' out'' _ _ t.sent part_sent.grew };
+      said = said-then order;
+      taken = λ f. absurd (never (ap Err (failed-so stop f)));
+      at_once = λ f. kept-more _ _ _ _ _ report report' report'' kept part_said;
+    };
+  }
+
+-- ---- by other names of what is printed and stored
+
+said-same : (lines lines' : List FeedEvent → List ℕ) (answer answer' : List ℕ → Answer) (report report' out out' : Option (List ℕ))
+    → ((events : List FeedEvent) → lines events ≡ lines' events) → ((text : List ℕ) → answer text ≡ answer' text) → (begun : List FeedEvent) (text : List ℕ)
+    → AppendsPart report report' (lines begun) ⊎ Appends out out' (answer text).out → AppendsPart report report' (lines' begun) ⊎ Appends out out' (answer' text).out
+said-same lines lines' answer answer' report report' out out' same_lines same_answer begun text (inl part) = inl (subst (AppendsPart report report') (same_lines begun) part)
+said-same lines lines' answer answer' report report' out out' same_lines same_answer begun text (inr all) = inr (subst (λ (a : Answer). Appends out out' a.out) (same_answer text) all)
+
+taken-same : (lines frames lines' frames' : List FeedEvent → List ℕ) (net : Net) (limit : ℕ) (feed feed' report report' out out' : Option (List ℕ))
+    → ((events : List FeedEvent) → lines events ≡ lines' events) → ((events : List FeedEvent) → frames events ≡ frames' events)
+    → WritesTaken lines frames net limit feed feed' report report' out out' → WritesTaken lines' frames' net limit feed feed' report report' out out'
+taken-same lines frames lines' frames' net limit feed feed' report report' out out' same_lines same_frames w = record {
+  taken = w.taken;
+  lost = w.lost;
+  further = w.further;
+  reported = subst (Appends report report') (same_lines _) w.reported;
+  sent = subst (Appends out out') (same_frames _) w.sent;
+}
+
+kept-same : (lines lines' : List FeedEvent → List ℕ) (net : Net) (limit : ℕ) (feed feed' report report' : Option (List ℕ)) → ((events : List FeedEvent) → lines events ≡ lines' events)
+    → KeepsUp lines net limit feed feed' report report' → KeepsUp lines' net limit feed feed' report report'
+kept-same lines lines' net limit feed feed' report report' same_lines k = record {
+  taken = k.taken;
+  lost = k.lost;
+  told = k.told;
+  late = k.late;
+  few = k.few;
+  settled = k.settled;
+  begun = k.begun;
+  reported = subst (λ l. Appends report report' (l ++ k.begun)) (same_lines k.told) k.reported;
+}
+
+module _ {lines frames lines' frames' : List FeedEvent → List ℕ} {answer answer' : List ℕ → Answer} {net : Net} {limit : ℕ} {feed feed' report report' out out' : Option (List ℕ)}
+    (same_lines : (events : List FeedEvent) → lines events ≡ lines' events) (same_frames : (events : List FeedEvent) → frames events ≡ frames' events) (same_answer : (text : List ℕ) → answer text ≡ answer' text) where
+  pub Serves-same : (stopped : Bool) (status : Status) → Serves lines frames answer net limit feed feed' report report' out out' stopped status
+      → Serves lines' frames' answer' net limit feed feed' report report' out out' stopped status
+  Serves-same true status s = record {
+    text = s.text;
+    told = s.told;
+    gives = record {
+      reported = subst (λ a. AppendsPart report report' a.report) (same_answer s.text) s.gives.reported;
+      sent = subst (λ a. AppendsPart out out' a.out) (same_answer s.text) s.gives.sent;
+      begun = s.gives.begun;
+      later = s.gives.later;
+      split = s.gives.split;
+      stored = record { more = s.gives.stored.more; grew = subst (λ w. Appends out out' (w ++ s.gives.stored.more)) (same_frames s.gives.begun) s.gives.stored.grew };
+      said = said-same lines lines' answer answer' report report' out out' same_lines same_answer s.gives.begun s.text s.gives.said;
+      taken = λ f. taken-same lines frames lines' frames' net limit feed feed' report report' out out' same_lines same_frames (s.gives.taken f);
+      at_once = λ f. kept-same lines lines' net limit feed feed' report report' same_lines (s.gives.at_once f);
+    };
+  }
+  Serves-same false status s = record {
+    text = s.text;
+    told = s.told;
+    gives = record {
+      answered = s.gives.answered ∙ ap (λ a. a.status) (same_answer s.text);
+      reported = subst (λ a. Appends report report' a.report) (same_answer s.text) s.gives.reported;
+      sent = subst (λ a. Appends out out' a.out) (same_answer s.text) s.gives.sent;
+    };
+  }
+
+-- ---- where nothing is stored, the port that would take it stays as it was
+
+said-quiet : (P : Type 0) (text : List ℕ) → text ≡ [] → (o o' out : Option (List ℕ)) → P ⊎ Appends o o' text → P ⊎ Appends out out text
+said-quiet P text none o o' out (inl part) = inl part
+said-quiet P text none o o' out (inr all) = inr (subst (Appends out out) (sym none) (Appends-nil out))
+
+taken-quiet : (lines : List FeedEvent → List ℕ) (net : Net) (limit : ℕ) (feed feed' report report' o o' out : Option (List ℕ))
+    → WritesTaken lines (λ events. []) net limit feed feed' report report' o o' → WritesTaken lines (λ events. []) net limit feed feed' report report' out out
+taken-quiet lines net limit feed feed' report report' o o' out w = record { taken = w.taken; lost = w.lost; further = w.further; reported = w.reported; sent = Appends-nil out }
+
+module _ {lines : List FeedEvent → List ℕ} {answer : List ℕ → Answer} {net : Net} {limit : ℕ} {feed feed' report report' : Option (List ℕ)} (none : (text : List ℕ) → (answer text).out ≡ []) (o o' out : Option (List ℕ)) where
+  pub Serves-quiet : (stopped : Bool) (status : Status) → Serves lines (λ events. []) answer net limit feed feed' report report' o o' stopped status
+      → Serves lines (λ events. []) answer net limit feed feed' report report' out out stopped status
+  Serves-quiet true status s = record {
+    text = s.text;
+    told = s.told;
+    gives = record {
+      reported = s.gives.reported;
+      sent = AppendsPart-none out _;
+      begun = s.gives.begun;
+      later = s.gives.later;
+      split = s.gives.split;
+      stored = record { more = []; grew = Appends-nil out };
+      said = said-quiet _ _ (none s.text) o o' out s.gives.said;
+      taken = λ f. taken-quiet lines net limit feed feed' report report' o o' out (s.gives.taken f);
+      at_once = s.gives.at_once;
+    };
+  }
+  Serves-quiet false status s = record {
+    text = s.text;
+    told = s.told;
+    gives = record { answered = s.gives.answered; reported = s.gives.reported; sent = subst (Appends out out) (sym (none s.text)) (Appends-nil out) };
+  }

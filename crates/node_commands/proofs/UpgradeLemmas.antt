@@ -1,5 +1,5 @@
 -- Each state is upgraded.
-use Rattle.std.proofs.Common.{◌≡◌, ℕ, suc, ◌≤◌, ◌∷◌, List, length, map, inl, inr, Ok, Err, sym, ap, ◌∙◌, subst, arith}
+use Rattle.std.proofs.Common.{◌≡◌, suc, ◌∷◌, length, map, inl, inr, Ok, Err, sym, ap, ◌∙◌, subst, arith}
 use Rattle.std.proofs.lemmas.List.{length-map}
 use Rattle.state_text.specs.Fits.{IsState}
 use Rattle.state_text.specs.Stored.{StateValue, state_text}
@@ -7,7 +7,6 @@ use Rattle.state_text.specs.Cached.{level_in}
 use Rattle.state_text.proofs.LevelLaws.{one_state, one_version}
 use Rattle.compact_node.specs.Node.{NodeState}
 use Rattle.compact_node.specs.State.{cached_level, stored_state, stored_text}
-use Rattle.feed_run.specs.Answer.{Answer}
 use Rattle.node_commands.specs.Upgrading.{upgraded, StatesAreUpgraded}
 
 -- a node has as many levels as what is stored of it

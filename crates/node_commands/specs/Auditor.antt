@@ -18,7 +18,6 @@ use Rattle.feed_run.specs.declared.status.Status.TheVariants as Status
 use Rattle.node_rules.specs.Machine.{Level, start, chain_of, issued, full_judge, event_in, never_stops}
 use Rattle.compact_node.specs.Throughout.{full_verdicts, full_after}
 use Rattle.bridge_prover.specs.Full.{history_of, judged_on}
-use Rattle.bridge_prover.specs.Watched.{scripts_of}
 use Rattle.clash_find.specs.Clashes.{TextClash}
 use Rattle.audit_replay.specs.declared.audit.AuditLine.{AuditLine}
 use Rattle.audit_replay.specs.declared.audit.AuditLine.TheVariants as Audited
@@ -29,7 +28,6 @@ use Rattle.report_lines.specs.Lines.{whole_line, clash_lines}
 use Rattle.node_commands.specs.Answers.{answer_with}
 use Rattle.node_commands.specs.Follow.{line_of, rules_of, chain_events}
 use Rattle.node_commands.specs.Machine.{is_refused, end_line}
-use Rattle.node_commands.specs.Watching.{list_in, with_list}
 
 -- what contracts see of `Auditor`
 pub record AuditorState : Type 0 where
@@ -123,7 +121,3 @@ audit_answer H limits net scripts feed =
     answer_unless (not (never_stops rules (full_judge H leaf_text scripts rules) start es))
     (answer_with lines [] (level_end (list_any is_refused told) (length events.events) net level) events.ending)
     lines (clash_text (length told) (shown_on H (fresh_audit net limits scripts) es))
-
--- the same with the watch list that may be named; where none is, nothing is watched
-abbrev pub audit_for : (List ℕ → Digest) → Limits → Net → (named : Bool) → (list feed : List ℕ) → Answer
-audit_for H limits net named list feed = with_list (list_in named limits.bytes list) (λ watch. audit_answer H limits net (scripts_of watch) feed)

@@ -1,5 +1,5 @@
 -- What `follow` answers to a feed.
-use Rattle.std.specs.Prelude.{◌≡◌, ℕ, Bool, List, [], ◌++◌, length, map, Option, unwrap_or}
+use Rattle.std.specs.Prelude.{◌≡◌, ℕ, List, [], ◌++◌, length, map, Option, unwrap_or}
 use Rattle.std.specs.List.{flat_map, list_any}
 use Rattle.uo_base.specs.declared.event.Limits.{Limits}
 use Rattle.uo_base.specs.declared.event.Net.{Net}
@@ -20,7 +20,6 @@ use Rattle.report_lines.specs.declared.line.Line.{Line}
 use Rattle.feed_run.specs.Answer.{Answer}
 use Rattle.node_commands.specs.Answers.{answer_with}
 use Rattle.report_lines.specs.Lines.{whole_line}
-use Rattle.node_commands.specs.Watching.{list_in, with_list}
 use Rattle.node_commands.specs.Machine.{end_by, is_refused}
 
 abbrev pub line_of : Verdict → List ℕ
@@ -40,6 +39,10 @@ events_for rules feed = events_of rules.net rules.limits.bytes feed
 
 abbrev pub chain_events : Events → List ChainEvent
 chain_events events = map event_in events.events
+
+-- the lines of some events by this node
+abbrev pub follow_lines : (List ℕ → Digest) → NodeState → List FeedEvent → List ℕ
+follow_lines H node events = flat_map line_of (verdicts_on H leaf_text node (map event_in events))
 
 -- what is answered by this node
 unfoldable pub follow_answer : (List ℕ → Digest) → NodeState → List ℕ → Answer
@@ -81,10 +84,6 @@ pub record IsAsOfFull (H : List ℕ → Digest) (scripts : List (List ℕ)) (rul
 abbrev pub fresh_for : Limits → Net → Option (List (List ℕ)) → NodeState
 fresh_for limits net list = fresh_node net limits (unwrap_or list [])
 
--- what `follow` answers with the watch list that may be named
-abbrev pub follow_for : (List ℕ → Digest) → Limits → Net → (named : Bool) → (list feed : List ℕ) → Answer
-follow_for H limits net named list feed = with_list (list_in named limits.bytes list) (λ scripts. follow_answer H (fresh_for limits net scripts) feed)
-
--- it is that of a node that holds every output
+-- what it answers is that of a node that holds every output
 abbrev pub PrintsAsFull : (List ℕ → Digest) → Limits → Net → Option (List (List ℕ)) → (feed : List ℕ) → Type 0
 PrintsAsFull H limits net list feed = IsAsOfFull H (unwrap_or list []) (rules_of limits net) start feed (follow_answer H (fresh_for limits net list) feed)

@@ -1,19 +1,18 @@
 -- what public clauses cite
 pub mod Answers
-pub mod Complete
+pub mod Auditing
 pub mod Auditor
+pub mod Commands
 pub mod Follow
+pub mod Following
 pub mod Forging
 pub mod Generating
 pub mod Machine
-pub mod Order
+pub mod Meaning
 pub mod Prover
 pub mod Proving
-pub mod Resuming
 pub mod Runs
 pub mod Starting
 pub mod Stopping
 pub mod Upgrading
 pub mod Watching
--- what only this crate's own proofs and private functions cite
-pub mod Within

@@ -1,6 +1,6 @@
 -- The machine of `prove`: a bridge, how many events it was told, and whether it refused one. And what `prove` answers to a feed, by the node
 -- that it stands for.
-use Rattle.std.specs.Prelude.{◌≡◌, ℕ, ◌+◌, ◌<◌, ◌^◌, ◌||◌, Bool, false, List, [], length, map, Option, Some, if◌then◌else◌}
+use Rattle.std.specs.Prelude.{◌≡◌, ℕ, ◌+◌, ◌<◌, ◌^◌, ◌||◌, Bool, true, false, List, [], length, map, Option, Some, if◌then◌else◌}
 use Rattle.std.specs.List.{flat_map, list_any, AllByRecursion}
 use Rattle.uo_base.specs.declared.event.Limits.{Limits}
 use Rattle.uo_base.specs.declared.event.Net.{Net}
@@ -21,8 +21,9 @@ use Rattle.report_lines.specs.Lines.{whole_line}
 use Rattle.node_commands.specs.Answers.{answer_with}
 use Rattle.node_commands.specs.Follow.{line_of, rules_of}
 use Rattle.node_commands.specs.Machine.{is_refused, follow_end}
+use Rattle.node_commands.specs.Meaning.{Meaning, IsEnd}
 use Rattle.node_commands.specs.Proving.{proving_text, proving_verdicts, proving_chain}
-use Rattle.node_commands.specs.Watching.{list_in, with_list}
+use Rattle.node_commands.specs.Watching.{list_in, IsGood}
 
 -- what contracts see of `Prover`
 pub record ProverState : Type 0 where
@@ -86,9 +87,20 @@ prove_answer H limits net watch feed =
     answer_with (flat_map line_of told) (proving_text H watch rules events.events)
     (follow_end (list_any is_refused told) (length events.events) (proving_chain rules events.events)) events.ending
 
--- the same with the watch list that may be named
-abbrev pub prove_for : (List ℕ → Digest) → Limits → Net → (named : Bool) → (list feed : List ℕ) → Answer
-prove_for H limits net named list feed = with_list (list_in named limits.bytes list) (λ watch. prove_answer H limits net watch feed)
+-- What `prove` means. What is printed and stored of some first events is what the proving node says and writes of them.
+abbrev pub proving : (List ℕ → Digest) → Limits → Net → (named : Bool) → Meaning
+proving H limits net named = record {
+  uses = record { feed = true; prior = false; watch = named; out = true; steps = true };
+  Begun = Option (List (List ℕ));
+  Begins = λ prior watch begun. begun ≡ list_in named limits.bytes watch;
+  net = λ list. net;
+  lines = λ list events. flat_map line_of (proving_verdicts (rules_of limits net) events);
+  frames = λ list events. proving_text H list (rules_of limits net) events;
+  answer = prove_answer H limits net;
+  Claims = λ inputs. Unit {0};
+  AreGood = λ feed prior watch. IsGood named net limits watch feed;
+  Ends = IsEnd;
+}
 
 -- ---- within the program
 

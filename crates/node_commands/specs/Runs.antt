@@ -1,165 +1,115 @@
--- The whole answer to the words of a command line, and what a run does with it.
-use Rattle.std.specs.Prelude.{◌≡◌, ℕ, Bool, true, false, List, None, Result, Ok, Err, IfOk, IsTrue, is_some}
+-- What a run did.
+use Rattle.std.specs.Prelude.{◌≡◌, ◌⊎◌, ℕ, Bool, true, false, List, [], ◌++◌, None, Some, Result, Ok, Err, IfSome, IsTrue}
 use Rattle.std.specs.declared.option.Option.{Option}
 use Rattle.std.specs.Io.KnownBytes.{Appends}
-use Rattle.uo_base.specs.declared.event.Limits.{Limits}
+use Rattle.uo_base.specs.declared.event.Net.{Net}
 use Rattle.uo_base.specs.Faults.{Rose}
-use Rattle.uo_digest.specs.declared.digest.Digest.{Digest}
+use Rattle.uo_base.specs.FeedEvent.{FeedEvent}
 use Rattle.uo_base.specs.Moved.{AppendsPart}
 use Rattle.uo_base.specs.Told.{Tells}
-use Rattle.report_lines.specs.declared.line.Line.TheVariants as Line
-use Rattle.feed_run.specs.declared.status.Status.{Status}
-use Rattle.feed_run.specs.declared.status.Status.TheVariants.{Words}
-use Rattle.command_words.specs.declared.words.WordFault.{WordFault}
+use Rattle.feed_frame.specs.Events.{events_of}
+use Rattle.feed_frame.specs.Streamed.{WritesTaken, KeepsUp}
 use Rattle.feed_run.specs.Answer.{Answer}
-use Rattle.bridge_prover.specs.Watched.{scripts_of}
-use Rattle.node_commands.specs.Answers.{said}
-use Rattle.node_commands.specs.Auditor.{fresh_auditor, audit_machine, audit_for}
-use Rattle.feed_frame.specs.Streamed.{WritesTaken}
-use Rattle.feed_run.specs.Machine.{goes, says, sends}
-use Rattle.node_commands.specs.Complete.{AreGood, EndsBy}
-use Rattle.node_commands.specs.Follow.{fresh_for, follow_for, PrintsAsFull}
-use Rattle.node_commands.specs.Forging.{AuditsFeed}
-use Rattle.node_commands.specs.Generating.{gen_answer}
-use Rattle.node_commands.specs.Machine.{follower_of, follow_machine}
-use Rattle.node_commands.specs.Prover.{fresh_prover, prove_machine, prove_for}
-use Rattle.node_commands.specs.Order.{FollowsLast, ProvesFirst, GeneratesFirst}
-use Rattle.node_commands.specs.Proving.{FollowsProving}
-use Rattle.node_commands.specs.Starting.{Start, MayStart, begun_answer, ResumesAsFull, Resumed}
-use Rattle.node_commands.specs.Watching.{list_in, ByList}
+use Rattle.feed_run.specs.declared.status.Status.{Status}
+use Rattle.feed_run.specs.declared.stop.Stop.{Stop}
 use Rattle.feed_run.specs.Status.{is_stop}
-use Rattle.command_words.specs.Words.{ToFollow, Asked, AskedFollow, AskedProve, AskedAudit, AskedGen, net_for, command_of}
+use Rattle.report_lines.specs.Lines.{whole_line}
+use Rattle.node_commands.specs.declared.bad_input.BadInput.{BadInput}
+use Rattle.node_commands.specs.Meaning.{Inputs, Meaning}
+use Rattle.node_commands.specs.Answers.{said}
 
--- the bytes of the three inputs, and what was read of the prior state, unless the run was stopped before
-pub record Inputs : Type 0 where
-  pub feed : List ℕ
-  pub prior : List ℕ
-  pub watch : List ℕ
-  pub begun : Option Start
+-- ---- over a feed
 
--- the ports that a command uses beside the report
-pub record Uses : Type 0 where
-  pub feed : Bool
-  pub prior : Bool
-  pub watch : Bool
-  pub out : Bool
+-- known bytes grew by a text that begins with this one
+pub record GrowsFrom (old new : Option (List ℕ)) (text : List ℕ) : Type 0 where
+  pub more : List ℕ
+  pub grew : Appends old new (text ++ more)
 
-abbrev pub uses_by : Result Asked WordFault → Uses
-uses_by (Err fault) = record { feed = false; prior = false; watch = false; out = false }
-uses_by (Ok (AskedFollow f)) = record { feed = true; prior = is_some f.from; watch = is_some f.watch; out = true }
-uses_by (Ok (AskedProve net feed to list)) = record { feed = true; prior = false; watch = is_some list; out = true }
-uses_by (Ok (AskedAudit net feed list)) = record { feed = true; prior = false; watch = is_some list; out = false }
-uses_by (Ok (AskedGen net number blocks to)) = record { feed = false; prior = false; watch = false; out = true }
-
-abbrev pub uses_of : List (List ℕ) → Uses
-uses_of words = uses_by (command_of words)
-
--- the whole answer of `follow`, from a prior state where one is named, else from the start
-abbrev pub follow_by : (resumed : Bool) → (List ℕ → Digest) → Limits → ToFollow → Inputs → Answer
-follow_by true H limits f inputs = begun_answer H inputs.begun inputs.feed
-follow_by false H limits f inputs = follow_for H limits (net_for f.net) (is_some f.watch) inputs.watch inputs.feed
-
--- the whole answer to a command, or to words that are refused
-abbrev pub answer_by : (List ℕ → Digest) → Result Asked WordFault → Limits → Inputs → Answer
-answer_by H (Err fault) limits inputs = said Words (Line.Words fault.at)
-answer_by H (Ok (AskedFollow f)) limits inputs = follow_by (is_some f.from) H limits f inputs
-answer_by H (Ok (AskedProve net feed to list)) limits inputs = prove_for H limits net (is_some list) inputs.watch inputs.feed
-answer_by H (Ok (AskedAudit net feed list)) limits inputs = audit_for H limits net (is_some list) inputs.watch inputs.feed
-answer_by H (Ok (AskedGen net number blocks to)) limits inputs = gen_answer number blocks net
-
--- the whole answer to the words of a command line
-unfoldable pub answer_of : (List ℕ → Digest) → List (List ℕ) → Limits → Inputs → Answer
-answer_of H words limits inputs = answer_by H (command_of words) limits inputs
-
--- the inputs are these, where their sources tell them
-pub record Agrees (feed prior watch : Option (List ℕ)) (inputs : Inputs) : Type 0 where
-  pub on_feed : Tells feed inputs.feed
-  pub on_prior : Tells prior inputs.prior
-  pub on_watch : Tells watch inputs.watch
-
--- ---- what a run did
-
--- it gave the whole of an answer
+-- the whole answer was given
 pub record IsGiven (answer : Answer) (report report' out out' : Option (List ℕ)) (status : Status) : Type 0 where
   pub answered : status ≡ answer.status
   pub reported : Appends report report' answer.report
   pub sent : Appends out out' answer.out
 
--- it wrote a part of it
-pub record IsBegun (answer : Answer) (report report' out out' : Option (List ℕ)) : Type 0 where
+-- A fault or want of memory stopped a run within its answer to these events of a feed, so a part of it was written. Of the events whose lines were
+-- begun all is stored that they store; and the report has nothing else, or all that is to be stored is. Where the feed failed, the lines of all events
+-- are there whose frames were wholly taken from it, and what they store; and where a sink failed those of all but the last two.
+pub record IsStopped (lines frames : List FeedEvent → List ℕ) (answer : Answer) (events : List FeedEvent) (net : Net) (limit : ℕ)
+    (feed feed' report report' out out' : Option (List ℕ)) (status : Status) : Type 0 where
   pub reported : AppendsPart report report' answer.report
   pub sent : AppendsPart out out' answer.out
+  pub begun : List FeedEvent
+  pub later : List FeedEvent
+  pub split : events ≡ begun ++ later
+  pub stored : GrowsFrom out out' (frames begun)
+  pub said : AppendsPart report report' (lines begun) ⊎ Appends out out' answer.out
+  pub taken : status ≡ Status.ReadFault → WritesTaken lines frames net limit feed feed' report report' out out'
+  pub at_once : status ≡ Status.WriteFault → KeepsUp lines net limit feed feed' report report'
 
-abbrev pub GivesBy : (stopped : Bool) → Answer → (report report' out out' : Option (List ℕ)) → Status → Type 0
-GivesBy true answer report report' out out' status = IsBegun answer report report' out out'
-GivesBy false answer report report' out out' status = IsGiven answer report report' out out' status
+abbrev pub Gives : (lines frames : List FeedEvent → List ℕ) → Answer → List FeedEvent → Net → (limit : ℕ) → (feed feed' report report' out out' : Option (List ℕ)) → (stopped : Bool) → Status → Type 0
+Gives lines frames answer events net limit feed feed' report report' out out' true status = IsStopped lines frames answer events net limit feed feed' report report' out out' status
+Gives lines frames answer events net limit feed feed' report report' out out' false status = IsGiven answer report report' out out' status
 
--- a run that a fault or want of memory stopped wrote a part of the answer, and each other run gave the whole answer
-abbrev pub Gives : Answer → (report report' out out' : Option (List ℕ)) → Status → Type 0
-Gives answer report report' out out' status = GivesBy (is_stop status) answer report report' out out' status
+-- there is a text of the feed, which is the told one; to it the answer was given, or the run was stopped within it
+pub record Serves (lines frames : List FeedEvent → List ℕ) (answer : List ℕ → Answer) (net : Net) (limit : ℕ) (feed feed' report report' out out' : Option (List ℕ)) (stopped : Bool) (status : Status) : Type 0 where
+  pub text : List ℕ
+  pub told : Tells feed text
+  pub gives : Gives lines frames (answer text) (events_of net limit text).events net limit feed feed' report report' out out' stopped status
 
--- What `follow` prints and stores of honest events is what a node prints and stores that holds every output, and at the first event that is forged `audit`
--- shows two different texts with one digest. The answer of `prove` is defined by such a node, and `gen` judges nothing.
-abbrev pub IsAsFull : (List ℕ → Digest) → Result Asked WordFault → Limits → Inputs → Type 0
-IsAsFull H (Err fault) limits inputs = Unit {0}
-IsAsFull H (Ok (AskedFollow f)) limits inputs =
-    Resumed (is_some f.from) (ResumesAsFull H limits inputs.prior inputs.feed inputs.begun)
-    (IfOk (list_in (is_some f.watch) limits.bytes inputs.watch) (λ list. PrintsAsFull H limits (net_for f.net) list inputs.feed))
-IsAsFull H (Ok (AskedProve net feed to list)) limits inputs = Unit {0}
-IsAsFull H (Ok (AskedAudit net feed list)) limits inputs = IfOk (list_in (is_some list) limits.bytes inputs.watch) (λ scripts. AuditsFeed H limits net (scripts_of scripts) inputs.feed)
-IsAsFull H (Ok (AskedGen net number blocks to)) limits inputs = Unit {0}
+-- ---- of a command
 
--- What `follow` answers from the start to a feed that a proving node wrote, with messages in full or lean ones for the list that is named, has the lines of
--- that node's accepted blocks and made rollbacks.
-abbrev pub IsAsProved : (List ℕ → Digest) → Result Asked WordFault → Limits → Inputs → Type 0
-IsAsProved H (Err fault) limits inputs = Unit {0}
-IsAsProved H (Ok (AskedFollow f)) limits inputs =
-    Resumed (is_some f.from) (Unit {0}) (IfOk (list_in (is_some f.watch) limits.bytes inputs.watch) (λ list. FollowsProving H (fresh_for limits (net_for f.net) list) inputs.feed))
-IsAsProved H (Ok (AskedProve net feed to list)) limits inputs = Unit {0}
-IsAsProved H (Ok (AskedAudit net feed list)) limits inputs = Unit {0}
-IsAsProved H (Ok (AskedGen net number blocks to)) limits inputs = Unit {0}
+-- a run was stopped before it began: nothing was taken of the feed, and nothing was written
+pub record IsUnbegun (feed feed' report report' out out' : Option (List ℕ)) : Type 0 where
+  pub lost : feed' ≡ feed
+  pub reported : Appends report report' []
+  pub sent : Appends out out' []
 
--- There are inputs, which are the told ones where they are told. The run gave the answer to them, or was stopped within it; and that answer is
--- as a node answers that holds every output, with two texts at a forged event, and over what a proving node wrote as that node told.
-pub record Did (H : List ℕ → Digest) (words : List (List ℕ)) (limits : Limits) (feed prior watch report report' out out' : Option (List ℕ)) (status : Status) : Type 0 where
-  pub inputs : Inputs
+-- or within the one line that says why an input can not be used
+pub record IsRefusing (bad : BadInput) (feed feed' report report' out out' : Option (List ℕ)) : Type 0 where
+  pub lost : feed' ≡ feed
+  pub reported : AppendsPart report report' (whole_line bad.line)
+  pub sent : Appends out out' []
+
+-- what a run gave by what it began with
+abbrev pub GivesBy : (m : Meaning) → (limit : ℕ) → Option (Result m.Begun BadInput) → (text : List ℕ) → (feed feed' report report' out out' : Option (List ℕ)) → (stopped : Bool) → Status → Type 0
+GivesBy m limit None text feed feed' report report' out out' true status = IsUnbegun feed feed' report report' out out'
+GivesBy m limit None text feed feed' report report' out out' false status = ⊥
+GivesBy m limit (Some (Err bad)) text feed feed' report report' out out' true status = IsRefusing bad feed feed' report report' out out'
+GivesBy m limit (Some (Err bad)) text feed feed' report report' out out' false status = IsGiven (said bad.status bad.line) report report' out out' status
+GivesBy m limit (Some (Ok begun)) text feed feed' report report' out out' stopped status =
+    Gives (m.lines begun) (m.frames begun) (m.answer begun text) (events_of (m.net begun) limit text).events (m.net begun) limit feed feed' report report' out out' stopped status
+
+-- the inputs are these, where their sources tell them
+pub record Agrees {Begun : Type 0} (feed prior watch : Option (List ℕ)) (inputs : Inputs Begun) : Type 0 where
+  pub on_feed : Tells feed inputs.feed
+  pub on_prior : Tells prior inputs.prior
+  pub on_watch : Tells watch inputs.watch
+
+-- There are inputs, which are the told ones where they are told. By what the run began with it gave its whole answer, or was stopped within it.
+pub record Ran (m : Meaning) (limit : ℕ) (feed feed' prior watch report report' out out' : Option (List ℕ)) (stopped : Bool) (status : Status) : Type 0 where
+  pub inputs : Inputs m.Begun
   pub told : Agrees feed prior watch inputs
-  pub begins : MayStart H limits inputs.prior inputs.begun
-  pub gives : Gives (answer_of H words limits inputs) report report' out out' status
-  pub as_full : IsAsFull H (command_of words) limits inputs
-  pub as_proved : IsAsProved H (command_of words) limits inputs
-  pub complete : AreGood H (command_of words) limits inputs.feed inputs.prior inputs.watch → EndsBy (command_of words) status
+  pub begins : IfSome inputs.begun (m.Begins inputs.prior inputs.watch)
+  pub gives : GivesBy m limit inputs.begun inputs.feed feed feed' report report' out out' stopped status
 
--- ---- where the feed failed
+-- ---- the run
 
--- the lines of all events whose frames were wholly taken are in the report, and of `prove` their frames are stored. Of a run that goes on from a
--- prior state `ResumedTakes` says it
-abbrev pub ReportsTaken : (List ℕ → Digest) → Result Asked WordFault → Limits → (watch feed feed' report report' out out' : Option (List ℕ)) → Type 0
-ReportsTaken H (Err fault) limits watch feed feed' report report' out out' = Unit {0}
-ReportsTaken H (Ok (AskedFollow f)) limits watch feed feed' report report' out out' =
-    let m = follow_machine H in
-    let net = net_for f.net in
-    Resumed (is_some f.from) (Unit {0})
-    (ByList (is_some f.watch) limits.bytes watch (λ list. WritesTaken (goes m) (says m) (sends m) (follower_of (fresh_for limits net list)) net limits.bytes feed feed' report report' out out'))
-ReportsTaken H (Ok (AskedProve net file to list)) limits watch feed feed' report report' out out' =
-    let m = prove_machine H in
-    ByList (is_some list) limits.bytes watch (λ scripts. WritesTaken (goes m) (says m) (sends m) (fresh_prover net limits scripts) net limits.bytes feed feed' report report' out out')
-ReportsTaken H (Ok (AskedAudit net file list)) limits watch feed feed' report report' out out' =
-    let m = audit_machine H in
-    ByList (is_some list) limits.bytes watch (λ scripts. WritesTaken (goes m) (says m) (sends m) (fresh_auditor net limits (scripts_of scripts)) net limits.bytes feed feed' report report' None None)
-ReportsTaken H (Ok (AskedGen net number blocks to)) limits watch feed feed' report report' out out' = Unit {0}
+-- It ran so, all holds that is claimed of its answer to these inputs, and where none of them is bad it came to its end.
+pub record Did (m : Meaning) (limit : ℕ) (feed feed' prior watch report report' out out' : Option (List ℕ)) (status : Status) : Type 0 where
+  pub ran : Ran m limit feed feed' prior watch report report' out out' (is_stop status) status
+  pub claims : m.Claims ran.inputs
+  pub complete : m.AreGood ran.inputs.feed ran.inputs.prior ran.inputs.watch → m.Ends status
 
--- ---- what is stored before what is printed
+-- the status of a run that was stopped so
+abbrev pub stop_status : Stop → Status
+stop_status Stop.ReadFault = Status.ReadFault
+stop_status Stop.WriteFault = Status.WriteFault
+stop_status Stop.NoMemory = Status.NoMemory
 
--- whenever the report of `prove` has the lines of some first events, their frames are stored; whenever that of `follow` has more than the lines
--- of all events, its state is; and whenever that of `gen` has anything, its feed is
-abbrev pub StoresBefore : (List ℕ → Digest) → Result Asked WordFault → Limits → (watch feed report report' out out' : Option (List ℕ)) → Type 0
-StoresBefore H (Err fault) limits watch feed report report' out out' = Unit {0}
-StoresBefore H (Ok (AskedFollow f)) limits watch feed report report' out out' =
-    Resumed (is_some f.from) (Unit {0}) (ByList (is_some f.watch) limits.bytes watch (λ list. FollowsLast H (fresh_for limits (net_for f.net) list) feed report report' out out'))
-StoresBefore H (Ok (AskedProve net file to list)) limits watch feed report report' out out' = ByList (is_some list) limits.bytes watch (λ scripts. ProvesFirst H limits net scripts feed report report' out out')
-StoresBefore H (Ok (AskedAudit net file list)) limits watch feed report report' out out' = Unit {0}
-StoresBefore H (Ok (AskedGen net number blocks to)) limits watch feed report report' out out' = GeneratesFirst number blocks net report report' out out'
+-- the status of a call within a run
+abbrev pub status_in : Result Status Stop → Status
+status_in (Ok status) = status
+status_in (Err stop) = stop_status stop
 
 -- a port that is used failed
 abbrev pub UsedRose : Bool → ℕ → ℕ → Type 0

@@ -1,5 +1,5 @@
--- The prior state that the words may name: what is read of it, and how a run goes on from there.
-use Rattle.std.specs.Prelude.{◌≡◌, ◌⊎◌, ℕ, ◌<◌, ◌≤◌, Bool, true, false, List, [], length, map, Some, None, Result, Ok, Err, IfSome}
+-- The prior state that the words may name: what is read of it, and what is answered from there.
+use Rattle.std.specs.Prelude.{◌≡◌, ◌⊎◌, ℕ, ◌<◌, ◌≤◌, List, length, map, None, Result, Ok, Err, IfSome}
 use Rattle.std.specs.declared.option.Option.{Option}
 use Rattle.std.specs.List.{AllByRecursion}
 use Rattle.uo_base.specs.declared.event.Limits.{Limits}
@@ -17,6 +17,7 @@ use Rattle.state_text.specs.OfHistory.{state_of}
 use Rattle.compact_node.specs.Node.{NodeState, IsNode}
 use Rattle.compact_node.specs.State.{IsReadAs}
 use Rattle.compact_node.specs.Throughout.{full_after}
+use Rattle.feed_frame.specs.Events.{events_of}
 use Rattle.feed_run.specs.Answer.{Answer}
 use Rattle.feed_run.specs.declared.status.Status.TheVariants as Status
 use Rattle.report_lines.specs.declared.line.Line.TheVariants as Line
@@ -66,27 +67,24 @@ pub record IsStartOf (H : List ℕ → Digest) (limits : Limits) (left : Option 
   pub told : Tells left text
   pub is : IsStart H limits text begun
 
+-- the prior bytes are a state, in either version, and no more than may be read
+pub record IsUsable (H : List ℕ → Digest) (limits : Limits) (prior : List ℕ) : Type 0 where
+  pub state : StateValue
+  pub is : IsState H limits.leaves state
+  pub text : IsTextOf state prior
+  pub short : length prior ≤ limits.bytes
+
+-- and the feed, of the state's network, has no bad frame and no more bytes than may be read
+pub record IsGoodBehind (H : List ℕ → Digest) (limits : Limits) (prior feed : List ℕ) : Type 0 where
+  pub usable : IsUsable H limits prior
+  pub whole : (events_of usable.state.net limits.bytes feed).ending ≡ None
+
 -- ---- what is answered
 
 -- by the node, or the one line that says why there is none
 abbrev pub start_answer : (List ℕ → Digest) → Start → List ℕ → Answer
 start_answer H (Ok node) feed = follow_answer H node feed
 start_answer H (Err bad) feed = said bad.status bad.line
-
--- The same where the run may have been stopped before the state was read: then nothing is written. No run that goes on has this status.
-abbrev pub begun_answer : (List ℕ → Digest) → Option Start → List ℕ → Answer
-begun_answer H None feed = record { status = Status.NoMemory; report = []; out = [] }
-begun_answer H (Some begun) feed = start_answer H begun feed
-
--- this was read of the prior state, unless the run was stopped before
-abbrev pub MayStart : (List ℕ → Digest) → Limits → List ℕ → Option Start → Type 0
-MayStart H limits text None = Unit {0}
-MayStart H limits text (Some begun) = IsStart H limits text begun
-
--- of a run that goes on from a prior state, and of one from the start
-abbrev pub Resumed : (resumed : Bool) → (goes_on fresh : Type 0) → Type 0
-Resumed true goes_on fresh = goes_on
-Resumed false goes_on fresh = fresh
 
 -- The state, in either version, of a node that holds every output and watches these scripts, after any events from its start of which no proof is
 -- forged: a run that goes on from it answers what that node answers.

@@ -1,21 +1,19 @@
--- What `upgrade state` answers.
-use Rattle.std.specs.Prelude.{◌≡◌, ◌≤◌, ◌<◌, ◌^◌, ℕ, suc, List, length, Ok, Err}
-use Rattle.std.specs.declared.option.Option.{Option}
-use Rattle.std.specs.Io.KnownBytes.{Appends}
+-- What `upgrade state` answers, and what it means.
+use Rattle.std.specs.Prelude.{◌≡◌, ◌⊎◌, ◌≤◌, ◌<◌, ◌^◌, ℕ, suc, true, false, List, [], length, Ok, Err, IfSome}
 use Rattle.uo_base.specs.declared.event.Limits.{Limits}
-use Rattle.uo_base.specs.Moved.{AppendsPart}
 use Rattle.uo_digest.specs.declared.digest.Digest.{Digest}
 use Rattle.state_text.specs.Fits.{IsState}
 use Rattle.state_text.specs.Stored.{StateValue, state_text, IsTextOf}
 use Rattle.compact_node.specs.Node.{NodeState}
 use Rattle.compact_node.specs.State.{stored_text}
 use Rattle.feed_run.specs.Answer.{Answer}
-use Rattle.feed_run.specs.declared.status.Status.{Status}
 use Rattle.feed_run.specs.declared.status.Status.TheVariants.{AllAccepted}
+use Rattle.feed_run.specs.Status.{is_stop}
 use Rattle.report_lines.specs.declared.line.Line.TheVariants.{UpgradedState}
 use Rattle.report_lines.specs.Lines.{whole_line}
 use Rattle.node_commands.specs.Answers.{said}
-use Rattle.node_commands.specs.Starting.{Start, IsStart}
+use Rattle.node_commands.specs.Meaning.{Meaning}
+use Rattle.node_commands.specs.Starting.{Start, IsStart, IsUsable}
 
 -- how many levels there are, and what is stored of them
 abbrev pub upgraded : (levels : ℕ) → (stored : List ℕ) → Answer
@@ -33,17 +31,17 @@ UpgradesState H limits prior begun = (s : StateValue) → IsState H limits.leave
 abbrev pub StatesAreUpgraded : Type 0
 StatesAreUpgraded = (H : List ℕ → Digest) (limits : Limits) (prior : List ℕ) (begun : Start) → limits.leaves < 2 ^ 40 → IsStart H limits prior begun → UpgradesState H limits prior begun
 
--- the whole answer was given, by what was read of the prior state
-pub record EndsUpgraded (IsFirst : Start → Type 0) (report report' out out' : Option (List ℕ)) (status : Status) : Type 0 where
-  pub begun : Start
-  pub is : IsFirst begun
-  pub answered : status ≡ (upgrade_answer begun).status
-  pub reported : Appends report report' (upgrade_answer begun).report
-  pub sent : Appends out out' (upgrade_answer begun).out
-
--- a part of it was written
-pub record StaysUpgraded (IsFirst : Start → Type 0) (report report' out out' : Option (List ℕ)) : Type 0 where
-  pub begun : Start
-  pub is : IsFirst begun
-  pub reported : AppendsPart report report' (upgrade_answer begun).report
-  pub sent : AppendsPart out out' (upgrade_answer begun).out
+-- it reads no feed, but digests what it reads of the state
+abbrev pub upgrading_state : (List ℕ → Digest) → Limits → Meaning
+upgrading_state H limits = record {
+  uses = record { feed = false; prior = true; watch = false; out = true; steps = true };
+  Begun = NodeState;
+  Begins = λ prior watch begun. IsStart H limits prior begun;
+  net = λ node. node.rules.net;
+  lines = λ node events. [];
+  frames = λ node events. [];
+  answer = λ node feed. upgraded (suc (length node.older)) (stored_text node);
+  Claims = λ inputs. IfSome inputs.begun (UpgradesState H limits inputs.prior);
+  AreGood = λ feed prior watch. IsUsable H limits prior;
+  Ends = λ status. (status ≡ AllAccepted) ⊎ (is_stop status ≡ true);
+}

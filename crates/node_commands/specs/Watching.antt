@@ -1,13 +1,14 @@
--- The watch list that the words may name: what it says, and what a bad one makes of a run.
-use Rattle.std.specs.Prelude.{◌≡◌, ℕ, nat_lt, Bool, true, false, List, [], length, Some, None, Result, Ok, Err, IfOk, if◌then◌else◌}
+-- The watch list that the words may name.
+use Rattle.std.specs.Prelude.{◌≡◌, ℕ, nat_lt, Bool, true, false, List, [], length, Some, None, Result, Ok, Err, if◌then◌else◌}
 use Rattle.std.specs.declared.option.Option.{Option}
+use Rattle.uo_base.specs.declared.event.Limits.{Limits}
+use Rattle.uo_base.specs.declared.event.Net.{Net}
 use Rattle.uo_base.specs.Told.{Tells}
 use Rattle.leaf_cache.specs.Watched.{lines_of, first_bad, listed}
-use Rattle.feed_run.specs.Answer.{Answer}
+use Rattle.feed_frame.specs.Events.{events_of}
 use Rattle.feed_run.specs.declared.status.Status.TheVariants as Status
 use Rattle.report_lines.specs.declared.line.Line.TheVariants as Line
 use Rattle.node_commands.specs.declared.bad_input.BadInput.{BadInput}
-use Rattle.node_commands.specs.Answers.{said}
 
 -- the scripts of a list, if none of its lines is bad
 abbrev pub unless_bad : Option ℕ → List (List ℕ) → Result (Option (List (List ℕ))) BadInput
@@ -22,19 +23,14 @@ unfoldable pub list_in : (named : Bool) → (limit : ℕ) → List ℕ → Resul
 list_in false limit text = Ok None
 list_in true limit text = if nat_lt limit (length text) then Err (record { status = Status.InputLimit; line = Line.LimitWatch limit }) else scripts_in text
 
--- the answer with it, or the one line that says why it can not be used
-abbrev pub with_list : Result (Option (List (List ℕ))) BadInput → (Option (List (List ℕ)) → Answer) → Answer
-with_list (Ok list) answer = answer list
-with_list (Err bad) answer = said bad.status bad.line
-
--- there is a text of the list, which is the one that is told; what is said holds with that list, if it can be used
-pub record ByList (named : Bool) (limit : ℕ) (left : Option (List ℕ)) (P : Option (List (List ℕ)) → Type 0) : Type 0 where
-  pub text : List ℕ
-  pub told : Tells left text
-  pub holds : IfOk (list_in named limit text) P
-
 -- this was made of the list that is told
 pub record IsListOf (named : Bool) (limit : ℕ) (left : Option (List ℕ)) (list : Result (Option (List (List ℕ))) BadInput) : Type 0 where
   pub text : List ℕ
   pub told : Tells left text
   pub is : list ≡ list_in named limit text
+
+-- the watch list can be used, if one is named, and the feed has no bad frame and no more bytes than may be read
+pub record IsGood (named : Bool) (net : Net) (limits : Limits) (list feed : List ℕ) : Type 0 where
+  pub scripts : Option (List (List ℕ))
+  pub usable : list_in named limits.bytes list ≡ Ok scripts
+  pub whole : (events_of net limits.bytes feed).ending ≡ None

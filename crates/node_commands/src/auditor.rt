@@ -1,7 +1,7 @@
 //! What a run of `audit` keeps from event to event.
 ghost use Rattle.std.specs.Prelude.{◌≡◌, ◌<◌, ◌^◌, ◌+◌, ◌++◌, false, IfOk, OnOk};
 ghost use Rattle.uo_base.specs.FeedEvent.{event_of};
-ghost use Rattle.compact_node.specs.Node.{IsShort};
+ghost use Rattle.node_rules.specs.Fitting.{IsShort};
 ghost use Rattle.audit_replay.specs.Audit.{verdict_in};
 ghost use Rattle.node_commands.specs.Auditor.{AuditorState, fresh_auditor, next_auditor, refuses, audited_text, judged_line, audit_machine};
 

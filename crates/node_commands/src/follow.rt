@@ -1,19 +1,15 @@
 //! The command that judges a feed event by event.
-ghost use Rattle.std.specs.Prelude.{◌≡◌, ◌≤◌, ◌<◌, ◌^◌, ◌⊎◌, false, IfOk, IsErrOf};
+ghost use Rattle.std.specs.Prelude.{◌≡◌, ◌≤◌, ◌<◌, ◌^◌, ◌⊎◌, ℕ, List, [], Option, false, IfOk, IsErrOf, is_err};
 ghost use Rattle.std.specs.Bool.{OnFalse};
 ghost use Rattle.uo_base.specs.Faults.{Rose};
-ghost use Rattle.feed_frame.specs.Streamed.{WritesTaken};
-ghost use Rattle.feed_run.specs.Machine.{goes, says, sends};
 ghost use Rattle.feed_run.specs.Status.{is_stop};
-ghost use Rattle.node_commands.specs.Follow.{fresh_for, follow_answer, follow_for};
-ghost use Rattle.node_commands.specs.Machine.{follower_of, follow_machine};
-ghost use Rattle.node_commands.specs.Order.{FollowsLast};
-ghost use Rattle.node_commands.specs.Runs.{UsedRose};
-ghost use Rattle.node_commands.specs.Watching.{ByList};
-ghost use Rattle.node_commands.specs.Within.{Ends, StaysWithin, EndsOver, StaysOver};
+ghost use Rattle.node_commands.specs.Follow.{follow_lines, follow_answer};
+ghost use Rattle.node_commands.specs.Following.{following_afresh, following_on};
+ghost use Rattle.node_commands.specs.Runs.{Ran, Serves, UsedRose, status_in};
 
 use crate::follower::Follower;
 use crate::inputs::read_list;
+use crate::prior::read_prior;
 use crate::serve::serve;
 use crate::starting::fresh_for;
 use compact_node::Node;
@@ -37,14 +33,9 @@ pub fn follow<D: Digester, F: Source, O: Sink, R: Sink, L: Ledger>(
 ) -> Result<Status, Stop>
     requires bytes { bytes ≤ 2 ^ 48 }
     requires told { bytes ≡ node.rules.limits.bytes }
-    ensures ended { IfOk result (Ends (follow_answer D.digest_of node) (F.left feed.old) (R.held report.old) (R.held report.new) (O.held out.old) (O.held out.new)) }
+    ensures served { Serves (follow_lines D.digest_of node) (λ events. []) (follow_answer D.digest_of node) node.rules.net bytes
+        (F.left feed.old) (F.left feed.new) (R.held report.old) (R.held report.new) (O.held out.old) (O.held out.new) (is_err result) (status_in result) }
     ensures goes_on { IfOk result (λ status. is_stop status ≡ false) }
-    ensures part { StaysWithin (follow_answer D.digest_of node) (F.left feed.old) (R.held report.old) (R.held report.new) (O.held out.old) (O.held out.new) }
-
-    // The state is stored before anything is printed behind the lines of the events.
-    ensures first { FollowsLast D.digest_of node (F.left feed.old) (R.held report.old) (R.held report.new) (O.held out.old) (O.held out.new) }
-    ensures taken { IsErrOf result Stop.ReadFault → WritesTaken (goes (follow_machine D.digest_of)) (says (follow_machine D.digest_of)) (sends (follow_machine D.digest_of)) (follower_of node) node.rules.net bytes
-        (F.left feed.old) (F.left feed.new) (R.held report.old) (R.held report.new) (O.held out.old) (O.held out.new) }
     ensures read { IsErrOf result Stop.ReadFault → Rose (F.faults feed.old) (F.faults feed.new) }
     ensures write { IsErrOf result Stop.WriteFault → Rose (O.faults out.old) (O.faults out.new) ⊎ Rose (R.faults report.old) (R.faults report.new) }
 {
@@ -54,7 +45,7 @@ pub fn follow<D: Digester, F: Source, O: Sink, R: Sink, L: Ledger>(
 }
 
 /// The same by a node from its start, with the watch list that is named, if one is: it is read whole before the feed.
-pub fn follow_for<D: Digester, F: Source, W: Source, O: Sink, R: Sink, L: Ledger>(
+pub fn follow_afresh<D: Digester, F: Source, W: Source, O: Sink, R: Sink, L: Ledger>(
     alloc: Global,
     limits: Limits,
     net: Net,
@@ -67,12 +58,9 @@ pub fn follow_for<D: Digester, F: Source, W: Source, O: Sink, R: Sink, L: Ledger
 ) -> Result<Status, Stop>
     requires leaves { limits.leaves < 2 ^ 40 }
     requires bytes { limits.bytes ≤ 2 ^ 48 }
-    ensures ended { IfOk result (EndsOver (follow_for D.digest_of limits net named) (W.left list.old) (F.left feed.old) (R.held report.old) (R.held report.new) (O.held out.old) (O.held out.new)) }
+    ensures ran { (prior : Option (List ℕ)) → Ran (following_afresh D.digest_of limits net named) limits.bytes (F.left feed.old) (F.left feed.new) prior (W.left list.old)
+        (R.held report.old) (R.held report.new) (O.held out.old) (O.held out.new) (is_err result) (status_in result) }
     ensures goes_on { IfOk result (λ status. is_stop status ≡ false) }
-    ensures part { StaysOver (follow_for D.digest_of limits net named) (W.left list.old) (F.left feed.old) (R.held report.old) (R.held report.new) (O.held out.old) (O.held out.new) }
-    ensures first { ByList named limits.bytes (W.left list.old) (λ watch. FollowsLast D.digest_of (fresh_for limits net watch) (F.left feed.old) (R.held report.old) (R.held report.new) (O.held out.old) (O.held out.new)) }
-    ensures taken { IsErrOf result Stop.ReadFault → ByList named limits.bytes (W.left list.old) (λ watch. WritesTaken (goes (follow_machine D.digest_of)) (says (follow_machine D.digest_of)) (sends (follow_machine D.digest_of)) (follower_of (fresh_for limits net watch)) net limits.bytes
-        (F.left feed.old) (F.left feed.new) (R.held report.old) (R.held report.new) (O.held out.old) (O.held out.new)) }
     ensures stays { OnFalse named (list.new ≡ list.old) }
     ensures read { IsErrOf result Stop.ReadFault → Rose (F.faults feed.old) (F.faults feed.new) ⊎ UsedRose named (W.faults list.old) (W.faults list.new) }
     ensures write { IsErrOf result Stop.WriteFault → Rose (O.faults out.old) (O.faults out.new) ⊎ Rose (R.faults report.old) (R.faults report.new) }
@@ -82,6 +70,30 @@ pub fn follow_for<D: Digester, F: Source, W: Source, O: Sink, R: Sink, L: Ledger
             let node = fresh_for::<D>(alloc, limits, net, watch)?;
             follow::<D, F, O, R, L>(alloc, node, limits.bytes, feed, out, report, steps)
         }
+        Err(bad) => say(alloc, report, bad.status, bad.line),
+    }
+}
+
+/// Goes on from the state that is read whole before the feed, with the network and the watch list of that state.
+pub fn follow_on<D: Digester, F: Source, P: Source, O: Sink, R: Sink, L: Ledger>(
+    alloc: Global,
+    limits: Limits,
+    prior: &mut P,
+    feed: &mut F,
+    out: &mut O,
+    report: &mut R,
+    steps: &mut Steps<L>,
+) -> Result<Status, Stop>
+    requires leaves { limits.leaves < 2 ^ 40 }
+    requires bytes { limits.bytes ≤ 2 ^ 48 }
+    ensures ran { (watch : Option (List ℕ)) → Ran (following_on D.digest_of limits) limits.bytes (F.left feed.old) (F.left feed.new) (P.left prior.old) watch
+        (R.held report.old) (R.held report.new) (O.held out.old) (O.held out.new) (is_err result) (status_in result) }
+    ensures goes_on { IfOk result (λ status. is_stop status ≡ false) }
+    ensures read { IsErrOf result Stop.ReadFault → Rose (F.faults feed.old) (F.faults feed.new) ⊎ Rose (P.faults prior.old) (P.faults prior.new) }
+    ensures write { IsErrOf result Stop.WriteFault → Rose (O.faults out.old) (O.faults out.new) ⊎ Rose (R.faults report.old) (R.faults report.new) }
+{
+    match read_prior::<D, P, L>(alloc, limits, prior, steps)? {
+        Ok(node) => follow::<D, F, O, R, L>(alloc, node, limits.bytes, feed, out, report, steps),
         Err(bad) => say(alloc, report, bad.status, bad.line),
     }
 }

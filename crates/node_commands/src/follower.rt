@@ -1,7 +1,7 @@
 //! What a run of `follow` keeps from event to event.
 ghost use Rattle.std.specs.Prelude.{◌≡◌, ◌<◌, ◌^◌, ◌+◌, IfOk, OnOk};
 ghost use Rattle.uo_base.specs.FeedEvent.{event_of};
-ghost use Rattle.compact_node.specs.Node.{IsShort};
+ghost use Rattle.node_rules.specs.Fitting.{IsShort};
 ghost use Rattle.node_commands.specs.Machine.{Following, follower_of, told_of, next_follower, follow_machine};
 
 use crate::ending::{end_line, is_refused, status_of};

@@ -1,48 +1,18 @@
-//! The command that judges a feed, from a state that was stored before.
-ghost use Rattle.std.specs.Prelude.{◌≡◌, ◌≤◌, ◌<◌, ◌^◌, ◌⊎◌, length, false, IfOk, IfErr, IsErrOf};
+//! The prior state, which is read whole before the feed.
+ghost use Rattle.std.specs.Prelude.{◌≡◌, ◌≤◌, ◌<◌, ◌^◌, length, false, IfOk, IfErr, IsErrOf};
 ghost use Rattle.uo_base.specs.Faults.{Rose};
 ghost use Rattle.feed_run.specs.Status.{is_stop};
-ghost use Rattle.node_commands.specs.Resuming.{EndsBehind, StaysBehind, WritesNothing, TakesBehind, StoresBehind};
 ghost use Rattle.node_commands.specs.Starting.{IsStart, IsStartOf};
 
 use crate::bad_input::BadInput;
-use crate::follow::follow;
 use compact_node::Node;
 use feed_run::{Status, Stop};
-use report_lines::{Line, say};
+use report_lines::Line;
 use state_text::StateFault;
 use std::alloc::Global;
 use std::sync::ledger::Ledger;
-use uo_base::{InputFault, Limits, Sink, Source, read_all};
+use uo_base::{InputFault, Limits, Source, read_all};
 use uo_digest::{Digester, Steps};
-
-/// Goes on from the state that is read whole before the feed, with the network and the watch list of that state.
-pub fn follow_from<D: Digester, F: Source, P: Source, O: Sink, R: Sink, L: Ledger>(
-    alloc: Global,
-    limits: Limits,
-    prior: &mut P,
-    feed: &mut F,
-    out: &mut O,
-    report: &mut R,
-    steps: &mut Steps<L>,
-) -> Result<Status, Stop>
-    requires leaves { limits.leaves < 2 ^ 40 }
-    requires bytes { limits.bytes ≤ 2 ^ 48 }
-    ensures ended { IfOk result (EndsBehind D.digest_of (IsStartOf D.digest_of limits (P.left prior.old)) (F.left feed.old) (R.held report.old) (R.held report.new) (O.held out.old) (O.held out.new)) }
-    ensures goes_on { IfOk result (λ status. is_stop status ≡ false) }
-    ensures part { WritesNothing (R.held report.old) (R.held report.new) (O.held out.old) (O.held out.new)
-        ⊎ StaysBehind D.digest_of (IsStartOf D.digest_of limits (P.left prior.old)) (F.left feed.old) (R.held report.old) (R.held report.new) (O.held out.old) (O.held out.new) }
-    ensures first { StoresBehind D.digest_of (IsStartOf D.digest_of limits (P.left prior.old)) (F.left feed.old) (R.held report.old) (R.held report.new) (O.held out.old) (O.held out.new) }
-    ensures taken { IsErrOf result Stop.ReadFault → TakesBehind D.digest_of limits (IsStartOf D.digest_of limits (P.left prior.old))
-        (F.left feed.old) (F.left feed.new) (R.held report.old) (R.held report.new) (O.held out.old) (O.held out.new) }
-    ensures read { IsErrOf result Stop.ReadFault → Rose (F.faults feed.old) (F.faults feed.new) ⊎ Rose (P.faults prior.old) (P.faults prior.new) }
-    ensures write { IsErrOf result Stop.WriteFault → Rose (O.faults out.old) (O.faults out.new) ⊎ Rose (R.faults report.old) (R.faults report.new) }
-{
-    match read_prior::<D, P, L>(alloc, limits, prior, steps)? {
-        Ok(node) => follow::<D, F, O, R, L>(alloc, node, limits.bytes, feed, out, report, steps),
-        Err(bad) => say(alloc, report, bad.status, bad.line),
-    }
-}
 
 /// Reads the prior state, of at most `limits.bytes` bytes.
 pub fn read_prior<D: Digester, P: Source, L: Ledger>(

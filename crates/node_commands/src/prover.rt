@@ -2,7 +2,7 @@
 ghost use Rattle.std.specs.Prelude.{◌≡◌, ◌<◌, ◌≤◌, ◌^◌, ◌+◌, ◌++◌, true, map, option_map, Some, None, IfOk, OnOk};
 ghost use Rattle.uo_base.specs.FeedEvent.{event_of, BlockCame};
 ghost use Rattle.feed_frame.specs.FeedText.{event_text, proof_frame_text};
-ghost use Rattle.compact_node.specs.Node.{IsShort};
+ghost use Rattle.node_rules.specs.Fitting.{IsShort};
 ghost use Rattle.node_rules.specs.Fitting.{AreEventBytes};
 ghost use Rattle.node_rules.specs.Machine.{event_in, is_made};
 ghost use Rattle.node_rules.specs.Proving.{CanBeWritten, IsShortMessage};

@@ -1,19 +1,16 @@
 //! The one call that the program makes: all that it does.
-ghost use Rattle.std.specs.Prelude.{◌≡◌, ◌≤◌, ◌<◌, ◌^◌, ◌⊎◌, map, false, IfOk, OnOk, IsErrOf};
+ghost use Rattle.std.specs.Prelude.{◌≡◌, ◌≤◌, ◌<◌, ◌^◌, ◌⊎◌, map, false, IfOk, IsErrOf, is_err};
 ghost use Rattle.std.specs.Bool.{OnFalse};
 ghost use Rattle.std.specs.String.{string_bytes};
 ghost use Rattle.uo_base.specs.Faults.{Rose};
-ghost use Rattle.node_commands.specs.Resuming.{ResumedTakes, ResumedStores};
-ghost use Rattle.node_commands.specs.Runs.{uses_of, answer_of, Did, ReportsTaken, StoresBefore, UsedRose};
-ghost use Rattle.node_commands.specs.Within.{EndsRun, StaysWithinRun};
 ghost use Rattle.feed_run.specs.Status.{is_stop};
-ghost use Rattle.command_words.specs.Words.{command_of};
+ghost use Rattle.node_commands.specs.Commands.{meaning_of};
+ghost use Rattle.node_commands.specs.Runs.{Did, Ran, UsedRose, status_in};
 
-use crate::audit::audit_for;
-use crate::follow::follow_for;
-use crate::generating::store_generated;
-use crate::prior::follow_from;
-use crate::prove::prove_for;
+use crate::audit::audit;
+use crate::follow::{follow_afresh, follow_on};
+use crate::generating::make_feed;
+use crate::prove::prove;
 use command_words::{Command, read_words};
 use feed_run::{Status, Stop};
 use report_lines::{Line, say};
@@ -56,41 +53,27 @@ pub fn run<D: Digester, F: Source, P: Source, W: Source, O: Sink, R: Sink, L: Le
     // `gen` stores the feed of its number, its count of blocks and its network, and prints how many blocks, rollbacks and bytes it has.
     // Where the words are accepted, the watch list or prior state that they name can be used, the feed has no bad frame, and none has more
     // bytes than may be read, the status is 0 or 1, or 4 of `audit`, or that of a failed port or of want of memory (`complete`).
-    ensures did { Did D.digest_of (map string_bytes words.now) limits
-        (F.left feed.old) (P.left prior.old) (W.left watch.old)
+    // Where a fault or want of memory stops the run, what an event stores is stored before its line is begun, and all that is to be stored before
+    // anything is printed behind the lines of the events; and where the feed fails, the lines of all events that were wholly taken are there.
+    ensures did { Did (meaning_of D.digest_of limits (map string_bytes words.now)) limits.bytes
+        (F.left feed.old) (F.left feed.new) (P.left prior.old) (W.left watch.old)
         (R.held report.old) (R.held report.new) (O.held out.old) (O.held out.new) result }
-
-    // Where the feed fails, the lines of all events that were wholly taken are there, and what `prove` stores of them.
-    ensures taken { result ≡ Status.ReadFault → ReportsTaken D.digest_of (command_of (map string_bytes words.now)) limits (W.left watch.old)
-        (F.left feed.old) (F.left feed.new) (R.held report.old) (R.held report.new) (O.held out.old) (O.held out.new) }
-
-    // `prove` stores an event's frames before it prints its line: whenever the report has the lines of some first events, whatever
-    // stops the run then, what is stored has at least their frames. `follow` stores its state before it prints the last line: whenever
-    // the report has more than the lines of the events, all that is to be stored is there. `gen` stores its feed before it prints.
-    ensures first { StoresBefore D.digest_of (command_of (map string_bytes words.now)) limits (W.left watch.old)
-        (F.left feed.old) (R.held report.old) (R.held report.new) (O.held out.old) (O.held out.new) }
-
-    // The same two of `follow` where it goes on from a prior state.
-    ensures resumed_taken { result ≡ Status.ReadFault → ResumedTakes D.digest_of (command_of (map string_bytes words.now)) limits (P.left prior.old)
-        (F.left feed.old) (F.left feed.new) (R.held report.old) (R.held report.new) (O.held out.old) (O.held out.new) }
-    ensures resumed_first { ResumedStores D.digest_of (command_of (map string_bytes words.now)) limits (P.left prior.old)
-        (F.left feed.old) (R.held report.old) (R.held report.new) (O.held out.old) (O.held out.new) }
 
     // A fault is answered only where a port failed that the words use.
     ensures read { result ≡ Status.ReadFault
-        → UsedRose (uses_of (map string_bytes words.now)).feed (F.faults feed.old) (F.faults feed.new)
-        ⊎ UsedRose (uses_of (map string_bytes words.now)).prior (P.faults prior.old) (P.faults prior.new)
-        ⊎ UsedRose (uses_of (map string_bytes words.now)).watch (W.faults watch.old) (W.faults watch.new) }
+        → UsedRose (meaning_of D.digest_of limits (map string_bytes words.now)).uses.feed (F.faults feed.old) (F.faults feed.new)
+        ⊎ UsedRose (meaning_of D.digest_of limits (map string_bytes words.now)).uses.prior (P.faults prior.old) (P.faults prior.new)
+        ⊎ UsedRose (meaning_of D.digest_of limits (map string_bytes words.now)).uses.watch (W.faults watch.old) (W.faults watch.new) }
     ensures write { result ≡ Status.WriteFault
-        → UsedRose (uses_of (map string_bytes words.now)).out (O.faults out.old) (O.faults out.new)
+        → UsedRose (meaning_of D.digest_of limits (map string_bytes words.now)).uses.out (O.faults out.old) (O.faults out.new)
         ⊎ Rose (R.faults report.old) (R.faults report.new) }
 
     // A port that the words do not use stays as it was.
-    ensures feed { OnFalse (uses_of (map string_bytes words.now)).feed (feed.new ≡ feed.old) }
-    ensures prior { OnFalse (uses_of (map string_bytes words.now)).prior (prior.new ≡ prior.old) }
-    ensures watch { OnFalse (uses_of (map string_bytes words.now)).watch (watch.new ≡ watch.old) }
-    ensures out { OnFalse (uses_of (map string_bytes words.now)).out (out.new ≡ out.old) }
-    ensures steps { OnFalse (uses_of (map string_bytes words.now)).feed (steps.new ≡ steps.old) }
+    ensures feed { OnFalse (meaning_of D.digest_of limits (map string_bytes words.now)).uses.feed (feed.new ≡ feed.old) }
+    ensures prior { OnFalse (meaning_of D.digest_of limits (map string_bytes words.now)).uses.prior (prior.new ≡ prior.old) }
+    ensures watch { OnFalse (meaning_of D.digest_of limits (map string_bytes words.now)).uses.watch (watch.new ≡ watch.old) }
+    ensures out { OnFalse (meaning_of D.digest_of limits (map string_bytes words.now)).uses.out (out.new ≡ out.old) }
+    ensures steps { OnFalse (meaning_of D.digest_of limits (map string_bytes words.now)).uses.steps (steps.new ≡ steps.old) }
 {
     match run_command::<D, F, P, W, O, R, L>(
         alloc, words, limits, feed, prior, watch, out, report, steps,
@@ -115,33 +98,22 @@ fn run_command<D: Digester, F: Source, P: Source, W: Source, O: Sink, R: Sink, L
 ) -> Result<Status, Stop>
     requires leaves { limits.leaves < 2 ^ 40 }
     requires bytes { limits.bytes ≤ 2 ^ 48 }
-    ensures ended { IfOk result (EndsRun D.digest_of limits (answer_of D.digest_of (map string_bytes words.now) limits)
-        (F.left feed.old) (P.left prior.old) (W.left watch.old)
-        (R.held report.old) (R.held report.new) (O.held out.old) (O.held out.new)) }
+    ensures ran { Ran (meaning_of D.digest_of limits (map string_bytes words.now)) limits.bytes
+        (F.left feed.old) (F.left feed.new) (P.left prior.old) (W.left watch.old)
+        (R.held report.old) (R.held report.new) (O.held out.old) (O.held out.new) (is_err result) (status_in result) }
     ensures goes_on { IfOk result (λ status. is_stop status ≡ false) }
-    ensures part { StaysWithinRun D.digest_of limits (answer_of D.digest_of (map string_bytes words.now) limits)
-        (F.left feed.old) (P.left prior.old) (W.left watch.old)
-        (R.held report.old) (R.held report.new) (O.held out.old) (O.held out.new) }
-    ensures taken { IsErrOf result Stop.ReadFault → ReportsTaken D.digest_of (command_of (map string_bytes words.now)) limits (W.left watch.old)
-        (F.left feed.old) (F.left feed.new) (R.held report.old) (R.held report.new) (O.held out.old) (O.held out.new) }
-    ensures first { StoresBefore D.digest_of (command_of (map string_bytes words.now)) limits (W.left watch.old)
-        (F.left feed.old) (R.held report.old) (R.held report.new) (O.held out.old) (O.held out.new) }
-    ensures resumed_taken { IsErrOf result Stop.ReadFault → ResumedTakes D.digest_of (command_of (map string_bytes words.now)) limits (P.left prior.old)
-        (F.left feed.old) (F.left feed.new) (R.held report.old) (R.held report.new) (O.held out.old) (O.held out.new) }
-    ensures resumed_first { ResumedStores D.digest_of (command_of (map string_bytes words.now)) limits (P.left prior.old)
-        (F.left feed.old) (R.held report.old) (R.held report.new) (O.held out.old) (O.held out.new) }
     ensures read { IsErrOf result Stop.ReadFault
-        → UsedRose (uses_of (map string_bytes words.now)).feed (F.faults feed.old) (F.faults feed.new)
-        ⊎ UsedRose (uses_of (map string_bytes words.now)).prior (P.faults prior.old) (P.faults prior.new)
-        ⊎ UsedRose (uses_of (map string_bytes words.now)).watch (W.faults watch.old) (W.faults watch.new) }
+        → UsedRose (meaning_of D.digest_of limits (map string_bytes words.now)).uses.feed (F.faults feed.old) (F.faults feed.new)
+        ⊎ UsedRose (meaning_of D.digest_of limits (map string_bytes words.now)).uses.prior (P.faults prior.old) (P.faults prior.new)
+        ⊎ UsedRose (meaning_of D.digest_of limits (map string_bytes words.now)).uses.watch (W.faults watch.old) (W.faults watch.new) }
     ensures write { IsErrOf result Stop.WriteFault
-        → UsedRose (uses_of (map string_bytes words.now)).out (O.faults out.old) (O.faults out.new)
+        → UsedRose (meaning_of D.digest_of limits (map string_bytes words.now)).uses.out (O.faults out.old) (O.faults out.new)
         ⊎ Rose (R.faults report.old) (R.faults report.new) }
-    ensures feed { OnFalse (uses_of (map string_bytes words.now)).feed (feed.new ≡ feed.old) }
-    ensures prior { OnFalse (uses_of (map string_bytes words.now)).prior (prior.new ≡ prior.old) }
-    ensures watch { OnFalse (uses_of (map string_bytes words.now)).watch (watch.new ≡ watch.old) }
-    ensures out { OnFalse (uses_of (map string_bytes words.now)).out (out.new ≡ out.old) }
-    ensures steps { OnFalse (uses_of (map string_bytes words.now)).feed (steps.new ≡ steps.old) }
+    ensures feed { OnFalse (meaning_of D.digest_of limits (map string_bytes words.now)).uses.feed (feed.new ≡ feed.old) }
+    ensures prior { OnFalse (meaning_of D.digest_of limits (map string_bytes words.now)).uses.prior (prior.new ≡ prior.old) }
+    ensures watch { OnFalse (meaning_of D.digest_of limits (map string_bytes words.now)).uses.watch (watch.new ≡ watch.old) }
+    ensures out { OnFalse (meaning_of D.digest_of limits (map string_bytes words.now)).uses.out (out.new ≡ out.old) }
+    ensures steps { OnFalse (meaning_of D.digest_of limits (map string_bytes words.now)).uses.steps (steps.new ≡ steps.old) }
 {
     match read_words(words) {
         Err(fault) => say(alloc, report, Status::Words, Line::Words(fault.at)),
@@ -155,12 +127,12 @@ fn run_command<D: Digester, F: Source, P: Source, W: Source, O: Sink, R: Sink, L
         ) => {
             match from {
                 Some(_) => {
-                    follow_from::<D, F, P, O, R, L>(alloc, limits, prior, feed, out, report, steps)
+                    follow_on::<D, F, P, O, R, L>(alloc, limits, prior, feed, out, report, steps)
                 }
                 None => {
                     let net = net.unwrap_or(Net::Main);
                     let named = list.is_some();
-                    follow_for::<D, F, W, O, R, L>(
+                    follow_afresh::<D, F, W, O, R, L>(
                         alloc, limits, net, named, watch, feed, out, report, steps,
                     )
                 }
@@ -172,7 +144,7 @@ fn run_command<D: Digester, F: Source, P: Source, W: Source, O: Sink, R: Sink, L
                 watch: list,
                 ..
             },
-        ) => prove_for::<D, F, W, O, R, L>(
+        ) => prove::<D, F, W, O, R, L>(
             alloc,
             limits,
             net,
@@ -189,7 +161,7 @@ fn run_command<D: Digester, F: Source, P: Source, W: Source, O: Sink, R: Sink, L
                 watch: list,
                 ..
             },
-        ) => audit_for::<D, F, W, R, L>(
+        ) => audit::<D, F, W, R, L>(
             alloc,
             limits,
             net,
@@ -206,6 +178,6 @@ fn run_command<D: Digester, F: Source, P: Source, W: Source, O: Sink, R: Sink, L
                 blocks,
                 ..
             },
-        ) => store_generated(alloc, number, blocks, net, out, report),
+        ) => make_feed(alloc, number, blocks, net, out, report),
     }
 }

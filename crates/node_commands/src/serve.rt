@@ -1,14 +1,11 @@
 //! The run of a command over a feed.
-ghost use Rattle.std.specs.Prelude.{◌≡◌, ◌≤◌, ◌^◌, ◌⊎◌, [], false, IfOk, OnOk, IsErrOf};
+ghost use Rattle.std.specs.Prelude.{◌≡◌, ◌≤◌, ◌^◌, ◌⊎◌, [], false, IfOk, OnOk, IsErrOf, is_err};
 ghost use Rattle.std.specs.Io.KnownBytes.{Appends};
 ghost use Rattle.uo_base.specs.Faults.{Rose};
 ghost use Rattle.uo_base.specs.Moved.{AppendsPart};
-ghost use Rattle.feed_frame.specs.Streamed.{WritesTaken, SendsFirst};
-ghost use Rattle.feed_frame.specs.Events.{events_of};
-ghost use Rattle.feed_run.specs.Machine.{goes, says, sends, said_by};
+ghost use Rattle.feed_run.specs.Machine.{said_by, sent_by};
 ghost use Rattle.node_commands.specs.Answers.{served_feed, bad_end};
-ghost use Rattle.node_commands.specs.Order.{StoresAtEnd};
-ghost use Rattle.node_commands.specs.Within.{Ends, StaysWithin};
+ghost use Rattle.node_commands.specs.Runs.{Serves, status_in};
 ghost use Rattle.feed_run.specs.Status.{is_stop};
 
 use feed_frame::FeedFault;
@@ -32,21 +29,10 @@ pub fn serve<C: EventHandler, F: Source, O: Sink, R: Sink, L: Ledger>(
 ) -> Result<Status, Stop>
     requires bytes { bytes ≤ 2 ^ 48 }
     requires fresh { C.machine.count (C.state command.old) ≡ 0 }
-    ensures ended { IfOk result (Ends (served_feed C.machine (C.state command.old) net bytes)
-        (F.left feed.old) (R.held report.old) (R.held report.new) (O.held out.old) (O.held out.new)) }
+    ensures served { Serves (said_by C.machine (C.state command.old)) (sent_by C.machine (C.state command.old))
+        (served_feed C.machine (C.state command.old) net bytes) net bytes
+        (F.left feed.old) (F.left feed.new) (R.held report.old) (R.held report.new) (O.held out.old) (O.held out.new) (is_err result) (status_in result) }
     ensures goes_on { IfOk result (λ status. is_stop status ≡ false) }
-    ensures part { StaysWithin (served_feed C.machine (C.state command.old) net bytes)
-        (F.left feed.old) (R.held report.old) (R.held report.new) (O.held out.old) (O.held out.new) }
-
-    // No event's line was begun before all that it and the events before it store was out.
-    ensures first { SendsFirst (goes C.machine) (says C.machine) (sends C.machine) (C.state command.old) net bytes
-        (F.left feed.old) (R.held report.old) (R.held report.new) (O.held out.old) (O.held out.new) }
-
-    // What is stored at the end is out before anything is printed there.
-    ensures last { StoresAtEnd (λ text. said_by C.machine (C.state command.old) (events_of net bytes text).events) (served_feed C.machine (C.state command.old) net bytes)
-        (F.left feed.old) (R.held report.old) (R.held report.new) (O.held out.old) (O.held out.new) }
-    ensures taken { IsErrOf result Stop.ReadFault → WritesTaken (goes C.machine) (says C.machine) (sends C.machine) (C.state command.old) net bytes
-        (F.left feed.old) (F.left feed.new) (R.held report.old) (R.held report.new) (O.held out.old) (O.held out.new) }
     ensures read { IsErrOf result Stop.ReadFault → Rose (F.faults feed.old) (F.faults feed.new) }
     ensures write { IsErrOf result Stop.WriteFault → Rose (O.faults out.old) (O.faults out.new) ⊎ Rose (R.faults report.old) (R.faults report.new) }
 {

@@ -1,14 +1,14 @@
 //! The command that writes a state in the version that is written now.
-ghost use Rattle.std.specs.Prelude.{◌≡◌, ◌≤◌, ◌<◌, ◌^◌, ◌⊎◌, suc, length, IfOk, OnOk, IsErrOf};
+ghost use Rattle.std.specs.Prelude.{◌≡◌, ◌≤◌, ◌<◌, ◌^◌, ◌⊎◌, ℕ, List, [], Option, false, suc, length, IfOk, OnOk, IsErrOf, is_err};
 ghost use Rattle.std.specs.Io.KnownBytes.{Appends};
 ghost use Rattle.uo_base.specs.Faults.{Rose};
 ghost use Rattle.uo_base.specs.Moved.{AppendsPart};
 ghost use Rattle.compact_node.specs.State.{stored_text};
+ghost use Rattle.feed_run.specs.Status.{is_stop};
 ghost use Rattle.report_lines.specs.declared.line.Line.TheVariants.{UpgradedState};
 ghost use Rattle.report_lines.specs.Lines.{whole_line};
-ghost use Rattle.node_commands.specs.Resuming.{WritesNothing};
-ghost use Rattle.node_commands.specs.Starting.{IsStartOf};
-ghost use Rattle.node_commands.specs.Upgrading.{EndsUpgraded, StaysUpgraded};
+ghost use Rattle.node_commands.specs.Runs.{Ran, status_in};
+ghost use Rattle.node_commands.specs.Upgrading.{upgrading_state};
 
 use crate::prior::read_prior;
 use compact_node::Node;
@@ -30,9 +30,9 @@ pub fn upgrade_state<D: Digester, P: Source, O: Sink, R: Sink, L: Ledger>(
 ) -> Result<Status, Stop>
     requires leaves { limits.leaves < 2 ^ 40 }
     requires bytes { limits.bytes ≤ 2 ^ 48 }
-    ensures ended { IfOk result (EndsUpgraded (IsStartOf D.digest_of limits (P.left prior.old)) (R.held report.old) (R.held report.new) (O.held out.old) (O.held out.new)) }
-    ensures part { WritesNothing (R.held report.old) (R.held report.new) (O.held out.old) (O.held out.new)
-        ⊎ StaysUpgraded (IsStartOf D.digest_of limits (P.left prior.old)) (R.held report.old) (R.held report.new) (O.held out.old) (O.held out.new) }
+    ensures ran { (feed watch : Option (List ℕ)) → Ran (upgrading_state D.digest_of limits) limits.bytes feed feed (P.left prior.old) watch
+        (R.held report.old) (R.held report.new) (O.held out.old) (O.held out.new) (is_err result) (status_in result) }
+    ensures goes_on { IfOk result (λ status. is_stop status ≡ false) }
     ensures read { IsErrOf result Stop.ReadFault → Rose (P.faults prior.old) (P.faults prior.new) }
     ensures write { IsErrOf result Stop.WriteFault → Rose (O.faults out.old) (O.faults out.new) ⊎ Rose (R.faults report.old) (R.faults report.new) }
 {
@@ -54,6 +54,7 @@ fn store_upgraded<D: Digester, O: Sink, R: Sink>(
     ensures said { OnOk result (Appends (R.held report.old) (R.held report.new) (whole_line (UpgradedState (suc (length node.now.older))))) }
     ensures part_sent { AppendsPart (O.held out.old) (O.held out.new) (stored_text node.now) }
     ensures part_said { AppendsPart (R.held report.old) (R.held report.new) (whole_line (UpgradedState (suc (length node.now.older)))) }
+    ensures order { Appends (R.held report.old) (R.held report.new) [] ⊎ Appends (O.held out.old) (O.held out.new) (stored_text node.now) }
     ensures read { IsErrOf result Stop.ReadFault → ⊥ }
     ensures write { IsErrOf result Stop.WriteFault → Rose (O.faults out.old) (O.faults out.new) ⊎ Rose (R.faults report.old) (R.faults report.new) }
 {

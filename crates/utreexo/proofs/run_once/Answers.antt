@@ -13,6 +13,7 @@ returns g c = inr (
       prior_is = (c.in-Ok-prior_of.ensures.chosen, c.in-Ok-prior_of.ensures.empty);
       watch_is = (c.in-Ok-watch_of.ensures.chosen, c.in-Ok-watch_of.ensures.empty);
       out_is = (c.in-Ok-out_of.ensures.chosen, c.in-Ok-out_of.ensures.empty);
+      feed' = c.run_program.new.feed;
       did = c.run_program.ensures.did;
     }
     )

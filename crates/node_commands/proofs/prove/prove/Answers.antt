@@ -1,23 +1,26 @@
-use Rattle.std.proofs.Common.{refl}
-use Rattle.node_commands.specs.Prover.{fresh_prover, prove_machine}
-use Rattle.node_commands.proofs.OrderLemmas.{sends-none}
-use Rattle.node_commands.proofs.ProveLemmas.{proves-first, served-prove, Ends-same, StaysWithin-same}
-use Rattle.node_commands.proofs.RunLemmas.{StaysWithin-none}
+use Rattle.std.proofs.Common.{subst}
+use Rattle.uo_base.proofs.PortLemmas.{told_text, Tells-told_text}
+use Rattle.node_commands.specs.Prover.{proving}
+use Rattle.node_commands.specs.Watching.{IsListOf}
+use Rattle.node_commands.proofs.ProveLemmas.{prove-serves}
+use Rattle.node_commands.proofs.RanLemmas.{ran-unbegun, ran-refusing, ran-begun}
 use Rattle.node_commands.proofs.prove.prove.Goals as goal
 
-pub returns-in_err-prover-clause-part : goal.returns-in_err-prover-clause-part
-returns-in_err-prover-clause-part g c = StaysWithin-none _ _ _ _
+pub returns-in_err-watch-clause-ran : goal.returns-in_err-watch-clause-ran
+returns-in_err-watch-clause-ran g c = λ prior. ran-unbegun _ _ _ _ _ _ _ _ c.from_residual.ensures.0
 
-pub returns-clause-ended : goal.returns-clause-ended
-returns-clause-ended g c = Ends-same _ _ (served-prove _ c.args.limits c.args.net c.args.watch c.requires.leaves _ c.in_ok-prover.ensures) _ _ _ _ _ c.serve.result c.serve.ensures.ended
+pub returns-in-Err-clause-ran : goal.returns-in-Err-clause-ran
+returns-in-Err-clause-ran g c =
+    λ prior.
+    let l = subst (IsListOf _ _ _) c.in-Err.is c.in_ok-watch.ensures.list in
+    ran-refusing (proving g.D.Digester.digest_of c.args.limits c.args.net c.args.named) _ prior _ (told_text prior) l.text (Tells-told_text prior) l.told c.in-Err.bad l.is _ _ _ _ c.say.result c.say.ensures.status c.say.ensures.whole c.say.ensures.part
 
-pub returns-clause-part : goal.returns-clause-part
-returns-clause-part g c = StaysWithin-same _ _ (served-prove _ c.args.limits c.args.net c.args.watch c.requires.leaves _ c.in_ok-prover.ensures) _ _ _ _ _ c.serve.ensures.part
+pub returns-in_err-prover-clause-ran : goal.returns-in_err-prover-clause-ran
+returns-in_err-prover-clause-ran g c = λ prior. ran-unbegun _ _ _ _ _ _ _ _ c.from_residual-in_err-prover.ensures.0
 
-pub returns-in_err-prover-clause-first : goal.returns-in_err-prover-clause-first
-returns-in_err-prover-clause-first g c =
-    let H = g.D.Digester.digest_of in
-    proves-first H c.args.limits c.args.net c.args.watch c.requires.leaves _ refl _ _ _ _ _ (sends-none (prove_machine H) (fresh_prover c.args.net c.args.limits c.args.watch) c.args.net c.args.limits.bytes _ _ _)
-
-pub returns-clause-first : goal.returns-clause-first
-returns-clause-first g c = proves-first _ c.args.limits c.args.net c.args.watch c.requires.leaves _ c.in_ok-prover.ensures _ _ _ _ _ c.serve.ensures.first
+pub returns-clause-ran : goal.returns-clause-ran
+returns-clause-ran g c =
+    λ prior.
+    let l = subst (IsListOf _ _ _) c.in-Ok.is c.in_ok-watch.ensures.list in
+    ran-begun (proving g.D.Digester.digest_of c.args.limits c.args.net c.args.named) _ prior _ (told_text prior) l.text (Tells-told_text prior) l.told c.in-Ok.watch l.is _ _
+    (prove-serves _ c.args.limits c.args.net c.in-Ok.watch c.requires.leaves _ c.in_ok-prover.ensures _ _ c.serve.ensures.served)

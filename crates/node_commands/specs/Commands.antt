@@ -1,0 +1,51 @@
+-- What each command means, a line each, and what refused words do.
+use Rattle.std.specs.Prelude.{◌≡◌, ℕ, Bool, true, false, List, [], Result, Ok, Err, is_some}
+use Rattle.uo_base.specs.declared.event.Limits.{Limits}
+use Rattle.uo_base.specs.declared.event.Net.{Net}
+use Rattle.uo_base.specs.declared.event.Net.TheVariants.{Main}
+use Rattle.uo_digest.specs.declared.digest.Digest.{Digest}
+use Rattle.command_words.specs.declared.words.WordFault.{WordFault}
+use Rattle.command_words.specs.Words.{Asked, AskedFollow, AskedProve, AskedAudit, AskedGen, net_for, command_of}
+use Rattle.feed_run.specs.declared.status.Status.TheVariants.{Words}
+use Rattle.report_lines.specs.declared.line.Line.TheVariants as Line
+use Rattle.node_commands.specs.declared.bad_input.BadInput.{BadInput}
+use Rattle.node_commands.specs.Answers.{said}
+use Rattle.node_commands.specs.Auditing.{auditing}
+use Rattle.node_commands.specs.Following.{following_afresh, following_on}
+use Rattle.node_commands.specs.Generating.{generating}
+use Rattle.node_commands.specs.Meaning.{Meaning, IsEnd}
+use Rattle.node_commands.specs.Prover.{proving}
+
+-- one line says where the words go wrong
+abbrev pub bad_words : WordFault → BadInput
+bad_words fault = record { status = Words; line = Line.Words fault.at }
+
+abbrev pub refusing : WordFault → Meaning
+refusing fault = record {
+  uses = record { feed = false; prior = false; watch = false; out = false; steps = false };
+  Begun = Unit {0};
+  Begins = λ prior watch begun. begun ≡ Err (bad_words fault);
+  net = λ begun. Main;
+  lines = λ begun events. [];
+  frames = λ begun events. [];
+  answer = λ begun feed. said Words (Line.Words fault.at);
+  Claims = λ inputs. Unit {0};
+  AreGood = λ feed prior watch. ⊥;
+  Ends = IsEnd;
+}
+
+-- `follow` goes on from a state where one is named
+abbrev pub following_from : (resumed : Bool) → (List ℕ → Digest) → Limits → Net → (named : Bool) → Meaning
+following_from true H limits net named = following_on H limits
+following_from false H limits net named = following_afresh H limits net named
+
+abbrev pub meaning_by : (List ℕ → Digest) → Limits → Result Asked WordFault → Meaning
+meaning_by H limits (Err fault) = refusing fault
+meaning_by H limits (Ok (AskedFollow f)) = following_from (is_some f.from) H limits (net_for f.net) (is_some f.watch)
+meaning_by H limits (Ok (AskedProve net feed to list)) = proving H limits net (is_some list)
+meaning_by H limits (Ok (AskedAudit net feed list)) = auditing H limits net (is_some list)
+meaning_by H limits (Ok (AskedGen net number blocks to)) = generating number blocks net
+
+-- what the words of a command line mean
+abbrev pub meaning_of : (List ℕ → Digest) → Limits → List (List ℕ) → Meaning
+meaning_of H limits words = meaning_by H limits (command_of words)
