@@ -21,6 +21,5 @@ pub mod Righted
 pub mod Checking
 pub mod Historied
 pub mod Taking
-pub mod Linking
 pub mod Fully
 pub mod Sorting
