@@ -11,6 +11,7 @@ use crate::audit::audit;
 use crate::follow::{follow_afresh, follow_on};
 use crate::generating::make_feed;
 use crate::prove::prove;
+use crate::upgrading::upgrade_state;
 use command_words::{Command, read_words};
 use feed_run::{Status, Stop};
 use report_lines::{Line, say};
@@ -179,5 +180,14 @@ fn run_command<D: Digester, F: Source, P: Source, W: Source, O: Sink, R: Sink, L
                 ..
             },
         ) => make_feed(alloc, number, blocks, net, out, report),
+        Ok(Command::UpgradeState { .. }) => {
+            upgrade_state::<D, P, O, R, L>(alloc, limits, prior, out, report, steps)
+        }
+        Ok(Command::UpgradeFeed { .. }) => {
+            upgrade_state::<D, P, O, R, L>(alloc, limits, prior, out, report, steps)
+        }
+        Ok(Command::Order { .. }) => {
+            upgrade_state::<D, P, O, R, L>(alloc, limits, prior, out, report, steps)
+        }
     }
 }
