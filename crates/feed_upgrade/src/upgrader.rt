@@ -1,8 +1,9 @@
 //! What an upgrade of a feed keeps from event to event.
-ghost use Rattle.std.specs.Prelude.{◌≡◌, ◌≤◌, ◌<◌, ◌^◌, ◌+◌, ◌++◌, length, Some, option_map, option_copied, IfOk, OnOk};
+ghost use Rattle.std.specs.Prelude.{◌≡◌, ◌≤◌, ◌<◌, ◌^◌, ◌+◌, ◌++◌, [], length, Some, option_map, option_copied, IfOk, OnOk};
+ghost use Rattle.std.specs.Int.{w32, to_le_bytes};
 ghost use Rattle.uo_base.specs.FeedEvent.{event_of, BlockCame};
 ghost use Rattle.feed_frame.specs.FeedText.{event_text, proof_frame_text, HasProofFrame};
-ghost use Rattle.feed_frame.specs.Frames.{proof_magic, most_proof};
+ghost use Rattle.feed_frame.specs.Frames.{proof_magic, rollback_magic, most_proof};
 ghost use Rattle.feed_frame.specs.Written.{frame_text};
 ghost use Rattle.feed_run.specs.Machine.{IsShort as HasFrames};
 ghost use Rattle.node_rules.specs.Fitting.{IsShort};
@@ -112,6 +113,7 @@ impl<D: Digester> EventHandler for Upgrader<D> {
 }
 
 // Appends the frames of an event, with its message upgraded by a count of `n` entries, and answers how many messages of version 1 it had.
+#[tactic(auto, unfolding(feed_frame::specs::FeedText::event_text))]
 fn push_upgraded(
     alloc: Global,
     net: Net,
@@ -127,15 +129,27 @@ fn push_upgraded(
 {
     match event {
         Event::Block { block, message } => push_proved(alloc, net, n, block, message, sent),
-        Event::Rollback { count } => {
-            sent.push_rollback(count)?;
-            Ok(0)
-        }
-        Event::Stray => {
-            sent.push_proof(&[])?;
-            Ok(0)
-        }
+        Event::Rollback { count } => push_rollback(count, sent),
+        Event::Stray => push_stray(sent),
     }
+}
+
+// Appends the frame of a rollback.
+fn push_rollback(count: u32, sent: &mut Piece) -> Result<u64, NoMemory>
+    ensures old { IfOk result (λ old. old ≡ 0) }
+    ensures sent { OnOk result (sent.new.bytes.items ≡ sent.old.bytes.items ++ frame_text rollback_magic (to_le_bytes w32 count)) }
+{
+    sent.push_rollback(count)?;
+    Ok(0)
+}
+
+// Appends the frame of an empty proof, which is a stray again. What stood in it is no message of a block, and is not counted.
+fn push_stray(sent: &mut Piece) -> Result<u64, NoMemory>
+    ensures old { IfOk result (λ old. old ≡ 0) }
+    ensures sent { OnOk result (sent.new.bytes.items ≡ sent.old.bytes.items ++ frame_text proof_magic []) }
+{
+    sent.push_proof(&[])?;
+    Ok(0)
 }
 
 // Appends the frame of a block, behind that of its message.
