@@ -15,7 +15,7 @@ use Rattle.node_rules.specs.Reading.{Handed}
 use Rattle.node_rules.specs.Judging.{Evidence, compact, refusal}
 use Rattle.node_rules.specs.Machine.{BlockCame}
 use Rattle.compact_node.specs.After.{without, with_leaves, held_without, kept_with_all, held_with_all}
-use Rattle.compact_node.specs.Node.{NodeState, view_over, verdict_on, next_node, refusal_on, places_spent, hashes_over, hashes_spent, with_level, node_by, node_with}
+use Rattle.compact_node.specs.Node.{LevelState, NodeState, view_over, verdict_on, next_node, refusal_on, places_spent, hashes_over, hashes_spent, with_level, node_by, node_with}
 use Rattle.message_upgrade.proofs.Alike.{IsAlike, AreAlike, lifted, same_compact, same_verdict}
 
 same_targets : (n : ℕ) (m k : Message) → IsAlike n m k → targets n m ≡ targets n k
@@ -37,7 +37,7 @@ module _ (H : List ℕ → Digest) (text : Leaf → List ℕ) where
         let n = l.roots.leaves in
         let new = new_records b l.chain.blocks in
         let f = without H l.roots ts hashes in
-        let level = record {
+        let level : LevelState = record {
           chain = record { blocks = suc l.chain.blocks; tip = block_hash_of b; leaves = l.chain.leaves + length new };
           roots = with_leaves H f (map (λ leaf. H (text leaf)) new);
           kept = kept_with_all H text s.scripts f new (moved_leaves n ts l.kept);
