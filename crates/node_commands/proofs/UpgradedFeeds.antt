@@ -1,5 +1,5 @@
 -- What `upgrade feed` stores, and that it is followed as the feed is.
-use Rattle.std.proofs.Common.{◌≡◌, ◌⊎◌, inl, ℕ, suc, ◌+◌, ◌<◌, ◌≤◌, ◌^◌, Bool, List, [], ◌∷◌, ◌++◌, length, map, Option, Some, None, refl, sym, ap, subst, ◌∙◌, arith, append-nil}
+use Rattle.std.proofs.Common.{◌≡◌, ℕ, suc, ◌+◌, ◌<◌, ◌≤◌, ◌^◌, Bool, List, [], ◌∷◌, ◌++◌, length, map, Option, Some, None, refl, sym, ap, subst, ◌∙◌, arith, append-nil}
 use Rattle.std.specs.List.{flat_map, list_any}
 use Rattle.uo_base.specs.declared.event.Limits.{Limits}
 use Rattle.uo_base.specs.declared.event.Net.{Net}
@@ -13,9 +13,7 @@ use Rattle.feed_frame.specs.Events.{Events, events_of}
 use Rattle.feed_frame.specs.FeedText.{feed_text}
 use Rattle.feed_run.specs.Answer.{Answer}
 use Rattle.feed_run.specs.declared.status.Status.{Status}
-use Rattle.feed_run.specs.declared.status.Status.TheVariants.{AllAccepted}
 use Rattle.feed_run.specs.Machine.{left_by, said_by, sent_by}
-use Rattle.feed_run.specs.Status.{is_stop}
 use Rattle.node_rules.specs.Machine.{event_in}
 use Rattle.compact_node.specs.Node.{NodeState, IsNode}
 use Rattle.compact_node.specs.State.{stored_text}
@@ -27,14 +25,10 @@ use Rattle.feed_upgrade.specs.Upgraded.{upgraded_events, old_beside, old_message
 use Rattle.feed_upgrade.specs.Upgrader.{Upgrading, upgrader_of, next_upgrader, upgraded_frames, upgrade_end, upgrade_machine}
 use Rattle.feed_upgrade.proofs.Following.{followed_alike}
 use Rattle.node_commands.specs.Answers.{bad_end, last_of, answer_with, served_feed}
-use Rattle.node_commands.specs.Follow.{line_of, follow_lines, answer_told, events_for, chain_events, follow_answer, fresh_for}
-use Rattle.node_commands.specs.Following.{fresh_start}
+use Rattle.node_commands.specs.Follow.{line_of, follow_lines, events_for, chain_events, follow_answer, fresh_for}
 use Rattle.node_commands.specs.Machine.{end_by, is_refused}
-use Rattle.node_commands.specs.Meaning.{answer_by}
 use Rattle.node_commands.specs.Runs.{Serves}
-use Rattle.node_commands.specs.Starting.{Start}
-use Rattle.node_commands.specs.UpgradingFeed.{upgraded_text, upgrade_feed_answer, upgraded_feed, upgrading_feed, FollowsUpgraded, UpgradedFeedsAreFollowed}
-use Rattle.node_commands.specs.Watching.{list_in, IsGood}
+use Rattle.node_commands.specs.UpgradingFeed.{upgraded_text, upgrade_feed_answer, upgraded_feed, FollowsUpgraded, UpgradedFeedsAreFollowed}
 use Rattle.node_commands.proofs.ServeLemmas.{Serves-same}
 
 module _ (H : List ℕ → Digest) where
@@ -149,23 +143,10 @@ module _ (H : List ℕ → Digest) where
   pub follows-upgraded : (node : NodeState) (feed : List ℕ) → IsNode node → FollowsUpgraded H node feed
   follows-upgraded node feed is = record { whole = whole node is feed; ends = ends node is feed; lines = lines node is feed }
 
-  module _ (limits : Limits) (net : Net) where
-    -- from the start
-    pub follows-upgraded-afresh : limits.leaves < 2 ^ 40 → limits.bytes ≤ 2 ^ 48 → (list : Option (List (List ℕ))) (feed : List ℕ) → FollowsUpgraded H (fresh_for limits net list) feed
-    follows-upgraded-afresh few short list feed = follows-upgraded (fresh_for limits net list) feed (fresh-node H leaf_text net limits _ few short)
-
-    -- ---- it comes to its end where nothing that it reads is bad
-
-    at-its-end : (node : NodeState) (feed : List ℕ) → (events_for node.rules feed).ending ≡ None → (upgrade_feed_answer H node feed).status ≡ AllAccepted
-    unfolding upgrade_feed_answer
-    at-its-end node feed whole = ap (λ e. (last_of (upgrade_end (length (events_for node.rules feed).events) (old_messages (events_for node.rules feed).events)) (bad_end e)).status) whole
-
-    pub upgrade-feed-ends : (named : Bool) (watch feed : List ℕ) (begun : Start) → begun ≡ fresh_start limits net (list_in named limits.bytes watch) → IsGood named net limits watch feed
-        → (upgrading_feed H limits net named).Ends (answer_by (upgrading_feed H limits net named) begun feed).status
-    upgrade-feed-ends named watch feed begun is g =
-        let fresh = is ∙ ap (fresh_start limits net) g.usable in
-        subst (λ (b : Start). (upgrading_feed H limits net named).Ends (answer_by (upgrading_feed H limits net named) b feed).status) (sym fresh)
-        (inl (at-its-end (fresh_for limits net g.scripts) feed g.whole))
+  -- from the start
+  pub follows-upgraded-afresh : (limits : Limits) (net : Net) → limits.leaves < 2 ^ 40 → limits.bytes ≤ 2 ^ 48 → (list : Option (List (List ℕ))) (feed : List ℕ)
+      → FollowsUpgraded H (fresh_for limits net list) feed
+  follows-upgraded-afresh limits net few short list feed = follows-upgraded (fresh_for limits net list) feed (fresh-node H leaf_text net limits _ few short)
 
 pub upgraded_feeds_are_followed : UpgradedFeedsAreFollowed
 upgraded_feeds_are_followed H node feed is = follows-upgraded H node feed is
