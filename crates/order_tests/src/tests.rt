@@ -78,15 +78,17 @@ impl Named {
 
     // What is found of a tip, and by how many orders.
     fn search(&self, tip: u8) -> (Found, usize) {
-        let mut found = (Found::NoTip, 0);
+        let mut found = Found::NoTip;
+        let mut orders: usize = 0;
         for order in ORDERS {
             if order.last() == Some(&tip) {
                 if let Some(at) = self.at(order) {
-                    found = (at, found.1 + 1);
+                    found = at;
+                    orders = orders.saturating_add(1);
                 }
             }
         }
-        found
+        (found, orders)
     }
 }
 
