@@ -1,5 +1,5 @@
 -- What the roots of a forest say of the proof in a message, from what each call answered.
-use Rattle.std.proofs.Common.{◌≡◌, ℕ, List, [], ◌∷◌, map, length, Option, Some, Err, refl, sym, ap, ap₂, ◌∙◌, subst}
+use Rattle.std.proofs.Common.{◌≡◌, ℕ, Bool, List, [], ◌∷◌, map, length, Option, Some, Err, refl, sym, ap, ap₂, ◌∙◌, subst}
 use Rattle.std.specs.Prelude.{◌==◌, true, option_map}
 use Rattle.std.specs.Option.{option_or}
 use Rattle.std.proofs.Math.Path.{fun_ext}
@@ -214,8 +214,8 @@ module _ (H : List ℕ → Digest) (text : Leaf → List ℕ) (es : List (Option
           (subst (λ xs. IsProofFault H f t.targets xs hashes fault) e
           (subst (λ xs. IsProofFault H f t.targets leaves' xs fault) h is))))
 
-      pub checked_by : (leaves' hashes' : List Digest) (pairs : List (Place × Digest)) (g : Stump) → leaves' ≡ leaves → hashes' ≡ hashes → IsDeleted H f t.targets leaves' hashes' pairs g → IsChecked H text es known ext m t hashes
-      checked_by leaves' hashes' pairs g e h d =
+      pub checked_by : (tells : Bool) (leaves' hashes' : List Digest) (pairs : List (Place × Digest)) (g : Stump) → leaves' ≡ leaves → hashes' ≡ hashes → IsDeleted tells H f t.targets leaves' hashes' pairs g → IsChecked H text es known ext m t hashes
+      checked_by tells leaves' hashes' pairs g e h d =
           let named_all : named f.leaves m ≡ map Some ts = named-here.places ∙ ap (map Some) targets-here in
           let accepted : IsAccepted H f.leaves (root_in f) ts nothing_known leaves hashes =
           subst (λ xs. IsAccepted H f.leaves (root_in f) xs nothing_known leaves hashes) targets-here

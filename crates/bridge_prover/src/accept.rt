@@ -47,7 +47,8 @@ pub(crate) fn check_proof<D: Digester, L: Ledger>(
     let targets = targets_of(alloc, forest.leaves(), message)?;
     let hashes = full_hashes(alloc, message, &targets, known)?;
     let mut scratch = Scratch::new(alloc);
-    scratch.reserve(&targets)?;
+    // What the deletion changes is not asked for.
+    scratch.reserve_for(&targets, false)?;
     let leaves = claimed_leaves::<D, L>(alloc, room, external, message, steps)?;
     let mut roots = forest.roots();
     match check_and_delete(&mut roots, &targets, &leaves, &hashes, &mut scratch, steps) {

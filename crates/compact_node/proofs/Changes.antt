@@ -1,5 +1,6 @@
 -- The changes of a deletion as one list.
 use Rattle.std.proofs.Common.{◌≡◌, ℕ, zero, suc, ◌+◌, ◌-◌, ◌*◌, ◌/◌, ◌^◌, ◌<◌, Bool, true, false, ◌&&◌, ◌||◌, List, [], ◌∷◌, map, length, get_or, Option, Some, None, is_some, refl, sym, ap, ◌∙◌, ⊎_elim, lt-ltb, eq-eqb, arith}
+use Rattle.std.specs.Bool.{OnFalse}
 use Rattle.std.specs.Prelude.{not, option_map, filter_map, option_and_then, nat_lt, ◌==◌, Contains, All}
 use Rattle.std.proofs.lemmas.Bool.{cases_Bool, false≢true, false_from_ne_true, and_parts, and_from, or_left, or_right}
 use Rattle.std.proofs.lemmas.Option.{none-some, same_Some}
@@ -16,7 +17,7 @@ use Rattle.forest_model.specs.Deletion.{digest_without, entries_without, is_gone
 use Rattle.forest_model.proofs.Covers.{some_from_test}
 use Rattle.forest_model.proofs.Moving.{moved-is_gone}
 use Rattle.forest_model.proofs.Pairs.{pair_right}
-use Rattle.proof_verify.specs.Verified.{IsChange, AreChanges, above_targets}
+use Rattle.proof_verify.specs.Verified.{IsChange, AreChanges, AreTold, above_targets}
 use Rattle.cache_model.specs.Cache.{look, ArePairs, HasPairs, IsPairOf}
 use Rattle.cache_model.specs.declared.kept.Kept.{Kept}
 use Rattle.cache_model.specs.Lists.{AscendByPlace, leaf_places, moved_leaves}
@@ -27,6 +28,7 @@ use Rattle.cache_model.proofs.Stepping.{same_look, put_all_table, put_all_only, 
 use Rattle.cache_model.proofs.Tables.{same_options, look_has, look_all}
 use Rattle.cache_model.proofs.Undoing.{place_order}
 use Rattle.cache_update.specs.Marks.{is_within, pairs_within}
+use Rattle.cache_update.proofs.Idle.{none_deleted}
 use Rattle.cache_update.proofs.Moves.{goes_within}
 use Rattle.cache_update.proofs.Passes.{filter_all}
 use Rattle.cache_update.proofs.Within.{put_all_in, passed}
@@ -187,6 +189,13 @@ module _ (H : List ℕ → Digest) (n : ℕ) (ts : List Place) (hashes : List Di
   -- so by them as much is left of what is held
   pub left_held : (pairs : List (Place × Digest)) → AreChanges H n ts hashes pairs → (ks : List Kept) (hs : List (Place × Digest)) → held_deleted n ts (pairs_within n pairs) (leaf_places (moved_leaves n ts ks)) hs ≡ held_without H n ts hashes ks hs
   left_held pairs are ks hs = ap (λ ps. held_deleted n ts ps (leaf_places (moved_leaves n ts ks)) hs) (ap (pairs_within n) (changes_are pairs are) ∙ within_all)
+
+  -- where they are not told, nothing is held
+  pub told_held : (tells : Bool) (pairs : List (Place × Digest)) → AreTold tells H n ts hashes pairs → (ks : List Kept) (hs : List (Place × Digest)) → OnFalse tells ((ks ≡ []) × (hs ≡ [])) →
+      held_deleted n ts (pairs_within n pairs) (leaf_places (moved_leaves n ts ks)) hs ≡ held_without H n ts hashes ks hs
+  told_held true pairs are ks hs idle = left_held pairs are ks hs
+  told_held false pairs none ks hs idle =
+      sym (none_deleted n ts (pairs_within n pairs) ks hs idle.0 idle.1) ∙ none_deleted n ts (changes_of H n ts hashes) ks hs idle.0 idle.1
 
 -- ---- of right hashes they are what the cache needs
 

@@ -274,8 +274,8 @@ module _ (H : List ℕ → Digest) (text : Leaf → List ℕ) (f : Stump) (hs : 
       ∙ ap (λ z. option_or z None) (ap (option_map Why.Proof) (read_passes H text f hs ext m t leaves hashes c.claims a))
 
   -- an accepted proof deletes what was handed in
-  pub claim_taken : (handed : Handed) → IsClaimed handed → (pairs : List (Place × Digest)) (g : Stump) → IsStump f → IsStump g → IsDeleted H f t.targets leaves hashes pairs g → IsTaken H text view f ext handed g
-  claim_taken handed c pairs g s u d = record {
+  pub claim_taken : (handed : Handed) → IsClaimed handed → (tells : Bool) (pairs : List (Place × Digest)) (g : Stump) → IsStump f → IsStump g → IsDeleted tells H f t.targets leaves hashes pairs g → IsTaken H text view f ext handed g
+  claim_taken handed c tells pairs g s u d = record {
     passes = claim_passes handed c d.accepted;
     roots = is_without H f (places_spent f.leaves handed) (hashes_spent H view handed) g s u (claim_is handed c (λ xs ys. AreRootsAfter H f xs ys g) d.roots);
   }

@@ -16,18 +16,20 @@ use Rattle.feed_run.specs.declared.status.Status.{Status}
 use Rattle.feed_run.specs.declared.status.Status.TheVariants.{Clash}
 use Rattle.feed_run.specs.Status.{is_stop, status_of}
 use Rattle.command_words.specs.declared.words.WordFault.{WordFault}
-use Rattle.command_words.specs.Words.{Asked, AskedFollow, AskedProve, AskedAudit, AskedGen, net_for}
+use Rattle.command_words.specs.Options.{Settings}
+use Rattle.command_words.specs.Words.{Asked, Task, Following, Proving, Auditing, Generating, UpgradingFeed, UpgradingState, Ordering, net_for}
 use Rattle.node_commands.specs.declared.bad_input.BadInput.{BadInput}
 use Rattle.node_commands.specs.Answers.{bad_end, last_of}
 use Rattle.node_commands.specs.Auditing.{auditing}
 use Rattle.node_commands.specs.Auditor.{answer_unless, audit_answer}
-use Rattle.node_commands.specs.Commands.{following_from, meaning_by}
+use Rattle.node_commands.specs.Commands.{following_from, meaning_for, meaning_by}
 use Rattle.node_commands.specs.Follow.{events_for, fresh_for, follow_answer}
 use Rattle.node_commands.specs.Following.{fresh_start, following_afresh, following_on}
 use Rattle.node_commands.specs.Generating.{gen_answer, generating}
 use Rattle.node_commands.specs.Meaning.{answer_by, IsEnd}
 use Rattle.node_commands.specs.Prover.{prove_answer, proving}
 use Rattle.node_commands.specs.Starting.{Start, IsNodeOf, IsStart, IsUsable, IsGoodBehind}
+use Rattle.node_commands.specs.Upgrading.{upgrading_state}
 use Rattle.node_commands.specs.Watching.{list_in, IsGood}
 
 read_to_end : (refused : Bool) → IsEnd (status_of refused)
@@ -101,21 +103,38 @@ module _ (H : List ℕ → Digest) (limits : Limits) (few : limits.leaves < 2 ^ 
   unfolding gen_answer
   gen-ends number blocks net begun is = subst (λ (b : Result (Unit {0}) BadInput). IsEnd (answer_by (generating number blocks net) b feed).status) (sym is) (inl refl)
 
+  state-ends : (begun : Start) → IsStart H limits prior begun → IsUsable H limits prior → (upgrading_state H limits).Ends (answer_by (upgrading_state H limits) begun feed).status
+  state-ends (Ok node) is g = inl refl
+  state-ends (Err bad) is g = absurd (no_bad H limits few prior g bad is)
+
+  task-ends : (task : Task) (s : Settings) (begun : Result (meaning_for H limits task s).Begun BadInput) → (meaning_for H limits task s).Begins prior watch begun → (meaning_for H limits task s).AreGood feed prior watch
+      → (meaning_for H limits task s).Ends (answer_by (meaning_for H limits task s) begun feed).status
+  task-ends Following s begun is g = from-ends (is_some s.from) (net_for s.net) (is_some s.watch) begun is g
+  task-ends Proving s begun is g = prove-ends (net_for s.net) (is_some s.watch) begun is g
+  task-ends Auditing s begun is g = audit-ends (net_for s.net) (is_some s.watch) begun is g
+  task-ends (Generating number blocks) s begun is g = gen-ends number blocks (net_for s.net) begun is
+  task-ends UpgradingFeed s begun is g = state-ends begun is g
+  task-ends UpgradingState s begun is g = state-ends begun is g
+  task-ends (Ordering tip) s begun is g = state-ends begun is g
+
   pub ends-by : (asked : Result Asked WordFault) (begun : Result (meaning_by H limits asked).Begun BadInput) → (meaning_by H limits asked).Begins prior watch begun → (meaning_by H limits asked).AreGood feed prior watch
       → (meaning_by H limits asked).Ends (answer_by (meaning_by H limits asked) begun feed).status
+  ends-by (Ok asked) begun is g = task-ends asked.task asked.given begun is g
   ends-by (Err fault) begun is g = absurd g
-  ends-by (Ok (AskedFollow f)) begun is g = from-ends (is_some f.from) (net_for f.net) (is_some f.watch) begun is g
-  ends-by (Ok (AskedProve net file to list)) begun is g = prove-ends net (is_some list) begun is g
-  ends-by (Ok (AskedAudit net file list)) begun is g = audit-ends net (is_some list) begun is g
-  ends-by (Ok (AskedGen net number blocks to)) begun is g = gen-ends number blocks net begun is
 
 follow-stops : (resumed : Bool) (H : List ℕ → Digest) (limits : Limits) (net : Net) (named : Bool) (status : Status) → is_stop status ≡ true → (following_from resumed H limits net named).Ends status
 follow-stops true H limits net named status stops = inr (inr stops)
 follow-stops false H limits net named status stops = inr (inr stops)
 
+task-stops : (H : List ℕ → Digest) (limits : Limits) (task : Task) (s : Settings) (status : Status) → is_stop status ≡ true → (meaning_for H limits task s).Ends status
+task-stops H limits Following s status stops = follow-stops (is_some s.from) H limits (net_for s.net) (is_some s.watch) status stops
+task-stops H limits Proving s status stops = inr (inr stops)
+task-stops H limits Auditing s status stops = inl (inr (inr stops))
+task-stops H limits (Generating number blocks) s status stops = inr (inr stops)
+task-stops H limits UpgradingFeed s status stops = inr stops
+task-stops H limits UpgradingState s status stops = inr stops
+task-stops H limits (Ordering tip) s status stops = inr stops
+
 pub stops-by : (H : List ℕ → Digest) (limits : Limits) (asked : Result Asked WordFault) (status : Status) → is_stop status ≡ true → (meaning_by H limits asked).Ends status
+stops-by H limits (Ok asked) status stops = task-stops H limits asked.task asked.given status stops
 stops-by H limits (Err fault) status stops = inr (inr stops)
-stops-by H limits (Ok (AskedFollow f)) status stops = follow-stops (is_some f.from) H limits (net_for f.net) (is_some f.watch) status stops
-stops-by H limits (Ok (AskedProve net file to list)) status stops = inr (inr stops)
-stops-by H limits (Ok (AskedAudit net file list)) status stops = inl (inr (inr stops))
-stops-by H limits (Ok (AskedGen net number blocks to)) status stops = inr (inr stops)

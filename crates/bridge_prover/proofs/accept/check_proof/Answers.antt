@@ -24,7 +24,7 @@ returns-in-Ok-clause-ok g c =
     let named = subst (λ n. AreNamed n c.args.message.now c.in_ok-targets.targets) c.leaves.ensures.is c.in_ok-targets.ensures in
     checked_by g.D.Digester.digest_of leaf_text c.args.forest.now.entries (look c.args.known.now) c.args.external.now c.args.message.now c.in_ok-targets.targets named
     c.roots-roots.result c.roots-roots.ensures c.in_ok-hashes.hashes.items c.in_ok-hashes.ensures
-    _ _ _ _ (c.deref.ensures.value ∙ c.in_ok-leaves.ensures) c.deref-2.ensures.value c.in-Ok.ensures.answer
+    _ _ _ _ _ (c.deref.ensures.value ∙ c.in_ok-leaves.ensures) c.deref-2.ensures.value c.in-Ok.ensures.answer
 
 pub returns-in-Err-clause-err : goal.returns-in-Err-clause-err
 returns-in-Err-clause-err g c =

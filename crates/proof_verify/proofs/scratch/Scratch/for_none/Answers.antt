@@ -1,10 +1,22 @@
-use Rattle.std.proofs.Common.{ℕ, ◌<◌, ◌^◌, [], refl, arith}
+use Rattle.std.proofs.Common.{ℕ, ◌<◌, ◌^◌, Bool, true, false, [], refl, arith}
 use Rattle.proof_shape.proofs.Untargeted.{untargeted, covers}
-use Rattle.proof_verify.specs.Room.{IsRoom}
+use Rattle.proof_verify.specs.Room.{IsRoom, AreToldPlaces}
 use Rattle.proof_verify.proofs.scratch.Scratch.for_none.Goals as goal
 
-none_reserved : (n : ℕ) → n < 2 ^ 40 → IsRoom n [] [] [] [] [] []
-none_reserved n few = record {
+none_new : (tells : Bool) (n : ℕ) → AreToldPlaces tells n [] [] []
+none_new true n = record {
+  rises = λ a b lt below. absurd (omega (arith, below));
+  numbered = λ a below. absurd (omega (arith, below));
+  within = λ a below. absurd (omega (arith, below));
+  there = λ a below. absurd (omega (arith, below));
+  inner = λ a below. absurd (omega (arith, below));
+  goes = λ a below. absurd (omega (arith, below));
+  each = λ m q below. absurd (omega (arith, below));
+}
+none_new false n = refl
+
+none_reserved : (tells : Bool) (n : ℕ) → n < 2 ^ 40 → IsRoom tells n [] [] [] [] [] []
+none_reserved tells n few = record {
   targeted = untargeted n few;
   cover = [];
   plan = record {
@@ -15,19 +27,11 @@ none_reserved n few = record {
   };
   nodes_long = refl;
   tops_are = λ row below slot. refl;
-  landings = record {
-    rises = λ a b lt below. absurd (omega (arith, below));
-    numbered = λ a below. absurd (omega (arith, below));
-    within = λ a below. absurd (omega (arith, below));
-    there = λ a below. absurd (omega (arith, below));
-    inner = λ a below. absurd (omega (arith, below));
-    goes = λ a below. absurd (omega (arith, below));
-    each = λ m q below. absurd (omega (arith, below));
-  };
+  landings = none_new tells n;
   pairs_long = refl;
 }
 
 pub invariant_of-result : goal.invariant_of-result
 invariant_of-result c =
     rw (c.new.ensures.items, c.new-2.ensures.items, c.new-3.ensures.items, c.new-4.ensures.items, c.new-5.ensures.items, c.new-6.ensures.items)
-    (none_reserved c.args.leaves c.requires)
+    (none_reserved c.args.tells c.args.leaves c.requires)
