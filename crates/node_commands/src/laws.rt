@@ -1,4 +1,5 @@
-//! What holds of runs that are stopped and go on, and of states that are written anew. There is no code here.
+//! What holds of runs that are stopped and go on, of states that are written anew, and of hashes among the words. There is no code here.
+ghost use Rattle.node_commands.specs.Ordering.{PrintedIsNamed};
 ghost use Rattle.node_commands.specs.Stopping.{FreshBegins, PiecesAreParted, ResumedIsWhole};
 ghost use Rattle.node_commands.specs.Upgrading.{StatesAreUpgraded};
 
@@ -22,4 +23,9 @@ pub fn fresh_begins()
 /// Of each state, in either version, `upgrade state` stores the text of version 2, and tells how many levels it has.
 pub fn states_are_upgraded()
     ensures { StatesAreUpgraded }
+{}
+
+/// A block hash is named by the word that is printed of it.
+pub fn printed_is_named()
+    ensures { PrintedIsNamed }
 {}
