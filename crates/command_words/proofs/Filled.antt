@@ -2,18 +2,23 @@
 use Rattle.std.proofs.Common.{◌≡◌, ℕ, ◌<◌, ◌^◌, true, List, [], ◌∷◌, length, codes, decimal, Result, Ok, Err, sym, subst, arith, ◌&&◌, not}
 use Rattle.std.specs.Prelude.{All, IfOk}
 use Rattle.std.specs.List.{list_any, list_all}
-use Rattle.std.proofs.lemmas.Bool.{and_parts}
+use Rattle.std.proofs.lemmas.Bool.{and_parts, false≢true}
 use Rattle.std.proofs.lemmas.List.Elements.{All-nil, All-cons, All-append}
 use Rattle.std.proofs.lemmas.Fmt.{decimal_nonempty}
 use Rattle.command_words.specs.declared.options.OptionName.{OptionName}
 use Rattle.command_words.specs.declared.options.OptionName.TheVariants as Name
 use Rattle.command_words.specs.declared.words.Command.{Command}
 use Rattle.command_words.specs.declared.words.WordFault.{WordFault}
+use Rattle.command_words.specs.Hashes.{is_hash_word}
 use Rattle.command_words.specs.Options.{word_of, takes, is_option, excludes, Given, are_given, words_of}
-use Rattle.command_words.specs.Words.{Asked, Task, Following, Proving, Auditing, Generating, IsInRange, front_of, options_of, Asks, Means, asked_in, read_as}
+use Rattle.command_words.specs.Words.{Asked, Task, Following, Proving, Auditing, Generating, UpgradingFeed, UpgradingState, Ordering, IsInRange, front_of, options_of, Asks, Means, asked_in, read_as}
 
 abbrev IsFilled : List ℕ → Type 0
 IsFilled word = 0 < length word
+
+hash_filled : (word : List ℕ) → is_hash_word word ≡ true → IsFilled word
+hash_filled [] e = absurd (false≢true e)
+hash_filled (code ∷ word) e = omega arith
 
 some_front : (task : Task) → IsInRange task → All IsFilled (front_of task)
 some_front Following r = All-cons IsFilled (codes "follow") [] (omega arith) (All-nil IsFilled)
@@ -24,6 +29,9 @@ some_front (Generating number blocks) r =
     All-cons IsFilled (codes "gen") (decimal number ∷ decimal blocks ∷ []) (omega arith)
     (All-cons IsFilled (decimal number) (decimal blocks ∷ []) (decimal_nonempty number r.0)
     (All-cons IsFilled (decimal blocks) [] (decimal_nonempty blocks few) (All-nil IsFilled)))
+some_front UpgradingFeed r = All-cons IsFilled (codes "upgrade") (codes "feed" ∷ []) (omega arith) (All-cons IsFilled (codes "feed") [] (omega arith) (All-nil IsFilled))
+some_front UpgradingState r = All-cons IsFilled (codes "upgrade") (codes "state" ∷ []) (omega arith) (All-cons IsFilled (codes "state") [] (omega arith) (All-nil IsFilled))
+some_front (Ordering tip) r = All-cons IsFilled (codes "order") (tip ∷ []) (omega arith) (All-cons IsFilled tip [] (hash_filled tip r) (All-nil IsFilled))
 
 some_word : (name : OptionName) → IsFilled (word_of name)
 some_word Name.Net = omega arith

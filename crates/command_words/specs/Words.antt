@@ -1,47 +1,28 @@
 -- The words of the command line: which are accepted, what they ask for, and where others go wrong.
-use Rattle.std.specs.Prelude.{◌≡◌, ℕ, ◌<◌, ◌≤◌, ◌-◌, ◌^◌, true, List, [], ◌∷◌, ◌++◌, length, take, Option, Result, Ok, Err, codes, decimal, bytes_eq, option_copied, unwrap_or, if◌then◌else◌}
+use Rattle.std.specs.Prelude.{◌≡◌, ℕ, ◌+◌, ◌<◌, ◌≤◌, ◌-◌, ◌^◌, Bool, true, List, [], ◌∷◌, ◌++◌, length, take, Option, Some, None, Result, Ok, Err, codes, decimal, bytes_eq, is_some, option_copied, unwrap_or, if◌then◌else◌}
+use Rattle.std.specs.List.{list_any}
 use Rattle.uo_base.specs.declared.event.Net.{Net}
 use Rattle.uo_base.specs.declared.event.Net.TheVariants.{Main}
 use Rattle.command_words.specs.declared.options.OptionName.{OptionName}
 use Rattle.command_words.specs.declared.options.OptionName.TheVariants as Name
 use Rattle.command_words.specs.declared.words.Command.{Command}
-use Rattle.command_words.specs.declared.words.Command.TheVariants.{Follow, Prove, Audit, Gen}
+use Rattle.command_words.specs.declared.words.Command.TheVariants.{Follow, Prove, Audit, Gen, UpgradeFeed, UpgradeState, Order}
 use Rattle.command_words.specs.declared.words.WordFault.{WordFault}
+use Rattle.command_words.specs.Hashes.{is_hash_word}
 use Rattle.command_words.specs.Numbers.{number_in}
-use Rattle.command_words.specs.Options.{Given, are_given, words_of, Settings, settings_of, nothing, refused_at, needs, settings_from}
+use Rattle.command_words.specs.Options.{is_option, Given, are_given, words_of, Settings, settings_of, nothing, refused_at, needs, settings_from}
 
--- what is named for a feed to follow: its network, its file, the file of the state to go on from, the file that takes the state at the end, and
--- the file of the watch list
-pub record ToFollow : Type 0 where
-  pub net : Option Net
-  pub feed : Option (List ℕ)
-  pub from : Option (List ℕ)
-  pub to : Option (List ℕ)
-  pub watch : Option (List ℕ)
-
--- what words ask for
-pub data Asked : Type 0 where
-  -- to follow a feed
-  AskedFollow : ToFollow → Asked
-  -- to prove a feed's blocks: its network, and where they are named the feed's file, the file that takes what is written, and the file of the
-  -- watch list
-  AskedProve : Net → (feed to watch : Option (List ℕ)) → Asked
-  -- to audit a feed: its network, and where they are named the feed's file and the file of the watch list
-  AskedAudit : Net → (feed watch : Option (List ℕ)) → Asked
-  -- to generate a feed: its network, its number, its count of blocks, and the file that takes it, where one is named
-  AskedGen : Net → (number blocks : ℕ) → Option (List ℕ) → Asked
-
--- the network that is meant, which is mainnet where none is named
-abbrev pub net_for : Option Net → Net
-net_for net = unwrap_or net Main
-
--- ---- the commands, one a line, each with the numbers that are words of its own
+-- ---- the commands, one a line, each with the words of its own
 
 pub data Task : Type 0 where
   Following : Task
   Proving : Task
   Auditing : Task
   Generating : (number blocks : ℕ) → Task
+  UpgradingFeed : Task
+  UpgradingState : Task
+  -- up to the block of this printed hash
+  Ordering : (tip : List ℕ) → Task
 
 -- the words in front of the options
 abbrev pub front_of : Task → List (List ℕ)
@@ -49,34 +30,74 @@ front_of Following = codes "follow" ∷ []
 front_of Proving = codes "prove" ∷ []
 front_of Auditing = codes "audit" ∷ []
 front_of (Generating number blocks) = codes "gen" ∷ decimal number ∷ decimal blocks ∷ []
+front_of UpgradingFeed = codes "upgrade" ∷ codes "feed" ∷ []
+front_of UpgradingState = codes "upgrade" ∷ codes "state" ∷ []
+front_of (Ordering tip) = codes "order" ∷ tip ∷ []
 
--- the numbers that a command takes
+-- the numbers and the hash that a command takes
 abbrev pub IsInRange : Task → Type 0
 IsInRange Following = Unit {0}
 IsInRange Proving = Unit {0}
 IsInRange Auditing = Unit {0}
 IsInRange (Generating number blocks) = (number < 2 ^ 64) × (blocks ≤ 100000)
+IsInRange UpgradingFeed = Unit {0}
+IsInRange UpgradingState = Unit {0}
+IsInRange (Ordering tip) = is_hash_word tip ≡ true
 
 abbrev pub options_of : Task → List OptionName
 options_of Following = Name.Net ∷ Name.Feed ∷ Name.From ∷ Name.To ∷ Name.Watch ∷ []
 options_of Proving = Name.Net ∷ Name.Feed ∷ Name.To ∷ Name.Watch ∷ []
 options_of Auditing = Name.Net ∷ Name.Feed ∷ Name.Watch ∷ []
 options_of (Generating number blocks) = Name.Net ∷ Name.To ∷ []
+options_of UpgradingFeed = Name.Net ∷ Name.Feed ∷ Name.To ∷ Name.Watch ∷ []
+options_of UpgradingState = Name.From ∷ Name.To ∷ []
+options_of (Ordering tip) = Name.Net ∷ Name.Feed ∷ Name.To ∷ []
+
+-- an option that a command can not do without is there
+abbrev pub is_enough : Task → Settings → Bool
+is_enough Following s = true
+is_enough Proving s = true
+is_enough Auditing s = true
+is_enough (Generating number blocks) s = true
+is_enough UpgradingFeed s = true
+is_enough UpgradingState s = is_some s.from
+is_enough (Ordering tip) s = true
+
+-- the network that is meant, which is mainnet where none is named
+abbrev pub net_for : Option Net → Net
+net_for net = unwrap_or net Main
+
+-- what the options say to a command, where no network is named mainnet's; only a feed that is followed can have that of a state
+abbrev pub given_by : Task → Settings → Settings
+given_by Following s = s
+given_by Proving s = record { net = Some (net_for s.net); feed = s.feed; from = None; to = s.to; watch = s.watch }
+given_by Auditing s = record { net = Some (net_for s.net); feed = s.feed; from = None; to = None; watch = s.watch }
+given_by (Generating number blocks) s = record { net = Some (net_for s.net); feed = None; from = None; to = s.to; watch = None }
+given_by UpgradingFeed s = record { net = Some (net_for s.net); feed = s.feed; from = None; to = s.to; watch = s.watch }
+given_by UpgradingState s = record { net = None; feed = None; from = s.from; to = s.to; watch = None }
+given_by (Ordering tip) s = record { net = Some (net_for s.net); feed = s.feed; from = None; to = s.to; watch = None }
+
+-- what words ask for: a command, and what its options say
+pub record Asked : Type 0 where
+  pub task : Task
+  pub given : Settings
 
 abbrev pub asked_by : Task → Settings → Asked
-asked_by Following s = AskedFollow (record { net = s.net; feed = s.feed; from = s.from; to = s.to; watch = s.watch })
-asked_by Proving s = AskedProve (net_for s.net) s.feed s.to s.watch
-asked_by Auditing s = AskedAudit (net_for s.net) s.feed s.watch
-asked_by (Generating number blocks) s = AskedGen (net_for s.net) number blocks s.to
+asked_by task s = record { task = task; given = given_by task s }
+
+-- a command reads a feed exactly where one can be named
+abbrev pub reads_feed : Task → Bool
+reads_feed task = list_any (is_option Name.Feed) (options_of task)
 
 -- ---- which words are accepted
 
--- a command's name and its numbers, then options of it, in any order, each with its value
+-- a command's name and the words of its own, then options of it, in any order, each with its value
 pub record Asks (words : List (List ℕ)) (asked : Asked) : Type 0 where
   pub task : Task
   pub in_range : IsInRange task
   pub given : List Given
   pub fit : are_given (options_of task) given ≡ true
+  pub enough : is_enough task (settings_of given) ≡ true
   pub spelled : words ≡ front_of task ++ words_of given
   pub is : asked ≡ asked_by task (settings_of given)
 
@@ -99,13 +120,14 @@ Means words (Err fault) = ((asked : Asked) → Asks words asked → ⊥) × IsFa
 
 -- ---- the same, by computation
 
-abbrev pub read_for : Task → Result Settings WordFault → Result Asked WordFault
-read_for task (Ok s) = Ok (asked_by task s)
-read_for task (Err fault) = Err fault
+-- an option that must be there is missed at the end of the words
+abbrev pub read_for : Task → (end : ℕ) → Result Settings WordFault → Result Asked WordFault
+read_for task end (Ok s) = if is_enough task s then Ok (asked_by task s) else refused_at end
+read_for task end (Err fault) = Err fault
 
 -- the options of a command, from index `at` on
 abbrev pub options_for : Task → (at : ℕ) → List (List ℕ) → Result Asked WordFault
-options_for task at words = read_for task (settings_from (options_of task) at nothing words)
+options_for task at words = read_for task (at + length words) (settings_from (options_of task) at nothing words)
 
 -- the words behind `gen` and its number
 unfoldable pub blocks_for : (number : ℕ) → List (List ℕ) → Result Asked WordFault
@@ -117,6 +139,19 @@ unfoldable pub gen_for : List (List ℕ) → Result Asked WordFault
 gen_for [] = refused_at 1
 gen_for (word ∷ rest) = needs (number_in (2 ^ 64 - 1) word) 1 (λ number. blocks_for number rest)
 
+-- the words behind `upgrade`
+unfoldable pub upgrade_for : List (List ℕ) → Result Asked WordFault
+upgrade_for [] = refused_at 1
+upgrade_for (word ∷ rest) =
+    if bytes_eq word (codes "feed") then options_for UpgradingFeed 2 rest
+    else if bytes_eq word (codes "state") then options_for UpgradingState 2 rest
+    else refused_at 1
+
+-- the words behind `order`
+unfoldable pub order_for : List (List ℕ) → Result Asked WordFault
+order_for [] = refused_at 1
+order_for (word ∷ rest) = if is_hash_word word then options_for (Ordering word) 2 rest else refused_at 1
+
 unfoldable pub command_of : List (List ℕ) → Result Asked WordFault
 command_of [] = refused_at 0
 command_of (name ∷ rest) =
@@ -124,15 +159,32 @@ command_of (name ∷ rest) =
     else if bytes_eq name (codes "prove") then options_for Proving 1 rest
     else if bytes_eq name (codes "audit") then options_for Auditing 1 rest
     else if bytes_eq name (codes "gen") then gen_for rest
+    else if bytes_eq name (codes "upgrade") then upgrade_for rest
+    else if bytes_eq name (codes "order") then order_for rest
     else refused_at 0
 
 -- ---- as the program holds them
 
+abbrev pub task_in : Command → Task
+task_in (Follow net feed from to watch) = Following
+task_in (Prove net feed to watch) = Proving
+task_in (Audit net feed watch) = Auditing
+task_in (Gen net number blocks to) = Generating number blocks
+task_in (UpgradeFeed net feed to watch) = UpgradingFeed
+task_in (UpgradeState from to) = UpgradingState
+task_in (Order net tip feed to) = Ordering tip.now
+
+abbrev pub given_in : Command → Settings
+given_in (Follow net feed from to watch) = record { net = net; feed = option_copied feed; from = option_copied from; to = option_copied to; watch = option_copied watch }
+given_in (Prove net feed to watch) = record { net = Some net; feed = option_copied feed; from = None; to = option_copied to; watch = option_copied watch }
+given_in (Audit net feed watch) = record { net = Some net; feed = option_copied feed; from = None; to = None; watch = option_copied watch }
+given_in (Gen net number blocks to) = record { net = Some net; feed = None; from = None; to = option_copied to; watch = None }
+given_in (UpgradeFeed net feed to watch) = record { net = Some net; feed = option_copied feed; from = None; to = option_copied to; watch = option_copied watch }
+given_in (UpgradeState from to) = record { net = None; feed = None; from = Some from.now; to = option_copied to; watch = None }
+given_in (Order net tip feed to) = record { net = Some net; feed = option_copied feed; from = None; to = option_copied to; watch = None }
+
 abbrev pub asked_in : Command → Asked
-asked_in (Follow net feed from to watch) = AskedFollow (record { net = net; feed = option_copied feed; from = option_copied from; to = option_copied to; watch = option_copied watch })
-asked_in (Prove net feed to watch) = AskedProve net (option_copied feed) (option_copied to) (option_copied watch)
-asked_in (Audit net feed watch) = AskedAudit net (option_copied feed) (option_copied watch)
-asked_in (Gen net number blocks to) = AskedGen net number blocks (option_copied to)
+asked_in command = record { task = task_in command; given = given_in command }
 
 abbrev pub read_as : Result Command WordFault → Result Asked WordFault
 read_as (Ok command) = Ok (asked_in command)

@@ -1,5 +1,5 @@
 -- Where nothing that is read is bad, the answer's status is that of a feed that was read to its end.
-use Rattle.std.proofs.Common.{arith, ◌≡◌, ◌⊎◌, inl, inr, ◌<◌, ◌^◌, ℕ, Bool, true, false, List, None, Result, Ok, Err, is_some, refl, sym, ap, subst, ◌∙◌}
+use Rattle.std.proofs.Common.{arith, ◌≡◌, ◌⊎◌, inl, inr, ◌<◌, ◌^◌, ℕ, Bool, true, false, List, length, None, Result, Ok, Err, is_some, refl, sym, ap, subst, ◌∙◌}
 use Rattle.std.specs.declared.option.Option.{Option}
 use Rattle.uo_base.specs.declared.event.Limits.{Limits}
 use Rattle.uo_base.specs.declared.event.Net.{Net}
@@ -11,23 +11,33 @@ use Rattle.compact_node.specs.Node.{NodeState}
 use Rattle.compact_node.specs.State.{stored_state}
 use Rattle.feed_frame.specs.declared.fault.FeedFault.{FeedFault}
 use Rattle.feed_frame.specs.Events.{events_of}
+use Rattle.chain_order.specs.declared.fault.PathFault.{PathFault}
+use Rattle.chain_order.specs.declared.fault.PathFault.TheVariants.{NoTip, Missing, Loop, NoMemory}
+use Rattle.chain_order.specs.Arrivals.{Arrival}
+use Rattle.order_run.specs.Machine.{order_end}
 use Rattle.feed_run.specs.Answer.{Answer}
+use Rattle.feed_upgrade.specs.Upgraded.{old_messages}
+use Rattle.feed_upgrade.specs.Upgrader.{upgrade_end}
 use Rattle.feed_run.specs.declared.status.Status.{Status}
-use Rattle.feed_run.specs.declared.status.Status.TheVariants.{Clash}
+use Rattle.feed_run.specs.declared.status.Status.TheVariants.{AllAccepted, Clash}
 use Rattle.feed_run.specs.Status.{is_stop, status_of}
 use Rattle.command_words.specs.declared.words.WordFault.{WordFault}
-use Rattle.command_words.specs.Words.{Asked, AskedFollow, AskedProve, AskedAudit, AskedGen, net_for}
+use Rattle.command_words.specs.Options.{Settings}
+use Rattle.command_words.specs.Words.{Asked, Task, Following, Proving, Auditing, Generating, UpgradingFeed, UpgradingState, Ordering, net_for}
 use Rattle.node_commands.specs.declared.bad_input.BadInput.{BadInput}
 use Rattle.node_commands.specs.Answers.{bad_end, last_of}
 use Rattle.node_commands.specs.Auditing.{auditing}
 use Rattle.node_commands.specs.Auditor.{answer_unless, audit_answer}
-use Rattle.node_commands.specs.Commands.{following_from, meaning_by}
+use Rattle.node_commands.specs.Commands.{following_from, meaning_for, meaning_by}
 use Rattle.node_commands.specs.Follow.{events_for, fresh_for, follow_answer}
 use Rattle.node_commands.specs.Following.{fresh_start, following_afresh, following_on}
 use Rattle.node_commands.specs.Generating.{gen_answer, generating}
 use Rattle.node_commands.specs.Meaning.{answer_by, IsEnd}
+use Rattle.node_commands.specs.Ordering.{hash_named, order_answer, ordering}
 use Rattle.node_commands.specs.Prover.{prove_answer, proving}
 use Rattle.node_commands.specs.Starting.{Start, IsNodeOf, IsStart, IsUsable, IsGoodBehind}
+use Rattle.node_commands.specs.Upgrading.{upgrading_state}
+use Rattle.node_commands.specs.UpgradingFeed.{upgrade_feed_answer, upgrading_feed}
 use Rattle.node_commands.specs.Watching.{list_in, IsGood}
 
 read_to_end : (refused : Bool) → IsEnd (status_of refused)
@@ -42,6 +52,18 @@ unless_forged : (forged : Bool) (whole : Answer) (lines clash : List ℕ) → Is
 unless_forged true whole lines clash end = inr refl
 unless_forged false whole lines clash end = inl end
 
+path_ends : (net : Net) (blocks : ℕ) (told : Result (List Arrival) PathFault) → IsEnd (order_end net blocks told).status
+unfolding order_end
+path_ends net blocks (Ok path) = inl refl
+path_ends net blocks (Err NoTip) = inr (inl refl)
+path_ends net blocks (Err (Missing hash)) = inr (inl refl)
+path_ends net blocks (Err (Loop hash)) = inr (inl refl)
+path_ends net blocks (Err NoMemory) = inr (inl refl)
+
+ordered : (limits : Limits) (net : Net) (tip : Digest) (feed : List ℕ) → (events_of net limits.bytes feed).ending ≡ None → IsEnd (order_answer net limits.bytes tip feed).status
+unfolding order_answer
+ordered limits net tip feed whole = at_end _ _ whole (path_ends _ _ _)
+
 module _ (H : List ℕ → Digest) (limits : Limits) where
   followed : (node : NodeState) (feed : List ℕ) → (events_for node.rules feed).ending ≡ None → IsEnd (follow_answer H node feed).status
   unfolding follow_answer
@@ -50,6 +72,12 @@ module _ (H : List ℕ → Digest) (limits : Limits) where
   proved : (net : Net) (list : Option (List (List ℕ))) (feed : List ℕ) → (events_of net limits.bytes feed).ending ≡ None → IsEnd (prove_answer H limits net list feed).status
   unfolding prove_answer
   proved net list feed whole = at_end _ _ whole (read_to_end _)
+
+  upgraded : (node : NodeState) (feed : List ℕ) → (events_for node.rules feed).ending ≡ None → (upgrade_feed_answer H node feed).status ≡ AllAccepted
+  unfolding upgrade_feed_answer
+  upgraded node feed whole =
+      let events = events_for node.rules feed in
+      ap (λ e. (last_of (upgrade_end (length events.events) (old_messages events.events)) (bad_end e)).status) whole
 
   audited : (net : Net) (scripts : List (List ℕ)) (feed : List ℕ) → (events_of net limits.bytes feed).ending ≡ None
       → IsEnd (audit_answer H limits net scripts feed).status ⊎ ((audit_answer H limits net scripts feed).status ≡ Clash)
@@ -101,21 +129,49 @@ module _ (H : List ℕ → Digest) (limits : Limits) (few : limits.leaves < 2 ^ 
   unfolding gen_answer
   gen-ends number blocks net begun is = subst (λ (b : Result (Unit {0}) BadInput). IsEnd (answer_by (generating number blocks net) b feed).status) (sym is) (inl refl)
 
+  upgrade-ends : (net : Net) (named : Bool) (begun : Start) → begun ≡ fresh_start limits net (list_in named limits.bytes watch) → IsGood named net limits watch feed
+      → (upgrading_feed H limits net named).Ends (answer_by (upgrading_feed H limits net named) begun feed).status
+  upgrade-ends net named begun is g =
+      let fresh = is ∙ ap (fresh_start limits net) g.usable in
+      subst (λ (b : Start). (upgrading_feed H limits net named).Ends (answer_by (upgrading_feed H limits net named) b feed).status) (sym fresh)
+      (inl (upgraded H limits (fresh_for limits net g.scripts) feed g.whole))
+
+  state-ends : (begun : Start) → IsStart H limits prior begun → IsUsable H limits prior → (upgrading_state H limits).Ends (answer_by (upgrading_state H limits) begun feed).status
+  state-ends (Ok node) is g = inl refl
+  state-ends (Err bad) is g = absurd (no_bad H limits few prior g bad is)
+
+  order-ends : (net : Net) (tip : Digest) (begun : Result (Unit {0}) BadInput) → begun ≡ Ok tt → (events_of net limits.bytes feed).ending ≡ None
+      → IsEnd (answer_by (ordering limits.bytes net tip) begun feed).status
+  order-ends net tip begun is whole = subst (λ (b : Result (Unit {0}) BadInput). IsEnd (answer_by (ordering limits.bytes net tip) b feed).status) (sym is) (ordered limits net tip feed whole)
+
+  task-ends : (task : Task) (s : Settings) (begun : Result (meaning_for H limits task s).Begun BadInput) → (meaning_for H limits task s).Begins prior watch begun → (meaning_for H limits task s).AreGood feed prior watch
+      → (meaning_for H limits task s).Ends (answer_by (meaning_for H limits task s) begun feed).status
+  task-ends Following s begun is g = from-ends (is_some s.from) (net_for s.net) (is_some s.watch) begun is g
+  task-ends Proving s begun is g = prove-ends (net_for s.net) (is_some s.watch) begun is g
+  task-ends Auditing s begun is g = audit-ends (net_for s.net) (is_some s.watch) begun is g
+  task-ends (Generating number blocks) s begun is g = gen-ends number blocks (net_for s.net) begun is
+  task-ends UpgradingFeed s begun is g = upgrade-ends (net_for s.net) (is_some s.watch) begun is g
+  task-ends UpgradingState s begun is g = state-ends begun is g
+  task-ends (Ordering tip) s begun is g = order-ends (net_for s.net) (hash_named tip) begun is g
+
   pub ends-by : (asked : Result Asked WordFault) (begun : Result (meaning_by H limits asked).Begun BadInput) → (meaning_by H limits asked).Begins prior watch begun → (meaning_by H limits asked).AreGood feed prior watch
       → (meaning_by H limits asked).Ends (answer_by (meaning_by H limits asked) begun feed).status
+  ends-by (Ok asked) begun is g = task-ends asked.task asked.given begun is g
   ends-by (Err fault) begun is g = absurd g
-  ends-by (Ok (AskedFollow f)) begun is g = from-ends (is_some f.from) (net_for f.net) (is_some f.watch) begun is g
-  ends-by (Ok (AskedProve net file to list)) begun is g = prove-ends net (is_some list) begun is g
-  ends-by (Ok (AskedAudit net file list)) begun is g = audit-ends net (is_some list) begun is g
-  ends-by (Ok (AskedGen net number blocks to)) begun is g = gen-ends number blocks net begun is
 
 follow-stops : (resumed : Bool) (H : List ℕ → Digest) (limits : Limits) (net : Net) (named : Bool) (status : Status) → is_stop status ≡ true → (following_from resumed H limits net named).Ends status
 follow-stops true H limits net named status stops = inr (inr stops)
 follow-stops false H limits net named status stops = inr (inr stops)
 
+task-stops : (H : List ℕ → Digest) (limits : Limits) (task : Task) (s : Settings) (status : Status) → is_stop status ≡ true → (meaning_for H limits task s).Ends status
+task-stops H limits Following s status stops = follow-stops (is_some s.from) H limits (net_for s.net) (is_some s.watch) status stops
+task-stops H limits Proving s status stops = inr (inr stops)
+task-stops H limits Auditing s status stops = inl (inr (inr stops))
+task-stops H limits (Generating number blocks) s status stops = inr (inr stops)
+task-stops H limits UpgradingFeed s status stops = inr stops
+task-stops H limits UpgradingState s status stops = inr stops
+task-stops H limits (Ordering tip) s status stops = inr (inr stops)
+
 pub stops-by : (H : List ℕ → Digest) (limits : Limits) (asked : Result Asked WordFault) (status : Status) → is_stop status ≡ true → (meaning_by H limits asked).Ends status
+stops-by H limits (Ok asked) status stops = task-stops H limits asked.task asked.given status stops
 stops-by H limits (Err fault) status stops = inr (inr stops)
-stops-by H limits (Ok (AskedFollow f)) status stops = follow-stops (is_some f.from) H limits (net_for f.net) (is_some f.watch) status stops
-stops-by H limits (Ok (AskedProve net file to list)) status stops = inr (inr stops)
-stops-by H limits (Ok (AskedAudit net file list)) status stops = inl (inr (inr stops))
-stops-by H limits (Ok (AskedGen net number blocks to)) status stops = inr (inr stops)

@@ -14,7 +14,8 @@ use Rattle.uo_base.proofs.PortLemmas.{told_text, Tells-told_text}
 use Rattle.uo_digest.specs.declared.digest.Digest.{Digest}
 use Rattle.bridge_prover.specs.Watched.{scripts_of}
 use Rattle.command_words.specs.declared.words.WordFault.{WordFault}
-use Rattle.command_words.specs.Words.{ToFollow, Asked, AskedFollow, AskedProve, AskedAudit, AskedGen, net_for, command_of}
+use Rattle.command_words.specs.Options.{Settings}
+use Rattle.command_words.specs.Words.{Asked, Task, Following, Proving, Auditing, Generating, UpgradingFeed, UpgradingState, Ordering, net_for, command_of}
 use Rattle.feed_frame.specs.Events.{events_of, events_over, settled_in, settled_of}
 use Rattle.feed_frame.specs.Frames.{frames_from, past_limit, within}
 use Rattle.feed_frame.specs.Streamed.{KeepsUp}
@@ -25,18 +26,23 @@ use Rattle.feed_run.specs.Status.{is_stop}
 use Rattle.report_lines.specs.Lines.{whole_line}
 use Rattle.node_commands.specs.declared.bad_input.BadInput.{BadInput}
 use Rattle.node_commands.specs.Auditing.{auditing}
-use Rattle.node_commands.specs.Commands.{following_from, meaning_by, meaning_of}
+use Rattle.node_commands.specs.Commands.{following_from, meaning_for, meaning_by, meaning_of}
 use Rattle.node_commands.specs.Following.{following_afresh, following_on}
 use Rattle.node_commands.specs.Meaning.{Inputs, Meaning, Uses}
-use Rattle.node_commands.specs.Prover.{proving}
+use Rattle.node_commands.specs.Ordering.{hash_named}
+use Rattle.node_commands.specs.Starting.{Start, IsStart}
+use Rattle.node_commands.specs.Upgrading.{UpgradesState}
 use Rattle.node_commands.specs.Runs.{GivesBy, Serves, Ran, Did, status_in, UsedRose}
 use Rattle.node_commands.specs.Watching.{list_in}
 use Rattle.node_commands.proofs.CompleteLemmas.{ends-by, stops-by}
 use Rattle.node_commands.proofs.FollowLemmas.{prints-as-full}
 use Rattle.node_commands.proofs.ForgingLemmas.{audits-feed}
+use Rattle.node_commands.proofs.OrderLemmas.{orders-feed}
 use Rattle.node_commands.proofs.ProvingLemmas.{follows-proving}
 use Rattle.node_commands.proofs.ServeLemmas.{failed-so}
 use Rattle.node_commands.proofs.StartLemmas.{resumes-as-full}
+use Rattle.node_commands.proofs.UpgradeLemmas.{states_are_upgraded}
+use Rattle.node_commands.proofs.UpgradedFeeds.{follows-upgraded-afresh}
 use Rattle.node_commands.proofs.WatchLemmas.{IfOk-any}
 
 -- ---- of a command
@@ -140,32 +146,29 @@ module _ (H : List ℕ → Digest) (limits : Limits) (words : List (List ℕ)) (
       → Ran (meaning_of H limits words) limit feed feed' prior watch report report' out out' stopped status
   ran-words asked is r = subst (λ a. Ran (meaning_by H limits a) limit feed feed' prior watch report report' out out' stopped status) is r
 
-  pub ran-afresh : (f : ToFollow) (net : Net) (named : Bool) → Ok (AskedFollow f) ≡ command_of words → is_some f.from ≡ false → net ≡ net_for f.net → named ≡ is_some f.watch
+  -- with a watch list, or with none
+  pub ran-named : (asked : Result Asked WordFault) → asked ≡ command_of words → (by : Bool → Meaning) (named listed : Bool) → meaning_by H limits asked ≡ by listed → named ≡ listed
+      → Ran (by named) limit feed feed' prior watch report report' out out' stopped status
+      → Ran (meaning_of H limits words) limit feed feed' prior watch report report' out out' stopped status
+  ran-named asked is by named listed means same r =
+      ran-words asked is
+      (subst (λ (m : Meaning). Ran m limit feed feed' prior watch report report' out out' stopped status) (sym means)
+      (subst (λ b. Ran (by b) limit feed feed' prior watch report report' out out' stopped status) same r))
+
+  pub ran-afresh : (s : Settings) (net : Net) (named : Bool) → Ok (record { task = Following; given = s }) ≡ command_of words → is_some s.from ≡ false → net ≡ net_for s.net → named ≡ is_some s.watch
       → Ran (following_afresh H limits net named) limit feed feed' prior watch report report' out out' stopped status
       → Ran (meaning_of H limits words) limit feed feed' prior watch report report' out out' stopped status
-  ran-afresh f net named is fresh net_is same r =
-      ran-words (Ok (AskedFollow f)) is
-      (subst (λ b. Ran (following_from b H limits (net_for f.net) (is_some f.watch)) limit feed feed' prior watch report report' out out' stopped status) (sym fresh)
-      (subst (λ k. Ran (following_afresh H limits k (is_some f.watch)) limit feed feed' prior watch report report' out out' stopped status) net_is
+  ran-afresh s net named is fresh net_is same r =
+      ran-words (Ok (record { task = Following; given = s })) is
+      (subst (λ b. Ran (following_from b H limits (net_for s.net) (is_some s.watch)) limit feed feed' prior watch report report' out out' stopped status) (sym fresh)
+      (subst (λ k. Ran (following_afresh H limits k (is_some s.watch)) limit feed feed' prior watch report report' out out' stopped status) net_is
       (subst (λ b. Ran (following_afresh H limits net b) limit feed feed' prior watch report report' out out' stopped status) same r)))
 
-  pub ran-on : (f : ToFollow) → Ok (AskedFollow f) ≡ command_of words → is_some f.from ≡ true → Ran (following_on H limits) limit feed feed' prior watch report report' out out' stopped status
+  pub ran-on : (s : Settings) → Ok (record { task = Following; given = s }) ≡ command_of words → is_some s.from ≡ true → Ran (following_on H limits) limit feed feed' prior watch report report' out out' stopped status
       → Ran (meaning_of H limits words) limit feed feed' prior watch report report' out out' stopped status
-  ran-on f is resumed r =
-      ran-words (Ok (AskedFollow f)) is
-      (subst (λ b. Ran (following_from b H limits (net_for f.net) (is_some f.watch)) limit feed feed' prior watch report report' out out' stopped status) (sym resumed) r)
-
-  pub ran-proving : (net : Net) (file to list : Option (List ℕ)) (named : Bool) → Ok (AskedProve net file to list) ≡ command_of words → named ≡ is_some list
-      → Ran (proving H limits net named) limit feed feed' prior watch report report' out out' stopped status
-      → Ran (meaning_of H limits words) limit feed feed' prior watch report report' out out' stopped status
-  ran-proving net file to list named is same r =
-      ran-words (Ok (AskedProve net file to list)) is (subst (λ b. Ran (proving H limits net b) limit feed feed' prior watch report report' out out' stopped status) same r)
-
-  pub ran-auditing : (net : Net) (file list : Option (List ℕ)) (named : Bool) → Ok (AskedAudit net file list) ≡ command_of words → named ≡ is_some list
-      → Ran (auditing H limits net named) limit feed feed' prior watch report report' out out' stopped status
-      → Ran (meaning_of H limits words) limit feed feed' prior watch report report' out out' stopped status
-  ran-auditing net file list named is same r =
-      ran-words (Ok (AskedAudit net file list)) is (subst (λ b. Ran (auditing H limits net b) limit feed feed' prior watch report report' out out' stopped status) same r)
+  ran-on s is resumed r =
+      ran-words (Ok (record { task = Following; given = s })) is
+      (subst (λ b. Ran (following_from b H limits (net_for s.net) (is_some s.watch)) limit feed feed' prior watch report report' out out' stopped status) (sym resumed) r)
 
 -- whether a borrowed value is there
 pub copied_some : {T : Type 0} (x : Option (Bor T)) → is_some x ≡ is_some (option_copied x)
@@ -173,14 +176,15 @@ copied_some None = refl
 copied_some (Some x) = refl
 
 -- the ports that `follow` uses from the start
-module _ (H : List ℕ → Digest) (limits : Limits) (words : List (List ℕ)) (f : ToFollow) (is : Ok (AskedFollow f) ≡ command_of words) (fresh : is_some f.from ≡ false) (named : Bool) (same : named ≡ is_some f.watch) where
+module _ (H : List ℕ → Digest) (limits : Limits) (words : List (List ℕ)) (s : Settings) (is : Ok (record { task = Following; given = s }) ≡ command_of words) (fresh : is_some s.from ≡ false) (named : Bool)
+    (same : named ≡ is_some s.watch) where
   abbrev used : Uses
   used = record { feed = true; prior = false; watch = named; out = true; steps = true }
 
   uses-afresh : used ≡ (meaning_of H limits words).uses
   uses-afresh =
       ap (λ b. let u : Uses = record { feed = true; prior = false; watch = b; out = true; steps = true } in u) same
-      ∙ ap (λ b. (following_from b H limits (net_for f.net) (is_some f.watch)).uses) (sym fresh) ∙ ap (λ a. (meaning_by H limits a).uses) is
+      ∙ ap (λ b. (following_from b H limits (net_for s.net) (is_some s.watch)).uses) (sym fresh) ∙ ap (λ a. (meaning_by H limits a).uses) is
 
   pub watch-afresh : (P : Type 0) → OnFalse named P → OnFalse (meaning_of H limits words).uses.watch P
   watch-afresh P stays = subst (λ (u : Uses). OnFalse u.watch P) uses-afresh stays
@@ -207,13 +211,25 @@ module _ (H : List ℕ → Digest) (long : (x : List ℕ) → length (H x).0 ≡
   follow-claims false net named inputs begins =
       IfOk-any _ (λ list. (prints-as-full H limits net few short list inputs.feed, follows-proving H long limits net few short list inputs.feed)) (list_in named limits.bytes inputs.watch)
 
+  -- and so a state is upgraded, where there is one
+  state-claims : (prior : List ℕ) (begun : Option Start) → IfSome begun (IsStart H limits prior) → IfSome begun (UpgradesState H limits prior)
+  state-claims prior None begins = tt
+  state-claims prior (Some start) begins = states_are_upgraded H limits prior start few begins
+
+  task-claims : (task : Task) (s : Settings) (inputs : Inputs (meaning_for H limits task s).Begun) → IfSome inputs.begun ((meaning_for H limits task s).Begins inputs.prior inputs.watch)
+      → (meaning_for H limits task s).Claims inputs
+  task-claims Following s inputs begins = follow-claims (is_some s.from) (net_for s.net) (is_some s.watch) inputs begins
+  task-claims Proving s inputs begins = tt
+  task-claims Auditing s inputs begins = IfOk-any _ (λ scripts. audits-feed H long limits (net_for s.net) (scripts_of scripts) few inputs.feed) (list_in (is_some s.watch) limits.bytes inputs.watch)
+  task-claims (Generating number blocks) s inputs begins = tt
+  task-claims UpgradingFeed s inputs begins = IfOk-any _ (λ list. follows-upgraded-afresh H limits (net_for s.net) few short list inputs.feed) (list_in (is_some s.watch) limits.bytes inputs.watch)
+  task-claims UpgradingState s inputs begins = state-claims inputs.prior inputs.begun begins
+  task-claims (Ordering tip) s inputs begins = orders-feed (net_for s.net) limits.bytes (hash_named tip) inputs.feed
+
   claims : (asked : Result Asked WordFault) (inputs : Inputs (meaning_by H limits asked).Begun) → IfSome inputs.begun ((meaning_by H limits asked).Begins inputs.prior inputs.watch)
       → (meaning_by H limits asked).Claims inputs
+  claims (Ok asked) inputs begins = task-claims asked.task asked.given inputs begins
   claims (Err fault) inputs begins = tt
-  claims (Ok (AskedFollow f)) inputs begins = follow-claims (is_some f.from) (net_for f.net) (is_some f.watch) inputs begins
-  claims (Ok (AskedProve net file to list)) inputs begins = tt
-  claims (Ok (AskedAudit net file list)) inputs begins = IfOk-any _ (λ scripts. audits-feed H long limits net (scripts_of scripts) few inputs.feed) (list_in (is_some list) limits.bytes inputs.watch)
-  claims (Ok (AskedGen net number blocks to)) inputs begins = tt
 
   module _ (asked : Result Asked WordFault) (feed feed' prior watch report report' out out' : Option (List ℕ)) (status : Status) where
     abbrev m : Meaning

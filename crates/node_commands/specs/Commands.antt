@@ -5,7 +5,8 @@ use Rattle.uo_base.specs.declared.event.Net.{Net}
 use Rattle.uo_base.specs.declared.event.Net.TheVariants.{Main}
 use Rattle.uo_digest.specs.declared.digest.Digest.{Digest}
 use Rattle.command_words.specs.declared.words.WordFault.{WordFault}
-use Rattle.command_words.specs.Words.{Asked, AskedFollow, AskedProve, AskedAudit, AskedGen, net_for, command_of}
+use Rattle.command_words.specs.Options.{Settings}
+use Rattle.command_words.specs.Words.{Asked, Task, Following, Proving, Auditing, Generating, UpgradingFeed, UpgradingState, Ordering, net_for, command_of}
 use Rattle.feed_run.specs.declared.status.Status.TheVariants.{Words}
 use Rattle.report_lines.specs.declared.line.Line.TheVariants as Line
 use Rattle.node_commands.specs.declared.bad_input.BadInput.{BadInput}
@@ -14,7 +15,10 @@ use Rattle.node_commands.specs.Auditing.{auditing}
 use Rattle.node_commands.specs.Following.{following_afresh, following_on}
 use Rattle.node_commands.specs.Generating.{generating}
 use Rattle.node_commands.specs.Meaning.{Meaning, IsEnd}
+use Rattle.node_commands.specs.Ordering.{hash_named, ordering}
 use Rattle.node_commands.specs.Prover.{proving}
+use Rattle.node_commands.specs.Upgrading.{upgrading_state}
+use Rattle.node_commands.specs.UpgradingFeed.{upgrading_feed}
 
 -- one line says where the words go wrong
 abbrev pub bad_words : WordFault → BadInput
@@ -39,12 +43,18 @@ abbrev pub following_from : (resumed : Bool) → (List ℕ → Digest) → Limit
 following_from true H limits net named = following_on H limits
 following_from false H limits net named = following_afresh H limits net named
 
+abbrev pub meaning_for : (List ℕ → Digest) → Limits → Task → Settings → Meaning
+meaning_for H limits Following s = following_from (is_some s.from) H limits (net_for s.net) (is_some s.watch)
+meaning_for H limits Proving s = proving H limits (net_for s.net) (is_some s.watch)
+meaning_for H limits Auditing s = auditing H limits (net_for s.net) (is_some s.watch)
+meaning_for H limits (Generating number blocks) s = generating number blocks (net_for s.net)
+meaning_for H limits UpgradingFeed s = upgrading_feed H limits (net_for s.net) (is_some s.watch)
+meaning_for H limits UpgradingState s = upgrading_state H limits
+meaning_for H limits (Ordering tip) s = ordering limits.bytes (net_for s.net) (hash_named tip)
+
 abbrev pub meaning_by : (List ℕ → Digest) → Limits → Result Asked WordFault → Meaning
+meaning_by H limits (Ok asked) = meaning_for H limits asked.task asked.given
 meaning_by H limits (Err fault) = refusing fault
-meaning_by H limits (Ok (AskedFollow f)) = following_from (is_some f.from) H limits (net_for f.net) (is_some f.watch)
-meaning_by H limits (Ok (AskedProve net feed to list)) = proving H limits net (is_some list)
-meaning_by H limits (Ok (AskedAudit net feed list)) = auditing H limits net (is_some list)
-meaning_by H limits (Ok (AskedGen net number blocks to)) = generating number blocks net
 
 -- what the words of a command line mean
 abbrev pub meaning_of : (List ℕ → Digest) → Limits → List (List ℕ) → Meaning

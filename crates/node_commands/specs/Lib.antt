@@ -9,10 +9,12 @@ pub mod Forging
 pub mod Generating
 pub mod Machine
 pub mod Meaning
+pub mod Ordering
 pub mod Prover
 pub mod Proving
 pub mod Runs
 pub mod Starting
 pub mod Stopping
 pub mod Upgrading
+pub mod UpgradingFeed
 pub mod Watching

@@ -10,7 +10,10 @@ ghost use Rattle.node_commands.specs.Runs.{Did, Ran, UsedRose, status_in};
 use crate::audit::audit;
 use crate::follow::{follow_afresh, follow_on};
 use crate::generating::make_feed;
+use crate::order::order;
 use crate::prove::prove;
+use crate::upgrading::upgrade_state;
+use crate::upgrading_feed::upgrade_feed;
 use command_words::{Command, read_words};
 use feed_run::{Status, Stop};
 use report_lines::{Line, say};
@@ -51,10 +54,19 @@ pub fn run<D: Digester, F: Source, P: Source, W: Source, O: Sink, R: Sink, L: Le
     // that is forged to that node, which is one with the same network, leaf limit and watch list, it prints two different texts with one digest:
     // one is that of a node of the forest, and the proof in the message digests the other. It judges nothing behind that event.
     // `gen` stores the feed of its number, its count of blocks and its network, and prints how many blocks, rollbacks and bytes it has.
+    // `upgrade feed` stores the events of the feed with their messages in version 2, and prints how many events and messages of version 1 there are;
+    // the whole answer of `follow` to what it stored, with the same network and watch list, is that to the feed, and of a feed that ends badly the
+    // lines of the events are the same. `upgrade state` stores the text of version 2 of each state, and prints how many levels it has.
+    // `order` stores the frames of the one path from a first block to the one whose hash is named, and prints how many they are and how many it
+    // passed over; or it stores nothing, and prints why there is no such path. Over what it stored the first refusal is not `link`.
+    // `order` stores the frames of the one path from a block that begins a chain to the tip, among the first blocks of each hash of the feed, and
+    // prints how many there are and how many other blocks came; or it prints why there is no path. Over what it stores neither `follow` nor `prove`
+    // refuses a block for its link before it has refused another.
     // Where the words are accepted, the watch list or prior state that they name can be used, the feed has no bad frame, and none has more
     // bytes than may be read, the status is 0 or 1, or 4 of `audit`, or that of a failed port or of want of memory (`complete`).
     // Where a fault or want of memory stops the run, what an event stores is stored before its line is begun, and all that is to be stored before
-    // anything is printed behind the lines of the events; and where the feed fails, the lines of all events that were wholly taken are there.
+    // anything is printed behind the lines of the events; and where the feed fails, the lines of all events that were wholly taken are there, and where
+    // a sink fails those of all but the last two.
     ensures did { Did (meaning_of D.digest_of limits (map string_bytes words.now)) limits.bytes
         (F.left feed.old) (F.left feed.new) (P.left prior.old) (W.left watch.old)
         (R.held report.old) (R.held report.new) (O.held out.old) (O.held out.new) result }
@@ -179,5 +191,35 @@ fn run_command<D: Digester, F: Source, P: Source, W: Source, O: Sink, R: Sink, L
                 ..
             },
         ) => make_feed(alloc, number, blocks, net, out, report),
+        Ok(Command::UpgradeState { .. }) => {
+            upgrade_state::<D, P, O, R, L>(alloc, limits, prior, out, report, steps)
+        }
+        Ok(
+            Command::UpgradeFeed {
+                net,
+                watch: list,
+                ..
+            },
+        ) => upgrade_feed::<D, F, W, O, R, L>(
+            alloc,
+            limits,
+            net,
+            list.is_some(),
+            watch,
+            feed,
+            out,
+            report,
+            steps,
+        ),
+        Ok(Command::Order { net, tip, .. }) => order::<F, O, R, L>(
+            alloc,
+            net,
+            limits.bytes,
+            tip,
+            feed,
+            out,
+            report,
+            steps,
+        ),
     }
 }

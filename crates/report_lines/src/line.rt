@@ -65,8 +65,24 @@ pub enum Line {
         rollbacks: u32,
         bytes: u64,
     },
+    /// A feed was written anew: its events, and the messages of version 1 beside its blocks.
+    UpgradedFeed {
+        events: u64,
+        messages: u64,
+    },
     /// A state was written anew, with so many levels.
     UpgradedState(u32),
+    /// A path was stored: its blocks, and how many block frames of the feed are not on it.
+    Ordered {
+        blocks: u64,
+        passed: u64,
+    },
+    /// No block of the feed has the hash of the tip.
+    NoTip,
+    /// On the way back from the tip this hash is named, and no block of the feed has it.
+    Missing(Digest),
+    /// On the way back from the tip the block of this hash is met for the second time.
+    Loop(Digest),
 }
 
 impl fmt::Display for Line {
@@ -109,7 +125,12 @@ impl fmt::Display for Line {
                 rollbacks,
                 bytes,
             } => write!(f, "generated {blocks} {rollbacks} {bytes}"),
+            Line::UpgradedFeed { events, messages } => write!(f, "upgraded {events} {messages}"),
             Line::UpgradedState(levels) => write!(f, "upgraded state {levels}"),
+            Line::Ordered { blocks, passed } => write!(f, "ordered {blocks} {passed}"),
+            Line::NoTip => f.write_str("notip"),
+            Line::Missing(hash) => write!(f, "missing {}", HashText(hash)),
+            Line::Loop(hash) => write!(f, "loop {}", HashText(hash)),
         }
     }
 }

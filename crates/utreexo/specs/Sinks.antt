@@ -7,7 +7,7 @@ use Rattle.uo_base.specs.Files.{sink_name, sink_file, WritesFile}
 use Rattle.utreexo.specs.declared.any_sink.AnySink.{AnySink}
 use Rattle.utreexo.specs.declared.any_sink.AnySink.TheVariants.{File, Quiet}
 use Rattle.command_words.specs.declared.words.WordFault.{WordFault}
-use Rattle.command_words.specs.Words.{Asked, AskedFollow, AskedProve, AskedAudit, AskedGen}
+use Rattle.command_words.specs.Words.{Asked}
 
 -- what is said of the sink that is held
 abbrev pub of_kind : {R F D A : Type 0} → (FileSink R F D → A) → (QuietSink → A) → AnySink R F D → A
@@ -30,15 +30,12 @@ DoesWrite told old new result piece = ⊥
 -- ---- which sink the words choose
 
 -- the file that is named, or none
-abbrev pub IsFileOrQuiet : {R F D : Type 0} → Option (List ℕ) → AnySink R F D → Type 0
-IsFileOrQuiet (Some name) (File s) = sink_name s ≡ name
-IsFileOrQuiet None (Quiet s) = ⊤
-IsFileOrQuiet name sink = ⊥
+abbrev pub IsFileOrDropped : {R F D : Type 0} → Option (List ℕ) → AnySink R F D → Type 0
+IsFileOrDropped (Some name) (File s) = sink_name s ≡ name
+IsFileOrDropped None (Quiet s) = ⊤
+IsFileOrDropped name sink = ⊥
 
 -- what is stored goes to the file that the words name, and nowhere else
 abbrev pub IsOutOf : {R F D : Type 0} → Result Asked WordFault → AnySink R F D → Type 0
-IsOutOf (Ok (AskedFollow f)) sink = IsFileOrQuiet f.to sink
-IsOutOf (Ok (AskedProve net feed to watch)) sink = IsFileOrQuiet to sink
-IsOutOf (Ok (AskedAudit net feed watch)) sink = IsFileOrQuiet None sink
-IsOutOf (Ok (AskedGen net number blocks to)) sink = IsFileOrQuiet to sink
-IsOutOf (Err fault) sink = IsFileOrQuiet None sink
+IsOutOf (Ok asked) sink = IsFileOrDropped asked.given.to sink
+IsOutOf (Err fault) sink = IsFileOrDropped None sink

@@ -135,7 +135,7 @@ struct Row {
     text: &'static str,
 }
 
-const LINES: [Row; 22] = [
+const LINES: [Row; 27] = [
     Row {
         line: Line::Verdict(Verdict::Accepted {
             height: 7,
@@ -271,6 +271,36 @@ const LINES: [Row; 22] = [
             bytes: 8_121,
         },
         text: "generated 51 1 8121\n",
+    },
+    Row {
+        line: Line::UpgradedFeed {
+            events: 102,
+            messages: 1,
+        },
+        text: "upgraded 102 1\n",
+    },
+    Row {
+        line: Line::UpgradedState(101),
+        text: "upgraded state 101\n",
+    },
+    Row {
+        line: Line::Ordered {
+            blocks: 3,
+            passed: 1,
+        },
+        text: "ordered 3 1\n",
+    },
+    Row {
+        line: Line::NoTip,
+        text: "notip\n",
+    },
+    Row {
+        line: Line::Missing(HASH),
+        text: "missing H\n",
+    },
+    Row {
+        line: Line::Loop(HASH),
+        text: "loop H\n",
     },
 ];
 

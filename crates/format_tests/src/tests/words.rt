@@ -17,7 +17,7 @@ struct BadRow {
     at: u64,
 }
 
-const ROWS: [Row; 18] = [
+const ROWS: [Row; 23] = [
     Row {
         words: &["follow"],
         asked: Command::Follow {
@@ -201,7 +201,61 @@ const ROWS: [Row; 18] = [
             to: Some("7"),
         },
     },
+    // feeds and states to write anew
+    Row {
+        words: &["upgrade", "feed"],
+        asked: Command::UpgradeFeed {
+            net: Net::Main,
+            feed: None,
+            to: None,
+            watch: None,
+        },
+    },
+    Row {
+        words: &[
+            "upgrade", "feed", "--watch", "w", "--to", "t", "--feed", "f", "--net", "regtest",
+        ],
+        asked: Command::UpgradeFeed {
+            net: Net::Regtest,
+            feed: Some("f"),
+            to: Some("t"),
+            watch: Some("w"),
+        },
+    },
+    Row {
+        words: &["upgrade", "state", "--to", "t", "--from", "s"],
+        asked: Command::UpgradeState {
+            from: "s",
+            to: Some("t"),
+        },
+    },
+    // blocks to put in order, up to the first block and up to one of another network
+    Row {
+        words: &["order", FIRST],
+        asked: Command::Order {
+            net: Net::Main,
+            tip: FIRST,
+            feed: None,
+            to: None,
+        },
+    },
+    Row {
+        words: &[
+            "order", ZEROS, "--to", "t", "--net", "regtest", "--feed", "f",
+        ],
+        asked: Command::Order {
+            net: Net::Regtest,
+            tip: ZEROS,
+            feed: Some("f"),
+            to: Some("t"),
+        },
+    },
 ];
+
+/// The hash of mainnet's first block, as it is printed.
+const FIRST: &str = "000000000019d6689c085ae165831e934ff763ae46a2a6c172b3f1b60a8ce26f";
+
+const ZEROS: &str = "0000000000000000000000000000000000000000000000000000000000000000";
 
 const BAD_ROWS: [BadRow; 39] = [
     // a command that is none, or behind another word
@@ -367,6 +421,100 @@ const BAD_ROWS: [BadRow; 39] = [
     BadRow { words: &[], at: 0 },
 ];
 
+/// Words that write no feed and no state anew, and where they go wrong.
+const BAD_UPGRADES: [BadRow; 11] = [
+    BadRow {
+        words: &["upgrade"],
+        at: 1,
+    },
+    BadRow {
+        words: &["upgrade", "other"],
+        at: 1,
+    },
+    BadRow {
+        words: &["upgrade", "--feed", "f"],
+        at: 1,
+    },
+    BadRow {
+        words: &["upgrade", "feed", "--from", "s"],
+        at: 2,
+    },
+    BadRow {
+        words: &["upgrade", "feed", "--to"],
+        at: 3,
+    },
+    // the state must be named, and nothing else of the words is bad
+    BadRow {
+        words: &["upgrade", "state"],
+        at: 2,
+    },
+    BadRow {
+        words: &["upgrade", "state", "--to", "t"],
+        at: 4,
+    },
+    BadRow {
+        words: &["upgrade", "state", "--from"],
+        at: 3,
+    },
+    BadRow {
+        words: &["upgrade", "state", "--from", ""],
+        at: 3,
+    },
+    BadRow {
+        words: &["upgrade", "state", "--from", "s", "--from", "s"],
+        at: 4,
+    },
+    BadRow {
+        words: &["upgrade", "state", "--net", "main", "--from", "s"],
+        at: 2,
+    },
+];
+
+/// Words that put nothing in order, and where they go wrong.
+const BAD_ORDERS: [BadRow; 7] = [
+    BadRow {
+        words: &["order"],
+        at: 1,
+    },
+    // one digit too few, one too many, an upper case one, and no digit
+    BadRow {
+        words: &[
+            "order",
+            "00000000019d6689c085ae165831e934ff763ae46a2a6c172b3f1b60a8ce26f",
+        ],
+        at: 1,
+    },
+    BadRow {
+        words: &[
+            "order",
+            "0000000000019d6689c085ae165831e934ff763ae46a2a6c172b3f1b60a8ce26f",
+        ],
+        at: 1,
+    },
+    BadRow {
+        words: &[
+            "order",
+            "000000000019d6689c085ae165831e934ff763ae46a2a6c172b3f1b60a8ce26F",
+        ],
+        at: 1,
+    },
+    BadRow {
+        words: &[
+            "order",
+            "g00000000019d6689c085ae165831e934ff763ae46a2a6c172b3f1b60a8ce26f",
+        ],
+        at: 1,
+    },
+    BadRow {
+        words: &["order", FIRST, "--watch", "w"],
+        at: 2,
+    },
+    BadRow {
+        words: &["order", FIRST, FIRST],
+        at: 2,
+    },
+];
+
 /// Words that generate no feed, and where they go wrong.
 const BAD_STARTS: [BadRow; 6] = [
     BadRow {
@@ -525,6 +673,14 @@ fn words_with_a_state_and_more(rt: HostRuntime) -> Result<(), Fail> {
 #[test]
 fn words_with_bad_numbers(rt: HostRuntime) -> Result<(), Fail> {
     for row in &BAD_NUMBERS {
+        check_bad_row(&rt, rt.alloc(), row)?;
+    }
+    Ok(())
+}
+
+#[test]
+fn words_that_upgrade_or_order_nothing(rt: HostRuntime) -> Result<(), Fail> {
+    for row in BAD_UPGRADES.iter().chain(&BAD_ORDERS) {
         check_bad_row(&rt, rt.alloc(), row)?;
     }
     Ok(())

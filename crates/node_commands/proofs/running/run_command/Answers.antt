@@ -1,9 +1,12 @@
 use Rattle.std.specs.Prelude.{option_copied}
 use Rattle.std.proofs.Common.{is_some, refl, ap, ◌∙◌}
 use Rattle.uo_base.proofs.PortLemmas.{told_text, Tells-told_text}
-use Rattle.command_words.proofs.WordLaws.{most_blocks}
+use Rattle.command_words.proofs.WordLaws.{in_range}
+use Rattle.node_commands.specs.Auditing.{auditing}
 use Rattle.node_commands.specs.Commands.{bad_words, refusing}
-use Rattle.node_commands.proofs.RanLemmas.{copied_some, ran-refusing, ran-words, ran-afresh, ran-on, ran-proving, ran-auditing, watch-afresh, read-afresh}
+use Rattle.node_commands.specs.Prover.{proving}
+use Rattle.node_commands.specs.UpgradingFeed.{upgrading_feed}
+use Rattle.node_commands.proofs.RanLemmas.{copied_some, ran-refusing, ran-words, ran-afresh, ran-on, ran-named, watch-afresh, read-afresh}
 use Rattle.node_commands.proofs.running.run_command.Goals as goal
 
 pub returns-in-Err-clause-ran : goal.returns-in-Err-clause-ran
@@ -38,19 +41,35 @@ returns-in-None-clause-read g c =
 pub returns-in-Ok-Prove-clause-ran : goal.returns-in-Ok-Prove-clause-ran
 returns-in-Ok-Prove-clause-ran g c =
     let exact = rw c.in-Ok-Prove.field-0-is at c.in-Ok-Prove.ensures.exact in
-    ran-proving _ _ _ _ _ _ _ _ _ _ _ _ _ _ _ _ _ _ _ exact (c.is_some.ensures ∙ copied_some _) (c.prove.ensures.ran _)
+    ran-named _ _ _ _ _ _ _ _ _ _ _ _ _ _ _ exact (proving g.D.Digester.digest_of c.args.limits c.in-Ok-Prove.net) _ _ refl (c.is_some.ensures ∙ copied_some _) (c.prove.ensures.ran _)
 
 pub returns-in-Ok-Audit-clause-ran : goal.returns-in-Ok-Audit-clause-ran
 returns-in-Ok-Audit-clause-ran g c =
     let exact = rw c.in-Ok-Audit.field-0-is at c.in-Ok-Audit.ensures.exact in
-    ran-auditing _ _ _ _ _ _ _ _ _ _ _ _ _ _ _ _ _ _ exact (c.is_some-in-Ok-Audit.ensures ∙ copied_some _) (c.audit.ensures.ran _ _)
+    ran-named _ _ _ _ _ _ _ _ _ _ _ _ _ _ _ exact (auditing g.D.Digester.digest_of c.args.limits c.in-Ok-Audit.net) _ _ refl (c.is_some-in-Ok-Audit.ensures ∙ copied_some _) (c.audit.ensures.ran _ _)
 
 pub make_feed-requires : goal.make_feed-requires
 make_feed-requires g c =
     let meaning = rw c.in-Ok-Gen.field-0-is at c.in-Ok-Gen.ensures.meaning in
-    most_blocks _ _ _ _ _ meaning
+    (in_range _ _ meaning).1
 
 pub returns-in-Ok-Gen-clause-ran : goal.returns-in-Ok-Gen-clause-ran
 returns-in-Ok-Gen-clause-ran g c =
     let exact = rw c.in-Ok-Gen.field-0-is at c.in-Ok-Gen.ensures.exact in
     ran-words _ _ _ _ _ _ _ _ _ _ _ _ _ _ _ exact (c.make_feed.ensures.ran _ _ _ _)
+
+pub returns-in-Ok-UpgradeFeed-clause-ran : goal.returns-in-Ok-UpgradeFeed-clause-ran
+returns-in-Ok-UpgradeFeed-clause-ran g c =
+    let exact = rw c.in-Ok-UpgradeFeed.field-0-is at c.in-Ok-UpgradeFeed.ensures.exact in
+    ran-named _ _ _ _ _ _ _ _ _ _ _ _ _ _ _ exact (upgrading_feed g.D.Digester.digest_of c.args.limits c.in-Ok-UpgradeFeed.net) _ _ refl
+    (c.is_some-in-Ok-UpgradeFeed.ensures ∙ copied_some _) (c.upgrade_feed.ensures.ran _)
+
+pub returns-in-Ok-UpgradeState-clause-ran : goal.returns-in-Ok-UpgradeState-clause-ran
+returns-in-Ok-UpgradeState-clause-ran g c =
+    let exact = rw c.in-Ok-UpgradeState.field-0-is at c.in-Ok-UpgradeState.ensures.exact in
+    ran-words _ _ _ _ _ _ _ _ _ _ _ _ _ _ _ exact (c.upgrade_state.ensures.ran _ _)
+
+pub returns-in-Ok-Order-clause-ran : goal.returns-in-Ok-Order-clause-ran
+returns-in-Ok-Order-clause-ran g c =
+    let exact = rw c.in-Ok-Order.field-0-is at c.in-Ok-Order.ensures.exact in
+    ran-words _ _ _ _ _ _ _ _ _ _ _ _ _ _ _ exact (c.order.ensures.ran _ _)
