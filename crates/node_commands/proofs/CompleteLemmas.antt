@@ -11,6 +11,10 @@ use Rattle.compact_node.specs.Node.{NodeState}
 use Rattle.compact_node.specs.State.{stored_state}
 use Rattle.feed_frame.specs.declared.fault.FeedFault.{FeedFault}
 use Rattle.feed_frame.specs.Events.{events_of}
+use Rattle.chain_order.specs.declared.fault.PathFault.{PathFault}
+use Rattle.chain_order.specs.declared.fault.PathFault.TheVariants.{NoTip, Missing, Loop, NoMemory}
+use Rattle.chain_order.specs.Arrivals.{Arrival}
+use Rattle.order_run.specs.Machine.{order_end}
 use Rattle.feed_run.specs.Answer.{Answer}
 use Rattle.feed_upgrade.specs.Upgraded.{old_messages}
 use Rattle.feed_upgrade.specs.Upgrader.{upgrade_end}
@@ -29,6 +33,7 @@ use Rattle.node_commands.specs.Follow.{events_for, fresh_for, follow_answer}
 use Rattle.node_commands.specs.Following.{fresh_start, following_afresh, following_on}
 use Rattle.node_commands.specs.Generating.{gen_answer, generating}
 use Rattle.node_commands.specs.Meaning.{answer_by, IsEnd}
+use Rattle.node_commands.specs.Ordering.{hash_named, order_answer, ordering}
 use Rattle.node_commands.specs.Prover.{prove_answer, proving}
 use Rattle.node_commands.specs.Starting.{Start, IsNodeOf, IsStart, IsUsable, IsGoodBehind}
 use Rattle.node_commands.specs.Upgrading.{upgrading_state}
@@ -46,6 +51,18 @@ at_end last ending e end = subst (λ x. IsEnd (last_of last (bad_end x)).status)
 unless_forged : (forged : Bool) (whole : Answer) (lines clash : List ℕ) → IsEnd whole.status → IsEnd (answer_unless forged whole lines clash).status ⊎ ((answer_unless forged whole lines clash).status ≡ Clash)
 unless_forged true whole lines clash end = inr refl
 unless_forged false whole lines clash end = inl end
+
+path_ends : (net : Net) (blocks : ℕ) (told : Result (List Arrival) PathFault) → IsEnd (order_end net blocks told).status
+unfolding order_end
+path_ends net blocks (Ok path) = inl refl
+path_ends net blocks (Err NoTip) = inr (inl refl)
+path_ends net blocks (Err (Missing hash)) = inr (inl refl)
+path_ends net blocks (Err (Loop hash)) = inr (inl refl)
+path_ends net blocks (Err NoMemory) = inr (inl refl)
+
+ordered : (limits : Limits) (net : Net) (tip : Digest) (feed : List ℕ) → (events_of net limits.bytes feed).ending ≡ None → IsEnd (order_answer net limits.bytes tip feed).status
+unfolding order_answer
+ordered limits net tip feed whole = at_end _ _ whole (path_ends _ _ _)
 
 module _ (H : List ℕ → Digest) (limits : Limits) where
   followed : (node : NodeState) (feed : List ℕ) → (events_for node.rules feed).ending ≡ None → IsEnd (follow_answer H node feed).status
@@ -123,6 +140,10 @@ module _ (H : List ℕ → Digest) (limits : Limits) (few : limits.leaves < 2 ^ 
   state-ends (Ok node) is g = inl refl
   state-ends (Err bad) is g = absurd (no_bad H limits few prior g bad is)
 
+  order-ends : (net : Net) (tip : Digest) (begun : Result (Unit {0}) BadInput) → begun ≡ Ok tt → (events_of net limits.bytes feed).ending ≡ None
+      → IsEnd (answer_by (ordering limits.bytes net tip) begun feed).status
+  order-ends net tip begun is whole = subst (λ (b : Result (Unit {0}) BadInput). IsEnd (answer_by (ordering limits.bytes net tip) b feed).status) (sym is) (ordered limits net tip feed whole)
+
   task-ends : (task : Task) (s : Settings) (begun : Result (meaning_for H limits task s).Begun BadInput) → (meaning_for H limits task s).Begins prior watch begun → (meaning_for H limits task s).AreGood feed prior watch
       → (meaning_for H limits task s).Ends (answer_by (meaning_for H limits task s) begun feed).status
   task-ends Following s begun is g = from-ends (is_some s.from) (net_for s.net) (is_some s.watch) begun is g
@@ -131,7 +152,7 @@ module _ (H : List ℕ → Digest) (limits : Limits) (few : limits.leaves < 2 ^ 
   task-ends (Generating number blocks) s begun is g = gen-ends number blocks (net_for s.net) begun is
   task-ends UpgradingFeed s begun is g = upgrade-ends (net_for s.net) (is_some s.watch) begun is g
   task-ends UpgradingState s begun is g = state-ends begun is g
-  task-ends (Ordering tip) s begun is g = state-ends begun is g
+  task-ends (Ordering tip) s begun is g = order-ends (net_for s.net) (hash_named tip) begun is g
 
   pub ends-by : (asked : Result Asked WordFault) (begun : Result (meaning_by H limits asked).Begun BadInput) → (meaning_by H limits asked).Begins prior watch begun → (meaning_by H limits asked).AreGood feed prior watch
       → (meaning_by H limits asked).Ends (answer_by (meaning_by H limits asked) begun feed).status
@@ -149,7 +170,7 @@ task-stops H limits Auditing s status stops = inl (inr (inr stops))
 task-stops H limits (Generating number blocks) s status stops = inr (inr stops)
 task-stops H limits UpgradingFeed s status stops = inr stops
 task-stops H limits UpgradingState s status stops = inr stops
-task-stops H limits (Ordering tip) s status stops = inr stops
+task-stops H limits (Ordering tip) s status stops = inr (inr stops)
 
 pub stops-by : (H : List ℕ → Digest) (limits : Limits) (asked : Result Asked WordFault) (status : Status) → is_stop status ≡ true → (meaning_by H limits asked).Ends status
 stops-by H limits (Ok asked) status stops = task-stops H limits asked.task asked.given status stops

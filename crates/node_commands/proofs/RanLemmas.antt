@@ -29,6 +29,7 @@ use Rattle.node_commands.specs.Auditing.{auditing}
 use Rattle.node_commands.specs.Commands.{following_from, meaning_for, meaning_by, meaning_of}
 use Rattle.node_commands.specs.Following.{following_afresh, following_on}
 use Rattle.node_commands.specs.Meaning.{Inputs, Meaning, Uses}
+use Rattle.node_commands.specs.Ordering.{hash_named}
 use Rattle.node_commands.specs.Starting.{Start, IsStart}
 use Rattle.node_commands.specs.Upgrading.{UpgradesState}
 use Rattle.node_commands.specs.Runs.{GivesBy, Serves, Ran, Did, status_in, UsedRose}
@@ -36,6 +37,7 @@ use Rattle.node_commands.specs.Watching.{list_in}
 use Rattle.node_commands.proofs.CompleteLemmas.{ends-by, stops-by}
 use Rattle.node_commands.proofs.FollowLemmas.{prints-as-full}
 use Rattle.node_commands.proofs.ForgingLemmas.{audits-feed}
+use Rattle.node_commands.proofs.OrderLemmas.{orders-feed}
 use Rattle.node_commands.proofs.ProvingLemmas.{follows-proving}
 use Rattle.node_commands.proofs.ServeLemmas.{failed-so}
 use Rattle.node_commands.proofs.StartLemmas.{resumes-as-full}
@@ -222,7 +224,7 @@ module _ (H : List ℕ → Digest) (long : (x : List ℕ) → length (H x).0 ≡
   task-claims (Generating number blocks) s inputs begins = tt
   task-claims UpgradingFeed s inputs begins = IfOk-any _ (λ list. follows-upgraded-afresh H limits (net_for s.net) few short list inputs.feed) (list_in (is_some s.watch) limits.bytes inputs.watch)
   task-claims UpgradingState s inputs begins = state-claims inputs.prior inputs.begun begins
-  task-claims (Ordering tip) s inputs begins = state-claims inputs.prior inputs.begun begins
+  task-claims (Ordering tip) s inputs begins = orders-feed (net_for s.net) limits.bytes (hash_named tip) inputs.feed
 
   claims : (asked : Result Asked WordFault) (inputs : Inputs (meaning_by H limits asked).Begun) → IfSome inputs.begun ((meaning_by H limits asked).Begins inputs.prior inputs.watch)
       → (meaning_by H limits asked).Claims inputs

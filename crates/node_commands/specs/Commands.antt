@@ -15,6 +15,7 @@ use Rattle.node_commands.specs.Auditing.{auditing}
 use Rattle.node_commands.specs.Following.{following_afresh, following_on}
 use Rattle.node_commands.specs.Generating.{generating}
 use Rattle.node_commands.specs.Meaning.{Meaning, IsEnd}
+use Rattle.node_commands.specs.Ordering.{hash_named, ordering}
 use Rattle.node_commands.specs.Prover.{proving}
 use Rattle.node_commands.specs.Upgrading.{upgrading_state}
 use Rattle.node_commands.specs.UpgradingFeed.{upgrading_feed}
@@ -49,7 +50,7 @@ meaning_for H limits Auditing s = auditing H limits (net_for s.net) (is_some s.w
 meaning_for H limits (Generating number blocks) s = generating number blocks (net_for s.net)
 meaning_for H limits UpgradingFeed s = upgrading_feed H limits (net_for s.net) (is_some s.watch)
 meaning_for H limits UpgradingState s = upgrading_state H limits
-meaning_for H limits (Ordering tip) s = upgrading_state H limits
+meaning_for H limits (Ordering tip) s = ordering limits.bytes (net_for s.net) (hash_named tip)
 
 abbrev pub meaning_by : (List ℕ → Digest) → Limits → Result Asked WordFault → Meaning
 meaning_by H limits (Ok asked) = meaning_for H limits asked.task asked.given

@@ -9,6 +9,7 @@ pub mod Forging
 pub mod Generating
 pub mod Machine
 pub mod Meaning
+pub mod Ordering
 pub mod Prover
 pub mod Proving
 pub mod Runs

@@ -1,4 +1,5 @@
-//! What holds of runs that are stopped and go on, and of states and feeds that are written anew. There is no code here.
+//! What holds of runs that are stopped and go on, of states and feeds that are written anew, and of hashes among the words. There is no code here.
+ghost use Rattle.node_commands.specs.Ordering.{PrintedIsNamed};
 ghost use Rattle.node_commands.specs.Stopping.{FreshBegins, PiecesAreParted, ResumedIsWhole};
 ghost use Rattle.node_commands.specs.Upgrading.{StatesAreUpgraded};
 ghost use Rattle.node_commands.specs.UpgradingFeed.{UpgradedFeedsAreFollowed};
@@ -29,4 +30,9 @@ pub fn states_are_upgraded()
 /// same lines of the events, also where proofs are forged.
 pub fn upgraded_feeds_are_followed()
     ensures { UpgradedFeedsAreFollowed }
+{}
+
+/// A block hash is named by the word that is printed of it.
+pub fn printed_is_named()
+    ensures { PrintedIsNamed }
 {}

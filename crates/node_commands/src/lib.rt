@@ -11,6 +11,7 @@ mod follower;
 mod generating;
 mod inputs;
 mod laws;
+mod order;
 mod prior;
 mod prove;
 mod prover;
@@ -23,7 +24,7 @@ mod upgrading_feed;
 pub use command_words::{Command, WordFault, read_words};
 pub use feed_run::Status;
 pub use laws::{
-    fresh_begins, pieces_are_parted, resumed_is_whole, states_are_upgraded,
+    fresh_begins, pieces_are_parted, printed_is_named, resumed_is_whole, states_are_upgraded,
     upgraded_feeds_are_followed,
 };
 pub use report_lines::line_of;

@@ -10,6 +10,7 @@ ghost use Rattle.node_commands.specs.Runs.{Did, Ran, UsedRose, status_in};
 use crate::audit::audit;
 use crate::follow::{follow_afresh, follow_on};
 use crate::generating::make_feed;
+use crate::order::order;
 use crate::prove::prove;
 use crate::upgrading::upgrade_state;
 use crate::upgrading_feed::upgrade_feed;
@@ -58,6 +59,9 @@ pub fn run<D: Digester, F: Source, P: Source, W: Source, O: Sink, R: Sink, L: Le
     // lines of the events are the same. `upgrade state` stores the text of version 2 of each state, and prints how many levels it has.
     // `order` stores the frames of the one path from a first block to the one whose hash is named, and prints how many they are and how many it
     // passed over; or it stores nothing, and prints why there is no such path. Over what it stored the first refusal is not `link`.
+    // `order` stores the frames of the one path from a block that begins a chain to the tip, among the first blocks of each hash of the feed, and
+    // prints how many there are and how many other blocks came; or it prints why there is no path. Over what it stores neither `follow` nor `prove`
+    // refuses a block for its link before it has refused another.
     // Where the words are accepted, the watch list or prior state that they name can be used, the feed has no bad frame, and none has more
     // bytes than may be read, the status is 0 or 1, or 4 of `audit`, or that of a failed port or of want of memory (`complete`).
     // Where a fault or want of memory stops the run, what an event stores is stored before its line is begun, and all that is to be stored before
@@ -207,8 +211,15 @@ fn run_command<D: Digester, F: Source, P: Source, W: Source, O: Sink, R: Sink, L
             report,
             steps,
         ),
-        Ok(Command::Order { .. }) => {
-            upgrade_state::<D, P, O, R, L>(alloc, limits, prior, out, report, steps)
-        }
+        Ok(Command::Order { net, tip, .. }) => order::<F, O, R, L>(
+            alloc,
+            net,
+            limits.bytes,
+            tip,
+            feed,
+            out,
+            report,
+            steps,
+        ),
     }
 }

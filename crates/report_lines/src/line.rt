@@ -72,6 +72,17 @@ pub enum Line {
     },
     /// A state was written anew, with so many levels.
     UpgradedState(u32),
+    /// A path was stored: its blocks, and how many block frames of the feed are not on it.
+    Ordered {
+        blocks: u64,
+        passed: u64,
+    },
+    /// No block of the feed has the hash of the tip.
+    NoTip,
+    /// On the way back from the tip this hash is named, and no block of the feed has it.
+    Missing(Digest),
+    /// On the way back from the tip the block of this hash is met for the second time.
+    Loop(Digest),
 }
 
 impl fmt::Display for Line {
@@ -116,6 +127,10 @@ impl fmt::Display for Line {
             } => write!(f, "generated {blocks} {rollbacks} {bytes}"),
             Line::UpgradedFeed { events, messages } => write!(f, "upgraded {events} {messages}"),
             Line::UpgradedState(levels) => write!(f, "upgraded state {levels}"),
+            Line::Ordered { blocks, passed } => write!(f, "ordered {blocks} {passed}"),
+            Line::NoTip => f.write_str("notip"),
+            Line::Missing(hash) => write!(f, "missing {}", HashText(hash)),
+            Line::Loop(hash) => write!(f, "loop {}", HashText(hash)),
         }
     }
 }

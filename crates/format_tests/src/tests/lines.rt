@@ -135,7 +135,7 @@ struct Row {
     text: &'static str,
 }
 
-const LINES: [Row; 24] = [
+const LINES: [Row; 27] = [
     Row {
         line: Line::Verdict(Verdict::Accepted {
             height: 7,
@@ -282,6 +282,25 @@ const LINES: [Row; 24] = [
     Row {
         line: Line::UpgradedState(101),
         text: "upgraded state 101\n",
+    },
+    Row {
+        line: Line::Ordered {
+            blocks: 3,
+            passed: 1,
+        },
+        text: "ordered 3 1\n",
+    },
+    Row {
+        line: Line::NoTip,
+        text: "notip\n",
+    },
+    Row {
+        line: Line::Missing(HASH),
+        text: "missing H\n",
+    },
+    Row {
+        line: Line::Loop(HASH),
+        text: "loop H\n",
     },
 ];
 

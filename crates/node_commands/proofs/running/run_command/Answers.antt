@@ -68,3 +68,8 @@ pub returns-in-Ok-UpgradeState-clause-ran : goal.returns-in-Ok-UpgradeState-clau
 returns-in-Ok-UpgradeState-clause-ran g c =
     let exact = rw c.in-Ok-UpgradeState.field-0-is at c.in-Ok-UpgradeState.ensures.exact in
     ran-words _ _ _ _ _ _ _ _ _ _ _ _ _ _ _ exact (c.upgrade_state.ensures.ran _ _)
+
+pub returns-in-Ok-Order-clause-ran : goal.returns-in-Ok-Order-clause-ran
+returns-in-Ok-Order-clause-ran g c =
+    let exact = rw c.in-Ok-Order.field-0-is at c.in-Ok-Order.ensures.exact in
+    ran-words _ _ _ _ _ _ _ _ _ _ _ _ _ _ _ exact (c.order.ensures.ran _ _)

@@ -1,0 +1,5 @@
+pub mod Branches
+pub mod Finding
+mod Marking
+mod Numbering
+mod Walking

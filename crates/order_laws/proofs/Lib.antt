@@ -1,0 +1,6 @@
+mod Arrived
+mod FeedBytes
+mod FeedShort
+mod Linking
+mod Others
+pub mod LinkedUp

@@ -1,0 +1,4 @@
+pub mod Different
+mod Ending
+mod Numbers
+pub mod Runs
