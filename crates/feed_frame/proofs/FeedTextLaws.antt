@@ -15,11 +15,11 @@ use Rattle.feed_frame.specs.Written.{frame_text}
 use Rattle.feed_frame.proofs.Within.{within-inside}
 use Rattle.feed_frame.proofs.WrittenLaws.{written_is_read}
 
-record AreRead (events : List FeedEvent) (read : Events) : Type 0 where
-  all : read.events ≡ events
-  ends : read.ending ≡ None
+pub record AreRead (events : List FeedEvent) (read : Events) : Type 0 where
+  pub all : read.events ≡ events
+  pub ends : read.ending ≡ None
 
-read-more : (event : FeedEvent) (events : List FeedEvent) (end : ℕ) (read : Events) → AreRead events read → AreRead (event ∷ events) (led_by event end read)
+pub read-more : (event : FeedEvent) (events : List FeedEvent) (end : ℕ) (read : Events) → AreRead events read → AreRead (event ∷ events) (led_by event end read)
 read-more event events end read r = record { all = ap (λ es. event ∷ es) r.all; ends = r.ends }
 
 pub block_long : (offset size : ℕ) → size ≤ most_block → length_fault Block offset size ≡ None
@@ -29,22 +29,22 @@ pub proof_long : (offset size : ℕ) → size ≤ most_proof → length_fault Pr
 proof_long offset size h = rw (le-ltb most_proof size h) refl
 
 module _ (net : Net) where
-  abbrev read_from : ℕ → List ℕ → Events
+  abbrev pub read_from : ℕ → List ℕ → Events
   read_from offset text = events_in None (frames_from net offset zero text)
 
-  abbrev end_of : ℕ → List ℕ → ℕ
+  abbrev pub end_of : ℕ → List ℕ → ℕ
   end_of offset body = (offset + 8) + length body
 
-  framed : (kind : Kind) (offset : ℕ) (body text : List ℕ) → length_fault kind offset (length body) ≡ None → length body < 2 ^ 32
+  pub framed : (kind : Kind) (offset : ℕ) (body text : List ℕ) → length_fault kind offset (length body) ≡ None → length body < 2 ^ 32
       → frames_from net offset zero (frame_text (magic_of net kind) body ++ text) ≡ with_frame (record { kind = kind; body = body; end = end_of offset body }) (frames_from net (end_of offset body) zero text)
   framed kind offset body text none small = written_is_read net kind offset body text none small
 
-  read_block : (offset : ℕ) (block text : List ℕ) → length block ≤ most_block
+  pub read_block : (offset : ℕ) (block text : List ℕ) → length block ≤ most_block
       → read_from offset (event_text net (BlockCame block None) ++ text) ≡ led_by (BlockCame block None) (end_of offset block) (read_from (end_of offset block) text)
   unfolding event_text events_over
   read_block offset block text short = ap (events_in None) (framed Block offset block text (block_long offset (length block) short) (omega (arith, short)))
 
-  read_proved : (offset : ℕ) (block message text : List ℕ) → length block ≤ most_block → length message ≤ most_proof
+  pub read_proved : (offset : ℕ) (block message text : List ℕ) → length block ≤ most_block → length message ≤ most_proof
       → let at = end_of offset message in
       read_from offset (event_text net (BlockCame block (Some message)) ++ text) ≡ led_by (BlockCame block (Some message)) (end_of at block) (read_from (end_of at block) text)
   unfolding event_text events_over
@@ -57,7 +57,7 @@ module _ (net : Net) where
       ∙ ap (events_in None) (framed Proof offset message (body ++ text) (proof_long offset (length message) few) (omega (arith, few)))
       ∙ ap (λ fs. events_in None (with_frame first fs)) (framed Block at block text (block_long at (length block) short) (omega (arith, short)))
 
-  read_rollback : (offset count : ℕ) (text : List ℕ) → count < 2 ^ 32
+  pub read_rollback : (offset count : ℕ) (text : List ℕ) → count < 2 ^ 32
       → let body = to_le_bytes w32 count in
       read_from offset (event_text net (RollbackCame count) ++ text) ≡ led_by (RollbackCame count) (end_of offset body) (read_from (end_of offset body) text)
   unfolding event_text events_over

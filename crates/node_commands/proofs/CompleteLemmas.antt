@@ -1,5 +1,5 @@
 -- Where nothing that is read is bad, the answer's status is that of a feed that was read to its end.
-use Rattle.std.proofs.Common.{arith, ◌≡◌, ◌⊎◌, inl, inr, ◌<◌, ◌^◌, ℕ, Bool, true, false, List, None, Result, Ok, Err, is_some, refl, sym, ap, subst, ◌∙◌}
+use Rattle.std.proofs.Common.{arith, ◌≡◌, ◌⊎◌, inl, inr, ◌<◌, ◌^◌, ℕ, Bool, true, false, List, length, None, Result, Ok, Err, is_some, refl, sym, ap, subst, ◌∙◌}
 use Rattle.std.specs.declared.option.Option.{Option}
 use Rattle.uo_base.specs.declared.event.Limits.{Limits}
 use Rattle.uo_base.specs.declared.event.Net.{Net}
@@ -16,8 +16,10 @@ use Rattle.chain_order.specs.declared.fault.PathFault.TheVariants.{NoTip, Missin
 use Rattle.chain_order.specs.Arrivals.{Arrival}
 use Rattle.order_run.specs.Machine.{order_end}
 use Rattle.feed_run.specs.Answer.{Answer}
+use Rattle.feed_upgrade.specs.Upgraded.{old_messages}
+use Rattle.feed_upgrade.specs.Upgrader.{upgrade_end}
 use Rattle.feed_run.specs.declared.status.Status.{Status}
-use Rattle.feed_run.specs.declared.status.Status.TheVariants.{Clash}
+use Rattle.feed_run.specs.declared.status.Status.TheVariants.{AllAccepted, Clash}
 use Rattle.feed_run.specs.Status.{is_stop, status_of}
 use Rattle.command_words.specs.declared.words.WordFault.{WordFault}
 use Rattle.command_words.specs.Options.{Settings}
@@ -35,6 +37,7 @@ use Rattle.node_commands.specs.Ordering.{hash_named, order_answer, ordering}
 use Rattle.node_commands.specs.Prover.{prove_answer, proving}
 use Rattle.node_commands.specs.Starting.{Start, IsNodeOf, IsStart, IsUsable, IsGoodBehind}
 use Rattle.node_commands.specs.Upgrading.{upgrading_state}
+use Rattle.node_commands.specs.UpgradingFeed.{upgrade_feed_answer, upgrading_feed}
 use Rattle.node_commands.specs.Watching.{list_in, IsGood}
 
 read_to_end : (refused : Bool) → IsEnd (status_of refused)
@@ -69,6 +72,12 @@ module _ (H : List ℕ → Digest) (limits : Limits) where
   proved : (net : Net) (list : Option (List (List ℕ))) (feed : List ℕ) → (events_of net limits.bytes feed).ending ≡ None → IsEnd (prove_answer H limits net list feed).status
   unfolding prove_answer
   proved net list feed whole = at_end _ _ whole (read_to_end _)
+
+  upgraded : (node : NodeState) (feed : List ℕ) → (events_for node.rules feed).ending ≡ None → (upgrade_feed_answer H node feed).status ≡ AllAccepted
+  unfolding upgrade_feed_answer
+  upgraded node feed whole =
+      let events = events_for node.rules feed in
+      ap (λ e. (last_of (upgrade_end (length events.events) (old_messages events.events)) (bad_end e)).status) whole
 
   audited : (net : Net) (scripts : List (List ℕ)) (feed : List ℕ) → (events_of net limits.bytes feed).ending ≡ None
       → IsEnd (audit_answer H limits net scripts feed).status ⊎ ((audit_answer H limits net scripts feed).status ≡ Clash)
@@ -120,6 +129,13 @@ module _ (H : List ℕ → Digest) (limits : Limits) (few : limits.leaves < 2 ^ 
   unfolding gen_answer
   gen-ends number blocks net begun is = subst (λ (b : Result (Unit {0}) BadInput). IsEnd (answer_by (generating number blocks net) b feed).status) (sym is) (inl refl)
 
+  upgrade-ends : (net : Net) (named : Bool) (begun : Start) → begun ≡ fresh_start limits net (list_in named limits.bytes watch) → IsGood named net limits watch feed
+      → (upgrading_feed H limits net named).Ends (answer_by (upgrading_feed H limits net named) begun feed).status
+  upgrade-ends net named begun is g =
+      let fresh = is ∙ ap (fresh_start limits net) g.usable in
+      subst (λ (b : Start). (upgrading_feed H limits net named).Ends (answer_by (upgrading_feed H limits net named) b feed).status) (sym fresh)
+      (inl (upgraded H limits (fresh_for limits net g.scripts) feed g.whole))
+
   state-ends : (begun : Start) → IsStart H limits prior begun → IsUsable H limits prior → (upgrading_state H limits).Ends (answer_by (upgrading_state H limits) begun feed).status
   state-ends (Ok node) is g = inl refl
   state-ends (Err bad) is g = absurd (no_bad H limits few prior g bad is)
@@ -134,7 +150,7 @@ module _ (H : List ℕ → Digest) (limits : Limits) (few : limits.leaves < 2 ^ 
   task-ends Proving s begun is g = prove-ends (net_for s.net) (is_some s.watch) begun is g
   task-ends Auditing s begun is g = audit-ends (net_for s.net) (is_some s.watch) begun is g
   task-ends (Generating number blocks) s begun is g = gen-ends number blocks (net_for s.net) begun is
-  task-ends UpgradingFeed s begun is g = state-ends begun is g
+  task-ends UpgradingFeed s begun is g = upgrade-ends (net_for s.net) (is_some s.watch) begun is g
   task-ends UpgradingState s begun is g = state-ends begun is g
   task-ends (Ordering tip) s begun is g = order-ends (net_for s.net) (hash_named tip) begun is g
 

@@ -44,7 +44,7 @@ use Rattle.node_commands.specs.Auditor.{clash_text, supply_end, level_end, answe
 use Rattle.node_commands.specs.Follow.{line_of, rules_of}
 use Rattle.node_commands.specs.Forging.{told_by, level_behind, IsForgedBehind, HasForged, ShowsTexts, AuditsFeed}
 use Rattle.node_commands.specs.Machine.{is_refused}
-use Rattle.node_commands.proofs.FeedBytes.{IsMadeOfBytes, events_bytes}
+use Rattle.feed_frame.proofs.FeedBytes.{IsMadeOfBytes, events_bytes}
 
 -- ---- the node that holds every output stops at the first forged event
 

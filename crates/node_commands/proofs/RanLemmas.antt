@@ -42,6 +42,7 @@ use Rattle.node_commands.proofs.ProvingLemmas.{follows-proving}
 use Rattle.node_commands.proofs.ServeLemmas.{failed-so}
 use Rattle.node_commands.proofs.StartLemmas.{resumes-as-full}
 use Rattle.node_commands.proofs.UpgradeLemmas.{states_are_upgraded}
+use Rattle.node_commands.proofs.UpgradedFeeds.{follows-upgraded-afresh}
 use Rattle.node_commands.proofs.WatchLemmas.{IfOk-any}
 
 -- ---- of a command
@@ -221,7 +222,7 @@ module _ (H : List ℕ → Digest) (long : (x : List ℕ) → length (H x).0 ≡
   task-claims Proving s inputs begins = tt
   task-claims Auditing s inputs begins = IfOk-any _ (λ scripts. audits-feed H long limits (net_for s.net) (scripts_of scripts) few inputs.feed) (list_in (is_some s.watch) limits.bytes inputs.watch)
   task-claims (Generating number blocks) s inputs begins = tt
-  task-claims UpgradingFeed s inputs begins = state-claims inputs.prior inputs.begun begins
+  task-claims UpgradingFeed s inputs begins = IfOk-any _ (λ list. follows-upgraded-afresh H limits (net_for s.net) few short list inputs.feed) (list_in (is_some s.watch) limits.bytes inputs.watch)
   task-claims UpgradingState s inputs begins = state-claims inputs.prior inputs.begun begins
   task-claims (Ordering tip) s inputs begins = orders-feed (net_for s.net) limits.bytes (hash_named tip) inputs.feed
 

@@ -18,6 +18,7 @@ use Rattle.node_commands.specs.Meaning.{Meaning, IsEnd}
 use Rattle.node_commands.specs.Ordering.{hash_named, ordering}
 use Rattle.node_commands.specs.Prover.{proving}
 use Rattle.node_commands.specs.Upgrading.{upgrading_state}
+use Rattle.node_commands.specs.UpgradingFeed.{upgrading_feed}
 
 -- one line says where the words go wrong
 abbrev pub bad_words : WordFault → BadInput
@@ -47,7 +48,7 @@ meaning_for H limits Following s = following_from (is_some s.from) H limits (net
 meaning_for H limits Proving s = proving H limits (net_for s.net) (is_some s.watch)
 meaning_for H limits Auditing s = auditing H limits (net_for s.net) (is_some s.watch)
 meaning_for H limits (Generating number blocks) s = generating number blocks (net_for s.net)
-meaning_for H limits UpgradingFeed s = upgrading_state H limits
+meaning_for H limits UpgradingFeed s = upgrading_feed H limits (net_for s.net) (is_some s.watch)
 meaning_for H limits UpgradingState s = upgrading_state H limits
 meaning_for H limits (Ordering tip) s = ordering limits.bytes (net_for s.net) (hash_named tip)
 

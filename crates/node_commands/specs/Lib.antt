@@ -16,4 +16,5 @@ pub mod Runs
 pub mod Starting
 pub mod Stopping
 pub mod Upgrading
+pub mod UpgradingFeed
 pub mod Watching

@@ -1,7 +1,8 @@
-//! What holds of runs that are stopped and go on, of states that are written anew, and of hashes among the words. There is no code here.
+//! What holds of runs that are stopped and go on, of states and feeds that are written anew, and of hashes among the words. There is no code here.
 ghost use Rattle.node_commands.specs.Ordering.{PrintedIsNamed};
 ghost use Rattle.node_commands.specs.Stopping.{FreshBegins, PiecesAreParted, ResumedIsWhole};
 ghost use Rattle.node_commands.specs.Upgrading.{StatesAreUpgraded};
+ghost use Rattle.node_commands.specs.UpgradingFeed.{UpgradedFeedsAreFollowed};
 
 /// A run of `follow` that ends between two events, and a second one from the state that it stored, print the lines and store the bytes
 /// of one run over both, however often a run is stopped, where no proof is forged before. The last lines differ: that of an end, since each
@@ -23,6 +24,12 @@ pub fn fresh_begins()
 /// Of each state, in either version, `upgrade state` stores the text of version 2, and tells how many levels it has.
 pub fn states_are_upgraded()
     ensures { StatesAreUpgraded }
+{}
+
+/// What `upgrade feed` stores of a feed is followed as the feed is: with the same answer where the feed is read to its end, and in any case with the
+/// same lines of the events, also where proofs are forged.
+pub fn upgraded_feeds_are_followed()
+    ensures { UpgradedFeedsAreFollowed }
 {}
 
 /// A block hash is named by the word that is printed of it.

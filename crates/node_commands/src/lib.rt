@@ -19,10 +19,15 @@ mod running;
 mod serve;
 mod starting;
 mod upgrading;
+mod upgrading_feed;
 
 pub use command_words::{Command, WordFault, read_words};
 pub use feed_run::Status;
-pub use laws::{fresh_begins, pieces_are_parted, printed_is_named, resumed_is_whole, states_are_upgraded};
+pub use laws::{
+    fresh_begins, pieces_are_parted, printed_is_named, resumed_is_whole, states_are_upgraded,
+    upgraded_feeds_are_followed,
+};
 pub use report_lines::line_of;
 pub use running::run;
 pub use upgrading::upgrade_state;
+pub use upgrading_feed::upgrade_feed;

@@ -13,6 +13,7 @@ use crate::generating::make_feed;
 use crate::order::order;
 use crate::prove::prove;
 use crate::upgrading::upgrade_state;
+use crate::upgrading_feed::upgrade_feed;
 use command_words::{Command, read_words};
 use feed_run::{Status, Stop};
 use report_lines::{Line, say};
@@ -193,9 +194,23 @@ fn run_command<D: Digester, F: Source, P: Source, W: Source, O: Sink, R: Sink, L
         Ok(Command::UpgradeState { .. }) => {
             upgrade_state::<D, P, O, R, L>(alloc, limits, prior, out, report, steps)
         }
-        Ok(Command::UpgradeFeed { .. }) => {
-            upgrade_state::<D, P, O, R, L>(alloc, limits, prior, out, report, steps)
-        }
+        Ok(
+            Command::UpgradeFeed {
+                net,
+                watch: list,
+                ..
+            },
+        ) => upgrade_feed::<D, F, W, O, R, L>(
+            alloc,
+            limits,
+            net,
+            list.is_some(),
+            watch,
+            feed,
+            out,
+            report,
+            steps,
+        ),
         Ok(Command::Order { net, tip, .. }) => order::<F, O, R, L>(
             alloc,
             net,

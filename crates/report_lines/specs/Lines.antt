@@ -3,7 +3,7 @@ use Rattle.std.specs.Prelude.{ℕ, List, ◌∷◌, [], ◌++◌, Some, None, co
 use Rattle.hex.specs.Hex.{encode_lower}
 use Rattle.uo_digest.specs.declared.digest.Digest.{Digest}
 use Rattle.report_lines.specs.declared.line.Line.{Line}
-use Rattle.report_lines.specs.declared.line.Line.TheVariants.{Verdict as Told, End, Words, FrameMagic, FrameCut, FrameLong, FrameRollback, LimitFeed, PriorForm, PriorVersion, Watch, LimitPrior, LimitWatch, Supply, Clash, Generated, UpgradedState, Ordered, NoTip, Missing, Loop}
+use Rattle.report_lines.specs.declared.line.Line.TheVariants.{Verdict as Told, End, Words, FrameMagic, FrameCut, FrameLong, FrameRollback, LimitFeed, PriorForm, PriorVersion, Watch, LimitPrior, LimitWatch, Supply, Clash, Generated, UpgradedFeed, UpgradedState, Ordered, NoTip, Missing, Loop}
 use Rattle.block_rules.specs.declared.refusal.ProofRefusal.{ProofRefusal}
 use Rattle.block_rules.specs.declared.refusal.ProofRefusal.TheVariants.{Outside, Repeated, Beneath, HashCount, EmptyRoot, RootDiffers}
 use Rattle.block_rules.specs.declared.refusal.WitnessFault.{WitnessFault}
@@ -86,6 +86,7 @@ line_text (LimitWatch bytes) = codes "limit watch " ++ decimal bytes
 line_text (Supply live issued) = codes "supply " ++ decimal live ++ codes " issued " ++ decimal issued
 line_text (Clash events) = codes "clash " ++ decimal events
 line_text (Generated blocks rollbacks bytes) = codes "generated " ++ decimal blocks ++ codes " " ++ decimal rollbacks ++ codes " " ++ decimal bytes
+line_text (UpgradedFeed events messages) = codes "upgraded " ++ decimal events ++ codes " " ++ decimal messages
 line_text (UpgradedState levels) = codes "upgraded state " ++ decimal levels
 line_text (Ordered blocks passed) = codes "ordered " ++ decimal blocks ++ codes " " ++ decimal passed
 line_text NoTip = codes "notip"

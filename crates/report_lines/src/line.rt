@@ -65,6 +65,11 @@ pub enum Line {
         rollbacks: u32,
         bytes: u64,
     },
+    /// A feed was written anew: its events, and the messages of version 1 beside its blocks.
+    UpgradedFeed {
+        events: u64,
+        messages: u64,
+    },
     /// A state was written anew, with so many levels.
     UpgradedState(u32),
     /// A path was stored: its blocks, and how many block frames of the feed are not on it.
@@ -120,6 +125,7 @@ impl fmt::Display for Line {
                 rollbacks,
                 bytes,
             } => write!(f, "generated {blocks} {rollbacks} {bytes}"),
+            Line::UpgradedFeed { events, messages } => write!(f, "upgraded {events} {messages}"),
             Line::UpgradedState(levels) => write!(f, "upgraded state {levels}"),
             Line::Ordered { blocks, passed } => write!(f, "ordered {blocks} {passed}"),
             Line::NoTip => f.write_str("notip"),

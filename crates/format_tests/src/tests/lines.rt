@@ -135,7 +135,7 @@ struct Row {
     text: &'static str,
 }
 
-const LINES: [Row; 26] = [
+const LINES: [Row; 27] = [
     Row {
         line: Line::Verdict(Verdict::Accepted {
             height: 7,
@@ -271,6 +271,17 @@ const LINES: [Row; 26] = [
             bytes: 8_121,
         },
         text: "generated 51 1 8121\n",
+    },
+    Row {
+        line: Line::UpgradedFeed {
+            events: 102,
+            messages: 1,
+        },
+        text: "upgraded 102 1\n",
+    },
+    Row {
+        line: Line::UpgradedState(101),
+        text: "upgraded state 101\n",
     },
     Row {
         line: Line::Ordered {

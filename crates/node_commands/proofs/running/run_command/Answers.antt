@@ -5,6 +5,7 @@ use Rattle.command_words.proofs.WordLaws.{in_range}
 use Rattle.node_commands.specs.Auditing.{auditing}
 use Rattle.node_commands.specs.Commands.{bad_words, refusing}
 use Rattle.node_commands.specs.Prover.{proving}
+use Rattle.node_commands.specs.UpgradingFeed.{upgrading_feed}
 use Rattle.node_commands.proofs.RanLemmas.{copied_some, ran-refusing, ran-words, ran-afresh, ran-on, ran-named, watch-afresh, read-afresh}
 use Rattle.node_commands.proofs.running.run_command.Goals as goal
 
@@ -56,6 +57,12 @@ pub returns-in-Ok-Gen-clause-ran : goal.returns-in-Ok-Gen-clause-ran
 returns-in-Ok-Gen-clause-ran g c =
     let exact = rw c.in-Ok-Gen.field-0-is at c.in-Ok-Gen.ensures.exact in
     ran-words _ _ _ _ _ _ _ _ _ _ _ _ _ _ _ exact (c.make_feed.ensures.ran _ _ _ _)
+
+pub returns-in-Ok-UpgradeFeed-clause-ran : goal.returns-in-Ok-UpgradeFeed-clause-ran
+returns-in-Ok-UpgradeFeed-clause-ran g c =
+    let exact = rw c.in-Ok-UpgradeFeed.field-0-is at c.in-Ok-UpgradeFeed.ensures.exact in
+    ran-named _ _ _ _ _ _ _ _ _ _ _ _ _ _ _ exact (upgrading_feed g.D.Digester.digest_of c.args.limits c.in-Ok-UpgradeFeed.net) _ _ refl
+    (c.is_some-in-Ok-UpgradeFeed.ensures ∙ copied_some _) (c.upgrade_feed.ensures.ran _)
 
 pub returns-in-Ok-UpgradeState-clause-ran : goal.returns-in-Ok-UpgradeState-clause-ran
 returns-in-Ok-UpgradeState-clause-ran g c =

@@ -15,14 +15,14 @@ use Rattle.feed_frame.specs.declared.head.Kind.TheVariants.{Block, Proof, Rollba
 use Rattle.feed_frame.specs.Events.{Events, ends_at, strayed, event_at, events_over, events_of}
 use Rattle.feed_frame.specs.Frames.{Frame, Frames, head_at, frame_behind, frame_of, frame_at, led_by_frame, frames_from, frames_of, past_limit, within}
 
-IsBytes-take : (n : ℕ) (bytes : List ℕ) → IsBytes bytes → IsBytes (take n bytes)
+pub IsBytes-take : (n : ℕ) (bytes : List ℕ) → IsBytes bytes → IsBytes (take n bytes)
 IsBytes-take n bytes h i =
     elim (cases_lt i n) [
       | inl lt ↦ rw (get_or-take n bytes i 0 lt) (h i)
       | inr le ↦ rw (get_or_past (take n bytes) i 0 (omega (arith, length-take n bytes))) (omega arith)
     ]
 
-IsBytes-tail : (b : ℕ) (bytes : List ℕ) → IsBytes (b ∷ bytes) → IsBytes bytes
+pub IsBytes-tail : (b : ℕ) (bytes : List ℕ) → IsBytes (b ∷ bytes) → IsBytes bytes
 IsBytes-tail b bytes h i = h (suc i)
 
 -- ---- frames

@@ -1,0 +1,2 @@
+pub mod NodeAlike
+pub mod Following

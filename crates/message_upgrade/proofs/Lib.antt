@@ -1,0 +1,4 @@
+pub mod Alike
+pub mod Upgrading
+pub mod Reading
+pub mod Renaming
