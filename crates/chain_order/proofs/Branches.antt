@@ -161,6 +161,12 @@ led arrivals hash tip (a ∷ later) d b =
       };
     }
 
+-- a branch is no longer than the list of all arrivals
+pub few_branch : (arrivals : List Arrival) (hash tip : Digest) (branch : List Arrival) → AreDifferent arrivals → IsBranch arrivals hash tip branch → length branch ≤ length arrivals
+few_branch arrivals hash tip branch d b =
+    length-le_from_is_member by_hash branch arrivals b.once
+    (λ q e. member arrivals branch (all_found arrivals branch d (recursion_from_All (Contains arrivals) branch b.arrived)) q.hash e)
+
 -- the way back comes to where a branch begins
 comes : (arrivals : List Arrival) (tip hash : Digest) (n : ℕ) (met : List Arrival) → IsMet arrivals tip hash met → way_back arrivals (n + length met) [] tip ≡ way_back arrivals n met hash
 comes arrivals tip hash n [] m = ap₂ (λ k h. way_back arrivals k [] h) (omega arith) (sym m.ends)

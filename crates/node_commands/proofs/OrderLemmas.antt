@@ -1,5 +1,5 @@
 -- What `order` answers to a feed, by the path among its blocks.
-use Rattle.std.proofs.Common.{◌≡◌, ◌≢◌, ℕ, ◌+◌, ◌-◌, Bool, List, [], ◌++◌, length, reverse, Option, Some, None, Result, Ok, Err, refl, sym, ap, ap₂, subst, ◌∙◌, arith, inl, inr}
+use Rattle.std.proofs.Common.{◌≡◌, ◌≢◌, ℕ, ◌+◌, ◌-◌, ◌≤◌, List, [], ◌++◌, length, reverse, Option, Some, None, Result, Ok, Err, refl, sym, ap, ap₂, subst, ◌∙◌, arith, inl, inr}
 use Rattle.std.proofs.lemmas.Bool.{cases_lt}
 use Rattle.std.proofs.lemmas.List.{reverse-reverse, length-reverse, get_or-reverse, get_or_past}
 use Rattle.hex.proofs.HexLemmas.{decode_sized-encode_lower}
@@ -10,16 +10,16 @@ use Rattle.chain_order.specs.declared.fault.PathFault.{PathFault}
 use Rattle.chain_order.specs.declared.fault.PathFault.TheVariants.{NoTip, Missing, Loop, NoMemory}
 use Rattle.chain_order.specs.Arrivals.{Arrival, AreDifferent}
 use Rattle.chain_order.specs.Laws.{IsToldOf}
-use Rattle.chain_order.specs.Path.{IsPath}
+use Rattle.chain_order.specs.Path.{no_hash, IsPath}
 use Rattle.chain_order.specs.Walk.{path_of}
-use Rattle.chain_order.proofs.Branches.{path_is_told}
+use Rattle.chain_order.proofs.Branches.{few_branch, path_is_told}
 use Rattle.feed_frame.specs.declared.fault.FeedFault.{FeedFault}
 use Rattle.feed_frame.specs.Events.{events_of}
 use Rattle.feed_run.specs.Answer.{Answer}
 use Rattle.feed_run.specs.Machine.{left_by, said_by, sent_by}
 use Rattle.order_run.specs.Bodies.{bodies_of, arrivals_of}
 use Rattle.order_run.specs.Machine.{OrderState, fresh_order, order_machine, order_end, path_text, refused_by}
-use Rattle.order_run.proofs.Different.{arrivals_differ}
+use Rattle.order_run.proofs.Arrivals.{arrivals_differ, arrivals_few}
 use Rattle.order_run.proofs.Runs.{left-is, said-is, sent-is}
 use Rattle.order_laws.specs.Links.{LinksUp}
 use Rattle.order_laws.proofs.LinkedUp.{linked_up, none_links}
@@ -84,6 +84,9 @@ module _ (net : Net) (limit : ℕ) (tip : Digest) (feed : List ℕ) where
   unfolding order_end
   path_end path = refl
 
+  counted : (path : List Arrival) → IsPath arrivals tip path → length path ≤ blocks
+  counted path is = let few = few_branch arrivals no_hash tip path different is in let all = arrivals_few (bodies_of (events_of net limit feed).events) in omega (arith, few, all)
+
   -- what is stored
   end_links : IsBytes feed → (told : Result (List Arrival) PathFault) → IsToldOf arrivals tip told → LinksUp net (order_end net blocks told).out
   unfolding order_end
@@ -105,6 +108,7 @@ module _ (net : Net) (limit : ℕ) (tip : Digest) (feed : List ℕ) where
   pub orders-feed : OrdersFeed net limit tip feed
   orders-feed = record {
     path = λ path e is. whole e (Ok path) is ∙ path_end path;
+    counted = counted;
     cause = λ fault e n is. whole e (Err fault) (is, n) ∙ fault_end fault n;
     either = (path_is_told arrivals tip different).0;
     links = links_up;

@@ -1,4 +1,4 @@
-pub mod Different
+pub mod Arrivals
 mod Ending
 mod Numbers
 pub mod Runs

@@ -1,7 +1,8 @@
--- The arrivals of a feed have different hashes.
-use Rattle.std.proofs.Common.{◌≡◌, ℕ, nat_lt, Bool, true, false, List, [], ◌∷◌, ◌++◌, length, refl, if◌then◌else◌}
+-- The arrivals of a feed have different hashes, and are no more than its blocks.
+use Rattle.std.proofs.Common.{arith, ◌≡◌, ℕ, ◌+◌, ◌≤◌, nat_lt, Bool, true, false, List, [], ◌∷◌, ◌++◌, length, refl, if◌then◌else◌}
 use Rattle.std.specs.Prelude.{fold}
 use Rattle.std.specs.List.{IsDistinct}
+use Rattle.std.proofs.lemmas.List.{length-append}
 use Rattle.std.proofs.lemmas.Map.Keys.{IsDistinct-push}
 use Rattle.chain_order.specs.Arrivals.{Arrival, has_arrived, AreDifferent, with_arrival}
 use Rattle.chain_order.proofs.Finding.{by_hash}
@@ -31,3 +32,20 @@ none_differ = tt
 
 pub arrivals_differ : (bodies : List (List ℕ)) → AreDifferent (arrivals_of bodies)
 arrivals_differ bodies = all_differ bodies [] none_differ
+
+-- ---- how many there are
+
+one_few : (arrivals : List Arrival) (body : List ℕ) → length (with_body arrivals body) ≤ length arrivals + 1
+one_few arrivals body = by (nat_lt (length body) 80) (has_arrived arrivals (arrival_in body).hash)
+  where
+    by : (b c : Bool) → length (if b then arrivals else if c then arrivals else arrivals ++ arrival_in body ∷ []) ≤ length arrivals + 1
+    by true c = omega arith
+    by false true = omega arith
+    by false false = let e = length-append arrivals (arrival_in body ∷ []) in omega (arith, e)
+
+all_few : (bodies : List (List ℕ)) (arrivals : List Arrival) → length (fold with_body arrivals bodies) ≤ length arrivals + length bodies
+all_few [] arrivals = omega arith
+all_few (body ∷ bodies) arrivals = let one = one_few arrivals body in let more = all_few bodies (with_body arrivals body) in omega (arith, one, more)
+
+pub arrivals_few : (bodies : List (List ℕ)) → length (arrivals_of bodies) ≤ length bodies
+arrivals_few bodies = all_few bodies []
