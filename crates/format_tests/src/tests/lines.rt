@@ -135,7 +135,7 @@ struct Row {
     text: &'static str,
 }
 
-const LINES: [Row; 27] = [
+const LINES: [Row; 28] = [
     Row {
         line: Line::Verdict(Verdict::Accepted {
             height: 7,
