@@ -1,5 +1,5 @@
 -- Messages that name the same places, and say the same besides, are judged alike.
-use Rattle.std.proofs.Common.{◌≡◌, ℕ, suc, Bool, true, false, cond, not, ◌&&◌, ◌||◌, List, [], ◌∷◌, ◌++◌, map, length, Option, Some, None, is_none, refl, sym, ap, ◌∙◌}
+use Rattle.std.proofs.Common.{◌≡◌, ℕ, Bool, false, cond, not, ◌&&◌, ◌||◌, List, [], ◌∷◌, ◌++◌, map, length, Option, Some, None, is_none, refl, sym, ap, ◌∙◌}
 use Rattle.std.specs.Prelude.{◌==◌, option_map}
 use Rattle.std.proofs.lemmas.List.{length-map}
 use Rattle.uo_digest.specs.declared.digest.Digest.{Digest}
@@ -28,7 +28,7 @@ use Rattle.node_rules.specs.Known.{view_of}
 use Rattle.node_rules.specs.Right.{entry_number_at, all_stand, same_digests, is_right}
 use Rattle.node_rules.specs.Reading.{Handed, nothing, unread, read}
 use Rattle.node_rules.specs.Judging.{Rules, Evidence, spends_nothing, wrong_unless, compact, full, is_forged, entries_shown, refusal}
-use Rattle.node_rules.specs.Machine.{BlockCame, Level, State, Outcome, chain_of, full_judge, view_judge, by_evidence, step, verdict_over, verdict_by}
+use Rattle.node_rules.specs.Machine.{BlockCame, Level, State, chain_of, full_judge, view_judge, by_evidence, step, verdict_over, verdict_by}
 
 -- among n entries two messages name the same places, and say the same besides
 pub record IsAlike (n : ℕ) (m k : Message) : Type 0 where

@@ -1,5 +1,5 @@
 -- An upgraded message is read as the message in version 2, which names the same places, and is as long.
-use Rattle.std.proofs.Common.{◌≡◌, ℕ, suc, ◌+◌, ◌*◌, ◌-◌, ◌<◌, ◌≤◌, ◌^◌, List, [], ◌∷◌, ◌++◌, map, length, Option, Some, None, refl, sym, ap, ap₂, subst, ◌∙◌, arith, length-append}
+use Rattle.std.proofs.Common.{◌≡◌, ℕ, suc, ◌*◌, ◌-◌, ◌<◌, ◌≤◌, ◌^◌, List, [], ◌∷◌, ◌++◌, map, length, Option, Some, None, refl, sym, ap, ap₂, subst, ◌∙◌, arith, length-append}
 use Rattle.std.specs.Int.{w64, to_le_bytes}
 use Rattle.std.specs.List.{flat_map, AllByRecursion}
 use Rattle.std.proofs.lemmas.List.{length-map}
@@ -14,7 +14,7 @@ use Rattle.forest_place.proofs.NamedLaws.{place_by-number, place_by-some, number
 use Rattle.forest_place.proofs.Numbered.{none_with}
 use Rattle.forest_place.proofs.Positions.{places_low, fixed_small}
 use Rattle.leaf_record.specs.Leaf.{Rest, rest_text}
-use Rattle.proof_wire.specs.BlockProof.{Spend, BlockProof, targets_of, rests_of, body_text, message_text, kind_of, SpendFits, ProofFits, MessageFits}
+use Rattle.proof_wire.specs.BlockProof.{Spend, BlockProof, targets_of, rests_of, body_text, message_text, SpendFits, ProofFits, MessageFits}
 use Rattle.node_rules.specs.Messages.{Message, number_of, named}
 use Rattle.node_rules.specs.Reading.{Handed, nothing, unread, read, message_in}
 use Rattle.node_rules.proofs.MessageLaws.{message_read, read_is_text}

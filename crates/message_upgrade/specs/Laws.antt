@@ -1,5 +1,5 @@
 -- What holds of upgraded messages, whatever the digest function and the leaf text.
-use Rattle.std.specs.Prelude.{◌≡◌, ℕ, ◌≤◌, ◌^◌, List, length, Option, Some}
+use Rattle.std.specs.Prelude.{◌≡◌, ℕ, ◌≤◌, ◌^◌, List, length, Option}
 use Rattle.uo_base.specs.Reading.{IsBytes}
 use Rattle.uo_digest.specs.declared.digest.Digest.{Digest}
 use Rattle.forest_place.specs.declared.naming.Naming.TheVariants.{Position}
@@ -9,7 +9,7 @@ use Rattle.leaf_record.specs.History.{History}
 use Rattle.block_rules.specs.declared.chain.Chain.{Chain}
 use Rattle.node_rules.specs.Messages.{Message, named}
 use Rattle.node_rules.specs.Accepting.{View}
-use Rattle.node_rules.specs.Reading.{Handed, nothing, unread, read, message_in}
+use Rattle.node_rules.specs.Reading.{message_in}
 use Rattle.node_rules.specs.Judging.{Rules, is_forged}
 use Rattle.node_rules.specs.Machine.{BlockCame, State, full_judge, view_judge, step, verdict_over}
 use Rattle.message_upgrade.specs.Upgrade.{in_version_2, upgraded}

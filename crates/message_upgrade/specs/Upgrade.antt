@@ -5,7 +5,7 @@ use Rattle.forest_place.specs.declared.place.Place.{Place}
 use Rattle.forest_place.specs.declared.naming.Naming.{Naming}
 use Rattle.forest_place.specs.declared.naming.Naming.TheVariants.{Position, FixedPosition}
 use Rattle.forest_place.specs.Named.{place_by}
-use Rattle.proof_wire.specs.BlockProof.{Spend, BlockProof, message_text}
+use Rattle.proof_wire.specs.BlockProof.{Spend, message_text}
 use Rattle.node_rules.specs.Messages.{Message, sent, number_of}
 use Rattle.node_rules.specs.Reading.{Handed, nothing, unread, read, message_in}
 

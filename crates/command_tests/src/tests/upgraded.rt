@@ -88,7 +88,11 @@ const ROWS: [Row; 6] = [
         bytes: ANY,
         status: Status::AllAccepted,
         report: "upgraded 3 0\n",
-        out: &["5554585000000000", "5554585000000000", "555458520400000000000000"],
+        out: &[
+            "5554585000000000",
+            "5554585000000000",
+            "555458520400000000000000",
+        ],
     },
     // a cut frame behind the block
     Row {
@@ -237,7 +241,8 @@ fn messages(rt: HostRuntime) -> Result<(), Fail> {
 fn a_state(rt: HostRuntime) -> Result<(), Fail> {
     let alloc = rt.alloc();
     let words = ["upgrade", "state", "--from", "s"];
-    let front = "5554585302000100000000026fe28c0ab6f1b372c1a6a246ae63f74f931e8365e15a089c68d6190000000000";
+    let front =
+        "5554585302000100000000026fe28c0ab6f1b372c1a6a246ae63f74f931e8365e15a089c68d6190000000000";
     let mut new = hex::decode(alloc, front)?;
     new.resize(new.len().saturating_add(52), 0)?;
     let mut old = new.clone()?;
