@@ -1,9 +1,8 @@
 -- What is known of the blocks that arrived.
-use Rattle.std.proofs.Common.{◌≡◌, ℕ, ◌+◌, ◌<◌, ◌≤◌, nat_lt, Bool, true, false, List, [], ◌∷◌, ◌++◌, length, take, drop, Option, Some, None, refl, sym, ap, ◌∙◌, subst, arith, if◌then◌else◌, append_assoc}
+use Rattle.std.proofs.Common.{◌≡◌, ℕ, ◌≤◌, nat_lt, Bool, true, false, List, [], ◌∷◌, ◌++◌, length, take, drop, Some, None, refl, sym, ap, ◌∙◌, arith, if◌then◌else◌, append_assoc}
 use Rattle.std.specs.Prelude.{All, Contains, fold}
 use Rattle.std.specs.Int.{w32, to_le_bytes}
 use Rattle.std.specs.List.{AllByRecursion}
-use Rattle.std.proofs.lemmas.Bool.{ltb-false}
 use Rattle.std.proofs.lemmas.List.{take_at, drop_at, length-append}
 use Rattle.std.proofs.lemmas.List.Elements.{All-contains, All-from_recursion, recursion_from_All}
 use Rattle.sha2.specs.Sha256.{sha256}
@@ -17,11 +16,11 @@ use Rattle.block_codec.specs.declared.header.HeaderView.{HeaderView}
 use Rattle.block_codec.specs.Block.{Block, HeaderFits, header_text, block_hash_of}
 use Rattle.block_codec.specs.Reading.{block_in}
 use Rattle.block_codec.proofs.BlockLaws.{IsBlockText, block_in-fits}
+use Rattle.feed_frame.specs.FeedText.{CanBeAFeed}
 use Rattle.feed_frame.specs.Frames.{most_block}
 use Rattle.chain_order.specs.Arrivals.{Arrival, has_arrived}
 use Rattle.order_run.specs.Bodies.{bodies_of, arrival_in, with_body, arrivals_of}
-use Rattle.order_laws.proofs.FeedBytes.{IsMadeOfBytes}
-use Rattle.order_laws.proofs.FeedShort.{HasShortBlock}
+use Rattle.feed_frame.proofs.FeedBytes.{IsMadeOfBytes}
 
 -- ---- its bytes
 
@@ -34,10 +33,10 @@ pub record IsRead (a : Arrival) : Type 0 where
   pub is : a ≡ arrival_in a.body
   pub body : IsBody a.body
 
-bodies_are : (events : List FeedEvent) → AllByRecursion IsMadeOfBytes events → AllByRecursion HasShortBlock events → AllByRecursion IsBody (bodies_of events)
+bodies_are : (events : List FeedEvent) → AllByRecursion IsMadeOfBytes events → CanBeAFeed events → AllByRecursion IsBody (bodies_of events)
 bodies_are [] b s = tt
-bodies_are (BlockCame body None ∷ events) b s = ((b.0, s.0), bodies_are events b.1 s.1)
-bodies_are (BlockCame body (Some message) ∷ events) b s = ((b.0.0, s.0), bodies_are events b.1 s.1)
+bodies_are (BlockCame body None ∷ events) b s = ((b.0, s.0.0), bodies_are events b.1 s.1)
+bodies_are (BlockCame body (Some message) ∷ events) b s = ((b.0.0, s.0.0), bodies_are events b.1 s.1)
 bodies_are (RollbackCame count ∷ events) b s = bodies_are events b.1 s.1
 bodies_are (StrayCame ∷ events) b s = bodies_are events b.1 s.1
 
@@ -58,7 +57,7 @@ all_read [] arrivals all are = all
 all_read (body ∷ bodies) arrivals all are = all_read bodies (with_body arrivals body) (one_read arrivals body all are.0) are.1
 
 -- the blocks of a path are such
-pub path_read : (events : List FeedEvent) (path : List Arrival) → AllByRecursion IsMadeOfBytes events → AllByRecursion HasShortBlock events → All (Contains (arrivals_of (bodies_of events))) path
+pub path_read : (events : List FeedEvent) (path : List Arrival) → AllByRecursion IsMadeOfBytes events → CanBeAFeed events → All (Contains (arrivals_of (bodies_of events))) path
     → AllByRecursion IsRead path
 path_read events path b s there = by path (recursion_from_All (Contains (arrivals_of (bodies_of events))) path there)
   where

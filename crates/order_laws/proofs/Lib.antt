@@ -1,6 +1,4 @@
 mod Arrived
-mod FeedBytes
-mod FeedShort
 mod Linking
 mod Others
 pub mod LinkedUp

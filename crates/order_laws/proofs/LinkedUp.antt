@@ -1,6 +1,6 @@
 -- Over the frames of a path no block is refused first for its link.
-use Rattle.std.proofs.Common.{◌≡◌, ℕ, ◌<◌, ◌≤◌, List, [], ◌∷◌, ◌++◌, length, map, None, refl, sym, ap, ◌∙◌, subst, inl, inr, ◌⊎◌, append-nil}
-use Rattle.std.specs.List.{flat_map, AllByRecursion}
+use Rattle.std.proofs.Common.{◌≡◌, ℕ, ◌<◌, ◌≤◌, List, [], ◌∷◌, ◌++◌, length, map, refl, sym, ap, ◌∙◌, subst, inl, inr, ◌⊎◌, append-nil}
+use Rattle.std.specs.List.{AllByRecursion}
 use Rattle.std.proofs.lemmas.Bool.{cases_lt}
 use Rattle.uo_base.specs.declared.event.Net.{Net}
 use Rattle.uo_base.specs.FeedEvent.{FeedEvent}
@@ -8,7 +8,9 @@ use Rattle.leaf_record.specs.Leaf.{leaf_text}
 use Rattle.feed_frame.specs.Events.{events_of}
 use Rattle.feed_frame.specs.FeedText.{event_text, feed_text, HasFrames}
 use Rattle.feed_frame.proofs.CutFeedLaws.{feed_cut}
+use Rattle.feed_frame.proofs.FeedBytes.{events_bytes}
 use Rattle.feed_frame.proofs.FeedTextLaws.{feed_read}
+use Rattle.feed_frame.proofs.Rewritten.{rewritten}
 use Rattle.node_rules.specs.Judging.{Rules}
 use Rattle.node_rules.specs.Machine.{start, event_in, own_judge, verdicts}
 use Rattle.compact_node.specs.Node.{fresh_node}
@@ -18,8 +20,6 @@ use Rattle.chain_order.specs.Path.{no_hash, AreLinked}
 use Rattle.order_run.specs.Machine.{path_text}
 use Rattle.order_laws.specs.Links.{first_refusal, LinksUp, OrderedLinksUp}
 use Rattle.order_laws.proofs.Arrived.{IsRead, path_read}
-use Rattle.order_laws.proofs.FeedBytes.{events_bytes}
-use Rattle.order_laws.proofs.FeedShort.{events_short}
 use Rattle.order_laws.proofs.Linking.{block_event, IsRest, links_followed, links_proved}
 use Rattle.order_laws.proofs.Others.{IsOther}
 
@@ -74,7 +74,7 @@ links_of net path linked are = record {
 
 pub linked_up : OrderedLinksUp
 linked_up net limit feed tip path bytes p =
-    links_of net path p.linked (path_read (events_of net limit feed).events path (events_bytes net limit feed bytes) (events_short net limit feed) p.arrived)
+    links_of net path p.linked (path_read (events_of net limit feed).events path (events_bytes net limit feed bytes) (rewritten net limit feed bytes).events p.arrived)
 
 -- and over nothing
 pub none_links : (net : Net) → LinksUp net []

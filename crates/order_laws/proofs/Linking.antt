@@ -1,7 +1,6 @@
 -- Blocks that name each other, one after the other, told to a node.
-use Rattle.std.proofs.Common.{◌≡◌, ℕ, suc, true, false, List, [], ◌∷◌, ◌++◌, length, map, Option, Some, None, refl, sym, ap, ◌∙◌, subst, ◌⊎◌, inl, inr}
+use Rattle.std.proofs.Common.{◌≡◌, ℕ, true, List, [], ◌∷◌, ◌++◌, length, map, Option, Some, None, refl, sym, ◌∙◌, subst, ◌⊎◌, inl, inr}
 use Rattle.std.specs.List.{AllByRecursion}
-use Rattle.std.specs.Prelude.{bytes_eq}
 use Rattle.std.proofs.lemmas.Cmp.{nat_list_eq_equiv}
 use Rattle.uo_base.specs.FeedEvent.{FeedEvent, BlockCame, StrayCame}
 use Rattle.uo_digest.specs.declared.digest.Digest.{Digest}
@@ -11,13 +10,12 @@ use Rattle.block_codec.specs.Reading.{block_in}
 use Rattle.leaf_record.specs.Leaf.{Leaf}
 use Rattle.block_rules.specs.declared.refusal.Refusal.{Refusal}
 use Rattle.block_rules.specs.declared.refusal.Refusal.TheVariants as Why
-use Rattle.block_rules.specs.declared.verdict.Verdict.{Verdict}
 use Rattle.block_rules.specs.Blocks.{external, new_records}
 use Rattle.node_rules.specs.Judging.{Rules, refusal, compact, own}
 use Rattle.node_rules.specs.Machine as Chain
 use Rattle.node_rules.specs.Machine.{State, chain_of, event_in, own_judge, step, by_evidence, by_refusal, verdicts, verdict_by, verdict_before}
-use Rattle.node_rules.specs.Reading.{Handed, nothing}
-use Rattle.compact_node.specs.Node.{NodeState, verdict_on, next_node, refusal_on, node_with, node_by, view_over}
+use Rattle.node_rules.specs.Reading.{nothing}
+use Rattle.compact_node.specs.Node.{NodeState, refusal_on, node_with, node_by, view_over}
 use Rattle.compact_node.specs.Throughout.{verdicts_on}
 use Rattle.chain_order.specs.Arrivals.{Arrival}
 use Rattle.chain_order.specs.Path.{AreLinked}

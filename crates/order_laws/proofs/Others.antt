@@ -1,5 +1,5 @@
 -- Which steps refuse a block for another reason than its link.
-use Rattle.std.proofs.Common.{◌≡◌, ℕ, suc, Bool, true, false, List, [], ◌∷◌, ◌++◌, Option, Some, None, option_map, map, if◌then◌else◌, refl, sym, ap, ◌∙◌, subst}
+use Rattle.std.proofs.Common.{◌≡◌, ℕ, suc, Bool, true, false, List, [], ◌∷◌, ◌++◌, Option, Some, None, option_map, map, if◌then◌else◌}
 use Rattle.std.specs.List.{AllByRecursion}
 use Rattle.std.specs.Option.{option_or}
 use Rattle.uo_base.specs.declared.event.Limits.{Limits}
@@ -17,7 +17,7 @@ use Rattle.block_rules.specs.declared.chain.Outside.{Outside}
 use Rattle.block_rules.specs.declared.refusal.Refusal.{Refusal}
 use Rattle.block_rules.specs.declared.refusal.Refusal.TheVariants as Why
 use Rattle.block_rules.specs.Blocks.{Placed, placed_of}
-use Rattle.block_rules.specs.Money.{BlockSpends, Paid, paid_by, spends_of, money_steps, immature, overspend, unripe}
+use Rattle.block_rules.specs.Money.{BlockSpends, paid_by, spends_of, money_steps, immature, overspend, unripe}
 use Rattle.block_rules.specs.Rules.{block_steps, merkle_step, double, coinbase_fault, value_fault}
 use Rattle.block_rules.specs.Steps.{unless, first_of, first_from}
 use Rattle.block_codec.specs.Witness.{commitment_of}
