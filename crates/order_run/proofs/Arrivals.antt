@@ -48,4 +48,4 @@ all_few [] arrivals = omega arith
 all_few (body ∷ bodies) arrivals = let one = one_few arrivals body in let more = all_few bodies (with_body arrivals body) in omega (arith, one, more)
 
 pub arrivals_few : (bodies : List (List ℕ)) → length (arrivals_of bodies) ≤ length bodies
-arrivals_few bodies = all_few bodies []
+arrivals_few bodies = let few = all_few bodies [] in omega (arith, few)

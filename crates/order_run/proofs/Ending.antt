@@ -1,9 +1,8 @@
 -- What is answered at the end of a feed.
-use Rattle.std.proofs.Common.{◌≡◌, ℕ, ◌-◌, List, length, Result, Ok, Err, OnOk, refl, sym, ap, ap₂, ◌∙◌, subst}
+use Rattle.std.proofs.Common.{◌≡◌, ℕ, ◌-◌, List, length, Result, Ok, Err, OnOk, sym, ap, ap₂, ◌∙◌, subst}
 use Rattle.uo_base.specs.declared.event.Net.{Net}
 use Rattle.uo_digest.specs.declared.digest.Digest.{Digest}
-use Rattle.chain_order.specs.declared.fault.PathFault.{PathFault}
-use Rattle.chain_order.specs.declared.fault.PathFault.TheVariants.{NoTip, Missing, Loop, NoMemory}
+use Rattle.chain_order.specs.declared.fault.PathFault.TheVariants.{NoTip, Missing, Loop}
 use Rattle.chain_order.specs.Arrivals.{Arrival}
 use Rattle.chain_order.specs.Walk.{path_of, AreNumbers, Answers}
 use Rattle.feed_run.specs.Answer.{Answer}
@@ -11,7 +10,7 @@ use Rattle.feed_run.specs.declared.status.Status.TheVariants.{AllAccepted}
 use Rattle.report_lines.specs.declared.line.Line.TheVariants as Line
 use Rattle.report_lines.specs.Lines.{whole_line}
 use Rattle.order_run.specs.Frames.{numbered_text}
-use Rattle.order_run.specs.Machine.{OrderState, order_end, path_text, refused_by}
+use Rattle.order_run.specs.Machine.{OrderState, order_end, refused_by}
 use Rattle.order_run.proofs.Numbers.{numbers_text, numbers_len}
 
 pub ends_ordered : (net : Net) (blocks : ℕ) (arrivals : List Arrival) (tip : Digest) (numbers : List ℕ) (path : List Arrival) → AreNumbers arrivals numbers path → path_of arrivals tip ≡ Ok path

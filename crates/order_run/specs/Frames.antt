@@ -1,5 +1,5 @@
 -- The frames of blocks by their numbers.
-use Rattle.std.specs.Prelude.{ℕ, ◌≤◌, List, [], map, length, slice_get, All, Option, Some, None}
+use Rattle.std.specs.Prelude.{ℕ, ◌≤◌, List, [], length, slice_get, All, Option, Some, None}
 use Rattle.std.specs.List.{flat_map}
 use Rattle.uo_base.specs.declared.event.Net.{Net}
 use Rattle.chain_order.specs.Arrivals.{Arrival}

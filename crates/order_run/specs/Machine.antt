@@ -1,5 +1,5 @@
 -- The machine of `order`: what has arrived, and how many blocks came.
-use Rattle.std.specs.Prelude.{◌≤◌, ℕ, ◌+◌, ◌-◌, false, List, [], length, Result, Ok, Err}
+use Rattle.std.specs.Prelude.{ℕ, ◌+◌, ◌-◌, false, List, [], length, Result, Ok, Err}
 use Rattle.std.specs.List.{flat_map}
 use Rattle.uo_base.specs.declared.event.Net.{Net}
 use Rattle.uo_base.specs.FeedEvent.{FeedEvent, BlockCame, RollbackCame, StrayCame}
@@ -14,7 +14,6 @@ use Rattle.feed_run.specs.Answer.{Answer}
 use Rattle.feed_run.specs.Machine.{Machine}
 use Rattle.feed_run.specs.declared.status.Status.TheVariants.{AllAccepted, SomeRefused}
 use Rattle.report_lines.specs.declared.line.Line.{Line}
-use Rattle.report_lines.specs.declared.line.Line.TheVariants as Line
 use Rattle.report_lines.specs.Lines.{whole_line}
 use Rattle.order_run.specs.Bodies.{with_body}
 

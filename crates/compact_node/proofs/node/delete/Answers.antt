@@ -7,9 +7,9 @@ pub returns-in-Ok-clause-ok : goal.returns-in-Ok-clause-ok
 returns-in-Ok-clause-ok g c =
     let H = g.D.Digester.digest_of in
     let k = c.args.claim.now in
-    subst (λ xs. IsDeleted c.args.tells H c.args.roots.now k.targets.targets xs k.hashes.items c.in-Ok.changes c.check_and_delete.new.roots) c.as_slice-leaves.ensures.value
-    (subst (λ ys. IsDeleted c.args.tells H c.args.roots.now k.targets.targets c.as_slice-leaves.result.now ys c.in-Ok.changes c.check_and_delete.new.roots) c.as_slice-hashes.ensures.value
-    (subst (λ told. IsDeleted told H c.args.roots.now k.targets.targets c.as_slice-leaves.result.now c.as_slice-hashes.result.now c.in-Ok.changes c.check_and_delete.new.roots) c.in_ok-reserve_for.ensures.tells c.in-Ok.ensures.answer))
+    subst (λ b. IsDeleted b H c.args.roots.now k.targets.targets k.leaves.items k.hashes.items c.in-Ok.changes c.check_and_delete.new.roots) c.in_ok-reserve_for.ensures.tells
+    (subst (λ xs. IsDeleted c.reserve_for.new.self.tells H c.args.roots.now k.targets.targets xs k.hashes.items c.in-Ok.changes c.check_and_delete.new.roots) c.as_slice-leaves.ensures.value
+    (subst (λ ys. IsDeleted c.reserve_for.new.self.tells H c.args.roots.now k.targets.targets c.as_slice-leaves.result.now ys c.in-Ok.changes c.check_and_delete.new.roots) c.as_slice-hashes.ensures.value c.in-Ok.ensures.answer))
 
 pub returns-in-Err-clause-err : goal.returns-in-Err-clause-err
 returns-in-Err-clause-err g c =

@@ -1,9 +1,5 @@
-use Rattle.std.proofs.Common.{◌≡◌, List, Ok, sym, ap, subst, ◌∙◌}
+use Rattle.std.proofs.Common.{sym}
 use Rattle.std.proofs.KnownBytes.{Appends-nil}
-use Rattle.uo_base.proofs.PortLemmas.{AppendsPart-none}
-use Rattle.chain_order.specs.Arrivals.{Arrival}
-use Rattle.chain_order.specs.Walk.{path_of, AreNumbers, Answers}
-use Rattle.order_run.specs.Machine.{OrderState}
 use Rattle.order_run.proofs.Ending.{ends_ordered, ends_no_tip, ends_missing, ends_loop, OnOk-any, told_numbers}
 use Rattle.order_run.proofs.Numbers.{numbers_within}
 use Rattle.order_run.proofs.orderer.OrdererEventHandler.end.Goals as goal
