@@ -1,6 +1,5 @@
 -- A feed with the messages upgraded is followed as the feed is.
-use Rattle.std.proofs.Common.{◌≡◌, ℕ, suc, ◌+◌, ◌<◌, ◌≤◌, ◌^◌, List, [], ◌∷◌, ◌++◌, map, length, Option, Some, None, refl, sym, ap, ap₂, subst, ◌∙◌, arith, length-append}
-use Rattle.std.specs.Prelude.{option_map}
+use Rattle.std.proofs.Common.{◌≡◌, ℕ, suc, ◌+◌, ◌≤◌, ◌^◌, List, [], ◌∷◌, ◌++◌, map, length, Option, Some, None, refl, sym, ap, ap₂, subst, ◌∙◌, arith, length-append}
 use Rattle.std.specs.Int.{w32, to_le_bytes}
 use Rattle.std.specs.List.{AllByRecursion}
 use Rattle.uo_base.specs.declared.event.Net.{Net}
@@ -11,13 +10,13 @@ use Rattle.block_codec.specs.Block.{Block}
 use Rattle.block_codec.specs.Reading.{block_in}
 use Rattle.leaf_record.specs.Leaf.{Leaf}
 use Rattle.feed_frame.specs.Events.{events_of}
-use Rattle.feed_frame.specs.FeedText.{event_text, feed_text, HasProofFrame, HasFrames, HasEvents, MayFollowStray, CanStandBefore, CanBeAFeed, CanBeRewritten}
+use Rattle.feed_frame.specs.FeedText.{event_text, feed_text, MayFollowStray, CanBeAFeed}
 use Rattle.feed_frame.specs.Frames.{block_magic, proof_magic}
 use Rattle.feed_frame.specs.Written.{frame_text}
 use Rattle.feed_frame.proofs.FeedBytes.{IsMadeOfBytes, events_bytes}
 use Rattle.feed_frame.proofs.Rewritten.{read_again_all, rewritten}
-use Rattle.node_rules.specs.Machine.{ChainEvent, event_in}
-use Rattle.node_rules.specs.Reading.{Handed, message_in, handed_in}
+use Rattle.node_rules.specs.Machine.{event_in}
+use Rattle.node_rules.specs.Reading.{message_in}
 use Rattle.compact_node.specs.Node.{NodeState, IsNode, verdict_on, next_node}
 use Rattle.compact_node.specs.Throughout.{verdicts_on, node_after}
 use Rattle.compact_node.proofs.Keeping.{next_is_node}

@@ -9,7 +9,7 @@ use Rattle.leaf_record.specs.Leaf.{Leaf}
 use Rattle.leaf_record.specs.History.{somes}
 use Rattle.block_rules.specs.Blocks.{external, new_records}
 use Rattle.cache_model.specs.Lists.{moved_leaves}
-use Rattle.node_rules.specs.Messages.{Message, named, targets, known_to}
+use Rattle.node_rules.specs.Messages.{Message, targets, known_to}
 use Rattle.node_rules.specs.Accepting.{View}
 use Rattle.node_rules.specs.Reading.{Handed}
 use Rattle.node_rules.specs.Judging.{Evidence, compact, refusal}

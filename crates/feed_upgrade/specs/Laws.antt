@@ -1,7 +1,6 @@
 -- What holds of a feed with the messages upgraded.
 use Rattle.std.specs.Prelude.{◌≡◌, ℕ, ◌≤◌, List, length, map}
 use Rattle.uo_base.specs.declared.event.Net.{Net}
-use Rattle.uo_base.specs.FeedEvent.{BlockCame}
 use Rattle.uo_base.specs.Reading.{IsBytes}
 use Rattle.uo_digest.specs.declared.digest.Digest.{Digest}
 use Rattle.leaf_record.specs.Leaf.{Leaf}

@@ -1,5 +1,5 @@
 -- The machine of a feed's upgrade: a node, how many events it was told, and how many messages of version 1 stood beside their blocks.
-use Rattle.std.specs.Prelude.{ℕ, ◌+◌, ◌≤◌, List, [], false}
+use Rattle.std.specs.Prelude.{ℕ, ◌+◌, List, [], false}
 use Rattle.uo_base.specs.declared.event.Net.{Net}
 use Rattle.uo_base.specs.FeedEvent.{FeedEvent}
 use Rattle.uo_digest.specs.declared.digest.Digest.{Digest}

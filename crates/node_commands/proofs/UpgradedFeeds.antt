@@ -110,12 +110,12 @@ module _ (H : List ℕ → Digest) where
     abbrev answer_to : List Verdict → NodeState → (count : ℕ) → Option FeedFault → Answer
     answer_to vs last count ending = answer_with (flat_map line_of vs) [] (end_by (list_any is_refused vs) count last.newest.chain (stored_text last)) ending
 
-    abbrev answer_of : Events → Answer
-    answer_of events =
-        let es = map event_in events.events in
-        answer_to (verdicts_on H leaf_text node es) (node_after H leaf_text node es) (length events.events) events.ending
+    abbrev answer_of : List FeedEvent → Option FeedFault → Answer
+    answer_of events ending =
+        let es = map event_in events in
+        answer_to (verdicts_on H leaf_text node es) (node_after H leaf_text node es) (length events) ending
 
-    follow_is : (text : List ℕ) → follow_answer H node text ≡ answer_of (events_for node.rules text)
+    follow_is : (text : List ℕ) → follow_answer H node text ≡ answer_of (events_for node.rules text).events (events_for node.rules text).ending
     unfolding follow_answer
     follow_is text = refl
 
@@ -125,8 +125,8 @@ module _ (H : List ℕ → Digest) where
         let es = map event_in upgraded in
         let told = verdicts_on H leaf_text node (chain_events came) in
         ap (follow_answer H node) stored_is ∙ follow_is frames
-        ∙ ap (λ l. answer_of (record { events = l; ending = (events_for node.rules frames).ending })) a.read.all
-        ∙ ap (λ e. answer_of (record { events = upgraded; ending = e })) (a.read.ends ∙ sym ends)
+        ∙ ap (λ l. answer_of l (events_for node.rules frames).ending) a.read.all
+        ∙ ap (answer_of upgraded) (a.read.ends ∙ sym ends)
         ∙ ap (λ n. answer_to (verdicts_on H leaf_text node es) (node_after H leaf_text node es) n came.ending) a.as_many
         ∙ ap (λ vs. answer_to vs (node_after H leaf_text node es) (length came.events) came.ending) a.said
         ∙ ap (λ last. answer_to told last (length came.events) came.ending) a.kept
