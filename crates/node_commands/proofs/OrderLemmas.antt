@@ -1,5 +1,5 @@
 -- What `order` answers to a feed, by the path among its blocks.
-use Rattle.std.proofs.Common.{◌≡◌, ◌≢◌, ℕ, ◌+◌, ◌-◌, ◌≤◌, Bool, List, [], ◌++◌, length, reverse, Option, Some, None, Result, Ok, Err, refl, sym, ap, ap₂, subst, ◌∙◌, arith, inl, inr}
+use Rattle.std.proofs.Common.{◌≡◌, ◌≢◌, ℕ, ◌+◌, ◌-◌, ◌≤◌, Bool, List, [], length, reverse, Option, Some, None, Result, Ok, Err, refl, sym, ap, ◌∙◌, arith, inl, inr}
 use Rattle.std.proofs.lemmas.Bool.{cases_lt}
 use Rattle.std.proofs.lemmas.List.{reverse-reverse, length-reverse, get_or-reverse, get_or_past}
 use Rattle.hex.proofs.HexLemmas.{decode_sized-encode_lower}
@@ -13,7 +13,6 @@ use Rattle.chain_order.specs.Laws.{IsToldOf}
 use Rattle.chain_order.specs.Path.{no_hash, IsPath}
 use Rattle.chain_order.specs.Walk.{path_of}
 use Rattle.chain_order.proofs.Branches.{few_branch, path_is_told}
-use Rattle.feed_frame.specs.declared.fault.FeedFault.{FeedFault}
 use Rattle.feed_frame.specs.Events.{events_of}
 use Rattle.feed_run.specs.Answer.{Answer}
 use Rattle.feed_run.specs.Machine.{left_by, said_by, sent_by}
@@ -26,7 +25,6 @@ use Rattle.order_laws.proofs.LinkedUp.{linked_up, none_links}
 use Rattle.feed_run.specs.declared.status.Status.{Status}
 use Rattle.feed_run.specs.declared.status.Status.TheVariants.{AllAccepted}
 use Rattle.report_lines.specs.declared.line.Line.{Line}
-use Rattle.report_lines.specs.declared.line.Line.TheVariants as Line
 use Rattle.report_lines.specs.Lines.{whole_line}
 use Rattle.node_commands.specs.Answers.{bad_end, last_of, answer_with, served_feed}
 use Rattle.node_commands.specs.Ordering.{hash_of_digits, fault_line, order_answer, OrdersFeed, PrintedIsNamed}

@@ -25,7 +25,6 @@ use Rattle.feed_run.specs.declared.stop.Stop.{Stop}
 use Rattle.feed_run.specs.Status.{is_stop}
 use Rattle.report_lines.specs.Lines.{whole_line}
 use Rattle.node_commands.specs.declared.bad_input.BadInput.{BadInput}
-use Rattle.node_commands.specs.Auditing.{auditing}
 use Rattle.node_commands.specs.Commands.{following_from, meaning_for, meaning_by, meaning_of}
 use Rattle.node_commands.specs.Following.{following_afresh, following_on}
 use Rattle.node_commands.specs.Meaning.{Inputs, Meaning, Uses}

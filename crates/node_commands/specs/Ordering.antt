@@ -18,7 +18,6 @@ use Rattle.order_run.specs.Bodies.{bodies_of, arrivals_of}
 use Rattle.order_run.specs.Machine.{path_text, refused_by, order_end}
 use Rattle.order_laws.specs.Links.{LinksUp}
 use Rattle.report_lines.specs.declared.line.Line.{Line}
-use Rattle.report_lines.specs.declared.line.Line.TheVariants as Line
 use Rattle.report_lines.specs.Lines.{whole_line, hash_text}
 use Rattle.node_commands.specs.Answers.{answer_with}
 use Rattle.node_commands.specs.Meaning.{Meaning, IsEnd}
