@@ -32,7 +32,7 @@ fn block(alloc: Global, prev: &Digest, height: u32, claim: u64) -> Result<(Vec<u
     Ok((frame, hash))
 }
 
-fn blocks(alloc: Global) -> Result<Blocks, Fail> {
+fn make_blocks(alloc: Global) -> Result<Blocks, Fail> {
     let (zero, hash) = block(alloc, &Digest([0; 32]), 0, SUBSIDY)?;
     let (one, next) = block(alloc, &hash, 1, SUBSIDY)?;
     let (two, _) = block(alloc, &next, 2, SUBSIDY)?;
@@ -138,11 +138,17 @@ const ROWS: [Row; 7] = [
 
 #[test]
 fn blocks_are_put_in_order(rt: HostRuntime) -> Result<(), Fail> {
-    let blocks = blocks(rt.alloc())?;
+    let blocks = make_blocks(rt.alloc())?;
     for row in &ROWS {
         let feed = blocks.feed(rt.alloc(), row.feed)?;
-        let outcome =
-            outcome_of::<Sha512t256>(rt.alloc(), &PLAIN, &["order", row.tip], &feed, &[], &[])?;
+        let outcome = outcome_of::<Sha512t256>(
+            rt.alloc(),
+            &PLAIN,
+            &["order", row.tip],
+            &feed,
+            &[],
+            &[],
+        )?;
         check(&rt, &outcome, row.status, row.report);
         let path = blocks.feed(rt.alloc(), row.path)?;
         assert!(rt; outcome.out.as_slice() == path.as_slice());
