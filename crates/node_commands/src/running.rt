@@ -54,11 +54,9 @@ pub fn run<D: Digester, F: Source, P: Source, W: Source, O: Sink, R: Sink, L: Le
     // that is forged to that node, which is one with the same network, leaf limit and watch list, it prints two different texts with one digest:
     // one is that of a node of the forest, and the proof in the message digests the other. It judges nothing behind that event.
     // `gen` stores the feed of its number, its count of blocks and its network, and prints how many blocks, rollbacks and bytes it has.
-    // `upgrade feed` stores the events of the feed with their messages in version 2, and prints how many events and messages of version 1 there are;
-    // the whole answer of `follow` to what it stored, with the same network and watch list, is that to the feed, and of a feed that ends badly the
-    // lines of the events are the same. `upgrade state` stores the text of version 2 of each state, and prints how many levels it has.
-    // `order` stores the frames of the one path from a first block to the one whose hash is named, and prints how many they are and how many it
-    // passed over; or it stores nothing, and prints why there is no such path. Over what it stored the first refusal is not `link`.
+    // `upgrade feed` stores the events of the feed with their messages in version 2, and prints how many events and messages of version 1 there
+    // are. The whole answer of `follow` to what it stored, with the same network and watch list, is that to the feed, and of a feed that ends
+    // badly the lines of the events are the same. `upgrade state` stores the text of version 2 of each state, and prints how many levels it has.
     // `order` stores the frames of the one path from a block that begins a chain to the tip, among the first blocks of each hash of the feed, and
     // prints how many there are and how many other blocks came; or it prints why there is no path. Over what it stores neither `follow` nor `prove`
     // refuses a block for its link before it has refused another.
