@@ -37,6 +37,8 @@ def calls_of(crate):
 
 def calls_in(text, names):
     block, is_trait = None, False
+    # A comment between clauses may hold anything.
+    text = re.sub(r"^ *//[^/!].*$", "", text, flags=re.MULTILINE)
     for found in re.finditer(r"^(?:(impl|pub trait)[^\n]*|\}|( *)(?:pub )?fn (\w+)[^\n]*)", text, re.MULTILINE):
         line = found.group(0)
         if found.group(1):
