@@ -1,5 +1,5 @@
 -- A feed that is parted between two events.
-use Rattle.std.proofs.Common.{◌≡◌, ℕ, zero, suc, ◌+◌, ◌-◌, ◌<◌, ◌≤◌, Bool, true, false, cond, nat_lt, List, [], ◌∷◌, ◌++◌, length, map, take, drop, Option, Some, None, option_map, Result, Ok, Err, refl, sym, ap, ap₂, subst, ◌∙◌, append_assoc, append-nil, length-append, length-drop, arith, inl, inr}
+use Rattle.std.proofs.Common.{◌≡◌, ℕ, zero, suc, ◌+◌, ◌-◌, ◌≤◌, Bool, true, false, cond, nat_lt, List, [], ◌∷◌, ◌++◌, length, map, take, drop, Option, Some, None, option_map, Result, Ok, Err, refl, sym, ap, ap₂, subst, ◌∙◌, length-append, length-drop, arith, inl, inr}
 use Rattle.std.specs.Int.{w32, from_le_bytes}
 use Rattle.std.proofs.lemmas.Bool.{cases_lt, le-ltb, lt-ltb}
 use Rattle.std.proofs.lemmas.List.{take-append-le, drop-append-le}
@@ -11,7 +11,7 @@ use Rattle.feed_frame.specs.declared.head.Head.{Head}
 use Rattle.feed_frame.specs.declared.head.Kind.{Kind}
 use Rattle.feed_frame.specs.declared.head.Kind.TheVariants.{Block, Proof, Rollback}
 use Rattle.feed_frame.specs.Events.{Events, ends_at, led_by, strayed, event_at, events_over, events_in, settled_in, events_of, settled_of}
-use Rattle.feed_frame.specs.Frames.{Frame, Frames, no_frames, with_frame, kind_at, length_fault, unless_fault, head_of, head_at, frame_behind, frame_of, frame_at, led_by_frame, frames_from}
+use Rattle.feed_frame.specs.Frames.{Frame, Frames, with_frame, kind_at, length_fault, unless_fault, head_of, head_at, frame_behind, frame_of, frame_at, led_by_frame, frames_from}
 use Rattle.feed_frame.specs.Parted.{further, AreParted, FeedIsParted}
 use Rattle.feed_frame.proofs.Within.{within-inside}
 

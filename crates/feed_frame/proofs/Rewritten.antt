@@ -13,11 +13,11 @@ use Rattle.feed_frame.specs.declared.fault.FeedFault.TheVariants.{Cut, TooLong, 
 use Rattle.feed_frame.specs.declared.head.Head.{Head}
 use Rattle.feed_frame.specs.declared.head.Kind.{Kind}
 use Rattle.feed_frame.specs.declared.head.Kind.TheVariants.{Block, Proof, Rollback}
-use Rattle.feed_frame.specs.Frames.{Frame, Frames, with_frame, magic_of, kind_at, length_fault, unless_fault, head_of, head_at, frame_behind, frame_of, frame_at, led_by_frame, frames_from, frames_of, past_limit, within, most_block, most_proof}
+use Rattle.feed_frame.specs.Frames.{Frame, Frames, magic_of, kind_at, length_fault, unless_fault, head_of, head_at, frame_of, frame_at, led_by_frame, frames_from, frames_of, past_limit, within, most_block, most_proof}
 use Rattle.feed_frame.specs.Events.{Events, ends_at, strayed, event_at, events_in, events_of, events_over, led_by}
 use Rattle.feed_frame.specs.FeedText.{event_text, feed_text, HasEvents, MayFollowStray, CanBeAFeed, CanBeRewritten}
 use Rattle.feed_frame.specs.Written.{frame_text}
-use Rattle.feed_frame.proofs.FeedTextLaws.{AreRead, read-more, framed, read_from, end_of, proof_long, block_long, read_block, read_proved, read_rollback}
+use Rattle.feed_frame.proofs.FeedTextLaws.{AreRead, read-more, framed, read_from, end_of, proof_long, read_block, read_proved, read_rollback}
 use Rattle.feed_frame.proofs.Stray.{FirstIs, IsOther, stray-events}
 use Rattle.feed_frame.proofs.Within.{within-inside}
 use Rattle.feed_frame.proofs.WrittenLaws.{four}

@@ -1,5 +1,5 @@
 -- A feed that is parted between two events.
-use Rattle.std.specs.Prelude.{◌≡◌, ℕ, ◌+◌, ◌≤◌, List, ◌++◌, length, Option, None, option_map}
+use Rattle.std.specs.Prelude.{◌≡◌, ℕ, ◌+◌, ◌≤◌, List, ◌++◌, length, None, option_map}
 use Rattle.uo_base.specs.declared.event.Net.{Net}
 use Rattle.feed_frame.specs.declared.fault.FeedFault.{FeedFault}
 use Rattle.feed_frame.specs.declared.fault.FeedFault.TheVariants.{Magic, Cut, TooLong, BadRollback}
