@@ -299,7 +299,7 @@ reads (name ∷ rest) =
     (λ no_gen. by_test _ (bytes_eq name (codes "upgrade")) _ _ (λ e. renamed [] name (codes "upgrade") rest _ e (reads_upgrade rest))
     (λ no_upgrade. by_test _ (bytes_eq name (codes "order")) _ _ (λ e. renamed [] name (codes "order") rest _ e (reads_order rest))
     (λ no_order. bad_word [] name rest begins_none (λ more.
-      passed _ _ _ no_follow ∙ passed _ _ _ no_prove ∙ passed _ _ _ no_audit ∙ passed _ _ _ no_gen ∙ passed _ _ _ no_upgrade ∙ passed _ _ _ no_order)))))))
+    passed _ _ _ no_follow ∙ passed _ _ _ no_prove ∙ passed _ _ _ no_audit ∙ passed _ _ _ no_gen ∙ passed _ _ _ no_upgrade ∙ passed _ _ _ no_order)))))))
 
 pub means : (words : List (List ℕ)) → Means words (command_of words)
 means words = means_by words _ refl (reads words)

@@ -307,10 +307,7 @@ fn upgrade_in(words: &[String]) -> Result<Command<'_>, WordFault>
             let given = read_options(&UPGRADE_STATE, 2, Options::none(), rest)?;
             let end = 2 + rest.len() as u64;
             let from = given.from.ok_or(WordFault { at: end })?;
-            Ok(Command::UpgradeState {
-                from,
-                to: given.to,
-            })
+            Ok(Command::UpgradeState { from, to: given.to })
         }
         _ => Err(WordFault { at: 1 }),
     }
