@@ -183,3 +183,12 @@ pub(crate) fn digests(state: [u32x8; 8]) -> [[u8; 32]; 8]
     let eighth = digest(a7, b7, c7, d7, e7, f7, g7, h7);
     [first, second, third, fourth, fifth, sixth, seventh, eighth]
 }
+
+/// SHA-256 of SHA-256 of each of eight pairs of digests, as one text of 64 bytes.
+pub fn double_pairs_of_eight(left: &[[u8; 32]; 8], right: &[[u8; 32]; 8]) -> [[u8; 32]; 8]
+    ensures { (j : ℕ) → j < 8 → slice_index_or result j [] ≡ sha256 (sha256 (slice_index_or left.now j [] ++ slice_index_or right.now j [])) }
+{
+    let inner = pair_states(left, right);
+    let outer = digest_states(inner);
+    digests(outer)
+}

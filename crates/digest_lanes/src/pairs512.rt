@@ -2,9 +2,10 @@
 
 ghost use Rattle.std.specs.Prelude.{◌≡◌, ℕ, ◌+◌, ◌*◌, ◌^◌, ◌<◌, ◌≤◌, ◌++◌, List, [], length, take, slice_index, slice_index_or};
 ghost use Rattle.std.specs.Int.{w64, to_be_bytes};
-ghost use Rattle.sha2.specs.Sha512.{digest_bytes, first_words, initial_hash_512_256, padded_message, word_at};
+ghost use Rattle.sha2.specs.Sha512.{digest_bytes, first_words, initial_hash_512_256, padded_message, sha512_256, word_at};
 ghost use Rattle.digest_lanes.specs.Lanes.{lane};
 
+use crate::block512::compress;
 use std::simd::u64x4;
 
 // The word at byte `i` of a text, and what the caller can not see of a text in an array: its length.
@@ -107,4 +108,13 @@ pub(crate) fn digests(state: [u64x4; 8]) -> [[u8; 32]; 4]
     let third = digest(a2, b2, c2, d2);
     let fourth = digest(a3, b3, c3, d3);
     [first, second, third, fourth]
+}
+
+/// SHA-512/256 of each of four pairs of digests, as one text of 64 bytes.
+pub fn pairs_of_four(left: &[[u8; 32]; 4], right: &[[u8; 32]; 4]) -> [[u8; 32]; 4]
+    ensures { (j : ℕ) → j < 4 → slice_index_or result j [] ≡ sha512_256 (slice_index_or left.now j [] ++ slice_index_or right.now j []) }
+{
+    let words = pair_words(left, right);
+    let state = compress(initial_state(), words);
+    digests(state)
 }

@@ -2,7 +2,7 @@ use Rattle.std.proofs.Common.{◌++◌, [], slice_index_or, ap, ◌∙◌}
 use Rattle.std.specs.Prelude.{take}
 use Rattle.sha2.specs.Sha512.{compress, digest_bytes, padded_message}
 use Rattle.digest_lanes.proofs.Pair512Lemmas.{sha512_256_of_pair}
-use Rattle.digest_lanes.proofs.pairs_of_four.Goals as goal
+use Rattle.digest_lanes.proofs.pairs512.pairs_of_four.Goals as goal
 
 pub returns : goal.returns
 returns c j h =
