@@ -131,7 +131,7 @@ module _ (H : List ℕ → Digest) (f : Stump) (k : Ticket) (p : Place) (e : tar
       count_told H leaf_text v (points k) (message_of k) shaped (λ same. w.2 (w.1 ∙ (same ∙ (needs ∙ sym w.0))))
       ∙ ap₂ (λ x y. Some (proof_refusal (Fault.HashCount x y))) (needs ∙ sym w.0) (sym w.1)
   told (Fault.EmptyRoot row) w = empty_told H leaf_text v (points k) (message_of k) shaped row (w.0 ∙ sym needs) w.1
-  told (Fault.RootDiffers row had computed) w = other_told H leaf_text v (points k) (message_of k) shaped row (w.0 ∙ sym needs) w.1 w.2.0
+  told (Fault.RootDiffers row had computed) w = other_told H leaf_text v (points k) (message_of k) shaped row (w.0 ∙ sym needs) w.1 w.2
 
   fault_told : (fault : ProofFault) → Told (p ∷ []) fault → Some (proof_refusal fault) ≡ ticket_fault H v k
   fault_told fault w = sym (told fault (subst (λ ts. Told ts fault) (sym (target_one H v k p e)) w))
@@ -196,7 +196,7 @@ module _ (H : List ℕ → Digest) (us : History) (tip : Digest) (k : Ticket) wh
     λ h.
         let w = and_parts (is_same k.tip tip) _ h in
         let r = (right_is_tested H leaf_text us nothing_known (points k) (message_of k)).0 w.1 in
-        right_from (target_in (length us) k) refl (is_same-true k.tip tip w.0) r.0 r.1.0,
+        right_from (target_in (length us) k) refl (is_same-true k.tip tip w.0) r.0 r.1,
     λ r.
         and_from (is_same k.tip tip) _ (subst (λ d. is_same k.tip d ≡ true) r.tip_is (is_same-same k.tip))
         ((right_is_tested H leaf_text us nothing_known (points k) (message_of k)).1
