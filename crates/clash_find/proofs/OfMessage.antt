@@ -94,7 +94,7 @@ module _ (H : List ℕ → Digest) (long : (x : List ℕ) → IsDigest (H x)) (o
     n = length es
 
     abbrev ts : List Place
-    ts = targets n m.proof
+    ts = targets n m
 
     abbrev same_length : n ≡ length us
     same_length = length-map us (option_map (λ (r : Leaf). H (leaf_text r)))
