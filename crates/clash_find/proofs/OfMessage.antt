@@ -142,8 +142,7 @@ module _ (H : List ℕ → Digest) (long : (x : List ℕ) → IsDigest (H x)) (o
             λ none. (right_is_tested H leaf_text us known points m).1
             (subst RightBy same_length (right H long us outputs held fit ts rs k hs w.searched.items ready f.0 f.1), subst (λ j. named j m ≡ map Some (targets j m)) same_length all, points_count)
         by true (Some c) f =
-            let s = some_found H long us outputs held fit ts rs k hs w.searched.items ready (lean_view es view m.lean) c f.1 in
-            (
+            let s = some_found H long us outputs held fit ts rs k hs w.searched.items ready (lean_view es view m.lean) c f.1 in (
               subst (λ j. fault_over j (root H es) ≡ None) same_length (no_fault (accepts H long us outputs held fit ts rs k hs w.searched.items ready f.0)),
               false_from_ne_true _ (λ tested. s.0 (subst RightBy (sym same_length) ((right_is_tested H leaf_text us known points m).0 tested).0)),
               record {

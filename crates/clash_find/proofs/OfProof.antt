@@ -87,9 +87,11 @@ module _ (H : List ℕ → Digest) (long : (x : List ℕ) → IsDigest (H x)) (o
         by false x f = subst (IsAnswerIn H us ts rs hs) (sym f.1) (λ a. absurd (differs H long us outputs held fit ts rs nothing_known hs w.searched.items ready f.0 (to_es a)))
         by true None f = λ a. right H long us outputs held fit ts rs nothing_known hs w.searched.items ready f.0 f.1
         by true (Some c) f =
-            let s = some_found H long us outputs held fit ts rs nothing_known hs w.searched.items ready nothing_is_so c f.1 in
-            (to_us (accepts H long us outputs held fit ts rs nothing_known hs w.searched.items ready f.0), s.0,
-            record { of_forest = s.1.of_forest; of_proof = s.1.of_proof; differ = s.1.differ; first_is = s.1.first_is; second_is = s.1.second_is })
+            let s = some_found H long us outputs held fit ts rs nothing_known hs w.searched.items ready nothing_is_so c f.1 in (
+              to_us (accepts H long us outputs held fit ts rs nothing_known hs w.searched.items ready f.0),
+              s.0,
+              record { of_forest = s.1.of_forest; of_proof = s.1.of_proof; differ = s.1.differ; first_is = s.1.first_is; second_is = s.1.second_is },
+            )
 
     pub which : IsFirstPair H es outputs ts rs hs answer
     which = by w.searched.agree answer w.searched.found

@@ -1,28 +1,24 @@
 -- What is said of a ticket means what it should.
-use Rattle.std.proofs.Common.{◌≡◌, ℕ, Bool, true, false, List, [], ◌∷◌, length, Option, Some, None, Ok, Err, refl, sym, ap, ap₂, ◌∙◌, subst}
-use Rattle.std.specs.Prelude.{◌↔◌, ◌&&◌, option_map, if◌then◌else◌}
+use Rattle.std.proofs.Common.{◌≡◌, ℕ, Bool, true, false, List, [], ◌∷◌, length, Option, Some, None, refl, sym, ap, ◌∙◌, subst}
+use Rattle.std.specs.Prelude.{◌&&◌, option_map, if◌then◌else◌}
 use Rattle.std.proofs.lemmas.List.{length-map}
 use Rattle.std.proofs.lemmas.Bool.{and_from, false≢true}
 use Rattle.std.proofs.lemmas.Option.{none-some}
 use Rattle.uo_digest.specs.declared.digest.Digest.{Digest}
-use Rattle.forest_place.specs.declared.place.Place.{Place}
 use Rattle.forest_model.specs.Content.{IsDigest}
 use Rattle.forest_model.specs.Standing.{root}
 use Rattle.forest_model.specs.Evaluation.{nothing_known}
 use Rattle.forest_model.specs.Right.{entries, IsValueText}
-use Rattle.forest_roots.specs.Stump.{Stump, StandsFor, root_in}
+use Rattle.forest_roots.specs.Stump.{Stump, StandsFor}
 use Rattle.block_codec.specs.Merkle.{is_same}
 use Rattle.leaf_record.specs.Leaf.{Leaf, leaf_text}
 use Rattle.leaf_record.specs.History.{History}
-use Rattle.block_rules.specs.declared.refusal.ProofRefusal.{ProofRefusal}
 use Rattle.block_rules.specs.declared.chain.Chain.{Chain}
 use Rattle.block_rules.specs.declared.chain.Outside.{Outside}
-use Rattle.node_rules.specs.Messages.{targets}
 use Rattle.node_rules.specs.Accepting.{View, proof_fault}
 use Rattle.node_rules.specs.Right.{is_right}
 use Rattle.node_rules.proofs.Agreeing.{fault_alike}
 use Rattle.node_rules.proofs.Same.{is_same-same}
-use Rattle.compact_node.specs.Node.{NodeState}
 use Rattle.bridge_prover.specs.Bridge.{BridgeState}
 use Rattle.bridge_prover.specs.Full.{history_of}
 use Rattle.clash_find.specs.Clashes.{TextClash}
@@ -34,7 +30,7 @@ use Rattle.audit_replay.proofs.Shown.{shows, shows_none}
 use Rattle.ticket_check.specs.Tickets.{Ticket, TicketFits}
 use Rattle.ticket_check.specs.declared.verdict.TicketVerdict.{TicketVerdict}
 use Rattle.ticket_check.specs.declared.verdict.TicketVerdict.TheVariants as Verdict
-use Rattle.ticket_check.specs.Judging.{TicketAccepts, TicketRight, view_of, target_in, message_of, points, ticket_fault, unless_refused, ticket_verdict, is_ticket_right}
+use Rattle.ticket_check.specs.Judging.{TicketAccepts, TicketRight, view_of, target_in, message_of, points, ticket_fault, unless_refused, ticket_verdict}
 use Rattle.ticket_check.specs.declared.checked.Checked.{Checked}
 use Rattle.ticket_check.specs.declared.checked.Checked.TheVariants as Said
 use Rattle.ticket_check.specs.Laws.{CheckedIsAccepted, LiveIsRight, RecheckedIsRight}

@@ -20,8 +20,8 @@ use Rattle.clash_find.specs.Answers.{StandForHistory, IsAnswerIn, AcceptsAll}
 use Rattle.clash_find.specs.Found.{IsFirstPair, first_pair}
 use Rattle.ticket_check.specs.Tickets.{Ticket}
 use Rattle.ticket_check.specs.Alone.{target_at}
-use Rattle.ticket_check.specs.Judging.{TicketAccepts, TicketRight, target_in, message_of, ticket_fault}
-use Rattle.ticket_check.specs.Clashing.{IsTicketClash, IsTicketAnswer, ticket_clash_in}
+use Rattle.ticket_check.specs.Judging.{TicketAccepts, target_in, message_of}
+use Rattle.ticket_check.specs.Clashing.{IsTicketAnswer, ticket_clash_in}
 use Rattle.ticket_check.proofs.Tickets.{IsTarget, target_is, target_one, passes_one}
 
 module _ (H : List ℕ → Digest) (es : List (Option Digest)) (held : List Held) (tip : Digest) (k : Ticket) (a : TicketAccepts H (length es) (root H es) tip k) (n target : ℕ) (counted : n ≡ length es) (target_is_so : target ≡ k.target) where
@@ -90,5 +90,5 @@ module _ (H : List ℕ → Digest) (es : List (Option Digest)) (held : List Held
     pub exact_so : (x : Option TextClash) → ((us : History) → StandForHistory H seen seen_held us → IsFirstPair H seen seen_held t.targets rs hs x) → (us : History) → StandForHistory H es held us → x ≡ ticket_clash_in H es held k
     exact_so x w us s =
         let first = brought (λ ts l d. IsFirstPair H es held ts l d x)
-            (subst (λ h. IsFirstPair H es h t.targets rs hs x) held_is (subst (λ (e : List (Option Digest)). IsFirstPair H e seen_held t.targets rs hs x) seen_is (w us (stand us s)))) in
+        (subst (λ h. IsFirstPair H es h t.targets rs hs x) held_is (subst (λ (e : List (Option Digest)). IsFirstPair H e seen_held t.targets rs hs x) seen_is (w us (stand us s)))) in
         first.accepted accepted ∙ sym whole

@@ -1,6 +1,6 @@
 -- The tickets of kept entries.
-use Rattle.std.proofs.Common.{◌≡◌, ℕ, suc, ◌+◌, ◌-◌, ◌^◌, ◌<◌, ◌≤◌, Bool, true, false, List, [], ◌∷◌, ◌++◌, map, length, get_or, drop, Option, Some, None, refl, sym, ap, ◌∙◌, subst, ap₂, ⊎_elim, arith}
-use Rattle.std.specs.Prelude.{option_map, slice_get}
+use Rattle.std.proofs.Common.{◌≡◌, ℕ, ◌-◌, ◌^◌, ◌<◌, true, List, [], ◌∷◌, map, length, get_or, Option, Some, None, refl, sym, ap, ◌∙◌, subst, ⊎_elim, arith}
+use Rattle.std.specs.Prelude.{option_map}
 use Rattle.std.specs.Borrow.{Bor}
 use Rattle.std.specs.List.{filter_map, cons_option}
 use Rattle.std.proofs.lemmas.Bool.{cases_Bool, or_left, or_right, eqb-true}
@@ -18,27 +18,24 @@ use Rattle.forest_place.proofs.Positions.{places_low}
 use Rattle.forest_model.specs.Content.{leaf}
 use Rattle.forest_model.specs.Standing.{tree_at, digest_at}
 use Rattle.forest_model.specs.Cover.{need}
-use Rattle.forest_model.specs.Evaluation.{asked, nothing_known}
 use Rattle.forest_model.specs.EntryPlace.{entry_place}
-use Rattle.forest_model.specs.Right.{entries, IsRight, IsLiveAt}
+use Rattle.forest_model.specs.Right.{entries, IsLiveAt}
 use Rattle.forest_model.proofs.Climbs.{tree_at-forest}
 use Rattle.forest_model.proofs.Living.{entry_found}
 use Rattle.leaf_record.specs.Leaf.{Leaf, leaf_text}
 use Rattle.leaf_record.specs.History.{History}
 use Rattle.cache_model.specs.declared.kept.Kept.{Kept}
-use Rattle.cache_model.specs.Climbed.{beside_way, proof_in, IsProofOf}
+use Rattle.cache_model.specs.Climbed.{beside_way}
 use Rattle.cache_model.specs.Known.{kept as kept_numbers}
-use Rattle.cache_model.specs.Lists.{IsCacheOf, kept_leaf, kept_leaf_of, leaf_key, leaf_places}
-use Rattle.cache_model.specs.Undo.{find, is_same_number}
+use Rattle.cache_model.specs.Lists.{IsCacheOf, kept_leaf, kept_leaf_of, leaf_places}
+use Rattle.cache_model.specs.Undo.{is_same_number}
 use Rattle.cache_model.proofs.Proving.{proof_climbed}
-use Rattle.node_rules.specs.Machine.{State, chain_of}
 use Rattle.block_rules.specs.declared.chain.Chain.{Chain}
 use Rattle.node_rules.proofs.Righting.{got, got_entry}
 use Rattle.node_rules.proofs.Serving.{asked_all}
-use Rattle.compact_node.specs.Node.{LevelState, NodeState, IsNode, Stands}
-use Rattle.ticket_check.specs.Tickets.{Ticket}
+use Rattle.compact_node.specs.Node.{LevelState, NodeState, IsNode}
 use Rattle.ticket_check.specs.Judging.{TicketRight}
-use Rattle.ticket_check.specs.Written.{kept_entry, ticket_with, ticket_of}
+use Rattle.ticket_check.specs.Written.{kept_entry, ticket_with}
 use Rattle.ticket_check.specs.Laws.{KeptTicketsAreRight}
 
 -- ---- what is found
@@ -120,7 +117,7 @@ module _ (H : List ℕ → Digest) (us : History) where
       let same : number ≡ from.0 = sym (found_number l.kept number e found) ∙ is.number in
       let hashes : List Digest = beside_way (40 - e.place.row) l.held e.place.row e.place.off in
       let proof = proof_climbed H leaf_text scripts us l.kept l.held number hashes few cache
-          (ap (λ (x : Option Kept). option_map (λ (p : Place). beside_way (40 - p.row) l.held p.row p.off) (option_map (λ (k : Kept). k.place) x)) found) in
+      (ap (λ (x : Option Kept). option_map (λ (p : Place). beside_way (40 - p.row) l.held p.row p.off) (option_map (λ (k : Kept). k.place) x)) found) in
       let at : proof.place ≡ e.place = same_Some proof.place e.place (sym proof.stands ∙ (ap (entry_place es) same ∙ is.place)) in
       let within : InForest (length us) e.place.row e.place.off = subst (λ n. InForest n e.place.row e.place.off) same_length (tree_at-forest es e.place.row e.place.off _ live.stands) in
       record {

@@ -27,7 +27,7 @@ use Rattle.proof_verify.specs.Verified.{IsProofFault, IsDeleted}
 use Rattle.block_rules.specs.declared.refusal.ProofRefusal.{ProofRefusal}
 use Rattle.block_rules.specs.declared.refusal.ProofRefusal.TheVariants.{Outside}
 use Rattle.node_rules.specs.Messages.{Message, named, targets}
-use Rattle.node_rules.specs.Accepting.{View, shape_fault, proof_fault}
+use Rattle.node_rules.specs.Accepting.{View, shape_fault}
 use Rattle.node_rules.specs.Refusing.{proof_refusal}
 use Rattle.node_rules.proofs.Faults.{accepted, passes}
 use Rattle.node_rules.proofs.Placing.{named_by}
@@ -37,7 +37,6 @@ use Rattle.node_rules.proofs.Serving.{asked_all}
 use Rattle.node_rules.proofs.Shapes.{shape_passes}
 use Rattle.node_rules.proofs.Telling.{count_told, empty_told, other_told}
 use Rattle.ticket_check.specs.Tickets.{Ticket}
-use Rattle.ticket_check.specs.declared.verdict.TicketVerdict.{TicketVerdict}
 use Rattle.ticket_check.specs.declared.verdict.TicketVerdict.TheVariants as Said
 use Rattle.ticket_check.specs.Alone.{alone, target_at}
 use Rattle.ticket_check.specs.Judging.{TicketAccepts, TicketRight, target_in, message_of, points, view_of, ticket_fault, unless_refused, ticket_verdict, is_ticket_right}

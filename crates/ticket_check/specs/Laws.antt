@@ -4,7 +4,6 @@ use Rattle.uo_digest.specs.declared.digest.Digest.{Digest}
 use Rattle.forest_model.specs.Content.{IsDigest}
 use Rattle.forest_model.specs.Standing.{root}
 use Rattle.forest_model.specs.Right.{entries}
-use Rattle.forest_roots.specs.Stump.{root_in}
 use Rattle.leaf_record.specs.Leaf.{leaf_text}
 use Rattle.leaf_record.specs.History.{History}
 use Rattle.node_rules.specs.Accepting.{View}
