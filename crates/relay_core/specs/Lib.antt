@@ -1,0 +1,7 @@
+-- what public clauses cite
+pub mod Acts
+pub mod World
+pub mod Branches
+pub mod Levels
+-- what only private functions cite
+pub mod Rising
