@@ -83,11 +83,13 @@ world_behind H w acts = world_after H leaf_text w (somes acts)
 
 -- ---- the last lines
 
--- the newest serial of each follower, and the chain of its node
-abbrev pub node_lines : (follower : ℕ) → List FollowerState → List ℕ
-node_lines follower [] = []
-node_lines follower (x ∷ xs) =
-    whole_line (Line.Node follower (newest_of x.serials) (tip_of x.node.newest.chain) x.node.newest.chain.leaves) ++ node_lines (follower + 1) xs
+-- the newest serial of a follower, and the chain of its node
+abbrev pub node_line : (follower : ℕ) → FollowerState → Line
+node_line follower x = let chain = x.node.newest.chain in Line.Node follower (newest_of x.serials) (tip_of chain) chain.leaves
+
+abbrev pub node_lines : (first : ℕ) → List FollowerState → List ℕ
+node_lines first [] = []
+node_lines first (x ∷ xs) = whole_line (node_line first x) ++ node_lines (first + 1) xs
 
 -- behind them how many lines the script has, and the chain of the bridge
 abbrev pub relay_end : (refused : Bool) → (lines : ℕ) → WorldState → Answer
@@ -163,7 +165,7 @@ next_relay H r event = relayed H r (turn_of event r.script) (behind_bridge r.scr
 unfoldable pub turn_lines : (List ℕ → Digest) → RelayState → FeedEvent → List ℕ
 turn_lines H r event = outcome_lines (outcomes_of H r.world (turn_of event r.script))
 
--- What comes last, by how the feed ended: the acts that are left, and where it was read to its end the last lines.
+-- what comes last, by how the feed ended: the lines of the acts that are left, and where it was read to its end the last lines
 unfoldable pub relay_last : (List ℕ → Digest) → RelayState → Option FeedFault → Answer
 relay_last H r ending =
     let acts = acts_of (is_none ending) r.script [] in
@@ -186,7 +188,7 @@ unfoldable pub relayed_feed : (List ℕ → Digest) → RelayState → Net → (
 relayed_feed H r net limit feed =
     let events = events_of net limit feed in
     let last = relay_last H (left_by (relay_machine H) r events.events) events.ending in
-    record { status = last.status; report = said_by (relay_machine H) r events.events ++ last.report; out = last.out }
+    record { status = last.status; report = said_by (relay_machine H) r events.events ++ last.report; out = [] }
 
 -- ---- within the program
 

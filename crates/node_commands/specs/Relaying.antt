@@ -24,6 +24,11 @@ unfoldable pub prior_text : (named : Bool) → (limit : ℕ) → List ℕ → Re
 prior_text false limit text = Ok []
 prior_text true limit text = if nat_lt limit (length text) then Err (record { status = Status.InputLimit; line = Line.LimitPrior limit }) else Ok text
 
+-- what was read, by its bytes
+abbrev pub read_as : {T : Type 0} → (T → List ℕ) → Result T BadInput → Result (List ℕ) BadInput
+read_as bytes (Ok text) = Ok (bytes text)
+read_as bytes (Err bad) = Err bad
+
 -- this was read of the source that is told
 pub record IsPriorOf (named : Bool) (limit : ℕ) (left : Option (List ℕ)) (read : Result (List ℕ) BadInput) : Type 0 where
   pub text : List ℕ

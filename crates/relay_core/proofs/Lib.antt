@@ -7,3 +7,4 @@ pub mod Lines
 pub mod Judged
 pub mod Stepping
 pub mod Stepped
+pub mod Changing

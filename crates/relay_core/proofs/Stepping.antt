@@ -1,15 +1,18 @@
 -- What a step leaves, from what it answers.
 use Rattle.std.proofs.Common.{◌≡◌, ℕ, suc, ◌+◌, ◌≤◌, ◌<◌, Bool, true, false, List, [], ◌∷◌, ◌++◌, length, Option, Some, None, Result, Ok, Err, cond, refl, sym, ap, ◌∙◌, subst, arith}
-use Rattle.std.specs.Prelude.{OnOk, OnErr, slice_get}
+use Rattle.std.specs.Prelude.{IfOk, OnOk, OnErr, slice_get}
 use Rattle.std.proofs.lemmas.List.{length-append}
 use Rattle.uo_base.specs.FeedEvent.{FeedEvent, BlockCame, RollbackCame, StrayCame}
 use Rattle.uo_digest.specs.declared.digest.Digest.{Digest}
 use Rattle.leaf_record.specs.Leaf.{Leaf}
 use Rattle.node_rules.specs.Machine.{event_in}
 use Rattle.bridge_prover.specs.Bridge.{verdict_on, message_on}
+use Rattle.relay_core.specs.declared.act.Outcome.{Outcome}
+use Rattle.relay_core.specs.Changes.{ChangesAsTold}
 use Rattle.relay_core.specs.Acts.{WorldAct, BridgeTook, FollowerAsked, AskServed, ReplyDelivered}
-use Rattle.relay_core.specs.World.{Sent, FollowerState, WorldState, is_accepted, sent_of, with_ask, with_reply, next_world}
+use Rattle.relay_core.specs.World.{Sent, FollowerState, WorldState, is_accepted, sent_of, with_ask, with_reply, next_world, outcome_on}
 use Rattle.relay_core.specs.Branches.{Begun, AreActBytes, StandsForActs, AreOnBranches, IsNeverRefused, Digests}
+use Rattle.relay_core.proofs.Changing.{outcomes_tell_changes}
 use Rattle.relay_core.proofs.Acting.{acts_are_followed, followers_are_on_branches, replies_are_never_refused}
 
 pub on_ok : {T E : Type 0} (r : Result T E) (A B : Type 0) → OnOk r A → (A → B) → OnOk r B
@@ -61,3 +64,8 @@ module _ (H : List ℕ → Digest) (text : Leaf → List ℕ) where
 
   pub never_against : Digests H → (w : WorldState) (begun : Begun) (acts : List WorldAct) → StandsForActs H text begun acts w → IsNeverRefused H text w
   never_against long w begun acts stands = replies_are_never_refused H text long begun acts w stands
+
+  pub told_on : {E : Type 0} (r : Result Outcome E) (w v : WorldState) (act : WorldAct) → IfOk r (λ o. o ≡ outcome_on w act) → OnOk r (v ≡ next_world H text w act) → IfOk r (λ o. ChangesAsTold o w v)
+  told_on (Ok o) w v act is next =
+      subst (λ p. ChangesAsTold p w v) (sym is) (subst (ChangesAsTold (outcome_on w act) w) (sym next) (outcomes_tell_changes H text w act))
+  told_on (Err e) w v act is next = tt

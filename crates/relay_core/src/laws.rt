@@ -1,5 +1,6 @@
 //! What holds of worlds. There is no code here.
 ghost use Rattle.relay_core.specs.Branches.{ActsAreFollowed, FollowersAreOnBranches, OneSerialOneChain, RepliesAreNeverRefused};
+ghost use Rattle.relay_core.specs.Changes.{OutcomesTellChanges};
 ghost use Rattle.relay_core.specs.Levels.{SerialsAreOfLevels};
 
 /// A world that `new` gives stands for no act, and behind each step for one act more.
@@ -25,4 +26,9 @@ pub fn replies_are_never_refused()
 /// A follower has a serial for each level of its node, which stands for what the proving node holds behind the branch of that serial.
 pub fn serials_are_of_levels()
     ensures { SerialsAreOfLevels }
+{}
+
+/// An outcome tells whether the bridge changes, and whether a follower does.
+pub fn outcomes_tell_changes()
+    ensures { OutcomesTellChanges }
 {}

@@ -54,6 +54,7 @@ impl<D: Digester> Model for World<D> {
 
 impl<D: Digester> World<D> {
     ghost use Rattle.relay_core.specs.World.{fresh_world, with_event, next_world, outcome_on};
+    ghost use Rattle.relay_core.specs.Changes.{ChangesAsTold};
     ghost use Rattle.relay_core.specs.Branches.{AreOnBranches, Begun, IsNeverRefused, StandsForActs};
 
     /// A world with no block, and one follower for each watch list.
@@ -124,6 +125,9 @@ impl<D: Digester> World<D> {
         ensures outcome { IfOk result (λ o. o ≡ outcome_on self.old (act_of act.entry)) }
         ensures next { OnOk result (self.new ≡ next_world D.digest_of leaf_text self.old (act_of act.entry)) }
         ensures stays { OnErr result (self.new ≡ self.old) }
+
+        // Each outcome but the verdict on a block that is accepted or a rollback that is made leaves the bridge as it was, and each but `Moved` the nodes.
+        ensures told { IfOk result (λ o. ChangesAsTold o self.old self.new) }
 
         // At most one serial is given.
         ensures counted { length self.new.sent ≤ length self.old.sent + 1 }

@@ -3,8 +3,11 @@ use Rattle.leaf_record.specs.Leaf.{leaf_text}
 use Rattle.relay_core.specs.Acts.{WorldAct, act_of}
 use Rattle.relay_core.specs.World.{WorldState, next_world}
 use Rattle.relay_core.specs.Branches.{Begun, AreOnBranches, StandsForActs}
-use Rattle.relay_core.proofs.Stepping.{on_ok, stands_on, branches_on, never_against}
+use Rattle.relay_core.proofs.Stepping.{on_ok, stands_on, branches_on, never_against, told_on}
 use Rattle.relay_core.proofs.world.World.step.Goals as goal
+
+pub returns-clause-told : goal.returns-clause-told
+returns-clause-told g c = told_on g.D.Digester.digest_of leaf_text c.handle.result c.args.self.now c.handle.new.self (act_of c.args.act) c.handle.ensures.outcome c.handle.ensures.next
 
 pub returns-clause-stands : goal.returns-clause-stands
 returns-clause-stands g c =
