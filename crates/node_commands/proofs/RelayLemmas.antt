@@ -16,8 +16,8 @@ use Rattle.feed_run.specs.declared.status.Status.{Status}
 use Rattle.relay_core.specs.declared.act.Outcome.{Outcome}
 use Rattle.relay_core.specs.Acts.{WorldAct, BridgeTook, FollowerAsked, AskServed, ReplyDelivered, IsShortAct}
 use Rattle.relay_core.specs.World.{FollowerState, WorldState, fresh_world, next_world, outcome_on}
-use Rattle.relay_script.specs.declared.script.ScriptLine.{ScriptLine}
-use Rattle.relay_script.specs.declared.script.ScriptLine.TheVariants as Script
+use Rattle.relay_script.specs.declared.line.ScriptLine.{ScriptLine}
+use Rattle.relay_script.specs.declared.line.ScriptLine.TheVariants as Script
 use Rattle.report_lines.specs.declared.line.Line.{Line}
 use Rattle.report_lines.specs.Lines.{whole_line}
 use Rattle.node_commands.specs.Answers.{bad_end, last_of, answer_with}

@@ -20,8 +20,8 @@ use Rattle.relay_core.specs.declared.act.Outcome.{Outcome}
 use Rattle.relay_core.specs.declared.act.Outcome.TheVariants.{Judged, Asked, Replied, Moved, Stale, Unknown}
 use Rattle.relay_core.specs.Acts.{WorldAct, BridgeTook, FollowerAsked, AskServed, ReplyDelivered}
 use Rattle.relay_core.specs.World.{FollowerState, WorldState, fresh_world, newest_of, next_world, outcome_on, world_after}
-use Rattle.relay_script.specs.declared.script.ScriptLine.{ScriptLine}
-use Rattle.relay_script.specs.declared.script.ScriptLine.TheVariants as Script
+use Rattle.relay_script.specs.declared.line.ScriptLine.{ScriptLine}
+use Rattle.relay_script.specs.declared.line.ScriptLine.TheVariants as Script
 use Rattle.report_lines.specs.declared.line.Line.{Line}
 use Rattle.report_lines.specs.declared.line.ReplyKind.{ReplyKind}
 use Rattle.report_lines.specs.declared.line.ReplyKind.TheVariants as Said

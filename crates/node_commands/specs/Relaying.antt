@@ -9,8 +9,8 @@ use Rattle.bridge_prover.specs.Watched.{scripts_of}
 use Rattle.feed_run.specs.Machine.{said_by}
 use Rattle.feed_run.specs.declared.status.Status.TheVariants as Status
 use Rattle.relay_script.specs.declared.script.ScriptFault.{ScriptFault}
-use Rattle.relay_script.specs.declared.script.ScriptLine.{ScriptLine}
-use Rattle.relay_script.specs.Script.{script_in}
+use Rattle.relay_script.specs.declared.line.ScriptLine.{ScriptLine}
+use Rattle.relay_script.specs.Reading.{script_in}
 use Rattle.report_lines.specs.declared.line.Line.TheVariants as Line
 use Rattle.node_commands.specs.declared.bad_input.BadInput.{BadInput}
 use Rattle.node_commands.specs.Meaning.{Meaning, IsEnd}
