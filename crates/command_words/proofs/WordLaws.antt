@@ -1,16 +1,14 @@
 -- What is read out of words is what they mean.
-use Rattle.std.proofs.Common.{◌≡◌, ℕ, suc, ◌+◌, ◌-◌, ◌<◌, ◌≤◌, ◌^◌, Bool, true, false, List, [], ◌∷◌, ◌++◌, length, take, take_all, replicate, Option, Some, None, Result, Ok, Err, codes, decimal, bytes_eq, refl, sym, ap, subst, ◌∙◌, arith, if◌then◌else◌, length-append, append-nil, append_assoc}
-use Rattle.std.proofs.lemmas.Bool.{true≢false}
+use Rattle.std.proofs.Common.{◌≡◌, ℕ, suc, ◌+◌, ◌-◌, ◌<◌, ◌≤◌, ◌^◌, Bool, true, false, List, [], ◌∷◌, ◌++◌, length, take, take_all, replicate, Option, Some, None, option_map, Result, Ok, Err, codes, decimal, bytes_eq, refl, sym, ap, subst, ◌∙◌, arith, if◌then◌else◌, length-append, append-nil, append_assoc}
 use Rattle.std.proofs.lemmas.Grind.{flat_map-append}
 use Rattle.std.specs.Cmp.Lexicographic.{same_text}
-use Rattle.command_words.specs.declared.options.OptionName.{OptionName}
 use Rattle.command_words.specs.declared.words.WordFault.{WordFault}
 use Rattle.command_words.specs.Hashes.{is_hash_word}
-use Rattle.command_words.specs.Numbers.{number_in}
-use Rattle.command_words.specs.Options.{Given, are_given, words_of, word_of, Settings, settings_of, nothing, needs, settings_from}
-use Rattle.command_words.specs.Words.{Asked, Task, Following, Proving, Auditing, Generating, UpgradingFeed, UpgradingState, Ordering, front_of, IsInRange, options_of, is_enough, asked_by, Asks, Begins, Means, read_for, options_for, blocks_for, gen_for, upgrade_for, order_for, command_of}
-use Rattle.command_words.proofs.NumberLaws.{number_is, number_again}
-use Rattle.command_words.proofs.OptionLaws.{Sound, sound, reads_all, state_named}
+use Rattle.command_words.specs.Numbers.{number_in, positive_in}
+use Rattle.command_words.specs.Options.{Given, are_given, words_of, word_of, Settings, settings_of, needs}
+use Rattle.command_words.specs.Words.{Asked, Task, Following, Proving, Auditing, Generating, UpgradingFeed, UpgradingState, Ordering, Ticketing, Checking, Rechecking, Relaying, front_of, IsInRange, rule_of, options_of, is_enough, asked_by, Asks, Begins, Means, read_for, options_for, blocks_for, gen_for, upgrade_for, one_word_for, order_at, ticket_at, relay_at, command_of}
+use Rattle.command_words.proofs.NumberLaws.{number_is, number_again, positive_is, positive_again}
+use Rattle.command_words.proofs.OptionLaws.{Sound, sound, reads_all, from_named}
 
 -- ---- fronts of lists
 
@@ -32,9 +30,12 @@ take-whole front xs =
 
 -- ---- accepted lists are read
 
+abbrev one_read : Option Task → List (List ℕ) → Result Asked WordFault
+one_read task words = needs task 1 (λ task. options_for task 2 words)
+
 -- behind the front of a command its options are read
 front_read : (task : Task) → IsInRange task → (words : List (List ℕ)) → command_of (front_of task ++ words) ≡ options_for task (length (front_of task)) words
-unfolding command_of gen_for blocks_for upgrade_for order_for
+unfolding command_of gen_for blocks_for upgrade_for one_word_for
 front_read Following r words = refl
 front_read Proving r words = refl
 front_read Auditing r words = refl
@@ -43,7 +44,11 @@ front_read (Generating number blocks) r words =
     ∙ ap (λ x. needs x 2 (λ blocks. options_for (Generating number blocks) 3 words)) (number_again 100000 blocks r.1 (omega (arith, r.1)))
 front_read UpgradingFeed r words = refl
 front_read UpgradingState r words = refl
-front_read (Ordering tip) r words = ap (λ b. if b then options_for (Ordering tip) 2 words else Err (record { at = 1 })) r
+front_read (Ordering tip) r words = ap (λ b. one_read (if b then Some (Ordering tip) else None) words) r
+front_read (Ticketing number) r words = ap (λ x. one_read (option_map Ticketing x) words) (number_again (2 ^ 64 - 1) number (omega (arith, r)) r)
+front_read Checking r words = refl
+front_read Rechecking r words = refl
+front_read (Relaying followers) r words = ap (λ x. one_read (option_map Relaying x) words) (positive_again 100 followers r.0 r.1 (omega (arith, r.1)))
 
 chosen : {A : Type 0} (b : Bool) (x y : A) → b ≡ true → (if b then x else y) ≡ x
 chosen b x y e = ap (λ c. if c then x else y) e
@@ -57,7 +62,7 @@ accepts words asked a =
     let end = at + length (words_of a.given) in
     ap command_of a.spelled
     ∙ front_read a.task a.in_range (words_of a.given)
-    ∙ ap (read_for a.task end) (reads_all (options_of a.task) a.given [] at a.fit)
+    ∙ ap (read_for a.task end) (reads_all (rule_of a.task) (options_of a.task) a.given [] at a.fit)
     ∙ chosen _ (Ok (asked_by a.task (settings_of a.given))) (Err (record { at = end })) a.enough
     ∙ ap Ok (sym a.is)
 
@@ -92,36 +97,6 @@ means_by words (Err fault) e stops = (
   },
 )
 
--- ---- the fronts of accepted lists
-
-asks_none : (task : Task) → IsInRange task → is_enough task nothing ≡ true → Asks (front_of task ++ []) (asked_by task nothing)
-asks_none task r enough = record { task = task; in_range = r; given = []; fit = refl; enough = enough; spelled = refl; is = refl }
-
-any_gen : IsInRange (Generating 0 0)
-any_gen = (omega arith, omega arith)
-
-any_tip : List ℕ
-any_tip = replicate 64 48
-
-any_tip_fits : is_hash_word any_tip ≡ true
-unfolding any_tip
-any_tip_fits = refl
-
-begins_none : Begins []
-begins_none = record { rest = front_of Following; asked = asked_by Following nothing; asks = asks_none Following tt refl }
-
-begins_gen : Begins (codes "gen" ∷ [])
-begins_gen = record { rest = decimal 0 ∷ decimal 0 ∷ []; asked = asked_by (Generating 0 0) nothing; asks = asks_none (Generating 0 0) any_gen refl }
-
-begins_number : (number : ℕ) → number < 2 ^ 64 → Begins (codes "gen" ∷ decimal number ∷ [])
-begins_number number small = record { rest = decimal 0 ∷ []; asked = asked_by (Generating number 0) nothing; asks = asks_none (Generating number 0) (small, omega arith) refl }
-
-begins_upgrade : Begins (codes "upgrade" ∷ [])
-begins_upgrade = record { rest = codes "feed" ∷ []; asked = asked_by UpgradingFeed nothing; asks = asks_none UpgradingFeed tt refl }
-
-begins_order : Begins (codes "order" ∷ [])
-begins_order = record { rest = any_tip ∷ []; asked = asked_by (Ordering any_tip) nothing; asks = asks_none (Ordering any_tip) any_tip_fits refl }
-
 -- ---- words that go wrong in front of the options
 
 -- all words are the front of an accepted list, which has more
@@ -153,20 +128,24 @@ bad_word front word rest b bad = record {
 -- with more options all is there that the command needs
 record IsCompleted (task : Task) (given : List Given) : Type 0 where
   extra : List Given
-  fit : are_given (options_of task) (given ++ extra) ≡ true
+  fit : are_given (rule_of task) (options_of task) (given ++ extra) ≡ true
   enough : is_enough task (settings_of (given ++ extra)) ≡ true
 
-as_it_is : (task : Task) (given : List Given) → are_given (options_of task) given ≡ true → ((s : Settings) → is_enough task s ≡ true) → IsCompleted task given
-as_it_is task given e all = record { extra = []; fit = subst (λ l. are_given (options_of task) l ≡ true) (sym (append-nil given)) e; enough = all (settings_of (given ++ [])) }
+as_it_is : (task : Task) (given : List Given) → are_given (rule_of task) (options_of task) given ≡ true → ((s : Settings) → is_enough task s ≡ true) → IsCompleted task given
+as_it_is task given e all = record { extra = []; fit = subst (λ l. are_given (rule_of task) (options_of task) l ≡ true) (sym (append-nil given)) e; enough = all (settings_of (given ++ [])) }
 
-completed : (task : Task) (given : List Given) → are_given (options_of task) given ≡ true → IsCompleted task given
+completed : (task : Task) (given : List Given) → are_given (rule_of task) (options_of task) given ≡ true → IsCompleted task given
 completed Following given e = as_it_is Following given e (λ s. refl)
 completed Proving given e = as_it_is Proving given e (λ s. refl)
 completed Auditing given e = as_it_is Auditing given e (λ s. refl)
 completed (Generating number blocks) given e = as_it_is (Generating number blocks) given e (λ s. refl)
 completed UpgradingFeed given e = as_it_is UpgradingFeed given e (λ s. refl)
-completed UpgradingState given e = let w = state_named given e in record { extra = w.extra; fit = w.fit; enough = w.named }
+completed UpgradingState given e = let w = from_named (options_of UpgradingState) refl given e in record { extra = w.extra; fit = w.fit; enough = w.named }
 completed (Ordering tip) given e = as_it_is (Ordering tip) given e (λ s. refl)
+completed (Ticketing number) given e = let w = from_named (options_of (Ticketing number)) refl given e in record { extra = w.extra; fit = w.fit; enough = w.named }
+completed Checking given e = let w = from_named (options_of Checking) refl given e in record { extra = w.extra; fit = w.fit; enough = w.named }
+completed Rechecking given e = let w = from_named (options_of Rechecking) refl given e in record { extra = w.extra; fit = w.fit; enough = w.named }
+completed (Relaying followers) given e = as_it_is (Relaying followers) given e (λ s. refl)
 
 words_more : (given extra : List Given) → words_of (given ++ extra) ≡ words_of given ++ words_of extra
 words_more given extra = flat_map-append (λ (g : Given). word_of g.name ∷ g.value ∷ []) given extra
@@ -176,7 +155,7 @@ module _ (task : Task) (in_range : IsInRange task) where
   at = length (front_of task)
 
   -- a front of the words, behind which options follow
-  begins_by : (front more : List (List ℕ)) (given : List Given) → are_given (options_of task) given ≡ true → front ++ more ≡ words_of given → Begins (front_of task ++ front)
+  begins_by : (front more : List (List ℕ)) (given : List Given) → are_given (rule_of task) (options_of task) given ≡ true → front ++ more ≡ words_of given → Begins (front_of task ++ front)
   begins_by front more given fit spelled =
       let c = completed task given fit in
       let whole : (front_of task ++ front) ++ (more ++ words_of c.extra) ≡ front_of task ++ words_of (given ++ c.extra) =
@@ -188,7 +167,7 @@ module _ (task : Task) (in_range : IsInRange task) where
         asks = record { task = task; in_range = in_range; given = given ++ c.extra; fit = c.fit; enough = c.enough; spelled = whole; is = refl };
       }
 
-  reads_by : (words : List (List ℕ)) (r : Result Settings WordFault) → Sound (options_of task) [] at words r → Reads (front_of task ++ words) (read_for task (at + length words) r)
+  reads_by : (words : List (List ℕ)) (r : Result Settings WordFault) → Sound (rule_of task) (options_of task) [] at words r → Reads (front_of task ++ words) (read_for task (at + length words) r)
   unfolding Reads
   reads_by words (Ok s) w = by (is_enough task s) refl
     where
@@ -227,7 +206,45 @@ module _ (task : Task) (in_range : IsInRange task) where
 
   -- words behind such a front
   reads_options : (words : List (List ℕ)) → Reads (front_of task ++ words) (options_for task at words)
-  reads_options words = reads_by words _ (sound (options_of task) words [] at refl)
+  reads_options words = reads_by words _ (sound (rule_of task) (options_of task) words [] at refl)
+
+-- ---- the fronts of accepted lists
+
+-- the front of a command
+begins_with : (task : Task) → IsInRange task → Begins (front_of task)
+begins_with task r = subst Begins (append-nil (front_of task)) (begins_by task r [] [] [] refl refl)
+
+-- and what stands in front of its last words
+begins_shorter : (front more : List (List ℕ)) → Begins (front ++ more) → Begins front
+begins_shorter front more b = record { rest = more ++ b.rest; asked = b.asked; asks = subst (λ l. Asks l b.asked) (append_assoc front more b.rest) b.asks }
+
+any_tip : List ℕ
+any_tip = replicate 64 48
+
+any_tip_fits : is_hash_word any_tip ≡ true
+unfolding any_tip
+any_tip_fits = refl
+
+begins_none : Begins []
+begins_none = begins_shorter [] (front_of Following) (begins_with Following tt)
+
+begins_gen : Begins (codes "gen" ∷ [])
+begins_gen = begins_shorter (codes "gen" ∷ []) (decimal 0 ∷ decimal 0 ∷ []) (begins_with (Generating 0 0) (omega arith, omega arith))
+
+begins_number : (number : ℕ) → number < 2 ^ 64 → Begins (codes "gen" ∷ decimal number ∷ [])
+begins_number number small = begins_shorter (codes "gen" ∷ decimal number ∷ []) (decimal 0 ∷ []) (begins_with (Generating number 0) (small, omega arith))
+
+begins_upgrade : Begins (codes "upgrade" ∷ [])
+begins_upgrade = begins_shorter (codes "upgrade" ∷ []) (codes "feed" ∷ []) (begins_with UpgradingFeed tt)
+
+begins_order : Begins (codes "order" ∷ [])
+begins_order = begins_shorter (codes "order" ∷ []) (any_tip ∷ []) (begins_with (Ordering any_tip) any_tip_fits)
+
+begins_ticket : Begins (codes "ticket" ∷ [])
+begins_ticket = begins_shorter (codes "ticket" ∷ []) (decimal 0 ∷ []) (begins_with (Ticketing 0) (omega arith))
+
+begins_relay : Begins (codes "relay" ∷ [])
+begins_relay = begins_shorter (codes "relay" ∷ []) (decimal 1 ∷ []) (begins_with (Relaying 1) (omega arith, omega arith))
 
 -- ---- the words of a command's own
 
@@ -279,12 +296,59 @@ reads_upgrade (word ∷ rest) =
     (λ no_feed. by_test _ (bytes_eq word (codes "state")) _ _ (λ state. renamed (codes "upgrade" ∷ []) word (codes "state") rest _ state (reads_options UpgradingState tt rest))
     (λ no_state. bad_word (codes "upgrade" ∷ []) word rest begins_upgrade (λ more. passed _ _ _ no_feed ∙ passed _ _ _ no_state)))
 
-reads_order : (words : List (List ℕ)) → Reads (codes "order" ∷ words) (order_for words)
-unfolding command_of order_for Reads
-reads_order [] = missing (codes "order" ∷ []) begins_order
-reads_order (word ∷ rest) =
-    by_test _ (is_hash_word word) _ _ (λ hash. reads_options (Ordering word) hash rest)
-    (λ none. bad_word (codes "order" ∷ []) word rest begins_order (λ more. passed _ _ _ none))
+one_task : (a b : Task) → Some a ≡ Some b → a ≡ b
+one_task a b e = cc
+
+-- a command that has one word of its own
+module _ (name : List ℕ) (task_at : List ℕ → Option Task) (read : (words : List (List ℕ)) → command_of (name ∷ words) ≡ one_word_for task_at words)
+    (is : (word : List ℕ) (task : Task) → task_at word ≡ Some task → (front_of task ≡ name ∷ word ∷ []) × IsInRange task) (begins : Begins (name ∷ [])) where
+  reads_one : (words : List (List ℕ)) → Reads (name ∷ words) (one_word_for task_at words)
+  unfolding one_word_for Reads
+  reads_one [] = missing (name ∷ []) begins
+  reads_one (word ∷ rest) = by (task_at word) refl
+    where
+      by : (x : Option Task) → task_at word ≡ x → Reads (name ∷ word ∷ rest) (one_read x rest)
+      by None e = bad_word (name ∷ []) word rest begins (λ more. read (word ∷ more) ∙ ap (λ x. one_read x more) e)
+      by (Some task) e =
+          let w = is word task e in
+          subst (λ f. Reads (f ++ rest) (options_for task (length f) rest)) w.0 (reads_options task w.1 rest)
+
+order_is : (word : List ℕ) (task : Task) → order_at word ≡ Some task → (front_of task ≡ codes "order" ∷ word ∷ []) × IsInRange task
+order_is word task e = by (is_hash_word word) refl e
+  where
+    by : (b : Bool) → is_hash_word word ≡ b → (if b then Some (Ordering word) else None) ≡ Some task → (front_of task ≡ codes "order" ∷ word ∷ []) × IsInRange task
+    by true hash e = subst (λ t. (front_of t ≡ codes "order" ∷ word ∷ []) × IsInRange t) (one_task _ _ e) (refl, hash)
+    by false hash e = absurd cc
+
+ticket_is : (word : List ℕ) (task : Task) → ticket_at word ≡ Some task → (front_of task ≡ codes "ticket" ∷ word ∷ []) × IsInRange task
+ticket_is word task e = by (number_in (2 ^ 64 - 1) word) refl e
+  where
+    by : (x : Option ℕ) → number_in (2 ^ 64 - 1) word ≡ x → option_map Ticketing x ≡ Some task → (front_of task ≡ codes "ticket" ∷ word ∷ []) × IsInRange task
+    by None number e = absurd cc
+    by (Some n) number e =
+        let is = number_is (2 ^ 64 - 1) word n number in
+        subst (λ t. (front_of t ≡ codes "ticket" ∷ word ∷ []) × IsInRange t) (one_task _ _ e) (ap (λ w. codes "ticket" ∷ w ∷ []) (sym is.0), omega (arith, is.1))
+
+relay_is : (word : List ℕ) (task : Task) → relay_at word ≡ Some task → (front_of task ≡ codes "relay" ∷ word ∷ []) × IsInRange task
+relay_is word task e = by (positive_in 100 word) refl e
+  where
+    by : (x : Option ℕ) → positive_in 100 word ≡ x → option_map Relaying x ≡ Some task → (front_of task ≡ codes "relay" ∷ word ∷ []) × IsInRange task
+    by None number e = absurd cc
+    by (Some n) number e =
+        let is = positive_is 100 word n number in
+        subst (λ t. (front_of t ≡ codes "relay" ∷ word ∷ []) × IsInRange t) (one_task _ _ e) (ap (λ w. codes "relay" ∷ w ∷ []) (sym is.0), is.1)
+
+read_order : (words : List (List ℕ)) → command_of (codes "order" ∷ words) ≡ one_word_for order_at words
+unfolding command_of
+read_order words = refl
+
+read_ticket : (words : List (List ℕ)) → command_of (codes "ticket" ∷ words) ≡ one_word_for ticket_at words
+unfolding command_of
+read_ticket words = refl
+
+read_relay : (words : List (List ℕ)) → command_of (codes "relay" ∷ words) ≡ one_word_for relay_at words
+unfolding command_of
+read_relay words = refl
 
 -- ---- all words
 
@@ -297,9 +361,14 @@ reads (name ∷ rest) =
     (λ no_prove. by_test _ (bytes_eq name (codes "audit")) _ _ (λ e. renamed [] name (codes "audit") rest _ e (reads_options Auditing tt rest))
     (λ no_audit. by_test _ (bytes_eq name (codes "gen")) _ _ (λ e. renamed [] name (codes "gen") rest _ e (reads_gen rest))
     (λ no_gen. by_test _ (bytes_eq name (codes "upgrade")) _ _ (λ e. renamed [] name (codes "upgrade") rest _ e (reads_upgrade rest))
-    (λ no_upgrade. by_test _ (bytes_eq name (codes "order")) _ _ (λ e. renamed [] name (codes "order") rest _ e (reads_order rest))
-    (λ no_order. bad_word [] name rest begins_none (λ more.
-    passed _ _ _ no_follow ∙ passed _ _ _ no_prove ∙ passed _ _ _ no_audit ∙ passed _ _ _ no_gen ∙ passed _ _ _ no_upgrade ∙ passed _ _ _ no_order)))))))
+    (λ no_upgrade. by_test _ (bytes_eq name (codes "order")) _ _ (λ e. renamed [] name (codes "order") rest _ e (reads_one (codes "order") order_at read_order order_is begins_order rest))
+    (λ no_order. by_test _ (bytes_eq name (codes "ticket")) _ _ (λ e. renamed [] name (codes "ticket") rest _ e (reads_one (codes "ticket") ticket_at read_ticket ticket_is begins_ticket rest))
+    (λ no_ticket. by_test _ (bytes_eq name (codes "check")) _ _ (λ e. renamed [] name (codes "check") rest _ e (reads_options Checking tt rest))
+    (λ no_check. by_test _ (bytes_eq name (codes "recheck")) _ _ (λ e. renamed [] name (codes "recheck") rest _ e (reads_options Rechecking tt rest))
+    (λ no_recheck. by_test _ (bytes_eq name (codes "relay")) _ _ (λ e. renamed [] name (codes "relay") rest _ e (reads_one (codes "relay") relay_at read_relay relay_is begins_relay rest))
+    (λ no_relay. bad_word [] name rest begins_none (λ more.
+    passed _ _ _ no_follow ∙ passed _ _ _ no_prove ∙ passed _ _ _ no_audit ∙ passed _ _ _ no_gen ∙ passed _ _ _ no_upgrade ∙ passed _ _ _ no_order
+    ∙ passed _ _ _ no_ticket ∙ passed _ _ _ no_check ∙ passed _ _ _ no_recheck ∙ passed _ _ _ no_relay)))))))))))
 
 pub means : (words : List (List ℕ)) → Means words (command_of words)
 means words = means_by words _ refl (reads words)

@@ -1,15 +1,17 @@
 -- The words of the command line: which are accepted, what they ask for, and where others go wrong.
-use Rattle.std.specs.Prelude.{◌≡◌, ℕ, ◌+◌, ◌<◌, ◌≤◌, ◌-◌, ◌^◌, Bool, true, List, [], ◌∷◌, ◌++◌, length, take, Option, Some, None, Result, Ok, Err, codes, decimal, bytes_eq, is_some, option_copied, unwrap_or, if◌then◌else◌}
+use Rattle.std.specs.Prelude.{◌≡◌, ℕ, ◌+◌, ◌<◌, ◌≤◌, ◌-◌, ◌^◌, Bool, true, List, [], ◌∷◌, ◌++◌, length, take, Option, Some, None, Result, Ok, Err, codes, decimal, bytes_eq, is_some, option_map, option_copied, unwrap_or, if◌then◌else◌}
 use Rattle.std.specs.List.{list_any}
 use Rattle.uo_base.specs.declared.event.Net.{Net}
 use Rattle.uo_base.specs.declared.event.Net.TheVariants.{Main}
 use Rattle.command_words.specs.declared.options.OptionName.{OptionName}
 use Rattle.command_words.specs.declared.options.OptionName.TheVariants as Name
+use Rattle.command_words.specs.declared.options.FromRule.{FromRule}
+use Rattle.command_words.specs.declared.options.FromRule.TheVariants.{Alone, Beside}
 use Rattle.command_words.specs.declared.words.Command.{Command}
-use Rattle.command_words.specs.declared.words.Command.TheVariants.{Follow, Prove, Audit, Gen, UpgradeFeed, UpgradeState, Order}
+use Rattle.command_words.specs.declared.words.Command.TheVariants.{Follow, Prove, Audit, Gen, UpgradeFeed, UpgradeState, Order, Ticket, Check, Recheck, Relay}
 use Rattle.command_words.specs.declared.words.WordFault.{WordFault}
 use Rattle.command_words.specs.Hashes.{is_hash_word}
-use Rattle.command_words.specs.Numbers.{number_in}
+use Rattle.command_words.specs.Numbers.{number_in, positive_in}
 use Rattle.command_words.specs.Options.{is_option, Given, are_given, words_of, Settings, settings_of, nothing, refused_at, needs, settings_from}
 
 -- ---- the commands, one a line, each with the words of its own
@@ -23,6 +25,12 @@ pub data Task : Type 0 where
   UpgradingState : Task
   -- up to the block of this printed hash
   Ordering : (tip : List ℕ) → Task
+  -- of the output with this number
+  Ticketing : (number : ℕ) → Task
+  Checking : Task
+  Rechecking : Task
+  -- to so many followers
+  Relaying : (followers : ℕ) → Task
 
 -- the words in front of the options
 abbrev pub front_of : Task → List (List ℕ)
@@ -33,6 +41,10 @@ front_of (Generating number blocks) = codes "gen" ∷ decimal number ∷ decimal
 front_of UpgradingFeed = codes "upgrade" ∷ codes "feed" ∷ []
 front_of UpgradingState = codes "upgrade" ∷ codes "state" ∷ []
 front_of (Ordering tip) = codes "order" ∷ tip ∷ []
+front_of (Ticketing number) = codes "ticket" ∷ decimal number ∷ []
+front_of Checking = codes "check" ∷ []
+front_of Rechecking = codes "recheck" ∷ []
+front_of (Relaying followers) = codes "relay" ∷ decimal followers ∷ []
 
 -- the numbers and the hash that a command takes
 abbrev pub IsInRange : Task → Type 0
@@ -43,6 +55,10 @@ IsInRange (Generating number blocks) = (number < 2 ^ 64) × (blocks ≤ 100000)
 IsInRange UpgradingFeed = Unit {0}
 IsInRange UpgradingState = Unit {0}
 IsInRange (Ordering tip) = is_hash_word tip ≡ true
+IsInRange (Ticketing number) = number < 2 ^ 64
+IsInRange Checking = Unit {0}
+IsInRange Rechecking = Unit {0}
+IsInRange (Relaying followers) = (1 ≤ followers) × (followers ≤ 100)
 
 abbrev pub options_of : Task → List OptionName
 options_of Following = Name.Net ∷ Name.Feed ∷ Name.From ∷ Name.To ∷ Name.Watch ∷ []
@@ -52,6 +68,24 @@ options_of (Generating number blocks) = Name.Net ∷ Name.To ∷ []
 options_of UpgradingFeed = Name.Net ∷ Name.Feed ∷ Name.To ∷ Name.Watch ∷ []
 options_of UpgradingState = Name.From ∷ Name.To ∷ []
 options_of (Ordering tip) = Name.Net ∷ Name.Feed ∷ Name.To ∷ []
+options_of (Ticketing number) = Name.From ∷ Name.To ∷ []
+options_of Checking = Name.Feed ∷ Name.From ∷ []
+options_of Rechecking = Name.Net ∷ Name.Feed ∷ Name.From ∷ Name.Watch ∷ []
+options_of (Relaying followers) = Name.Net ∷ Name.Feed ∷ Name.From ∷ Name.Watch ∷ []
+
+-- a feed that is followed goes on from a state, which has a network and a watch list
+abbrev pub rule_of : Task → FromRule
+rule_of Following = Alone
+rule_of Proving = Beside
+rule_of Auditing = Beside
+rule_of (Generating number blocks) = Beside
+rule_of UpgradingFeed = Beside
+rule_of UpgradingState = Beside
+rule_of (Ordering tip) = Beside
+rule_of (Ticketing number) = Beside
+rule_of Checking = Beside
+rule_of Rechecking = Beside
+rule_of (Relaying followers) = Beside
 
 -- an option that a command can not do without is there
 abbrev pub is_enough : Task → Settings → Bool
@@ -62,6 +96,10 @@ is_enough (Generating number blocks) s = true
 is_enough UpgradingFeed s = true
 is_enough UpgradingState s = is_some s.from
 is_enough (Ordering tip) s = true
+is_enough (Ticketing number) s = is_some s.from
+is_enough Checking s = is_some s.from
+is_enough Rechecking s = is_some s.from
+is_enough (Relaying followers) s = true
 
 -- the network that is meant, which is mainnet where none is named
 abbrev pub net_for : Option Net → Net
@@ -76,6 +114,10 @@ given_by (Generating number blocks) s = record { net = Some (net_for s.net); fee
 given_by UpgradingFeed s = record { net = Some (net_for s.net); feed = s.feed; from = None; to = s.to; watch = s.watch }
 given_by UpgradingState s = record { net = None; feed = None; from = s.from; to = s.to; watch = None }
 given_by (Ordering tip) s = record { net = Some (net_for s.net); feed = s.feed; from = None; to = s.to; watch = None }
+given_by (Ticketing number) s = record { net = None; feed = None; from = s.from; to = s.to; watch = None }
+given_by Checking s = record { net = None; feed = s.feed; from = s.from; to = None; watch = None }
+given_by Rechecking s = record { net = Some (net_for s.net); feed = s.feed; from = s.from; to = None; watch = s.watch }
+given_by (Relaying followers) s = record { net = Some (net_for s.net); feed = s.feed; from = s.from; to = None; watch = s.watch }
 
 -- what words ask for: a command, and what its options say
 pub record Asked : Type 0 where
@@ -96,7 +138,7 @@ pub record Asks (words : List (List ℕ)) (asked : Asked) : Type 0 where
   pub task : Task
   pub in_range : IsInRange task
   pub given : List Given
-  pub fit : are_given (options_of task) given ≡ true
+  pub fit : are_given (rule_of task) (options_of task) given ≡ true
   pub enough : is_enough task (settings_of given) ≡ true
   pub spelled : words ≡ front_of task ++ words_of given
   pub is : asked ≡ asked_by task (settings_of given)
@@ -127,7 +169,7 @@ read_for task end (Err fault) = Err fault
 
 -- the options of a command, from index `at` on
 abbrev pub options_for : Task → (at : ℕ) → List (List ℕ) → Result Asked WordFault
-options_for task at words = read_for task (at + length words) (settings_from (options_of task) at nothing words)
+options_for task at words = read_for task (at + length words) (settings_from (rule_of task) (options_of task) at nothing words)
 
 -- the words behind `gen` and its number
 unfoldable pub blocks_for : (number : ℕ) → List (List ℕ) → Result Asked WordFault
@@ -147,10 +189,19 @@ upgrade_for (word ∷ rest) =
     else if bytes_eq word (codes "state") then options_for UpgradingState 2 rest
     else refused_at 1
 
--- the words behind `order`
-unfoldable pub order_for : List (List ℕ) → Result Asked WordFault
-order_for [] = refused_at 1
-order_for (word ∷ rest) = if is_hash_word word then options_for (Ordering word) 2 rest else refused_at 1
+-- the words behind a command that has one word of its own, by what it asks for with that word
+unfoldable pub one_word_for : (List ℕ → Option Task) → List (List ℕ) → Result Asked WordFault
+one_word_for task_at [] = refused_at 1
+one_word_for task_at (word ∷ rest) = needs (task_at word) 1 (λ task. options_for task 2 rest)
+
+abbrev pub order_at : List ℕ → Option Task
+order_at word = if is_hash_word word then Some (Ordering word) else None
+
+abbrev pub ticket_at : List ℕ → Option Task
+ticket_at word = option_map Ticketing (number_in (2 ^ 64 - 1) word)
+
+abbrev pub relay_at : List ℕ → Option Task
+relay_at word = option_map Relaying (positive_in 100 word)
 
 unfoldable pub command_of : List (List ℕ) → Result Asked WordFault
 command_of [] = refused_at 0
@@ -160,7 +211,11 @@ command_of (name ∷ rest) =
     else if bytes_eq name (codes "audit") then options_for Auditing 1 rest
     else if bytes_eq name (codes "gen") then gen_for rest
     else if bytes_eq name (codes "upgrade") then upgrade_for rest
-    else if bytes_eq name (codes "order") then order_for rest
+    else if bytes_eq name (codes "order") then one_word_for order_at rest
+    else if bytes_eq name (codes "ticket") then one_word_for ticket_at rest
+    else if bytes_eq name (codes "check") then options_for Checking 1 rest
+    else if bytes_eq name (codes "recheck") then options_for Rechecking 1 rest
+    else if bytes_eq name (codes "relay") then one_word_for relay_at rest
     else refused_at 0
 
 -- ---- as the program holds them
@@ -173,6 +228,10 @@ task_in (Gen net number blocks to) = Generating number blocks
 task_in (UpgradeFeed net feed to watch) = UpgradingFeed
 task_in (UpgradeState from to) = UpgradingState
 task_in (Order net tip feed to) = Ordering tip.now
+task_in (Ticket number from to) = Ticketing number
+task_in (Check from feed) = Checking
+task_in (Recheck net from feed watch) = Rechecking
+task_in (Relay net followers feed from watch) = Relaying followers
 
 abbrev pub given_in : Command → Settings
 given_in (Follow net feed from to watch) = record { net = net; feed = option_copied feed; from = option_copied from; to = option_copied to; watch = option_copied watch }
@@ -182,6 +241,10 @@ given_in (Gen net number blocks to) = record { net = Some net; feed = None; from
 given_in (UpgradeFeed net feed to watch) = record { net = Some net; feed = option_copied feed; from = None; to = option_copied to; watch = option_copied watch }
 given_in (UpgradeState from to) = record { net = None; feed = None; from = Some from.now; to = option_copied to; watch = None }
 given_in (Order net tip feed to) = record { net = Some net; feed = option_copied feed; from = None; to = option_copied to; watch = None }
+given_in (Ticket number from to) = record { net = None; feed = None; from = Some from.now; to = option_copied to; watch = None }
+given_in (Check from feed) = record { net = None; feed = option_copied feed; from = Some from.now; to = None; watch = None }
+given_in (Recheck net from feed watch) = record { net = Some net; feed = option_copied feed; from = Some from.now; to = None; watch = option_copied watch }
+given_in (Relay net followers feed from watch) = record { net = Some net; feed = option_copied feed; from = option_copied from; to = None; watch = option_copied watch }
 
 abbrev pub asked_in : Command → Asked
 asked_in command = record { task = task_in command; given = given_in command }

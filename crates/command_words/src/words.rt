@@ -2,11 +2,11 @@
 ghost use Rattle.std.specs.Prelude.{◌≡◌, ◌<◌, ◌^◌, map, length, All, IfOk};
 ghost use Rattle.std.specs.String.{string_bytes};
 ghost use Rattle.command_words.specs.Options.{settings_in};
-ghost use Rattle.command_words.specs.Words.{read_as, blocks_for, gen_for, upgrade_for, order_for, command_of, reads_feed, task_in, given_in, Means};
+ghost use Rattle.command_words.specs.Words.{read_as, blocks_for, gen_for, upgrade_for, one_word_for, order_at, ticket_at, relay_at, Checking, Rechecking, options_for, command_of, reads_feed, task_in, given_in, Means};
 
 use crate::hashes::is_hash_word;
-use crate::numbers::number_in;
-use crate::options::{OptionName, Options, read_options};
+use crate::numbers::{number_in, positive_in};
+use crate::options::{FromRule, OptionName, Options, read_options};
 use uo_base::Net;
 
 /// What the words ask for.
@@ -85,6 +85,46 @@ pub enum Command<'a> {
         /// The file that takes the blocks in order, where it is named.
         to: Option<&'a str>,
     },
+    /// Write the ticket of a watched output, which shows a third party that it is unspent.
+    Ticket {
+        /// The number of the output's entry.
+        number: u64,
+        /// The file of the state that has the output.
+        from: &'a str,
+        /// The file that takes the ticket, where it is named.
+        to: Option<&'a str>,
+    },
+    /// Check a ticket by a state.
+    Check {
+        /// The file of the state.
+        from: &'a str,
+        /// The file of the ticket, where it is named; else standard input.
+        feed: Option<&'a str>,
+    },
+    /// Check a ticket by all outputs.
+    Recheck {
+        /// The network, mainnet where none is named.
+        net: Net,
+        /// The file of the ticket.
+        from: &'a str,
+        /// The file of the feed that is audited, where it is named; else standard input.
+        feed: Option<&'a str>,
+        /// The file of the watch list by which lean proofs are read, where it is named.
+        watch: Option<&'a str>,
+    },
+    /// Run a bridge and its followers by a script.
+    Relay {
+        /// The network, mainnet where none is named.
+        net: Net,
+        /// How many followers there are, 1 to 100.
+        followers: u32,
+        /// The file of the bridge's feed, where it is named; else standard input.
+        feed: Option<&'a str>,
+        /// The file of the script, where it is named; else the script is empty.
+        from: Option<&'a str>,
+        /// The file of the first follower's watch list, where it is named; else nothing is watched.
+        watch: Option<&'a str>,
+    },
 }
 
 impl<'a> Command<'a> {
@@ -92,7 +132,10 @@ impl<'a> Command<'a> {
     pub fn reads_feed(&self) -> bool
         ensures { result ≡ reads_feed (task_in self.now) }
     {
-        !matches!(self, Command::Gen { .. } | Command::UpgradeState { .. })
+        !matches!(
+            self,
+            Command::Gen { .. } | Command::UpgradeState { .. } | Command::Ticket { .. }
+        )
     }
 
     /// What the options say. An option that the command does not have is none; the network of a command other than `follow` is named.
@@ -142,7 +185,7 @@ impl<'a> Command<'a> {
                 to,
                 ..Options::none()
             },
-            Command::UpgradeState { from, to } => Options {
+            Command::UpgradeState { from, to } | Command::Ticket { from, to, .. } => Options {
                 from: Some(from),
                 to,
                 ..Options::none()
@@ -151,6 +194,36 @@ impl<'a> Command<'a> {
                 net: Some(net),
                 feed,
                 to,
+                ..Options::none()
+            },
+            Command::Check { from, feed } => Options {
+                feed,
+                from: Some(from),
+                ..Options::none()
+            },
+            Command::Recheck {
+                net,
+                from,
+                feed,
+                watch,
+            } => Options {
+                net: Some(net),
+                feed,
+                from: Some(from),
+                watch,
+                ..Options::none()
+            },
+            Command::Relay {
+                net,
+                feed,
+                from,
+                watch,
+                ..
+            } => Options {
+                net: Some(net),
+                feed,
+                from,
+                watch,
                 ..Options::none()
             },
         }
@@ -195,8 +268,29 @@ const UPGRADE_STATE: [OptionName; 2] = [OptionName::From, OptionName::To];
 
 const ORDER: [OptionName; 3] = [OptionName::Net, OptionName::Feed, OptionName::To];
 
+const TICKET: [OptionName; 2] = [OptionName::From, OptionName::To];
+
+const CHECK: [OptionName; 2] = [OptionName::Feed, OptionName::From];
+
+const RECHECK: [OptionName; 4] = [
+    OptionName::Net,
+    OptionName::Feed,
+    OptionName::From,
+    OptionName::Watch,
+];
+
+const RELAY: [OptionName; 4] = [
+    OptionName::Net,
+    OptionName::Feed,
+    OptionName::From,
+    OptionName::Watch,
+];
+
 /// The most blocks that a generated feed has.
 const MOST_BLOCKS: u64 = 100_000;
+
+/// The most followers that a relay has.
+const MOST_FOLLOWERS: u64 = 100;
 
 /// Reads the words of the command line, those behind the program's name.
 ///
@@ -219,7 +313,7 @@ fn command_in(words: &[String]) -> Result<Command<'_>, WordFault>
     };
     match name.as_str() {
         "follow" => {
-            let given = read_options(&FOLLOW, 1, Options::none(), rest)?;
+            let given = read_options(FromRule::Alone, &FOLLOW, 1, Options::none(), rest)?;
             Ok(Command::Follow {
                 net: given.net,
                 feed: given.feed,
@@ -229,7 +323,7 @@ fn command_in(words: &[String]) -> Result<Command<'_>, WordFault>
             })
         }
         "prove" => {
-            let given = read_options(&PROVE, 1, Options::none(), rest)?;
+            let given = read_options(FromRule::Beside, &PROVE, 1, Options::none(), rest)?;
             Ok(Command::Prove {
                 net: given.net.unwrap_or(Net::Main),
                 feed: given.feed,
@@ -238,7 +332,7 @@ fn command_in(words: &[String]) -> Result<Command<'_>, WordFault>
             })
         }
         "audit" => {
-            let given = read_options(&AUDIT, 1, Options::none(), rest)?;
+            let given = read_options(FromRule::Beside, &AUDIT, 1, Options::none(), rest)?;
             Ok(Command::Audit {
                 net: given.net.unwrap_or(Net::Main),
                 feed: given.feed,
@@ -248,6 +342,10 @@ fn command_in(words: &[String]) -> Result<Command<'_>, WordFault>
         "gen" => gen_in(rest),
         "upgrade" => upgrade_in(rest),
         "order" => order_in(rest),
+        "ticket" => ticket_in(rest),
+        "check" => check_in(rest),
+        "recheck" => recheck_in(rest),
+        "relay" => relay_in(rest),
         _ => Err(WordFault { at: 0 }),
     }
 }
@@ -275,7 +373,7 @@ fn blocks_in(number: u64, words: &[String]) -> Result<Command<'_>, WordFault>
         return Err(WordFault { at: 2 });
     };
     let blocks = number_in(MOST_BLOCKS, blocks.as_str()).ok_or(WordFault { at: 2 })?;
-    let given = read_options(&GEN, 3, Options::none(), rest)?;
+    let given = read_options(FromRule::Beside, &GEN, 3, Options::none(), rest)?;
     Ok(Command::Gen {
         net: given.net.unwrap_or(Net::Main),
         number,
@@ -295,7 +393,7 @@ fn upgrade_in(words: &[String]) -> Result<Command<'_>, WordFault>
     };
     match name.as_str() {
         "feed" => {
-            let given = read_options(&UPGRADE_FEED, 2, Options::none(), rest)?;
+            let given = read_options(FromRule::Beside, &UPGRADE_FEED, 2, Options::none(), rest)?;
             Ok(Command::UpgradeFeed {
                 net: given.net.unwrap_or(Net::Main),
                 feed: given.feed,
@@ -304,7 +402,7 @@ fn upgrade_in(words: &[String]) -> Result<Command<'_>, WordFault>
             })
         }
         "state" => {
-            let given = read_options(&UPGRADE_STATE, 2, Options::none(), rest)?;
+            let given = read_options(FromRule::Beside, &UPGRADE_STATE, 2, Options::none(), rest)?;
             let end = 2 + rest.len() as u64;
             let from = given.from.ok_or(WordFault { at: end })?;
             Ok(Command::UpgradeState { from, to: given.to })
@@ -314,10 +412,10 @@ fn upgrade_in(words: &[String]) -> Result<Command<'_>, WordFault>
 }
 
 // The words behind `order`.
-#[tactic(auto, unfolding(crate::specs::Words::order_for))]
+#[tactic(auto, unfolding(crate::specs::Words::one_word_for))]
 fn order_in(words: &[String]) -> Result<Command<'_>, WordFault>
     requires { length words.now < 2 ^ 62 }
-    ensures { read_as result ≡ order_for (map string_bytes words.now) }
+    ensures { read_as result ≡ one_word_for order_at (map string_bytes words.now) }
 {
     let [tip, rest @ ..] = words else {
         return Err(WordFault { at: 1 });
@@ -325,11 +423,84 @@ fn order_in(words: &[String]) -> Result<Command<'_>, WordFault>
     if !is_hash_word(tip.as_bytes()) {
         return Err(WordFault { at: 1 });
     }
-    let given = read_options(&ORDER, 2, Options::none(), rest)?;
+    let given = read_options(FromRule::Beside, &ORDER, 2, Options::none(), rest)?;
     Ok(Command::Order {
         net: given.net.unwrap_or(Net::Main),
         tip: tip.as_str(),
         feed: given.feed,
         to: given.to,
+    })
+}
+
+// The words behind `ticket`.
+#[tactic(auto, unfolding(crate::specs::Words::one_word_for))]
+fn ticket_in(words: &[String]) -> Result<Command<'_>, WordFault>
+    requires { length words.now < 2 ^ 62 }
+    ensures { read_as result ≡ one_word_for ticket_at (map string_bytes words.now) }
+{
+    let [number, rest @ ..] = words else {
+        return Err(WordFault { at: 1 });
+    };
+    let number = number_in(u64::MAX, number.as_str()).ok_or(WordFault { at: 1 })?;
+    let given = read_options(FromRule::Beside, &TICKET, 2, Options::none(), rest)?;
+    let from = given.from.ok_or(WordFault {
+        at: 2 + rest.len() as u64,
+    })?;
+    Ok(Command::Ticket {
+        number,
+        from,
+        to: given.to,
+    })
+}
+
+// The words behind `check`.
+fn check_in(words: &[String]) -> Result<Command<'_>, WordFault>
+    requires { length words.now < 2 ^ 62 }
+    ensures { read_as result ≡ options_for Checking 1 (map string_bytes words.now) }
+{
+    let given = read_options(FromRule::Beside, &CHECK, 1, Options::none(), words)?;
+    let from = given.from.ok_or(WordFault {
+        at: 1 + words.len() as u64,
+    })?;
+    Ok(Command::Check {
+        from,
+        feed: given.feed,
+    })
+}
+
+// The words behind `recheck`.
+fn recheck_in(words: &[String]) -> Result<Command<'_>, WordFault>
+    requires { length words.now < 2 ^ 62 }
+    ensures { read_as result ≡ options_for Rechecking 1 (map string_bytes words.now) }
+{
+    let given = read_options(FromRule::Beside, &RECHECK, 1, Options::none(), words)?;
+    let from = given.from.ok_or(WordFault {
+        at: 1 + words.len() as u64,
+    })?;
+    Ok(Command::Recheck {
+        net: given.net.unwrap_or(Net::Main),
+        from,
+        feed: given.feed,
+        watch: given.watch,
+    })
+}
+
+// The words behind `relay`.
+#[tactic(auto, unfolding(crate::specs::Words::one_word_for))]
+fn relay_in(words: &[String]) -> Result<Command<'_>, WordFault>
+    requires { length words.now < 2 ^ 62 }
+    ensures { read_as result ≡ one_word_for relay_at (map string_bytes words.now) }
+{
+    let [followers, rest @ ..] = words else {
+        return Err(WordFault { at: 1 });
+    };
+    let followers = positive_in(MOST_FOLLOWERS, followers.as_str()).ok_or(WordFault { at: 1 })?;
+    let given = read_options(FromRule::Beside, &RELAY, 2, Options::none(), rest)?;
+    Ok(Command::Relay {
+        net: given.net.unwrap_or(Net::Main),
+        followers: followers as u32,
+        feed: given.feed,
+        from: given.from,
+        watch: given.watch,
     })
 }

@@ -9,8 +9,8 @@ use Rattle.cache_model.specs.Cache.{look}
 use Rattle.cache_model.specs.declared.kept.Kept.{Kept}
 use Rattle.cache_model.specs.Lists.{leaf_key, AscendByNumber}
 use Rattle.cache_model.specs.Search.{IsSplit}
-use Rattle.cache_model.specs.Undo.{is_same_number, is_before_number}
-use Rattle.cache_model.specs.Climbed.{led, beside_way, kept_place}
+use Rattle.cache_model.specs.Undo.{find, is_same_number, is_before_number}
+use Rattle.cache_model.specs.Climbed.{led, beside_way}
 use Rattle.cache_model.proofs.Undoing.{number_order}
 use Rattle.cache_model.proofs.Searching.{find_split, find_at, none_at, none_end}
 
@@ -53,18 +53,18 @@ any_default (x ∷ xs) (suc i) d e lt = any_default xs i d e (omega arith)
 
 -- what is found of a number
 module _ (ks : List Kept) (number i : ℕ) (s : IsSplit is_before_number leaf_key number ks i) where
-  pub place_end : length ks ≤ i → None ≡ kept_place ks number
-  place_end ge = sym (ap (option_map (λ (k : Kept). k.place)) (none_end is_same_number is_before_number leaf_key number_order number ks i s ge))
+  pub entry_end : length ks ≤ i → None ≡ find is_same_number leaf_key number ks
+  entry_end ge = sym (none_end is_same_number is_before_number leaf_key number_order number ks i s ge)
 
-  pub place_there : (d e : Kept) → i < length ks → (get_or ks i d).number ≡ number → Some (get_or ks i e).place ≡ kept_place ks number
-  place_there d e lt same =
-      ap (λ (k : Kept). Some k.place) (any_default ks i e d lt)
-      ∙ sym (ap (option_map (λ (k : Kept). k.place)) (find_split is_same_number is_before_number leaf_key number_order number ks i s
-      ∙ find_at is_same_number is_before_number leaf_key number_order number ks i d lt (eq-eqb number (get_or ks i d).number (sym same))))
+  pub entry_there : (d e : Kept) → e ≡ get_or ks i e → i < length ks → (get_or ks i d).number ≡ number → Some e ≡ find is_same_number leaf_key number ks
+  entry_there d e is lt same =
+      ap Some (is ∙ any_default ks i e d lt)
+      ∙ sym (find_split is_same_number is_before_number leaf_key number_order number ks i s
+      ∙ find_at is_same_number is_before_number leaf_key number_order number ks i d lt (eq-eqb number (get_or ks i d).number (sym same)))
 
-  pub place_other : (d : Kept) → AscendByNumber ks → i < length ks → ((get_or ks i d).number ≡ number → ⊥) → None ≡ kept_place ks number
-  place_other d a lt other =
-      sym (ap (option_map (λ (k : Kept). k.place)) (none_at is_same_number is_before_number leaf_key number_order number ks i d a s lt (ne_eqb number (get_or ks i d).number (λ e. other (sym e)))))
+  pub entry_other : (d : Kept) → AscendByNumber ks → i < length ks → ((get_or ks i d).number ≡ number → ⊥) → None ≡ find is_same_number leaf_key number ks
+  entry_other d a lt other =
+      sym (none_at is_same_number is_before_number leaf_key number_order number ks i d a s lt (ne_eqb number (get_or ks i d).number (λ e. other (sym e))))
 
 -- what holds of an answer that was told, if one was
 pub law_told : {E : Type 0} (r : Result (Option (Vec Digest Global)) E) (x : Option (List Digest)) (P : List Digest → Type 0) → IfOk r (λ proof. option_map (λ (v : Vec Digest Global). v.items) proof ≡ x) → ((hashes : List Digest) → x ≡ Some hashes → P hashes) → IfOk r (λ proof. IfSome proof (λ (v : Vec Digest Global). P v.items))

@@ -1,7 +1,8 @@
 //! The proof of one kept entry.
 ghost use Rattle.std.specs.Prelude.{◌≡◌, ◌-◌, option_map, IfOk};
 ghost use Rattle.cache_model.specs.Climbed.{beside_way as beside_way_of, kept_place, proof_in as proof_in_of};
-ghost use Rattle.cache_model.specs.Lists.{AscendByNumber, AscendByPlace};
+ghost use Rattle.cache_model.specs.Lists.{AscendByNumber, AscendByPlace, leaf_key};
+ghost use Rattle.cache_model.specs.Undo.{find, is_same_number};
 
 use crate::search::{digest_in, index_of_number};
 use cache_model::Kept;
@@ -10,19 +11,30 @@ use std::alloc::Global;
 use uo_base::NoMemory;
 use uo_digest::Digest;
 
-/// Where the entry with this number stands, if it is kept.
-pub fn place_of(kept: &[Kept], number: u64) -> Option<Place>
+/// The kept entry with this number.
+pub fn entry_in<'a>(kept: &'a [Kept], number: u64) -> Option<&'a Kept>
     requires { AscendByNumber kept.now }
-    ensures { result ≡ kept_place kept.now number }
+    ensures { option_map (λ e. e.now) result ≡ find is_same_number leaf_key number kept.now }
 {
     let i = index_of_number(kept, number);
     if i == kept.len() {
         return None;
     }
     if kept[i].number == number {
-        Some(kept[i].place)
+        Some(&kept[i])
     } else {
         None
+    }
+}
+
+/// Where the entry with this number stands, if it is kept.
+pub fn place_of(kept: &[Kept], number: u64) -> Option<Place>
+    requires { AscendByNumber kept.now }
+    ensures { result ≡ kept_place kept.now number }
+{
+    match entry_in(kept, number) {
+        None => None,
+        Some(entry) => Some(entry.place),
     }
 }
 

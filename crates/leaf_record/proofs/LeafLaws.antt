@@ -98,10 +98,6 @@ behind_tags l = regrouped tag (output_text l) where
   regrouped : (t o : List ℕ) → (t ++ t) ++ o ≡ t ++ t ++ o
   regrouped t o = simp append_assoc
 
--- which is no longer than the whole
-pub output_short : (l : Leaf) → length (output_text l) ≤ length (leaf_text l)
-output_short l = rw (← behind_tags l, length-append (tag ++ tag) (output_text l)) (omega arith)
-
 untagged_at : List ℕ → Option (Leaf × List ℕ)
 untagged_at bytes = do
   block ← digest_in_front bytes
@@ -157,7 +153,7 @@ pub length-tag : length tag ≡ 64
 unfolding tag
 length-tag = length-sha512 _
 
-length-compact : (n : ℕ) → n ≤ longest_script → (1 ≤ length (compact n)) × (length (compact n) ≤ 3)
+pub length-compact : (n : ℕ) → n ≤ longest_script → (1 ≤ length (compact n)) × (length (compact n) ≤ 3)
 length-compact n le =
     elim (cases_lt n 253) [
       | inl lt ↦ rw (compact_1 n lt) (omega arith, omega arith)

@@ -1,7 +1,8 @@
 //! The text that a leaf's digest is taken of.
-ghost use Rattle.std.specs.Prelude.{◌≡◌, ◌+◌, ◌<◌, ◌≤◌, ◌++◌, length, vec_len, vec_capacity, IfOk, OnOk, OnErr};
+ghost use Rattle.std.specs.Prelude.{◌≡◌, ◌+◌, ◌<◌, ◌≤◌, ◌++◌, length, take, vec_len, vec_capacity, IfOk, OnOk, OnErr};
+ghost use Rattle.uo_base.specs.Compact.{compact};
 ghost use Rattle.uo_base.specs.Moved.{Grew};
-ghost use Rattle.leaf_record.specs.Leaf.{LeafFits, tag, output_text, leaf_text};
+ghost use Rattle.leaf_record.specs.Leaf.{LeafFits, tag, longest_script, payload_text, output_text, leaf_text};
 
 use crate::record::RecordView;
 use crate::rest::put_payload;
@@ -95,8 +96,67 @@ pub fn leaf_text(leaf: &RecordView<'_>, out: &mut Vec<u8>) -> Result<(), NoMemor
     }
 }
 
+// Puts bytes from an index on, and answers the index behind them.
+fn put_at(room: &mut [u8], at: usize, bytes: &[u8]) -> usize
+    requires { at + length bytes.now ≤ length room.old }
+    ensures end { result ≡ at + length bytes.now }
+    ensures text { take result room.new ≡ take at room.old ++ bytes.now }
+    ensures len { length room.new ≡ length room.old }
+{
+    let end = at + bytes.len();
+    room[at..end].copy_from_slice(bytes);
+    end
+}
+
+// Puts the shortest form of the length of a script in the same way.
+#[tactic(auto, unfolding(uo_base::specs::Compact::compact))]
+fn put_count(room: &mut [u8], at: usize, count: u16) -> usize
+    requires { at + 3 ≤ length room.old }
+    ensures end { result ≡ at + length (compact count) }
+    ensures text { take result room.new ≡ take at room.old ++ compact count }
+    ensures len { length room.new ≡ length room.old }
+{
+    let [low, high] = count.to_le_bytes();
+    if count < 253 {
+        put_at(room, at, &[low])
+    } else {
+        put_at(room, at, &[253, low, high])
+    }
+}
+
+// Puts code, amount and script in the same way.
+fn put_payload_at(room: &mut [u8], at: usize, code: u32, amount: u64, script: &[u8]) -> usize
+    requires room { at + 10015 ≤ length room.old }
+    requires script { length script.now ≤ longest_script }
+    ensures text { take result room.new ≡ take at room.old ++ payload_text code amount script.now }
+    ensures within { result ≤ length room.new }
+    ensures len { length room.new ≡ length room.old }
+{
+    let behind_code = put_at(room, at, &code.to_le_bytes());
+    let behind_amount = put_at(room, behind_code, &amount.to_le_bytes());
+    let behind_count = put_count(room, behind_amount, script.len() as u16);
+    put_at(room, behind_count, script)
+}
+
+// What a leaf text says behind its tags, from the front of the room on. It is answered where that ends.
+#[tactic(auto, unfolding(crate::specs::Leaf::output_text))]
+fn fill(leaf: &RecordView<'_>, room: &mut [u8]) -> usize
+    requires { 10211 ≤ length room.old }
+    ensures text { take result room.new ≡ output_text leaf.now }
+    ensures within { result ≤ length room.new }
+    ensures len { length room.new ≡ length room.old }
+    ensures fits { LeafFits leaf.now }
+{
+    let rest = leaf.rest();
+    let behind_block = put_at(room, 0, &rest.block.0);
+    let behind_txid = put_at(room, behind_block, &leaf.txid.0);
+    let behind_index = put_at(room, behind_txid, &leaf.index.to_le_bytes());
+    put_payload_at(room, behind_index, rest.code(), rest.amount, rest.script)
+}
+
 /// Room for one leaf text, and the two tags that all of them begin with, taken in once. Contracts see how many bytes it has room for.
 pub struct LeafBuf<D: Digester> {
+    // Each byte of the room is there, so a text is put into it and nothing grows.
     bytes: Vec<u8>,
     tags: D::Front,
 }
@@ -108,14 +168,26 @@ impl<D: Digester> Drop for LeafBuf<D> {
 }
 
 impl<D: Digester> Model for LeafBuf<D> {
-    ghost use Rattle.std.specs.Prelude.{ℕ, ◌≤◌, ◌++◌, vec_capacity};
+    ghost use Rattle.std.specs.Prelude.{ℕ, ◌≤◌, ◌++◌, vec_len, vec_capacity};
     ghost use Rattle.leaf_record.specs.Leaf.{tag};
 
     ghost Value = { ℕ };
 
     ghost view = { λ b. vec_capacity b.bytes };
 
-    ghost invariant = { λ b. (10211 ≤ vec_capacity b.bytes) × D.holds b.tags (tag ++ tag) };
+    ghost invariant = { λ b. (10211 ≤ vec_len b.bytes) × D.holds b.tags (tag ++ tag) };
+}
+
+// So many bytes, and no room for more.
+fn blank_text(alloc: Global) -> Result<Vec<u8>, NoMemory>
+    ensures len { IfOk result (λ bytes. vec_len bytes ≡ 10211) }
+    ensures capacity { IfOk result (λ bytes. vec_capacity bytes ≡ 10211) }
+{
+    let mut bytes = Vec::with_capacity(alloc, MAX_LEAF_TEXT)?;
+    for _ in 0..MAX_LEAF_TEXT {
+        bytes.push_reserved(0);
+    }
+    Ok(bytes)
 }
 
 impl<D: Digester> LeafBuf<D> {
@@ -123,7 +195,7 @@ impl<D: Digester> LeafBuf<D> {
     pub fn new(alloc: Global) -> Result<LeafBuf<D>, NoMemory>
         ensures { IfOk result (λ room. room ≡ 10211) }
     {
-        let bytes = Vec::with_capacity(alloc, MAX_LEAF_TEXT)?;
+        let bytes = blank_text(alloc)?;
         let mut tags = Vec::new(alloc);
         put_tags(&mut tags)?;
         Ok(LeafBuf {
@@ -131,6 +203,23 @@ impl<D: Digester> LeafBuf<D> {
             tags: D::front(&tags),
         })
     }
+}
+
+// The digest of a leaf's text, whose end is put into the room. A list of bytes that is lent can not grow, so this takes no memory.
+fn digest_in<D: Digester, L: Ledger>(
+    room: &mut [u8],
+    tags: &D::Front,
+    leaf: &RecordView<'_>,
+    steps: &mut Steps<L>,
+) -> Digest
+    requires room { 10211 ≤ length room.old }
+    requires tags { D.holds tags.now (tag ++ tag) }
+    ensures value { result ≡ D.digest_of (leaf_text leaf.now) }
+    ensures step { steps.new ≡ steps.old + 1 }
+    ensures fits { LeafFits leaf.now }
+{
+    let end = fill(leaf, room);
+    D::digest_behind(tags, &room[..end], steps)
 }
 
 /// The digest of a leaf's text, in one step. It takes no memory.
@@ -142,10 +231,8 @@ pub fn leaf_digest<D: Digester, L: Ledger>(
     ensures value { result ≡ D.digest_of (leaf_text leaf.now) }
     ensures step { steps.new ≡ steps.old + 1 }
     ensures fits { LeafFits leaf.now }
+    // The room stays as large as it was.
+    ensures room { buf.new ≡ buf.old }
 {
-    buf.bytes.clear();
-    match put_output(leaf, &mut buf.bytes) {
-        Ok(()) => D::digest_behind(&buf.tags, &buf.bytes, steps),
-        Err(_) => unreachable!(),
-    }
+    digest_in::<D, L>(&mut buf.bytes, &buf.tags, leaf, steps)
 }
