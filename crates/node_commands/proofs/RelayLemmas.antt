@@ -1,28 +1,35 @@
 -- What `relay` writes of a feed is what comes of the acts of its script.
-use Rattle.std.proofs.Common.{◌≡◌, ℕ, zero, suc, ◌+◌, Bool, true, false, cond, ◌||◌, List, [], ◌∷◌, ◌++◌, length, Option, Some, None, refl, sym, ap, ap₂, subst, ◌∙◌, append_assoc, append-nil}
-use Rattle.std.specs.Prelude.{is_none, drop, slice_get}
-use Rattle.std.specs.List.{flat_map, list_any}
+use Rattle.std.proofs.Common.{◌≡◌, ℕ, zero, suc, ◌+◌, ◌<◌, ◌≤◌, ◌^◌, Bool, true, false, cond, ◌||◌, List, [], ◌∷◌, ◌++◌, length, Option, Some, None, Result, Ok, Err, IfOk, refl, sym, ap, ap₂, subst, ◌∙◌, append_assoc, append-nil}
+use Rattle.std.specs.Prelude.{is_none, drop, slice_get, IfSome}
+use Rattle.std.specs.List.{AllByRecursion, flat_map, list_any}
 use Rattle.std.proofs.lemmas.Grind.{flat_map-append}
 use Rattle.uo_base.specs.declared.event.Limits.{Limits}
 use Rattle.uo_base.specs.declared.event.Net.{Net}
 use Rattle.uo_base.specs.FeedEvent.{FeedEvent}
 use Rattle.uo_digest.specs.declared.digest.Digest.{Digest}
+use Rattle.leaf_record.specs.History.{somes}
 use Rattle.leaf_record.specs.Leaf.{leaf_text}
 use Rattle.feed_frame.specs.declared.fault.FeedFault.{FeedFault}
 use Rattle.feed_frame.specs.Events.{events_of}
+use Rattle.feed_frame.proofs.FeedBytes.{IsMadeOfBytes, events_bytes}
 use Rattle.feed_run.specs.Answer.{Answer}
 use Rattle.feed_run.specs.Machine.{left_by, said_by, sent_by}
 use Rattle.feed_run.specs.declared.status.Status.{Status}
 use Rattle.relay_core.specs.declared.act.Outcome.{Outcome}
 use Rattle.relay_core.specs.Acts.{WorldAct, BridgeTook, FollowerAsked, AskServed, ReplyDelivered, IsShortAct}
+use Rattle.relay_core.specs.Branches.{Begun, begun_world, AreActBytes}
+use Rattle.relay_core.proofs.Acting.{followers_are_on_branches}
 use Rattle.relay_core.specs.World.{FollowerState, WorldState, fresh_world, next_world, outcome_on}
 use Rattle.relay_script.specs.declared.line.ScriptLine.{ScriptLine}
 use Rattle.relay_script.specs.declared.line.ScriptLine.TheVariants as Script
 use Rattle.report_lines.specs.declared.line.Line.{Line}
 use Rattle.report_lines.specs.Lines.{whole_line}
 use Rattle.node_commands.specs.Answers.{bad_end, last_of, answer_with}
-use Rattle.node_commands.specs.Relayer.{outcome_line, outcome_lines, is_undone, acts_of, outcomes_of, world_behind, node_lines, relay_end, relay_answer, RelayState, fresh_relay, turn_of, behind_bridge, own_act, acted, relayed, next_relay, turn_lines, relay_last, relay_machine, relayed_feed, IsLineTaken, IsPlayed, node_line}
+use Rattle.node_commands.specs.Relayer.{outcome_line, outcome_lines, is_undone, acts_of, script_acts, outcomes_of, world_behind, node_lines, relay_end, relay_answer, RelayState, fresh_relay, turn_of, behind_bridge, own_act, acted, relayed, next_relay, turn_lines, relay_last, relay_machine, relayed_feed, IsLineTaken, IsPlayed, node_line}
+use Rattle.node_commands.specs.declared.bad_input.BadInput.{BadInput}
+use Rattle.node_commands.specs.Relaying.{RelayStart, RelaysOnBranches}
 use Rattle.node_commands.specs.Runs.{Serves}
+use Rattle.node_commands.proofs.ForgingLemmas.{block_bytes}
 use Rattle.node_commands.proofs.FollowLemmas.{or_none, or_again}
 use Rattle.node_commands.proofs.ServeLemmas.{Ends, Serves-same, Serves-quiet}
 
@@ -137,6 +144,33 @@ module _ (H : List ℕ → Digest) (limits : Limits) (net : Net) (lists : List (
       → Serves (said_by (relay_machine H) (fresh_relay limits net lists script)) (λ events. []) (relay_answer H limits net lists script) net limits.bytes feed feed' report report' out out' stopped status
   relay-serves r e stopped status s =
       Serves-same (λ events. ap (λ t. said_by (relay_machine H) t events) e) (λ events. refl) (λ text. ap (λ t. relayed_feed H t net limits.bytes text) e ∙ relayed-is text) stopped status s
+
+-- ---- where the followers are
+
+acts_bytes : (whole : Bool) (script : List ScriptLine) (events : List FeedEvent) → AllByRecursion IsMadeOfBytes events → AllByRecursion AreActBytes (somes (acts_of whole script events))
+acts_bytes whole [] events h = tt
+acts_bytes true (Script.Bridge ∷ script) [] h = acts_bytes true script [] h
+acts_bytes false (Script.Bridge ∷ script) [] h = tt
+acts_bytes whole (Script.Bridge ∷ script) (event ∷ events) h = (block_bytes event h.0, acts_bytes whole script events h.1)
+acts_bytes whole (Script.Ask f ∷ script) events h = (tt, acts_bytes whole script events h)
+acts_bytes whole (Script.Serve j ∷ script) events h = (tt, acts_bytes whole script events h)
+acts_bytes whole (Script.Deliver f j ∷ script) events h = (tt, acts_bytes whole script events h)
+
+module _ (H : List ℕ → Digest) (long : (x : List ℕ) → length (H x).0 ≡ 32) (limits : Limits) (few : limits.leaves < 2 ^ 40) (short : limits.bytes ≤ 2 ^ 48) (net : Net) (feed : List ℕ) where
+  on-branches : (start : RelayStart) → RelaysOnBranches H limits net start feed
+  on-branches start = record {
+    on_branches = λ bytes.
+        let begun : Begun = record { net = net; limits = limits; lists = start.lists } in
+        let acts = script_acts net limits.bytes start.script feed in
+        let events = events_of net limits.bytes feed in
+        followers_are_on_branches H leaf_text long begun (somes acts) (world_behind H (begun_world begun) acts)
+        (record { leaves = few; bytes = short; all = acts_bytes (is_none events.ending) start.script events.events (events_bytes net limits.bytes feed bytes); is = refl });
+  }
+
+  pub relays-on-branches : (begun : Option (Result RelayStart BadInput)) → IfSome begun (λ b. IfOk b (λ start. RelaysOnBranches H limits net start feed))
+  relays-on-branches None = tt
+  relays-on-branches (Some (Ok start)) = on-branches start
+  relays-on-branches (Some (Err bad)) = tt
 
 -- ---- a run, and what comes last
 

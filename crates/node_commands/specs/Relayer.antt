@@ -71,6 +71,10 @@ acts_of whole (Script.Ask follower ∷ script) events = Some (FollowerAsked foll
 acts_of whole (Script.Serve ask ∷ script) events = Some (AskServed ask) ∷ acts_of whole script events
 acts_of whole (Script.Deliver follower reply ∷ script) events = Some (ReplyDelivered follower reply) ∷ acts_of whole script events
 
+-- those of a script over a feed
+abbrev pub script_acts : Net → (limit : ℕ) → List ScriptLine → List ℕ → List (Option WorldAct)
+script_acts net limit script feed = let events = events_of net limit feed in acts_of (is_none events.ending) script events.events
+
 -- what comes of them in a world
 abbrev pub outcomes_of : (List ℕ → Digest) → WorldState → List (Option WorldAct) → List (Option Outcome)
 outcomes_of H w [] = []
@@ -101,11 +105,10 @@ relay_end refused lines w =
 -- the lines of the script's acts over its events, in a world with a follower for each watch list
 unfoldable pub relay_answer : (List ℕ → Digest) → Limits → Net → (lists : List (List (List ℕ))) → List ScriptLine → List ℕ → Answer
 relay_answer H limits net lists script feed =
-    let events = events_of net limits.bytes feed in
-    let acts = acts_of (is_none events.ending) script events.events in
+    let acts = script_acts net limits.bytes script feed in
     let first = fresh_world net limits lists in
     let outcomes = outcomes_of H first acts in
-    answer_with (outcome_lines outcomes) [] (relay_end (list_any is_undone outcomes) (length script) (world_behind H first acts)) events.ending
+    answer_with (outcome_lines outcomes) [] (relay_end (list_any is_undone outcomes) (length script) (world_behind H first acts)) (events_of net limits.bytes feed).ending
 
 -- ---- a run of it
 

@@ -1,20 +1,24 @@
 -- What `relay` means.
-use Rattle.std.specs.Prelude.{◌≡◌, ℕ, ◌-◌, nat_lt, Bool, true, false, List, [], ◌∷◌, length, replicate, None, Result, Ok, Err, if◌then◌else◌}
+use Rattle.std.specs.Prelude.{◌≡◌, ℕ, ◌-◌, nat_lt, Bool, true, false, List, [], ◌∷◌, length, replicate, None, Result, Ok, Err, IfOk, IfSome, if◌then◌else◌}
 use Rattle.std.specs.declared.option.Option.{Option}
 use Rattle.uo_base.specs.declared.event.Limits.{Limits}
 use Rattle.uo_base.specs.declared.event.Net.{Net}
+use Rattle.uo_base.specs.Reading.{IsBytes}
 use Rattle.uo_base.specs.Told.{Tells}
 use Rattle.uo_digest.specs.declared.digest.Digest.{Digest}
 use Rattle.bridge_prover.specs.Watched.{scripts_of}
+use Rattle.leaf_record.specs.History.{somes}
+use Rattle.leaf_record.specs.Leaf.{leaf_text}
 use Rattle.feed_run.specs.Machine.{said_by}
 use Rattle.feed_run.specs.declared.status.Status.TheVariants as Status
+use Rattle.relay_core.specs.Branches.{Begun, begun_world, AreOnBranches}
 use Rattle.relay_script.specs.declared.script.ScriptFault.{ScriptFault}
 use Rattle.relay_script.specs.declared.line.ScriptLine.{ScriptLine}
 use Rattle.relay_script.specs.Reading.{script_in}
 use Rattle.report_lines.specs.declared.line.Line.TheVariants as Line
 use Rattle.node_commands.specs.declared.bad_input.BadInput.{BadInput}
 use Rattle.node_commands.specs.Meaning.{Meaning, IsEnd}
-use Rattle.node_commands.specs.Relayer.{fresh_relay, relay_machine, relay_answer}
+use Rattle.node_commands.specs.Relayer.{world_behind, script_acts, relay_answer, fresh_relay, relay_machine}
 use Rattle.node_commands.specs.Watching.{list_in, IsGood}
 
 -- ---- the script
@@ -62,6 +66,15 @@ abbrev pub relay_start : (followers : ℕ) → Result (Option (List (List ℕ)))
 relay_start followers (Ok list) script = script_start (lists_for followers (scripts_of list)) script
 relay_start followers (Err bad) script = Err bad
 
+-- ---- what is claimed
+
+-- Behind the acts of a script over a feed, which is bytes, each follower is on the branch of its newest serial: on a chain that the bridge had.
+pub record RelaysOnBranches (H : List ℕ → Digest) (limits : Limits) (net : Net) (start : RelayStart) (feed : List ℕ) : Type 0 where
+  pub on_branches : IsBytes feed →
+      let begun : Begun = record { net = net; limits = limits; lists = start.lists } in
+      let acts = script_acts net limits.bytes start.script feed in
+      AreOnBranches H leaf_text begun (somes acts) (world_behind H (begun_world begun) acts)
+
 -- ---- the meaning
 
 -- the watch list and the script can be used, where they are named, and the feed has no bad frame and no more bytes than may be read
@@ -80,7 +93,7 @@ relaying H limits followers net scripted listed = record {
   lines = λ start events. said_by (relay_machine H) (fresh_relay limits net start.lists start.script) events;
   frames = λ start events. [];
   answer = λ start. relay_answer H limits net start.lists start.script;
-  Claims = λ inputs. Unit {0};
+  Claims = λ inputs. IfSome inputs.begun (λ begun. IfOk begun (λ start. RelaysOnBranches H limits net start inputs.feed));
   AreGood = λ feed prior watch. IsGoodRelay scripted listed net limits feed prior watch;
   Ends = IsEnd;
 }

@@ -31,7 +31,7 @@ pub struct Relayer<'s, D: Digester> {
     refused: bool,
 }
 
-impl<D: Digester> Model for Relayer<'_, D> {
+impl<'s, D: Digester> Model for Relayer<'s, D> {
     ghost use Rattle.node_commands.specs.Relayer.{RelayState};
 
     ghost Value = { RelayState };
@@ -177,7 +177,7 @@ impl<'s, D: Digester> Relayer<'s, D> {
     }
 }
 
-impl<D: Digester> EventHandler for Relayer<'_, D> {
+impl<'s, D: Digester> EventHandler for Relayer<'s, D> {
     ghost State = { RelayState };
 
     ghost state = { λ r. r };
