@@ -1,5 +1,5 @@
 #!/usr/bin/env python3
-"""Runs random relays beside a plain model: relay_random.py PROGRAM [COUNT [NUMBER]]
+"""Runs random relays beside a plain model: relay_random.py PROGRAM [COUNT [NUMBER]]; relay_random.py example FOLDER makes the relay of examples/.
 
 Each of COUNT (1,000) scripts is drawn from NUMBER (1) on, with a feed of its own. The network loses, repeats and reorders: replies come late, twice,
 to any follower, or never, and the bridge serves asks of long ago. Its feed goes back by up to a hundred blocks, and sometimes by too many, has blocks
@@ -229,30 +229,76 @@ def feed_of(events):
     return b"".join(frame(ROLLBACK, little(event, 4)) if isinstance(event, int) else frame(MAGIC["main"], event.body) for event in events)
 
 
-def compare(program, room, number):
+def differs(program, room, followers, script, events, tail=b"", bad=None):
+    """Where a run and the model differ, in words, or None; and the model's lines."""
+    (room / "script").write_bytes(text_of(script))
+    lines, status = lines_of(World([[0] for _ in range(followers)]), script, events, bad)
+    words = [program, "relay", str(followers), "--from", room / "script"]
+    run = subprocess.run(words, input=feed_of(events) + tail, stdout=subprocess.PIPE, check=False)
+    said = run.stdout.decode().splitlines()
+    if (said, run.returncode) == (lines, status):
+        return None, lines
+    at = next((index for index, pair in enumerate(zip(said, lines)) if pair[0] != pair[1]), min(len(said), len(lines)))
+    return f"line {at + 1} is {said[at:at + 1]} and should be {lines[at:at + 1]}; status {run.returncode} for {status}", lines
+
+
+def drawn(program, room, number):
+    """The same of a script that is drawn."""
     draw = random.Random(number)
     followers = draw.choice([1, 2, 3, 7])
     events = drawn_events(draw, number)
     script = drawn_script(draw, followers, len(events))
-    feed, bad = feed_of(events), None
     if draw.random() < 0.1:
-        bad = f"frame magic {len(feed)} {b'none'.hex()}"
-        feed += b"none"
-    (room / "script").write_bytes(text_of(script))
-    lines, status = lines_of(World([[0] for _ in range(followers)]), script, events, bad)
-    run = subprocess.run([program, "relay", str(followers), "--from", room / "script"], input=feed, stdout=subprocess.PIPE, check=False)
-    said = run.stdout.decode().splitlines()
-    if said != lines or run.returncode != status:
-        at = next((index for index, pair in enumerate(zip(said, lines)) if pair[0] != pair[1]), min(len(said), len(lines)))
-        sys.exit(f"script {number}: line {at + 1} is {said[at:at + 1]} and should be {lines[at:at + 1]}; status {run.returncode}, {status}")
-    return lines
+        return differs(program, room, followers, script, events, b"none", f"frame magic {len(feed_of(events))} {b'none'.hex()}")
+    return differs(program, room, followers, script, events)
+
+
+def generated(number, count):
+    """The events of a generated feed."""
+    maker, chain, events = Maker(number), [], []
+    for turn in range(count):
+        if turn and turn % 50 == 0:
+            events.append(2)
+            del chain[-2:]
+        chain.append(maker.on(chain[-1] if chain else None))
+        events.append(chain[-1])
+    return events
+
+
+def twice_reversed(followers, events):
+    """Behind each event each follower asks and is served, and then each reply comes twice, in reversed order."""
+    script = []
+    for turn in range(events):
+        first = turn * followers
+        script += [("bridge",), *(("ask", number) for number in range(followers)), *(("serve", first + number) for number in range(followers))]
+        script += [("deliver", number, first + number) for number in reversed(range(followers)) for _ in range(2)]
+    return script
+
+
+def example(folder):
+    """Two blocks, a rollback and another block, which one follower gets; and the lines that a relay prints of it."""
+    maker = Maker(1)
+    first = maker.on(None)
+    events = [first, maker.on(first), 1, maker.on(first)]
+
+    def turn(number):
+        return [("ask", 0), ("serve", number), ("deliver", 0, number)]
+
+    script = [("bridge",)] * 2 + turn(0) + [("deliver", 0, 0)] + turn(1) + [("bridge",)] * 2 + turn(2) + turn(3) + turn(4) + [("bridge",)]
+    lines, _ = lines_of(World([[0]]), script, events, None)
+    (folder / "relay.feed").write_bytes(feed_of(events))
+    (folder / "relay.script").write_bytes(text_of(script))
+    (folder / "relay.lines").write_text("".join(f"{line}\n" for line in lines))
 
 
 def main(program, count=1000, number=1):
     seen = {}
     with tempfile.TemporaryDirectory() as folder:
         for turn in range(number, number + count):
-            for line in compare(program, Path(folder), turn):
+            difference, lines = drawn(program, Path(folder), turn)
+            if difference:
+                sys.exit(f"script {turn}: {difference}")
+            for line in lines:
                 words = line.split()
                 kind = f"{words[0]} {words[2]}" if words[0] == "replied" else words[0]
                 seen[kind] = seen.get(kind, 0) + 1
@@ -262,4 +308,7 @@ def main(program, count=1000, number=1):
 if __name__ == "__main__":
     if len(sys.argv) < 2:
         sys.exit(__doc__)
-    main(sys.argv[1], *map(int, sys.argv[2:]))
+    if sys.argv[1] == "example":
+        example(Path(sys.argv[2]))
+    else:
+        main(sys.argv[1], *map(int, sys.argv[2:]))
