@@ -26,7 +26,8 @@ use std::sync::ledger::Ledger;
 use uo_base::{Event, Limits, Net, NoMemory};
 use uo_digest::{Digester, Steps};
 
-/// One bridge and its followers, with all that was asked and answered, by the digester `D`.
+/// One bridge and its followers, with all that was asked and answered, by the digester `D`. Each block that the bridge accepts gets the next serial, from
+/// 1 on; 0 stands for the chain without blocks. All accepted blocks are kept, with their messages.
 #[derive(Drop)]
 pub struct World<D: Digester> {
     alloc: Global,
@@ -57,7 +58,7 @@ impl<D: Digester> World<D> {
     ghost use Rattle.relay_core.specs.Changes.{ChangesAsTold};
     ghost use Rattle.relay_core.specs.Branches.{AreOnBranches, Begun, IsNeverRefused, StandsForActs};
 
-    /// A world with no block, and one follower for each watch list.
+    /// A world with no block, and one follower for each watch list, in their order.
     pub fn new(
         alloc: Global,
         net: Net,
@@ -107,7 +108,7 @@ impl<D: Digester> World<D> {
         self.followers[follower as usize].node()
     }
 
-    /// Its newest serial.
+    /// The serial of the newest block of a follower; 0 where it has none.
     pub fn serial(&self, follower: u32) -> u64
         requires { follower < length self.now.followers }
         ensures { option_map (λ x. newest_of x.serials) (slice_get self.now.followers follower) ≡ Some result }
@@ -115,7 +116,7 @@ impl<D: Digester> World<D> {
         self.followers[follower as usize].newest()
     }
 
-    /// One act. Where there is no memory, the world stays as it was.
+    /// Does one act, and answers what it comes to. Where there is no memory, the world stays as it was.
     pub fn step<L: Ledger>(
         &mut self,
         act: Act<'_>,
