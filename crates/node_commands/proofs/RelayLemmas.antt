@@ -1,19 +1,25 @@
 -- What `relay` writes of a feed is what comes of the acts of its script.
-use Rattle.std.proofs.Common.{◌≡◌, ℕ, zero, suc, ◌+◌, ◌<◌, ◌≤◌, ◌^◌, Bool, true, false, cond, ◌||◌, List, [], ◌∷◌, ◌++◌, length, Option, Some, None, Result, Ok, Err, IfOk, refl, sym, ap, ap₂, subst, ◌∙◌, append_assoc, append-nil}
+use Rattle.std.proofs.Common.{◌≡◌, ℕ, zero, suc, ◌+◌, ◌<◌, ◌≤◌, ◌^◌, Bool, true, false, cond, ◌||◌, List, [], ◌∷◌, ◌++◌, length, Option, Some, None, Result, Ok, Err, IfOk, OnOk, IsErr, IsErrOf, IsErrAnd, is_err, inr, refl, sym, ap, ap₂, subst, ◌∙◌, append_assoc, append-nil}
 use Rattle.std.specs.Prelude.{is_none, drop, slice_get, IfSome}
 use Rattle.std.specs.List.{AllByRecursion, flat_map, list_any}
+use Rattle.std.specs.Io.KnownBytes.{Appends}
+use Rattle.std.proofs.KnownBytes.{Appends-nil}
 use Rattle.std.proofs.lemmas.Grind.{flat_map-append}
 use Rattle.uo_base.specs.declared.event.Limits.{Limits}
 use Rattle.uo_base.specs.declared.event.Net.{Net}
 use Rattle.uo_base.specs.FeedEvent.{FeedEvent}
+use Rattle.uo_base.specs.Moved.{AppendsPart}
+use Rattle.uo_base.proofs.PortLemmas.{AppendsPart-none}
 use Rattle.uo_digest.specs.declared.digest.Digest.{Digest}
 use Rattle.leaf_record.specs.History.{somes}
 use Rattle.leaf_record.specs.Leaf.{leaf_text}
 use Rattle.feed_frame.specs.declared.fault.FeedFault.{FeedFault}
 use Rattle.feed_frame.specs.Events.{events_of}
+use Rattle.feed_frame.specs.Streamed.{WritesInOrder, WritesTaken, KeepsUp}
 use Rattle.feed_frame.proofs.FeedBytes.{IsMadeOfBytes, events_bytes}
 use Rattle.feed_run.specs.Answer.{Answer}
-use Rattle.feed_run.specs.Machine.{left_by, said_by, sent_by}
+use Rattle.feed_run.specs.Machine.{left_by, said_by, sent_by, TakesAll}
+use Rattle.feed_run.specs.declared.stop.Stop.{Stop}
 use Rattle.feed_run.specs.declared.status.Status.{Status}
 use Rattle.relay_core.specs.declared.act.Outcome.{Outcome}
 use Rattle.relay_core.specs.Acts.{WorldAct, BridgeTook, FollowerAsked, AskServed, ReplyDelivered, IsShortAct}
@@ -22,16 +28,17 @@ use Rattle.relay_core.proofs.Acting.{followers_are_on_branches}
 use Rattle.relay_core.specs.World.{FollowerState, WorldState, fresh_world, next_world, outcome_on}
 use Rattle.relay_script.specs.declared.line.ScriptLine.{ScriptLine}
 use Rattle.relay_script.specs.declared.line.ScriptLine.TheVariants as Script
+use Rattle.relay_script.specs.Reading.{IsTaken}
 use Rattle.report_lines.specs.declared.line.Line.{Line}
 use Rattle.report_lines.specs.Lines.{whole_line}
 use Rattle.node_commands.specs.Answers.{bad_end, last_of, answer_with}
 use Rattle.node_commands.specs.Relayer.{outcome_line, outcome_lines, is_undone, acts_of, script_acts, outcomes_of, world_behind, node_lines, relay_end, relay_answer, RelayState, fresh_relay, turn_of, behind_bridge, own_act, acted, relayed, next_relay, turn_lines, relay_last, relay_machine, relayed_feed, IsLineTaken, IsPlayed, node_line}
 use Rattle.node_commands.specs.declared.bad_input.BadInput.{BadInput}
 use Rattle.node_commands.specs.Relaying.{RelayStart, RelaysOnBranches}
-use Rattle.node_commands.specs.Runs.{Serves}
+use Rattle.node_commands.specs.Runs.{Serves, status_in}
 use Rattle.node_commands.proofs.ForgingLemmas.{block_bytes}
 use Rattle.node_commands.proofs.FollowLemmas.{or_none, or_again}
-use Rattle.node_commands.proofs.ServeLemmas.{Ends, Serves-same, Serves-quiet}
+use Rattle.node_commands.proofs.ServeLemmas.{Ends, ends-stopped, ends-last, OnOk-any, Serves-same, Serves-quiet}
 
 -- ---- acts behind acts
 
@@ -192,7 +199,37 @@ module _ (H : List ℕ → Digest) (r : RelayState) (net : Net) (limit : ℕ) wh
   relayed-quiet o o' out stopped status s =
       Serves-quiet (λ text. refl) o o' out stopped status (Serves-same (λ events. refl) (λ events. sent-none H events r) (λ text. refl) stopped status s)
 
+-- what was written of a feed, and what comes last
+module _ (H : List ℕ → Digest) (r : RelayState) (net : Net) (limit : ℕ) {feed feed' report report' report'' o o' : Option (List ℕ)} where
+  pub script-stopped : (res : Result Status Stop) (stop : Stop) → IsErr res → IsErrAnd res (λ e. e ≡ stop) → WritesInOrder (said_by (relay_machine H) r) (sent_by (relay_machine H) r) net limit feed report report' o o'
+      → (stop ≡ Stop.ReadFault → WritesTaken (said_by (relay_machine H) r) (sent_by (relay_machine H) r) net limit feed feed' report report' o o')
+      → (stop ≡ Stop.WriteFault → KeepsUp (said_by (relay_machine H) r) net limit feed feed' report report')
+      → (out : Option (List ℕ)) → Serves (said_by (relay_machine H) r) (λ events. []) (relayed_feed H r net limit) net limit feed feed' report report' out out (is_err res) (status_in res)
+  script-stopped res stop is h w taken at_once out =
+      relayed-quiet H r net limit o o' out (is_err res) (status_in res)
+      (ends-stopped (relay_machine H) r net limit (relayed_feed H r net limit) (last_relayed H r net limit) (relayed-ends H r net limit) feed feed' report report' o o' res stop is h w taken at_once)
+
+  abbrev last_at : RelayState → Option FeedFault → Answer
+  last_at state ending = let last = relay_last H state ending in record { status = last.status; report = last.report; out = [] }
+
+  last-is : (state : RelayState) (ending : Option FeedFault) (t : TakesAll (relay_machine H) r net limit state feed report report' o o' ending) → last_at state ending ≡ last_relayed H r net limit t.text
+  unfolding last_relayed
+  last-is state ending t = ap₂ last_at t.reached t.ends
+
+  pub script-last : (state : RelayState) (ending : Option FeedFault) → TakesAll (relay_machine H) r net limit state feed report report' o o' ending → (res : Result Status Stop)
+      → IfOk res (λ status. status ≡ (relay_last H state ending).status) → OnOk res (Appends report' report'' (relay_last H state ending).report) → AppendsPart report' report'' (relay_last H state ending).report
+      → (IsErrOf res Stop.ReadFault → ⊥) → KeepsUp (said_by (relay_machine H) r) net limit feed feed' report report'
+      → (out : Option (List ℕ)) → Serves (said_by (relay_machine H) r) (λ events. []) (relayed_feed H r net limit) net limit feed feed' report report'' out out (is_err res) (status_in res)
+  script-last state ending t res p q part never kept out =
+      relayed-quiet H r net limit o o' out (is_err res) (status_in res)
+      (ends-last (relay_machine H) r net limit (relayed_feed H r net limit) (last_relayed H r net limit) feed feed' report report' report'' o o' o' state ending t (relayed-ends H r net limit t.text)
+      (last_at state ending) (last-is state ending t) res p q (OnOk-any res (Appends-nil o')) part (AppendsPart-none o' []) (inr (Appends-nil o')) never kept)
+
 -- ---- a line of a script
+
+pub line-taken : (r : RelayState) (line : Option ScriptLine) (left : List ScriptLine) → IsTaken r.script line left → IsLineTaken r line (record r { script = left })
+line-taken r None left t = (t.0, ap (λ s. let u : RelayState = record r { script = s } in u) (t.1 ∙ sym t.0))
+line-taken r (Some line) left t = (t, refl)
 
 same-some : {X : Type 0} (x y : X) → Some x ≡ Some y → x ≡ y
 same-some x y e = cc
