@@ -25,7 +25,7 @@ fn give_held(
     requires room { length (held_from room.now lost.now gained.now held.old.items) < vec_capacity held.old }
     ensures items { held.new.items ≡ held_from room.now lost.now gained.now held.old.items }
     ensures ascends { AscendByPlace held.new.items }
-    ensures capacity { vec_capacity held.old ≤ vec_capacity held.new }
+    ensures capacity { vec_capacity held.new ≡ vec_capacity held.old }
 {
     match room {
         Some(room) => copy_over(held, &room.before),
@@ -38,8 +38,8 @@ fn undo_in(parts: &mut Parts, mark: Mark)
     requires { Fits mark parts.old }
     ensures kept { parts.new.kept ≡ kept_back mark parts.old.kept }
     ensures held { parts.new.held ≡ held_back mark parts.old.held }
-    ensures kept_room { parts.old.kept_room ≤ parts.new.kept_room }
-    ensures held_room { parts.old.held_room ≤ parts.new.held_room }
+    ensures kept_room { parts.new.kept_room ≡ parts.old.kept_room }
+    ensures held_room { parts.new.held_room ≡ parts.old.held_room }
 {
     let Mark {
         taken,
@@ -60,8 +60,8 @@ pub fn undo<D>(cache: &mut Cache<D>, mark: Mark)
     ensures kept { cache.new.parts.kept ≡ kept_back mark cache.old.parts.kept }
     ensures held { cache.new.parts.held ≡ held_back mark cache.old.parts.held }
     ensures watch { cache.new.watch ≡ cache.old.watch }
-    ensures kept_room { cache.old.parts.kept_room ≤ cache.new.parts.kept_room }
-    ensures held_room { cache.old.parts.held_room ≤ cache.new.parts.held_room }
+    ensures kept_room { cache.new.parts.kept_room ≡ cache.old.parts.kept_room }
+    ensures held_room { cache.new.parts.held_room ≡ cache.old.parts.held_room }
 {
     undo_in(cache.parts(), mark);
 }

@@ -40,8 +40,8 @@ fn delete_in(parts: &mut Parts, mark: &mut Mark, targets: &Targets, pairs: &[(Pl
     ensures leaves { mark.new.leaves ≡ mark.old.leaves }
     ensures adds { mark.new.adds ≡ mark.old.adds }
     ensures watched { mark.new.watched ≡ mark.old.watched }
-    ensures kept_room { parts.old.kept_room ≤ parts.new.kept_room }
-    ensures held_room { parts.old.held_room ≤ parts.new.held_room }
+    ensures kept_room { parts.new.kept_room ≡ parts.old.kept_room }
+    ensures held_room { parts.new.held_room ≡ parts.old.held_room }
 {
     let Some(left) = mark.room.take() else {
         return;
@@ -83,8 +83,8 @@ fn add_in(
     ensures leaves { mark.new.leaves ≡ mark.old.leaves + 1 }
     ensures adds { mark.new.adds + 1 ≡ mark.old.adds }
     ensures watched { mark.new.watched + (if is_some leaf then 1 else 0) ≡ mark.old.watched }
-    ensures kept_room { parts.old.kept_room ≤ parts.new.kept_room }
-    ensures held_room { parts.old.held_room ≤ parts.new.held_room }
+    ensures kept_room { parts.new.kept_room ≡ parts.old.kept_room }
+    ensures held_room { parts.new.held_room ≡ parts.old.held_room }
 {
     mark.count_one(leaf.is_some());
     let Some(left) = mark.room.take() else {
@@ -152,8 +152,8 @@ pub fn after_delete<D>(
     ensures leaves { mark.new.leaves ≡ mark.old.leaves }
     ensures adds { mark.new.adds ≡ mark.old.adds }
     ensures watched { mark.new.watched ≡ mark.old.watched }
-    ensures kept_room { cache.old.parts.kept_room ≤ cache.new.parts.kept_room }
-    ensures held_room { cache.old.parts.held_room ≤ cache.new.parts.held_room }
+    ensures kept_room { cache.new.parts.kept_room ≡ cache.old.parts.kept_room }
+    ensures held_room { cache.new.parts.held_room ≡ cache.old.parts.held_room }
 {
     delete_in(cache.parts(), mark, targets, changes.pairs());
 }
@@ -190,8 +190,8 @@ pub fn after_add<D>(
     ensures leaves { mark.new.leaves ≡ mark.old.leaves + 1 }
     ensures adds { mark.new.adds + 1 ≡ mark.old.adds }
     ensures watched { mark.new.watched + (if is_some leaf then 1 else 0) ≡ mark.old.watched }
-    ensures kept_room { cache.old.parts.kept_room ≤ cache.new.parts.kept_room }
-    ensures held_room { cache.old.parts.held_room ≤ cache.new.parts.held_room }
+    ensures kept_room { cache.new.parts.kept_room ≡ cache.old.parts.kept_room }
+    ensures held_room { cache.new.parts.held_room ≡ cache.old.parts.held_room }
 {
     add_in(cache.parts(), mark, n, digest, joins.list(), leaf);
 }

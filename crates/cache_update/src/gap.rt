@@ -8,7 +8,7 @@ ghost use Rattle.cache_model.specs.Steps.{put as put_of};
 ghost use Rattle.cache_model.specs.Undo.{change, held_key, is_same_place, is_before_place};
 ghost use Rattle.cache_update.specs.Gaps.{EndsBefore, IsGap, around};
 
-use crate::put::{is_before, is_same};
+use crate::put::{append, is_before, is_same};
 use forest_place::Place;
 use uo_digest::Digest;
 
@@ -24,12 +24,12 @@ pub(crate) fn open(held: &mut Vec<(Place, Digest)>, more: &[(Place, Digest)]) ->
     ensures gap { IsGap result.from result.to held.new.items }
     ensures same { around result.from result.to held.new.items ≡ held.old.items }
     ensures size { (vec_len held.old + length more.now ≤ result.to) ⊎ (vec_capacity held.old ≤ result.to) }
-    ensures capacity { vec_capacity held.old ≤ vec_capacity held.new }
+    ensures capacity { vec_capacity held.new ≡ vec_capacity held.old }
 {
     let from = held.len();
     let free = held.capacity() - from;
     let filled = more.len().min(free);
-    let _ = held.extend_from_slice(&more[..filled]);
+    append(held, &more[..filled]);
     Gap {
         from,
         to: held.len(),
@@ -185,7 +185,7 @@ fn shut(list: &mut [(Place, Digest)], gap: Gap) -> usize
 pub(crate) fn close(held: &mut Vec<(Place, Digest)>, gap: Gap)
     requires { IsGap gap.from gap.to held.old.items }
     ensures items { held.new.items ≡ around gap.from gap.to held.old.items }
-    ensures capacity { vec_capacity held.old ≤ vec_capacity held.new }
+    ensures capacity { vec_capacity held.new ≡ vec_capacity held.old }
 {
     let len = shut(held, gap);
     held.truncate(len);

@@ -46,9 +46,9 @@ pub(crate) fn delete_from(
     ensures forest { AreOfForest targets.now.leaves parts.new }
     ensures known { All (IsKnownIn kept.now.leaves kept.now.targets) parts.new.held }
     ensures taken { taken.new.items ≡ taken.old.items ++ filter (is_gone_leaf targets.now.leaves targets.now.targets) parts.old.kept }
-    ensures kept_room { parts.old.kept_room ≤ parts.new.kept_room }
-    ensures held_room { parts.old.held_room ≤ parts.new.held_room }
-    ensures spare_room { vec_capacity scratch.old.spare ≤ vec_capacity scratch.new.spare }
+    ensures kept_room { parts.new.kept_room ≡ parts.old.kept_room }
+    ensures held_room { parts.new.held_room ≡ parts.old.held_room }
+    ensures spare_room { vec_capacity scratch.new.spare ≡ vec_capacity scratch.old.spare }
 {
     move_kept(&mut parts.kept, taken, targets, kept.places());
     delete_held(&mut parts.held, scratch, targets, kept, pairs);
@@ -75,9 +75,9 @@ pub(crate) fn add_to(
     ensures ordered { IsParted parts.new }
     ensures forest { AreOfForest (n + 1) parts.new }
     ensures len { length parts.new.held ≤ length parts.old.held + 2 * length joins.now + 1 }
-    ensures kept_room { parts.old.kept_room ≤ parts.new.kept_room }
-    ensures held_room { parts.old.held_room ≤ parts.new.held_room }
-    ensures spare_room { vec_capacity spare.old ≤ vec_capacity spare.new }
+    ensures kept_room { parts.new.kept_room ≡ parts.old.kept_room }
+    ensures held_room { parts.new.held_room ≡ parts.old.held_room }
+    ensures spare_room { vec_capacity spare.new ≡ vec_capacity spare.old }
 {
     let watched = leaf.is_some();
     add_kept(&mut parts.kept, n, joins, digest, leaf);

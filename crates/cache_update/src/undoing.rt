@@ -66,7 +66,7 @@ fn undo_places(held: &mut Vec<(Place, Digest)>, lost: &[(Place, Digest)], gained
     requires ascends { AscendByPlace held.old.items }
     requires room { length (held_given lost.now gained.now held.old.items) < vec_capacity held.old }
     ensures items { held.new.items ≡ held_given lost.now gained.now held.old.items }
-    ensures capacity { vec_capacity held.old ≤ vec_capacity held.new }
+    ensures capacity { vec_capacity held.new ≡ vec_capacity held.old }
 {
     let gap = open(held, lost);
     let whole = undo_around(held, gap, lost, gained);
@@ -79,7 +79,7 @@ pub(crate) fn undo_held(held: &mut Vec<(Place, Digest)>, lost: &[(Place, Digest)
     requires room { length (held_given lost.now gained.now held.old.items) < vec_capacity held.old }
     ensures items { held.new.items ≡ held_given lost.now gained.now held.old.items }
     ensures ascends { AscendByPlace held.new.items }
-    ensures capacity { vec_capacity held.old ≤ vec_capacity held.new }
+    ensures capacity { vec_capacity held.new ≡ vec_capacity held.old }
 {
     undo_places(held, lost, gained);
 }
@@ -89,7 +89,7 @@ fn take_out_entry(kept: &mut Vec<Kept>, number: u64)
     requires { AscendByNumber kept.old.items }
     ensures items { kept.new.items ≡ change is_same_number is_before_number leaf_key number (λ now. None) kept.old.items }
     ensures ascends { AscendByNumber kept.new.items }
-    ensures capacity { vec_capacity kept.old ≤ vec_capacity kept.new }
+    ensures capacity { vec_capacity kept.new ≡ vec_capacity kept.old }
 {
     let i = index_of_number(kept, number);
     if i == kept.len() {
@@ -105,7 +105,7 @@ fn set_place(kept: &mut Vec<Kept>, number: u64, place: Place)
     requires { AscendByNumber kept.old.items }
     ensures items { kept.new.items ≡ change is_same_number is_before_number leaf_key number (λ now. option_map (at_place (number, place)) now) kept.old.items }
     ensures ascends { AscendByNumber kept.new.items }
-    ensures capacity { vec_capacity kept.old ≤ vec_capacity kept.new }
+    ensures capacity { vec_capacity kept.new ≡ vec_capacity kept.old }
 {
     let i = index_of_number(kept, number);
     if i == kept.len() {
@@ -122,11 +122,11 @@ fn put_entry(kept: &mut Vec<Kept>, entry: Kept)
     requires room { vec_len kept.old < vec_capacity kept.old }
     ensures items { kept.new.items ≡ change is_same_number is_before_number leaf_key entry.number (λ now. Some entry) kept.old.items }
     ensures ascends { AscendByNumber kept.new.items }
-    ensures capacity { vec_capacity kept.old ≤ vec_capacity kept.new }
+    ensures capacity { vec_capacity kept.new ≡ vec_capacity kept.old }
 {
     let i = index_of_number(kept, entry.number);
     if i == kept.len() {
-        let _ = kept.push(entry);
+        kept.push_reserved(entry);
     } else if entry.number == kept[i].number {
         kept[i] = entry;
     } else {
@@ -139,7 +139,7 @@ fn take_out_added(kept: &mut Vec<Kept>, added: &[u64])
     requires { AscendByNumber kept.old.items }
     ensures items { kept.new.items ≡ undo_entries (map entry_none added.now) kept.old.items }
     ensures ascends { AscendByNumber kept.new.items }
-    ensures capacity { vec_capacity kept.old ≤ vec_capacity kept.new }
+    ensures capacity { vec_capacity kept.new ≡ vec_capacity kept.old }
 {
     let mut i = added.len();
     while i > 0 {
@@ -153,7 +153,7 @@ fn set_places(kept: &mut Vec<Kept>, stood: &[(u64, Place)])
     requires { AscendByNumber kept.old.items }
     ensures items { kept.new.items ≡ undo_entries (map entry_stood stood.now) kept.old.items }
     ensures ascends { AscendByNumber kept.new.items }
-    ensures capacity { vec_capacity kept.old ≤ vec_capacity kept.new }
+    ensures capacity { vec_capacity kept.new ≡ vec_capacity kept.old }
 {
     let mut i = stood.len();
     while i > 0 {
@@ -168,7 +168,7 @@ fn put_back_taken(kept: &mut Vec<Kept>, taken: Vec<Kept>)
     requires room { length (undo_entries (map entry_was taken.items) kept.old.items) < vec_capacity kept.old }
     ensures items { kept.new.items ≡ undo_entries (map entry_was taken.items) kept.old.items }
     ensures ascends { AscendByNumber kept.new.items }
-    ensures capacity { vec_capacity kept.old ≤ vec_capacity kept.new }
+    ensures capacity { vec_capacity kept.new ≡ vec_capacity kept.old }
 {
     let mut left = taken;
     while let Some(entry) = left.pop() {
@@ -187,7 +187,7 @@ pub(crate) fn undo_kept(
     requires room { length (kept_given taken.items stood.now added.now kept.old.items) < vec_capacity kept.old }
     ensures items { kept.new.items ≡ kept_given taken.items stood.now added.now kept.old.items }
     ensures ascends { AscendByNumber kept.new.items }
-    ensures capacity { vec_capacity kept.old ≤ vec_capacity kept.new }
+    ensures capacity { vec_capacity kept.new ≡ vec_capacity kept.old }
 {
     take_out_added(kept, added);
     set_places(kept, stood);

@@ -17,17 +17,18 @@ loop-i-preserved-in-Some c =
       left = left_set (λ (k : Kept). InForest c.args.targets.now.leaves k.place.row k.place.off) c.loop-i.kept.items c.loop-i.i (at_place c.index_mut.result.now c.in-Some.place) (left_on (λ (k : Kept). InForest c.args.targets.now.leaves k.place.row k.place.off) c.loop-i.kept.items c.loop-i.i c.index.result.now (omega arith) c.loop-i.invariant.left);
     }
 
+pub push_reserved-requires : goal.push_reserved-requires
+push_reserved-requires c = omega (arith, c.loop-i.invariant.len, c.loop-i.invariant.taken_room, c.requires.room, c.loop-i-test.true)
+
 pub loop-i-preserved : goal.loop-i-preserved
 loop-i-preserved c =
     let m = sym c.moved.ensures.is ∙ c.in-None.is in
-    let room = c.push.ensures.succeeds (omega (arith, c.loop-i.invariant.len, c.loop-i.invariant.taken_room, c.requires.room, c.loop-i-test.true)) in
-    let pushed = c.push.ensures.items ∙ ap (λ b. cond b (c.loop-i.taken.items ++ c.remove-entry.result ∷ []) c.loop-i.taken.items) room in
     record {
       stay = go_on c.args.targets.now.leaves c.args.targets.now.targets c.loop-i.kept.items c.remove-entry.new.self.items c.loop-i.i c.index.result.now _ (omega arith) c.index.ensures m c.remove-entry.ensures.items c.loop-i.invariant.stay;
-      gone = c.loop-i.invariant.gone ∙ taken_on c.args.targets.now.leaves c.args.targets.now.targets c.loop-i.kept.items c.remove-entry.new.self.items c.loop-i.taken.items c.push.new.self.items c.loop-i.i c.index.result.now c.remove-entry.result (omega arith) c.index.ensures c.remove-entry.ensures.value m c.remove-entry.ensures.items pushed;
+      gone = c.loop-i.invariant.gone ∙ taken_on c.args.targets.now.leaves c.args.targets.now.targets c.loop-i.kept.items c.remove-entry.new.self.items c.loop-i.taken.items c.push_reserved.new.self.items c.loop-i.i c.index.result.now c.remove-entry.result (omega arith) c.index.ensures c.remove-entry.ensures.value m c.remove-entry.ensures.items c.push_reserved.ensures.items;
       within = omega (arith, c.loop-i-test.true, c.remove-entry.ensures.len);
-      len = omega (arith, c.loop-i.invariant.len, c.remove-entry.ensures.len, c.push.ensures.upper_bound);
-      taken_room = omega (arith, c.loop-i.invariant.taken_room, c.push.ensures.capacity);
+      len = omega (arith, c.loop-i.invariant.len, c.remove-entry.ensures.len, c.push_reserved.ensures.len);
+      taken_room = omega (arith, c.loop-i.invariant.taken_room, c.push_reserved.ensures.capacity);
       kept_room = omega (arith, c.loop-i.invariant.kept_room, c.remove-entry.ensures.capacity);
       left = subst (λ xs. All (λ (k : Kept). InForest c.args.targets.now.leaves k.place.row k.place.off) (drop c.loop-i.i xs)) (sym c.remove-entry.ensures.items)
           (subst (All (λ (k : Kept). InForest c.args.targets.now.leaves k.place.row k.place.off)) (sym (drop_removed c.loop-i.kept.items c.loop-i.i (omega arith)))

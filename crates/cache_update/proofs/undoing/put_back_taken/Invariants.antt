@@ -7,7 +7,7 @@ abbrev pub invariant-loop-entry : goal.invariant-loop-entry
 invariant-loop-entry l = record {
   rest : undo_entries (map entry_was l.fn.taken.items) l.initial.kept.items ≡ undo_entries (map entry_was l.left.items) l.kept.items;
   ascends : AscendByNumber l.kept.items;
-  room : vec_capacity l.initial.kept ≤ vec_capacity l.kept;
+  room : vec_capacity l.kept ≡ vec_capacity l.initial.kept;
 }
 
 abbrev pub decreases-loop-entry : goal.decreases-loop-entry

@@ -8,8 +8,8 @@ use Rattle.cache_update.proofs.undoing.put_entry.Goals as goal
 
 pub returns-then-i-len-clause-items : goal.returns-then-i-len-clause-items
 returns-then-i-len-clause-items c =
-    c.push.ensures.items ∙ (ap (λ b. cond b (c.args.kept.now.items ++ c.args.entry ∷ []) c.args.kept.now.items) (c.push.ensures.succeeds c.requires.room)
-    ∙ sym (entry_end c.args.kept.now.items c.args.entry.number c.index_of_number-i.result (rw c.deref.ensures.value at c.index_of_number-i.ensures) c.args.entry (omega arith)))
+    c.push_reserved.ensures.items
+    ∙ sym (entry_end c.args.kept.now.items c.args.entry.number c.index_of_number-i.result (rw c.deref.ensures.value at c.index_of_number-i.ensures) c.args.entry (omega arith))
 
 pub returns-then-i-len-clause-ascends : goal.returns-then-i-len-clause-ascends
 returns-then-i-len-clause-ascends c = changed_ascends c.args.kept.now.items _ c.args.entry.number (λ now. Some c.args.entry) c.requires.ascends (entry_keeps c.args.entry) (returns-then-i-len-clause-items c)
@@ -29,3 +29,6 @@ returns-else-entry-index-clause-items c =
 
 pub returns-else-entry-index-clause-ascends : goal.returns-else-entry-index-clause-ascends
 returns-else-entry-index-clause-ascends c = changed_ascends c.args.kept.now.items _ c.args.entry.number (λ now. Some c.args.entry) c.requires.ascends (entry_keeps c.args.entry) (returns-else-entry-index-clause-items c)
+
+pub returns-else-entry-index-clause-capacity : goal.returns-else-entry-index-clause-capacity
+returns-else-entry-index-clause-capacity c = (c.insert.ensures.in_place c.requires.room).1.0

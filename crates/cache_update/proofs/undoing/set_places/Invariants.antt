@@ -8,7 +8,7 @@ invariant-loop-i l = record {
   rest : undo_entries (map entry_stood l.stood) l.initial.kept.items ≡ undo_entries (map entry_stood (take l.i l.stood)) l.kept.items;
   ascends : AscendByNumber l.kept.items;
   within : l.i ≤ length l.stood;
-  room : vec_capacity l.initial.kept ≤ vec_capacity l.kept;
+  room : vec_capacity l.kept ≡ vec_capacity l.initial.kept;
 }
 
 abbrev pub decreases-loop-i : goal.decreases-loop-i

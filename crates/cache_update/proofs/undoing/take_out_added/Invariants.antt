@@ -8,7 +8,7 @@ invariant-loop-i l = record {
   rest : undo_entries (map entry_none l.added) l.initial.kept.items ≡ undo_entries (map entry_none (take l.i l.added)) l.kept.items;
   ascends : AscendByNumber l.kept.items;
   within : l.i ≤ length l.added;
-  room : vec_capacity l.initial.kept ≤ vec_capacity l.kept;
+  room : vec_capacity l.kept ≡ vec_capacity l.initial.kept;
 }
 
 abbrev pub decreases-loop-i : goal.decreases-loop-i
