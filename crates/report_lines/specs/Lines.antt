@@ -1,9 +1,13 @@
 -- The text of the report.
-use Rattle.std.specs.Prelude.{ℕ, List, ◌∷◌, [], ◌++◌, Some, None, codes, decimal, reverse}
+use Rattle.std.specs.Prelude.{ℕ, List, ◌∷◌, [], ◌++◌, Option, Some, None, codes, decimal, reverse}
 use Rattle.hex.specs.Hex.{encode_lower}
 use Rattle.uo_digest.specs.declared.digest.Digest.{Digest}
+use Rattle.report_lines.specs.declared.line.CheckFault.{CheckFault}
+use Rattle.report_lines.specs.declared.line.CheckFault.TheVariants as Check
+use Rattle.report_lines.specs.declared.line.ReplyKind.{ReplyKind}
+use Rattle.report_lines.specs.declared.line.ReplyKind.TheVariants.{Next, Same, Back, Lost}
 use Rattle.report_lines.specs.declared.line.Line.{Line}
-use Rattle.report_lines.specs.declared.line.Line.TheVariants.{Verdict as Told, End, Words, FrameMagic, FrameCut, FrameLong, FrameRollback, LimitFeed, PriorForm, PriorVersion, Watch, LimitPrior, LimitWatch, Supply, Clash, Generated, UpgradedFeed, UpgradedState, Ordered, NoTip, Missing, Loop}
+use Rattle.report_lines.specs.declared.line.Line.TheVariants.{Verdict as Told, End, Words, FrameMagic, FrameCut, FrameLong, FrameRollback, LimitFeed, PriorForm, PriorVersion, Watch, LimitPrior, LimitWatch, Supply, Clash, Generated, UpgradedFeed, UpgradedState, Ordered, NoTip, Missing, Loop, Ticket, NoTicket, CheckLive, CheckFails, TicketClash, Asked, Replied, Moved, Stale, Unknown, Node, NoEvent, Script}
 use Rattle.block_rules.specs.declared.refusal.ProofRefusal.{ProofRefusal}
 use Rattle.block_rules.specs.declared.refusal.ProofRefusal.TheVariants.{Outside, Repeated, Beneath, HashCount, EmptyRoot, RootDiffers}
 use Rattle.block_rules.specs.declared.refusal.WitnessFault.{WitnessFault}
@@ -67,6 +71,24 @@ verdict_text (RolledBack count None hash leaves) = codes "rolledback " ++ decima
 verdict_text (TooDeep asked kept) = codes "toodeep " ++ decimal asked ++ codes " " ++ decimal kept
 verdict_text Stray = codes "stray"
 
+-- why a ticket is not accepted: what a verdict says of a proof follows the word `proof` there
+abbrev pub check_fault_text : CheckFault → List ℕ
+check_fault_text Check.Form = codes "form"
+check_fault_text (Check.Version version) = with_one (codes "version") version
+check_fault_text Check.Tip = codes "tip"
+check_fault_text (Check.Proof why) = proof_text why
+
+abbrev pub reply_text : ReplyKind → List ℕ
+reply_text Next = codes "next"
+reply_text Same = codes "same"
+reply_text (Back count) = with_one (codes "back") count
+reply_text Lost = codes "lost"
+
+-- height and hash of the newest block, if there is one
+abbrev pub tip_text : Option (ℕ × Digest) → List ℕ
+tip_text (Some tip) = decimal tip.0 ++ codes " " ++ hash_text tip.1
+tip_text None = codes "- -"
+
 -- the words of a line
 abbrev pub line_text : Line → List ℕ
 line_text (Told verdict) = verdict_text verdict
@@ -92,6 +114,19 @@ line_text (Ordered blocks passed) = codes "ordered " ++ decimal blocks ++ codes 
 line_text NoTip = codes "notip"
 line_text (Missing hash) = codes "missing " ++ hash_text hash
 line_text (Loop hash) = codes "loop " ++ hash_text hash
+line_text (Ticket number bytes) = with_two (codes "ticket") number bytes
+line_text NoTicket = codes "ticket none"
+line_text (CheckLive txid index amount) = codes "check live " ++ hash_text txid ++ codes " " ++ decimal index ++ codes " " ++ decimal amount
+line_text (CheckFails why) = codes "check " ++ check_fault_text why
+line_text TicketClash = codes "clash ticket"
+line_text (Asked ask) = with_one (codes "asked") ask
+line_text (Replied reply kind) = codes "replied " ++ decimal reply ++ codes " " ++ reply_text kind
+line_text (Moved serial) = with_one (codes "moved") serial
+line_text Stale = codes "stale"
+line_text Unknown = codes "unknown"
+line_text (Node follower serial tip leaves) = codes "node " ++ decimal follower ++ codes " " ++ decimal serial ++ codes " " ++ tip_text tip ++ codes " " ++ decimal leaves
+line_text NoEvent = codes "bridge none"
+line_text (Script number) = with_one (codes "script") number
 
 -- a line with its end
 unfoldable pub whole_line : Line → List ℕ
@@ -103,7 +138,15 @@ whole_line line = line_text line ++ 10 ∷ []
 abbrev pub hex_line : List ℕ → List ℕ → List ℕ
 hex_line word bytes = word ++ codes " " ++ encode_lower bytes ++ 10 ∷ []
 
--- how many events came before it, both texts, and their digest
+-- both texts, and their digest
+unfoldable pub text_lines : (first second : List ℕ) → Digest → List ℕ
+text_lines first second digest = hex_line (codes "first") first ++ hex_line (codes "second") second ++ hex_line (codes "digest") digest.0
+
+-- behind how many events came before it
 unfoldable pub clash_lines : (events : ℕ) → (first second : List ℕ) → Digest → List ℕ
 clash_lines events first second digest =
-    whole_line (Clash events) ++ hex_line (codes "first") first ++ hex_line (codes "second") second ++ hex_line (codes "digest") digest.0
+    whole_line (Clash events) ++ text_lines first second digest
+
+-- of a ticket
+unfoldable pub ticket_clash_lines : (first second : List ℕ) → Digest → List ℕ
+ticket_clash_lines first second digest = whole_line TicketClash ++ text_lines first second digest

@@ -2,10 +2,83 @@
 ghost use Rattle.std.specs.Prelude.{Some};
 
 use crate::hash_text::{HashText, PlainText};
-use crate::verdict::VerdictText;
-use block_rules::Verdict;
+use crate::verdict::{ProofText, VerdictText};
+use block_rules::{ProofRefusal, Verdict};
 use std::fmt;
 use uo_digest::Digest;
+
+/// Why a ticket is not accepted.
+#[derive(Clone, Copy, Debug, PartialEq, Eq)]
+pub enum CheckFault {
+    /// The text is no ticket.
+    Form,
+    /// The text is a ticket of this version.
+    Version(u8),
+    /// The ticket is of another block than the newest one.
+    Tip,
+    /// The ticket's proof is refused.
+    Proof(ProofRefusal),
+}
+
+impl fmt::Display for CheckFault {
+    ghost use Rattle.report_lines.specs.Lines.{check_fault_text};
+
+    ghost output = { λ why. Some (check_fault_text why) };
+
+    fn fmt<W: fmt::Write>(&self, f: &mut fmt::Formatter<W>) -> fmt::Result {
+        match self {
+            CheckFault::Form => f.write_str("form"),
+            CheckFault::Version(version) => write!(f, "version {version}"),
+            CheckFault::Tip => f.write_str("tip"),
+            CheckFault::Proof(why) => write!(f, "{}", ProofText(why)),
+        }
+    }
+}
+
+/// What a bridge replies to a follower.
+#[derive(Clone, Copy, Debug, PartialEq, Eq)]
+pub enum ReplyKind {
+    /// The block behind the follower's newest one.
+    Next,
+    /// The follower has the newest block.
+    Same,
+    /// So many blocks are to be taken back.
+    Back(u32),
+    /// None of the follower's blocks is on the bridge's chain.
+    Lost,
+}
+
+impl fmt::Display for ReplyKind {
+    ghost use Rattle.report_lines.specs.Lines.{reply_text};
+
+    ghost output = { λ kind. Some (reply_text kind) };
+
+    fn fmt<W: fmt::Write>(&self, f: &mut fmt::Formatter<W>) -> fmt::Result {
+        match self {
+            ReplyKind::Next => f.write_str("next"),
+            ReplyKind::Same => f.write_str("same"),
+            ReplyKind::Back(count) => write!(f, "back {count}"),
+            ReplyKind::Lost => f.write_str("lost"),
+        }
+    }
+}
+
+/// Height and hash of the newest block, if there is one.
+#[derive(Clone, Copy)]
+struct TipText<'a>(&'a Option<(u32, Digest)>);
+
+impl fmt::Display for TipText<'_> {
+    ghost use Rattle.report_lines.specs.Lines.{tip_text};
+
+    ghost output = { λ tip. Some (tip_text tip.0.now) };
+
+    fn fmt<W: fmt::Write>(&self, f: &mut fmt::Formatter<W>) -> fmt::Result {
+        match self.0 {
+            Some((height, hash)) => write!(f, "{height} {}", HashText(hash)),
+            None => f.write_str("- -"),
+        }
+    }
+}
 
 /// A line of the report, without the byte that ends it.
 #[derive(Clone, Copy, Debug, PartialEq, Eq)]
@@ -83,6 +156,47 @@ pub enum Line {
     Missing(Digest),
     /// On the way back from the tip the block of this hash is met for the second time.
     Loop(Digest),
+    /// The ticket of the entry with this number was written, of so many bytes.
+    Ticket {
+        number: u64,
+        bytes: u64,
+    },
+    /// No kept entry has the number.
+    NoTicket,
+    /// The output of a ticket is unspent: its outpoint and its amount in satoshi.
+    CheckLive {
+        txid: Digest,
+        index: u32,
+        amount: u64,
+    },
+    /// A ticket is not accepted.
+    CheckFails(CheckFault),
+    /// A ticket is accepted and false.
+    TicketClash,
+    /// An ask was stored, with this number.
+    Asked(u64),
+    /// A reply was stored, with this number.
+    Replied {
+        reply: u64,
+        kind: ReplyKind,
+    },
+    /// A follower took a reply, and its newest block has this serial now; 0 stands for no block.
+    Moved(u64),
+    /// A reply does not apply to the follower.
+    Stale,
+    /// There is no such follower, ask or reply.
+    Unknown,
+    /// A follower at the end: its number, the serial, height and hash of its newest block, the entries ever added.
+    Node {
+        follower: u32,
+        serial: u64,
+        tip: Option<(u32, Digest)>,
+        leaves: u64,
+    },
+    /// The bridge's feed has no further event.
+    NoEvent,
+    /// The script has a bad line of this number, from 1 on.
+    Script(u64),
 }
 
 impl fmt::Display for Line {
@@ -131,6 +245,28 @@ impl fmt::Display for Line {
             Line::NoTip => f.write_str("notip"),
             Line::Missing(hash) => write!(f, "missing {}", HashText(hash)),
             Line::Loop(hash) => write!(f, "loop {}", HashText(hash)),
+            Line::Ticket { number, bytes } => write!(f, "ticket {number} {bytes}"),
+            Line::NoTicket => f.write_str("ticket none"),
+            Line::CheckLive {
+                txid,
+                index,
+                amount,
+            } => write!(f, "check live {} {index} {amount}", HashText(txid)),
+            Line::CheckFails(why) => write!(f, "check {why}"),
+            Line::TicketClash => f.write_str("clash ticket"),
+            Line::Asked(ask) => write!(f, "asked {ask}"),
+            Line::Replied { reply, kind } => write!(f, "replied {reply} {kind}"),
+            Line::Moved(serial) => write!(f, "moved {serial}"),
+            Line::Stale => f.write_str("stale"),
+            Line::Unknown => f.write_str("unknown"),
+            Line::Node {
+                follower,
+                serial,
+                tip,
+                leaves,
+            } => write!(f, "node {follower} {serial} {} {leaves}", TipText(tip)),
+            Line::NoEvent => f.write_str("bridge none"),
+            Line::Script(line) => write!(f, "script {line}"),
         }
     }
 }

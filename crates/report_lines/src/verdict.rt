@@ -7,7 +7,7 @@ use std::fmt;
 
 /// Why a proof is refused.
 #[derive(Clone, Copy)]
-struct ProofText<'a>(&'a ProofRefusal);
+pub(crate) struct ProofText<'a>(pub &'a ProofRefusal);
 
 impl fmt::Display for ProofText<'_> {
     ghost use Rattle.report_lines.specs.Lines.{proof_text};
