@@ -142,4 +142,5 @@ def main(words):
         print(*counts, size, digest.hexdigest())
 
 
-main(sys.argv[1:])
+if __name__ == "__main__":
+    main(sys.argv[1:])

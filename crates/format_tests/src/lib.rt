@@ -1,6 +1,6 @@
-//! Tests of what is read and written: ports, digests, leaf texts, messages, feeds, generated feeds, the program's words and its lines.
+//! Tests of what is read and written: ports, digests, leaf texts, messages, feeds, generated feeds, the program's words, scripts and lines.
 //!
-//! They stand in a crate of their own, so that none of these nine crates is proved a second time for them.
+//! They stand in a crate of their own, so that none of these ten crates is proved a second time for them.
 #![tactic(auto)]
 
 ghost use Rattle.std.specs.Prelude.{◌≡◌, replicate};

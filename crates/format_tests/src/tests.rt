@@ -6,4 +6,5 @@ mod leaves;
 mod lines;
 mod messages;
 mod ports;
+mod scripts;
 mod words;

@@ -1,5 +1,5 @@
 -- Where nothing that is read is bad, the answer's status is that of a feed that was read to its end.
-use Rattle.std.proofs.Common.{arith, ◌≡◌, ◌⊎◌, inl, inr, ◌<◌, ◌^◌, ℕ, Bool, true, false, List, length, None, Result, Ok, Err, is_some, refl, sym, ap, subst, ◌∙◌}
+use Rattle.std.proofs.Common.{arith, ◌≡◌, ◌⊎◌, inl, inr, ◌<◌, ◌^◌, ℕ, Bool, true, false, List, length, None, Result, Ok, Err, is_some, refl, sym, ap, ap₂, subst, ◌∙◌}
 use Rattle.std.specs.declared.option.Option.{Option}
 use Rattle.uo_base.specs.declared.event.Limits.{Limits}
 use Rattle.uo_base.specs.declared.event.Net.{Net}
@@ -23,7 +23,7 @@ use Rattle.feed_run.specs.declared.status.Status.TheVariants.{AllAccepted, Clash
 use Rattle.feed_run.specs.Status.{is_stop, status_of}
 use Rattle.command_words.specs.declared.words.WordFault.{WordFault}
 use Rattle.command_words.specs.Options.{Settings}
-use Rattle.command_words.specs.Words.{Asked, Task, Following, Proving, Auditing, Generating, UpgradingFeed, UpgradingState, Ordering, net_for}
+use Rattle.command_words.specs.Words.{Asked, Task, Following, Proving, Auditing, Generating, UpgradingFeed, UpgradingState, Ordering, Ticketing, Checking, Rechecking, Relaying, net_for}
 use Rattle.node_commands.specs.declared.bad_input.BadInput.{BadInput}
 use Rattle.node_commands.specs.Answers.{bad_end, last_of}
 use Rattle.node_commands.specs.Auditing.{auditing}
@@ -35,6 +35,9 @@ use Rattle.node_commands.specs.Generating.{gen_answer, generating}
 use Rattle.node_commands.specs.Meaning.{answer_by, IsEnd}
 use Rattle.node_commands.specs.Ordering.{hash_named, order_answer, ordering}
 use Rattle.node_commands.specs.Prover.{prove_answer, proving}
+use Rattle.relay_script.specs.declared.line.ScriptLine.{ScriptLine}
+use Rattle.node_commands.specs.Relayer.{relay_answer}
+use Rattle.node_commands.specs.Relaying.{RelayStart, lists_for, prior_text, script_of, relay_start, IsGoodRelay, relaying}
 use Rattle.node_commands.specs.Starting.{Start, IsNodeOf, IsStart, IsUsable, IsGoodBehind}
 use Rattle.node_commands.specs.Upgrading.{upgrading_state}
 use Rattle.node_commands.specs.UpgradingFeed.{upgrade_feed_answer, upgrading_feed}
@@ -83,6 +86,10 @@ module _ (H : List ℕ → Digest) (limits : Limits) where
       → IsEnd (audit_answer H limits net scripts feed).status ⊎ ((audit_answer H limits net scripts feed).status ≡ Clash)
   unfolding audit_answer
   audited net scripts feed whole = unless_forged _ _ _ _ (at_end _ _ whole (read_to_end _))
+
+  relayed : (net : Net) (lists : List (List (List ℕ))) (script : List ScriptLine) (feed : List ℕ) → (events_of net limits.bytes feed).ending ≡ None → IsEnd (relay_answer H limits net lists script feed).status
+  unfolding relay_answer
+  relayed net lists script feed whole = at_end _ _ whole (read_to_end _)
 
   -- ---- from a state
 
@@ -144,6 +151,13 @@ module _ (H : List ℕ → Digest) (limits : Limits) (few : limits.leaves < 2 ^ 
       → IsEnd (answer_by (ordering limits.bytes net tip) begun feed).status
   order-ends net tip begun is whole = subst (λ (b : Result (Unit {0}) BadInput). IsEnd (answer_by (ordering limits.bytes net tip) b feed).status) (sym is) (ordered limits net tip feed whole)
 
+  relay-ends : (followers : ℕ) (net : Net) (scripted listed : Bool) (begun : Result RelayStart BadInput)
+      → begun ≡ relay_start followers (list_in listed limits.bytes watch) (script_of (prior_text scripted limits.bytes prior)) → IsGoodRelay scripted listed net limits feed prior watch
+      → IsEnd (answer_by (relaying H limits followers net scripted listed) begun feed).status
+  relay-ends followers net scripted listed begun is g =
+      subst (λ (b : Result RelayStart BadInput). IsEnd (answer_by (relaying H limits followers net scripted listed) b feed).status)
+      (sym (is ∙ ap₂ (relay_start followers) g.good.usable g.runs)) (relayed H limits net (lists_for followers (scripts_of g.good.scripts)) g.script feed g.good.whole)
+
   task-ends : (task : Task) (s : Settings) (begun : Result (meaning_for H limits task s).Begun BadInput) → (meaning_for H limits task s).Begins prior watch begun → (meaning_for H limits task s).AreGood feed prior watch
       → (meaning_for H limits task s).Ends (answer_by (meaning_for H limits task s) begun feed).status
   task-ends Following s begun is g = from-ends (is_some s.from) (net_for s.net) (is_some s.watch) begun is g
@@ -153,6 +167,10 @@ module _ (H : List ℕ → Digest) (limits : Limits) (few : limits.leaves < 2 ^ 
   task-ends UpgradingFeed s begun is g = upgrade-ends (net_for s.net) (is_some s.watch) begun is g
   task-ends UpgradingState s begun is g = state-ends begun is g
   task-ends (Ordering tip) s begun is g = order-ends (net_for s.net) (hash_named tip) begun is g
+  task-ends (Ticketing number) s begun is g = absurd g
+  task-ends Checking s begun is g = absurd g
+  task-ends Rechecking s begun is g = absurd g
+  task-ends (Relaying followers) s begun is g = relay-ends followers (net_for s.net) (is_some s.from) (is_some s.watch) begun is g
 
   pub ends-by : (asked : Result Asked WordFault) (begun : Result (meaning_by H limits asked).Begun BadInput) → (meaning_by H limits asked).Begins prior watch begun → (meaning_by H limits asked).AreGood feed prior watch
       → (meaning_by H limits asked).Ends (answer_by (meaning_by H limits asked) begun feed).status
@@ -171,6 +189,10 @@ task-stops H limits (Generating number blocks) s status stops = inr (inr stops)
 task-stops H limits UpgradingFeed s status stops = inr stops
 task-stops H limits UpgradingState s status stops = inr stops
 task-stops H limits (Ordering tip) s status stops = inr (inr stops)
+task-stops H limits (Ticketing number) s status stops = inr (inr stops)
+task-stops H limits Checking s status stops = inr (inr stops)
+task-stops H limits Rechecking s status stops = inr (inr stops)
+task-stops H limits (Relaying followers) s status stops = inr (inr stops)
 
 pub stops-by : (H : List ℕ → Digest) (limits : Limits) (asked : Result Asked WordFault) (status : Status) → is_stop status ≡ true → (meaning_by H limits asked).Ends status
 stops-by H limits (Ok asked) status stops = task-stops H limits asked.task asked.given status stops

@@ -174,7 +174,7 @@ one_of : (P : FeedEvent → Type 0) (front : List FeedEvent) (event : FeedEvent)
 one_of P [] event later h = (tt, h.0)
 one_of P (f ∷ front) event later h = let w = one_of P front event later h.1 in ((h.0, w.0), w.1)
 
-block_bytes : (event : FeedEvent) → IsMadeOfBytes event → AreEventBytes event
+pub block_bytes : (event : FeedEvent) → IsMadeOfBytes event → AreEventBytes event
 block_bytes (Feed.BlockCame bytes None) h = h
 block_bytes (Feed.BlockCame bytes (Some message)) h = h.0
 block_bytes (Feed.RollbackCame count) h = tt

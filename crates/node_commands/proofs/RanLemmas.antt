@@ -15,7 +15,7 @@ use Rattle.uo_digest.specs.declared.digest.Digest.{Digest}
 use Rattle.bridge_prover.specs.Watched.{scripts_of}
 use Rattle.command_words.specs.declared.words.WordFault.{WordFault}
 use Rattle.command_words.specs.Options.{Settings}
-use Rattle.command_words.specs.Words.{Asked, Task, Following, Proving, Auditing, Generating, UpgradingFeed, UpgradingState, Ordering, net_for, command_of}
+use Rattle.command_words.specs.Words.{Asked, Task, Following, Proving, Auditing, Generating, UpgradingFeed, UpgradingState, Ordering, Ticketing, Checking, Rechecking, Relaying, net_for, command_of}
 use Rattle.feed_frame.specs.Events.{events_of, events_over, settled_in, settled_of}
 use Rattle.feed_frame.specs.Frames.{frames_from, past_limit, within}
 use Rattle.feed_frame.specs.Streamed.{KeepsUp}
@@ -38,6 +38,7 @@ use Rattle.node_commands.proofs.FollowLemmas.{prints-as-full}
 use Rattle.node_commands.proofs.ForgingLemmas.{audits-feed}
 use Rattle.node_commands.proofs.OrderLemmas.{orders-feed}
 use Rattle.node_commands.proofs.ProvingLemmas.{follows-proving}
+use Rattle.node_commands.proofs.RelayLemmas.{relays-on-branches}
 use Rattle.node_commands.proofs.ServeLemmas.{failed-so}
 use Rattle.node_commands.proofs.StartLemmas.{resumes-as-full}
 use Rattle.node_commands.proofs.UpgradeLemmas.{states_are_upgraded}
@@ -224,6 +225,10 @@ module _ (H : List ℕ → Digest) (long : (x : List ℕ) → length (H x).0 ≡
   task-claims UpgradingFeed s inputs begins = IfOk-any _ (λ list. follows-upgraded-afresh H limits (net_for s.net) few short list inputs.feed) (list_in (is_some s.watch) limits.bytes inputs.watch)
   task-claims UpgradingState s inputs begins = state-claims inputs.prior inputs.begun begins
   task-claims (Ordering tip) s inputs begins = orders-feed (net_for s.net) limits.bytes (hash_named tip) inputs.feed
+  task-claims (Ticketing number) s inputs begins = tt
+  task-claims Checking s inputs begins = tt
+  task-claims Rechecking s inputs begins = tt
+  task-claims (Relaying followers) s inputs begins = relays-on-branches H long limits few short (net_for s.net) inputs.feed inputs.begun
 
   claims : (asked : Result Asked WordFault) (inputs : Inputs (meaning_by H limits asked).Begun) → IfSome inputs.begun ((meaning_by H limits asked).Begins inputs.prior inputs.watch)
       → (meaning_by H limits asked).Claims inputs

@@ -42,22 +42,28 @@ failed-so Stop.ReadFault e = refl
 failed-so Stop.WriteFault e = cc
 failed-so Stop.NoMemory e = cc
 
+-- what a run answers to a feed's bytes: what its machine writes of the events, and what comes last
+pub record Ends {S : Type 0} (m : Machine S) (start : S) (net : Net) (limit : ℕ) (answer last : List ℕ → Answer) (text : List ℕ) : Type 0 where
+  pub answered : (answer text).status ≡ (last text).status
+  pub reported : (answer text).report ≡ said_by m start (events_of net limit text).events ++ (last text).report
+  pub sent : (answer text).out ≡ sent_by m start (events_of net limit text).events ++ (last text).out
+
 -- ---- a fault or want of memory stopped the loop over the events
 
-module _ {S : Type 0} (m : Machine S) (start : S) (net : Net) (limit : ℕ) (feed feed' report report' out out' : Option (List ℕ)) where
+module _ {S : Type 0} (m : Machine S) (start : S) (net : Net) (limit : ℕ) (answer last : List ℕ → Answer) (ends : (text : List ℕ) → Ends m start net limit answer last text)
+    (feed feed' report report' out out' : Option (List ℕ)) where
   stopped-at : (stop : Stop) → WritesInOrder (said_by m start) (sent_by m start) net limit feed report report' out out'
       → (stop ≡ Stop.ReadFault → WritesTaken (said_by m start) (sent_by m start) net limit feed feed' report report' out out')
       → (stop ≡ Stop.WriteFault → KeepsUp (said_by m start) net limit feed feed' report report')
-      → Serves (said_by m start) (sent_by m start) (served_feed m start net limit) net limit feed feed' report report' out out' true (stop_status stop)
-  unfolding served_feed
+      → Serves (said_by m start) (sent_by m start) answer net limit feed feed' report report' out out' true (stop_status stop)
   stopped-at stop w taken at_once =
       let all = ap (said_by m start) w.split ∙ written-append (goes m) (says m) start w.begun w.more in
       record {
         text = w.text;
         told = w.told;
         gives = record {
-          reported = AppendsPart-front report report' _ _ _ (AppendsPart-front report report' _ _ _ w.reported all) refl;
-          sent = AppendsPart-front out out' _ _ _ w.within refl;
+          reported = AppendsPart-front report report' _ _ _ (AppendsPart-front report report' _ _ _ w.reported all) (ends w.text).reported;
+          sent = AppendsPart-front out out' _ _ _ w.within (ends w.text).sent;
           begun = w.begun;
           later = w.more;
           split = w.split;
@@ -69,13 +75,13 @@ module _ {S : Type 0} (m : Machine S) (start : S) (net : Net) (limit : ℕ) (fee
       }
 
   -- and an exit by `?` hands that on
-  pub serves-stopped : (r : Result Status Stop) (stop : Stop) → IsErr r → IsErrAnd r (λ e. e ≡ stop) → WritesInOrder (said_by m start) (sent_by m start) net limit feed report report' out out'
+  pub ends-stopped : (r : Result Status Stop) (stop : Stop) → IsErr r → IsErrAnd r (λ e. e ≡ stop) → WritesInOrder (said_by m start) (sent_by m start) net limit feed report report' out out'
       → (stop ≡ Stop.ReadFault → WritesTaken (said_by m start) (sent_by m start) net limit feed feed' report report' out out')
       → (stop ≡ Stop.WriteFault → KeepsUp (said_by m start) net limit feed feed' report report')
-      → Serves (said_by m start) (sent_by m start) (served_feed m start net limit) net limit feed feed' report report' out out' (is_err r) (status_in r)
-  serves-stopped (Ok status) stop is h w taken at_once = absurd (false≢true is)
-  serves-stopped (Err e) stop is h w taken at_once =
-      subst (λ s. Serves (said_by m start) (sent_by m start) (served_feed m start net limit) net limit feed feed' report report' out out' true (stop_status s)) (sym h) (stopped-at stop w taken at_once)
+      → Serves (said_by m start) (sent_by m start) answer net limit feed feed' report report' out out' (is_err r) (status_in r)
+  ends-stopped (Ok status) stop is h w taken at_once = absurd (false≢true is)
+  ends-stopped (Err e) stop is h w taken at_once =
+      subst (λ s. Serves (said_by m start) (sent_by m start) answer net limit feed feed' report report' out out' true (stop_status s)) (sym h) (stopped-at stop w taken at_once)
 
 -- more is printed
 kept-more : (lines : List FeedEvent → List ℕ) (net : Net) (limit : ℕ) (feed feed' report report' report'' : Option (List ℕ)) {text : List ℕ} → KeepsUp lines net limit feed feed' report report' → AppendsPart report' report'' text
@@ -93,52 +99,34 @@ kept-more lines net limit feed feed' report report' report'' k part = record {
 
 -- ---- all events were written, and the feed ended so
 
-module _ {S : Type 0} (m : Machine S) (start : S) (net : Net) (limit : ℕ) (feed feed' report report' report'' out out' out'' : Option (List ℕ)) (state : S) (ending : Option FeedFault)
-    (t : TakesAll m start net limit state feed report report' out out' ending) (is : Answer) (e : is ≡ last_of (m.at_end state) (bad_end ending)) where
-  served_last : Answer
-  served_last =
-      let s = left_by m start (events_of net limit t.text).events in
-      last_of (m.at_end s) (bad_end (wanted_end m s (events_of net limit t.text).ending))
+module _ {S : Type 0} (m : Machine S) (start : S) (net : Net) (limit : ℕ) (answer last : List ℕ → Answer) (feed feed' report report' report'' out out' out'' : Option (List ℕ)) (state : S)
+    (ending : Option FeedFault) (t : TakesAll m start net limit state feed report report' out out' ending) (ends : Ends m start net limit answer last t.text) (is : Answer) (e : is ≡ last t.text) where
+  reported_is : (answer t.text).report ≡ said_by m start (events_of net limit t.text).events ++ is.report
+  reported_is = ends.reported ∙ ap (λ (a : Answer). said_by m start (events_of net limit t.text).events ++ a.report) (sym e)
 
-  same : is ≡ served_last
-  unfolding served_last
-  same =
-      e ∙ ap (λ e. last_of (m.at_end state) (bad_end e)) t.ends
-      ∙ ap (λ s. last_of (m.at_end s) (bad_end (wanted_end m s (events_of net limit t.text).ending))) t.reached
-
-  reported_is : (served_feed m start net limit t.text).report ≡ said_by m start (events_of net limit t.text).events ++ is.report
-  unfolding served_feed served_last
-  reported_is = ap (λ a. said_by m start (events_of net limit t.text).events ++ a.report) (sym same)
-
-  sent_is : (served_feed m start net limit t.text).out ≡ sent_by m start (events_of net limit t.text).events ++ is.out
-  unfolding served_feed served_last
-  sent_is = ap (λ a. sent_by m start (events_of net limit t.text).events ++ a.out) (sym same)
-
-  status_is : is.status ≡ (served_feed m start net limit t.text).status
-  unfolding served_feed served_last
-  status_is = ap (λ a. a.status) same
+  sent_is : (answer t.text).out ≡ sent_by m start (events_of net limit t.text).events ++ is.out
+  sent_is = ends.sent ∙ ap (λ (a : Answer). sent_by m start (events_of net limit t.text).events ++ a.out) (sym e)
 
   -- nothing more was printed, or all was stored
-  said-then : Appends report' report'' [] ⊎ Appends out' out'' is.out
-      → AppendsPart report report'' (said_by m start (events_of net limit t.text).events) ⊎ Appends out out'' (served_feed m start net limit t.text).out
+  said-then : Appends report' report'' [] ⊎ Appends out' out'' is.out → AppendsPart report report'' (said_by m start (events_of net limit t.text).events) ⊎ Appends out out'' (answer t.text).out
   said-then (inl none) = inl (AppendsPart-whole report report'' _ (subst (Appends report report'') (append-nil _) (Appends-trans report report' report'' _ _ t.reported none)))
   said-then (inr all) = inr (subst (Appends out out'') (sym sent_is) (Appends-trans out out' out'' _ _ t.sent all))
 
   -- and what comes last, or a part of it
-  pub serves-last : (r : Result Status Stop) → IfOk r (λ status. status ≡ is.status) → OnOk r (Appends report' report'' is.report) → OnOk r (Appends out' out'' is.out)
+  pub ends-last : (r : Result Status Stop) → IfOk r (λ status. status ≡ is.status) → OnOk r (Appends report' report'' is.report) → OnOk r (Appends out' out'' is.out)
       → AppendsPart report' report'' is.report → AppendsPart out' out'' is.out → Appends report' report'' [] ⊎ Appends out' out'' is.out → (IsErrOf r Stop.ReadFault → ⊥)
       → KeepsUp (said_by m start) net limit feed feed' report report'
-      → Serves (said_by m start) (sent_by m start) (served_feed m start net limit) net limit feed feed' report report'' out out'' (is_err r) (status_in r)
-  serves-last (Ok status) p q s part_said part_sent order never kept = record {
+      → Serves (said_by m start) (sent_by m start) answer net limit feed feed' report report'' out out'' (is_err r) (status_in r)
+  ends-last (Ok status) p q s part_said part_sent order never kept = record {
     text = t.text;
     told = t.told;
     gives = record {
-      answered = p ∙ status_is;
+      answered = p ∙ (ap (λ (a : Answer). a.status) e ∙ sym ends.answered);
       reported = subst (Appends report report'') (sym reported_is) (Appends-trans report report' report'' _ _ t.reported q);
       sent = subst (Appends out out'') (sym sent_is) (Appends-trans out out' out'' _ _ t.sent s);
     };
   }
-  serves-last (Err stop) p q s part_said part_sent order never kept = record {
+  ends-last (Err stop) p q s part_said part_sent order never kept = record {
     text = t.text;
     told = t.told;
     gives = record {
@@ -153,6 +141,41 @@ module _ {S : Type 0} (m : Machine S) (start : S) (net : Net) (limit : ℕ) (fee
       at_once = λ f. kept-more _ _ _ _ _ report report' report'' kept part_said;
     };
   }
+
+-- ---- where the machine says what comes last
+
+module _ {S : Type 0} (m : Machine S) (start : S) (net : Net) (limit : ℕ) where
+  last_served : List ℕ → Answer
+  last_served text =
+      let events = events_of net limit text in
+      let s = left_by m start events.events in
+      last_of (m.at_end s) (bad_end (wanted_end m s events.ending))
+
+  served-ends : (text : List ℕ) → Ends m start net limit (served_feed m start net limit) last_served text
+  unfolding served_feed last_served
+  served-ends text = record { answered = refl; reported = refl; sent = refl }
+
+  module _ (feed feed' report report' out out' : Option (List ℕ)) where
+    pub serves-stopped : (r : Result Status Stop) (stop : Stop) → IsErr r → IsErrAnd r (λ e. e ≡ stop) → WritesInOrder (said_by m start) (sent_by m start) net limit feed report report' out out'
+        → (stop ≡ Stop.ReadFault → WritesTaken (said_by m start) (sent_by m start) net limit feed feed' report report' out out')
+        → (stop ≡ Stop.WriteFault → KeepsUp (said_by m start) net limit feed feed' report report')
+        → Serves (said_by m start) (sent_by m start) (served_feed m start net limit) net limit feed feed' report report' out out' (is_err r) (status_in r)
+    serves-stopped r stop is h w taken at_once = ends-stopped m start net limit (served_feed m start net limit) last_served served-ends feed feed' report report' out out' r stop is h w taken at_once
+
+  module _ (feed feed' report report' report'' out out' out'' : Option (List ℕ)) (state : S) (ending : Option FeedFault)
+      (t : TakesAll m start net limit state feed report report' out out' ending) (is : Answer) (e : is ≡ last_of (m.at_end state) (bad_end ending)) where
+    same : is ≡ last_served t.text
+    unfolding last_served
+    same =
+        e ∙ ap (λ e. last_of (m.at_end state) (bad_end e)) t.ends
+        ∙ ap (λ s. last_of (m.at_end s) (bad_end (wanted_end m s (events_of net limit t.text).ending))) t.reached
+
+    pub serves-last : (r : Result Status Stop) → IfOk r (λ status. status ≡ is.status) → OnOk r (Appends report' report'' is.report) → OnOk r (Appends out' out'' is.out)
+        → AppendsPart report' report'' is.report → AppendsPart out' out'' is.out → Appends report' report'' [] ⊎ Appends out' out'' is.out → (IsErrOf r Stop.ReadFault → ⊥)
+        → KeepsUp (said_by m start) net limit feed feed' report report'
+        → Serves (said_by m start) (sent_by m start) (served_feed m start net limit) net limit feed feed' report report'' out out'' (is_err r) (status_in r)
+    serves-last =
+        ends-last m start net limit (served_feed m start net limit) last_served feed feed' report report' report'' out out' out'' state ending t (served-ends t.text) is same
 
 -- ---- by other names of what is printed and stored
 

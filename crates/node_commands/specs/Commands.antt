@@ -6,7 +6,7 @@ use Rattle.uo_base.specs.declared.event.Net.TheVariants.{Main}
 use Rattle.uo_digest.specs.declared.digest.Digest.{Digest}
 use Rattle.command_words.specs.declared.words.WordFault.{WordFault}
 use Rattle.command_words.specs.Options.{Settings}
-use Rattle.command_words.specs.Words.{Asked, Task, Following, Proving, Auditing, Generating, UpgradingFeed, UpgradingState, Ordering, net_for, command_of}
+use Rattle.command_words.specs.Words.{Asked, Task, Following, Proving, Auditing, Generating, UpgradingFeed, UpgradingState, Ordering, Ticketing, Checking, Rechecking, Relaying, net_for, command_of}
 use Rattle.feed_run.specs.declared.status.Status.TheVariants.{Words}
 use Rattle.report_lines.specs.declared.line.Line.TheVariants as Line
 use Rattle.node_commands.specs.declared.bad_input.BadInput.{BadInput}
@@ -17,6 +17,7 @@ use Rattle.node_commands.specs.Generating.{generating}
 use Rattle.node_commands.specs.Meaning.{Meaning, IsEnd}
 use Rattle.node_commands.specs.Ordering.{hash_named, ordering}
 use Rattle.node_commands.specs.Prover.{proving}
+use Rattle.node_commands.specs.Relaying.{relaying}
 use Rattle.node_commands.specs.Upgrading.{upgrading_state}
 use Rattle.node_commands.specs.UpgradingFeed.{upgrading_feed}
 
@@ -51,6 +52,10 @@ meaning_for H limits (Generating number blocks) s = generating number blocks (ne
 meaning_for H limits UpgradingFeed s = upgrading_feed H limits (net_for s.net) (is_some s.watch)
 meaning_for H limits UpgradingState s = upgrading_state H limits
 meaning_for H limits (Ordering tip) s = ordering limits.bytes (net_for s.net) (hash_named tip)
+meaning_for H limits (Ticketing number) s = refusing (record { at = 0 })
+meaning_for H limits Checking s = refusing (record { at = 0 })
+meaning_for H limits Rechecking s = refusing (record { at = 0 })
+meaning_for H limits (Relaying followers) s = relaying H limits followers (net_for s.net) (is_some s.from) (is_some s.watch)
 
 abbrev pub meaning_by : (List ℕ → Digest) → Limits → Result Asked WordFault → Meaning
 meaning_by H limits (Ok asked) = meaning_for H limits asked.task asked.given

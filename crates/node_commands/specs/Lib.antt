@@ -12,6 +12,8 @@ pub mod Meaning
 pub mod Ordering
 pub mod Prover
 pub mod Proving
+pub mod Relayer
+pub mod Relaying
 pub mod Runs
 pub mod Starting
 pub mod Stopping

@@ -8,7 +8,7 @@ ghost use Rattle.node_commands.specs.Auditing.{auditing};
 ghost use Rattle.node_commands.specs.Runs.{Ran, UsedRose, status_in};
 
 use crate::auditor::Auditor;
-use crate::inputs::read_list;
+use crate::inputs::{read_list, watched};
 use crate::serve::serve;
 use feed_run::{Status, Stop};
 use leaf_cache::Watch;
@@ -55,14 +55,4 @@ pub fn audit<D: Digester, F: Source, W: Source, R: Sink, L: Ledger>(
         report,
         steps,
     )
-}
-
-// The scripts of a list that may be named.
-fn watched(alloc: Global, list: Option<Watch>) -> Watch
-    ensures { result ≡ scripts_of list }
-{
-    match list {
-        Some(watch) => watch,
-        None => Watch::empty(alloc),
-    }
 }

@@ -19,8 +19,8 @@ pub fn end_line(events: u64, chain: &Chain) -> Line
     }
 }
 
-// The height and the hash of the newest block.
-fn tip_of(chain: &Chain) -> Option<(u32, Digest)>
+/// The height and the hash of the newest block.
+pub fn tip_of(chain: &Chain) -> Option<(u32, Digest)>
     ensures { result ≡ tip_of chain.now }
 {
     if chain.blocks == 0 {

@@ -2,6 +2,7 @@
 ghost use Rattle.std.specs.Prelude.{◌≡◌, true, false, [], IfOk, IfErr, IsErrOf};
 ghost use Rattle.std.specs.Bool.{OnFalse};
 ghost use Rattle.uo_base.specs.Faults.{Rose};
+ghost use Rattle.bridge_prover.specs.Watched.{scripts_of};
 ghost use Rattle.feed_run.specs.Status.{is_stop};
 ghost use Rattle.node_commands.specs.Runs.{UsedRose};
 ghost use Rattle.node_commands.specs.Watching.{IsListOf, scripts_in};
@@ -53,5 +54,15 @@ fn list_in(alloc: Global, text: &[u8]) -> Result<Result<Option<Watch>, BadInput>
             line: Line::Watch(number),
         })),
         Err(WatchFault::NoMemory) => Err(Stop::NoMemory),
+    }
+}
+
+/// The scripts of a list that may be named: none where there is none.
+pub fn watched(alloc: Global, list: Option<Watch>) -> Watch
+    ensures { result ≡ scripts_of list }
+{
+    match list {
+        Some(watch) => watch,
+        None => Watch::empty(alloc),
     }
 }

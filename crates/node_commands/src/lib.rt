@@ -15,6 +15,8 @@ mod order;
 mod prior;
 mod prove;
 mod prover;
+mod relay;
+mod relayer;
 mod running;
 mod serve;
 mod starting;

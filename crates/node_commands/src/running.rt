@@ -12,6 +12,7 @@ use crate::follow::{follow_afresh, follow_on};
 use crate::generating::make_feed;
 use crate::order::order;
 use crate::prove::prove;
+use crate::relay::relay;
 use crate::upgrading::upgrade_state;
 use crate::upgrading_feed::upgrade_feed;
 use command_words::{Command, read_words};
@@ -60,6 +61,9 @@ pub fn run<D: Digester, F: Source, P: Source, W: Source, O: Sink, R: Sink, L: Le
     // `order` stores the frames of the one path from a block that begins a chain to the tip, among the first blocks of each hash of the feed, and
     // prints how many there are and how many other blocks came; or it prints why there is no path. Over what it stores neither `follow` nor `prove`
     // refuses a block for its link before it has refused another.
+    // `relay` does what its script says in a world of one bridge and its followers, in which the first follower has the watch list that is named, and prints
+    // what comes of each act, by the rules of the relay: a bridge takes the next event of the feed, or none behind the last. Behind them it prints the
+    // newest serial of each follower, and its chain, and the chain of the bridge. Each follower is on the branch of its newest serial then.
     // Where the words are accepted, the watch list or prior state that they name can be used, the feed has no bad frame, and none has more
     // bytes than may be read, the status is 0 or 1, or 4 of `audit`, or that of a failed port or of want of memory (`complete`).
     // Where a fault or want of memory stops the run, what an event stores is stored before its line is begun, and all that is to be stored before
@@ -216,6 +220,30 @@ fn run_command<D: Digester, F: Source, P: Source, W: Source, O: Sink, R: Sink, L
             tip,
             feed,
             out,
+            report,
+            steps,
+        ),
+        Ok(Command::Ticket { .. } | Command::Check { .. } | Command::Recheck { .. }) => {
+            say(alloc, report, Status::Words, Line::Words(0))
+        }
+        Ok(
+            Command::Relay {
+                net,
+                followers,
+                from,
+                watch: list,
+                ..
+            },
+        ) => relay::<D, F, P, W, R, L>(
+            alloc,
+            limits,
+            followers,
+            net,
+            from.is_some(),
+            list.is_some(),
+            prior,
+            watch,
+            feed,
             report,
             steps,
         ),

@@ -68,8 +68,8 @@ fn finish<C: EventHandler, O: Sink, R: Sink>(
     Ok(status)
 }
 
-// The status and the last line of a run over a feed that was not read to its end.
-fn bad_end(ending: Option<FeedFault>) -> Option<(Status, Line)>
+/// The status and the last line of a run over a feed that was not read to its end.
+pub fn bad_end(ending: Option<FeedFault>) -> Option<(Status, Line)>
     ensures { result ≡ bad_end ending }
 {
     match ending? {

@@ -5,6 +5,7 @@
 //! [`Script`] that it gives reads its lines one by one, without memory.
 #![tactic(auto)]
 
+mod count;
 mod cut;
 mod line;
 mod script;

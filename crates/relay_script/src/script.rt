@@ -1,8 +1,9 @@
 //! A whole script.
-ghost use Rattle.std.specs.Prelude.{◌≡◌};
+ghost use Rattle.std.specs.Prelude.{◌≡◌, length};
 ghost use Rattle.relay_script.specs.Script.{IsReadAs};
 ghost use Rattle.relay_script.specs.Reading.{first_line, line_and_rest, script_in, IsTaken};
 
+use crate::count::count_ends;
 use crate::cut::cut_at;
 use crate::line::{ScriptLine, line_in};
 use std::marker::Model;
@@ -65,6 +66,13 @@ fn read_lines(text: &[u8]) -> Result<Script<'_>, ScriptFault>
 }
 
 impl<'a> Script<'a> {
+    /// How many lines are still to come.
+    pub fn lines(&self) -> u64
+        ensures { result ≡ length self.now }
+    {
+        count_ends(self.text)
+    }
+
     /// Takes the next line, if there is one.
     pub fn next_line(&mut self) -> Option<ScriptLine>
         ensures { IsTaken self.old result self.new }

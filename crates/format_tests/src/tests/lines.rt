@@ -1,7 +1,9 @@
 //! Lines as they are printed, and how they are written where a sink fails.
 use block_rules::{ProofRefusal, Refusal, Verdict, WitnessFault};
 use feed_run::{Status, Stop};
-use report_lines::{Line, line_of, push_clash, push_line, say};
+use report_lines::{
+    CheckFault, Line, ReplyKind, line_of, push_clash, push_line, push_ticket_clash, say,
+};
 use std::alloc::Global;
 use std::process::Abort;
 use std::test::Fail;
@@ -135,7 +137,7 @@ struct Row {
     text: &'static str,
 }
 
-const LINES: [Row; 28] = [
+const LINES: [Row; 48] = [
     Row {
         line: Line::Verdict(Verdict::Accepted {
             height: 7,
@@ -302,6 +304,115 @@ const LINES: [Row; 28] = [
         line: Line::Loop(HASH),
         text: "loop H\n",
     },
+    Row {
+        line: Line::Ticket {
+            number: 0,
+            bytes: 128,
+        },
+        text: "ticket 0 128\n",
+    },
+    Row {
+        line: Line::NoTicket,
+        text: "ticket none\n",
+    },
+    Row {
+        line: Line::CheckLive {
+            txid: HASH,
+            index: 0,
+            amount: 5_000_000_000,
+        },
+        text: "check live H 0 5000000000\n",
+    },
+    Row {
+        line: Line::CheckFails(CheckFault::Form),
+        text: "check form\n",
+    },
+    Row {
+        line: Line::CheckFails(CheckFault::Version(2)),
+        text: "check version 2\n",
+    },
+    Row {
+        line: Line::CheckFails(CheckFault::Tip),
+        text: "check tip\n",
+    },
+    Row {
+        line: Line::CheckFails(CheckFault::Proof(ProofRefusal::HashCount { want: 1, got: 0 })),
+        text: "check hashes 1 0\n",
+    },
+    Row {
+        line: Line::TicketClash,
+        text: "clash ticket\n",
+    },
+    Row {
+        line: Line::Asked(0),
+        text: "asked 0\n",
+    },
+    Row {
+        line: Line::Replied {
+            reply: 0,
+            kind: ReplyKind::Next,
+        },
+        text: "replied 0 next\n",
+    },
+    Row {
+        line: Line::Replied {
+            reply: 1,
+            kind: ReplyKind::Same,
+        },
+        text: "replied 1 same\n",
+    },
+    Row {
+        line: Line::Replied {
+            reply: 2,
+            kind: ReplyKind::Back(1),
+        },
+        text: "replied 2 back 1\n",
+    },
+    Row {
+        line: Line::Replied {
+            reply: 3,
+            kind: ReplyKind::Lost,
+        },
+        text: "replied 3 lost\n",
+    },
+    Row {
+        line: Line::Moved(3),
+        text: "moved 3\n",
+    },
+    Row {
+        line: Line::Stale,
+        text: "stale\n",
+    },
+    Row {
+        line: Line::Unknown,
+        text: "unknown\n",
+    },
+    Row {
+        line: Line::Node {
+            follower: 0,
+            serial: 1,
+            tip: Some((0, HASH)),
+            leaves: 0,
+        },
+        text: "node 0 1 0 H 0\n",
+    },
+    Row {
+        line: Line::Node {
+            follower: 99,
+            serial: 0,
+            tip: None,
+            leaves: 0,
+        },
+        text: "node 99 0 - - 0\n",
+    },
+    Row {
+        line: Line::NoEvent,
+        text: "bridge none\n",
+    },
+    Row {
+        line: Line::Script(1),
+        text: "script 1\n",
+    },
 ];
 
 // The text with the hash in place of an H.
@@ -382,5 +493,23 @@ fn a_clash_has_four_lines(rt: HostRuntime) -> Result<(), Fail> {
     assert!(rt; said.as_slice().starts_with(front));
     assert!(rt; said.as_slice().ends_with(b"1f1f0f\n".as_slice()));
     assert!(rt; said.len() == 106);
+    Ok(())
+}
+
+// Those of a ticket have no count of events.
+#[test]
+fn a_clash_of_a_ticket_has_four_lines(rt: HostRuntime) -> Result<(), Fail> {
+    let alloc = rt.alloc();
+    let mut said = Vec::from_slice(alloc, b"before\n".as_slice())?;
+    push_ticket_clash(
+        alloc,
+        b"\x0a\xff".as_slice(),
+        b"\x01".as_slice(),
+        &HASH,
+        &mut said,
+    )?;
+    let front = b"before\nclash ticket\nfirst 0aff\nsecond 01\ndigest 1f1f".as_slice();
+    assert!(rt; said.as_slice().starts_with(front));
+    assert!(rt; said.as_slice().ends_with(b"1f1f0f\n".as_slice()));
     Ok(())
 }

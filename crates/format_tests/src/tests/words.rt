@@ -17,7 +17,7 @@ struct BadRow {
     at: u64,
 }
 
-const ROWS: [Row; 23] = [
+const ROWS: [Row; 29] = [
     Row {
         words: &["follow"],
         asked: Command::Follow {
@@ -250,6 +250,64 @@ const ROWS: [Row; 23] = [
             to: Some("t"),
         },
     },
+    // tickets, and what they are checked by
+    Row {
+        words: &["ticket", "18446744073709551615", "--from", "s"],
+        asked: Command::Ticket {
+            number: 18_446_744_073_709_551_615,
+            from: "s",
+            to: None,
+        },
+    },
+    Row {
+        words: &["ticket", "0", "--to", "t", "--from", "s"],
+        asked: Command::Ticket {
+            number: 0,
+            from: "s",
+            to: Some("t"),
+        },
+    },
+    Row {
+        words: &["check", "--feed", "t", "--from", "s"],
+        asked: Command::Check {
+            from: "s",
+            feed: Some("t"),
+        },
+    },
+    // beside `--from` all options may stand here
+    Row {
+        words: &[
+            "recheck", "--from", "t", "--net", "regtest", "--watch", "w", "--feed", "f",
+        ],
+        asked: Command::Recheck {
+            net: Net::Regtest,
+            from: "t",
+            feed: Some("f"),
+            watch: Some("w"),
+        },
+    },
+    Row {
+        words: &["relay", "1"],
+        asked: Command::Relay {
+            net: Net::Main,
+            followers: 1,
+            feed: None,
+            from: None,
+            watch: None,
+        },
+    },
+    Row {
+        words: &[
+            "relay", "100", "--watch", "w", "--net", "main", "--from", "s", "--feed", "f",
+        ],
+        asked: Command::Relay {
+            net: Net::Main,
+            followers: 100,
+            feed: Some("f"),
+            from: Some("s"),
+            watch: Some("w"),
+        },
+    },
 ];
 
 /// The hash of mainnet's first block, as it is printed.
@@ -257,7 +315,7 @@ const FIRST: &str = "000000000019d6689c085ae165831e934ff763ae46a2a6c172b3f1b60a8
 
 const ZEROS: &str = "0000000000000000000000000000000000000000000000000000000000000000";
 
-const BAD_ROWS: [BadRow; 39] = [
+const BAD_ROWS: [BadRow; 57] = [
     // a command that is none, or behind another word
     BadRow {
         words: &["fly"],
@@ -419,6 +477,79 @@ const BAD_ROWS: [BadRow; 39] = [
     },
     // none
     BadRow { words: &[], at: 0 },
+    // of tickets, which need a file to go on from, and of a relay
+    BadRow {
+        words: &["ticket"],
+        at: 1,
+    },
+    BadRow {
+        words: &["ticket", "07", "--from", "s"],
+        at: 1,
+    },
+    BadRow {
+        words: &["ticket", "18446744073709551616"],
+        at: 1,
+    },
+    BadRow {
+        words: &["ticket", "7"],
+        at: 2,
+    },
+    BadRow {
+        words: &["ticket", "7", "--to", "t"],
+        at: 4,
+    },
+    BadRow {
+        words: &["ticket", "7", "--feed", "f"],
+        at: 2,
+    },
+    BadRow {
+        words: &["check"],
+        at: 1,
+    },
+    BadRow {
+        words: &["check", "--feed", "f"],
+        at: 3,
+    },
+    BadRow {
+        words: &["check", "--from"],
+        at: 2,
+    },
+    BadRow {
+        words: &["check", "--to", "t"],
+        at: 1,
+    },
+    BadRow {
+        words: &["recheck", "--net", "main", "--watch", "w"],
+        at: 5,
+    },
+    BadRow {
+        words: &["recheck", "--from", "t", "--to", "a"],
+        at: 3,
+    },
+    BadRow {
+        words: &["recheck", "--from", "t", "--from", "t"],
+        at: 3,
+    },
+    BadRow {
+        words: &["relay"],
+        at: 1,
+    },
+    BadRow {
+        words: &["relay", "0"],
+        at: 1,
+    },
+    BadRow {
+        words: &["relay", "101"],
+        at: 1,
+    },
+    BadRow {
+        words: &["relay", "01"],
+        at: 1,
+    },
+    BadRow {
+        words: &["relay", "1", "--to", "t"],
+        at: 2,
+    },
 ];
 
 /// Words that write no feed and no state anew, and where they go wrong.

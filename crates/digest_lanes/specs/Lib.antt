@@ -1,0 +1,5 @@
+pub mod Front
+pub mod Groups
+pub mod Lanes
+pub mod Midstate
+pub mod Texts

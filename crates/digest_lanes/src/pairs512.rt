@@ -1,0 +1,120 @@
+//! The one block of a text of 64 bytes, four at a time, and the digests of four states.
+
+ghost use Rattle.std.specs.Prelude.{◌≡◌, ℕ, ◌+◌, ◌*◌, ◌^◌, ◌<◌, ◌≤◌, ◌++◌, List, [], length, take, slice_index, slice_index_or};
+ghost use Rattle.std.specs.Int.{w64, to_be_bytes};
+ghost use Rattle.sha2.specs.Sha512.{digest_bytes, first_words, initial_hash_512_256, padded_message, sha512_256, word_at};
+ghost use Rattle.digest_lanes.specs.Lanes.{lane};
+
+use crate::block512::compress;
+use std::simd::u64x4;
+
+// The word at byte `i` of a text, and what the caller can not see of a text in an array: its length.
+#[inline(always)]
+fn load(text: &[u8; 32], i: usize) -> u64
+    requires { i + 8 ≤ 32 }
+    ensures word { result ≡ word_at text.now i }
+    ensures long { length text.now ≡ 32 }
+{
+    u64::from_be_bytes([
+        text[i],
+        text[i + 1],
+        text[i + 2],
+        text[i + 3],
+        text[i + 4],
+        text[i + 5],
+        text[i + 6],
+        text[i + 7],
+    ])
+}
+
+#[inline(always)]
+fn load_four(texts: &[[u8; 32]; 4], i: usize) -> u64x4
+    requires { i + 8 ≤ 32 }
+    ensures word { (j : ℕ) → j < 4 → slice_index result j ≡ word_at (slice_index_or texts.now j []) i }
+    ensures long { (j : ℕ) → j < 4 → length (slice_index_or texts.now j []) ≡ 32 }
+{
+    let first = load(&texts[0], i);
+    let second = load(&texts[1], i);
+    let third = load(&texts[2], i);
+    let fourth = load(&texts[3], i);
+    u64x4::from_array([first, second, third, fourth])
+}
+
+// The words of the one block of each pair: the pair, the padding's bit, and the length of 512 bits.
+#[inline(always)]
+pub(crate) fn pair_words(left: &[[u8; 32]; 4], right: &[[u8; 32]; 4]) -> [u64x4; 16]
+    ensures words { (j : ℕ) → j < 4 → lane j result
+        ≡ first_words (padded_message (slice_index_or left.now j [] ++ slice_index_or right.now j [])) 16 }
+    ensures left { (j : ℕ) → j < 4 → length (slice_index_or left.now j []) ≡ 32 }
+    ensures right { (j : ℕ) → j < 4 → length (slice_index_or right.now j []) ≡ 32 }
+{
+    let l0 = load_four(left, 0);
+    let l1 = load_four(left, 8);
+    let l2 = load_four(left, 16);
+    let l3 = load_four(left, 24);
+    let r0 = load_four(right, 0);
+    let r1 = load_four(right, 8);
+    let r2 = load_four(right, 16);
+    let r3 = load_four(right, 24);
+    let bit = u64x4::splat(0x8000_0000_0000_0000);
+    let none = u64x4::splat(0);
+    let bits = u64x4::splat(512);
+    [
+        l0, l1, l2, l3, r0, r1, r2, r3, bit, none, none, none, none, none, none, bits,
+    ]
+}
+
+#[inline(always)]
+pub(crate) fn initial_state() -> [u64x4; 8]
+    ensures { (j : ℕ) → j < 4 → lane j result ≡ initial_hash_512_256 }
+{
+    [
+        u64x4::splat(0x2231_2194_fc2b_f72c),
+        u64x4::splat(0x9f55_5fa3_c84c_64c2),
+        u64x4::splat(0x2393_b86b_6f53_b151),
+        u64x4::splat(0x9638_7719_5940_eabd),
+        u64x4::splat(0x9628_3ee2_a88e_ffe3),
+        u64x4::splat(0xbe5e_1e25_5386_3992),
+        u64x4::splat(0x2b01_99fc_2c85_b8aa),
+        u64x4::splat(0x0eb7_2ddc_81c5_2ca2),
+    ]
+}
+
+#[inline(always)]
+fn digest(a: u64, b: u64, c: u64, d: u64) -> [u8; 32]
+    ensures { result ≡ (((to_be_bytes w64 a ++ to_be_bytes w64 b) ++ to_be_bytes w64 c) ++ to_be_bytes w64 d) }
+{
+    let [a0, a1, a2, a3, a4, a5, a6, a7] = a.to_be_bytes();
+    let [b0, b1, b2, b3, b4, b5, b6, b7] = b.to_be_bytes();
+    let [c0, c1, c2, c3, c4, c5, c6, c7] = c.to_be_bytes();
+    let [d0, d1, d2, d3, d4, d5, d6, d7] = d.to_be_bytes();
+    [
+        a0, a1, a2, a3, a4, a5, a6, a7, b0, b1, b2, b3, b4, b5, b6, b7, c0, c1, c2, c3, c4, c5, c6,
+        c7, d0, d1, d2, d3, d4, d5, d6, d7,
+    ]
+}
+
+// The leftmost 256 bits of each state.
+#[inline(always)]
+pub(crate) fn digests(state: [u64x4; 8]) -> [[u8; 32]; 4]
+    ensures { (j : ℕ) → j < 4 → slice_index_or result j [] ≡ take 32 (digest_bytes (lane j state) 8) }
+{
+    let [a0, a1, a2, a3] = state[0].to_array();
+    let [b0, b1, b2, b3] = state[1].to_array();
+    let [c0, c1, c2, c3] = state[2].to_array();
+    let [d0, d1, d2, d3] = state[3].to_array();
+    let first = digest(a0, b0, c0, d0);
+    let second = digest(a1, b1, c1, d1);
+    let third = digest(a2, b2, c2, d2);
+    let fourth = digest(a3, b3, c3, d3);
+    [first, second, third, fourth]
+}
+
+/// SHA-512/256 of each of four pairs of digests, as one text of 64 bytes.
+pub fn pairs_of_four(left: &[[u8; 32]; 4], right: &[[u8; 32]; 4]) -> [[u8; 32]; 4]
+    ensures { (j : ℕ) → j < 4 → slice_index_or result j [] ≡ sha512_256 (slice_index_or left.now j [] ++ slice_index_or right.now j []) }
+{
+    let words = pair_words(left, right);
+    let state = compress(initial_state(), words);
+    digests(state)
+}

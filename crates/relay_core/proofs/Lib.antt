@@ -1,0 +1,10 @@
+pub mod Linking
+pub mod Handing
+pub mod Standing
+pub mod Acting
+pub mod Levelled
+pub mod Lines
+pub mod Judged
+pub mod Stepping
+pub mod Stepped
+pub mod Changing

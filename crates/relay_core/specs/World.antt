@@ -1,0 +1,217 @@
+-- A world of one bridge and many followers, what is answered to an act in it, and what it is then.
+use Rattle.std.specs.Prelude.{ℕ, zero, suc, ◌==◌, nat_le, Bool, true, false, ◌&&◌, ◌||◌, List, [], ◌∷◌, ◌++◌, map, take, drop, length, slice_get, slice_set, Option, Some, None, option_map, if◌then◌else◌}
+use Rattle.uo_base.specs.declared.event.Limits.{Limits}
+use Rattle.uo_base.specs.declared.event.Net.{Net}
+use Rattle.uo_base.specs.FeedEvent.{FeedEvent, BlockCame, RollbackCame, StrayCame}
+use Rattle.uo_digest.specs.declared.digest.Digest.{Digest}
+use Rattle.leaf_record.specs.Leaf.{Leaf}
+use Rattle.block_rules.specs.declared.verdict.Verdict.{Verdict}
+use Rattle.block_rules.specs.declared.verdict.Verdict.TheVariants.{Accepted, Refused, RolledBack, TooDeep, Stray}
+use Rattle.node_rules.specs.Machine.{event_in}
+use Rattle.compact_node.specs.Node.{NodeState, fresh_node, next_node}
+use Rattle.bridge_prover.specs.Bridge.{BridgeState, fresh_bridge, verdict_on, next_bridge, message_on}
+use Rattle.relay_core.specs.declared.act.Kind.{Kind}
+use Rattle.relay_core.specs.declared.act.Kind.TheVariants.{Next, Same, Back, Lost}
+use Rattle.relay_core.specs.declared.act.Outcome.{Outcome}
+use Rattle.relay_core.specs.declared.act.Outcome.TheVariants.{Judged, Asked, Replied, Moved, Stale, Unknown}
+use Rattle.relay_core.specs.declared.store.Reply.{Reply}
+use Rattle.relay_core.specs.Acts.{WorldAct, BridgeTook, FollowerAsked, AskServed, ReplyDelivered}
+
+-- a block that the bridge accepted, and the message in full beside it: none where it spends nothing from outside
+pub record Sent : Type 0 where
+  pub block : List ℕ
+  pub message : Option (List ℕ)
+
+-- a node, and the serials of its levels, the newest first
+pub record FollowerState : Type 0 where
+  pub node : NodeState
+  pub serials : List ℕ
+
+-- what contracts see of `World`: the bridge; the blocks that it accepted, each of which got the next serial, from 1 on; the serials of its
+-- present chain, the newest first, and behind them 0, which is that of the chain with no block; the asks, each with the serials of its
+-- follower's levels; the replies; and the followers
+pub record WorldState : Type 0 where
+  pub bridge : BridgeState
+  pub sent : List Sent
+  pub chain : List ℕ
+  pub asks : List (List ℕ)
+  pub replies : List Reply
+  pub followers : List FollowerState
+
+-- no block: one follower for each watch list
+abbrev pub fresh_follower : Net → Limits → List (List ℕ) → FollowerState
+fresh_follower net limits scripts = record { node = fresh_node net limits scripts; serials = 0 ∷ [] }
+
+abbrev pub fresh_world : Net → Limits → List (List (List ℕ)) → WorldState
+fresh_world net limits lists = record {
+  bridge = fresh_bridge net limits None;
+  sent = [];
+  chain = 0 ∷ [];
+  asks = [];
+  replies = [];
+  followers = map (fresh_follower net limits) lists;
+}
+
+-- the first of some serials, the newest
+abbrev pub newest_of : List ℕ → ℕ
+newest_of [] = 0
+newest_of (s ∷ older) = s
+
+-- ---- the bridge handles an event
+
+-- an accepted block gets this serial; a rollback that was made takes the newest blocks off the chain
+abbrev pub chain_after : Verdict → ℕ → List ℕ → List ℕ
+chain_after (Accepted height hash leaves) serial chain = serial ∷ chain
+chain_after (Refused height hash why) serial chain = chain
+chain_after (RolledBack count height hash leaves) serial chain = drop count chain
+chain_after (TooDeep asked kept) serial chain = chain
+chain_after Stray serial chain = chain
+
+abbrev pub is_accepted : Verdict → Bool
+is_accepted (Accepted height hash leaves) = true
+is_accepted (Refused height hash why) = false
+is_accepted (RolledBack count height hash leaves) = false
+is_accepted (TooDeep asked kept) = false
+is_accepted Stray = false
+
+-- what is sent of an event that is an accepted block
+abbrev pub sent_of : FeedEvent → Option (List ℕ) → List Sent
+sent_of (BlockCame block beside) message = record { block = block; message = message } ∷ []
+sent_of (RollbackCame count) message = []
+sent_of StrayCame message = []
+
+abbrev pub sent_after : Verdict → FeedEvent → Option (List ℕ) → List Sent → List Sent
+sent_after v event message sent = sent ++ (if is_accepted v then sent_of event message else [])
+
+abbrev pub with_event : (List ℕ → Digest) → (Leaf → List ℕ) → WorldState → FeedEvent → WorldState
+with_event H text w event =
+    let e = event_in event in
+    let v = verdict_on w.bridge e in
+    record w {
+      bridge = next_bridge H text w.bridge e;
+      sent = sent_after v event (message_on H w.bridge e) w.sent;
+      chain = chain_after v (suc (length w.sent)) w.chain;
+    }
+
+-- ---- a follower asks
+
+abbrev pub with_ask : WorldState → Option FollowerState → WorldState
+with_ask w None = w
+with_ask w (Some x) = record w { asks = w.asks ++ x.serials ∷ [] }
+
+abbrev pub asked : WorldState → Option FollowerState → Outcome
+asked w None = Unknown
+asked w (Some x) = Asked (length w.asks)
+
+-- ---- the bridge answers an ask
+
+abbrev pub is_on : List ℕ → ℕ → Bool
+is_on [] s = false
+is_on (x ∷ chain) s = (x == s) || is_on chain s
+
+-- the least index at which one of some serials is on a chain
+abbrev pub met_at : List ℕ → List ℕ → Option ℕ
+met_at chain [] = None
+met_at chain (s ∷ older) = if is_on chain s then Some 0 else option_map (λ k. suc k) (met_at chain older)
+
+-- the serial right after one on a chain: none where that one is the newest
+abbrev pub after_on : List ℕ → ℕ → Option ℕ
+after_on [] s = None
+after_on (x ∷ []) s = None
+after_on (x ∷ y ∷ older) s = if y == s then Some x else after_on (y ∷ older) s
+
+abbrev pub next_or_same : Option ℕ → Kind
+next_or_same None = Same
+next_or_same (Some serial) = Next serial
+
+-- the newest serial is on the chain: what comes after it. Another is: back to the newest such. None is: lost
+abbrev pub kind_by : List ℕ → ℕ → Option ℕ → Kind
+kind_by chain first None = Lost
+kind_by chain first (Some zero) = next_or_same (after_on chain first)
+kind_by chain first (Some (suc k)) = Back (suc k)
+
+abbrev pub reply_to : List ℕ → List ℕ → Reply
+reply_to chain serials = record { first = newest_of serials; kind = kind_by chain (newest_of serials) (met_at chain serials) }
+
+abbrev pub with_reply : WorldState → Option (List ℕ) → WorldState
+with_reply w None = w
+with_reply w (Some serials) = record w { replies = w.replies ++ reply_to w.chain serials ∷ [] }
+
+abbrev pub replied : WorldState → Option (List ℕ) → Outcome
+replied w None = Unknown
+replied w (Some serials) = Replied (length w.replies) (reply_to w.chain serials).kind
+
+-- ---- a follower gets a reply
+
+-- one who can go back by so many levels can do what it says
+abbrev pub can_do : Kind → ℕ → Bool
+can_do (Next serial) kept = true
+can_do Same kept = false
+can_do (Back count) kept = nat_le count kept
+can_do Lost kept = false
+
+abbrev pub applies : Reply → FollowerState → Bool
+applies r x = (newest_of x.serials == r.first) && can_do r.kind (length x.node.older)
+
+-- the block of a serial, with its message
+abbrev pub sent_at : List Sent → ℕ → Option Sent
+sent_at sent zero = None
+sent_at sent (suc i) = slice_get sent i
+
+abbrev pub block_event : Option Sent → FeedEvent
+block_event None = StrayCame
+block_event (Some x) = BlockCame x.block x.message
+
+-- what goes to the node
+abbrev pub event_for : List Sent → Kind → FeedEvent
+event_for sent (Next serial) = block_event (sent_at sent serial)
+event_for sent Same = StrayCame
+event_for sent (Back count) = RollbackCame count
+event_for sent Lost = StrayCame
+
+-- the serials of its levels then: of at most a hundred older ones
+abbrev pub serials_after : Kind → List ℕ → List ℕ
+serials_after (Next serial) serials = take 101 (serial ∷ serials)
+serials_after Same serials = serials
+serials_after (Back count) serials = drop count serials
+serials_after Lost serials = serials
+
+abbrev pub moved : (List ℕ → Digest) → (Leaf → List ℕ) → List Sent → Kind → FollowerState → FollowerState
+moved H text sent kind x = record { node = next_node H text x.node (event_in (event_for sent kind)); serials = serials_after kind x.serials }
+
+abbrev pub followers_after : (List ℕ → Digest) → (Leaf → List ℕ) → List Sent → List FollowerState → ℕ → Option FollowerState → Option Reply → List FollowerState
+followers_after H text sent followers f None r = followers
+followers_after H text sent followers f (Some x) None = followers
+followers_after H text sent followers f (Some x) (Some r) = if applies r x then slice_set followers f (moved H text sent r.kind x) else followers
+
+abbrev pub with_moved : (List ℕ → Digest) → (Leaf → List ℕ) → WorldState → ℕ → Option FollowerState → Option Reply → WorldState
+with_moved H text w f x r = record w { followers = followers_after H text w.sent w.followers f x r }
+
+abbrev pub delivered : Option FollowerState → Option Reply → Outcome
+delivered None r = Unknown
+delivered (Some x) None = Unknown
+delivered (Some x) (Some r) = if applies r x then Moved (newest_of (serials_after r.kind x.serials)) else Stale
+
+-- ---- an act
+
+abbrev pub next_world : (List ℕ → Digest) → (Leaf → List ℕ) → WorldState → WorldAct → WorldState
+next_world H text w (BridgeTook event) = with_event H text w event
+next_world H text w (FollowerAsked f) = with_ask w (slice_get w.followers f)
+next_world H text w (AskServed j) = with_reply w (slice_get w.asks j)
+next_world H text w (ReplyDelivered f j) = with_moved H text w f (slice_get w.followers f) (slice_get w.replies j)
+
+abbrev pub outcome_on : WorldState → WorldAct → Outcome
+outcome_on w (BridgeTook event) = Judged (verdict_on w.bridge (event_in event))
+outcome_on w (FollowerAsked f) = asked w (slice_get w.followers f)
+outcome_on w (AskServed j) = replied w (slice_get w.asks j)
+outcome_on w (ReplyDelivered f j) = delivered (slice_get w.followers f) (slice_get w.replies j)
+
+-- ---- a list of acts
+
+abbrev pub world_after : (List ℕ → Digest) → (Leaf → List ℕ) → WorldState → List WorldAct → WorldState
+world_after H text w [] = w
+world_after H text w (act ∷ acts) = world_after H text (next_world H text w act) acts
+
+abbrev pub outcomes_on : (List ℕ → Digest) → (Leaf → List ℕ) → WorldState → List WorldAct → List Outcome
+outcomes_on H text w [] = []
+outcomes_on H text w (act ∷ acts) = outcome_on w act ∷ outcomes_on H text (next_world H text w act) acts
