@@ -1,5 +1,5 @@
 -- Where a message is accepted and not right, two texts are found, and they are different and have one digest.
-use Rattle.std.proofs.Common.{◌≡◌, ◌≢◌, ℕ, zero, suc, ◌+◌, ◌-◌, ◌*◌, Bool, true, false, List, [], ◌∷◌, map, length, get_or, Option, Some, None, All, Contains, refl, sym, ap, ◌∙◌, subst, ⊎_elim, arith}
+use Rattle.std.proofs.Common.{◌≡◌, ◌≢◌, ℕ, zero, suc, ◌+◌, ◌-◌, ◌*◌, Bool, true, false, List, [], ◌∷◌, ◌++◌, map, length, get_or, Option, Some, None, All, Contains, refl, sym, ap, ◌∙◌, subst, ⊎_elim, arith}
 use Rattle.std.specs.Prelude.{option_map, option_and_then, unwrap_or, bytes_eq, is_none, if◌then◌else◌}
 use Rattle.std.specs.List.{AllByRecursion}
 use Rattle.std.specs.Option.{option_or}
@@ -37,7 +37,7 @@ use Rattle.clash_find.specs.Clashes.{TextClash}
 use Rattle.clash_find.specs.Texts.{tree_text, text_at, claims}
 use Rattle.clash_find.specs.Answers.{StandForHistory, IsClash}
 use Rattle.clash_find.specs.Found.{text_for, differing, clash_over, clash_at, clash_in}
-use Rattle.clash_find.proofs.Agreement.{value_of, node_text, cover_text, HasDigests, AgreeAt, found}
+use Rattle.clash_find.proofs.Agreement.{value_of, node_text, cover_text, HasDigests, AgreeAt, found, right_agrees}
 use Rattle.clash_find.proofs.Listing.{node_listed, cover_listed}
 
 -- ---- the first of a list
@@ -103,6 +103,21 @@ not_given ts (suc r) o a b e =
     (cases_Bool (has_place ts (suc r) o))
   where
     by : (x y : Option Cover) → cover_of_halves r o x y ≡ Some (given a b) → ⊥
+    by None None e = none-some _ e
+    by (Some x) None e = absurd (let z = same_Some _ _ e in cc)
+    by None (Some y) e = absurd (let z = same_Some _ _ e in cc)
+    by (Some x) (Some y) e = absurd (let z = same_Some _ _ e in cc)
+
+-- and as a target where it stands
+target_here : (ts : List Place) (r o a b : ℕ) → cover ts r o ≡ Some (target a b) → target a b ≡ target r o
+target_here ts zero o a b e =
+    ⊎_elim (λ (it : has_place ts zero o ≡ true). sym (same_Some _ _ (rw it at e))) (λ (other : has_place ts zero o ≡ false). absurd (none-some _ (rw other at e))) (cases_Bool (has_place ts zero o))
+target_here ts (suc r) o a b e =
+    ⊎_elim (λ (it : has_place ts (suc r) o ≡ true). sym (same_Some _ _ (rw it at e)))
+    (λ (other : has_place ts (suc r) o ≡ false). absurd (by (cover ts r (2 * o)) (cover ts r (2 * o + 1)) (rw other at e)))
+    (cases_Bool (has_place ts (suc r) o))
+  where
+    by : (x y : Option Cover) → cover_of_halves r o x y ≡ Some (target a b) → ⊥
     by None None e = none-some _ e
     by (Some x) None e = absurd (let z = same_Some _ _ e in cc)
     by None (Some y) e = absurd (let z = same_Some _ _ e in cc)
@@ -322,25 +337,44 @@ module _ (H : List ℕ → Digest) (long : (x : List ℕ) → IsDigest (H x)) (u
         second_is = ap H made.second ∙ (own r o c e ∙ sym made.digest);
       }
 
-  shown_is : (p : Place) (x : TextClash) → InForest n p.row p.off → shown_at p ≡ Some x → IsClash H us known (points_of ext) m x
-  shown_is p x h shows = by_cover (cover ts p.row p.off) refl shows
+  -- what is shown at a place
+  record IsShownAt (p : Place) (x : TextClash) : Type 0 where
+    beneath : Cover
+    covered : cover ts p.row p.off ≡ Some beneath
+    node : Tree
+    stands : tree_at es p.row p.off ≡ Some node
+    digests : digest_of H node ≡ V beneath
+    made : IsMade (node_text_of node) (cover_text_of beneath) (V beneath) x
+
+  shown_as : (p : Place) (x : TextClash) → shown_at p ≡ Some x → IsShownAt p x
+  shown_as p x shows = by_cover (cover ts p.row p.off) refl shows
     where
       by_text : (c : Cover) → cover ts p.row p.off ≡ Some c → digest_at H es p.row p.off ≡ Some (V c) → option_and_then (λ y. differing y (text_for H n known ext m c) (V c)) (text_at H es outputs p.row p.off) ≡ Some x
-          → IsClash H us known (points_of ext) m x
+          → IsShownAt p x
       by_text c e there shows =
           let w = standing H (tree_at es p.row p.off) (V c) there in
           let is : differing (node_text_of w.0) (text_for H n known ext m c) (V c) ≡ Some x =
           sym (ap (option_and_then (λ y. differing y (text_for H n known ext m c) (V c))) (node_shown p.row p.off w.0 w.1)) ∙ shows in
-          is_clash p.row p.off c w.0 x h e w.1 w.2 (differing-some (node_text_of w.0) (cover_text_of c) (V c) x (ap (λ y. differing (node_text_of w.0) y (V c)) (text_same c) ∙ is))
+          record {
+            beneath = c;
+            covered = e;
+            node = w.0;
+            stands = w.1;
+            digests = w.2;
+            made = differing-some (node_text_of w.0) (cover_text_of c) (V c) x (ap (λ y. differing (node_text_of w.0) y (V c)) (text_same c) ∙ is);
+          }
 
       by_digest : (c : Cover) → cover ts p.row p.off ≡ Some c → (b : Bool) → is_digest (V c) (digest_at H es p.row p.off) ≡ b
-          → (if b then option_and_then (λ y. differing y (text_for H n known ext m c) (V c)) (text_at H es outputs p.row p.off) else None) ≡ Some x → IsClash H us known (points_of ext) m x
+          → (if b then option_and_then (λ y. differing y (text_for H n known ext m c) (V c)) (text_at H es outputs p.row p.off) else None) ≡ Some x → IsShownAt p x
       by_digest c e false t shows = absurd (none-some x shows)
       by_digest c e true t shows = by_text c e (there_is (V c) (digest_at H es p.row p.off) t) shows
 
-      by_cover : (y : Option Cover) → cover ts p.row p.off ≡ y → option_and_then (clash_over H es outputs known ext m p) y ≡ Some x → IsClash H us known (points_of ext) m x
+      by_cover : (y : Option Cover) → cover ts p.row p.off ≡ y → option_and_then (clash_over H es outputs known ext m p) y ≡ Some x → IsShownAt p x
       by_cover None e shows = absurd (none-some x shows)
       by_cover (Some c) e shows = by_digest c e (is_digest (V c) (digest_at H es p.row p.off)) refl shows
+
+  shown_is : (p : Place) (x : TextClash) → InForest n p.row p.off → shown_at p ≡ Some x → IsClash H us known (points_of ext) m x
+  shown_is p x h shows = let w = shown_as p x shows in is_clash p.row p.off w.beneath w.node x h w.covered w.stands w.digests w.made
 
   -- what is accepted and not right shows two texts
   pub shows : is_right H leaf_text us known (points_of ext) m ≡ false → (x : TextClash) × (clash_in H es outputs known ext m ≡ Some x) × IsClash H us known (points_of ext) m x
@@ -352,3 +386,37 @@ module _ (H : List ℕ → Digest) (long : (x : List ℕ) → IsDigest (H x)) (u
       by : (y : Option TextClash) → first_of (map shown_at (places n)) ≡ y → (x : TextClash) × (clash_in H es outputs known ext m ≡ Some x) × IsClash H us known (points_of ext) m x
       by None e = absurd (false≢true (sym wrong ∙ right_then e))
       by (Some x) e = let w = some-at shown_at (places n) x e in (x, in_whole ∙ e, shown_is w.0 x (places_had n w.0.row w.0.off w.1) w.2)
+
+  -- ---- where the message is right
+
+  knows : IsKnowledge H es k
+  knows = by m.lean
+    where
+      by : (b : Bool) → IsKnowledge H es (known_to b known)
+      by true = view
+      by false = λ row off d e. absurd (none-some d e)
+
+  never_shown : RightBy n → (p : Place) (x : TextClash) → InForest n p.row p.off → shown_at p ≡ Some x → ⊥
+  never_shown r p x h shows =
+      let w = shown_as p x shows in
+      let shown : map Some hs ≡ map (λ q. digest_at H es q.row q.off) (asked n ts k) = subst (λ j. map Some hs ≡ map (λ q. digest_at H es q.row q.off) (asked j ts k)) (sym same_length) r.shown in
+      w.made.differ (by_form w.beneath w.covered (right_agrees H leaf_text us ts k rs hs knows r.spends shown p.row p.off w.beneath w.node h w.covered w.stands))
+    where
+      by_form : {t : List ℕ} (c : Cover) → cover ts p.row p.off ≡ Some c → (c ≡ target p.row p.off → t ≡ leaf_texts p.row p.off) × ((a d : Cover) → c ≡ both a d → t ≡ (V a).0 ++ (V d).0) → t ≡ cover_text_of c
+      by_form (target a b) e w = let is = target_here ts p.row p.off a b e in w.0 is ∙ ap cover_text_of (sym is)
+      by_form (given a b) e w = absurd (not_given ts p.row p.off a b e)
+      by_form (both l d) e w = w.1 l d refl
+
+  -- it shows nothing
+  pub shows_none : is_right H leaf_text us known (points_of ext) m ≡ true → clash_in H es outputs known ext m ≡ None
+  shows_none sound = in_whole ∙ by (first_of (map shown_at (places n))) refl
+    where
+      in_whole : clash_in H es outputs known ext m ≡ first_of (map shown_at (places n))
+      in_whole = ap (λ y. if is_none y then first_of (map shown_at (places n)) else None) none
+
+      by : (y : Option TextClash) → first_of (map shown_at (places n)) ≡ y → y ≡ None
+      by None e = refl
+      by (Some x) e =
+          let w = some-at shown_at (places n) x e in
+          let r = ((right_is_tested H leaf_text us known (points_of ext) m).0 sound).0 in
+          absurd (never_shown (subst RightBy (sym same_length) r) w.0 x (places_had n w.0.row w.0.off w.1) w.2)

@@ -49,7 +49,7 @@ impl<D: Digester> Audit<D> {
     ghost use Rattle.node_rules.specs.Machine as machine;
     ghost use Rattle.node_rules.specs.Fitting.{IsShort};
     ghost use Rattle.bridge_prover.specs.Full.{JudgesAsFull, history_of, judged_on};
-    ghost use Rattle.audit_replay.specs.Audit.{fresh_audit, next_audit, verdict_in, ShowsClash};
+    ghost use Rattle.audit_replay.specs.Audit.{IsAudit, fresh_audit, next_audit, verdict_in, ShowsClash};
 
     /// An auditor with no block and no output. It judges a lean message as one who watches these scripts.
     pub fn new(alloc: Global, net: Net, limits: Limits, watch: Watch) -> Result<Audit<D>, NoMemory>
@@ -75,6 +75,14 @@ impl<D: Digester> Audit<D> {
         ensures { result ≡ self.now.bridge.chain }
     {
         self.bridge.chain()
+    }
+
+    /// The bridge, which holds every output. It stands for a history, of which each live output has a text.
+    pub fn bridge(&self) -> &Bridge<D>
+        ensures is { result.now ≡ self.now.bridge }
+        ensures audit { IsAudit D.digest_of leaf_text self.now.bridge }
+    {
+        &self.bridge
     }
 
     /// The sum of the amounts of all live outputs, and the sum of what the blocks of the chain were allowed to issue, in satoshi.

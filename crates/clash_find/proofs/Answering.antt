@@ -1,6 +1,6 @@
--- From what the search finds to what it means.
+-- From what the search finds to what it means, for a proof of some targets with some leaves and hashes, where some digests may be known.
 use Rattle.std.proofs.Common.{◌≡◌, ◌≢◌, ℕ, zero, suc, ◌+◌, ◌-◌, ◌*◌, ◌<◌, Bool, true, false, List, [], ◌∷◌, ◌++◌, map, length, get_or, Option, Some, None, Contains, refl, sym, ap, ◌∙◌, subst, ap₂, ⊎_elim, inl, inr, arith}
-use Rattle.std.specs.Prelude.{◌⊎◌, is_none, option_map, option_and_then, slice_get, unwrap_or, bytes_eq, All, if◌then◌else◌}
+use Rattle.std.specs.Prelude.{◌⊎◌, option_map, option_and_then, slice_get, unwrap_or, bytes_eq, All, if◌then◌else◌}
 use Rattle.std.specs.List.{AllByRecursion}
 use Rattle.std.specs.Option.{option_or}
 use Rattle.std.proofs.lemmas.Bool.{cases_Bool, cases_eq, cases_lt, false≢true, false_from_ne_true, or_cases, or_left, or_right}
@@ -17,7 +17,7 @@ use Rattle.forest_place.proofs.Positions.{position_rises}
 use Rattle.forest_place.proofs.Parts.{InForest-root, is_root-root_off, root_off-is_root}
 use Rattle.forest_model.specs.Content.{IsDigest, Tree, leaf, inner, content, digest_of, node_texts}
 use Rattle.forest_model.specs.Standing.{tree_at, digest_at, root}
-use Rattle.forest_model.specs.Cover.{Cover, target, given, both, cover_of_halves, cover, is_needed}
+use Rattle.forest_model.specs.Cover.{Cover, target, given, both, cover_of_halves, cover, need, is_needed, HasShape}
 use Rattle.forest_model.specs.Evaluation.{beside, value_texts, asked, hash_of, nothing_known, evaluation, IsAccepted}
 use Rattle.forest_model.specs.Right.{entries, text_at as entry_text, IsKnowledge, IsRight, IsNodeText, IsValueText}
 use Rattle.forest_model.proofs.Climbs.{tree_at-root}
@@ -29,27 +29,19 @@ use Rattle.leaf_record.specs.History.{History}
 use Rattle.leaf_record.proofs.LeafLaws.{one_leaf, leaf_long}
 use Rattle.forest_place.specs.Places.{place_in}
 use Rattle.proof_shape.proofs.Ordered.{has_at}
-use Rattle.proof_verify.specs.Evaluation.{IsMade, IsEvaluatedAt}
+use Rattle.proof_verify.specs.Evaluation.{IsMade, IsEvaluatedAt, AreEvaluatedAt}
 use Rattle.proof_verify.specs.declared.evaluation.CoveredPlace.{CoveredPlace}
 use Rattle.proof_verify.specs.declared.evaluation.Made.{Made}
 use Rattle.proof_verify.specs.declared.evaluation.Made.TheVariants.{Target, Halves}
-use Rattle.block_rules.specs.declared.chain.Outside.{Outside}
-use Rattle.block_rules.specs.declared.refusal.ProofRefusal.{ProofRefusal}
 use Rattle.block_rules.specs.Steps.{first_of}
 use Rattle.output_index.specs.Held.{Held, leaf_at}
-use Rattle.node_rules.specs.Messages.{Message, point_of, points_of, named, targets, known_to}
-use Rattle.node_rules.specs.Accepting.{leaves_of, proof_fault}
-use Rattle.node_rules.specs.Right.{is_digest, is_right}
-use Rattle.node_rules.proofs.Faults.{length-named, accepted, passes}
-use Rattle.node_rules.proofs.Righting.{right_is_tested}
+use Rattle.node_rules.specs.Right.{is_digest}
 use Rattle.node_rules.proofs.Same.{bytes_eq-same, bytes_eq-true, is_same-same, is_same-true}
-use Rattle.node_rules.proofs.Serving.{AreSame, same_value, same_cover, hash_of_all, same_evaluation}
+use Rattle.node_rules.proofs.Serving.{AreSame, same_value, same_cover, hash_of_all}
 use Rattle.clash_find.specs.Clashes.{TextClash}
-use Rattle.clash_find.specs.Texts.{tree_text, text_at, claims, claim_text, made_text, AreDigests, IsWithin}
-use Rattle.clash_find.specs.Answers.{StandForHistory, IsClash, IsAnswer}
-use Rattle.clash_find.specs.Found.{text_for, differing, clash_over, clash_at, clash_in}
-use Rattle.clash_find.specs.Searched.{IsReady, DoRootsAgree, IsClashAt, IsCompared, AreCompared}
-use Rattle.clash_find.proofs.Claiming.{claims-long}
+use Rattle.clash_find.specs.Texts.{tree_text, text_at, claim_text, made_text, AreDigests, IsWithin}
+use Rattle.clash_find.specs.Found.{text_of_cover, differing, pair_over, pair_at, first_pair}
+use Rattle.clash_find.specs.Searched.{digests_of, DoRootsAgree, IsClashAt, IsCompared, AreCompared}
 use Rattle.clash_find.proofs.Agreement.{value_of, node_text, cover_text, HasDigests, AgreeAt, found, right_agrees}
 use Rattle.clash_find.proofs.Listing.{node_listed, cover_listed}
 
@@ -127,26 +119,25 @@ standing : (H : List ℕ → Digest) (x : Option Tree) (d : Digest) → option_m
 standing H None d e = absurd (none-some d e)
 standing H (Some t) d e = (t, refl, same_Some _ _ e)
 
+-- what the search goes over: targets that have shape, a leaf for each, and the hashes of all needed places, which are the known ones and
+-- between them those that were shown; and what they come to
+pub record IsReady (H : List ℕ → Digest) (n : ℕ) (ts : List Place) (rs : List Leaf) (k : ℕ → ℕ → Option Digest) (hs : List Digest) (items : List CoveredPlace) : Type 0 where
+  pub shape : HasShape n ts
+  pub each_leaf : length rs ≡ length ts
+  pub count : length hs ≡ length (asked n ts k)
+  pub full : List Digest
+  pub hashes_are : full ≡ map (λ p. hash_of H n ts k hs p.row p.off) (need n ts)
+  pub fit : AllByRecursion LeafFits rs
+  pub evaluated : AreEvaluatedAt H n ts (digests_of H rs) full items
+
 module _ (H : List ℕ → Digest) (long : (x : List ℕ) → IsDigest (H x)) (us : History) (outputs : List Held)
     (held : (i : ℕ) (l : Leaf) → slice_get us i ≡ Some (Some l) → leaf_at i outputs ≡ Some l) (fit : (i : ℕ) (l : Leaf) → slice_get us i ≡ Some (Some l) → LeafFits l)
-    (ext : List Outside) (m : Message) (count : length m.proof.spends ≡ length ext) (known : ℕ → ℕ → Option Digest) where
+    (ts : List Place) (rs : List Leaf) (k : ℕ → ℕ → Option Digest) (hs : List Digest) where
   abbrev es : List (Option Digest)
   es = entries H leaf_text us
 
   abbrev n : ℕ
   n = length es
-
-  abbrev ts : List Place
-  ts = targets n m
-
-  abbrev rs : List Leaf
-  rs = claims ext m
-
-  abbrev hs : List Digest
-  hs = m.proof.hashes
-
-  abbrev k : ℕ → ℕ → Option Digest
-  k = known_to m.lean known
 
   abbrev text_of : ℕ → List ℕ
   text_of = entry_text leaf_text us
@@ -169,9 +160,6 @@ module _ (H : List ℕ → Digest) (long : (x : List ℕ) → IsDigest (H x)) (u
   same_length : n ≡ length us
   same_length = length-map us (option_map (λ (r : Leaf). H (leaf_text r)))
 
-  points_count : length m.proof.spends ≡ length (points_of ext)
-  points_count = count ∙ sym (length-map ext point_of)
-
   no_pair : (l : Leaf) → LeafFits l → length (leaf_text l) ≢ 64
   no_pair l f e = let w = (leaf_long l f).0 in absurd (omega (arith, w, e))
 
@@ -193,18 +181,22 @@ module _ (H : List ℕ → Digest) (long : (x : List ℕ) → IsDigest (H x)) (u
   node_digest r o (leaf i d) s = (each_entry i d (tree_at-leaves es r o (leaf i d) s)).0
   node_digest r o (inner a b) s = refl
 
-  module _ (items : List CoveredPlace) (ready : IsReady H n ext known m items) where
-    -- ---- what the items say, by what is digested with the message's own hashes
+  -- what a cover comes to, by the digests of the leaves
+  comes_to : (c : Cover) → evaluation H n ts k (digests_of H rs) hs c ≡ V c
+  comes_to c = value-same H (beside (H []) ts (digests_of H rs)) (λ r o. H (leaf_texts r o)) hashes (leaves_are H leaf_text ts rs) c
+
+  module _ (items : List CoveredPlace) (ready : IsReady H n ts rs k hs items) where
+    -- ---- what the items say, by what is digested with the shown hashes and the known ones
 
     abbrev full_hashes : ℕ → ℕ → Digest
     full_hashes = hash_of H n ts nothing_known ready.full
 
     same_hash : (r o : ℕ) → InForest n r o → is_needed n ts (place r o) ≡ true → hashes r o ≡ full_hashes r o
-    same_hash = hash_of_all H n ts hashes ready.full (ready.hashes.hashes_are H)
+    same_hash = hash_of_all H n ts hashes ready.full ready.hashes_are
 
-    evaluates : (c : Cover) → AreSame H n ts hashes full_hashes same_hash c → evaluation H n ts nothing_known (leaves_of H leaf_text (points_of ext) m) ready.full c ≡ V c
+    evaluates : (c : Cover) → AreSame H n ts hashes full_hashes same_hash c → evaluation H n ts nothing_known (digests_of H rs) ready.full c ≡ V c
     evaluates c same =
-        value-same H (beside (H []) ts (leaves_of H leaf_text (points_of ext) m)) (λ r o. H (leaf_texts r o)) full_hashes (leaves_are H leaf_text ts rs) c
+        value-same H (beside (H []) ts (digests_of H rs)) (λ r o. H (leaf_texts r o)) full_hashes (leaves_are H leaf_text ts rs) c
         ∙ sym (same_value H n ts hashes full_hashes same_hash (λ r o. H (leaf_texts r o)) c same)
 
     abbrev blank : CoveredPlace
@@ -216,49 +208,46 @@ module _ (H : List ℕ → Digest) (long : (x : List ℕ) → IsDigest (H x)) (u
       beneath : Cover
       covered : cover ts item.place.row item.place.off ≡ Some beneath
       digest : item.digest ≡ V beneath
-      text : made_text ext m item.made ≡ cover_text_of beneath
+      text : made_text rs item.made ≡ cover_text_of beneath
       whole : AreDigests item.made → HasDigests H es text_of ts leaf_texts hashes beneath
       own : H (cover_text_of beneath) ≡ V beneath
       listed : Contains (value_texts H leaf_texts hashes beneath) (cover_text_of beneath)
       form : (beneath ≡ target item.place.row item.place.off) ⊎ ((a : Cover) × (b : Cover) × (beneath ≡ both a b))
 
-    target_text : (p : Place) (i : ℕ) → i < length ts → place_in ts i ≡ p → claim_text ext m i ≡ leaf_texts p.row p.off
+    target_text : (p : Place) (i : ℕ) → i < length ts → place_in ts i ≡ p → claim_text rs i ≡ leaf_texts p.row p.off
     target_text p i lt e =
-        let long_list : length (map leaf_text rs) ≡ length ts = length-map rs leaf_text ∙ (claims-long ext m count ∙ (sym count ∙ targets_count)) in
+        let long_list : length (map leaf_text rs) ≡ length ts = length-map rs leaf_text ∙ ready.each_leaf in
         ap (λ (x : Option (List ℕ)). unwrap_or x []) (sym (slice_get-map leaf_text rs i))
         ∙ (sym (beside_slice [] ts (map leaf_text rs) i ready.shape.distinct long_list lt) ∙ ap (λ (q : Place). leaf_texts q.row q.off) e)
-      where
-        targets_count : length m.proof.spends ≡ length ts
-        targets_count = sym (length-named n m) ∙ (ap length ready.named_all ∙ length-map ts Some)
 
-    item_from : (item : CoveredPlace) → IsEvaluatedAt H n ts (leaves_of H leaf_text (points_of ext) m) ready.full item → IsItem item
+    item_from : (item : CoveredPlace) → IsEvaluatedAt H n ts (digests_of H rs) ready.full item → IsItem item
     item_from item e = by_made e.beneath e.covered e.digest item.made refl e.made
       where
         same : (c : Cover) → cover ts item.place.row item.place.off ≡ Some c → AreSame H n ts hashes full_hashes same_hash c
         same c q = same_cover H n ts hashes full_hashes same_hash item.place.row item.place.off c e.within q
 
-        by_made : (c : Cover) → cover ts item.place.row item.place.off ≡ Some c → item.digest ≡ evaluation H n ts nothing_known (leaves_of H leaf_text (points_of ext) m) ready.full c → (made : Made) → item.made ≡ made →
-            IsMade H n ts (leaves_of H leaf_text (points_of ext) m) ready.full item.place c item.made → IsItem item
+        by_made : (c : Cover) → cover ts item.place.row item.place.off ≡ Some c → item.digest ≡ evaluation H n ts nothing_known (digests_of H rs) ready.full c → (made : Made) → item.made ≡ made →
+            IsMade H n ts (digests_of H rs) ready.full item.place c item.made → IsItem item
         by_made (target a b) q d (Target i) is made =
             let w = target_is ts item.place.row item.place.off a b q in
             let at : target item.place.row item.place.off ≡ target a b = ap₂ target (sym w.0) (sym w.1) in
-            let here = subst (λ (x : Made). IsMade H n ts (leaves_of H leaf_text (points_of ext) m) ready.full item.place (target a b) x) is made in
+            let here = subst (λ (x : Made). IsMade H n ts (digests_of H rs) ready.full item.place (target a b) x) is made in
             record {
               within = e.within;
               beneath = target a b;
               covered = q;
               digest = d ∙ evaluates (target a b) (same (target a b) q);
-              text = ap (made_text ext m) is ∙ (target_text item.place i here.0 here.1 ∙ ap cover_text_of at);
+              text = ap (made_text rs) is ∙ (target_text item.place i here.0 here.1 ∙ ap cover_text_of at);
               whole = λ h. tt;
               own = refl;
               listed = Contains-first _ [];
               form = inl (sym at);
             }
-        by_made (target a b) q d (Halves x y) is made = absurd (subst (λ (x : Made). IsMade H n ts (leaves_of H leaf_text (points_of ext) m) ready.full item.place (target a b) x) is made)
+        by_made (target a b) q d (Halves x y) is made = absurd (subst (λ (x : Made). IsMade H n ts (digests_of H rs) ready.full item.place (target a b) x) is made)
         by_made (given a b) q d z is made = absurd made
-        by_made (both l r) q d (Target i) is made = absurd (subst (λ (x : Made). IsMade H n ts (leaves_of H leaf_text (points_of ext) m) ready.full item.place (both l r) x) is made)
+        by_made (both l r) q d (Target i) is made = absurd (subst (λ (x : Made). IsMade H n ts (digests_of H rs) ready.full item.place (both l r) x) is made)
         by_made (both l r) q d (Halves x y) is made =
-            let here = subst (λ (x : Made). IsMade H n ts (leaves_of H leaf_text (points_of ext) m) ready.full item.place (both l r) x) is made in
+            let here = subst (λ (x : Made). IsMade H n ts (digests_of H rs) ready.full item.place (both l r) x) is made in
             let s = same (both l r) q in
             let left : x ≡ V l = here.0 ∙ evaluates l s.0 in
             let right : y ≡ V r = here.1 ∙ evaluates r s.1 in
@@ -267,7 +256,7 @@ module _ (H : List ℕ → Digest) (long : (x : List ℕ) → IsDigest (H x)) (u
               beneath = both l r;
               covered = q;
               digest = d ∙ evaluates (both l r) s;
-              text = ap (made_text ext m) is ∙ ap₂ (λ (x y : Digest). x.0 ++ y.0) left right;
+              text = ap (made_text rs) is ∙ ap₂ (λ (x y : Digest). x.0 ++ y.0) left right;
               whole = λ h. let w = subst AreDigests is h in (subst IsDigest left w.0, subst IsDigest right w.1);
               own = refl;
               listed = Contains-first _ _;
@@ -279,12 +268,8 @@ module _ (H : List ℕ → Digest) (long : (x : List ℕ) → IsDigest (H x)) (u
 
     -- ---- the roots
 
-    abbrev Accepts : Type 0
-    Accepts = IsAccepted H n (root H es) ts k (leaves_of H leaf_text (points_of ext) m) hs
-
-    leaves_count : length (leaves_of H leaf_text (points_of ext) m) ≡ length ts
-    leaves_count =
-        length-map rs (λ (l : Leaf). H (leaf_text l)) ∙ (claims-long ext m count ∙ (sym count ∙ (sym (length-named n m) ∙ (ap length ready.named_all ∙ length-map ts Some))))
+    abbrev pub Accepts : Type 0
+    Accepts = IsAccepted H n (root H es) ts k (digests_of H rs) hs
 
     -- the digest at a covered place, by its item
     root_is : DoRootsAgree H es items true → (row : ℕ) (c : Cover) → is_slot n row ≡ true → cover ts row (root_off n row) ≡ Some c → root H es row ≡ Some (V c)
@@ -300,44 +285,23 @@ module _ (H : List ℕ → Digest) (long : (x : List ℕ) → IsDigest (H x)) (u
         ap (option_map (digest_of H)) (sym (tree_at-root es row o top))
         ∙ (ap (λ (p : Place). digest_at H es p.row p.off) (sym at) ∙ (got ∙ ap Some (it.digest ∙ ap V same)))
 
-    accepts : DoRootsAgree H es items true → Accepts
+    pub accepts : DoRootsAgree H es items true → Accepts
     accepts agree = record {
       shape = ready.shape;
-      one_leaf_each = leaves_count;
-      one_hash_each = ready.hashes.count;
-      agrees = λ row c slot e.
-          let h = InForest-root n row (root_off n row) (is_root-root_off n row slot) in
-          root_is agree row c slot e
-          ∙ ap Some (sym (same_evaluation H n m known ready.full (leaves_of H leaf_text (points_of ext) m) row (root_off n row) c ready.hashes h e ∙ evaluates c (same_cover H n ts hashes full_hashes same_hash row (root_off n row) c h e)));
+      one_leaf_each = length-map rs (λ (l : Leaf). H (leaf_text l)) ∙ ready.each_leaf;
+      one_hash_each = ready.count;
+      agrees = λ row c slot e. root_is agree row c slot e ∙ ap Some (sym (comes_to c));
     }
 
-    abbrev Passes : ℕ → Type 0
-    Passes j = proof_fault H leaf_text (record { n = j; roots = root H es; known = known }) (points_of ext) m ≡ None
-
-    to_us : (P : ℕ → Type 0) → P n → P (length us)
-    to_us P p = subst P same_length p
-
-    to_es : (P : ℕ → Type 0) → P (length us) → P n
-    to_es P p = subst P (sym same_length) p
-
-    no_fault : DoRootsAgree H es items true → Passes (length us)
-    no_fault agree = to_us Passes (passes H leaf_text (record { n = n; roots = root H es; known = known }) (points_of ext) m (accepts agree) ready.named_all)
-
-    -- where a root differs, the message is not accepted
-    pub differs : DoRootsAgree H es items false → Passes n → ⊥
-    differs (i, d, lt, top, other) none =
+    -- where a root differs, the roots do not accept it
+    pub differs : DoRootsAgree H es items false → Accepts → ⊥
+    differs (i, d, lt, top, other) a =
         let it = item_at i d lt in
         let p = (get_or items i d).place in
-        let w = accepted H leaf_text (record { n = n; roots = root H es; known = known }) (points_of ext) m points_count none in
         let t = root_off-is_root n p.row p.off top in
         let e : cover ts p.row (root_off n p.row) ≡ Some it.beneath = ap (cover ts p.row) (sym t.0) ∙ it.covered in
-        let same = w.0.agrees p.row it.beneath t.1 e in
-        let is : evaluation H n ts k (leaves_of H leaf_text (points_of ext) m) hs it.beneath ≡ V it.beneath =
-        same_evaluation H n m known ready.full (leaves_of H leaf_text (points_of ext) m) p.row p.off it.beneath ready.hashes it.within it.covered ∙ evaluates it.beneath (same_cover H n ts hashes full_hashes same_hash p.row p.off it.beneath it.within it.covered) in
-        other (ap (option_map (digest_of H)) (tree_at-root es p.row p.off top) ∙ (ap (λ o. option_map (digest_of H) (content es p.row o)) t.0 ∙ (same ∙ ap Some (is ∙ sym it.digest))))
-
-    pub refused : DoRootsAgree H es items false → IsAnswer H us known (points_of ext) m None
-    refused differ none = absurd (differs differ (to_es Passes none))
+        let same = a.agrees p.row it.beneath t.1 e in
+        other (ap (option_map (digest_of H)) (tree_at-root es p.row p.off top) ∙ (ap (λ o. option_map (digest_of H) (content es p.row o)) t.0 ∙ (same ∙ ap Some (comes_to it.beneath ∙ sym it.digest))))
 
     -- ---- the texts
 
@@ -347,7 +311,7 @@ module _ (H : List ℕ → Digest) (long : (x : List ℕ) → IsDigest (H x)) (u
     stands_at i lt e = standing H (tree_at es (get_or items i blank).place.row (get_or items i blank).place.off) (get_or items i blank).digest e
 
     -- where no item shows a clash, the texts are equal
-    agree_everywhere : AreCompared H es outputs ext m items None → (r o : ℕ) → InForest n r o → AgreeAt H es text_of ts leaf_texts hashes r o
+    agree_everywhere : AreCompared H es outputs rs items None → (r o : ℕ) → InForest n r o → AgreeAt H es text_of ts leaf_texts hashes r o
     agree_everywhere compared r o h c t e s v =
         let w = ready.evaluated.all r o c h e in
         let item = get_or items w.0 blank in
@@ -372,10 +336,7 @@ module _ (H : List ℕ → Digest) (long : (x : List ℕ) → IsDigest (H x)) (u
     all_fit (l ∷ ls) h zero d lt = h.0
     all_fit (l ∷ ls) h (suc j) d lt = all_fit ls h.1 j d (omega (arith, lt))
 
-    abbrev RightBy : ℕ → Type 0
-    RightBy j = IsRight H leaf_text us (targets j m) k rs hs
-
-    right : DoRootsAgree H es items true → AreCompared H es outputs ext m items None → RightBy n
+    pub right : DoRootsAgree H es items true → AreCompared H es outputs rs items None → IsRight H leaf_text us ts k rs hs
     right agree compared =
         right_from_found H leaf_text long LeafFits no_pair one_leaf us fit ts k rs hs (all_fit rs ready.fit) (accepts agree)
         (λ row c slot e.
@@ -386,42 +347,38 @@ module _ (H : List ℕ → Digest) (long : (x : List ℕ) → IsDigest (H x)) (u
         let s : tree_at es row o ≡ Some w.0 = tree_at-root es row o top ∙ w.1 in
         (w.0, s, found H es text_of ts leaf_texts hashes long leaf_other each_entry (agree_everywhere compared) row o c w.0 h e s (sym w.2)))
 
-    pub right_answer : DoRootsAgree H es items true → AreCompared H es outputs ext m items None → IsAnswer H us known (points_of ext) m None
-    right_answer agree compared none =
-        (right_is_tested H leaf_text us known (points_of ext) m).1 (to_us RightBy (right agree compared), to_us (λ j. named j m ≡ map Some (targets j m)) ready.named_all, points_count)
-
     -- ---- which clash is found
 
-    text_same : (c : Cover) → cover_text_of c ≡ text_for H n known ext m c
+    text_same : (c : Cover) → cover_text_of c ≡ text_of_cover H n ts rs k hs c
     text_same (target a b) = refl
     text_same (given a b) = refl
     text_same (both l r) = refl
 
     abbrev shown_at : Place → Option TextClash
-    shown_at = clash_at H es outputs known ext m
+    shown_at = pair_at H es outputs ts rs k hs
 
-    clash_here : (item : CoveredPlace) → IsItem item → (c : TextClash) → IsClashAt H es outputs ext m item c → shown_at item.place ≡ Some c
+    clash_here : (item : CoveredPlace) → IsItem item → (c : TextClash) → IsClashAt H es outputs rs item c → shown_at item.place ≡ Some c
     clash_here item it c w =
         let p = item.place in
         let there : is_digest (V it.beneath) (digest_at H es p.row p.off) ≡ true = is_there (V it.beneath) (digest_at H es p.row p.off) (w.same ∙ ap Some it.digest) in
-        let second : c.second ≡ text_for H n known ext m it.beneath = w.second ∙ (it.text ∙ text_same it.beneath) in
+        let second : c.second ≡ text_of_cover H n ts rs k hs it.beneath = w.second ∙ (it.text ∙ text_same it.beneath) in
         let digest : c.digest ≡ V it.beneath = w.digest ∙ it.digest in
-        ap (option_and_then (clash_over H es outputs known ext m p)) it.covered
-        ∙ (ap (λ b. if b then option_and_then (λ x. differing x (text_for H n known ext m it.beneath) (V it.beneath)) (text_at H es outputs p.row p.off) else None) there
-        ∙ (ap (option_and_then (λ x. differing x (text_for H n known ext m it.beneath) (V it.beneath))) w.first
+        ap (option_and_then (pair_over H es outputs ts rs k hs p)) it.covered
+        ∙ (ap (λ b. if b then option_and_then (λ x. differing x (text_of_cover H n ts rs k hs it.beneath) (V it.beneath)) (text_at H es outputs p.row p.off) else None) there
+        ∙ (ap (option_and_then (λ x. differing x (text_of_cover H n ts rs k hs it.beneath) (V it.beneath))) w.first
         ∙ (ap₂ (differing c.first) (sym second) (sym digest) ∙ differing-other c w.differ)))
 
-    none_here : (item : CoveredPlace) → IsItem item → IsCompared H es outputs ext m item None → shown_at item.place ≡ None
+    none_here : (item : CoveredPlace) → IsItem item → IsCompared H es outputs rs item None → shown_at item.place ≡ None
     none_here item it w =
-        ap (option_and_then (clash_over H es outputs known ext m item.place)) it.covered
+        ap (option_and_then (pair_over H es outputs ts rs k hs item.place)) it.covered
         ∙ by_digest (is_digest (V it.beneath) (digest_at H es item.place.row item.place.off)) refl
       where
-        by_text : (x : Option (List ℕ)) → ((y : List ℕ) → x ≡ Some y → y ≡ text_for H n known ext m it.beneath) → option_and_then (λ y. differing y (text_for H n known ext m it.beneath) (V it.beneath)) x ≡ None
+        by_text : (x : Option (List ℕ)) → ((y : List ℕ) → x ≡ Some y → y ≡ text_of_cover H n ts rs k hs it.beneath) → option_and_then (λ y. differing y (text_of_cover H n ts rs k hs it.beneath) (V it.beneath)) x ≡ None
         by_text None f = refl
-        by_text (Some y) f = differing-same y (text_for H n known ext m it.beneath) (V it.beneath) (f y refl)
+        by_text (Some y) f = differing-same y (text_of_cover H n ts rs k hs it.beneath) (V it.beneath) (f y refl)
 
         by_digest : (b : Bool) → is_digest (V it.beneath) (digest_at H es item.place.row item.place.off) ≡ b →
-            (if b then option_and_then (λ x. differing x (text_for H n known ext m it.beneath) (V it.beneath)) (text_at H es outputs item.place.row item.place.off) else None) ≡ None
+            (if b then option_and_then (λ x. differing x (text_of_cover H n ts rs k hs it.beneath) (V it.beneath)) (text_at H es outputs item.place.row item.place.off) else None) ≡ None
         by_digest false e = refl
         by_digest true e =
             by_text (text_at H es outputs item.place.row item.place.off)
@@ -429,17 +386,17 @@ module _ (H : List ℕ → Digest) (long : (x : List ℕ) → IsDigest (H x)) (u
 
     -- nothing is shown at a place whose item shows nothing
     abbrev Silent : ℕ → Type 0
-    Silent j = IsCompared H es outputs ext m (get_or items j blank) None
+    Silent j = IsCompared H es outputs rs (get_or items j blank) None
 
     place_none : (q : Place) → InForest n q.row q.off → ((j : ℕ) → j < length items → (get_or items j blank).place ≡ q → Silent j) → shown_at q ≡ None
     place_none q h silent = by_cover (cover ts q.row q.off) refl
       where
-        by_cover : (x : Option Cover) → cover ts q.row q.off ≡ x → option_and_then (clash_over H es outputs known ext m q) x ≡ None
+        by_cover : (x : Option Cover) → cover ts q.row q.off ≡ x → option_and_then (pair_over H es outputs ts rs k hs q) x ≡ None
         by_cover None e = refl
         by_cover (Some c) e =
             let w = ready.evaluated.all q.row q.off c h e in
             let at : (get_or items w.0 blank).place ≡ q = w.2 blank in
-            ap (option_and_then (clash_over H es outputs known ext m q)) (sym e)
+            ap (option_and_then (pair_over H es outputs ts rs k hs q)) (sym e)
             ∙ subst (λ p. shown_at p ≡ None) at (none_here (get_or items w.0 blank) (item_at w.0 blank w.1) (silent w.0 w.1 at))
 
     -- items come in the order of their places
@@ -461,147 +418,93 @@ module _ (H : List ℕ → Digest) (long : (x : List ℕ) → IsDigest (H x)) (u
         (cases_eq j i))
         (cases_lt j i)
 
-    abbrev fault_here : Option ProofRefusal
-    fault_here = proof_fault H leaf_text (record { n = n; roots = root H es; known = known }) (points_of ext) m
-
-    passed : DoRootsAgree H es items true → fault_here ≡ None
-    passed agree = passes H leaf_text (record { n = n; roots = root H es; known = known }) (points_of ext) m (accepts agree) ready.named_all
-
-    pub exact : DoRootsAgree H es items true → (r : Option TextClash) → AreCompared H es outputs ext m items r → r ≡ clash_in H es outputs known ext m
-    exact agree None compared =
-        sym (ap (λ x. if is_none x then first_of (map shown_at (places n)) else None) (passed agree)
-        ∙ first-none shown_at (places n) (λ q i. place_none q (places_had n q.row q.off i) (λ j lt at. compared j blank lt)))
-    exact agree (Some c) (i, d, lt, at, before) =
-        let clash = subst (λ (x : CoveredPlace). IsClashAt H es outputs ext m x c) (get_or_default items i d blank lt) at in
+    pub exact : (r : Option TextClash) → AreCompared H es outputs rs items r → r ≡ first_pair H es outputs ts rs k hs
+    exact None compared = sym (first-none shown_at (places n) (λ q i. place_none q (places_had n q.row q.off i) (λ j lt at. compared j blank lt)))
+    exact (Some c) (i, d, lt, at, before) =
+        let clash = subst (λ (x : CoveredPlace). IsClashAt H es outputs rs x c) (get_or_default items i d blank lt) at in
         let it = item_at i blank lt in
         let p = (get_or items i blank).place in
-        sym (ap (λ x. if is_none x then first_of (map shown_at (places n)) else None) (passed agree)
-        ∙ first-is shown_at (places n) p c (places_ascending n) (places_have n p.row p.off it.within) (clash_here (get_or items i blank) it c clash)
-        (λ q j behind. place_none q (places_had n q.row q.off j) (λ k lk same. before k blank (in_order i k lt lk (subst (λ r. IsBefore r p) (sym same) behind)))))
+        sym (first-is shown_at (places n) p c (places_ascending n) (places_have n p.row p.off it.within) (clash_here (get_or items i blank) it c clash)
+        (λ q j behind. place_none q (places_had n q.row q.off j) (λ l lk same. before l blank (in_order i l lt lk (subst (λ r. IsBefore r p) (sym same) behind)))))
 
-    pub exact_refused : DoRootsAgree H es items false → None ≡ clash_in H es outputs known ext m
-    exact_refused differ = by_fault fault_here refl
+    -- ---- what a clash says
+
+    -- of what is right, each covered place has one text
+    not_right : IsKnowledge H es k → (c : TextClash) (i : ℕ) → i < length items → IsClashAt H es outputs rs (get_or items i blank) c → IsRight H leaf_text us ts k rs hs → ⊥
+    not_right view c i lt clash r =
+        let shown : map Some hs ≡ map (λ p. digest_at H es p.row p.off) (asked n ts k) = subst (λ j. map Some hs ≡ map (λ p. digest_at H es p.row p.off) (asked j ts k)) (sym same_length) r.shown in
+        let it = item_at i blank lt in
+        let p = (get_or items i blank).place in
+        let t = stands_at i lt clash.same in
+        let agrees = right_agrees H leaf_text us ts k rs hs view r.spends shown p.row p.off it.beneath t.0 it.within it.covered t.1 in
+        let same : node_text_of t.0 ≡ cover_text_of it.beneath = by_form it.beneath p it.form agrees in
+        let first : c.first ≡ node_text_of t.0 = same_Some _ _ (sym clash.first ∙ node_shown p.row p.off t.0 t.1) in
+        clash.differ (first ∙ (same ∙ (sym it.text ∙ sym clash.second)))
       where
-        by_fault : (x : Option ProofRefusal) → fault_here ≡ x → None ≡ (if is_none x then first_of (map shown_at (places n)) else None)
-        by_fault None e = absurd (differs differ e)
-        by_fault (Some f) e = refl
+        by_form : {x : List ℕ} (b : Cover) (p : Place) → (b ≡ target p.row p.off) ⊎ ((a : Cover) × (d : Cover) × (b ≡ both a d)) →
+            (b ≡ target p.row p.off → x ≡ leaf_texts p.row p.off) × ((a d : Cover) → b ≡ both a d → x ≡ (V a).0 ++ (V d).0) → x ≡ cover_text_of b
+        by_form b p (inl e) w = w.0 e ∙ ap cover_text_of (sym e)
+        by_form b p (inr (a, d, e)) w = w.1 a d e ∙ ap cover_text_of (sym e)
 
-    module _ (view : IsKnowledge H es known) where
-      lean_view : (lean : Bool) → IsKnowledge H es (known_to lean known)
-      lean_view true = view
-      lean_view false = λ row off d e. absurd (none-some d e)
+    -- two different texts with one digest, of the forest and of the proof
+    pub record IsShownClash (c : TextClash) : Type 0 where
+      pub of_forest : IsNodeText H leaf_text us c.first
+      pub of_proof : IsValueText H leaf_text (length us) ts k rs hs c.second
+      pub differ : c.first ≢ c.second
+      pub first_is : H c.first ≡ c.digest
+      pub second_is : H c.second ≡ c.digest
 
-      -- a right message has one text at each covered place
-      not_right : (c : TextClash) (i : ℕ) → i < length items → IsClashAt H es outputs ext m (get_or items i blank) c → is_right H leaf_text us known (points_of ext) m ≢ true
-      not_right c i lt clash tested =
-          let w = (right_is_tested H leaf_text us known (points_of ext) m).0 tested in
-          let r = to_es RightBy w.0 in
-          let shown : map Some hs ≡ map (λ p. digest_at H es p.row p.off) (asked n ts k) = subst (λ j. map Some hs ≡ map (λ p. digest_at H es p.row p.off) (asked j ts k)) (sym same_length) r.shown in
-          let it = item_at i blank lt in
-          let p = (get_or items i blank).place in
-          let t = stands_at i lt clash.same in
-          let agrees = right_agrees H leaf_text us ts k rs hs (lean_view m.lean) r.spends shown p.row p.off it.beneath t.0 it.within it.covered t.1 in
-          let same : node_text_of t.0 ≡ cover_text_of it.beneath = by_form it.beneath p it.form agrees in
-          let first : c.first ≡ node_text_of t.0 = same_Some _ _ (sym clash.first ∙ node_shown p.row p.off t.0 t.1) in
-          clash.differ (first ∙ (same ∙ (sym it.text ∙ sym clash.second)))
-        where
-          by_form : {x : List ℕ} (b : Cover) (p : Place) → (b ≡ target p.row p.off) ⊎ ((a : Cover) × (d : Cover) × (b ≡ both a d)) →
-              (b ≡ target p.row p.off → x ≡ leaf_texts p.row p.off) × ((a d : Cover) → b ≡ both a d → x ≡ (V a).0 ++ (V d).0) → x ≡ cover_text_of b
-          by_form b p (inl e) w = w.0 e ∙ ap cover_text_of (sym e)
-          by_form b p (inr (a, d, e)) w = w.1 a d e ∙ ap cover_text_of (sym e)
+    is_clash : (c : TextClash) (i : ℕ) → i < length items → IsClashAt H es outputs rs (get_or items i blank) c → IsShownClash c
+    is_clash c i lt clash =
+        let it = item_at i blank lt in
+        let p = (get_or items i blank).place in
+        let t = stands_at i lt clash.same in
+        let first : c.first ≡ node_text_of t.0 = same_Some _ _ (sym clash.first ∙ node_shown p.row p.off t.0 t.1) in
+        let second : c.second ≡ cover_text_of it.beneath = clash.second ∙ it.text in
+        let node = node_listed H es text_of (n - p.row) p.row p.off t.0 (node_text_of t.0) refl it.within t.1 (first_listed t.0) in
+        let covered = cover_listed H n ts ready.shape leaf_texts hashes (n - p.row) p.row p.off it.beneath (cover_text_of it.beneath) refl it.within it.covered it.listed in
+        record {
+          of_forest = subst (IsNodeText H leaf_text us) (sym first) (record {
+            row = node.row;
+            tree = node.tree;
+            slot = subst (λ j. is_slot j node.row ≡ true) same_length node.slot;
+            of_slot = subst (λ j. content es node.row (root_off j node.row) ≡ Some node.tree) same_length node.of_slot;
+            listed = node.listed;
+          });
+          of_proof = subst (λ j. IsValueText H leaf_text j ts k rs hs c.second) same_length (subst (IsValueText H leaf_text n ts k rs hs) (sym second) (record {
+            row = covered.row;
+            covered = covered.covered;
+            slot = covered.slot;
+            of_slot = covered.of_slot;
+            listed = covered.listed;
+          }));
+          differ = clash.differ;
+          first_is = ap H first ∙ (node_digest p.row p.off t.0 t.1 ∙ (t.2 ∙ sym clash.digest));
+          second_is = ap H second ∙ (it.own ∙ (sym it.digest ∙ sym clash.digest));
+        }
+      where
+        first_listed : (t : Tree) → Contains (node_texts H text_of t) (node_text_of t)
+        first_listed (leaf j d) = Contains-first _ []
+        first_listed (inner l r) = Contains-first _ _
 
-      is_clash : (c : TextClash) (i : ℕ) → i < length items → IsClashAt H es outputs ext m (get_or items i blank) c → IsClash H us known (points_of ext) m c
-      is_clash c i lt clash =
-          let it = item_at i blank lt in
-          let p = (get_or items i blank).place in
-          let t = stands_at i lt clash.same in
-          let first : c.first ≡ node_text_of t.0 = same_Some _ _ (sym clash.first ∙ node_shown p.row p.off t.0 t.1) in
-          let second : c.second ≡ cover_text_of it.beneath = clash.second ∙ it.text in
-          let node = node_listed H es text_of (n - p.row) p.row p.off t.0 (node_text_of t.0) refl it.within t.1 (first_listed t.0) in
-          let covered = cover_listed H n ts ready.shape leaf_texts hashes (n - p.row) p.row p.off it.beneath (cover_text_of it.beneath) refl it.within it.covered it.listed in
-          record {
-            of_forest = subst (IsNodeText H leaf_text us) (sym first) (record {
-              row = node.row;
-              tree = node.tree;
-              slot = to_us (λ j. is_slot j node.row ≡ true) node.slot;
-              of_slot = to_us (λ j. content es node.row (root_off j node.row) ≡ Some node.tree) node.of_slot;
-              listed = node.listed;
-            });
-            of_proof = to_us (λ j. IsValueText H leaf_text j (targets j m) k rs hs c.second) (subst (IsValueText H leaf_text n ts k rs hs) (sym second) (record {
-              row = covered.row;
-              covered = covered.covered;
-              slot = covered.slot;
-              of_slot = covered.of_slot;
-              listed = covered.listed;
-            }));
-            differ = clash.differ;
-            first_is = ap H first ∙ (node_digest p.row p.off t.0 t.1 ∙ (t.2 ∙ sym clash.digest));
-            second_is = ap H second ∙ (it.own ∙ (sym it.digest ∙ sym clash.digest));
-          }
-        where
-          first_listed : (t : Tree) → Contains (node_texts H text_of t) (node_text_of t)
-          first_listed (leaf j d) = Contains-first _ []
-          first_listed (inner l r) = Contains-first _ _
+    -- what is found is two such texts, and what is taken to be known and shown is not right
+    pub some_found : IsKnowledge H es k → (c : TextClash) → AreCompared H es outputs rs items (Some c) → (IsRight H leaf_text us ts k rs hs → ⊥) × IsShownClash c
+    some_found view c (i, d, lt, at, before) =
+        let clash = subst (λ (x : CoveredPlace). IsClashAt H es outputs rs x c) (get_or_default items i d blank lt) at in
+        (not_right view c i lt clash, is_clash c i lt clash)
 
-      pub answered : DoRootsAgree H es items true → (r : Option TextClash) → AreCompared H es outputs ext m items r → IsAnswer H us known (points_of ext) m r
-      answered agree None compared = right_answer agree compared
-      answered agree (Some c) (i, d, lt, at, before) =
-          let clash = subst (λ (x : CoveredPlace). IsClashAt H es outputs ext m x c) (get_or_default items i d blank lt) at in
-          (no_fault agree, false_from_ne_true _ (not_right c i lt clash), is_clash c i lt clash)
-
--- ---- for a forest and an index that stand for the history
-
-module _ (H : List ℕ → Digest) (long : (x : List ℕ) → IsDigest (H x)) (es0 : List (Option Digest)) (outputs : List Held) (ext : List Outside) (m : Message) (count : length m.proof.spends ≡ length ext) (known : ℕ → ℕ → Option Digest) where
-  pub none_accepted : ((roots : ℕ → Option Digest) → proof_fault H leaf_text (record { n = length es0; roots = roots; known = known }) (points_of ext) m ≢ None) → (us : History) → StandForHistory H es0 outputs us → IsAnswer H us known (points_of ext) m None
-  none_accepted refused us s none =
-      let same : length us ≡ length es0 = sym (length-map us (option_map (λ (r : Leaf). H (leaf_text r)))) ∙ ap length (sym s.entries_are) in
-      absurd (refused (root H (entries H leaf_text us)) (subst (λ j. proof_fault H leaf_text (record { n = j; roots = root H (entries H leaf_text us); known = known }) (points_of ext) m ≡ None) same none))
-
-  pub root_refused : (items : List CoveredPlace) → IsReady H (length es0) ext known m items → DoRootsAgree H es0 items false → (us : History) → StandForHistory H es0 outputs us → IsAnswer H us known (points_of ext) m None
-  root_refused items ready agree us s =
-      refused H long us outputs s.held s.fit ext m count known items (subst (λ (e : List (Option Digest)). IsReady H (length e) ext known m items) s.entries_are ready) (subst (λ (e : List (Option Digest)). DoRootsAgree H e items false) s.entries_are agree)
-
-  pub found_answer : (items : List CoveredPlace) → IsReady H (length es0) ext known m items → DoRootsAgree H es0 items true → (r : Option TextClash) → AreCompared H es0 outputs ext m items r →
-      (us : History) → StandForHistory H es0 outputs us → IsKnowledge H es0 known → IsAnswer H us known (points_of ext) m r
-  found_answer items ready agree r compared us s view =
-      answered H long us outputs s.held s.fit ext m count known items (subst (λ (e : List (Option Digest)). IsReady H (length e) ext known m items) s.entries_are ready) (subst (λ (e : List (Option Digest)). IsKnowledge H e known) s.entries_are view)
-      (subst (λ (e : List (Option Digest)). DoRootsAgree H e items true) s.entries_are agree) r (subst (λ (e : List (Option Digest)). AreCompared H e outputs ext m items r) s.entries_are compared)
-
-  -- which it is
-  pub none_exact : ((roots : ℕ → Option Digest) → proof_fault H leaf_text (record { n = length es0; roots = roots; known = known }) (points_of ext) m ≢ None) → None ≡ clash_in H es0 outputs known ext m
-  none_exact refused = by_fault (proof_fault H leaf_text (record { n = length es0; roots = root H es0; known = known }) (points_of ext) m) refl
-    where
-      by_fault : (x : Option ProofRefusal) → proof_fault H leaf_text (record { n = length es0; roots = root H es0; known = known }) (points_of ext) m ≡ x →
-          None ≡ (if is_none x then first_of (map (clash_at H es0 outputs known ext m) (places (length es0))) else None)
-      by_fault None e = absurd (refused (root H es0) e)
-      by_fault (Some f) e = refl
-
-  pub root_exact : (items : List CoveredPlace) → IsReady H (length es0) ext known m items → DoRootsAgree H es0 items false → (us : History) → StandForHistory H es0 outputs us → None ≡ clash_in H es0 outputs known ext m
-  root_exact items ready agree us s =
-      subst (λ (e : List (Option Digest)). None ≡ clash_in H e outputs known ext m) (sym s.entries_are)
-      (exact_refused H long us outputs s.held s.fit ext m count known items (subst (λ (e : List (Option Digest)). IsReady H (length e) ext known m items) s.entries_are ready) (subst (λ (e : List (Option Digest)). DoRootsAgree H e items false) s.entries_are agree))
-
-  pub found_exact : (items : List CoveredPlace) → IsReady H (length es0) ext known m items → DoRootsAgree H es0 items true → (r : Option TextClash) → AreCompared H es0 outputs ext m items r →
-      (us : History) → StandForHistory H es0 outputs us → r ≡ clash_in H es0 outputs known ext m
-  found_exact items ready agree r compared us s =
-      subst (λ (e : List (Option Digest)). r ≡ clash_in H e outputs known ext m) (sym s.entries_are)
-      (exact H long us outputs s.held s.fit ext m count known items (subst (λ (e : List (Option Digest)). IsReady H (length e) ext known m items) s.entries_are ready)
-      (subst (λ (e : List (Option Digest)). DoRootsAgree H e items true) s.entries_are agree) r (subst (λ (e : List (Option Digest)). AreCompared H e outputs ext m items r) s.entries_are compared))
-
-  -- the targets of the items are among the inputs
-  pub targets_within : (items : List CoveredPlace) → IsReady H (length es0) ext known m items → (i : ℕ) (d : CoveredPlace) → i < length items → IsWithin (length ext) (get_or items i d).made
-  targets_within items ready i d lt = by_made (get_or items i d) (ready.evaluated.each i d lt)
-    where
-      few : length (targets (length es0) m) ≡ length ext
-      few = sym (length-map (targets (length es0) m) Some) ∙ (ap length (sym ready.named_all) ∙ (length-named (length es0) m ∙ count))
-
-      by_made : (item : CoveredPlace) → IsEvaluatedAt H (length es0) (targets (length es0) m) (leaves_of H leaf_text (points_of ext) m) ready.full item → IsWithin (length ext) item.made
-      by_made item e = at e.beneath item.made e.made
-        where
-          at : (c : Cover) (made : Made) → IsMade H (length es0) (targets (length es0) m) (leaves_of H leaf_text (points_of ext) m) ready.full item.place c made → IsWithin (length ext) made
-          at (target a b) (Target j) h = let l = h.0 in omega (arith, l, few)
-          at (target a b) (Halves x y) h = tt
-          at (given a b) (Target j) h = absurd h
-          at (given a b) (Halves x y) h = tt
-          at (both l r) (Target j) h = absurd h
-          at (both l r) (Halves x y) h = tt
+-- the targets of the items are among the leaves
+pub targets_within : (H : List ℕ → Digest) (n : ℕ) (ts : List Place) (rs : List Leaf) (leaves full : List Digest) (items : List CoveredPlace) → length rs ≡ length ts → AreEvaluatedAt H n ts leaves full items →
+    (i : ℕ) (d : CoveredPlace) → i < length items → IsWithin (length rs) (get_or items i d).made
+targets_within H n ts rs leaves full items few evaluated i d lt = by_made (get_or items i d) (evaluated.each i d lt)
+  where
+    by_made : (item : CoveredPlace) → IsEvaluatedAt H n ts leaves full item → IsWithin (length rs) item.made
+    by_made item e = at e.beneath item.made e.made
+      where
+        at : (c : Cover) (made : Made) → IsMade H n ts leaves full item.place c made → IsWithin (length rs) made
+        at (target a b) (Target j) h = let l = h.0 in omega (arith, l, few)
+        at (target a b) (Halves x y) h = tt
+        at (given a b) (Target j) h = absurd h
+        at (given a b) (Halves x y) h = tt
+        at (both l r) (Target j) h = absurd h
+        at (both l r) (Halves x y) h = tt

@@ -1,16 +1,13 @@
 -- What is refused of the targets or the hashes of a message is a fault of its proof.
 use Rattle.std.proofs.Common.{◌≡◌, ◌≢◌, ℕ, List, [], ◌∷◌, map, length, Option, Some, None, Err, refl, sym, ap, ap₂, ◌∙◌, subst}
-use Rattle.std.specs.List.{AllByRecursion}
 use Rattle.std.proofs.lemmas.List.{length-map}
 use Rattle.std.proofs.lemmas.Option.{none-some}
 use Rattle.uo_digest.specs.declared.digest.Digest.{Digest}
 use Rattle.forest_place.specs.declared.place.Place.{Place}
-use Rattle.forest_model.specs.Cover.{need, HasShape}
-use Rattle.leaf_record.specs.Leaf.{LeafFits, leaf_text}
+use Rattle.forest_model.specs.Cover.{need}
+use Rattle.leaf_record.specs.Leaf.{leaf_text}
 use Rattle.leaf_record.specs.History.{somes}
 use Rattle.proof_shape.specs.Targeted.{Targeted}
-use Rattle.proof_verify.specs.Evaluation.{AreEvaluatedAt}
-use Rattle.proof_verify.specs.declared.evaluation.CoveredPlace.{CoveredPlace}
 use Rattle.block_rules.specs.declared.chain.Outside.{Outside}
 use Rattle.block_rules.specs.declared.fault.RuleFault.TheVariants.{Refused}
 use Rattle.block_rules.specs.declared.refusal.Refusal.{Refusal}
@@ -18,12 +15,9 @@ use Rattle.block_rules.specs.declared.refusal.Refusal.TheVariants as Why
 use Rattle.block_rules.specs.declared.refusal.ProofRefusal.TheVariants as Fault
 use Rattle.block_rules.proofs.Firsts.{option_or-none}
 use Rattle.node_rules.specs.Messages.{Message, point_of, points_of, named, targets}
-use Rattle.node_rules.specs.Accepting.{View, leaves_of, shape_fault, proof_fault}
+use Rattle.node_rules.specs.Accepting.{View, shape_fault, proof_fault}
 use Rattle.node_rules.specs.Judged.{AreNamed, TargetsJudged, HashesJudged, AreHashes, IsOtherCount}
 use Rattle.node_rules.proofs.Faults.{length-named, accepted}
-use Rattle.clash_find.specs.Texts.{claims}
-use Rattle.clash_find.specs.Searched.{IsReady}
-use Rattle.clash_find.proofs.Claiming.{claims-long}
 
 targets_refused : (n : ℕ) (m : Message) (why : Refusal) → TargetsJudged n m (Err (Refused why)) → shape_fault n [] 0 (named n m) ≢ None
 targets_refused n m Why.Block h e = h
@@ -105,23 +99,5 @@ module _ (H : List ℕ → Digest) (n : ℕ) (ext : List Outside) (m : Message) 
 pub targets_long : (n : ℕ) (m : Message) (t : Targeted) → AreNamed n m t → length t.targets ≡ length m.proof.spends
 targets_long n m t a = sym (length-map t.targets Some) ∙ (ap length (sym a.places) ∙ length-named n m)
 
-pub leaves_long : (H : List ℕ → Digest) (n : ℕ) (ext : List Outside) (m : Message) (t : Targeted) (leaves seen : List Digest) → length m.proof.spends ≡ length ext → AreNamed n m t → seen ≡ leaves → leaves ≡ leaves_of H leaf_text (points_of ext) m → length seen ≡ length t.targets
-leaves_long H n ext m t leaves seen count a same is =
-    ap length (same ∙ is) ∙ (length-map (claims ext m) (λ leaf. H (leaf_text leaf)) ∙ (claims-long ext m count ∙ (sym count ∙ sym (targets_long n m t a))))
-
 pub hashes_long : (H : List ℕ → Digest) (m : Message) (t : Targeted) (known : ℕ → ℕ → Option Digest) (hashes seen : List Digest) → seen ≡ hashes → AreHashes m t known hashes → length seen ≡ length (need t.leaves t.targets)
 hashes_long H m t known hashes seen same a = ap length (same ∙ a.hashes_are H) ∙ length-map (need t.leaves t.targets) _
-
-pub is_ready : (H : List ℕ → Digest) (n : ℕ) (ext : List Outside) (known : ℕ → ℕ → Option Digest) (m : Message) (t : Targeted) (leaves leaves' hashes hashes' : List Digest) (items : List CoveredPlace) → AreNamed n m t → HasShape t.leaves t.targets →
-    leaves' ≡ leaves → leaves ≡ leaves_of H leaf_text (points_of ext) m → hashes' ≡ hashes → AreHashes m t known hashes → AllByRecursion LeafFits (claims ext m) → AreEvaluatedAt H t.leaves t.targets leaves' hashes' items → IsReady H n ext known m items
-is_ready H n ext known m t leaves leaves' hashes hashes' items a shape same is same' are fit evaluated =
-    let e = targets_are n m t a in
-    record {
-      named_all = named_all n m t a;
-      shape = subst (λ (x : Targeted). HasShape x.leaves x.targets) e shape;
-      full = hashes;
-      hashes = subst (λ (x : Targeted). AreHashes m x known hashes) e are;
-      fit = fit;
-      evaluated = subst (λ (x : Targeted). AreEvaluatedAt H x.leaves x.targets (leaves_of H leaf_text (points_of ext) m) hashes items) e
-          (subst (λ (l : List Digest). AreEvaluatedAt H t.leaves t.targets l hashes items) (same ∙ is) (subst (λ (l : List Digest). AreEvaluatedAt H t.leaves t.targets leaves' l items) same' evaluated));
-    }

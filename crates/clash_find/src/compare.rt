@@ -8,11 +8,10 @@ ghost use Rattle.clash_find.specs.Searched.{IsCompared, AreCompared};
 use crate::Clash;
 use crate::agree::stands;
 use crate::texts::{node_text, proof_text};
-use block_rules::Outside;
 use bridge_forest::Forest;
+use leaf_record::Record;
 use output_index::Outputs;
 use proof_verify::CoveredPlace;
-use proof_wire::MessageView;
 use std::alloc::Global;
 use uo_base::NoMemory;
 use uo_digest::Digester;
@@ -28,14 +27,12 @@ fn clash_at<D: Digester>(
     alloc: Global,
     forest: &Forest<D>,
     outputs: &Outputs,
-    external: &[Outside],
-    message: &MessageView<'_>,
+    leaves: &[Record],
     item: CoveredPlace,
 ) -> Result<Option<Clash>, NoMemory>
-    requires count { length message.now.proof.spends ≡ length external.now }
     requires within { InForest (length forest.now.entries) item.place.row item.place.off }
-    requires target { IsWithin (length external.now) item.made }
-    ensures { IfOk result (λ clash. IsCompared D.digest_of forest.now.entries outputs.now external.now message.now item clash) }
+    requires target { IsWithin (length leaves.now) item.made }
+    ensures { IfOk result (λ clash. IsCompared D.digest_of forest.now.entries outputs.now leaves.now item clash) }
 {
     if !stands(forest.digest_at(item.place), item.digest) {
         return Ok(None);
@@ -43,7 +40,7 @@ fn clash_at<D: Digester>(
     let Some(first) = node_text(alloc, forest, outputs, item.place)? else {
         return Ok(None);
     };
-    let second = proof_text(alloc, external, message, item.made)?;
+    let second = proof_text(alloc, leaves, item.made)?;
     if are_same(&first, &second) {
         return Ok(None);
     }
@@ -59,17 +56,15 @@ pub(crate) fn first_clash<D: Digester>(
     alloc: Global,
     forest: &Forest<D>,
     outputs: &Outputs,
-    external: &[Outside],
-    message: &MessageView<'_>,
+    leaves: &[Record],
     items: &[CoveredPlace],
 ) -> Result<Option<Clash>, NoMemory>
-    requires count { length message.now.proof.spends ≡ length external.now }
     requires within { (i : ℕ) (d : Covered) → i < length items.now → InForest (length forest.now.entries) (get_or items.now i d).place.row (get_or items.now i d).place.off }
-    requires targets { (i : ℕ) (d : Covered) → i < length items.now → IsWithin (length external.now) (get_or items.now i d).made }
-    ensures { IfOk result (λ clash. AreCompared D.digest_of forest.now.entries outputs.now external.now message.now items.now clash) }
+    requires targets { (i : ℕ) (d : Covered) → i < length items.now → IsWithin (length leaves.now) (get_or items.now i d).made }
+    ensures { IfOk result (λ clash. AreCompared D.digest_of forest.now.entries outputs.now leaves.now items.now clash) }
 {
     for item in items {
-        if let Some(clash) = clash_at(alloc, forest, outputs, external, message, *item)? {
+        if let Some(clash) = clash_at(alloc, forest, outputs, leaves, *item)? {
             return Ok(Some(clash));
         }
     }
