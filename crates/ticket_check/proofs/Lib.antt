@@ -1,0 +1,5 @@
+pub mod TicketLaws
+pub mod Tickets
+pub mod KeptTickets
+pub mod ClashLaws
+pub mod CheckLaws
