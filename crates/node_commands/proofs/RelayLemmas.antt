@@ -1,16 +1,19 @@
 -- What `relay` writes of a feed is what comes of the acts of its script.
-use Rattle.std.proofs.Common.{◌≡◌, ℕ, zero, suc, ◌+◌, ◌<◌, ◌≤◌, ◌^◌, Bool, true, false, cond, ◌||◌, List, [], ◌∷◌, ◌++◌, length, Option, Some, None, Result, Ok, Err, IfOk, OnOk, IsErr, IsErrOf, IsErrAnd, is_err, inr, refl, sym, ap, ap₂, subst, ◌∙◌, append_assoc, append-nil}
-use Rattle.std.specs.Prelude.{is_none, drop, slice_get, IfSome}
+use Rattle.std.proofs.Common.{◌≡◌, ℕ, zero, suc, ◌+◌, ◌<◌, ◌≤◌, ◌^◌, Bool, true, false, cond, ◌||◌, List, [], ◌∷◌, ◌++◌, length, Option, Some, None, Result, Ok, Err, IfOk, OnOk, IsErr, IsErrOf, IsErrAnd, is_err, inr, refl, sym, ap, ap₂, subst, ◌∙◌, arith, append_assoc, append-nil}
+use Rattle.std.specs.Prelude.{is_none, option_map, drop, slice_get, IfSome}
 use Rattle.std.specs.List.{AllByRecursion, flat_map, list_any}
 use Rattle.std.specs.Io.KnownBytes.{Appends}
 use Rattle.std.proofs.KnownBytes.{Appends-nil}
+use Rattle.std.proofs.lemmas.Bool.{lt-ltb, le-ltb}
 use Rattle.std.proofs.lemmas.Grind.{flat_map-append}
 use Rattle.uo_base.specs.declared.event.Limits.{Limits}
 use Rattle.uo_base.specs.declared.event.Net.{Net}
 use Rattle.uo_base.specs.FeedEvent.{FeedEvent}
 use Rattle.uo_base.specs.Moved.{AppendsPart}
-use Rattle.uo_base.proofs.PortLemmas.{AppendsPart-none}
+use Rattle.uo_base.specs.Told.{Tells, IsLonger}
+use Rattle.uo_base.proofs.PortLemmas.{AppendsPart-none, told_text, Tells-told_text}
 use Rattle.uo_digest.specs.declared.digest.Digest.{Digest}
+use Rattle.bridge_prover.specs.Watched.{scripts_of}
 use Rattle.leaf_record.specs.History.{somes}
 use Rattle.leaf_record.specs.Leaf.{leaf_text}
 use Rattle.feed_frame.specs.declared.fault.FeedFault.{FeedFault}
@@ -20,7 +23,9 @@ use Rattle.feed_frame.proofs.FeedBytes.{IsMadeOfBytes, events_bytes}
 use Rattle.feed_run.specs.Answer.{Answer}
 use Rattle.feed_run.specs.Machine.{left_by, said_by, sent_by, TakesAll}
 use Rattle.feed_run.specs.declared.stop.Stop.{Stop}
+use Rattle.feed_run.specs.Status.{status_of}
 use Rattle.feed_run.specs.declared.status.Status.{Status}
+use Rattle.feed_run.specs.declared.status.Status.TheVariants.{InputLimit}
 use Rattle.relay_core.specs.declared.act.Outcome.{Outcome}
 use Rattle.relay_core.specs.Acts.{WorldAct, BridgeTook, FollowerAsked, AskServed, ReplyDelivered, IsShortAct}
 use Rattle.relay_core.specs.Branches.{Begun, begun_world, AreActBytes}
@@ -28,13 +33,15 @@ use Rattle.relay_core.proofs.Acting.{followers_are_on_branches}
 use Rattle.relay_core.specs.World.{FollowerState, WorldState, fresh_world, next_world, outcome_on}
 use Rattle.relay_script.specs.declared.line.ScriptLine.{ScriptLine}
 use Rattle.relay_script.specs.declared.line.ScriptLine.TheVariants as Script
-use Rattle.relay_script.specs.Reading.{IsTaken}
-use Rattle.report_lines.specs.declared.line.Line.{Line}
+use Rattle.relay_script.specs.declared.script.ScriptFault.{ScriptFault}
+use Rattle.relay_script.specs.Reading.{IsTaken, script_in}
+use Rattle.report_lines.specs.declared.line.Line as Lines
+use Rattle.report_lines.specs.declared.line.Line.TheVariants as Line
 use Rattle.report_lines.specs.Lines.{whole_line}
 use Rattle.node_commands.specs.Answers.{bad_end, last_of, answer_with}
 use Rattle.node_commands.specs.Relayer.{outcome_line, outcome_lines, is_undone, acts_of, script_acts, outcomes_of, world_behind, node_lines, relay_end, relay_answer, RelayState, fresh_relay, turn_of, behind_bridge, own_act, acted, relayed, next_relay, turn_lines, relay_last, relay_machine, relayed_feed, IsLineTaken, IsPlayed, node_line}
 use Rattle.node_commands.specs.declared.bad_input.BadInput.{BadInput}
-use Rattle.node_commands.specs.Relaying.{RelayStart, RelaysOnBranches}
+use Rattle.node_commands.specs.Relaying.{RelayStart, RelaysOnBranches, prior_text, IsPriorOf, script_by, script_of, script_start, lists_for, relay_start}
 use Rattle.node_commands.specs.Runs.{Serves, status_in}
 use Rattle.node_commands.proofs.ForgingLemmas.{block_bytes}
 use Rattle.node_commands.proofs.FollowLemmas.{or_none, or_again}
@@ -120,7 +127,7 @@ sent-none : (H : List ℕ → Digest) (events : List FeedEvent) (r : RelayState)
 sent-none H [] r = refl
 sent-none H (event ∷ events) r = sent-none H events (next_relay H r event)
 
-last-out : (at_end : Answer) → at_end.out ≡ [] → (bad : Option (Status × Line)) → (last_of at_end bad).out ≡ []
+last-out : (at_end : Answer) → at_end.out ≡ [] → (bad : Option (Status × Lines.Line)) → (last_of at_end bad).out ≡ []
 last-out at_end none None = none
 last-out at_end none (Some (status, line)) = refl
 
@@ -200,30 +207,75 @@ module _ (H : List ℕ → Digest) (r : RelayState) (net : Net) (limit : ℕ) wh
       Serves-quiet (λ text. refl) o o' out stopped status (Serves-same (λ events. refl) (λ events. sent-none H events r) (λ text. refl) stopped status s)
 
 -- what was written of a feed, and what comes last
-module _ (H : List ℕ → Digest) (r : RelayState) (net : Net) (limit : ℕ) {feed feed' report report' report'' o o' : Option (List ℕ)} where
-  pub script-stopped : (res : Result Status Stop) (stop : Stop) → IsErr res → IsErrAnd res (λ e. e ≡ stop) → WritesInOrder (said_by (relay_machine H) r) (sent_by (relay_machine H) r) net limit feed report report' o o'
-      → (stop ≡ Stop.ReadFault → WritesTaken (said_by (relay_machine H) r) (sent_by (relay_machine H) r) net limit feed feed' report report' o o')
-      → (stop ≡ Stop.WriteFault → KeepsUp (said_by (relay_machine H) r) net limit feed feed' report report')
-      → (out : Option (List ℕ)) → Serves (said_by (relay_machine H) r) (λ events. []) (relayed_feed H r net limit) net limit feed feed' report report' out out (is_err res) (status_in res)
-  script-stopped res stop is h w taken at_once out =
-      relayed-quiet H r net limit o o' out (is_err res) (status_in res)
-      (ends-stopped (relay_machine H) r net limit (relayed_feed H r net limit) (last_relayed H r net limit) (relayed-ends H r net limit) feed feed' report report' o o' res stop is h w taken at_once)
 
-  abbrev last_at : RelayState → Option FeedFault → Answer
-  last_at state ending = let last = relay_last H state ending in record { status = last.status; report = last.report; out = [] }
+pub script-stopped : (H : List ℕ → Digest) (r : RelayState) (net : Net) (limit : ℕ) {feed feed' report report' o o' : Option (List ℕ)} (res : Result Status Stop) (stop : Stop) → IsErr res → IsErrAnd res (λ e. e ≡ stop)
+    → WritesInOrder (said_by (relay_machine H) r) (sent_by (relay_machine H) r) net limit feed report report' o o'
+    → (stop ≡ Stop.ReadFault → WritesTaken (said_by (relay_machine H) r) (sent_by (relay_machine H) r) net limit feed feed' report report' o o')
+    → (stop ≡ Stop.WriteFault → KeepsUp (said_by (relay_machine H) r) net limit feed feed' report report')
+    → (out : Option (List ℕ)) → Serves (said_by (relay_machine H) r) (λ events. []) (relayed_feed H r net limit) net limit feed feed' report report' out out (is_err res) (status_in res)
+script-stopped H r net limit {feed} {feed'} {report} {report'} {o} {o'} res stop is h w taken at_once out =
+    relayed-quiet H r net limit o o' out (is_err res) (status_in res)
+    (ends-stopped (relay_machine H) r net limit (relayed_feed H r net limit) (last_relayed H r net limit) (relayed-ends H r net limit) feed feed' report report' o o' res stop is h w taken at_once)
 
-  last-is : (state : RelayState) (ending : Option FeedFault) (t : TakesAll (relay_machine H) r net limit state feed report report' o o' ending) → last_at state ending ≡ last_relayed H r net limit t.text
-  unfolding last_relayed
-  last-is state ending t = ap₂ last_at t.reached t.ends
+abbrev last_at : (List ℕ → Digest) → RelayState → Option FeedFault → Answer
+last_at H state ending = let last = relay_last H state ending in record { status = last.status; report = last.report; out = [] }
 
-  pub script-last : (state : RelayState) (ending : Option FeedFault) → TakesAll (relay_machine H) r net limit state feed report report' o o' ending → (res : Result Status Stop)
-      → IfOk res (λ status. status ≡ (relay_last H state ending).status) → OnOk res (Appends report' report'' (relay_last H state ending).report) → AppendsPart report' report'' (relay_last H state ending).report
-      → (IsErrOf res Stop.ReadFault → ⊥) → KeepsUp (said_by (relay_machine H) r) net limit feed feed' report report'
-      → (out : Option (List ℕ)) → Serves (said_by (relay_machine H) r) (λ events. []) (relayed_feed H r net limit) net limit feed feed' report report'' out out (is_err res) (status_in res)
-  script-last state ending t res p q part never kept out =
-      relayed-quiet H r net limit o o' out (is_err res) (status_in res)
-      (ends-last (relay_machine H) r net limit (relayed_feed H r net limit) (last_relayed H r net limit) feed feed' report report' report'' o o' o' state ending t (relayed-ends H r net limit t.text)
-      (last_at state ending) (last-is state ending t) res p q (OnOk-any res (Appends-nil o')) part (AppendsPart-none o' []) (inr (Appends-nil o')) never kept)
+last-is : (H : List ℕ → Digest) (r : RelayState) (net : Net) (limit : ℕ) (feed report report' o o' : Option (List ℕ)) (state : RelayState) (ending : Option FeedFault)
+    (t : TakesAll (relay_machine H) r net limit state feed report report' o o' ending) → last_at H state ending ≡ last_relayed H r net limit t.text
+unfolding last_relayed
+last-is H r net limit feed report report' o o' state ending t = ap₂ (last_at H) t.reached t.ends
+
+pub script-last : (H : List ℕ → Digest) (r : RelayState) (net : Net) (limit : ℕ) {feed feed' report report' report'' o o' : Option (List ℕ)} (state : RelayState) (ending : Option FeedFault)
+    → TakesAll (relay_machine H) r net limit state feed report report' o o' ending → (res : Result Status Stop)
+    → IfOk res (λ status. status ≡ (relay_last H state ending).status) → OnOk res (Appends report' report'' (relay_last H state ending).report) → AppendsPart report' report'' (relay_last H state ending).report
+    → (IsErrOf res Stop.ReadFault → ⊥) → KeepsUp (said_by (relay_machine H) r) net limit feed feed' report report'
+    → (out : Option (List ℕ)) → Serves (said_by (relay_machine H) r) (λ events. []) (relayed_feed H r net limit) net limit feed feed' report report'' out out (is_err res) (status_in res)
+script-last H r net limit {feed} {feed'} {report} {report'} {report''} {o} {o'} state ending t res p q part never kept out =
+    relayed-quiet H r net limit o o' out (is_err res) (status_in res)
+    (ends-last (relay_machine H) r net limit (relayed_feed H r net limit) (last_relayed H r net limit) feed feed' report report' report'' o o' o' state ending t (relayed-ends H r net limit t.text)
+    (last_at H state ending) (last-is H r net limit feed report report' o o' state ending t) res p q (OnOk-any res (Appends-nil o')) part (AppendsPart-none o' []) (inr (Appends-nil o')) never kept)
+
+-- ---- where a run begins
+
+pub relay-begins : (followers : ℕ) (list : Result (Option (List (List ℕ))) BadInput) (text : Result (List ℕ) BadInput) (watch : Option (List (List ℕ))) (bytes : List ℕ) (script : Result (List ScriptLine) ScriptFault)
+    → Ok watch ≡ list → Ok bytes ≡ text → script ≡ script_in bytes → script_start (lists_for followers (scripts_of watch)) (script_by script) ≡ relay_start followers list (script_of text)
+relay-begins followers list text watch bytes script a b s =
+    ap (λ x. script_start (lists_for followers (scripts_of watch)) (script_by x)) s ∙ ap₂ (λ x y. relay_start followers x (script_of y)) a b
+
+pub fresh-is : (limits : Limits) (net : Net) (r : RelayState) (w : WorldState) (lists lists' : List (List (List ℕ))) (script : List ScriptLine) → r ≡ record { world = w; script = script; lines = length script; refused = false }
+    → w ≡ fresh_world net limits lists → lists ≡ lists' → r ≡ fresh_relay limits net lists' script
+fresh-is limits net r w lists lists' script is begun same =
+    is ∙ (ap (λ v. let s : RelayState = record { world = v; script = script; lines = length script; refused = false } in s) begun ∙ ap (λ l. fresh_relay limits net l script) same)
+
+pub ok-then : {T E X : Type 0} (r : Result T E) (x y z : X) → OnOk r (x ≡ y) → y ≡ z → OnOk r (x ≡ z)
+ok-then (Ok t) x y z a b = a ∙ b
+ok-then (Err e) x y z a b = tt
+
+-- ---- a script that is read
+
+pub prior-none : (named : Bool) (limit : ℕ) (left : Option (List ℕ)) → named ≡ false → IsPriorOf named limit left (Ok [])
+unfolding prior_text
+prior-none named limit left e = record { text = told_text left; told = Tells-told_text left; is = sym (ap (λ b. prior_text b limit (told_text left)) e) }
+
+pub prior-long : (named : Bool) (limit : ℕ) (left : Option (List ℕ)) → named ≡ true → IsLonger left limit → IsPriorOf named limit left (Err (record { status = InputLimit; line = Line.LimitPrior limit }))
+unfolding prior_text
+prior-long named limit left e l =
+    let long = lt-ltb limit (length l.text) l.longer in
+    record {
+      text = l.text;
+      told = l.told_text;
+      is = sym (ap (λ b. prior_text b limit l.text) e ∙ ap (λ b. cond b (Err (record { status = InputLimit; line = Line.LimitPrior limit })) (Ok l.text)) long);
+    }
+
+pub prior-read : (named : Bool) (limit : ℕ) (left : Option (List ℕ)) (text : List ℕ) → named ≡ true → Tells left text → length text ≤ limit → IsPriorOf named limit left (Ok text)
+unfolding prior_text
+prior-read named limit left text e told short =
+    let fits = le-ltb limit (length text) short in
+    record {
+      text = text;
+      told = told;
+      is = sym (ap (λ b. prior_text b limit text) e ∙ ap (λ b. cond b (Err (record { status = InputLimit; line = Line.LimitPrior limit })) (Ok text)) fits);
+    }
 
 -- ---- a line of a script
 
@@ -409,18 +461,59 @@ module _ (H : List ℕ → Digest) where
 
 -- ---- the lines of followers
 
-drop_at : {X : Type 0} (xs : List X) (i : ℕ) (x : X) → slice_get xs i ≡ Some x → drop i xs ≡ x ∷ drop (i + 1) xs
+drop_at : {X : Type 0} (xs : List X) (i : ℕ) (x : X) → slice_get xs i ≡ Some x → drop i xs ≡ x ∷ drop (suc i) xs
 drop_at [] i x e = cc
 drop_at (y ∷ xs) zero x e = ap (λ z. z ∷ xs) (same-some y x e)
 drop_at (y ∷ xs) (suc i) x e = drop_at xs i x e
 
-drop_none : {X : Type 0} (xs : List X) → drop (length xs) xs ≡ []
-drop_none [] = refl
-drop_none (x ∷ xs) = drop_none xs
+drop_past : {X : Type 0} (xs : List X) (i : ℕ) → length xs ≤ i → drop i xs ≡ []
+drop_past [] zero le = refl
+drop_past [] (suc i) le = refl
+drop_past (x ∷ xs) zero le = absurd (omega (arith, le))
+drop_past (x ∷ xs) (suc i) le = drop_past xs i (omega (arith, le))
 
-pub nodes-more : (xs : List FollowerState) (i : ℕ) (x : FollowerState) → slice_get xs i ≡ Some x
-    → node_lines i (drop i xs) ≡ whole_line (node_line i x) ++ node_lines (i + 1) (drop (i + 1) xs)
-nodes-more xs i x e = ap (node_lines i) (drop_at xs i x e)
+nodes-more : (xs : List FollowerState) (i : ℕ) (line : Lines.Line) → option_map (node_line i) (slice_get xs i) ≡ Some line → node_lines i (drop i xs) ≡ whole_line line ++ node_lines (i + 1) (drop (i + 1) xs)
+nodes-more xs i line e = by (slice_get xs i) refl e
+  where
+    by : (y : Option FollowerState) → slice_get xs i ≡ y → option_map (node_line i) y ≡ Some line → node_lines i (drop i xs) ≡ whole_line line ++ node_lines (i + 1) (drop (i + 1) xs)
+    by None at e = cc
+    by (Some x) at e =
+        let one : suc i ≡ i + 1 = omega arith in
+        ap (node_lines i) (drop_at xs i x at)
+        ∙ (ap (λ l. whole_line l ++ node_lines (i + 1) (drop (suc i) xs)) (same-some (node_line i x) line e) ∙ ap (λ k. whole_line line ++ node_lines (i + 1) (drop k xs)) one)
 
-pub nodes-none : (xs : List FollowerState) → node_lines (length xs) (drop (length xs) xs) ≡ []
-nodes-none xs = ap (node_lines (length xs)) (drop_none xs)
+pub nodes-next : (xs : List FollowerState) (i : ℕ) (line : Lines.Line) (said said' all : List ℕ) → option_map (node_line i) (slice_get xs i) ≡ Some line → said ++ node_lines i (drop i xs) ≡ all → said' ≡ said ++ whole_line line
+    → said' ++ node_lines (i + 1) (drop (i + 1) xs) ≡ all
+nodes-next xs i line said said' all told before more =
+    ap (λ l. l ++ node_lines (i + 1) (drop (i + 1) xs)) more
+    ∙ (append_assoc said (whole_line line) (node_lines (i + 1) (drop (i + 1) xs)) ∙ (ap (λ l. said ++ l) (sym (nodes-more xs i line told)) ∙ before))
+
+pub nodes-end : (xs : List FollowerState) (i : ℕ) (said all : List ℕ) → length xs ≤ i → said ++ node_lines i (drop i xs) ≡ all → said ≡ all
+nodes-end xs i said all past before = sym (append-nil said) ∙ (ap (λ l. said ++ node_lines i l) (sym (drop_past xs i past)) ∙ before)
+
+-- ---- what comes last
+
+module _ (H : List ℕ → Digest) (r r' : RelayState) (ending : Option FeedFault) (said said' : List ℕ) (played : IsPlayed H (is_none ending) r r' said said') where
+  abbrev rest_said : List ℕ
+  rest_said = outcome_lines (outcomes_of H r.world (acts_of (is_none ending) r.script []))
+
+  abbrev end_at : RelayState → Answer
+  end_at s = relay_end s.refused s.lines s.world
+
+  abbrev ended_at : RelayState
+  ended_at = relayed H r (acts_of (is_none ending) r.script []) []
+
+  pub finish-bad : (status : Status) (line : Lines.Line) → bad_end ending ≡ Some (status, line) → (status ≡ (relay_last H r ending).status) × (said' ++ whole_line line ≡ said ++ (relay_last H r ending).report)
+  unfolding relay_last
+  finish-bad status line e = (
+    ap (λ b. (last_of (end_at ended_at) b).status) (sym e),
+    ap (λ l. l ++ whole_line line) played.lines ∙ (append_assoc said rest_said (whole_line line) ∙ ap (λ b. said ++ (rest_said ++ (last_of (end_at ended_at) b).report)) (sym e)),
+  )
+
+  pub finish-end : bad_end ending ≡ None → (status_of r'.refused ≡ (relay_last H r ending).status) × (said' ++ (end_at r').report ≡ said ++ (relay_last H r ending).report)
+  unfolding relay_last
+  finish-end e = (
+    sym (ap (λ (s : RelayState). status_of s.refused) played.left) ∙ ap (λ b. (last_of (end_at ended_at) b).status) (sym e),
+    ap₂ (λ l s. l ++ (end_at s).report) played.lines (sym (let left : ended_at ≡ record r' { script = [] } = played.left in left))
+    ∙ (append_assoc said rest_said (end_at ended_at).report ∙ ap (λ b. said ++ (rest_said ++ (last_of (end_at ended_at) b).report)) (sym e)),
+  )

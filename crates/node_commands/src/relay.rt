@@ -130,7 +130,7 @@ fn lists_for(alloc: Global, followers: u32, first: Watch) -> Result<Vec<Watch>, 
 {
     let mut lists = Vec::new(alloc);
     lists.push(first)?;
-    for _ in 1..followers {
+    for _ in 0..followers - 1 {
         lists.push(Watch::empty(alloc))?;
     }
     Ok(lists)

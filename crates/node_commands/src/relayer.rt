@@ -1,12 +1,12 @@
 //! What a run of `relay` keeps from event to event.
-ghost use Rattle.std.specs.Prelude.{◌≡◌, ◌<◌, ◌≤◌, ◌^◌, ◌+◌, ◌++◌, ◌∷◌, ◌||◌, [], None, Some, IfOk, OnOk, length, option_map, true, false};
+ghost use Rattle.std.specs.Prelude.{◌≡◌, ◌<◌, ◌++◌, false, Some, IfOk, OnOk, length, option_map, slice_get};
 ghost use Rattle.uo_base.specs.FeedEvent.{event_of};
-ghost use Rattle.leaf_record.specs.Leaf.{leaf_text};
+ghost use Rattle.feed_run.specs.Status.{is_stop, status_of};
 ghost use Rattle.node_rules.specs.Fitting.{IsShort};
 ghost use Rattle.relay_core.specs.Acts.{IsShortAct, act_of};
-ghost use Rattle.relay_core.specs.World.{fresh_world};
+ghost use Rattle.relay_core.specs.World.{outcome_on};
 ghost use Rattle.report_lines.specs.Lines.{whole_line};
-ghost use Rattle.node_commands.specs.Relayer.{RelayState, fresh_relay, is_undone, node_lines, outcome_line, relay_last, relay_machine, relayed, reply_kind};
+ghost use Rattle.node_commands.specs.Relayer.{RelayState, is_undone, node_line, node_lines, outcome_line, own_act, relay_end, relay_last, relay_machine, reply_kind};
 
 use crate::ending::{end_line, is_refused, status_of, tip_of};
 use crate::serve::bad_end;
@@ -44,7 +44,7 @@ impl<'s, D: Digester> Relayer<'s, D> {
 
     /// This world, before the first line of the script.
     pub fn new(alloc: Global, world: World<D>, script: Script<'s>) -> Relayer<'s, D>
-        ensures { result ≡ record { world = world; script = script; lines = length script; refused = false } }
+        ensures { result ≡ record { world = world; script = script.entry; lines = length script.entry; refused = false } }
     {
         let lines = script.lines();
         Relayer {
@@ -137,43 +137,54 @@ impl<'s, D: Digester> Relayer<'s, D> {
             let Some(line) = self.next_line() else {
                 return Ok(());
             };
-            match own_act(line) {
-                Some(act) => self.play(act, said, steps)?,
-                None => {
-                    if !whole {
-                        return Ok(());
-                    }
-                    push_line(self.alloc, Line::NoEvent, said)?;
+            let Some(act) = own_act(line) else {
+                if !whole {
+                    return Ok(());
                 }
-            }
+                push_line(self.alloc, Line::NoEvent, said)?;
+                continue;
+            };
+            self.play(act, said, steps)?;
         }
     }
 
     // Appends a line for each follower, and the last one.
     fn push_end(&self, said: &mut Vec<u8>) -> Result<Status, NoMemory>
-        ensures status { IfOk result (λ status. status ≡ status_by self.now.refused) }
+        ensures status { IfOk result (λ status. status ≡ status_of self.now.refused) }
         ensures said { OnOk result (said.new.items ≡ said.old.items ++ (relay_end self.now.refused self.now.lines self.now.world).report) }
     {
-        for follower in 0..self.world.followers() {
-            push_line(self.alloc, self.node_line(follower), said)?;
-        }
+        push_nodes(self.alloc, &self.world, said)?;
         let line = end_line(self.lines, &self.world.bridge().chain());
         push_line(self.alloc, line, said)?;
         Ok(status_of(self.refused))
     }
+}
 
-    // The last line of a follower.
-    fn node_line(&self, follower: u32) -> Line
-        requires { follower < length self.now.world.followers }
-        ensures { option_map (node_line follower) (slice_get self.now.world.followers follower) ≡ Some result }
-    {
-        let chain = self.world.node(follower).chain();
-        Line::Node {
-            follower,
-            serial: self.world.serial(follower),
-            tip: tip_of(&chain),
-            leaves: chain.leaves,
-        }
+// Appends a line for each follower.
+fn push_nodes<D: Digester>(
+    alloc: Global,
+    world: &World<D>,
+    said: &mut Vec<u8>,
+) -> Result<(), NoMemory>
+    ensures { OnOk result (said.new.items ≡ said.old.items ++ node_lines 0 world.now.followers) }
+{
+    for follower in 0..world.followers() {
+        push_line(alloc, node_line(world, follower), said)?;
+    }
+    Ok(())
+}
+
+// The last line of a follower.
+fn node_line<D: Digester>(world: &World<D>, follower: u32) -> Line
+    requires { follower < length world.now.followers }
+    ensures { option_map (node_line follower) (slice_get world.now.followers follower) ≡ Some result }
+{
+    let chain = world.node(follower).chain();
+    Line::Node {
+        follower,
+        serial: world.serial(follower),
+        tip: tip_of(&chain),
+        leaves: chain.leaves,
     }
 }
 

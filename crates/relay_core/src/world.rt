@@ -143,11 +143,7 @@ impl<D: Digester> World<D> {
         self.handle(act, steps)
     }
 
-    fn handle<L: Ledger>(
-        &mut self,
-        act: Act<'_>,
-        steps: &mut Steps<L>,
-    ) -> Result<Outcome, NoMemory>
+    fn handle<L: Ledger>(&mut self, act: Act<'_>, steps: &mut Steps<L>) -> Result<Outcome, NoMemory>
         requires { IsShortAct (act_of act) }
         ensures outcome { IfOk result (λ o. o ≡ outcome_on self.old (act_of act.entry)) }
         ensures next { OnOk result (self.new ≡ next_world D.digest_of leaf_text self.old (act_of act.entry)) }

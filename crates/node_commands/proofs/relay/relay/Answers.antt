@@ -1,0 +1,33 @@
+use Rattle.std.proofs.Common.{Ok, Err, inl, sym, ap, ap₂, subst, ◌∙◌}
+use Rattle.uo_base.proofs.PortLemmas.{told_text, Tells-told_text}
+use Rattle.bridge_prover.specs.Watched.{scripts_of}
+use Rattle.node_commands.specs.Relaying.{IsPriorOf, RelayStart, lists_for, prior_text, read_as, relay_start, relaying, script_of}
+use Rattle.node_commands.specs.Watching.{IsListOf}
+use Rattle.node_commands.proofs.RanLemmas.{ran-unbegun, ran-refusing, ran-begun}
+use Rattle.node_commands.proofs.RelayLemmas.{relay-begins, relay-serves, fresh-is}
+use Rattle.node_commands.proofs.relay.relay.Goals as goal
+
+pub returns-in_err-watch-clause-ran : goal.returns-in_err-watch-clause-ran
+returns-in_err-watch-clause-ran g c = λ out. ran-unbegun _ _ _ _ _ _ _ _ c.from_residual.ensures.0
+
+pub returns-in-Err-clause-ran : goal.returns-in-Err-clause-ran
+returns-in-Err-clause-ran g c =
+    λ out.
+    let prior = g.P.Source.left c.args.prior.now in
+    let l = subst (IsListOf _ _ _) c.in-Err.is c.in_ok-watch.ensures.list in
+    ran-refusing (relaying g.D.Digester.digest_of c.args.limits c.args.followers c.args.net c.args.scripted c.args.listed) _ prior _ (told_text prior) l.text (Tells-told_text prior) l.told c.in-Err.bad
+    (ap (λ x. relay_start c.args.followers x (script_of (prior_text c.args.scripted c.args.limits.bytes (told_text prior)))) l.is) _ _ _ _ c.say.result c.say.ensures.status c.say.ensures.whole c.say.ensures.part
+
+pub returns-in_err-text-clause-ran : goal.returns-in_err-text-clause-ran
+returns-in_err-text-clause-ran g c = λ out. ran-unbegun _ _ _ _ _ _ _ _ c.from_residual-in_err-text.ensures.0
+
+pub returns-in-Err-2-clause-ran : goal.returns-in-Err-2-clause-ran
+returns-in-Err-2-clause-ran g c =
+    λ out.
+    let l = subst (IsListOf _ _ _) c.in-Ok.is c.in_ok-watch.ensures.list in
+    let t = subst (λ x. IsPriorOf c.args.scripted c.args.limits.bytes (g.P.Source.left c.args.prior.now) (read_as (λ text. text.items) x)) c.in-Err-2.is c.in_ok-text.ensures.text in
+    ran-refusing (relaying g.D.Digester.digest_of c.args.limits c.args.followers c.args.net c.args.scripted c.args.listed) _ _ _ t.text l.text t.told l.told c.in-Err-2.bad
+    (ap₂ (λ x y. relay_start c.args.followers x (script_of y)) l.is t.is) _ _ _ _ c.say-in-Err-2.result c.say-in-Err-2.ensures.status c.say-in-Err-2.ensures.whole c.say-in-Err-2.ensures.part
+
+pub returns-clause-read : goal.returns-clause-read
+returns-clause-read g c = λ failed. inl (c.serve_script.ensures.read failed)
