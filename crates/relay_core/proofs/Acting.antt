@@ -1,26 +1,23 @@
 -- What holds of a world through each act holds after any list of acts.
-use Rattle.std.proofs.Common.{◌≡◌, ℕ, zero, suc, ◌+◌, ◌≤◌, ◌<◌, ◌^◌, Bool, true, false, List, [], ◌∷◌, ◌++◌, map, length, Option, Some, None, cond, refl, sym, ap, ap₂, ◌∙◌, subst, arith, ⊎_elim}
-use Rattle.std.specs.Prelude.{nat_le, slice_get, slice_set}
+use Rattle.std.proofs.Common.{◌≡◌, ℕ, zero, suc, ◌≤◌, ◌<◌, ◌^◌, true, List, [], ◌∷◌, ◌++◌, map, length, Option, Some, None, cond, refl, sym, ap, ◌∙◌, subst, arith, ⊎_elim}
+use Rattle.std.specs.Prelude.{nat_le, slice_get}
 use Rattle.std.specs.List.{AllByRecursion, AllZip}
-use Rattle.std.proofs.lemmas.Bool.{cases_Bool, leb-true, leb-false, le-leb, false≢true}
+use Rattle.std.proofs.lemmas.Bool.{cases_Bool, leb-true, le-leb}
 use Rattle.std.proofs.lemmas.List.{length-append, append-nil, append_assoc}
 use Rattle.std.proofs.lemmas.Option.{none-some, same_Some, slice_get_within}
-use Rattle.uo_base.specs.declared.event.Limits.{Limits}
-use Rattle.uo_base.specs.declared.event.Net.{Net}
-use Rattle.uo_base.specs.FeedEvent.{FeedEvent}
 use Rattle.uo_digest.specs.declared.digest.Digest.{Digest}
 use Rattle.forest_model.specs.Right.{entries}
 use Rattle.leaf_record.specs.Leaf.{Leaf}
 use Rattle.block_rules.specs.declared.chain.Chain.{Chain}
 use Rattle.node_rules.specs.Judging.{Rules}
-use Rattle.node_rules.specs.Machine.{Level, State, start, event_in, is_made}
-use Rattle.compact_node.specs.Node.{NodeState, LevelState, LevelStands, verdict_on}
+use Rattle.node_rules.specs.Machine.{Level, start, event_in, is_made}
+use Rattle.compact_node.specs.Node.{LevelStands, verdict_on}
 use Rattle.bridge_prover.specs.Bridge.{BridgeState}
 use Rattle.bridge_prover.specs.Bridge as Bridges
 use Rattle.relay_core.specs.declared.store.Reply.{Reply}
 use Rattle.relay_core.specs.Acts.{WorldAct, BridgeTook, FollowerAsked, AskServed, ReplyDelivered}
-use Rattle.relay_core.specs.World.{Sent, FollowerState, WorldState, newest_of, fresh_follower, fresh_world, is_accepted, sent_of, with_event, with_ask, with_reply, with_moved, applies, moved, event_for, next_world, world_after}
-use Rattle.relay_core.specs.Branches.{Digests, Begun, rules_of, begun_world, blocks_of, world_at, branch, AreActBytes, StandsForActs, IsOnBranch, AreOnBranches, level_after_all, IsNeverRefused, FollowersAreOnBranches, OneSerialOneChain, RepliesAreNeverRefused, ActsAreFollowed}
+use Rattle.relay_core.specs.World.{FollowerState, WorldState, newest_of, fresh_follower, is_accepted, sent_of, with_ask, with_reply, applies, event_for, next_world, world_after}
+use Rattle.relay_core.specs.Branches.{Digests, Begun, rules_of, begun_world, blocks_of, world_at, branch, AreActBytes, StandsForActs, IsOnBranch, AreOnBranches, IsNeverRefused, FollowersAreOnBranches, OneSerialOneChain, RepliesAreNeverRefused, ActsAreFollowed}
 use Rattle.forest_roots.proofs.One.{one_stump}
 use Rattle.node_rules.proofs.Fitting.{start_fits}
 use Rattle.compact_node.proofs.Throughout.{fresh-node, fresh-stands}

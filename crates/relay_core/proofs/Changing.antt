@@ -1,5 +1,5 @@
 -- An outcome tells what an act changes.
-use Rattle.std.proofs.Common.{◌≡◌, ℕ, suc, Bool, true, false, List, [], length, Option, Some, None, cond, refl, sym, ◌∙◌}
+use Rattle.std.proofs.Common.{◌≡◌, ℕ, Bool, true, false, List, length, Option, Some, None, cond, refl, sym}
 use Rattle.std.specs.Prelude.{nat_le, slice_get, slice_set}
 use Rattle.std.proofs.lemmas.Bool.{false≢true}
 use Rattle.uo_base.specs.FeedEvent.{FeedEvent}
@@ -16,7 +16,7 @@ use Rattle.node_rules.specs.Machine.{BlockCame, event_in, gone_to, is_made, verd
 use Rattle.bridge_prover.specs.Bridge.{BridgeState, refusal_on, verdict_on, after_block, bridge_by, next_bridge, gone_back, chain_back}
 use Rattle.relay_core.specs.declared.act.Outcome.TheVariants.{Moved, Stale}
 use Rattle.relay_core.specs.declared.store.Reply.{Reply}
-use Rattle.relay_core.specs.Acts.{WorldAct, BridgeTook, FollowerAsked, AskServed, ReplyDelivered}
+use Rattle.relay_core.specs.Acts.{BridgeTook, FollowerAsked, AskServed, ReplyDelivered}
 use Rattle.relay_core.specs.World.{FollowerState, WorldState, newest_of, serials_after, with_ask, asked, with_reply, replied, applies, moved, followers_after, delivered}
 use Rattle.relay_core.specs.Changes.{ChangesAsTold, OutcomesTellChanges, moves_node}
 

@@ -1,26 +1,24 @@
 -- A follower that gets a reply which applies.
-use Rattle.std.proofs.Common.{◌≡◌, ℕ, zero, suc, ◌+◌, ◌≤◌, ◌<◌, Bool, true, false, List, [], ◌∷◌, ◌++◌, length, take, drop, Option, Some, None, cond, refl, sym, ap, ap₂, ◌∙◌, subst, arith}
-use Rattle.std.specs.Prelude.{◌==◌, ◌&&◌, nat_le, is_some, slice_get}
+use Rattle.std.proofs.Common.{◌≡◌, ℕ, zero, suc, ◌≤◌, Bool, true, List, [], ◌∷◌, ◌++◌, length, take, drop, Some, None, cond, refl, sym, ap, ap₂, ◌∙◌, subst, arith}
+use Rattle.std.specs.Prelude.{◌==◌, nat_le, is_some, slice_get}
 use Rattle.std.specs.List.{AllZip}
 use Rattle.std.proofs.lemmas.Bool.{and_parts, eqb-true, leb-true, false≢true}
-use Rattle.std.proofs.lemmas.Option.{none-some, same_Some}
-use Rattle.uo_base.specs.FeedEvent.{FeedEvent}
+use Rattle.std.proofs.lemmas.Option.{same_Some}
 use Rattle.uo_digest.specs.declared.digest.Digest.{Digest}
 use Rattle.block_codec.specs.Block.{Block, block_hash_of}
 use Rattle.leaf_record.specs.Leaf.{Leaf}
-use Rattle.block_rules.specs.declared.refusal.Refusal.{Refusal}
 use Rattle.block_rules.specs.declared.verdict.Verdict.{Verdict}
-use Rattle.block_rules.specs.declared.verdict.Verdict.TheVariants.{Accepted, RolledBack}
-use Rattle.block_rules.specs.Blocks.{external, new_records}
+use Rattle.block_rules.specs.declared.verdict.Verdict.TheVariants.{Accepted}
+use Rattle.block_rules.specs.Blocks.{external}
 use Rattle.node_rules.specs.Reading.{Handed}
-use Rattle.node_rules.specs.Judging.{Rules, Evidence, full, own, refusal, message_of, written}
+use Rattle.node_rules.specs.Judging.{Rules, full, message_of, written}
 use Rattle.node_rules.specs.Laws.{IsTaken}
 use Rattle.node_rules.specs.Machine.{ChainEvent, BlockCame, RollbackCame, Level, State, Outcome, chain_of, full_judge, level_after, pushed, by_refusal, by_evidence, back, rolled_back, event_in, step, full_outcome, is_made}
 use Rattle.compact_node.specs.Node.{NodeState, IsNode, LevelStands, Stands, verdict_on, next_node}
 use Rattle.relay_core.specs.declared.act.Kind.{Kind}
 use Rattle.relay_core.specs.declared.act.Kind.TheVariants.{Next, Same, Back, Lost}
 use Rattle.relay_core.specs.declared.store.Reply.{Reply}
-use Rattle.relay_core.specs.World.{Sent, FollowerState, newest_of, can_do, applies, sent_at, block_event, event_for, serials_after, moved}
+use Rattle.relay_core.specs.World.{Sent, FollowerState, newest_of, can_do, applies, block_event, event_for, serials_after, moved}
 use Rattle.node_rules.proofs.Writing.{own_accepts}
 use Rattle.compact_node.proofs.Keeping.{next_is_node}
 use Rattle.compact_node.proofs.Refining.{compact_is_full}

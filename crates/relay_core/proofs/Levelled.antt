@@ -4,12 +4,11 @@ use Rattle.std.specs.Prelude.{slice_get}
 use Rattle.std.specs.List.{AllByRecursion, AllZip}
 use Rattle.uo_digest.specs.declared.digest.Digest.{Digest}
 use Rattle.leaf_record.specs.Leaf.{Leaf}
-use Rattle.node_rules.specs.Judging.{Rules}
 use Rattle.node_rules.specs.Machine.{Level}
 use Rattle.compact_node.specs.Node.{LevelState, LevelStands}
 use Rattle.relay_core.specs.Acts.{WorldAct}
-use Rattle.relay_core.specs.World.{FollowerState, WorldState, world_after}
-use Rattle.relay_core.specs.Branches.{Digests, Begun, rules_of, begun_world, branch, level_after_all, StandsForActs}
+use Rattle.relay_core.specs.World.{FollowerState, world_after}
+use Rattle.relay_core.specs.Branches.{Begun, rules_of, begun_world, branch, level_after_all}
 use Rattle.relay_core.specs.Levels.{HasLevelsOf, SerialsAreOfLevels}
 use Rattle.relay_core.proofs.Linking.{IsLevelOf}
 use Rattle.relay_core.proofs.Handing.{FollowerFits}

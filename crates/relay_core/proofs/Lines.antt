@@ -1,12 +1,12 @@
 -- Serials of a chain, kept with the newest last, and what is said of them with the newest first.
-use Rattle.std.proofs.Common.{◌≡◌, ◌≢◌, ℕ, zero, suc, ◌+◌, ◌-◌, ◌≤◌, ◌<◌, Bool, true, false, List, [], ◌∷◌, ◌++◌, ◌^◌, map, reverse, get_or, length, take, drop, Option, Some, None, Ok, Err, Result, refl, sym, ap, ◌∙◌, subst, arith, eq-eqb, inl, inr, ⊎_elim}
-use Rattle.std.specs.Prelude.{IfSome, is_some, slice_index, ◌==◌, ◌||◌, ◌⊎◌, option_map, slice_get}
+use Rattle.std.proofs.Common.{◌≡◌, ◌≢◌, ℕ, zero, suc, ◌+◌, ◌-◌, ◌≤◌, ◌<◌, true, false, List, [], ◌∷◌, ◌++◌, ◌^◌, map, reverse, get_or, length, take, drop, Option, Some, None, Err, refl, sym, ap, ◌∙◌, subst, arith, eq-eqb, inl, inr, ⊎_elim}
+use Rattle.std.specs.Prelude.{IfSome, is_some, slice_index, ◌==◌, ◌⊎◌, option_map}
 use Rattle.std.proofs.lemmas.Bool.{cases_Bool, cases_lt, eqb-true, false≢true}
-use Rattle.std.proofs.lemmas.List.{length-map, get_or-reverse, length-reverse, length-take, length-drop, reverse-append, take_all, take-append-drop, take_at, get_or-take, get_or_push, get_or_append_left, length_push}
+use Rattle.std.proofs.lemmas.List.{length-map, get_or-reverse, length-reverse, length-take, reverse-append, take_all, take_at, get_or-take, get_or_push, get_or_append_left, length_push}
 use Rattle.std.proofs.lemmas.List.Sorted.{searched}
 use Rattle.std.specs.List.Sorted.{IsBinarySearchResult}
 use Rattle.std.specs.Ordering.{nat_cmp}
-use Rattle.relay_core.specs.World.{newest_of, is_on, met_at, after_on}
+use Rattle.relay_core.specs.World.{is_on, met_at, after_on}
 use Rattle.relay_core.specs.Rising.{IsRising, IsKept}
 
 -- ---- on a chain

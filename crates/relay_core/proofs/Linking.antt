@@ -1,11 +1,11 @@
 -- The levels of serials, and how the blocks of the bridge lead from one to the next.
-use Rattle.std.proofs.Common.{◌≡◌, ℕ, zero, suc, ◌+◌, ◌-◌, ◌<◌, ◌≤◌, ◌^◌, Bool, true, false, List, [], ◌∷◌, ◌++◌, map, length, take, drop, Option, Some, None, cond, refl, sym, ap, ◌∙◌, subst, arith, ⊎_elim}
-use Rattle.std.specs.Prelude.{◌==◌, ◌||◌, slice_get, option_map}
-use Rattle.std.specs.List.{AllByRecursion, AllZip}
-use Rattle.std.proofs.lemmas.Bool.{cases_Bool, eqb-true, false≢true}
+use Rattle.std.proofs.Common.{◌≡◌, ℕ, zero, suc, ◌<◌, ◌≤◌, ◌^◌, Bool, true, false, List, [], ◌∷◌, ◌++◌, map, length, drop, Option, Some, None, cond, refl, sym, ap, ◌∙◌, subst, arith}
+use Rattle.std.specs.Prelude.{◌==◌, slice_get, option_map}
+use Rattle.std.specs.List.{AllByRecursion}
+use Rattle.std.proofs.lemmas.Bool.{eqb-true}
 use Rattle.std.proofs.lemmas.Option.{none-some, same_Some}
 use Rattle.uo_digest.specs.declared.digest.Digest.{Digest}
-use Rattle.block_codec.specs.Block.{Block, block_hash_of}
+use Rattle.block_codec.specs.Block.{Block}
 use Rattle.block_codec.specs.Reading.{block_in}
 use Rattle.leaf_record.specs.Leaf.{Leaf}
 use Rattle.leaf_record.specs.History.{somes}
@@ -13,11 +13,11 @@ use Rattle.block_rules.specs.declared.refusal.Refusal.{Refusal}
 use Rattle.block_rules.specs.Blocks.{external}
 use Rattle.node_rules.specs.Reading.{nothing, handed_in}
 use Rattle.node_rules.specs.Judging.{Rules, own, refusal, message_of, written}
-use Rattle.node_rules.specs.Machine.{BlockCame, Level, State, Outcome, start, no_tip, chain_of, own_judge, level_after, by_refusal, step}
+use Rattle.node_rules.specs.Machine.{BlockCame, Level, State, start, chain_of, own_judge, level_after, by_refusal, step}
 use Rattle.relay_core.specs.declared.act.Kind.{Kind}
 use Rattle.relay_core.specs.declared.act.Kind.TheVariants.{Next, Same, Back, Lost}
 use Rattle.relay_core.specs.declared.store.Reply.{Reply}
-use Rattle.relay_core.specs.World.{Sent, sent_at, newest_of, is_on, after_on, met_at, next_or_same, kind_by, reply_to}
+use Rattle.relay_core.specs.World.{Sent, sent_at, newest_of, after_on, met_at, next_or_same, kind_by, reply_to}
 use Rattle.relay_core.specs.Branches.{blocks_of, proved_after, level_after_all, hash_in, tip_of}
 
 -- ---- lists

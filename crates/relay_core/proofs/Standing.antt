@@ -1,44 +1,42 @@
 -- What holds of a world through each act.
-use Rattle.std.proofs.Common.{◌≡◌, ℕ, zero, suc, ◌+◌, ◌≤◌, ◌<◌, ◌^◌, Bool, true, false, List, [], ◌∷◌, ◌++◌, map, length, take, drop, Option, Some, None, cond, refl, sym, ap, ap₂, ◌∙◌, subst, arith, ⊎_elim}
-use Rattle.std.specs.Prelude.{nat_le, slice_get, slice_set, option_map}
+use Rattle.std.proofs.Common.{◌≡◌, ℕ, zero, suc, ◌≤◌, ◌<◌, ◌^◌, Bool, true, false, List, [], ◌∷◌, ◌++◌, length, take, drop, Option, Some, None, cond, refl, sym, ap, ◌∙◌, subst, arith, ⊎_elim}
+use Rattle.std.specs.Prelude.{nat_le, slice_get, slice_set}
 use Rattle.std.specs.List.{AllByRecursion, AllZip}
-use Rattle.std.proofs.lemmas.Bool.{and_parts, cases_Bool, leb-true, false≢true}
+use Rattle.std.proofs.lemmas.Bool.{cases_Bool, leb-true, false≢true}
 use Rattle.std.proofs.lemmas.List.{append-nil, append_assoc, length-append, length_push, take-append-drop}
 use Rattle.std.proofs.lemmas.Option.{none-some, same_Some, slice_get_within}
 use Rattle.uo_base.specs.FeedEvent.{FeedEvent}
 use Rattle.uo_base.specs.FeedEvent as Feed
 use Rattle.uo_base.specs.Reading.{IsBytes}
 use Rattle.uo_digest.specs.declared.digest.Digest.{Digest}
-use Rattle.block_codec.specs.Block.{Block, BlockFits, block_hash_of}
+use Rattle.block_codec.specs.Block.{Block, BlockFits}
 use Rattle.block_codec.specs.Reading.{block_in}
 use Rattle.leaf_record.specs.Leaf.{Leaf}
 use Rattle.proof_wire.specs.BlockProof.{message_text}
 use Rattle.block_rules.specs.declared.chain.Outside.{Outside}
 use Rattle.block_rules.specs.declared.refusal.Refusal.{Refusal}
-use Rattle.block_rules.specs.declared.refusal.Refusal.TheVariants as Why
-use Rattle.block_rules.specs.declared.verdict.Verdict.{Verdict}
-use Rattle.block_rules.specs.declared.verdict.Verdict.TheVariants.{Accepted, Refused, RolledBack, TooDeep, Stray}
+use Rattle.block_rules.specs.declared.verdict.Verdict.TheVariants.{TooDeep}
 use Rattle.block_rules.specs.Blocks.{external, new_records}
 use Rattle.node_rules.specs.Messages.{Message}
 use Rattle.node_rules.specs.Reading.{Handed, read, handed_in, message_in}
 use Rattle.node_rules.specs.Judging.{Rules, Evidence, own, refusal, message_of, written}
 use Rattle.node_rules.specs.Proving.{written_text}
 use Rattle.node_rules.specs.Fitting.{AreEventBytes, EventFits, StateFits}
-use Rattle.node_rules.specs.Machine.{ChainEvent, BlockCame, RollbackCame, StrayCame, Level, State, Outcome, start, chain_of, own_judge, level_after, pushed, by_refusal, back, rolled_back, event_in, step, gone_to, verdict_by, is_made}
+use Rattle.node_rules.specs.Machine.{ChainEvent, BlockCame, RollbackCame, Level, State, Outcome, chain_of, own_judge, level_after, pushed, by_refusal, back, rolled_back, gone_to, verdict_by, is_made}
 use Rattle.bridge_prover.specs.Bridge.{BridgeState, refusal_on, verdict_on, after_block, bridge_by, next_bridge, gone_back, chain_back, message_by, message_on, told_if}
 use Rattle.bridge_prover.specs.Own.{own_in}
 use Rattle.bridge_prover.specs.Standing.{Stands, IsBridge}
-use Rattle.bridge_prover.specs.Laws.{own_outcome, own_text, text_by, IsAsOwn}
+use Rattle.bridge_prover.specs.Laws.{own_outcome, text_by, IsAsOwn}
 use Rattle.relay_core.specs.declared.store.Reply.{Reply}
 use Rattle.relay_core.specs.Acts.{WorldAct, BridgeTook, FollowerAsked, AskServed, ReplyDelivered}
-use Rattle.relay_core.specs.World.{Sent, FollowerState, WorldState, newest_of, chain_after, is_accepted, sent_of, with_event, with_ask, with_reply, reply_to, applies, moved, with_moved, next_world, event_for}
+use Rattle.relay_core.specs.World.{Sent, FollowerState, WorldState, chain_after, is_accepted, with_event, with_ask, with_reply, reply_to, applies, moved, with_moved, next_world}
 use Rattle.relay_core.specs.Branches.{AreActBytes, Digests, blocks_of}
 use Rattle.node_rules.proofs.Fitting.{read_event_fits, step_fits}
 use Rattle.node_rules.proofs.Written.{written_fits}
 use Rattle.node_rules.proofs.MessageLaws.{message_read}
 use Rattle.bridge_prover.proofs.Refining.{bridge_is_own, next_is_bridge}
 use Rattle.bridge_prover.proofs.Throughout.{kept_rules, kept_watch}
-use Rattle.relay_core.proofs.Linking.{got_front, got_last, got_either, IsLevelOf, Leads, Line, line-drop, line_level, line_more, ReplyFits, reply_fits, replies_more}
+use Rattle.relay_core.proofs.Linking.{got_last, got_either, IsLevelOf, Leads, Line, line-drop, line_level, line_more, ReplyFits, reply_fits, replies_more}
 use Rattle.relay_core.proofs.Handing.{FollowerFits, follower_more, reply_moves}
 
 -- ---- lists

@@ -1,5 +1,5 @@
 -- What a step leaves, from what it answers.
-use Rattle.std.proofs.Common.{◌≡◌, ℕ, suc, ◌+◌, ◌≤◌, ◌<◌, Bool, true, false, List, [], ◌∷◌, ◌++◌, length, Option, Some, None, Result, Ok, Err, cond, refl, sym, ap, ◌∙◌, subst, arith}
+use Rattle.std.proofs.Common.{◌≡◌, ℕ, ◌+◌, ◌≤◌, Bool, true, false, List, [], ◌∷◌, ◌++◌, length, Option, Some, None, Result, Ok, Err, cond, sym, subst, arith}
 use Rattle.std.specs.Prelude.{IfOk, OnOk, OnErr, slice_get}
 use Rattle.std.proofs.lemmas.List.{length-append}
 use Rattle.uo_base.specs.FeedEvent.{FeedEvent, BlockCame, RollbackCame, StrayCame}
@@ -10,7 +10,7 @@ use Rattle.bridge_prover.specs.Bridge.{verdict_on, message_on}
 use Rattle.relay_core.specs.declared.act.Outcome.{Outcome}
 use Rattle.relay_core.specs.Changes.{ChangesAsTold}
 use Rattle.relay_core.specs.Acts.{WorldAct, BridgeTook, FollowerAsked, AskServed, ReplyDelivered}
-use Rattle.relay_core.specs.World.{Sent, FollowerState, WorldState, is_accepted, sent_of, with_ask, with_reply, next_world, outcome_on}
+use Rattle.relay_core.specs.World.{FollowerState, WorldState, is_accepted, sent_of, with_ask, with_reply, next_world, outcome_on}
 use Rattle.relay_core.specs.Branches.{Begun, AreActBytes, StandsForActs, AreOnBranches, IsNeverRefused, Digests}
 use Rattle.relay_core.proofs.Changing.{outcomes_tell_changes}
 use Rattle.relay_core.proofs.Acting.{acts_are_followed, followers_are_on_branches, replies_are_never_refused}

@@ -1,5 +1,5 @@
 -- What an outcome tells of the bridge and of the followers.
-use Rattle.std.specs.Prelude.{◌≡◌, ℕ, Bool, true, false, List, Option, Some}
+use Rattle.std.specs.Prelude.{◌≡◌, ℕ, Bool, true, false, List, Some}
 use Rattle.uo_digest.specs.declared.digest.Digest.{Digest}
 use Rattle.leaf_record.specs.Leaf.{Leaf}
 use Rattle.node_rules.specs.Machine.{is_made}

@@ -126,3 +126,15 @@ read_exactly (Err (Version v)) text is_bytes found none version =
     let w = (version v).0 refl in
     let f : (v == 1) ≡ false = ne_eqb v 1 w.other in
     sym (ap ticket_in w.begins ∙ (rw f refl))
+
+-- what is read of bytes has a text
+pub ticket_fits : (text : List ℕ) (k : Ticket) → IsBytes text → ticket_in text ≡ Ok k → TicketFits k
+ticket_fits text k is_bytes e =
+    of_front (λ r. r ≡ Ok k → TicketFits k) text
+    (λ v body begins. of_one (λ r. r ≡ Ok k → TicketFits k) v body (λ one. by_body body (tail_bytes v body text is_bytes begins) (body_at body) refl) (λ other h. absurd cc))
+    (λ h. absurd cc) e
+  where
+    by_body : (body : List ℕ) → IsBytes body → (x : Option (Ticket × List ℕ)) → body_at body ≡ x → ended_read x ≡ Ok k → TicketFits k
+    by_body body bytes None f h = absurd cc
+    by_body body bytes (Some (j, [])) f h = let same : j ≡ k = cc in subst TicketFits same (body_took body j bytes f).0
+    by_body body bytes (Some (j, x ∷ left)) f h = absurd cc

@@ -1,4 +1,4 @@
-use Rattle.std.proofs.Common.{◌≡◌, ◌∙◌, sym, arith, reverse}
+use Rattle.std.proofs.Common.{◌∙◌, sym, arith, reverse}
 use Rattle.relay_core.proofs.Lines.{met_more, met_found, met_none}
 use Rattle.relay_core.proofs.line.met.Goals as goal
 

@@ -1,4 +1,4 @@
-use Rattle.std.proofs.Common.{◌≡◌, ◌∙◌, ◌++◌, ◌∷◌, [], ap, sym, reverse, arith}
+use Rattle.std.proofs.Common.{◌∙◌, ◌++◌, ◌∷◌, [], ap, reverse, arith}
 use Rattle.relay_core.proofs.Lines.{put_rest, put_all}
 use Rattle.relay_core.proofs.line.put.Goals as goal
 use Rattle.relay_core.proofs.line.put.Goals.{then-len-gt100, else-len-gt100}
