@@ -151,13 +151,13 @@ module _ (H : List ℕ → Digest) (limits : Limits) (few : limits.leaves < 2 ^ 
   state-ends (Ok node) is g = inl refl
   state-ends (Err bad) is g = absurd (no_bad H limits few prior g bad is)
 
-  ticketing-ends : (number : ℕ) (begun : Start) → IsStart H limits prior begun → IsUsable H limits prior → (ticketing H limits number).Ends (answer_by (ticketing H limits number) begun feed).status
-  ticketing-ends number (Ok node) is g = ticket-ends number (ticket_of node.newest number)
-  ticketing-ends number (Err bad) is g = absurd (no_bad H limits few prior g bad is)
+  ticket-command-ends : (number : ℕ) (begun : Start) → IsStart H limits prior begun → IsUsable H limits prior → (ticketing H limits number).Ends (answer_by (ticketing H limits number) begun feed).status
+  ticket-command-ends number (Ok node) is g = ticket-ends number (ticket_of node.newest number)
+  ticket-command-ends number (Err bad) is g = absurd (no_bad H limits few prior g bad is)
 
-  checking-ends : (begun : Start) → IsStart H limits prior begun → IsUsable H limits prior × (length feed ≤ limits.bytes) → (checking H limits).Ends (answer_by (checking H limits) begun feed).status
-  checking-ends (Ok node) is g = check-ends H limits.bytes node feed g.1
-  checking-ends (Err bad) is g = absurd (no_bad H limits few prior g.0 bad is)
+  check-command-ends : (begun : Start) → IsStart H limits prior begun → IsUsable H limits prior × (length feed ≤ limits.bytes) → (checking H limits).Ends (answer_by (checking H limits) begun feed).status
+  check-command-ends (Ok node) is g = check-ends H limits.bytes node feed g.1
+  check-command-ends (Err bad) is g = absurd (no_bad H limits few prior g.0 bad is)
 
   order-ends : (net : Net) (tip : Digest) (begun : Result (Unit {0}) BadInput) → begun ≡ Ok tt → (events_of net limits.bytes feed).ending ≡ None
       → IsEnd (answer_by (ordering limits.bytes net tip) begun feed).status
@@ -179,8 +179,8 @@ module _ (H : List ℕ → Digest) (limits : Limits) (few : limits.leaves < 2 ^ 
   task-ends UpgradingFeed s begun is g = upgrade-ends (net_for s.net) (is_some s.watch) begun is g
   task-ends UpgradingState s begun is g = state-ends begun is g
   task-ends (Ordering tip) s begun is g = order-ends (net_for s.net) (hash_named tip) begun is g
-  task-ends (Ticketing number) s begun is g = ticketing-ends number begun is g
-  task-ends Checking s begun is g = checking-ends begun is g
+  task-ends (Ticketing number) s begun is g = ticket-command-ends number begun is g
+  task-ends Checking s begun is g = check-command-ends begun is g
   task-ends Rechecking s begun is g = absurd g
   task-ends (Relaying followers) s begun is g = relay-ends followers (net_for s.net) (is_some s.from) (is_some s.watch) begun is g
 

@@ -90,6 +90,13 @@ module _ (net : Net) (limit : ℕ) (answer : List ℕ → Answer) (quiet : (text
     };
   }
 
+  -- by another name of the answer
+  pub serves-as : (text : List ℕ) → Tells feed text → (is : Answer) → is ≡ answer text → (r : Result Status Stop) → IfOk r (λ status. status ≡ is.status) → OnOk r (Appends report report' is.report)
+      → AppendsPart report report' is.report → (IsErrOf r Stop.ReadFault → ⊥) → Serves none none answer net limit feed feed' report report' out out (is_err r) (status_in r)
+  serves-as text told is same r p q part never =
+      serves-text text told r (subst (λ (a : Answer). IfOk r (λ status. status ≡ a.status)) same p) (subst (λ (a : Answer). OnOk r (Appends report report' a.report)) same q)
+      (subst (λ (a : Answer). AppendsPart report report' a.report) same part) never
+
   -- it was not read
   pub serves-unread : (stop : Stop) → (stop ≡ Stop.WriteFault → ⊥) → Serves none none answer net limit feed feed' report report out out true (status_in (Err stop))
   serves-unread stop never = record {

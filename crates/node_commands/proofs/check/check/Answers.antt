@@ -1,7 +1,7 @@
-use Rattle.std.proofs.Common.{subst}
+use Rattle.std.proofs.Common.{inl, inr, subst}
 use Rattle.uo_base.proofs.PortLemmas.{told_text, Tells-told_text}
-use Rattle.node_commands.specs.Checking.{checking}
 use Rattle.node_commands.specs.Starting.{IsStartOf}
+use Rattle.node_commands.specs.Checking.{checking}
 use Rattle.node_commands.proofs.RanLemmas.{ran-unbegun, ran-refusing, ran-begun}
 use Rattle.node_commands.proofs.check.check.Goals as goal
 
@@ -18,5 +18,4 @@ pub returns-in-Err-clause-ran : goal.returns-in-Err-clause-ran
 returns-in-Err-clause-ran g c =
     λ watch out.
     let s = subst (IsStartOf _ _ _) c.in-Err.is c.in_ok-node.ensures.begun in
-    ran-refusing (checking g.D.Digester.digest_of c.args.limits) _ _ watch s.text (told_text watch) s.told (Tells-told_text watch) c.in-Err.bad s.is
-    _ _ _ _ c.say.result c.say.ensures.status c.say.ensures.whole c.say.ensures.part
+    ran-refusing (checking g.D.Digester.digest_of c.args.limits) _ _ watch s.text (told_text watch) s.told (Tells-told_text watch) c.in-Err.bad s.is _ _ _ _ c.say.result c.say.ensures.status c.say.ensures.whole c.say.ensures.part

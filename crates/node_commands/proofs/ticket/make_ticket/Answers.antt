@@ -21,5 +21,4 @@ pub returns-in-Err-clause-ran : goal.returns-in-Err-clause-ran
 returns-in-Err-clause-ran g c =
     λ feed watch.
     let s = subst (IsStartOf _ _ _) c.in-Err.is c.in_ok-node.ensures.begun in
-    ran-refusing (ticketing g.D.Digester.digest_of c.args.limits c.args.number) _ _ watch s.text (told_text watch) s.told (Tells-told_text watch) c.in-Err.bad s.is
-    _ _ _ _ c.say.result c.say.ensures.status c.say.ensures.whole c.say.ensures.part
+    ran-refusing (ticketing g.D.Digester.digest_of c.args.limits c.args.number) _ _ watch s.text (told_text watch) s.told (Tells-told_text watch) c.in-Err.bad s.is _ _ _ _ c.say.result c.say.ensures.status c.say.ensures.whole c.say.ensures.part
