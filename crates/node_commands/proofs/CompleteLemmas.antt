@@ -1,5 +1,5 @@
 -- Where nothing that is read is bad, the answer's status is that of a feed that was read to its end.
-use Rattle.std.proofs.Common.{arith, ◌≡◌, ◌⊎◌, inl, inr, ◌<◌, ◌^◌, ℕ, Bool, true, false, List, length, None, Result, Ok, Err, is_some, refl, sym, ap, ap₂, subst, ◌∙◌}
+use Rattle.std.proofs.Common.{arith, ◌≡◌, ◌⊎◌, inl, inr, ◌<◌, ◌≤◌, ◌^◌, ℕ, Bool, true, false, List, length, None, Result, Ok, Err, is_some, refl, sym, ap, ap₂, subst, ◌∙◌}
 use Rattle.std.specs.declared.option.Option.{Option}
 use Rattle.uo_base.specs.declared.event.Limits.{Limits}
 use Rattle.uo_base.specs.declared.event.Net.{Net}
@@ -28,6 +28,7 @@ use Rattle.node_commands.specs.declared.bad_input.BadInput.{BadInput}
 use Rattle.node_commands.specs.Answers.{bad_end, last_of}
 use Rattle.node_commands.specs.Auditing.{auditing}
 use Rattle.node_commands.specs.Auditor.{answer_unless, audit_answer}
+use Rattle.node_commands.specs.Checking.{checking}
 use Rattle.node_commands.specs.Commands.{following_from, meaning_for, meaning_by}
 use Rattle.node_commands.specs.Follow.{events_for, fresh_for, follow_answer}
 use Rattle.node_commands.specs.Following.{fresh_start, following_afresh, following_on}
@@ -35,13 +36,16 @@ use Rattle.node_commands.specs.Generating.{gen_answer, generating}
 use Rattle.node_commands.specs.Meaning.{answer_by, IsEnd}
 use Rattle.node_commands.specs.Ordering.{hash_named, order_answer, ordering}
 use Rattle.node_commands.specs.Prover.{prove_answer, proving}
+use Rattle.ticket_check.specs.Written.{ticket_of}
 use Rattle.relay_script.specs.declared.line.ScriptLine.{ScriptLine}
 use Rattle.node_commands.specs.Relayer.{relay_answer}
 use Rattle.node_commands.specs.Relaying.{RelayStart, lists_for, prior_text, script_of, relay_start, IsGoodRelay, relaying}
 use Rattle.node_commands.specs.Starting.{Start, IsNodeOf, IsStart, IsUsable, IsGoodBehind}
+use Rattle.node_commands.specs.Ticketing.{ticketing}
 use Rattle.node_commands.specs.Upgrading.{upgrading_state}
 use Rattle.node_commands.specs.UpgradingFeed.{upgrade_feed_answer, upgrading_feed}
 use Rattle.node_commands.specs.Watching.{list_in, IsGood}
+use Rattle.node_commands.proofs.TicketLemmas.{check-ends, ticket-ends}
 
 read_to_end : (refused : Bool) → IsEnd (status_of refused)
 read_to_end true = inr (inl refl)
@@ -147,6 +151,14 @@ module _ (H : List ℕ → Digest) (limits : Limits) (few : limits.leaves < 2 ^ 
   state-ends (Ok node) is g = inl refl
   state-ends (Err bad) is g = absurd (no_bad H limits few prior g bad is)
 
+  ticket-command-ends : (number : ℕ) (begun : Start) → IsStart H limits prior begun → IsUsable H limits prior → (ticketing H limits number).Ends (answer_by (ticketing H limits number) begun feed).status
+  ticket-command-ends number (Ok node) is g = ticket-ends number (ticket_of node.newest number)
+  ticket-command-ends number (Err bad) is g = absurd (no_bad H limits few prior g bad is)
+
+  check-command-ends : (begun : Start) → IsStart H limits prior begun → IsUsable H limits prior × (length feed ≤ limits.bytes) → (checking H limits).Ends (answer_by (checking H limits) begun feed).status
+  check-command-ends (Ok node) is g = check-ends H limits.bytes node feed g.1
+  check-command-ends (Err bad) is g = absurd (no_bad H limits few prior g.0 bad is)
+
   order-ends : (net : Net) (tip : Digest) (begun : Result (Unit {0}) BadInput) → begun ≡ Ok tt → (events_of net limits.bytes feed).ending ≡ None
       → IsEnd (answer_by (ordering limits.bytes net tip) begun feed).status
   order-ends net tip begun is whole = subst (λ (b : Result (Unit {0}) BadInput). IsEnd (answer_by (ordering limits.bytes net tip) b feed).status) (sym is) (ordered limits net tip feed whole)
@@ -167,8 +179,8 @@ module _ (H : List ℕ → Digest) (limits : Limits) (few : limits.leaves < 2 ^ 
   task-ends UpgradingFeed s begun is g = upgrade-ends (net_for s.net) (is_some s.watch) begun is g
   task-ends UpgradingState s begun is g = state-ends begun is g
   task-ends (Ordering tip) s begun is g = order-ends (net_for s.net) (hash_named tip) begun is g
-  task-ends (Ticketing number) s begun is g = absurd g
-  task-ends Checking s begun is g = absurd g
+  task-ends (Ticketing number) s begun is g = ticket-command-ends number begun is g
+  task-ends Checking s begun is g = check-command-ends begun is g
   task-ends Rechecking s begun is g = absurd g
   task-ends (Relaying followers) s begun is g = relay-ends followers (net_for s.net) (is_some s.from) (is_some s.watch) begun is g
 

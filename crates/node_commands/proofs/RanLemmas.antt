@@ -41,6 +41,7 @@ use Rattle.node_commands.proofs.ProvingLemmas.{follows-proving}
 use Rattle.node_commands.proofs.RelayLemmas.{relays-on-branches}
 use Rattle.node_commands.proofs.ServeLemmas.{failed-so}
 use Rattle.node_commands.proofs.StartLemmas.{resumes-as-full}
+use Rattle.node_commands.proofs.TicketLemmas.{ticket-claims, check-claims}
 use Rattle.node_commands.proofs.UpgradeLemmas.{states_are_upgraded}
 use Rattle.node_commands.proofs.UpgradedFeeds.{follows-upgraded-afresh}
 use Rattle.node_commands.proofs.WatchLemmas.{IfOk-any}
@@ -225,8 +226,8 @@ module _ (H : List ℕ → Digest) (long : (x : List ℕ) → length (H x).0 ≡
   task-claims UpgradingFeed s inputs begins = IfOk-any _ (λ list. follows-upgraded-afresh H limits (net_for s.net) few short list inputs.feed) (list_in (is_some s.watch) limits.bytes inputs.watch)
   task-claims UpgradingState s inputs begins = state-claims inputs.prior inputs.begun begins
   task-claims (Ordering tip) s inputs begins = orders-feed (net_for s.net) limits.bytes (hash_named tip) inputs.feed
-  task-claims (Ticketing number) s inputs begins = tt
-  task-claims Checking s inputs begins = tt
+  task-claims (Ticketing number) s inputs begins = ticket-claims H long limits few inputs.prior number inputs.begun begins
+  task-claims Checking s inputs begins = check-claims H long limits few inputs.prior inputs.feed inputs.begun begins
   task-claims Rechecking s inputs begins = tt
   task-claims (Relaying followers) s inputs begins = relays-on-branches H long limits few short (net_for s.net) inputs.feed inputs.begun
 

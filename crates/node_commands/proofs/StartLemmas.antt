@@ -84,7 +84,7 @@ module _ (H : List ℕ → Digest) (long : (x : List ℕ) → length (H x).0 ≡
     not_none : (bad : BadInput) → IsNone H limits text bad → ⊥
     not_none bad n = n.none (state_of H net scripts reached) whole is
 
-    no_bad : (bad : BadInput) → length text ≤ limits.bytes → IsStart H limits text (Err bad) → ⊥
+    pub no_bad : (bad : BadInput) → length text ≤ limits.bytes → IsStart H limits text (Err bad) → ⊥
     no_bad bad short (inl l) = not_long bad short l
     no_bad bad short (inr (inl o)) = not_other bad o
     no_bad bad short (inr (inr n)) = not_none bad n

@@ -12,12 +12,14 @@ use Rattle.report_lines.specs.declared.line.Line.TheVariants as Line
 use Rattle.node_commands.specs.declared.bad_input.BadInput.{BadInput}
 use Rattle.node_commands.specs.Answers.{said}
 use Rattle.node_commands.specs.Auditing.{auditing}
+use Rattle.node_commands.specs.Checking.{checking}
 use Rattle.node_commands.specs.Following.{following_afresh, following_on}
 use Rattle.node_commands.specs.Generating.{generating}
 use Rattle.node_commands.specs.Meaning.{Meaning, IsEnd}
 use Rattle.node_commands.specs.Ordering.{hash_named, ordering}
 use Rattle.node_commands.specs.Prover.{proving}
 use Rattle.node_commands.specs.Relaying.{relaying}
+use Rattle.node_commands.specs.Ticketing.{ticketing}
 use Rattle.node_commands.specs.Upgrading.{upgrading_state}
 use Rattle.node_commands.specs.UpgradingFeed.{upgrading_feed}
 
@@ -52,8 +54,8 @@ meaning_for H limits (Generating number blocks) s = generating number blocks (ne
 meaning_for H limits UpgradingFeed s = upgrading_feed H limits (net_for s.net) (is_some s.watch)
 meaning_for H limits UpgradingState s = upgrading_state H limits
 meaning_for H limits (Ordering tip) s = ordering limits.bytes (net_for s.net) (hash_named tip)
-meaning_for H limits (Ticketing number) s = refusing (record { at = 0 })
-meaning_for H limits Checking s = refusing (record { at = 0 })
+meaning_for H limits (Ticketing number) s = ticketing H limits number
+meaning_for H limits Checking s = checking H limits
 meaning_for H limits Rechecking s = refusing (record { at = 0 })
 meaning_for H limits (Relaying followers) s = relaying H limits followers (net_for s.net) (is_some s.from) (is_some s.watch)
 

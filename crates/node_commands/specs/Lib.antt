@@ -2,6 +2,7 @@
 pub mod Answers
 pub mod Auditing
 pub mod Auditor
+pub mod Checking
 pub mod Commands
 pub mod Follow
 pub mod Following
@@ -17,6 +18,8 @@ pub mod Relaying
 pub mod Runs
 pub mod Starting
 pub mod Stopping
+pub mod Ticketing
+pub mod Tickets
 pub mod Upgrading
 pub mod UpgradingFeed
 pub mod Watching

@@ -5,6 +5,7 @@
 mod audit;
 mod auditor;
 mod bad_input;
+mod check;
 mod ending;
 mod follow;
 mod follower;
@@ -20,6 +21,8 @@ mod relayer;
 mod running;
 mod serve;
 mod starting;
+mod telling;
+mod ticket;
 mod upgrading;
 mod upgrading_feed;
 

@@ -8,11 +8,13 @@ ghost use Rattle.node_commands.specs.Commands.{meaning_of};
 ghost use Rattle.node_commands.specs.Runs.{Did, Ran, UsedRose, status_in};
 
 use crate::audit::audit;
+use crate::check::check;
 use crate::follow::{follow_afresh, follow_on};
 use crate::generating::make_feed;
 use crate::order::order;
 use crate::prove::prove;
 use crate::relay::relay;
+use crate::ticket::make_ticket;
 use crate::upgrading::upgrade_state;
 use crate::upgrading_feed::upgrade_feed;
 use command_words::{Command, read_words};
@@ -223,9 +225,13 @@ fn run_command<D: Digester, F: Source, P: Source, W: Source, O: Sink, R: Sink, L
             report,
             steps,
         ),
-        Ok(Command::Ticket { .. } | Command::Check { .. } | Command::Recheck { .. }) => {
-            say(alloc, report, Status::Words, Line::Words(0))
+        Ok(Command::Ticket { number, .. }) => {
+            make_ticket::<D, P, O, R, L>(alloc, limits, number, prior, out, report, steps)
         }
+        Ok(Command::Check { .. }) => {
+            check::<D, F, P, R, L>(alloc, limits, prior, feed, report, steps)
+        }
+        Ok(Command::Recheck { .. }) => say(alloc, report, Status::Words, Line::Words(0)),
         Ok(
             Command::Relay {
                 net,

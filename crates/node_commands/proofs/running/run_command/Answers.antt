@@ -73,3 +73,13 @@ pub returns-in-Ok-Order-clause-ran : goal.returns-in-Ok-Order-clause-ran
 returns-in-Ok-Order-clause-ran g c =
     let exact = rw c.in-Ok-Order.field-0-is at c.in-Ok-Order.ensures.exact in
     ran-words _ _ _ _ _ _ _ _ _ _ _ _ _ _ _ exact (c.order.ensures.ran _ _)
+
+pub returns-in-Ok-Ticket-clause-ran : goal.returns-in-Ok-Ticket-clause-ran
+returns-in-Ok-Ticket-clause-ran g c =
+    let exact = rw c.in-Ok-Ticket.field-0-is at c.in-Ok-Ticket.ensures.exact in
+    ran-words _ _ _ _ _ _ _ _ _ _ _ _ _ _ _ exact (c.make_ticket.ensures.ran _ _)
+
+pub returns-in-Ok-Check-clause-ran : goal.returns-in-Ok-Check-clause-ran
+returns-in-Ok-Check-clause-ran g c =
+    let exact = rw c.in-Ok-Check.field-0-is at c.in-Ok-Check.ensures.exact in
+    ran-words _ _ _ _ _ _ _ _ _ _ _ _ _ _ _ exact (c.check.ensures.ran _ _)

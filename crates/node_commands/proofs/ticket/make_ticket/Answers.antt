@@ -1,0 +1,24 @@
+use Rattle.std.proofs.Common.{refl, subst}
+use Rattle.uo_base.proofs.PortLemmas.{told_text, Tells-told_text}
+use Rattle.node_commands.specs.Starting.{IsStartOf}
+use Rattle.node_commands.specs.Ticketing.{ticketing}
+use Rattle.node_commands.proofs.RanLemmas.{ran-unbegun, ran-refusing, ran-begun, serves-once}
+use Rattle.node_commands.proofs.ticket.make_ticket.Goals as goal
+
+pub returns-in_err-node-clause-ran : goal.returns-in_err-node-clause-ran
+returns-in_err-node-clause-ran g c = λ feed watch. ran-unbegun _ _ _ _ _ _ _ _ c.from_residual.ensures.0
+
+pub returns-in-Ok-clause-ran : goal.returns-in-Ok-clause-ran
+returns-in-Ok-clause-ran g c =
+    λ feed watch.
+    let s = subst (IsStartOf _ _ _) c.in-Ok.is c.in_ok-node.ensures.begun in
+    let m = ticketing g.D.Digester.digest_of c.args.limits c.args.number in
+    ran-begun m _ _ watch s.text (told_text watch) s.told (Tells-told_text watch) c.in-Ok.node s.is _ _
+    (serves-once m c.in-Ok.node feed refl refl c.store_ticket.result _ _ _ _ c.store_ticket.ensures.status c.store_ticket.ensures.said c.store_ticket.ensures.sent
+    c.store_ticket.ensures.part_said c.store_ticket.ensures.part_sent c.store_ticket.ensures.order c.store_ticket.ensures.read)
+
+pub returns-in-Err-clause-ran : goal.returns-in-Err-clause-ran
+returns-in-Err-clause-ran g c =
+    λ feed watch.
+    let s = subst (IsStartOf _ _ _) c.in-Err.is c.in_ok-node.ensures.begun in
+    ran-refusing (ticketing g.D.Digester.digest_of c.args.limits c.args.number) _ _ watch s.text (told_text watch) s.told (Tells-told_text watch) c.in-Err.bad s.is _ _ _ _ c.say.result c.say.ensures.status c.say.ensures.whole c.say.ensures.part
