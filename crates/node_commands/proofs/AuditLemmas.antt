@@ -51,7 +51,7 @@ audited-is H a event (Audited.Verdict verdict) says shows = ap (λ v. judged_tex
 audited-is H a event (Audited.Clash c) says shows =
     ap (clash_text a.events) (sym shows.1) ∙ ap (λ v. judged_text v a.events (clash_on H a.audit.bridge (event_in event))) says
 
-none-if : (b : Bool) → cond b (let l : List ℕ = [] in l) [] ≡ []
+pub none-if : (b : Bool) → cond b (let l : List ℕ = [] in l) [] ≡ []
 none-if true = refl
 none-if false = refl
 
@@ -184,7 +184,7 @@ module _ (H : List ℕ → Digest) where
       by (Some v) later = later
 
   -- nothing is shown where nothing is forged
-  shown-none : (es : List ChainEvent) (s : AuditState) → (audit_after H leaf_text s es).ended ≡ false → shown_on H s es ≡ None
+  pub shown-none : (es : List ChainEvent) (s : AuditState) → (audit_after H leaf_text s es).ended ≡ false → shown_on H s es ≡ None
   shown-none [] s e = refl
   shown-none (x ∷ es) s e = by (judged_on H leaf_text s.bridge x) refl (shown-none es (next_audit H leaf_text s x)) e
     where

@@ -41,7 +41,9 @@ use Rattle.relay_script.specs.declared.line.ScriptLine.{ScriptLine}
 use Rattle.node_commands.specs.Relayer.{relay_answer}
 use Rattle.node_commands.specs.Relaying.{RelayStart, lists_for, prior_text, script_of, relay_start, IsGoodRelay, relaying}
 use Rattle.node_commands.specs.Starting.{Start, IsNodeOf, IsStart, IsUsable, IsGoodBehind}
+use Rattle.node_commands.specs.Rechecking.{Rechecked, recheck_start, IsGoodBeside, rechecking}
 use Rattle.node_commands.specs.Ticketing.{ticketing}
+use Rattle.node_commands.proofs.RecheckLemmas.{recheck-good, recheck-ends}
 use Rattle.node_commands.specs.Upgrading.{upgrading_state}
 use Rattle.node_commands.specs.UpgradingFeed.{upgrade_feed_answer, upgrading_feed}
 use Rattle.node_commands.specs.Watching.{list_in, IsGood}
@@ -159,6 +161,12 @@ module _ (H : List ℕ → Digest) (limits : Limits) (few : limits.leaves < 2 ^ 
   check-command-ends (Ok node) is g = check-ends H limits.bytes node feed g.1
   check-command-ends (Err bad) is g = absurd (no_bad H limits few prior g.0 bad is)
 
+  recheck-command-ends : (net : Net) (named : Bool) (begun : Result Rechecked BadInput) → begun ≡ recheck_start named limits.bytes prior watch → IsGoodBeside named net limits prior watch feed
+      → (rechecking H limits net named).Ends (answer_by (rechecking H limits net named) begun feed).status
+  recheck-command-ends net named begun is g =
+      subst (λ (b : Result Rechecked BadInput). (rechecking H limits net named).Ends (answer_by (rechecking H limits net named) b feed).status)
+      (sym (is ∙ recheck-good named limits.bytes prior watch g.short g.scripts g.usable)) (recheck-ends H limits net (record { ticket = prior; list = g.scripts }) feed g.whole)
+
   order-ends : (net : Net) (tip : Digest) (begun : Result (Unit {0}) BadInput) → begun ≡ Ok tt → (events_of net limits.bytes feed).ending ≡ None
       → IsEnd (answer_by (ordering limits.bytes net tip) begun feed).status
   order-ends net tip begun is whole = subst (λ (b : Result (Unit {0}) BadInput). IsEnd (answer_by (ordering limits.bytes net tip) b feed).status) (sym is) (ordered limits net tip feed whole)
@@ -181,7 +189,7 @@ module _ (H : List ℕ → Digest) (limits : Limits) (few : limits.leaves < 2 ^ 
   task-ends (Ordering tip) s begun is g = order-ends (net_for s.net) (hash_named tip) begun is g
   task-ends (Ticketing number) s begun is g = ticket-command-ends number begun is g
   task-ends Checking s begun is g = check-command-ends begun is g
-  task-ends Rechecking s begun is g = absurd g
+  task-ends Rechecking s begun is g = recheck-command-ends (net_for s.net) (is_some s.watch) begun is g
   task-ends (Relaying followers) s begun is g = relay-ends followers (net_for s.net) (is_some s.from) (is_some s.watch) begun is g
 
   pub ends-by : (asked : Result Asked WordFault) (begun : Result (meaning_by H limits asked).Begun BadInput) → (meaning_by H limits asked).Begins prior watch begun → (meaning_by H limits asked).AreGood feed prior watch
@@ -203,7 +211,7 @@ task-stops H limits UpgradingState s status stops = inr stops
 task-stops H limits (Ordering tip) s status stops = inr (inr stops)
 task-stops H limits (Ticketing number) s status stops = inr (inr stops)
 task-stops H limits Checking s status stops = inr (inr stops)
-task-stops H limits Rechecking s status stops = inr (inr stops)
+task-stops H limits Rechecking s status stops = inl (inr (inr stops))
 task-stops H limits (Relaying followers) s status stops = inr (inr stops)
 
 pub stops-by : (H : List ℕ → Digest) (limits : Limits) (asked : Result Asked WordFault) (status : Status) → is_stop status ≡ true → (meaning_by H limits asked).Ends status

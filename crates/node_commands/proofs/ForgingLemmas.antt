@@ -50,7 +50,7 @@ use Rattle.feed_frame.proofs.FeedBytes.{IsMadeOfBytes, events_bytes}
 
 module _ (H : List ℕ → Digest) (scripts : List (List ℕ)) (rules : Rules) where
   -- it says something of each event before
-  all-told : (es : List ChainEvent) (t : State) → never_stops rules (full_judge H leaf_text scripts rules) t es ≡ true → length (full_verdicts H leaf_text scripts rules t es) ≡ length es
+  pub all-told : (es : List ChainEvent) (t : State) → never_stops rules (full_judge H leaf_text scripts rules) t es ≡ true → length (full_verdicts H leaf_text scripts rules t es) ≡ length es
   all-told [] t honest = refl
   all-told (e ∷ es) t honest = by (step rules (full_judge H leaf_text scripts rules) t e).verdict honest (all-told es (step rules (full_judge H leaf_text scripts rules) t e).state)
     where
@@ -62,11 +62,11 @@ module _ (H : List ℕ → Digest) (scripts : List (List ℕ)) (rules : Rules) w
       by (Some v) honest later = ap suc (later honest)
 
   -- and no more
-  record Stops (t : State) (front later : List ChainEvent) (e : ChainEvent) : Type 0 where
-    said : full_verdicts H leaf_text scripts rules t (front ++ e ∷ later) ≡ full_verdicts H leaf_text scripts rules t front
-    stops : never_stops rules (full_judge H leaf_text scripts rules) t (front ++ e ∷ later) ≡ false
+  pub record Stops (t : State) (front later : List ChainEvent) (e : ChainEvent) : Type 0 where
+    pub said : full_verdicts H leaf_text scripts rules t (front ++ e ∷ later) ≡ full_verdicts H leaf_text scripts rules t front
+    pub stops : never_stops rules (full_judge H leaf_text scripts rules) t (front ++ e ∷ later) ≡ false
 
-  stops-at : (front later : List ChainEvent) (e : ChainEvent) (t : State) → never_stops rules (full_judge H leaf_text scripts rules) t front ≡ true
+  pub stops-at : (front later : List ChainEvent) (e : ChainEvent) (t : State) → never_stops rules (full_judge H leaf_text scripts rules) t front ≡ true
       → (step rules (full_judge H leaf_text scripts rules) (full_after H leaf_text scripts rules t front) e).verdict ≡ None → Stops t front later e
   stops-at [] later e t honest none = record {
     said = ap (λ v. verdict_before v (full_verdicts H leaf_text scripts rules (step rules (full_judge H leaf_text scripts rules) t e).state later)) none;
@@ -90,7 +90,7 @@ module _ (H : List ℕ → Digest) (scripts : List (List ℕ)) (rules : Rules) w
           }
 
   -- it has no verdict on a forged one
-  no-verdict : (t : State) (b : Block) (handed : Handed) → is_forged H leaf_text scripts rules (chain_of t.now) t.now.history b handed ≡ true
+  pub no-verdict : (t : State) (b : Block) (handed : Handed) → is_forged H leaf_text scripts rules (chain_of t.now) t.now.history b handed ≡ true
       → (step rules (full_judge H leaf_text scripts rules) t (BlockCame (Some b) handed)).verdict ≡ None
   no-verdict t b handed forged =
       ap (λ (f : Bool). (by_evidence rules t b (if f then None else Some (full H leaf_text scripts t.now.history (external b t.now.blocks) handed))).verdict) forged
@@ -170,7 +170,7 @@ module _ (H : List ℕ → Digest) (scripts : List (List ℕ)) (rules : Rules) w
 -- ---- what a forged event of bytes is made of
 
 -- the event is one of a list of events
-one_of : (P : FeedEvent → Type 0) (front : List FeedEvent) (event : FeedEvent) (later : List FeedEvent) → AllByRecursion P (front ++ event ∷ later) → AllByRecursion P front × P event
+pub one_of : (P : FeedEvent → Type 0) (front : List FeedEvent) (event : FeedEvent) (later : List FeedEvent) → AllByRecursion P (front ++ event ∷ later) → AllByRecursion P front × P event
 one_of P [] event later h = (tt, h.0)
 one_of P (f ∷ front) event later h = let w = one_of P front event later h.1 in ((h.0, w.0), w.1)
 
@@ -180,7 +180,7 @@ block_bytes (Feed.BlockCame bytes (Some message)) h = h.0
 block_bytes (Feed.RollbackCame count) h = tt
 block_bytes Feed.StrayCame h = tt
 
-all_fit : (events : List FeedEvent) → AllByRecursion IsMadeOfBytes events → AllByRecursion EventFits (map event_in events)
+pub all_fit : (events : List FeedEvent) → AllByRecursion IsMadeOfBytes events → AllByRecursion EventFits (map event_in events)
 all_fit [] h = tt
 all_fit (event ∷ events) h = (read_event_fits event (block_bytes event h.0), all_fit events h.1)
 
@@ -190,7 +190,7 @@ same_message x y h k e = cc
 same_read : (m n : Message) → read m ≡ read n → m ≡ n
 same_read m n e = cc
 
-message_fits : (event : FeedEvent) (b : Block) (m : Message) → IsMadeOfBytes event → event_in event ≡ BlockCame (Some b) (read m) → ProofFits m.proof
+pub message_fits : (event : FeedEvent) (b : Block) (m : Message) → IsMadeOfBytes event → event_in event ≡ BlockCame (Some b) (read m) → ProofFits m.proof
 message_fits (Feed.BlockCame bytes None) b m h e = absurd (let z = same_message (block_in bytes) (Some b) (handed_in None) (read m) e in cc)
 message_fits (Feed.BlockCame bytes (Some message)) b m h e = (read_is_text message m h.1 (same_message (block_in bytes) (Some b) (message_in message) (read m) e)).0
 message_fits (Feed.RollbackCame count) b m h e = absurd cc

@@ -31,6 +31,7 @@ use Rattle.node_commands.specs.Meaning.{Inputs, Meaning, Uses}
 use Rattle.node_commands.specs.Ordering.{hash_named}
 use Rattle.node_commands.specs.Starting.{Start, IsStart}
 use Rattle.node_commands.specs.Upgrading.{UpgradesState}
+use Rattle.node_commands.specs.Rechecking.{recheck_start}
 use Rattle.node_commands.specs.Runs.{GivesBy, Serves, Ran, Did, status_in, UsedRose}
 use Rattle.node_commands.specs.Watching.{list_in}
 use Rattle.node_commands.proofs.CompleteLemmas.{ends-by, stops-by}
@@ -39,6 +40,7 @@ use Rattle.node_commands.proofs.ForgingLemmas.{audits-feed}
 use Rattle.node_commands.proofs.OrderLemmas.{orders-feed}
 use Rattle.node_commands.proofs.ProvingLemmas.{follows-proving}
 use Rattle.node_commands.proofs.RelayLemmas.{relays-on-branches}
+use Rattle.node_commands.proofs.RecheckLemmas.{recheck-claims}
 use Rattle.node_commands.proofs.ServeLemmas.{failed-so}
 use Rattle.node_commands.proofs.StartLemmas.{resumes-as-full}
 use Rattle.node_commands.proofs.TicketLemmas.{ticket-claims, check-claims}
@@ -228,7 +230,7 @@ module _ (H : List ℕ → Digest) (long : (x : List ℕ) → length (H x).0 ≡
   task-claims (Ordering tip) s inputs begins = orders-feed (net_for s.net) limits.bytes (hash_named tip) inputs.feed
   task-claims (Ticketing number) s inputs begins = ticket-claims H long limits few inputs.prior number inputs.begun begins
   task-claims Checking s inputs begins = check-claims H long limits few inputs.prior inputs.feed inputs.begun begins
-  task-claims Rechecking s inputs begins = tt
+  task-claims Rechecking s inputs begins = recheck-claims H long limits few (net_for s.net) inputs.feed (recheck_start (is_some s.watch) limits.bytes inputs.prior inputs.watch)
   task-claims (Relaying followers) s inputs begins = relays-on-branches H long limits few short (net_for s.net) inputs.feed inputs.begun
 
   claims : (asked : Result Asked WordFault) (inputs : Inputs (meaning_by H limits asked).Begun) → IfSome inputs.begun ((meaning_by H limits asked).Begins inputs.prior inputs.watch)

@@ -126,7 +126,7 @@ unfolding check_answer
 check-long H limit node text long = let t : nat_lt limit (length text) ≡ true = lt-ltb limit (length text) long in rw t refl
 
 -- nothing is stored
-told-quiet : (c : Checked) → (told_as c).out ≡ []
+pub told-quiet : (c : Checked) → (told_as c).out ≡ []
 told-quiet Said.Form = refl
 told-quiet (Said.Version v) = refl
 told-quiet Said.Tip = refl

@@ -19,6 +19,7 @@ use Rattle.node_commands.specs.Meaning.{Meaning, IsEnd}
 use Rattle.node_commands.specs.Ordering.{hash_named, ordering}
 use Rattle.node_commands.specs.Prover.{proving}
 use Rattle.node_commands.specs.Relaying.{relaying}
+use Rattle.node_commands.specs.Rechecking.{rechecking}
 use Rattle.node_commands.specs.Ticketing.{ticketing}
 use Rattle.node_commands.specs.Upgrading.{upgrading_state}
 use Rattle.node_commands.specs.UpgradingFeed.{upgrading_feed}
@@ -56,7 +57,7 @@ meaning_for H limits UpgradingState s = upgrading_state H limits
 meaning_for H limits (Ordering tip) s = ordering limits.bytes (net_for s.net) (hash_named tip)
 meaning_for H limits (Ticketing number) s = ticketing H limits number
 meaning_for H limits Checking s = checking H limits
-meaning_for H limits Rechecking s = refusing (record { at = 0 })
+meaning_for H limits Rechecking s = rechecking H limits (net_for s.net) (is_some s.watch)
 meaning_for H limits (Relaying followers) s = relaying H limits followers (net_for s.net) (is_some s.from) (is_some s.watch)
 
 abbrev pub meaning_by : (List ℕ → Digest) → Limits → Result Asked WordFault → Meaning

@@ -13,6 +13,7 @@ pub mod Meaning
 pub mod Ordering
 pub mod Prover
 pub mod Proving
+pub mod Rechecking
 pub mod Relayer
 pub mod Relaying
 pub mod Runs

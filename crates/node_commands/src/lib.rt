@@ -16,6 +16,8 @@ mod order;
 mod prior;
 mod prove;
 mod prover;
+mod recheck;
+mod rechecker;
 mod relay;
 mod relayer;
 mod running;

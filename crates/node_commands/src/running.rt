@@ -13,6 +13,7 @@ use crate::follow::{follow_afresh, follow_on};
 use crate::generating::make_feed;
 use crate::order::order;
 use crate::prove::prove;
+use crate::recheck::recheck;
 use crate::relay::relay;
 use crate::ticket::make_ticket;
 use crate::upgrading::upgrade_state;
@@ -63,6 +64,9 @@ pub fn run<D: Digester, F: Source, P: Source, W: Source, O: Sink, R: Sink, L: Le
     // `order` stores the frames of the one path from a block that begins a chain to the tip, among the first blocks of each hash of the feed, and
     // prints how many there are and how many other blocks came; or it prints why there is no path. Over what it stores neither `follow` nor `prove`
     // refuses a block for its link before it has refused another.
+    // `recheck` audits the feed, prints no line of an event, and then judges the ticket by all outputs that are live behind it: it is live exactly where
+    // it is right, and where the roots accept it and it is not right, two different texts with one digest are printed, the first of the forest. At the
+    // first forged event it prints what `audit` shows, and nothing of the ticket.
     // `relay` does what its script says in a world of one bridge and its followers, in which the first follower has the watch list that is named, and prints
     // what comes of each act, by the rules of the relay: a bridge takes the next event of the feed, or none behind the last. Behind them it prints the
     // newest serial of each follower, and its chain, and the chain of the bridge. Each follower is on the branch of its newest serial then.
@@ -231,7 +235,23 @@ fn run_command<D: Digester, F: Source, P: Source, W: Source, O: Sink, R: Sink, L
         Ok(Command::Check { .. }) => {
             check::<D, F, P, R, L>(alloc, limits, prior, feed, report, steps)
         }
-        Ok(Command::Recheck { .. }) => say(alloc, report, Status::Words, Line::Words(0)),
+        Ok(
+            Command::Recheck {
+                net,
+                watch: list,
+                ..
+            },
+        ) => recheck::<D, F, P, W, R, L>(
+            alloc,
+            limits,
+            net,
+            list.is_some(),
+            prior,
+            watch,
+            feed,
+            report,
+            steps,
+        ),
         Ok(
             Command::Relay {
                 net,

@@ -5,6 +5,7 @@ use Rattle.command_words.proofs.WordLaws.{in_range}
 use Rattle.node_commands.specs.Auditing.{auditing}
 use Rattle.node_commands.specs.Commands.{bad_words, refusing}
 use Rattle.node_commands.specs.Prover.{proving}
+use Rattle.node_commands.specs.Rechecking.{rechecking}
 use Rattle.node_commands.specs.UpgradingFeed.{upgrading_feed}
 use Rattle.node_commands.proofs.RanLemmas.{copied_some, ran-refusing, ran-words, ran-afresh, ran-on, ran-named, watch-afresh, read-afresh}
 use Rattle.node_commands.proofs.running.run_command.Goals as goal
@@ -83,3 +84,9 @@ pub returns-in-Ok-Check-clause-ran : goal.returns-in-Ok-Check-clause-ran
 returns-in-Ok-Check-clause-ran g c =
     let exact = rw c.in-Ok-Check.field-0-is at c.in-Ok-Check.ensures.exact in
     ran-words _ _ _ _ _ _ _ _ _ _ _ _ _ _ _ exact (c.check.ensures.ran _ _)
+
+pub returns-in-Ok-Recheck-clause-ran : goal.returns-in-Ok-Recheck-clause-ran
+returns-in-Ok-Recheck-clause-ran g c =
+    let exact = rw c.in-Ok-Recheck.field-0-is at c.in-Ok-Recheck.ensures.exact in
+    ran-named _ _ _ _ _ _ _ _ _ _ _ _ _ _ _ exact (rechecking g.D.Digester.digest_of c.args.limits c.in-Ok-Recheck.net) _ _ refl
+    (c.is_some-in-Ok-Recheck.ensures ∙ copied_some _) (c.recheck.ensures.ran _)
