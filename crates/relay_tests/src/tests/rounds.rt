@@ -15,6 +15,7 @@ use uo_digest::{Digest, Steps};
 
 /// The blocks that the bridge takes, by their heights and what their coinbases pay. Between these two lists it goes back by two.
 const FIRST: [(u32, u64); 3] = [(0, FULL), (1, FULL), (2, FULL)];
+
 const LATER: [(u32, u64); 3] = [(1, FULL - 1), (2, FULL), (3, FULL)];
 
 /// Each follower asks, the bridge answers, and then the replies come. Tells whether each moved its follower the first time, and not again.
