@@ -5,8 +5,9 @@ use Rattle.command_words.proofs.WordLaws.{in_range}
 use Rattle.node_commands.specs.Auditing.{auditing}
 use Rattle.node_commands.specs.Commands.{bad_words, refusing}
 use Rattle.node_commands.specs.Prover.{proving}
+use Rattle.node_commands.specs.Relaying.{relaying}
 use Rattle.node_commands.specs.UpgradingFeed.{upgrading_feed}
-use Rattle.node_commands.proofs.RanLemmas.{copied_some, ran-refusing, ran-words, ran-afresh, ran-on, ran-named, watch-afresh, read-afresh}
+use Rattle.node_commands.proofs.RanLemmas.{copied_some, ran-refusing, ran-words, ran-afresh, ran-on, ran-named, ran-beside, watch-afresh, read-afresh}
 use Rattle.node_commands.proofs.running.run_command.Goals as goal
 
 pub returns-in-Err-clause-ran : goal.returns-in-Err-clause-ran
@@ -83,3 +84,18 @@ pub returns-in-Ok-Check-clause-ran : goal.returns-in-Ok-Check-clause-ran
 returns-in-Ok-Check-clause-ran g c =
     let exact = rw c.in-Ok-Check.field-0-is at c.in-Ok-Check.ensures.exact in
     ran-words _ _ _ _ _ _ _ _ _ _ _ _ _ _ _ exact (c.check.ensures.ran _ _)
+
+pub returns-in-Ok-Recheck-clause-ran : goal.returns-in-Ok-Recheck-clause-ran
+returns-in-Ok-Recheck-clause-ran g c =
+    let exact = rw c.in-Ok-Recheck.field-0-is at c.in-Ok-Recheck.ensures.exact in
+    let prior = g.P.Source.left c.args.prior.now in
+    let watch = g.W.Source.left c.args.watch.now in
+    ran-words _ _ _ _ _ _ _ _ _ _ _ _ _ _ _ exact
+    (ran-refusing (refusing (record { at = 0 })) _ prior watch (told_text prior) (told_text watch) (Tells-told_text prior) (Tells-told_text watch) (bad_words (record { at = 0 })) refl _ _ _ _
+    c.say-in-Ok-Recheck.result c.say-in-Ok-Recheck.ensures.status c.say-in-Ok-Recheck.ensures.whole c.say-in-Ok-Recheck.ensures.part)
+
+pub returns-in-Ok-Relay-clause-ran : goal.returns-in-Ok-Relay-clause-ran
+returns-in-Ok-Relay-clause-ran g c =
+    let exact = rw c.in-Ok-Relay.field-0-is at c.in-Ok-Relay.ensures.exact in
+    ran-beside _ _ _ _ _ _ _ _ _ _ _ _ _ _ _ exact (relaying g.D.Digester.digest_of c.args.limits c.in-Ok-Relay.followers c.in-Ok-Relay.net) _ _ _ _ refl
+    (c.is_some-in-Ok-Relay.ensures ∙ copied_some _) (c.is_some-in-Ok-Relay-2.ensures ∙ copied_some _) (c.relay.ensures.ran _)
