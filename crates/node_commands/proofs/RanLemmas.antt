@@ -158,6 +158,13 @@ module _ (H : List ℕ → Digest) (limits : Limits) (words : List (List ℕ)) (
       (subst (λ (m : Meaning). Ran m limit feed feed' prior watch report report' out out' stopped status) (sym means)
       (subst (λ b. Ran (by b) limit feed feed' prior watch report report' out out' stopped status) same r))
 
+  -- and so of two inputs that may be named
+  pub ran-beside : (asked : Result Asked WordFault) → asked ≡ command_of words → (by : Bool → Bool → Meaning) (named listed named' listed' : Bool) → meaning_by H limits asked ≡ by named' listed' → named ≡ named' → listed ≡ listed'
+      → Ran (by named listed) limit feed feed' prior watch report report' out out' stopped status
+      → Ran (meaning_of H limits words) limit feed feed' prior watch report report' out out' stopped status
+  ran-beside asked is by named listed named' listed' means first second r =
+      ran-named asked is (λ b. by b listed') named named' means first (subst (λ b. Ran (by named b) limit feed feed' prior watch report report' out out' stopped status) second r)
+
   pub ran-afresh : (s : Settings) (net : Net) (named : Bool) → Ok (record { task = Following; given = s }) ≡ command_of words → is_some s.from ≡ false → net ≡ net_for s.net → named ≡ is_some s.watch
       → Ran (following_afresh H limits net named) limit feed feed' prior watch report report' out out' stopped status
       → Ran (meaning_of H limits words) limit feed feed' prior watch report report' out out' stopped status

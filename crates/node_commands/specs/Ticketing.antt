@@ -27,7 +27,8 @@ ticket_answer number node = ticketed number (ticket_of node.newest number)
 
 -- Of the state of a node that holds every output, which can be used, it is a ticket that is right over that node's newest level.
 abbrev pub TicketIsRight : (List ℕ → Digest) → Limits → (number : ℕ) → (prior : List ℕ) → Start → Type 0
-TicketIsRight H limits number prior (Ok node) = (level : Level) (k : Ticket) → IsStateAt H limits prior level → ticket_of node.newest number ≡ Some k → TicketRight H level.history level.tip k
+TicketIsRight H limits number prior (Ok node) =
+    (level : Level) (k : Ticket) → IsStateAt H limits prior level → ticket_of node.newest number ≡ Some k → TicketRight H level.history level.tip k
 TicketIsRight H limits number prior (Err bad) = (level : Level) → IsStateAt H limits prior level → ⊥
 
 -- it reads no feed, but digests what it reads of the state

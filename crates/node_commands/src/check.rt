@@ -32,7 +32,8 @@ pub fn check<D: Digester, F: Source, P: Source, R: Sink, L: Ledger>(
 ) -> Result<Status, Stop>
     requires leaves { limits.leaves < 2 ^ 40 }
     requires bytes { limits.bytes ≤ 2 ^ 48 }
-    ensures ran { (watch out : Option (List ℕ)) → Ran (checking D.digest_of limits) limits.bytes (F.left feed.old) (F.left feed.new) (P.left prior.old) watch
+    ensures ran { (watch out : Option (List ℕ)) → Ran (checking D.digest_of limits) limits.bytes
+        (F.left feed.old) (F.left feed.new) (P.left prior.old) watch
         (R.held report.old) (R.held report.new) out out (is_err result) (status_in result) }
     ensures goes_on { IfOk result (λ status. is_stop status ≡ false) }
     ensures read { IsErrOf result Stop.ReadFault → Rose (F.faults feed.old) (F.faults feed.new) ⊎ Rose (P.faults prior.old) (P.faults prior.new) }

@@ -70,6 +70,10 @@ pub fn run<D: Digester, F: Source, P: Source, W: Source, O: Sink, R: Sink, L: Le
     // `relay` does what its script says in a world of one bridge and its followers, in which the first follower has the watch list that is named, and prints
     // what comes of each act, by the rules of the relay: a bridge takes the next event of the feed, or none behind the last. Behind them it prints the
     // newest serial of each follower, and its chain, and the chain of the bridge. Each follower is on the branch of its newest serial then.
+    // `ticket` stores the ticket of the entry with this number that the prior state keeps on its newest level, and prints how many bytes it has, or that
+    // none is kept. Where the state is that of a node that holds every output, after any events of which no proof is forged, the ticket is right there.
+    // `check` prints that the output of the ticket in the feed is live exactly where the roots of the prior state's newest level accept it, and else the
+    // first reason why not. Where the state is that of such a node, and the ticket is not accepted without being right, it does so exactly where it is right.
     // Where the words are accepted, the watch list or prior state that they name can be used, the feed has no bad frame, and none has more
     // bytes than may be read, the status is 0 or 1, or 4 of `audit`, or that of a failed port or of want of memory (`complete`).
     // Where a fault or want of memory stops the run, what an event stores is stored before its line is begun, and all that is to be stored before

@@ -56,7 +56,8 @@ fn store_ticket<D: Digester, O: Sink, R: Sink>(
     ensures said { OnOk result (Appends (R.held report.old) (R.held report.new) (ticket_answer number node.now).report) }
     ensures part_sent { AppendsPart (O.held out.old) (O.held out.new) (ticket_answer number node.now).out }
     ensures part_said { AppendsPart (R.held report.old) (R.held report.new) (ticket_answer number node.now).report }
-    ensures order { Appends (R.held report.old) (R.held report.new) [] ⊎ Appends (O.held out.old) (O.held out.new) (ticket_answer number node.now).out }
+    ensures order { Appends (R.held report.old) (R.held report.new) []
+        ⊎ Appends (O.held out.old) (O.held out.new) (ticket_answer number node.now).out }
     ensures read { IsErrOf result Stop.ReadFault → ⊥ }
     ensures write { IsErrOf result Stop.WriteFault → Rose (O.faults out.old) (O.faults out.new) ⊎ Rose (R.faults report.old) (R.faults report.new) }
 {

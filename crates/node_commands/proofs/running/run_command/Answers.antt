@@ -6,8 +6,9 @@ use Rattle.node_commands.specs.Auditing.{auditing}
 use Rattle.node_commands.specs.Commands.{bad_words, refusing}
 use Rattle.node_commands.specs.Prover.{proving}
 use Rattle.node_commands.specs.Rechecking.{rechecking}
+use Rattle.node_commands.specs.Relaying.{relaying}
 use Rattle.node_commands.specs.UpgradingFeed.{upgrading_feed}
-use Rattle.node_commands.proofs.RanLemmas.{copied_some, ran-refusing, ran-words, ran-afresh, ran-on, ran-named, watch-afresh, read-afresh}
+use Rattle.node_commands.proofs.RanLemmas.{copied_some, ran-refusing, ran-words, ran-afresh, ran-on, ran-named, ran-beside, watch-afresh, read-afresh}
 use Rattle.node_commands.proofs.running.run_command.Goals as goal
 
 pub returns-in-Err-clause-ran : goal.returns-in-Err-clause-ran
@@ -90,3 +91,9 @@ returns-in-Ok-Recheck-clause-ran g c =
     let exact = rw c.in-Ok-Recheck.field-0-is at c.in-Ok-Recheck.ensures.exact in
     ran-named _ _ _ _ _ _ _ _ _ _ _ _ _ _ _ exact (rechecking g.D.Digester.digest_of c.args.limits c.in-Ok-Recheck.net) _ _ refl
     (c.is_some-in-Ok-Recheck.ensures ∙ copied_some _) (c.recheck.ensures.ran _)
+
+pub returns-in-Ok-Relay-clause-ran : goal.returns-in-Ok-Relay-clause-ran
+returns-in-Ok-Relay-clause-ran g c =
+    let exact = rw c.in-Ok-Relay.field-0-is at c.in-Ok-Relay.ensures.exact in
+    ran-beside _ _ _ _ _ _ _ _ _ _ _ _ _ _ _ exact (relaying g.D.Digester.digest_of c.args.limits c.in-Ok-Relay.followers c.in-Ok-Relay.net) _ _ _ _ refl
+    (c.is_some-in-Ok-Relay.ensures ∙ copied_some _) (c.is_some-in-Ok-Relay-2.ensures ∙ copied_some _) (c.relay.ensures.ran _)
