@@ -72,8 +72,8 @@ module _ (H : List ℕ → Digest) where
       let made : WorldState → Bool → RelayState = λ w b. record { world = w; script = left; lines = r.lines; refused = b } in
       ap₂ (λ w os. made w (r.refused || list_any is_undone os)) (behind-append xs ys r.world) (outcomes-append xs ys r.world)
       ∙ ap (λ b. made (world_behind H (world_behind H r.world xs) ys) b)
-          (ap (λ b. r.refused || b) (any-append (outcomes_of H r.world xs) (outcomes_of H (world_behind H r.world xs) ys))
-          ∙ sym (or_again r.refused (list_any is_undone (outcomes_of H r.world xs)) (list_any is_undone (outcomes_of H (world_behind H r.world xs) ys))))
+      (ap (λ b. r.refused || b) (any-append (outcomes_of H r.world xs) (outcomes_of H (world_behind H r.world xs) ys))
+      ∙ sym (or_again r.refused (list_any is_undone (outcomes_of H r.world xs)) (list_any is_undone (outcomes_of H (world_behind H r.world xs) ys))))
 
   -- one act first
   relayed-one : (r : RelayState) (act : WorldAct) (acts : List (Option WorldAct)) (left : List ScriptLine) → relayed H r (Some act ∷ acts) left ≡ relayed H (acted H r act) acts left
@@ -515,5 +515,5 @@ module _ (H : List ℕ → Digest) (r r' : RelayState) (ending : Option FeedFaul
   finish-end e = (
     sym (ap (λ (s : RelayState). status_of s.refused) played.left) ∙ ap (λ b. (last_of (end_at ended_at) b).status) (sym e),
     ap₂ (λ l s. l ++ (end_at s).report) played.lines (sym (let left : ended_at ≡ record r' { script = [] } = played.left in left))
-    ∙ (append_assoc said rest_said (end_at ended_at).report ∙ ap (λ b. said ++ (rest_said ++ (last_of (end_at ended_at) b).report)) (sym e)),
+        ∙ (append_assoc said rest_said (end_at ended_at).report ∙ ap (λ b. said ++ (rest_said ++ (last_of (end_at ended_at) b).report)) (sym e)),
   )

@@ -68,15 +68,7 @@ pub fn relay<D: Digester, F: Source, P: Source, W: Source, R: Sink, L: Ledger>(
     let lists = lists_for(alloc, followers, watch)?;
     let world = World::<D>::new(alloc, net, limits, lists)?;
     let mut relayer = Relayer::new(alloc, world, script);
-    serve_script(
-        alloc,
-        net,
-        limits.bytes,
-        &mut relayer,
-        feed,
-        report,
-        steps,
-    )
+    serve_script(alloc, net, limits.bytes, &mut relayer, feed, report, steps)
 }
 
 // Answers a feed: the lines of the acts that each event makes, and then what comes last.
@@ -97,7 +89,16 @@ fn serve_script<D: Digester, F: Source, R: Sink, L: Ledger>(
     ensures write { IsErrOf result Stop.WriteFault → Rose (R.faults report.old) (R.faults report.new) }
 {
     let mut nothing = QuietSink::new(alloc);
-    let ending = handle_feed(alloc, net, bytes, relayer, feed, &mut nothing, report, steps)?;
+    let ending = handle_feed(
+        alloc,
+        net,
+        bytes,
+        relayer,
+        feed,
+        &mut nothing,
+        report,
+        steps,
+    )?;
     write_last(alloc, relayer, ending, report, steps)
 }
 

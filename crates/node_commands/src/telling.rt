@@ -9,7 +9,11 @@ use ticket_check::Checked;
 use uo_base::NoMemory;
 
 /// Appends the line of what is said of a ticket, or the lines of a clash, and answers the status.
-pub fn push_checked(alloc: Global, checked: &Checked, said: &mut Vec<u8>) -> Result<Status, NoMemory>
+pub fn push_checked(
+    alloc: Global,
+    checked: &Checked,
+    said: &mut Vec<u8>,
+) -> Result<Status, NoMemory>
     ensures status { IfOk result (λ status. status ≡ (told_as checked.now).status) }
     ensures said { OnOk result (said.new.items ≡ said.old.items ++ (told_as checked.now).report) }
 {
@@ -18,7 +22,11 @@ pub fn push_checked(alloc: Global, checked: &Checked, said: &mut Vec<u8>) -> Res
         Checked::Version(version) => push_fault(alloc, CheckFault::Version(*version), said),
         Checked::Tip => push_fault(alloc, CheckFault::Tip, said),
         Checked::Refused(why) => push_fault(alloc, CheckFault::Proof(*why), said),
-        Checked::Live { txid, index, amount } => {
+        Checked::Live {
+            txid,
+            index,
+            amount,
+        } => {
             let line = Line::CheckLive {
                 txid: *txid,
                 index: *index,

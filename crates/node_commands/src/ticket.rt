@@ -67,5 +67,10 @@ fn store_ticket<D: Digester, O: Sink, R: Sink>(
     }
     put_all(out, &text)?;
     let bytes = text.len() as u64;
-    say(alloc, report, Status::AllAccepted, Line::Ticket { number, bytes })
+    say(
+        alloc,
+        report,
+        Status::AllAccepted,
+        Line::Ticket { number, bytes },
+    )
 }

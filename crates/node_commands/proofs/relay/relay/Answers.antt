@@ -60,7 +60,7 @@ returns-clause-ran g c =
     let lists = lists_for c.args.followers (scripts_of c.in-Ok.watch) in
     let begun : RelayStart = record { lists = lists; script = lines } in
     let fresh = fresh-is c.args.limits c.args.net c.new-relayer.result c.in_ok-world.world c.in_ok-lists.lists.items lists lines c.new-relayer.ensures c.in_ok-world.ensures.is
-        (c.in_ok-lists.ensures ∙ ap (lists_for c.args.followers) c.watched-watch.ensures) in
+    (c.in_ok-lists.ensures ∙ ap (lists_for c.args.followers) c.watched-watch.ensures) in
     ran-begun (relaying g.D.Digester.digest_of c.args.limits c.args.followers c.args.net c.args.scripted c.args.listed) _ _ _ t.text l.text t.told l.told begun
     (relay-begins c.args.followers _ _ c.in-Ok.watch c.in-Ok-2.text.items (Ok lines) l.is t.is (c.in-Ok-read_script.ensures.exact ∙ ap script_in c.as_slice.ensures.value)) _ _
     (relay-serves g.D.Digester.digest_of c.args.limits c.args.net lists lines c.new-relayer.result fresh _ _ (c.serve_script.ensures.served out))

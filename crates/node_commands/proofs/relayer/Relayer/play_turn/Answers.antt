@@ -25,11 +25,11 @@ loop-line-preserved g c =
 pub returns-in-None-clause-next : goal.returns-in-None-clause-next
 returns-in-None-clause-next g c =
     let t = turning-bridge g.D.Digester.digest_of (event_of c.args.event) c.args.self.now c.loop-line.self c.args.said.now.items c.loop-line.said.items c.loop-line.invariant
-        c.next_line.result c.next_line.new.self c.in-Some.line c.in-Some.is c.next_line.ensures (sym c.own_act.ensures ∙ ap (option_map act_of) c.in-None.is) in
+    c.next_line.result c.next_line.new.self c.in-Some.line c.in-Some.is c.next_line.ensures (sym c.own_act.ensures ∙ ap (option_map act_of) c.in-None.is) in
     ok-then c.play-in-None.result _ _ _ c.play-in-None.ensures.next t.0
 
 pub returns-in-None-clause-said : goal.returns-in-None-clause-said
 returns-in-None-clause-said g c =
     let t = turning-bridge g.D.Digester.digest_of (event_of c.args.event) c.args.self.now c.loop-line.self c.args.said.now.items c.loop-line.said.items c.loop-line.invariant
-        c.next_line.result c.next_line.new.self c.in-Some.line c.in-Some.is c.next_line.ensures (sym c.own_act.ensures ∙ ap (option_map act_of) c.in-None.is) in
+    c.next_line.result c.next_line.new.self c.in-Some.line c.in-Some.is c.next_line.ensures (sym c.own_act.ensures ∙ ap (option_map act_of) c.in-None.is) in
     ok-then c.play-in-None.result _ _ _ c.play-in-None.ensures.said t.1
