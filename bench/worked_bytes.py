@@ -260,7 +260,7 @@ def stored():
         base = coinbase(height, SCRIPT if height in (1, 2) else UNSPENDABLE)
         chain.extend(base, [], [(base, 0, SUBSIDY)] if height in (1, 2) else [])
     chain.spend(0, coinbase(101, UNSPENDABLE), [paying(chain.names[0], [SUBSIDY], UNSPENDABLE)], [])
-    texts = {f"the state in version {version}": state(version, chain) for version in (2, 1)}
+    texts = {f"the state in version {version}": state(version, chain) for version in (2, 1)} | {"the ticket": ticket(chain)}
     for height in range(102, 202):
         chain.extend(coinbase(height, UNSPENDABLE), [], [])
     return texts, chain.feed + frame(b"UTXR", struct.pack("<I", 100))
@@ -274,6 +274,14 @@ def state(version, chain):
     level = chain.tip + struct.pack("<Q", 2) + b"\1" + content(chain.leaves, 1, 0) + compact(1) + kept + compact(len(beside))
     front = b"UTXS" + bytes([version, 0]) + struct.pack("<I", chain.height)
     return front + compact(1) + compact(len(SCRIPT)) + SCRIPT + bytes([1]) + level
+
+
+def ticket(chain):
+    """Of the one live entry, with the hashes beside its place."""
+    place, beside = standing(chain.leaves, 1)
+    txid, index, shown = chain.names[1]
+    output = struct.pack("<Q", number_of(2, 2, place)) + txid + struct.pack("<I", index) + shown
+    return b"UTXT\1" + chain.tip + output + compact(len(beside)) + b"".join(hash_ for _, hash_ in beside)
 
 
 # ---- what is asked for
@@ -300,6 +308,8 @@ def main():
         sys.stdout.buffer.write(stored_feed)
     elif order[:1] == ["state"]:
         sys.stdout.buffer.write(texts[f"the state in version {order[1]}"])
+    elif order == ["ticket"]:
+        sys.stdout.buffer.write(texts["the ticket"])
     elif order == ["check"]:
         missing = lacking(found)
         print(*(f"docs/FORMATS.md does not have {what}" for what in missing), sep="\n", end="\n" if missing else "")
