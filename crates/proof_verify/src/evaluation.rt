@@ -61,7 +61,8 @@ fn gather(
     requires origins { length origins.now ≡ length covered.now }
     requires nodes { length nodes.now ≡ length covered.now }
     requires within { AreHalfwise origins.now (length nodes.now) (length hashes.now) }
-    ensures { IfOk result (λ items. items.items ≡ map (item_from covered.now origins.now nodes.now hashes.now) (range_with_len 0 (length covered.now))) }
+    ensures { IfOk result (λ items. items.items
+        ≡ map (item_from covered.now origins.now nodes.now hashes.now) (range_with_len 0 (length covered.now))) }
 {
     let mut items = Vec::with_capacity(alloc, covered.len())?;
     for i in 0..covered.len() {
