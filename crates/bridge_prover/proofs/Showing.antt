@@ -9,7 +9,7 @@ use Rattle.std.proofs.lemmas.List.Concat.{flat_map-append, flat_map-cons}
 use Rattle.std.proofs.lemmas.List.Elements.{filter-append, recursion_from_All}
 use Rattle.std.proofs.lemmas.List.Sorted.{All-permutation, list_any-IsPermutation}
 use Rattle.std.proofs.lemmas.Bool.{false≢true}
-use Rattle.std.proofs.lemmas.Option.{none-some, same_Some}
+use Rattle.std.proofs.lemmas.Option.{same_Some}
 use Rattle.uo_digest.specs.declared.digest.Digest.{Digest}
 use Rattle.forest_place.specs.declared.place.Place.{Place}
 use Rattle.forest_place.specs.Forest.{InForest, is_root, sibling_off}
@@ -28,14 +28,9 @@ use Rattle.forest_model.proofs.Deleting.{is_spent, target_entry, spent_is_target
 use Rattle.forest_model.proofs.Living.{entry_found}
 use Rattle.leaf_record.specs.Leaf.{Leaf, Rest}
 use Rattle.leaf_record.specs.History.{somes}
-use Rattle.proof_shape.specs.declared.fault.ShapeFault.{ShapeFault}
-use Rattle.proof_shape.specs.declared.fault.ShapeFault.TheVariants as Shape
-use Rattle.proof_shape.specs.Shape.{IsFixedFault}
 use Rattle.proof_wire.specs.BlockProof.{BlockProof, targets_of, spends_of}
 use Rattle.cache_model.specs.Known.{is_known}
 use Rattle.node_rules.specs.Messages.{sent, number_of}
-use Rattle.node_rules.specs.Accepting.{shape_fault}
-use Rattle.node_rules.proofs.Placing.{told_by}
 use Rattle.bridge_forest.specs.State.{is_live}
 use Rattle.bridge_forest.specs.Proving.{places_of, standing, proof_of}
 use Rattle.bridge_forest.specs.declared.batch.Sibling.{Sibling}
@@ -53,19 +48,6 @@ live_within es i p live stands = by_entry (get_or es i None) live stands
     by_entry : (x : Option Digest) → is_some x ≡ true → tree_at es p.row p.off ≡ option_map (leaf i) x → InForest (length es) p.row p.off
     by_entry None l s = absurd (false≢true l)
     by_entry (Some d) l s = tree_at-forest es p.row p.off (leaf i d) s
-
--- where the targets have shape, there is no fault but want of memory
-abbrev pub is_of_shape : ShapeFault → Bool
-is_of_shape (Shape.Outside i) = true
-is_of_shape (Shape.Repeated i j) = true
-is_of_shape (Shape.Beneath i j) = true
-is_of_shape Shape.NoMemory = false
-
-pub no_fault : (n : ℕ) → n < 2 ^ 40 → (numbers : List ℕ) (f : ShapeFault) → shape_fault n [] 0 (map (place_by FixedPosition n) numbers) ≡ None → IsFixedFault n numbers f → is_of_shape f ≡ true → ⊥
-no_fault n few numbers (Shape.Outside i) passes fault other = none-some _ (sym passes ∙ told_by FixedPosition n (omega (arith, few)) numbers (Shape.Outside i) fault)
-no_fault n few numbers (Shape.Repeated i j) passes fault other = none-some _ (sym passes ∙ told_by FixedPosition n (omega (arith, few)) numbers (Shape.Repeated i j) fault)
-no_fault n few numbers (Shape.Beneath i j) passes fault other = none-some _ (sym passes ∙ told_by FixedPosition n (omega (arith, few)) numbers (Shape.Beneath i j) fault)
-no_fault n few numbers Shape.NoMemory passes fault other = false≢true other
 
 -- ---- the spends
 

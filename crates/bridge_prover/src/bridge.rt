@@ -20,7 +20,7 @@ use leaf_cache::Watch;
 use leaf_record::LeafBuf;
 use node_rules::{Arrival, receive, rolled_back};
 use output_index::Outputs;
-use proof_shape::Targets;
+use proof_shape::Survey;
 use proof_wire::Rests;
 use reorg_undo::{Ring, Undo};
 use std::alloc::Global;
@@ -271,7 +271,7 @@ impl<D: Digester> Bridge<D> {
     }
 
     // The places of the watched live outputs, as targets.
-    fn kept(&self) -> Result<Targets, NoMemory>
+    fn kept(&self) -> Result<Survey, NoMemory>
         ensures leaves { IfOk result (λ t. t.leaves ≡ length self.now.entries) }
         ensures targets { IfOk result (λ t. t.targets ≡ places_in self.now.entries (kept_in (scripts_of self.now.watch) self.now.held)) }
         ensures bridge { IsBridge D.digest_of leaf_text self.now }
@@ -280,7 +280,7 @@ impl<D: Digester> Bridge<D> {
     }
 
     // The digests of what is known where the kept entries stand at these places.
-    fn hashes_at(&self, kept: &Targets) -> Result<Vec<(Place, Digest)>, NoMemory>
+    fn hashes_at(&self, kept: &Survey) -> Result<Vec<(Place, Digest)>, NoMemory>
         requires { kept.now.leaves ≡ length self.now.entries }
         ensures { IfOk result (λ known. known.items ≡ held D.digest_of self.now.entries kept.now.targets) }
     {

@@ -17,7 +17,7 @@ use forest_place::Place;
 use forest_roots::Join;
 use leaf_cache::{Kept, Parts};
 use leaf_record::Record;
-use proof_shape::Targets;
+use proof_shape::{Survey, Targets};
 use uo_digest::Digest;
 
 // The lists become those after a deletion of `targets`, where `kept` are the places at which the kept entries stand then. The
@@ -27,7 +27,7 @@ pub(crate) fn delete_from(
     taken: &mut Vec<Kept>,
     scratch: &mut Scratch,
     targets: &Targets,
-    kept: &Targets,
+    kept: &Survey,
     pairs: &[(Place, Digest)],
 )
     requires same { kept.now.leaves ≡ targets.now.leaves }

@@ -44,7 +44,7 @@ fn search<D: Digester, L: Ledger>(
     ensures { IfOk result (λ clash. IsSearched D.digest_of forest.now.entries outputs.now targets.now.targets leaves.now hashes.now clash) }
 {
     let digests = digests_of::<D, L>(alloc, leaves, steps)?;
-    let items = evaluate_covered::<D, L>(alloc, targets, &digests, hashes, steps)?;
+    let items = evaluate_covered::<D, L>(alloc, targets.survey(), &digests, hashes, steps)?;
     if !roots_agree(forest, &items) {
         return Ok(None);
     }

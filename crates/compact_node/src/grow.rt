@@ -150,8 +150,7 @@ fn append<D: Digester, L: Ledger>(
     }
 }
 
-// A mark for the block. The cache is of the targets' forest. Where 2^32 or more entries would be kept, the node says that there
-// is no memory.
+// A mark for the block. The cache is of the targets' forest.
 fn begin_block<D>(
     alloc: Global,
     cache: &mut Cache<D>,
@@ -173,7 +172,6 @@ fn begin_block<D>(
     match begin(alloc, cache, targets, adds, watched) {
         Ok(mark) => Ok(mark),
         Err(BeginFault::Elsewhere) => unreachable!(),
-        Err(BeginFault::TooMany) => Err(NoMemory),
         Err(BeginFault::NoMemory) => Err(NoMemory),
     }
 }

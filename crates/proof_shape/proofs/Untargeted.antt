@@ -9,7 +9,7 @@ use Rattle.forest_model.specs.Cover.{cover, is_needed}
 use Rattle.forest_model.specs.Deletion.{is_gone}
 use Rattle.proof_shape.specs.Moves.{HasPart, IsSurveyed}
 use Rattle.proof_shape.specs.Survey.{IsCoverOf}
-use Rattle.proof_shape.specs.Targeted.{IsTargeted}
+use Rattle.proof_shape.specs.Targeted.{IsShaped}
 use Rattle.proof_shape.proofs.Longer.{shape_none}
 
 pub none_covered : (row off : ℕ) → cover [] row off ≡ None
@@ -41,8 +41,8 @@ none_gone : (row off : ℕ) → is_gone [] row off ≡ false
 none_gone zero off = refl
 none_gone (suc row) off = rw (none_gone row (2 * off)) refl
 
-pub untargeted : (n : ℕ) → n < 2 ^ 40 → IsTargeted (record { leaves = n; targets = [] })
-untargeted n few = record { few = few; counted = omega arith; shape = shape_none n }
+pub untargeted : (n : ℕ) → n < 2 ^ 40 → IsShaped (record { leaves = n; targets = [] })
+untargeted n few = record { few = few; shape = shape_none n }
 
 no_part : HasPart [] []
 no_part = record { rises = λ k lt. absurd (omega (arith, lt)); part_rises = λ k lt. absurd (omega (arith, lt)); there = λ x h. h }

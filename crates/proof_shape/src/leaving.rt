@@ -8,7 +8,7 @@ ghost use Rattle.proof_shape.specs.Shape.{has_number};
 ghost use Rattle.proof_shape.specs.Moves.{HasNeighbours, AreApart, HasAll, HasPart, TellGone, CoversTell};
 ghost use Rattle.proof_shape.specs.Swept.{ArePositions};
 
-use crate::survey::{covered_positions, parents_of};
+use crate::sweep::{covered_positions, parents_of};
 use forest_place::Place;
 use std::alloc::{AllocError, Global};
 

@@ -12,7 +12,7 @@ use crate::node::Node;
 use crate::origin::Origin;
 use crate::plan::plan_of;
 use forest_place::Place;
-use proof_shape::Targets;
+use proof_shape::Survey;
 use std::alloc::{AllocError, Global};
 use std::sync::ledger::Ledger;
 use uo_base::NoMemory;
@@ -82,7 +82,7 @@ fn gather(
 /// ascending position.
 pub fn evaluate_covered<D: Digester, L: Ledger>(
     alloc: Global,
-    targets: &Targets,
+    targets: &Survey,
     leaves: &[Digest],
     hashes: &[Digest],
     steps: &mut Steps<L>,

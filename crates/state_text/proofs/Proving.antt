@@ -1,42 +1,17 @@
 -- Places as targets.
-use Rattle.std.proofs.Common.{◌≡◌, ℕ, ◌^◌, ◌≤◌, List, [], ◌∷◌, length, Result, Ok, Err, Some, refl, sym, ap, ap₂, ◌∙◌, subst, arith}
+use Rattle.std.proofs.Common.{◌≡◌, ℕ, List, [], ◌∷◌, length, Result, Ok, Err, refl, sym, ap, ap₂, ◌∙◌, subst, arith}
 use Rattle.std.specs.Prelude.{MatchResult}
-use Rattle.std.proofs.lemmas.Option.{none-some}
 use Rattle.forest_place.specs.declared.place.Place.{Place}
 use Rattle.forest_place.specs.Places.{AreWithin}
 use Rattle.forest_place.specs.Position.{position, positions_of}
 use Rattle.forest_place.proofs.Positions.{one_position}
 use Rattle.forest_model.specs.Cover.{HasShape}
-use Rattle.proof_shape.specs.Shape.{AreTargets, IsShapeFault}
+use Rattle.proof_shape.specs.Shape.{AreTargets, HasTargets}
 use Rattle.proof_shape.specs.Targeted.{Targeted}
-use Rattle.proof_shape.specs.declared.fault.ShapeFault.{ShapeFault}
-use Rattle.proof_shape.specs.declared.fault.ShapeFault.TheVariants.{Outside, Repeated, Beneath}
 use Rattle.proof_shape.proofs.Ordered.{has_first, within_rest}
-use Rattle.block_rules.specs.declared.refusal.ProofRefusal.TheVariants as Refused
-use Rattle.forest_place.specs.declared.naming.Naming.TheVariants.{Position}
-use Rattle.node_rules.specs.Accepting.{shape_fault}
-use Rattle.node_rules.proofs.Placing.{places_by, passes_by, told_by}
 use Rattle.state_text.specs.declared.fault.StateFault.{StateFault}
 use Rattle.state_text.specs.Reading.{claims}
-use Rattle.state_text.specs.Ordered.{HasTargets}
 use Rattle.state_text.proofs.Judged.{denied}
-
--- ---- targets and faults
-
-pub no_outside : (n : ℕ) → n ≤ 2 ^ 40 → (numbers : List ℕ) (e : ShapeFault) (i : ℕ) → e ≡ Outside i → IsShapeFault n numbers e → HasTargets n numbers → ⊥
-no_outside n few numbers e i is h t =
-    let told : shape_fault n [] 0 (places_by Position n numbers) ≡ Some (Refused.Outside i) = told_by Position n few numbers (Outside i) (subst (IsShapeFault n numbers) is h) in
-    none-some _ (sym (passes_by Position n few numbers t.0 t.1) ∙ told)
-
-pub no_repeated : (n : ℕ) → n ≤ 2 ^ 40 → (numbers : List ℕ) (e : ShapeFault) (i j : ℕ) → e ≡ Repeated i j → IsShapeFault n numbers e → HasTargets n numbers → ⊥
-no_repeated n few numbers e i j is h t =
-    let told : shape_fault n [] 0 (places_by Position n numbers) ≡ Some (Refused.Repeated i j) = told_by Position n few numbers (Repeated i j) (subst (IsShapeFault n numbers) is h) in
-    none-some _ (sym (passes_by Position n few numbers t.0 t.1) ∙ told)
-
-pub no_beneath : (n : ℕ) → n ≤ 2 ^ 40 → (numbers : List ℕ) (e : ShapeFault) (i j : ℕ) → e ≡ Beneath i j → IsShapeFault n numbers e → HasTargets n numbers → ⊥
-no_beneath n few numbers e i j is h t =
-    let told : shape_fault n [] 0 (places_by Position n numbers) ≡ Some (Refused.Beneath i j) = told_by Position n few numbers (Beneath i j) (subst (IsShapeFault n numbers) is h) in
-    none-some _ (sym (passes_by Position n few numbers t.0 t.1) ∙ told)
 
 -- places by their positions
 same_places : (n : ℕ) (ts ps : List Place) → AreWithin n ts → AreWithin n ps → positions_of n ts ≡ positions_of n ps → ts ≡ ps

@@ -27,7 +27,7 @@ use forest_place::{Naming, Place};
 use forest_roots::Roots;
 use leaf_cache::{Kept, Parts, Watch, digest_in};
 use leaf_record::{Record, RecordView, write_rest};
-use proof_shape::Targets;
+use proof_shape::Survey;
 use std::alloc::Global;
 use uo_base::{Net, NoMemory, Sink, SinkFault, put_all, put_compact};
 use uo_digest::{Digest, Digester};
@@ -133,7 +133,7 @@ fn places_in(alloc: Global, kept: &[Kept]) -> Result<Vec<Place>, NoMemory>
     Ok(kept.iter().map(|entry| entry.place).collect(alloc)?)
 }
 
-fn targets_in(alloc: Global, n: u64, kept: &[Kept]) -> Result<Targets, NoMemory>
+fn targets_in(alloc: Global, n: u64, kept: &[Kept]) -> Result<Survey, NoMemory>
     requires few { n < 2 ^ 40 }
     requires shape { HasShape n (leaf_places kept.now) }
     ensures { IfOk result (λ t. (t.leaves ≡ n) × (t.targets ≡ leaf_places kept.now)) }

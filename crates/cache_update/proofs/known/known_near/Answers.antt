@@ -11,7 +11,7 @@ pub index_near-at-requires : goal.index_near-at-requires
 index_near-at-requires c = subst IsNonDecreasing (sym c.covered.ensures.positions) (rises_sorted c.args.kept.now.leaves c.covered.result.0.now c.covered.ensures.is.rises)
 
 pub is_root-requires-clause-low : goal.is_root-requires-clause-low
-is_root-requires-clause-low c = row_small c.args.kept.now.leaves c.args.place.row c.args.place.off 40 c.requires c.leaves-n.ensures.targets.few
+is_root-requires-clause-low c = row_small c.args.kept.now.leaves c.args.place.row c.args.place.off 40 c.requires c.leaves-n.ensures.shaped.few
 
 pub returns-then-is_apart : goal.returns-then-is_apart
 returns-then-is_apart c =

@@ -36,6 +36,6 @@ returns g c =
     let right = subst (AreRightRoots f) c.deref.ensures.value c.if-not-judge_roots.ensures.right in
     let above = c.deref-3.ensures.value ∙ (c.in_ok-above.ensures ∙ ap (map told_pair) c.deref-2.ensures.value) in
     let beside = c.deref-4.ensures.value ∙ c.in_ok-beside.ensures in (
-      is_accepted H f t.leaves c.requires.same t.targets leaves hashes items c.in_ok-covered.ensures.evaluated needed c.needed-needed.ensures long c.leaves-count.ensures.targets.shape c.requires.leaves right,
+      is_accepted H f t.leaves c.requires.same t.targets leaves hashes items c.in_ok-covered.ensures.evaluated needed c.needed-needed.ensures long c.leaves-count.ensures.shaped.shape c.requires.leaves right,
       c.in_ok-merge.ensures ∙ (ap₂ merged above beside ∙ is_told H f t.leaves c.requires.same t.targets leaves hashes items c.in_ok-covered.ensures.evaluated needed c.needed-needed.ensures long),
     )

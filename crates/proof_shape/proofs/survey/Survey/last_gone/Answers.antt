@@ -2,7 +2,7 @@ use Rattle.std.proofs.Common.{◌≡◌, [], subst}
 use Rattle.std.specs.Prelude.{◌⊎◌}
 use Rattle.proof_shape.specs.Targeted.{Targeted, IsGoneAt}
 use Rattle.proof_shape.proofs.Gone.{last_is}
-use Rattle.proof_shape.proofs.targets.Targets.last_gone.Goals as goal
+use Rattle.proof_shape.proofs.survey.Survey.last_gone.Goals as goal
 
 pub returns-clause-gone : goal.returns-clause-gone
 returns-clause-gone c =

@@ -1,7 +1,7 @@
 use Rattle.std.proofs.Common.{get_or}
 use Rattle.forest_place.proofs.Positions.{row_small}
 use Rattle.proof_shape.proofs.Ordered.{has_at}
-use Rattle.proof_shape.proofs.survey.parents_of.Goals as goal
+use Rattle.proof_shape.proofs.sweep.parents_of.Goals as goal
 
 pub parent-requires : goal.parent-requires
 parent-requires c =

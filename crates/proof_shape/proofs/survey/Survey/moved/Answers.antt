@@ -2,11 +2,11 @@ use Rattle.std.proofs.Common.{◌≡◌, sym, ap, ap₂, ◌∙◌, subst}
 use Rattle.std.specs.List.Sorted.{IsNonDecreasing}
 use Rattle.forest_model.specs.Deletion.{moved}
 use Rattle.proof_shape.specs.Moves.{gone_by}
-use Rattle.proof_shape.specs.Targeted.{Targeted, IsTargeted}
+use Rattle.proof_shape.specs.Targeted.{Targeted, IsShaped}
 use Rattle.proof_shape.proofs.Ordered.{sorted_from_rising}
 use Rattle.proof_shape.proofs.Gone.{none_exactly}
 use Rattle.proof_shape.proofs.Goes.{stays_goes, entry_stays}
-use Rattle.proof_shape.proofs.targets.Targets.moved.Goals as goal
+use Rattle.proof_shape.proofs.survey.Survey.moved.Goals as goal
 
 is_moved : (c : goal.After-moved_from) → c.moved_from.result ≡ moved c.args.self.now.leaves c.args.self.now.targets c.args.place.row c.args.place.off
 is_moved c =
@@ -23,7 +23,7 @@ pub returns-clause-none : goal.returns-clause-none
 returns-clause-none c =
     let t = c.args.self.now in
     let p = c.args.place in
-    let shape = (subst IsTargeted c.self.view_is c.self.invariant.0).shape in
+    let shape = (subst IsShaped c.self.view_is c.self.invariant.0).shape in
     let w = none_exactly t.leaves t.targets shape p c.requires in
     (λ none. w.0 (sym (is_moved c) ∙ none), λ h. is_moved c ∙ w.1 h)
 

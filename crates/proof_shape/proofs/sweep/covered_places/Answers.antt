@@ -1,6 +1,6 @@
 use Rattle.proof_shape.proofs.Needing.{positions_are, cover_from_sweep}
 use Rattle.proof_shape.proofs.Freed.{shape_from_free}
-use Rattle.proof_shape.proofs.survey.covered_places.Goals as goal
+use Rattle.proof_shape.proofs.sweep.covered_places.Goals as goal
 
 pub cover_of-requires-clause-places : goal.cover_of-requires-clause-places
 cover_of-requires-clause-places c = positions_are c.args.n c.args.places.now c.args.sorted.now c.requires.within c.requires.same

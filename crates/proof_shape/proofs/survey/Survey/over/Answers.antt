@@ -6,8 +6,8 @@ use Rattle.proof_shape.specs.Moves.{CoversTell}
 use Rattle.proof_shape.specs.Survey.{Rises}
 use Rattle.proof_shape.specs.Swept.{ArePositions}
 use Rattle.proof_shape.proofs.Needing.{rises_strictly, positions_placed, positions_tell}
-use Rattle.proof_shape.proofs.targets.Targets.of.Goals as goal
-use Rattle.proof_shape.proofs.targets.Targets.of.Goals.{After-deref-6}
+use Rattle.proof_shape.proofs.survey.Survey.over.Goals as goal
+use Rattle.proof_shape.proofs.survey.Survey.over.Goals.{After-deref-6}
 
 numbers_are : (c : After-deref-6) → c.in_ok-numbers.numbers.items ≡ positions_of c.args.n c.args.paths.covered.items
 numbers_are c = c.in_ok-numbers.ensures ∙ ap (positions_of c.args.n) c.deref-3.ensures.value
@@ -19,7 +19,7 @@ pub needed_of-requires-clause-rises : goal.needed_of-requires-clause-rises
 needed_of-requires-clause-rises c = subst (Rises c.args.n) (sym c.deref-2.ensures.value) c.requires.cover_is.rises
 
 pub gone_among-requires-clause-within : goal.gone_among-requires-clause-within
-gone_among-requires-clause-within c = subst (AreWithin c.args.n) (sym c.deref-4.ensures.value) (λ r o h. c.requires.targeted.shape.within (record { row = r; off = o }) h)
+gone_among-requires-clause-within c = subst (AreWithin c.args.n) (sym c.deref-4.ensures.value) (λ r o h. c.requires.shaped.shape.within (record { row = r; off = o }) h)
 
 pub gone_among-requires-clause-rises : goal.gone_among-requires-clause-rises
 gone_among-requires-clause-rises c =

@@ -1,5 +1,5 @@
 use Rattle.proof_shape.proofs.Untargeted.{untargeted, surveyed}
-use Rattle.proof_shape.proofs.targets.Targets.none.Goals as goal
+use Rattle.proof_shape.proofs.survey.Survey.none.Goals as goal
 
 pub invariant_of-result : goal.invariant_of-result
 invariant_of-result c =

@@ -5,7 +5,7 @@ use Rattle.forest_place.specs.Position.{positions_of}
 use Rattle.proof_shape.specs.Moves.{CoversTell}
 use Rattle.proof_shape.specs.Swept.{ArePositions}
 use Rattle.proof_shape.proofs.Needing.{rises_strictly, positions_placed, positions_tell}
-use Rattle.proof_shape.proofs.survey.covered_positions.Goals as goal
+use Rattle.proof_shape.proofs.sweep.covered_positions.Goals as goal
 
 pub returns-clause-rises : goal.returns-clause-rises
 returns-clause-rises c =
