@@ -43,7 +43,8 @@ pub same_eight : {a b c d e f g h i j k l m n o p : List ℕ} → a ≡ i → b 
 same_eight q r s t u v w x = rw (q, r, s, t, u, v, w, x) refl
 
 pub eight_of : {X : Type 0} (f : X → Digest) (xs : List X) (d : X) → length xs ≡ 8
-    → f (get_or xs 0 d) ∷ f (get_or xs 1 d) ∷ f (get_or xs 2 d) ∷ f (get_or xs 3 d) ∷ f (get_or xs 4 d) ∷ f (get_or xs 5 d) ∷ f (get_or xs 6 d) ∷ f (get_or xs 7 d) ∷ [] ≡ map f xs
+    → f (get_or xs 0 d) ∷ f (get_or xs 1 d) ∷ f (get_or xs 2 d) ∷ f (get_or xs 3 d)
+    ∷ f (get_or xs 4 d) ∷ f (get_or xs 5 d) ∷ f (get_or xs 6 d) ∷ f (get_or xs 7 d) ∷ [] ≡ map f xs
 eight_of f [] d is = absurd (omega (arith, is))
 eight_of f (a ∷ []) d is = absurd (omega (arith, is))
 eight_of f (a ∷ b ∷ []) d is = absurd (omega (arith, is))
