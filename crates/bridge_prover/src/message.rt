@@ -29,8 +29,8 @@ pub(crate) fn target<D: Digester>(forest: &Forest<D>, number: u64) -> u64
     fixed_position(forest.place(number))
 }
 
-// The place at which a live entry stands. `spent` has entries in ascending order, and `places` has where each of them stands, so there it is
-// looked up first.
+// The place at which a live entry stands. `spent` has entries in ascending order, and `places` has where each of them stands, so there it is looked
+// up first.
 fn place_of<D: Digester>(forest: &Forest<D>, spent: &[u64], places: &[Place], number: u64) -> Place
     requires live { is_live forest.now.entries number ≡ true }
     requires told { map Some places.now ≡ map (entry_place forest.now.entries) spent.now }
@@ -106,7 +106,8 @@ fn put_hashes(
 // The same of all siblings that prove entries.
 fn hashes_of(alloc: Global, kept: &Survey, proof: &BatchProof) -> Result<Vec<Digest>, AllocError>
     requires { AllByRecursion (λ s. InForest kept.now.leaves s.place.row s.place.off) (flat_map (λ row. row) proof.now.rows.items) }
-    ensures given { IfOk result (λ hashes. hashes.items ≡ hashes_unknown kept.now.leaves kept.now.targets (flat_map (λ row. row) proof.now.rows.items)) }
+    ensures given { IfOk result (λ hashes. hashes.items
+        ≡ hashes_unknown kept.now.leaves kept.now.targets (flat_map (λ row. row) proof.now.rows.items)) }
     ensures digests { IfOk result (λ hashes. AllByRecursion IsDigest hashes.items) }
 {
     let mut hashes = Vec::with_capacity(alloc, proof.count())?;
@@ -124,8 +125,8 @@ pub(crate) struct Draft {
     pub(crate) rests: Rests,
 }
 
-// Shows these live entries and what proves them, but for the hashes that are known where the kept entries stand. `spent` are the same
-// entries, ascending.
+// Shows these live entries and what proves them, but for the hashes that are known where the kept entries stand. `spent` are the same entries,
+// ascending.
 fn message_of<D: Digester>(
     alloc: Global,
     forest: &Forest<D>,
@@ -158,7 +159,8 @@ pub(crate) fn written<D: Digester>(
     requires live { All (λ i. is_live forest.now.entries i ≡ true) numbers.now }
     requires same { IsPermutation numbers.now spent.now }
     requires rise { IsNonDecreasing spent.now }
-    ensures { IfOk result (λ m. option_map (λ bytes. bytes.items) m ≡ option_map (λ d. message_text (drafted D.digest_of forest.now.entries numbers.now spent.now d)) draft) }
+    ensures { IfOk result (λ m. option_map (λ bytes. bytes.items) m
+        ≡ option_map (λ d. message_text (drafted D.digest_of forest.now.entries numbers.now spent.now d)) draft) }
 {
     let Some(draft) = draft else {
         return Ok(None);

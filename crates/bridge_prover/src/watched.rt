@@ -1,5 +1,6 @@
 //! The outputs that are watched, and what is known of the forest to one who watches them.
-ghost use Rattle.std.specs.Prelude.{◌≡◌, ℕ, ◌+◌, ◌<◌, ◌≤◌, ◌^◌, ◌++◌, ◌∷◌, [], true, nat_lt, Some, is_some, map, length, filter_map, option_map, vec_len, vec_capacity, IfOk, OnOk};
+ghost use Rattle.std.specs.Prelude.{◌≡◌, ℕ, ◌+◌, ◌<◌, ◌≤◌, ◌^◌, ◌++◌, ◌∷◌, [], true, nat_lt, Some, is_some, map, length, filter_map, option_map};
+ghost use Rattle.std.specs.Prelude.{vec_len, vec_capacity, IfOk, OnOk};
 ghost use Rattle.std.specs.List.{filter};
 ghost use Rattle.forest_place.specs.declared.naming.Naming.TheVariants.{FixedPosition};
 ghost use Rattle.forest_place.specs.Named.{place_by};
@@ -45,7 +46,8 @@ fn note(
     number: u64,
     leaf: &RecordView<'_>,
 ) -> Result<(), AllocError>
-    ensures { OnOk result (numbers.new.items ≡ numbers.old.items ++ noted_in (scripts_of watch.now) (record { number = number; leaf = leaf.now; live = true } ∷ [])) }
+    ensures { OnOk result (numbers.new.items ≡ numbers.old.items
+        ++ noted_in (scripts_of watch.now) (record { number = number; leaf = leaf.now; live = true } ∷ [])) }
 {
     if is_noted(watch, leaf) {
         numbers.push(number)?;
@@ -105,7 +107,8 @@ fn put_position<D: Digester>(
     number: u64,
 ) -> Result<(), AllocError>
     requires { is_live number outputs.now ≡ true → forest_state.is_live forest.now.entries number ≡ true }
-    ensures { OnOk result (positions.new.items ≡ positions.old.items ++ map (target_of forest.now.entries) (filter (λ i. is_live i outputs.now) (number ∷ []))) }
+    ensures { OnOk result (positions.new.items ≡ positions.old.items
+        ++ map (target_of forest.now.entries) (filter (λ i. is_live i outputs.now) (number ∷ []))) }
 {
     if outputs.live(number) {
         positions.push(target(forest, number))?;

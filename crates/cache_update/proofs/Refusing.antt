@@ -14,4 +14,8 @@ on_false false f h = f h
 
 -- the places of shape are those of the forest
 pub forest_lists : (n : ℕ) (p : Parted) → IsOfForest n p → AreOfForest n p
-forest_lists n p f = record { numbers = f.numbers; kept = of_places (IsPlaceIn n) p.kept (shape_within n (leaf_places p.kept) f.shape); held = f.held }
+forest_lists n p f = record {
+  numbers = f.numbers;
+  kept = of_places (IsPlaceIn n) p.kept (shape_within n (leaf_places p.kept) f.shape);
+  held = f.held;
+}

@@ -108,7 +108,8 @@ fn new_positions(
     requires within { All (λ k. InForest targets.now.leaves k.place.row k.place.off) kept.now }
     requires ascends { AscendByPlace held.now }
     requires told { TellGoals targets.now.leaves targets.now.targets held.now goals.now }
-    ensures { IfOk result (λ v. v.items ≡ positions_of targets.now.leaves (leaf_places (moved_leaves targets.now.leaves targets.now.targets kept.now))) }
+    ensures { IfOk result (λ v. v.items ≡ positions_of targets.now.leaves
+        (leaf_places (moved_leaves targets.now.leaves targets.now.targets kept.now))) }
 {
     let mut positions = Vec::with_capacity(alloc, kept.len())?;
     for i in 0..kept.len() {
@@ -128,7 +129,11 @@ fn new_places(
     requires within { All (λ k. InForest targets.now.leaves k.place.row k.place.off) kept.now }
     requires ascends { AscendByPlace held.now }
     requires told { TellGoals targets.now.leaves targets.now.targets held.now goals.now }
-    ensures ok { IfOk result (λ t. t ≡ record { leaves = targets.now.leaves; targets = leaf_places (moved_leaves targets.now.leaves targets.now.targets kept.now) }) }
+    ensures ok { IfOk result (λ t. t ≡ record {
+      leaves = targets.now.leaves;
+      targets =
+          leaf_places (moved_leaves targets.now.leaves targets.now.targets kept.now);
+    }) }
     ensures err { IfErr result (λ fault. IsKeptFault targets.now.leaves kept.now fault) }
 {
     let positions = new_positions(alloc, targets, kept, held, goals)?;
@@ -176,7 +181,11 @@ fn room_with(
     kept: Survey,
     goals: Vec<Option<Place>>,
 ) -> Result<Box<Room>, NoMemory>
-    requires kept { kept ≡ record { leaves = targets.now.leaves; targets = leaf_places (moved_leaves targets.now.leaves targets.now.targets parts.now.kept) } }
+    requires kept { kept ≡ record {
+      leaves = targets.now.leaves;
+      targets =
+          leaf_places (moved_leaves targets.now.leaves targets.now.targets parts.now.kept);
+    } }
     requires goals { TellGoals targets.now.leaves targets.now.targets parts.now.held goals.items }
     requires each { vec_len goals ≡ length parts.now.held }
     ensures { IfOk result (λ r. IsRoom targets.now parts.now adds r.value) }
@@ -376,8 +385,8 @@ fn begin_in(
 /// Takes all memory for one block: the deletion of `targets`, then `adds` additions of which `watched` are watched. What the
 /// cache keeps and holds stays. The mark gives back this cache, through the deletion and the additions.
 ///
-/// The cache is one of the forest over as many entries as the targets are of. For another one there is no mark, nor where 2^32 or
-/// more entries would be kept.
+/// The cache is one of the forest over as many entries as the targets are of. For another one there is no mark, nor where 2^32 or more entries would
+/// be kept.
 pub fn begin<D>(
     alloc: Global,
     cache: &mut Cache<D>,

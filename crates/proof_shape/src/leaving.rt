@@ -28,7 +28,8 @@ fn have_neighbours(sorted: &[u64]) -> bool
 }
 
 // Two lists of positions: the places that are gone are those of the first which are not of the second. Where no two
-// targets, whose positions are given in ascending order, stand side by side, nothing is gone but them. Else it is what is covered, unless something is needed beneath.
+// targets, whose positions are given in ascending order, stand side by side, nothing is gone but them. Else it is what is covered, unless something
+// is needed beneath.
 pub(crate) fn gone_among(
     alloc: Global,
     n: u64,

@@ -60,7 +60,8 @@ pub(crate) fn paths_named(
     numbers: &[u64],
 ) -> Result<Option<Paths>, AllocError>
     requires { n < 2 ^ 40 }
-    ensures found { IfOk result (λ found. MatchOption found (HasTargetsBy naming n numbers.now → ⊥) (λ p. AreTargetsBy naming n numbers.now p.targets.items)) }
+    ensures found { IfOk result (λ found. MatchOption found (HasTargetsBy naming n numbers.now → ⊥)
+        (λ p. AreTargetsBy naming n numbers.now p.targets.items)) }
     ensures paths { IfOk result (λ found. IfSome found (λ p. ArePaths n p.targets.items p.covered.items p.sorted.items)) }
 {
     let places = locate(alloc, naming, n, numbers)?;

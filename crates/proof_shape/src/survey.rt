@@ -35,7 +35,8 @@ impl Model for Survey {
 
     ghost view = { λ t. record { leaves = t.count; targets = t.list.items } };
 
-    ghost invariant = { λ t. IsShaped (record { leaves = t.count; targets = t.list.items }) × IsSurveyed t.count t.list.items t.needed.items t.covered.items t.numbers.items t.among.items t.kept.items };
+    ghost invariant = { λ t. IsShaped (record { leaves = t.count; targets = t.list.items })
+        × IsSurveyed t.count t.list.items t.needed.items t.covered.items t.numbers.items t.among.items t.kept.items };
 }
 
 impl Survey {
@@ -78,7 +79,8 @@ impl Survey {
     /// is that of no place, or of one that was there already, or that stands above or beneath another.
     pub fn of(alloc: Global, n: u64, positions: &[u64]) -> Result<Option<Survey>, AllocError>
         requires { n < 2 ^ 40 }
-        ensures { IfOk result (λ found. MatchOption found (HasTargets n positions.now → ⊥) (λ t. (t.leaves ≡ n) × AreTargets n positions.now t.targets)) }
+        ensures { IfOk result (λ found. MatchOption found (HasTargets n positions.now → ⊥)
+            (λ t. (t.leaves ≡ n) × AreTargets n positions.now t.targets)) }
     {
         Survey::named(alloc, Naming::Position, n, positions)
     }
@@ -91,7 +93,8 @@ impl Survey {
         numbers: &[u64],
     ) -> Result<Option<Survey>, AllocError>
         requires { n < 2 ^ 40 }
-        ensures { IfOk result (λ found. MatchOption found (HasTargetsBy naming n numbers.now → ⊥) (λ t. (t.leaves ≡ n) × AreTargetsBy naming n numbers.now t.targets)) }
+        ensures { IfOk result (λ found. MatchOption found (HasTargetsBy naming n numbers.now → ⊥)
+            (λ t. (t.leaves ≡ n) × AreTargetsBy naming n numbers.now t.targets)) }
     {
         match paths_named(alloc, naming, n, numbers)? {
             Some(paths) => Ok(Some(Survey::over(alloc, n, paths)?)),

@@ -21,15 +21,19 @@ same_places n (t ∷ ts) [] within inside e = absurd (omega (arith, ap length e)
 same_places n (t ∷ ts) (p ∷ ps) within inside e =
     let first : position n t.row t.off ≡ position n p.row p.off = cc in
     let others : positions_of n ts ≡ positions_of n ps = cc in
-    ap₂ (λ (x : Place) (xs : List Place). x ∷ xs) (one_position n t p (within t.row t.off (has_first t ts)) (inside p.row p.off (has_first p ps)) first)
+    ap₂ (λ (x : Place) (xs : List Place). x ∷ xs)
+    (one_position n t p (within t.row t.off (has_first t ts)) (inside p.row p.off (has_first p ps)) first)
     (same_places n ts ps (within_rest n t ts within) (within_rest n p ps inside) others)
 
 module _ (n : ℕ) (places : List Place) (positions : List ℕ) (within : AreWithin n places) (numbers : positions ≡ positions_of n places) where
   targets_same : (ts : List Place) → AreTargets n positions ts → ts ≡ places
-  targets_same ts targets = same_places n ts places (λ r o h. targets.shape.within (record { row = r; off = o }) h) within (targets.numbered ∙ numbers)
+  targets_same ts targets = same_places n ts places (λ r o h. targets.shape.within (record { row = r; off = o }) h) within
+      (targets.numbered ∙ numbers)
 
   -- the targets at the positions of these places are these places
-  pub targets_made : (r : Result Targeted StateFault) → MatchResult r (λ t. (t.leaves ≡ n) × AreTargets n positions t.targets) (λ e. claims e (HasTargets n positions → ⊥))
+  pub targets_made : (r : Result Targeted StateFault)
+      → MatchResult r (λ t. (t.leaves ≡ n) × AreTargets n positions t.targets) (λ e. claims e (HasTargets n positions → ⊥))
       → MatchResult r (λ t. (t.leaves ≡ n) × (t.targets ≡ places) × HasShape n places) (λ e. claims e (HasShape n places → ⊥))
   targets_made (Ok t) m = let same = targets_same t.targets m.1 in (m.0, same, subst (HasShape n) same m.1.shape)
-  targets_made (Err e) m = denied e (HasTargets n positions) (HasShape n places) (λ shape. (places, record { numbered = sym numbers; shape = shape })) m
+  targets_made (Err e) m = denied e (HasTargets n positions) (HasShape n places) (λ shape. (places, record { numbered = sym numbers; shape = shape }))
+      m

@@ -39,7 +39,8 @@ fn targets_at(alloc: Global, n: u64, positions: &[u64]) -> Result<Survey, StateF
 pub(crate) fn targets_of(alloc: Global, n: u64, places: &[Place]) -> Result<Survey, StateFault>
     requires few { n < 2 ^ 40 }
     requires within { AreWithin n places.now }
-    ensures { MatchResult result (λ t. (t.leaves ≡ n) × (t.targets ≡ places.now) × HasShape n places.now) (λ e. claims e (HasShape n places.now → ⊥)) }
+    ensures { MatchResult result (λ t. (t.leaves ≡ n) × (t.targets ≡ places.now) × HasShape n places.now)
+        (λ e. claims e (HasShape n places.now → ⊥)) }
 {
     let positions = positions_of(alloc, n, places)?;
     targets_at(alloc, n, &positions)

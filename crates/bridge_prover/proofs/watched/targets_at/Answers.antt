@@ -7,4 +7,7 @@ pub unreachable-requires : goal.unreachable-requires
 unreachable-requires c = c.in-None.ensures c.requires.there
 
 pub returns-in-Some : goal.returns-in-Some
-returns-in-Some c = (c.in-Some.ensures.0, named_by FixedPosition c.args.n (omega (arith, c.requires.few)) c.args.positions.now c.in-Some.targets.targets c.in-Some.ensures.1)
+returns-in-Some c = (
+  c.in-Some.ensures.0,
+  named_by FixedPosition c.args.n (omega (arith, c.requires.few)) c.args.positions.now c.in-Some.targets.targets c.in-Some.ensures.1,
+)

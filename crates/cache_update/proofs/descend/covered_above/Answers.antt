@@ -13,7 +13,8 @@ covered_near-requires c =
     (subst (λ o. InForest c.args.targets.now.leaves (c.args.place.row + 1) o) (sym c.parent.ensures.off)
     (up_within c.args.targets.now.leaves c.args.place.row c.args.place.off c.requires.within c.requires.inner)))
 
-above_covered : (c : goal.After-covered_near) → c.covered_near.result.0 ≡ is_some (cover c.args.targets.now.targets (suc c.args.place.row) (c.args.place.off / 2))
+above_covered : (c : goal.After-covered_near)
+    → c.covered_near.result.0 ≡ is_some (cover c.args.targets.now.targets (suc c.args.place.row) (c.args.place.off / 2))
 above_covered c =
     c.covered_near.ensures
     ∙ (ap (λ (t : Targeted). is_some (cover t.targets c.parent.result.row c.parent.result.off)) c.survey.ensures

@@ -25,4 +25,5 @@ returns c =
     let sound = subst (λ l. IsSoundLength n l k) c.deref.ensures.value c.in_ok-sound.ensures in
     let top : k < length ps → ⊥ = λ lt. omega (arith, lt, c.if-sound-len.false, c.len.ensures) in
     let w = whole n ps k sound top in
-    subst (λ i. IsFaultBy c.args.naming n xs (Outside i)) (sym w.0) (outside_from c.args.naming n (omega (arith, c.requires.small)) xs ps c.in_ok-places.ensures w.1 c.requires.none)
+    subst (λ i. IsFaultBy c.args.naming n xs (Outside i)) (sym w.0)
+    (outside_from c.args.naming n (omega (arith, c.requires.small)) xs ps c.in_ok-places.ensures w.1 c.requires.none)

@@ -10,14 +10,17 @@ use Rattle.proof_shape.proofs.survey.Survey.moved.Goals as goal
 
 is_moved : (c : goal.After-moved_from) → c.moved_from.result ≡ moved c.args.self.now.leaves c.args.self.now.targets c.args.place.row c.args.place.off
 is_moved c =
-    c.moved_from.ensures.is c.self.inside.list.items (λ r o h. ap₂ (λ x y. gone_by c.self.inside.count x y r o) c.deref.ensures.value c.deref-2.ensures.value ∙ c.self.invariant.1.gone.tell r o h) ∙
+    c.moved_from.ensures.is c.self.inside.list.items (λ r o h. ap₂ (λ x y. gone_by c.self.inside.count x y r o) c.deref.ensures.value
+    c.deref-2.ensures.value ∙ c.self.invariant.1.gone.tell r o h) ∙
     ap (λ (f : Targeted). moved f.leaves f.targets c.args.place.row c.args.place.off) c.self.view_is
 
 pub moved_from-requires-clause-covered : goal.moved_from-requires-clause-covered
-moved_from-requires-clause-covered c = subst IsNonDecreasing (sym c.deref.ensures.value) (sorted_from_rising c.self.inside.among.items c.self.invariant.1.gone.part.rises)
+moved_from-requires-clause-covered c = subst IsNonDecreasing (sym c.deref.ensures.value)
+    (sorted_from_rising c.self.inside.among.items c.self.invariant.1.gone.part.rises)
 
 pub moved_from-requires-clause-kept : goal.moved_from-requires-clause-kept
-moved_from-requires-clause-kept c = subst IsNonDecreasing (sym c.deref-2.ensures.value) (sorted_from_rising c.self.inside.kept.items c.self.invariant.1.gone.part.part_rises)
+moved_from-requires-clause-kept c = subst IsNonDecreasing (sym c.deref-2.ensures.value)
+    (sorted_from_rising c.self.inside.kept.items c.self.invariant.1.gone.part.part_rises)
 
 pub returns-clause-none : goal.returns-clause-none
 returns-clause-none c =

@@ -19,7 +19,8 @@ pub needed_of-requires-clause-rises : goal.needed_of-requires-clause-rises
 needed_of-requires-clause-rises c = subst (Rises c.args.n) (sym c.deref-2.ensures.value) c.requires.cover_is.rises
 
 pub gone_among-requires-clause-within : goal.gone_among-requires-clause-within
-gone_among-requires-clause-within c = subst (AreWithin c.args.n) (sym c.deref-4.ensures.value) (λ r o h. c.requires.shaped.shape.within (record { row = r; off = o }) h)
+gone_among-requires-clause-within c = subst (AreWithin c.args.n) (sym c.deref-4.ensures.value)
+    (λ r o h. c.requires.shaped.shape.within (record { row = r; off = o }) h)
 
 pub gone_among-requires-clause-rises : goal.gone_among-requires-clause-rises
 gone_among-requires-clause-rises c =
