@@ -137,7 +137,7 @@ class Chain:
         self.tell(f"refused {len(self.hashes)} {printed(hash_)} {why}")
 
     def accepted(self, txs, leaves, spent=(), made=()):
-        """A block behind which there are so many entries. It spends entries by their numbers, and makes outputs: of a transaction, the index there."""
+        """A block behind which there are so many entries. It spends entries by number, and makes outputs: transaction, index, amount, script."""
         height, hash_ = len(self.hashes), self.put(txs)
         self.past.append((self.coins[:], self.leaves[:]))
         for number in spent:
@@ -229,8 +229,8 @@ class Chain:
 
 
 class Bridged(Chain):
-    """A chain as a bridge is told of it, with no message. `full` and `lean` are what it passes on, for all and for one who watches the scripts; `heard`
-    is what a node is told, with the messages in full, and `said` what it says then."""
+    """A chain as a bridge is told of it, with no message. `full` and `lean` are what it passes on, for all and for one who watches the scripts;
+    `heard` is what a node is told, with the messages in full, and `said` what it says then."""
 
     def __init__(self, scripts, net="main", odd=None):
         super().__init__(net, odd)
