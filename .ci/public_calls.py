@@ -48,7 +48,9 @@ def calls_in(text, names):
         elif line.lstrip().startswith("pub fn") or (is_trait and found.group(2)):
             name, indent = found.group(3), found.group(2)
             rest = text[found.start() :]
-            end = re.search(rf"^{indent}\{{|\{{\}}$|;$", rest, re.MULTILINE)
+            # Where a function of a trait has no body, its head ends with its last line.
+            closes = rf"^{indent}\{{|\{{\}}$" + ("|;$" if is_trait else "")
+            end = re.search(closes, rest, re.MULTILINE)
             head = rest[: end.start()] if end else rest
             whole = f"{block}::{name}" if indent else name
             is_law = head.split("\n", 1)[0].endswith("()")

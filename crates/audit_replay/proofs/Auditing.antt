@@ -58,16 +58,27 @@ module _ (H : List ℕ → Digest) (text : Leaf → List ℕ) where
       by (Some v) some =
           let o = full_outcome H text (watched_by s) s.rules a.levels e in
           let full = bridge_is_full H text s e a.is a.levels a.stands in
-          let there : state_after s.rules (full_judge H text (watched_by s) s.rules) a.levels (e ∷ []) ≡ o.state = ap (λ x. goes_on x a.levels o.state) (full.0 ∙ some) in
+          let there : state_after s.rules (full_judge H text (watched_by s) s.rules) a.levels (e ∷ []) ≡ o.state =
+          ap (λ x. goes_on x a.levels o.state) (full.0 ∙ some) in
           record {
             is = next_judged_is_bridge H text s e a.is;
             levels = o.state;
             stands = full.1;
-            fits = subst (λ r. StateFits r o.state) (sym (judged_rules s e)) (subst (StateFits s.rules) there (after_fits s.rules (full_judge H text (watched_by s) s.rules) a.levels (e ∷ []) (fits, tt) a.fits));
-            sound = subst (λ r. IsSoundState r o.state) (sym (judged_rules s e)) (subst (IsSoundState s.rules) there (after_sound s.rules (full_judge H text (watched_by s) s.rules) (full_judge-pays H text (watched_by s) s.rules) a.levels (e ∷ []) a.sound));
+            fits = subst (λ r. StateFits r o.state) (sym (judged_rules s e))
+                (subst (StateFits s.rules) there (after_fits s.rules (full_judge H text (watched_by s) s.rules) a.levels (e ∷ []) (fits, tt) a.fits));
+            sound = subst (λ r. IsSoundState r o.state) (sym (judged_rules s e))
+                (subst (IsSoundState s.rules) there (after_sound s.rules (full_judge H text (watched_by s) s.rules)
+                (full_judge-pays H text (watched_by s) s.rules) a.levels (e ∷ []) a.sound));
           }
 
-  pub fresh_is_audit : (net : Net) (limits : Limits) (watch : Option (List (List ℕ))) → limits.leaves < 2 ^ 40 → IsAudit H text (fresh_bridge net limits watch)
+  pub fresh_is_audit : (net : Net) (limits : Limits) (watch : Option (List (List ℕ))) → limits.leaves < 2 ^ 40
+      → IsAudit H text (fresh_bridge net limits watch)
   fresh_is_audit net limits watch few =
       let rules : Rules = record { net = net; limits = limits } in
-      record { is = fresh_is_bridge H text net limits watch few; levels = start; stands = fresh_stands H text net limits watch; fits = start_fits rules; sound = start_sound rules }
+      record {
+        is = fresh_is_bridge H text net limits watch few;
+        levels = start;
+        stands = fresh_stands H text net limits watch;
+        fits = start_fits rules;
+        sound = start_sound rules;
+      }

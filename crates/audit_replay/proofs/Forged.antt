@@ -49,14 +49,16 @@ unjudged : (x : Bool) (v : Verdict) → unless_forged x v ≡ None → x ≡ tru
 unjudged true v e = refl
 unjudged false v e = absurd (none-some v (sym e))
 
-pub forged_by : (H : List ℕ → Digest) (s : BridgeState) (b : Block) (handed : Handed) → judged_on H leaf_text s (BlockCame (Some b) handed) ≡ None → is_forged_on H leaf_text s b handed ≡ true
+pub forged_by : (H : List ℕ → Digest) (s : BridgeState) (b : Block) (handed : Handed) → judged_on H leaf_text s (BlockCame (Some b) handed) ≡ None
+    → is_forged_on H leaf_text s b handed ≡ true
 forged_by H s b handed e = unjudged (is_forged_on H leaf_text s b handed) _ e
 
 module _ (H : List ℕ → Digest) (s : BridgeState) (a : IsAudit H leaf_text s) where
   -- the bridge's forest and index are those of its history
   pub stands_for : StandForHistory H s.entries s.held (history_of s)
   stands_for =
-      subst (StandForHistory H s.entries s.held) (sym (is_history H leaf_text s a.levels.now.history (newest_history H leaf_text a.levels s a.is a.stands)))
+      subst (StandForHistory H s.entries s.held)
+      (sym (is_history H leaf_text s a.levels.now.history (newest_history H leaf_text a.levels s a.is a.stands)))
       (record {
         entries_are = a.stands.entries;
         held = λ i leaf e. (there_is_live i leaf s.held a.levels.now.history a.is.rise a.stands.index e).1;
@@ -66,29 +68,38 @@ module _ (H : List ℕ → Digest) (s : BridgeState) (a : IsAudit H leaf_text s)
   pub knowledge : (known : List (Place × Digest)) → AreKnown H leaf_text (watched_by s) (history_of s) known → IsKnowledge H s.entries (look known)
   knowledge known are =
       subst (λ es. IsKnowledge H es (look known)) (sym (own_history H leaf_text s a.is).entries_are)
-      (subst (IsKnowledge H (entries H leaf_text (history_of s))) (sym (same_known H leaf_text (watched_by s) (history_of s) known are)) (view_known H leaf_text (watched_by s) (history_of s)))
+      (subst (IsKnowledge H (entries H leaf_text (history_of s))) (sym (same_known H leaf_text (watched_by s) (history_of s) known are))
+      (view_known H leaf_text (watched_by s) (history_of s)))
 
 -- the block is shaped by the bridge's rules
-pub shaped_so : (s : BridgeState) (b : Block) (net : Net) (limits : Limits) (chain : Chain) (spends : BlockSpends) → net ≡ s.rules.net → limits ≡ s.rules.limits → chain ≡ s.chain → IsShaped net limits chain b spends → IsShaped s.rules.net s.rules.limits s.chain b spends
+pub shaped_so : (s : BridgeState) (b : Block) (net : Net) (limits : Limits) (chain : Chain) (spends : BlockSpends) → net ≡ s.rules.net
+    → limits ≡ s.rules.limits → chain ≡ s.chain → IsShaped net limits chain b spends → IsShaped s.rules.net s.rules.limits s.chain b spends
 shaped_so s b net limits chain spends en el ec h =
-    subst (λ n. IsShaped n s.rules.limits s.chain b spends) en (subst (λ l. IsShaped net l s.chain b spends) el (subst (λ x. IsShaped net limits x b spends) ec h))
+    subst (λ n. IsShaped n s.rules.limits s.chain b spends) en
+    (subst (λ l. IsShaped net l s.chain b spends) el (subst (λ x. IsShaped net limits x b spends) ec h))
 
 -- as many outputs are shown as are spent from outside
-pub few_shown : (ext : List Outside) (handed : Handed) (m : Message) → handed ≡ read m → first_of (message_steps ext handed) ≡ None → length ext < 2 ^ 32 → length m.proof.spends < 2 ^ 32
+pub few_shown : (ext : List Outside) (handed : Handed) (m : Message) → handed ≡ read m → first_of (message_steps ext handed) ≡ None
+    → length ext < 2 ^ 32 → length m.proof.spends < 2 ^ 32
 few_shown ext handed m is passes few =
     let p = subst (λ h. first_of (message_steps ext h) ≡ None) is passes in
-    let count : length m.proof.spends ≡ length ext = eqb-true _ _ (unless-passed (length m.proof.spends == length ext) _ (each_passes (message_steps ext (read m)) 2 p)) in
+    let count : length m.proof.spends ≡ length ext =
+    eqb-true _ _ (unless-passed (length m.proof.spends == length ext) _ (each_passes (message_steps ext (read m)) 2 p)) in
     omega (arith, count, few)
 
-module _ (H : List ℕ → Digest) (s : BridgeState) (a : IsAudit H leaf_text s) (es : List (Option Digest)) (hs : List Held) (ee : es ≡ s.entries) (eh : hs ≡ s.held) where
+module _ (H : List ℕ → Digest) (s : BridgeState) (a : IsAudit H leaf_text s) (es : List (Option Digest)) (hs : List Held) (ee : es ≡ s.entries)
+    (eh : hs ≡ s.held) where
   pub stands_here : StandForHistory H es hs (history_of s)
-  stands_here = subst (λ h. StandForHistory H es h (history_of s)) (sym eh) (subst (λ e. StandForHistory H e s.held (history_of s)) (sym ee) (stands_for H s a))
+  stands_here = subst (λ h. StandForHistory H es h (history_of s)) (sym eh)
+      (subst (λ e. StandForHistory H e s.held (history_of s)) (sym ee) (stands_for H s a))
 
   pub knowledge_here : (known : List (Place × Digest)) → AreKnown H leaf_text (watched_by s) (history_of s) known → IsKnowledge H es (look known)
   knowledge_here known are = subst (λ e. IsKnowledge H e (look known)) (sym ee) (knowledge H s a known are)
 
-  pub clash_here : (known : List (Place × Digest)) (ext : List Outside) (m : Message) (x : Option TextClash) → x ≡ clash_in H es hs (look known) ext m → x ≡ clash_in H s.entries s.held (look known) ext m
-  clash_here known ext m x e = subst (λ h. x ≡ clash_in H s.entries h (look known) ext m) eh (subst (λ l. x ≡ clash_in H l hs (look known) ext m) ee e)
+  pub clash_here : (known : List (Place × Digest)) (ext : List Outside) (m : Message) (x : Option TextClash) → x ≡ clash_in H es hs (look known) ext m
+      → x ≡ clash_in H s.entries s.held (look known) ext m
+  clash_here known ext m x e = subst (λ h. x ≡ clash_in H s.entries h (look known) ext m) eh
+      (subst (λ l. x ≡ clash_in H l hs (look known) ext m) ee e)
 
 module _ (H : List ℕ → Digest) (s : BridgeState) (b : Block) (handed : Handed) (forged : is_forged_on H leaf_text s b handed ≡ true) where
   abbrev ext : List Outside
@@ -121,10 +132,12 @@ module _ (H : List ℕ → Digest) (s : BridgeState) (b : Block) (handed : Hande
 
   -- and there is a message
   pub message_there : handed ≡ nothing → ⊥
-  message_there e = false≢true (ap (is_accepted H leaf_text (view_of H leaf_text (watched_by s) (history_of s)) ext) (sym e) ∙ (and_parts accepted wrong parts.1).0)
+  message_there e = false≢true (ap (is_accepted H leaf_text (view_of H leaf_text (watched_by s) (history_of s)) ext) (sym e)
+      ∙ (and_parts accepted wrong parts.1).0)
 
   -- as the calls on the way answer it
-  pub not_shaped : (net : Net) (limits : Limits) (chain : Chain) (fault : RuleFault) (why : Refusal) → net ≡ s.rules.net → limits ≡ s.rules.limits → chain ≡ s.chain → ShapeJudged net limits chain b (Err fault) → fault ≡ Refused why → ⊥
+  pub not_shaped : (net : Net) (limits : Limits) (chain : Chain) (fault : RuleFault) (why : Refusal) → net ≡ s.rules.net → limits ≡ s.rules.limits
+      → chain ≡ s.chain → ShapeJudged net limits chain b (Err fault) → fault ≡ Refused why → ⊥
   not_shaped net limits chain fault why en el ec h is =
       shape_passes why
       (subst (λ n. first_of (block_steps n s.rules.limits s.chain b) ≡ Some why) en
@@ -139,19 +152,23 @@ module _ (H : List ℕ → Digest) (s : BridgeState) (b : Block) (handed : Hande
     passes-read = subst (λ h. first_of (block_steps s.rules.net s.rules.limits s.chain b ++ message_steps ext h) ≡ None) is passes
 
     -- in which two texts are found
-    pub clash_there : (ext' : List Outside) (x : Option TextClash) → ext' ≡ ext → IsAnswer H (history_of s) (look known) (points_of ext') m x → x ≡ None → ⊥
+    pub clash_there : (ext' : List Outside) (x : Option TextClash) → ext' ≡ ext → IsAnswer H (history_of s) (look known) (points_of ext') m x
+        → x ≡ None → ⊥
     clash_there ext' x same answer none =
-        let found = forged_is H (history_of s) (watched_by s) s.rules s.chain b m passes-read (look known) are.each x (subst (λ l. IsAnswer H (history_of s) (look known) (points_of l) m x) same answer) in
+        let found = forged_is H (history_of s) (watched_by s) s.rules s.chain b m passes-read (look known) are.each x
+        (subst (λ l. IsAnswer H (history_of s) (look known) (points_of l) m x) same answer) in
         false≢true (sym (ap is_some none) ∙ (sym found ∙ forged-read))
 
-    pub clash_shown : (ext' : List Outside) (x : Option TextClash) (c : TextClash) → ext' ≡ ext → IsAnswer H (history_of s) (look known) (points_of ext') m x → x ≡ Some c → IsClashOf H s b handed c
+    pub clash_shown : (ext' : List Outside) (x : Option TextClash) (c : TextClash) → ext' ≡ ext
+        → IsAnswer H (history_of s) (look known) (points_of ext') m x → x ≡ Some c → IsClashOf H s b handed c
     clash_shown ext' x c same answer some =
         let here = subst (λ y. IsAnswer H (history_of s) (look known) (points_of ext') m y) some answer in
         subst (λ h. IsClashOf H s b h c) (sym is)
         (subst (λ k. IsClash H (history_of s) k (points_of ext) m c) (same_known H leaf_text (watched_by s) (history_of s) known are)
         (subst (λ l. IsClash H (history_of s) (look known) (points_of l) m c) same here.2))
 
-    pub clash_which : (ext' : List Outside) (x : Option TextClash) (c : TextClash) → ext' ≡ ext → x ≡ clash_in H s.entries s.held (look known) ext' m → x ≡ Some c → clash_beside H s ext handed ≡ Some c
+    pub clash_which : (ext' : List Outside) (x : Option TextClash) (c : TextClash) → ext' ≡ ext → x ≡ clash_in H s.entries s.held (look known) ext' m
+        → x ≡ Some c → clash_beside H s ext handed ≡ Some c
     clash_which ext' x c same which some =
         subst (λ h. clash_beside H s ext h ≡ Some c) (sym is)
         (subst (λ k. clash_in H s.entries s.held k ext m ≡ Some c) (same_known H leaf_text (watched_by s) (history_of s) known are)

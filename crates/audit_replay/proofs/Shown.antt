@@ -1,5 +1,6 @@
 -- Where a message is accepted and not right, two texts are found, and they are different and have one digest.
-use Rattle.std.proofs.Common.{◌≡◌, ◌≢◌, ℕ, zero, suc, ◌+◌, ◌-◌, ◌*◌, Bool, true, false, List, [], ◌∷◌, ◌++◌, map, length, get_or, Option, Some, None, All, Contains, refl, sym, ap, ◌∙◌, subst, ⊎_elim, arith}
+use Rattle.std.proofs.Common.{◌≡◌, ◌≢◌, ℕ, zero, suc, ◌+◌, ◌-◌, ◌*◌, Bool, true, false, List, [], ◌∷◌, ◌++◌, map, length, get_or, Option, Some, None}
+use Rattle.std.proofs.Common.{All, Contains, refl, sym, ap, ◌∙◌, subst, ⊎_elim, arith}
 use Rattle.std.specs.Prelude.{option_map, option_and_then, unwrap_or, bytes_eq, is_none, if◌then◌else◌}
 use Rattle.std.specs.List.{AllByRecursion}
 use Rattle.std.specs.Option.{option_or}
@@ -47,17 +48,21 @@ none-at : (f : Place → Option TextClash) (ps : List Place) (q : Place) → fir
 none-at f [] q e i = absurd (false≢true i)
 none-at f (p ∷ ps) q e i = by (f p) refl e (none-at f ps q)
   where
-    by : (x : Option TextClash) → f p ≡ x → option_or x (first_of (map f ps)) ≡ None → (first_of (map f ps) ≡ None → has_place ps q.row q.off ≡ true → f q ≡ None) → f q ≡ None
+    by : (x : Option TextClash) → f p ≡ x → option_or x (first_of (map f ps)) ≡ None
+        → (first_of (map f ps) ≡ None → has_place ps q.row q.off ≡ true → f q ≡ None) → f q ≡ None
     by None here later go =
-        ⊎_elim (λ (same : is_at q.row q.off p ≡ true). sym (ap f (same_from_is_at q.row q.off p same)) ∙ here) (λ (other : has_place ps q.row q.off ≡ true). go later other)
+        ⊎_elim (λ (same : is_at q.row q.off p ≡ true). sym (ap f (same_from_is_at q.row q.off p same)) ∙ here)
+        (λ (other : has_place ps q.row q.off ≡ true). go later other)
         (or_cases (is_at q.row q.off p) (has_place ps q.row q.off) i)
     by (Some c) here later go = absurd (none-some c (sym later))
 
-some-at : (f : Place → Option TextClash) (ps : List Place) (c : TextClash) → first_of (map f ps) ≡ Some c → (q : Place) × (has_place ps q.row q.off ≡ true) × (f q ≡ Some c)
+some-at : (f : Place → Option TextClash) (ps : List Place) (c : TextClash) → first_of (map f ps) ≡ Some c
+    → (q : Place) × (has_place ps q.row q.off ≡ true) × (f q ≡ Some c)
 some-at f [] c e = absurd (none-some c e)
 some-at f (p ∷ ps) c e = by (f p) refl e (some-at f ps c)
   where
-    by : (x : Option TextClash) → f p ≡ x → option_or x (first_of (map f ps)) ≡ Some c → (first_of (map f ps) ≡ Some c → (q : Place) × (has_place ps q.row q.off ≡ true) × (f q ≡ Some c)) →
+    by : (x : Option TextClash) → f p ≡ x → option_or x (first_of (map f ps)) ≡ Some c
+        → (first_of (map f ps) ≡ Some c → (q : Place) × (has_place ps q.row q.off ≡ true) × (f q ≡ Some c)) →
         (q : Place) × (has_place (p ∷ ps) q.row q.off ≡ true) × (f q ≡ Some c)
     by None here later go = let w = go later in (w.0, or_right (is_at w.0.row w.0.off p) (has_place ps w.0.row w.0.off) w.1, w.2)
     by (Some d) here later go = (p, or_left (is_at p.row p.off p) (has_place ps p.row p.off) (is_at-same p.row p.off), here ∙ later)
@@ -67,7 +72,8 @@ some-at f (p ∷ ps) c e = by (f p) refl e (some-at f ps c)
 differing-none : (x y : List ℕ) (d : Digest) → differing x y d ≡ None → x ≡ y
 differing-none x y d e = by (bytes_eq x y) refl e
   where
-    by : (b : Bool) → bytes_eq x y ≡ b → (if b then None else Some (let c : TextClash = record { first = x; second = y; digest = d } in c)) ≡ None → x ≡ y
+    by : (b : Bool) → bytes_eq x y ≡ b → (if b then None else Some (let c : TextClash = record { first = x; second = y; digest = d } in c)) ≡ None
+        → x ≡ y
     by true t e = bytes_eq-true x y t
     by false t e = absurd (none-some _ (sym e))
 
@@ -81,7 +87,8 @@ record IsMade (x y : List ℕ) (d : Digest) (c : TextClash) : Type 0 where
 differing-some : (x y : List ℕ) (d : Digest) (c : TextClash) → differing x y d ≡ Some c → IsMade x y d c
 differing-some x y d c e = by (bytes_eq x y) refl e
   where
-    by : (b : Bool) → bytes_eq x y ≡ b → (if b then None else Some (let c : TextClash = record { first = x; second = y; digest = d } in c)) ≡ Some c → IsMade x y d c
+    by : (b : Bool) → bytes_eq x y ≡ b → (if b then None else Some (let c : TextClash = record { first = x; second = y; digest = d } in c)) ≡ Some c
+        → IsMade x y d c
     by true t e = absurd (none-some c e)
     by false t e =
         let is = sym (same_Some _ c e) in
@@ -97,9 +104,11 @@ differing-some x y d c e = by (bytes_eq x y) refl e
 -- a place is covered as a target or as two halves
 not_given : (ts : List Place) (r o a b : ℕ) → cover ts r o ≡ Some (given a b) → ⊥
 not_given ts zero o a b e =
-    ⊎_elim (λ (it : has_place ts zero o ≡ true). absurd (let z = same_Some _ _ (rw it at e) in cc)) (λ (other : has_place ts zero o ≡ false). none-some _ (rw other at e)) (cases_Bool (has_place ts zero o))
+    ⊎_elim (λ (it : has_place ts zero o ≡ true). absurd (let z = same_Some _ _ (rw it at e) in cc))
+    (λ (other : has_place ts zero o ≡ false). none-some _ (rw other at e)) (cases_Bool (has_place ts zero o))
 not_given ts (suc r) o a b e =
-    ⊎_elim (λ (it : has_place ts (suc r) o ≡ true). absurd (let z = same_Some _ _ (rw it at e) in cc)) (λ (other : has_place ts (suc r) o ≡ false). by (cover ts r (2 * o)) (cover ts r (2 * o + 1)) (rw other at e))
+    ⊎_elim (λ (it : has_place ts (suc r) o ≡ true). absurd (let z = same_Some _ _ (rw it at e) in cc))
+    (λ (other : has_place ts (suc r) o ≡ false). by (cover ts r (2 * o)) (cover ts r (2 * o + 1)) (rw other at e))
     (cases_Bool (has_place ts (suc r) o))
   where
     by : (x y : Option Cover) → cover_of_halves r o x y ≡ Some (given a b) → ⊥
@@ -111,7 +120,8 @@ not_given ts (suc r) o a b e =
 -- and as a target where it stands
 target_here : (ts : List Place) (r o a b : ℕ) → cover ts r o ≡ Some (target a b) → target a b ≡ target r o
 target_here ts zero o a b e =
-    ⊎_elim (λ (it : has_place ts zero o ≡ true). sym (same_Some _ _ (rw it at e))) (λ (other : has_place ts zero o ≡ false). absurd (none-some _ (rw other at e))) (cases_Bool (has_place ts zero o))
+    ⊎_elim (λ (it : has_place ts zero o ≡ true). sym (same_Some _ _ (rw it at e)))
+    (λ (other : has_place ts zero o ≡ false). absurd (none-some _ (rw other at e))) (cases_Bool (has_place ts zero o))
 target_here ts (suc r) o a b e =
     ⊎_elim (λ (it : has_place ts (suc r) o ≡ true). sym (same_Some _ _ (rw it at e)))
     (λ (other : has_place ts (suc r) o ≡ false). absurd (by (cover ts r (2 * o)) (cover ts r (2 * o + 1)) (rw other at e)))
@@ -124,7 +134,8 @@ target_here ts (suc r) o a b e =
     by (Some x) (Some y) e = absurd (let z = same_Some _ _ e in cc)
 
 -- what has a digest is there
-standing : (H : List ℕ → Digest) (x : Option Tree) (d : Digest) → option_map (digest_of H) x ≡ Some d → (t : Tree) × (x ≡ Some t) × (digest_of H t ≡ d)
+standing : (H : List ℕ → Digest) (x : Option Tree) (d : Digest) → option_map (digest_of H) x ≡ Some d → (t : Tree) × (x ≡ Some t)
+    × (digest_of H t ≡ d)
 standing H None d e = absurd (none-some d e)
 standing H (Some t) d e = (t, refl, same_Some _ _ e)
 
@@ -133,7 +144,8 @@ there_is d None h = absurd (false≢true h)
 there_is d (Some e) h = ap Some (sym (is_same-true d e h))
 
 -- a digest that stands beside a place has 32 bytes, where all have
-beside_long : (none : Digest) (ps : List Place) (ds : List Digest) (r o : ℕ) → IsDigest none → AllByRecursion IsDigest ds → IsDigest (beside none ps ds r o)
+beside_long : (none : Digest) (ps : List Place) (ds : List Digest) (r o : ℕ) → IsDigest none → AllByRecursion IsDigest ds
+    → IsDigest (beside none ps ds r o)
 beside_long none [] ds r o h a = h
 beside_long none (p ∷ ps) [] r o h a = h
 beside_long none (p ∷ ps) (d ∷ ds) r o h a = ⊎_elim (λ e. rw e a.0) (λ e. rw e (beside_long none ps ds r o h a.1)) (cases_Bool (is_at r o p))
@@ -143,10 +155,13 @@ all_from P [] h j d lt = absurd (omega (arith, lt))
 all_from P (x ∷ xs) h zero d lt = h.0
 all_from P (x ∷ xs) h (suc j) d lt = all_from P xs h.1 j d (omega (arith, lt))
 
-module _ (H : List ℕ → Digest) (long : (x : List ℕ) → IsDigest (H x)) (us : History) (outputs : List Held) (stand : StandForHistory H (entries H leaf_text us) outputs us)
-    (ext : List Outside) (m : Message) (count : length m.proof.spends ≡ length ext) (claims_fit : AllByRecursion LeafFits (claims ext m)) (hashes_fit : AllByRecursion IsDigest m.proof.hashes)
+module _ (H : List ℕ → Digest) (long : (x : List ℕ) → IsDigest (H x)) (us : History) (outputs : List Held)
+    (stand : StandForHistory H (entries H leaf_text us) outputs us)
+    (ext : List Outside) (m : Message) (count : length m.proof.spends ≡ length ext) (claims_fit : AllByRecursion LeafFits (claims ext m))
+    (hashes_fit : AllByRecursion IsDigest m.proof.hashes)
     (known : ℕ → ℕ → Option Digest) (view : IsKnowledge H (entries H leaf_text us) known)
-    (none : proof_fault H leaf_text (record { n = length (entries H leaf_text us); roots = root H (entries H leaf_text us); known = known }) (points_of ext) m ≡ None) where
+    (none : proof_fault H leaf_text (record { n = length (entries H leaf_text us); roots = root H (entries H leaf_text us); known = known })
+    (points_of ext) m ≡ None) where
   abbrev es : List (Option Digest)
   es = entries H leaf_text us
 
@@ -259,14 +274,19 @@ module _ (H : List ℕ → Digest) (long : (x : List ℕ) → IsDigest (H x)) (u
 
   -- ---- where nothing is shown
 
-  nothing_here : (r o : ℕ) (c : Cover) (t : Tree) → cover ts r o ≡ Some c → tree_at es r o ≡ Some t → V c ≡ digest_of H t → shown_at (place r o) ≡ None → node_text_of t ≡ cover_text_of c
+  nothing_here : (r o : ℕ) (c : Cover) (t : Tree) → cover ts r o ≡ Some c → tree_at es r o ≡ Some t → V c ≡ digest_of H t
+      → shown_at (place r o) ≡ None → node_text_of t ≡ cover_text_of c
   nothing_here r o c t e s v silent =
-      let there : is_digest (V c) (digest_at H es r o) ≡ true = ap (λ x. is_digest (V c) (option_map (digest_of H) x)) s ∙ (ap (λ d. is_digest (V c) (Some d)) (sym v) ∙ is_same-same (V c)) in
+      let there : is_digest (V c) (digest_at H es r o) ≡ true = ap (λ x. is_digest (V c) (option_map (digest_of H) x)) s
+      ∙ (ap (λ d. is_digest (V c) (Some d)) (sym v) ∙ is_same-same (V c)) in
       let shown = node_shown r o t s in
-      let over : clash_over H es outputs known ext m (place r o) c ≡ None = sym (ap (option_and_then (clash_over H es outputs known ext m (place r o))) e) ∙ silent in
+      let over : clash_over H es outputs known ext m (place r o) c ≡ None =
+      sym (ap (option_and_then (clash_over H es outputs known ext m (place r o))) e) ∙ silent in
       let text : option_and_then (λ x. differing x (text_for H n known ext m c) (V c)) (text_at H es outputs r o) ≡ None =
-      sym (ap (λ (b : Bool). if b then option_and_then (λ x. differing x (text_for H n known ext m c) (V c)) (text_at H es outputs r o) else None) there) ∙ over in
-      differing-none (node_text_of t) (text_for H n known ext m c) (V c) (sym (ap (option_and_then (λ x. differing x (text_for H n known ext m c) (V c))) shown) ∙ text) ∙ sym (text_same c)
+      sym (ap (λ (b : Bool). if b then option_and_then (λ x. differing x (text_for H n known ext m c) (V c)) (text_at H es outputs r o) else None)
+      there) ∙ over in
+      differing-none (node_text_of t) (text_for H n known ext m c) (V c)
+      (sym (ap (option_and_then (λ x. differing x (text_for H n known ext m c) (V c))) shown) ∙ text) ∙ sym (text_same c)
 
   agree_at : first_of (map shown_at (places n)) ≡ None → (r o : ℕ) → InForest n r o → AgreeAt H es text_of ts leaf_texts hashes r o
   agree_at silent r o h c t e s v = (nothing_here r o c t e s v (none-at shown_at (places n) (place r o) silent (places_have n r o h)), has_digests c)
@@ -281,7 +301,8 @@ module _ (H : List ℕ → Digest) (long : (x : List ℕ) → IsDigest (H x)) (u
 
   root_is : (row : ℕ) (c : Cover) → is_slot n row ≡ true → cover ts row (root_off n row) ≡ Some c → root H es row ≡ Some (V c)
   root_is row c slot e =
-      acc.0.agrees row c slot e ∙ ap Some (value-same H (beside (H []) ts (leaves_of H leaf_text (points_of ext) m)) (λ r o. H (leaf_texts r o)) hashes (leaves_are H leaf_text ts rs) c)
+      acc.0.agrees row c slot e ∙ ap Some (value-same H (beside (H []) ts (leaves_of H leaf_text (points_of ext) m)) (λ r o. H (leaf_texts r o))
+      hashes (leaves_are H leaf_text ts rs) c)
 
   abbrev RightBy : ℕ → Type 0
   RightBy j = IsRight H leaf_text us (targets j m) k rs hs
@@ -299,7 +320,11 @@ module _ (H : List ℕ → Digest) (long : (x : List ℕ) → IsDigest (H x)) (u
 
   right_then : first_of (map shown_at (places n)) ≡ None → is_right H leaf_text us known (points_of ext) m ≡ true
   right_then silent =
-      (right_is_tested H leaf_text us known (points_of ext) m).1 (to_us RightBy (right silent), to_us (λ j. named j m ≡ map Some (targets j m)) acc.1, points_count)
+      (right_is_tested H leaf_text us known (points_of ext) m).1 (
+        to_us RightBy (right silent),
+        to_us (λ j. named j m ≡ map Some (targets j m)) acc.1,
+        points_count,
+      )
 
   -- ---- where two texts are shown
 
@@ -313,7 +338,8 @@ module _ (H : List ℕ → Digest) (long : (x : List ℕ) → IsDigest (H x)) (u
   covered_listed r o (given a b) e = absurd (not_given ts r o a b e)
   covered_listed r o (both l d) e = Contains-first _ _
 
-  is_clash : (r o : ℕ) (c : Cover) (t : Tree) (x : TextClash) → InForest n r o → cover ts r o ≡ Some c → tree_at es r o ≡ Some t → digest_of H t ≡ V c → IsMade (node_text_of t) (cover_text_of c) (V c) x → IsClash H us known (points_of ext) m x
+  is_clash : (r o : ℕ) (c : Cover) (t : Tree) (x : TextClash) → InForest n r o → cover ts r o ≡ Some c → tree_at es r o ≡ Some t → digest_of H t ≡ V c
+      → IsMade (node_text_of t) (cover_text_of c) (V c) x → IsClash H us known (points_of ext) m x
   is_clash r o c t x h e s v made =
       let node = node_listed H es text_of (n - r) r o t (node_text_of t) refl h s (first_listed t) in
       let covered = cover_listed H n ts acc.0.shape leaf_texts hashes (n - r) r o c (cover_text_of c) refl h e (covered_listed r o c e) in
@@ -325,13 +351,14 @@ module _ (H : List ℕ → Digest) (long : (x : List ℕ) → IsDigest (H x)) (u
           of_slot = to_us (λ j. content es node.row (root_off j node.row) ≡ Some node.tree) node.of_slot;
           listed = node.listed;
         });
-        of_proof = to_us (λ j. IsValueText H leaf_text j (targets j m) k rs hs x.second) (subst (IsValueText H leaf_text n ts k rs hs) (sym made.second) (record {
-          row = covered.row;
-          covered = covered.covered;
-          slot = covered.slot;
-          of_slot = covered.of_slot;
-          listed = covered.listed;
-        }));
+        of_proof = to_us (λ j. IsValueText H leaf_text j (targets j m) k rs hs x.second)
+            (subst (IsValueText H leaf_text n ts k rs hs) (sym made.second) (record {
+              row = covered.row;
+              covered = covered.covered;
+              slot = covered.slot;
+              of_slot = covered.of_slot;
+              listed = covered.listed;
+            }));
         differ = λ same. made.differ (sym made.first ∙ (same ∙ made.second));
         first_is = ap H made.first ∙ (node_digest r o t s ∙ (v ∙ sym made.digest));
         second_is = ap H made.second ∙ (own r o c e ∙ sym made.digest);
@@ -349,7 +376,8 @@ module _ (H : List ℕ → Digest) (long : (x : List ℕ) → IsDigest (H x)) (u
   shown_as : (p : Place) (x : TextClash) → shown_at p ≡ Some x → IsShownAt p x
   shown_as p x shows = by_cover (cover ts p.row p.off) refl shows
     where
-      by_text : (c : Cover) → cover ts p.row p.off ≡ Some c → digest_at H es p.row p.off ≡ Some (V c) → option_and_then (λ y. differing y (text_for H n known ext m c) (V c)) (text_at H es outputs p.row p.off) ≡ Some x
+      by_text : (c : Cover) → cover ts p.row p.off ≡ Some c → digest_at H es p.row p.off ≡ Some (V c)
+          → option_and_then (λ y. differing y (text_for H n known ext m c) (V c)) (text_at H es outputs p.row p.off) ≡ Some x
           → IsShownAt p x
       by_text c e there shows =
           let w = standing H (tree_at es p.row p.off) (V c) there in
@@ -365,7 +393,8 @@ module _ (H : List ℕ → Digest) (long : (x : List ℕ) → IsDigest (H x)) (u
           }
 
       by_digest : (c : Cover) → cover ts p.row p.off ≡ Some c → (b : Bool) → is_digest (V c) (digest_at H es p.row p.off) ≡ b
-          → (if b then option_and_then (λ y. differing y (text_for H n known ext m c) (V c)) (text_at H es outputs p.row p.off) else None) ≡ Some x → IsShownAt p x
+          → (if b then option_and_then (λ y. differing y (text_for H n known ext m c) (V c)) (text_at H es outputs p.row p.off) else None) ≡ Some x
+          → IsShownAt p x
       by_digest c e false t shows = absurd (none-some x shows)
       by_digest c e true t shows = by_text c e (there_is (V c) (digest_at H es p.row p.off) t) shows
 
@@ -377,13 +406,15 @@ module _ (H : List ℕ → Digest) (long : (x : List ℕ) → IsDigest (H x)) (u
   shown_is p x h shows = let w = shown_as p x shows in is_clash p.row p.off w.beneath w.node x h w.covered w.stands w.digests w.made
 
   -- what is accepted and not right shows two texts
-  pub shows : is_right H leaf_text us known (points_of ext) m ≡ false → (x : TextClash) × (clash_in H es outputs known ext m ≡ Some x) × IsClash H us known (points_of ext) m x
+  pub shows : is_right H leaf_text us known (points_of ext) m ≡ false → (x : TextClash) × (clash_in H es outputs known ext m ≡ Some x)
+      × IsClash H us known (points_of ext) m x
   shows wrong = by (first_of (map shown_at (places n))) refl
     where
       in_whole : clash_in H es outputs known ext m ≡ first_of (map shown_at (places n))
       in_whole = ap (λ y. if is_none y then first_of (map shown_at (places n)) else None) none
 
-      by : (y : Option TextClash) → first_of (map shown_at (places n)) ≡ y → (x : TextClash) × (clash_in H es outputs known ext m ≡ Some x) × IsClash H us known (points_of ext) m x
+      by : (y : Option TextClash) → first_of (map shown_at (places n)) ≡ y → (x : TextClash) × (clash_in H es outputs known ext m ≡ Some x)
+          × IsClash H us known (points_of ext) m x
       by None e = absurd (false≢true (sym wrong ∙ right_then e))
       by (Some x) e = let w = some-at shown_at (places n) x e in (x, in_whole ∙ e, shown_is w.0 x (places_had n w.0.row w.0.off w.1) w.2)
 
@@ -399,10 +430,13 @@ module _ (H : List ℕ → Digest) (long : (x : List ℕ) → IsDigest (H x)) (u
   never_shown : RightBy n → (p : Place) (x : TextClash) → InForest n p.row p.off → shown_at p ≡ Some x → ⊥
   never_shown r p x h shows =
       let w = shown_as p x shows in
-      let shown : map Some hs ≡ map (λ q. digest_at H es q.row q.off) (asked n ts k) = subst (λ j. map Some hs ≡ map (λ q. digest_at H es q.row q.off) (asked j ts k)) (sym same_length) r.shown in
-      w.made.differ (by_form w.beneath w.covered (right_agrees H leaf_text us ts k rs hs knows r.spends shown p.row p.off w.beneath w.node h w.covered w.stands))
+      let shown : map Some hs ≡ map (λ q. digest_at H es q.row q.off) (asked n ts k) =
+      subst (λ j. map Some hs ≡ map (λ q. digest_at H es q.row q.off) (asked j ts k)) (sym same_length) r.shown in
+      w.made.differ (by_form w.beneath w.covered
+      (right_agrees H leaf_text us ts k rs hs knows r.spends shown p.row p.off w.beneath w.node h w.covered w.stands))
     where
-      by_form : {t : List ℕ} (c : Cover) → cover ts p.row p.off ≡ Some c → (c ≡ target p.row p.off → t ≡ leaf_texts p.row p.off) × ((a d : Cover) → c ≡ both a d → t ≡ (V a).0 ++ (V d).0) → t ≡ cover_text_of c
+      by_form : {t : List ℕ} (c : Cover) → cover ts p.row p.off ≡ Some c → (c ≡ target p.row p.off → t ≡ leaf_texts p.row p.off)
+          × ((a d : Cover) → c ≡ both a d → t ≡ (V a).0 ++ (V d).0) → t ≡ cover_text_of c
       by_form (target a b) e w = let is = target_here ts p.row p.off a b e in w.0 is ∙ ap cover_text_of (sym is)
       by_form (given a b) e w = absurd (not_given ts p.row p.off a b e)
       by_form (both l d) e w = w.1 l d refl

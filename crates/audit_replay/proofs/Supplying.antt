@@ -1,5 +1,6 @@
 -- Sums over all entries, and over all heights.
-use Rattle.std.proofs.Common.{◌≡◌, ℕ, zero, suc, ◌+◌, ◌-◌, ◌*◌, ◌<◌, ◌≤◌, ◌^◌, ◌/◌, Bool, true, false, List, [], ◌∷◌, map, length, Option, Some, None, refl, sym, ap, ◌∙◌, subst, arith}
+use Rattle.std.proofs.Common.{◌≡◌, ℕ, zero, suc, ◌+◌, ◌-◌, ◌*◌, ◌<◌, ◌≤◌, ◌^◌, ◌/◌, Bool, true, false, List, [], ◌∷◌, map, length, Option, Some, None}
+use Rattle.std.proofs.Common.{refl, sym, ap, ◌∙◌, subst, arith}
 use Rattle.std.specs.Prelude.{nat_lt, if◌then◌else◌}
 use Rattle.std.specs.List.{range_with_len}
 use Rattle.std.proofs.lemmas.List.FromFn.{map-range_with_len_more}
@@ -30,7 +31,8 @@ supply-one (Some leaf) = omega arith
 pub live_more : (hs : List Held) (n : ℕ) → live_of hs (n + 1) ≡ live_of hs n + amount_at hs n
 live_more hs n =
     let more = map-range_with_len_more (live_leaf hs) 0 n n (let e : 0 + n ≡ n = omega arith in e) in
-    ap supply more ∙ (supply-append (map (live_leaf hs) (range_with_len 0 n)) (live_leaf hs n ∷ []) ∙ ap (λ x. live_of hs n + x) (supply-one (live_leaf hs n)))
+    ap supply more ∙ (supply-append (map (live_leaf hs) (range_with_len 0 n)) (live_leaf hs n ∷ [])
+    ∙ ap (λ x. live_of hs n + x) (supply-one (live_leaf hs n)))
 
 live_grows : (hs : List Held) (n k : ℕ) → live_of hs n ≤ live_of hs (n + k)
 live_grows hs n zero = (let e : n + 0 ≡ n = omega arith in subst (λ m. live_of hs n ≤ live_of hs m) (sym e) (omega arith))
@@ -59,13 +61,15 @@ issued_fits net k blocks lt low = let a = issued_low net (suc k) in omega (arith
 
 -- ---- an auditor's
 
-pub live_most : (H : List ℕ → Digest) (text : Leaf → List ℕ) (s : BridgeState) → IsAudit H text s → supply (history_of s) ≤ issued s.rules.net s.chain.blocks
+pub live_most : (H : List ℕ → Digest) (text : Leaf → List ℕ) (s : BridgeState) → IsAudit H text s
+    → supply (history_of s) ≤ issued s.rules.net s.chain.blocks
 live_most H text s a =
     let level = supply_is_of_level H text a.levels s a.is a.stands in
     let sound = a.sound.0 in
     omega (arith, level.0, level.1, sound)
 
-pub live_fits : (H : List ℕ → Digest) (text : Leaf → List ℕ) (s : BridgeState) → IsAudit H text s → (n : ℕ) → n < length s.entries → live_of s.held n + amount_at s.held n < 2 ^ 64
+pub live_fits : (H : List ℕ → Digest) (text : Leaf → List ℕ) (s : BridgeState) → IsAudit H text s → (n : ℕ) → n < length s.entries
+    → live_of s.held n + amount_at s.held n < 2 ^ 64
 live_fits H text s a n lt = by (length s.entries) lt (live_most H text s a)
   where
     by : (m : ℕ) → n < m → live_of s.held m ≤ issued s.rules.net s.chain.blocks → live_of s.held n + amount_at s.held n < 2 ^ 64

@@ -7,7 +7,8 @@ use Rattle.leaf_record.specs.History.{supply}
 use Rattle.block_rules.specs.declared.chain.Chain.{Chain}
 use Rattle.block_rules.specs.declared.verdict.Verdict.{Verdict}
 use Rattle.node_rules.specs.Judging.{Rules}
-use Rattle.node_rules.specs.Machine.{ChainEvent, State, start, issued, full_judge, verdict_before, verdicts, goes_on, state_after, never_stops, full_outcome}
+use Rattle.node_rules.specs.Machine.{ChainEvent, State, start, issued, full_judge, verdict_before, verdicts, goes_on, state_after, never_stops}
+use Rattle.node_rules.specs.Machine.{full_outcome}
 use Rattle.bridge_prover.specs.Standing.{Stands, IsBridge}
 use Rattle.bridge_prover.specs.Full.{watched_by, judged_on, next_judged}
 use Rattle.bridge_prover.proofs.Fully.{bridge_is_full, next_judged_is_bridge}
@@ -20,7 +21,8 @@ use Rattle.audit_replay.proofs.Auditing.{judged_rules, judged_scripts, forged_st
 module _ (H : List ℕ → Digest) (text : Leaf → List ℕ) (scripts : List (List ℕ)) (rules : Rules) where
   -- what is said of the first event, and of the later ones
   module _ (t : State) (s : AuditState) (e : ChainEvent) (es : List ChainEvent) (is : IsBridge H text s.bridge) (stands : Stands H text t s.bridge)
-      (one : let o = full_outcome H text scripts rules t e in (o.verdict ≡ judged_on H text s.bridge e) × Stands H text o.state (next_judged H text s.bridge e)) where
+      (one : let o = full_outcome H text scripts rules t e in
+      (o.verdict ≡ judged_on H text s.bridge e) × Stands H text o.state (next_judged H text s.bridge e)) where
     abbrev rest : State
     rest = (full_outcome H text scripts rules t e).state
 
@@ -32,17 +34,21 @@ module _ (H : List ℕ → Digest) (text : Leaf → List ℕ) (scripts : List (L
     last none =
         let stops = one.0 ∙ none in
         record {
-          said = ap (λ v. verdict_before v (verdicts_on H text next es)) none ∙ sym (ap (λ v. verdict_before v (verdicts rules (full_judge H text scripts rules) rest es)) stops);
+          said = ap (λ v. verdict_before v (verdicts_on H text next es)) none
+              ∙ sym (ap (λ v. verdict_before v (verdicts rules (full_judge H text scripts rules) rest es)) stops);
           ended =
               ap (λ (v : Option Verdict). (ends_at v next (audit_after H text next es)).ended) none
               ∙ (ap is_none none ∙ sym (ap (λ v. not (is_some v && never_stops rules (full_judge H text scripts rules) rest es)) stops));
           stands =
-              subst (λ v. Stands H text (state_after rules (full_judge H text scripts rules) t (e ∷ es)) (ends_at v next (audit_after H text next es)).bridge) (sym none)
-              (subst (λ v. Stands H text (goes_on v t (state_after rules (full_judge H text scripts rules) rest es)) (next_judged H text s.bridge e)) (sym stops)
+              subst (λ v. Stands H text (state_after rules (full_judge H text scripts rules) t (e ∷ es))
+              (ends_at v next (audit_after H text next es)).bridge) (sym none)
+              (subst (λ v. Stands H text (goes_on v t (state_after rules (full_judge H text scripts rules) rest es)) (next_judged H text s.bridge e))
+              (sym stops)
               (subst (Stands H text t) (sym (forged_stays H text s.bridge e is none)) stands));
         }
 
-    more : (v : Verdict) → judged_on H text s.bridge e ≡ Some v → AuditsThroughout H text scripts rules rest next es → AuditsThroughout H text scripts rules t s (e ∷ es)
+    more : (v : Verdict) → judged_on H text s.bridge e ≡ Some v → AuditsThroughout H text scripts rules rest next es
+        → AuditsThroughout H text scripts rules t s (e ∷ es)
     more v some later =
         let told = one.0 ∙ some in
         record {
@@ -53,24 +59,33 @@ module _ (H : List ℕ → Digest) (text : Leaf → List ℕ) (scripts : List (L
               ap (λ (v : Option Verdict). (ends_at v next (audit_after H text next es)).ended) some
               ∙ (later.ended ∙ sym (ap (λ v. not (is_some v && never_stops rules (full_judge H text scripts rules) rest es)) told));
           stands =
-              subst (λ v. Stands H text (state_after rules (full_judge H text scripts rules) t (e ∷ es)) (ends_at v next (audit_after H text next es)).bridge) (sym some)
-              (subst (λ v. Stands H text (goes_on v t (state_after rules (full_judge H text scripts rules) rest es)) (audit_after H text next es).bridge) (sym told) later.stands);
+              subst (λ v. Stands H text (state_after rules (full_judge H text scripts rules) t (e ∷ es))
+              (ends_at v next (audit_after H text next es)).bridge) (sym some)
+              (subst (λ v. Stands H text (goes_on v t (state_after rules (full_judge H text scripts rules) rest es))
+              (audit_after H text next es).bridge) (sym told) later.stands);
         }
 
   abbrev One : State → AuditState → ChainEvent → Type 0
-  One t s e = let o = full_outcome H text scripts rules t e in (o.verdict ≡ judged_on H text s.bridge e) × Stands H text o.state (next_judged H text s.bridge e)
+  One t s e = let o = full_outcome H text scripts rules t e in
+      (o.verdict ≡ judged_on H text s.bridge e) × Stands H text o.state (next_judged H text s.bridge e)
 
-  agrees : (events : List ChainEvent) (t : State) (s : AuditState) → s.bridge.rules ≡ rules → watched_by s.bridge ≡ scripts → IsBridge H text s.bridge → Stands H text t s.bridge → s.ended ≡ false → AuditsThroughout H text scripts rules t s events
+  agrees : (events : List ChainEvent) (t : State) (s : AuditState) → s.bridge.rules ≡ rules → watched_by s.bridge ≡ scripts → IsBridge H text s.bridge
+      → Stands H text t s.bridge → s.ended ≡ false → AuditsThroughout H text scripts rules t s events
   agrees [] t s same watched is stands going = record { said = refl; ended = going; stands = stands }
   agrees (e ∷ es) t s same watched is stands going =
       let full = bridge_is_full H text s.bridge e is t stands in
       let one : One t s e =
-      subst (λ r. let o = full_outcome H text scripts r t e in (o.verdict ≡ judged_on H text s.bridge e) × Stands H text o.state (next_judged H text s.bridge e)) same
-      (subst (λ w. let o = full_outcome H text w s.bridge.rules t e in (o.verdict ≡ judged_on H text s.bridge e) × Stands H text o.state (next_judged H text s.bridge e)) watched full) in
+      subst (λ r. let o = full_outcome H text scripts r t e in
+      (o.verdict ≡ judged_on H text s.bridge e) × Stands H text o.state (next_judged H text s.bridge e)) same
+      (subst (λ w. let o = full_outcome H text w s.bridge.rules t e in
+      (o.verdict ≡ judged_on H text s.bridge e) × Stands H text o.state (next_judged H text s.bridge e)) watched full) in
       by one (judged_on H text s.bridge e) refl
-      (agrees es (full_outcome H text scripts rules t e).state (next_audit H text s e) (judged_rules H text s.bridge e ∙ same) (judged_scripts H text s.bridge e ∙ watched) (next_judged_is_bridge H text s.bridge e is) one.1)
+      (agrees es (full_outcome H text scripts rules t e).state (next_audit H text s e) (judged_rules H text s.bridge e ∙ same)
+      (judged_scripts H text s.bridge e ∙ watched) (next_judged_is_bridge H text s.bridge e is) one.1)
     where
-      by : One t s e → (v : Option Verdict) → judged_on H text s.bridge e ≡ v → ((next_audit H text s e).ended ≡ false → AuditsThroughout H text scripts rules (full_outcome H text scripts rules t e).state (next_audit H text s e) es) → AuditsThroughout H text scripts rules t s (e ∷ es)
+      by : One t s e → (v : Option Verdict) → judged_on H text s.bridge e ≡ v
+          → ((next_audit H text s e).ended ≡ false → AuditsThroughout H text scripts rules (full_outcome H text scripts rules t e).state
+          (next_audit H text s e) es) → AuditsThroughout H text scripts rules t s (e ∷ es)
       by one None none later = last t s e es is stands one none
       by one (Some v) some later = more t s e es is stands one v some (later (ap is_none some))
 
@@ -79,8 +94,11 @@ audit_is_full_throughout H text t s events is stands going = agrees H text (watc
 
 pub fresh_is_full : FreshIsFull
 fresh_is_full H text net limits scripts few events =
-    audit_is_full_throughout H text start (fresh_audit net limits scripts) events (fresh_is_bridge H text net limits (Some scripts) few) (fresh_stands H text net limits (Some scripts)) refl
+    audit_is_full_throughout H text start (fresh_audit net limits scripts) events (fresh_is_bridge H text net limits (Some scripts) few)
+    (fresh_stands H text net limits (Some scripts)) refl
 
 pub supply_is_of_level : SupplyIsOfLevel
-supply_is_of_level H text t s is stands =
-    (ap supply (is_history H text s t.now.history (newest_history H text t s is stands)), ap (λ (c : Chain). issued s.rules.net c.blocks) stands.chain)
+supply_is_of_level H text t s is stands = (
+  ap supply (is_history H text s t.now.history (newest_history H text t s is stands)),
+  ap (λ (c : Chain). issued s.rules.net c.blocks) stands.chain,
+)

@@ -16,7 +16,8 @@ use Rattle.node_rules.specs.Messages.{Message, points_of}
 use Rattle.node_rules.specs.Reading.{read}
 use Rattle.node_rules.specs.Fitting.{EventFits}
 use Rattle.node_rules.specs.Judging.{Rules, is_forged}
-use Rattle.node_rules.specs.Machine.{ChainEvent, BlockCame, Level, State, start, chain_of, issued, full_judge, verdict_before, verdicts, state_after, never_stops}
+use Rattle.node_rules.specs.Machine.{ChainEvent, BlockCame, Level, State, start, chain_of, issued, full_judge, verdict_before, verdicts, state_after}
+use Rattle.node_rules.specs.Machine.{never_stops}
 use Rattle.bridge_prover.specs.Bridge.{BridgeState}
 use Rattle.bridge_prover.specs.Standing.{IsBridge, Stands}
 use Rattle.bridge_prover.specs.Full.{history_of, judged_on, watched_by}
@@ -41,14 +42,16 @@ audit_after H text s (e ∷ es) = ends_at (judged_on H text s.bridge e) (next_au
 
 -- the auditor says of each what the node says that holds every output, has ended exactly where that one has no verdict on one of them, which
 -- is the first forged one, and stands for what it holds then
-pub record AuditsThroughout (H : List ℕ → Digest) (text : Leaf → List ℕ) (scripts : List (List ℕ)) (rules : Rules) (t : State) (s : AuditState) (events : List ChainEvent) : Type 0 where
+pub record AuditsThroughout (H : List ℕ → Digest) (text : Leaf → List ℕ) (scripts : List (List ℕ)) (rules : Rules) (t : State) (s : AuditState)
+    (events : List ChainEvent) : Type 0 where
   pub said : verdicts_on H text s events ≡ verdicts rules (full_judge H text scripts rules) t events
   pub ended : (audit_after H text s events).ended ≡ not (never_stops rules (full_judge H text scripts rules) t events)
   pub stands : Stands H text (state_after rules (full_judge H text scripts rules) t events) (audit_after H text s events).bridge
 
 -- each that stands for that node and has not ended does so
 abbrev pub AuditIsFullThroughout : Type 0
-AuditIsFullThroughout = (H : List ℕ → Digest) (text : Leaf → List ℕ) (t : State) (s : AuditState) (events : List ChainEvent) → IsBridge H text s.bridge → Stands H text t s.bridge → s.ended ≡ false →
+AuditIsFullThroughout = (H : List ℕ → Digest) (text : Leaf → List ℕ) (t : State) (s : AuditState) (events : List ChainEvent)
+    → IsBridge H text s.bridge → Stands H text t s.bridge → s.ended ≡ false →
     AuditsThroughout H text (watched_by s.bridge) s.bridge.rules t s events
 
 -- and each from its start
@@ -68,17 +71,17 @@ abbrev pub shown_on : (List ℕ → Digest) → AuditState → List ChainEvent �
 shown_on H s [] = None
 shown_on H s (e ∷ es) = shown_or (judged_on H leaf_text s.bridge e) (clash_on H s.bridge e) (shown_on H (next_audit H leaf_text s e) es)
 
--- two texts are shown, and they are different and have one digest: one is that of a node of this history, and the proof in the message
--- digests the other
+-- two texts are shown, and they are different and have one digest: one is that of a node of this history, and the proof in the message digests the
+-- other
 pub record AreShown (H : List ℕ → Digest) (shown : Option TextClash) (scripts : List (List ℕ)) (l : Level) (b : Block) (m : Message) : Type 0 where
   pub clash : TextClash
   pub shows : shown ≡ Some clash
   pub is : IsClash H l.history (known_at H leaf_text scripts l.history) (points_of (external b l.blocks)) m clash
 
--- where an event is forged to the node that holds every output, behind events of which none is, an auditor shows two such texts, whatever
--- comes later
+-- where an event is forged to the node that holds every output, behind events of which none is, an auditor shows two such texts, whatever comes later
 abbrev pub FreshShowsForged : Type 0
-FreshShowsForged = (H : List ℕ → Digest) → ((x : List ℕ) → IsDigest (H x)) → (net : Net) (limits : Limits) (scripts : List (List ℕ)) → limits.leaves < 2 ^ 40 →
+FreshShowsForged = (H : List ℕ → Digest) → ((x : List ℕ) → IsDigest (H x)) → (net : Net) (limits : Limits) (scripts : List (List ℕ))
+    → limits.leaves < 2 ^ 40 →
     let rules : Rules = record { net = net; limits = limits } in
     (front later : List ChainEvent) (b : Block) (m : Message) → AllByRecursion EventFits front → BlockFits b → ProofFits m.proof →
     let l = (state_after rules (full_judge H leaf_text scripts rules) start front).now in

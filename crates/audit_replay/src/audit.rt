@@ -112,7 +112,8 @@ impl<D: Digester> Audit<D> {
 
         // Where it stands for what the node holds that holds every output, it says what that node says, and that the event is
         // forged where that one has no verdict, and stands for what that node holds then.
-        ensures refines { IfOk result (λ line. JudgesAsFull D.digest_of leaf_text self.old.bridge (event_in (event_of event.entry)) (verdict_in line) self.new.bridge) }
+        ensures refines { IfOk result (λ line. JudgesAsFull D.digest_of leaf_text self.old.bridge (event_in (event_of event.entry)) (verdict_in line)
+            self.new.bridge) }
     {
         match self.bridge.judge(event, steps)? {
             Judged::Verdict(verdict) => Ok(AuditLine::Verdict(verdict)),

@@ -31,7 +31,8 @@ fn clash_of<D: Digester, L: Ledger>(
     requires is { IsAudit D.digest_of leaf_text bridge.now }
     requires forged { judged_on D.digest_of leaf_text bridge.now (BlockCame (Some block.now) (handed_in (option_copied message))) ≡ None }
     ensures shows { IfOk result (λ clash. IsClashOf D.digest_of bridge.now block.now (handed_in (option_copied message.entry)) clash) }
-    ensures which { IfOk result (λ clash. clash_beside D.digest_of bridge.now (external block.now bridge.now.chain.blocks) (handed_in (option_copied message.entry)) ≡ Some clash) }
+    ensures which { IfOk result (λ clash. clash_beside D.digest_of bridge.now (external block.now bridge.now.chain.blocks)
+        (handed_in (option_copied message.entry)) ≡ Some clash) }
 {
     let chain = bridge.chain();
     let spends = match shape_rules(alloc, block, &chain, bridge.net(), bridge.limits()) {

@@ -33,12 +33,14 @@ pub header_is_front : (bytes : List ℕ) (txids : List Digest) (b : Block) → I
 header_is_front bytes txids b v = rw v.text (take_at (header_text b.header) (counted tx_text b.txs) 80 (header_len b.header v.fits.header))
 
 pub header_inside : (bytes : List ℕ) (txids : List Digest) (b : Block) → IsBlockView bytes txids b → 80 ≤ length bytes
-header_inside bytes txids b v = rw v.text (omega (arith, header_len b.header v.fits.header, length-append (header_text b.header) (counted tx_text b.txs)))
+header_inside bytes txids b v = rw v.text
+    (omega (arith, header_len b.header v.fits.header, length-append (header_text b.header) (counted tx_text b.txs)))
 
 -- ---- the weight
 
 -- one text more
-flat-more : {X : Type 0} (f : X → List ℕ) (xs : List X) (i : ℕ) (x : X) → i < length xs → x ≡ get_or xs i x → length (flat_map f (take (i + 1) xs)) ≡ length (flat_map f (take i xs)) + length (f x)
+flat-more : {X : Type 0} (f : X → List ℕ) (xs : List X) (i : ℕ) (x : X) → i < length xs → x ≡ get_or xs i x
+    → length (flat_map f (take (i + 1) xs)) ≡ length (flat_map f (take i xs)) + length (f x)
 flat-more f xs i x lt is =
     let one : flat_map f (x ∷ []) ≡ f x = rw flat_map-cons (append-nil (f x)) in
     rw (take_more xs i x lt, ← is, flat_map-append, one) (length-append (flat_map f (take i xs)) (f x))
@@ -46,9 +48,11 @@ flat-more f xs i x lt is =
 -- what the witnesses of the first i transactions have, and of one more
 pub record WitnessMore (w i : ℕ) (txs : List Transaction) (tx : Transaction) : Type 0 where
   pub below : w + (length (tx_text tx) - length (legacy_text tx)) < 2 ^ 32
-  pub adds : w + (length (tx_text tx) - length (legacy_text tx)) + length (flat_map legacy_text (take (i + 1) txs)) ≡ length (flat_map tx_text (take (i + 1) txs))
+  pub adds : w + (length (tx_text tx) - length (legacy_text tx)) + length (flat_map legacy_text (take (i + 1) txs))
+      ≡ length (flat_map tx_text (take (i + 1) txs))
 
-pub witness_more : (w i : ℕ) (txs : List Transaction) (tx : Transaction) → i < length txs → tx ≡ get_or txs i tx → length (flat_map tx_text txs) < 2 ^ 32
+pub witness_more : (w i : ℕ) (txs : List Transaction) (tx : Transaction) → i < length txs → tx ≡ get_or txs i tx
+    → length (flat_map tx_text txs) < 2 ^ 32
     → w + length (flat_map legacy_text (take i txs)) ≡ length (flat_map tx_text (take i txs)) → WitnessMore w i txs tx
 witness_more w i txs tx lt is all so_far =
     let inside : length (flat_map tx_text (take i txs)) + length (tx_text tx) ≤ length (flat_map tx_text txs) =

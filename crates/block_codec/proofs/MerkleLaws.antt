@@ -1,5 +1,6 @@
 -- Levels of the merkle tree, what is repeated on them, and where they end.
-use Rattle.std.proofs.Common.{◌≡◌, ℕ, zero, suc, ◌+◌, ◌-◌, ◌*◌, ◌^◌, ◌<◌, ◌≤◌, Bool, true, false, ◌⊎◌, List, [], ◌∷◌, ◌++◌, length, map, get_or, refl, sym, ap, subst, ◌∙◌, arith, inl, inr, add-one, add-zero}
+use Rattle.std.proofs.Common.{◌≡◌, ℕ, zero, suc, ◌+◌, ◌-◌, ◌*◌, ◌^◌, ◌<◌, ◌≤◌, Bool, true, false, ◌⊎◌, List, [], ◌∷◌, ◌++◌, length, map, get_or, refl}
+use Rattle.std.proofs.Common.{sym, ap, subst, ◌∙◌, arith, inl, inr, add-one, add-zero}
 use Rattle.std.specs.List.{flat_map, range_with_len}
 use Rattle.std.specs.Fn.{iterate}
 use Rattle.std.specs.Cmp.Lexicographic.{same_text, other_text}
@@ -139,7 +140,8 @@ flat-none g a (suc n) none =
     let here : g a ≡ [] = none a (omega arith) (omega arith) in
     rw (flat_map-cons, here) (flat-none g (a + 1) n (λ l le lt. none l (omega arith) (omega arith)))
 
-flat-first : {X : Type 0} (g : ℕ → List X) (a n k : ℕ) (x : X) → a ≤ k → k < a + n → ((l : ℕ) → a ≤ l → l < k → g l ≡ []) → HasFirst x (g k) → HasFirst x (flat_map g (range_with_len a n))
+flat-first : {X : Type 0} (g : ℕ → List X) (a n k : ℕ) (x : X) → a ≤ k → k < a + n → ((l : ℕ) → a ≤ l → l < k → g l ≡ []) → HasFirst x (g k)
+    → HasFirst x (flat_map g (range_with_len a n))
 flat-first g a zero k x le lt none begins = absurd (omega arith)
 flat-first {X = X} g a (suc n) k x le lt none begins = by_order (flat-first g (a + 1) n k x) (cases_lt a k) where
   rest : List X
@@ -148,7 +150,8 @@ flat-first {X = X} g a (suc n) k x le lt none begins = by_order (flat-first g (a
   here : a ≡ k → HasFirst x (flat_map g (range_with_len a (suc n)))
   here same = (begins.0 ++ rest, rw (flat_map-cons, same, begins.1) refl)
 
-  by_order : (a + 1 ≤ k → k < a + 1 + n → ((l : ℕ) → a + 1 ≤ l → l < k → g l ≡ []) → HasFirst x (g k) → HasFirst x rest) → (a < k) ⊎ (k ≤ a) → HasFirst x (flat_map g (range_with_len a (suc n)))
+  by_order : (a + 1 ≤ k → k < a + 1 + n → ((l : ℕ) → a + 1 ≤ l → l < k → g l ≡ []) → HasFirst x (g k) → HasFirst x rest) → (a < k) ⊎ (k ≤ a)
+      → HasFirst x (flat_map g (range_with_len a (suc n)))
   by_order others (inr ge) = here (omega arith)
   by_order others (inl below) =
       let first : g a ≡ [] = none a (omega arith) below in
@@ -162,10 +165,12 @@ of_level ids k = map (λ place. (k, place)) (repeats_from 0 (level ids k))
 abbrev pub Clear : List Digest → ℕ → Type 0
 Clear ids k = (l : ℕ) → l < k → repeats_from 0 (level ids l) ≡ []
 
-merkle-repeat : (ids : List Digest) (k place : ℕ) → k < length ids → Clear ids k → HasFirst place (repeats_from 0 (level ids k)) → merkle_of ids ≡ Repeated k place
+merkle-repeat : (ids : List Digest) (k place : ℕ) → k < length ids → Clear ids k → HasFirst place (repeats_from 0 (level ids k))
+    → merkle_of ids ≡ Repeated k place
 merkle-repeat ids k place lt clear begins =
     let here : HasFirst (k, place) (of_level ids k) = (map (λ p. (k, p)) begins.0, rw begins.1 refl) in
-    let first : HasFirst (k, place) (repeats ids) = flat-first (of_level ids) 0 (length ids) k (k, place) (omega arith) (omega arith) (λ l le below. rw (clear l below) refl) here in
+    let first : HasFirst (k, place) (repeats ids) =
+    flat-first (of_level ids) 0 (length ids) k (k, place) (omega arith) (omega arith) (λ l le below. rw (clear l below) refl) here in
     rw first.1 refl
 
 root-of : (ids : List Digest) (k : ℕ) (root : Digest) → k ≤ length ids → Clear ids k → level ids k ≡ root ∷ [] → merkle_of ids ≡ Root root
@@ -206,7 +211,8 @@ climbed-below ids hashes k lt c = by_order (cases_lt k 32) where
   by_order (inl below) = below
   by_order (inr above) = let top : 32 - k ≡ 0 = omega arith in let one = rw top at c.narrow in absurd (omega (arith, one))
 
-pub climbed-more : (ids hashes above : List Digest) (k : ℕ) → 1 < length hashes → repeats_from 0 hashes ≡ [] → above ≡ paired hashes → Climbed ids hashes k → Climbed ids above (k + 1)
+pub climbed-more : (ids hashes above : List Digest) (k : ℕ) → 1 < length hashes → repeats_from 0 hashes ≡ [] → above ≡ paired hashes
+    → Climbed ids hashes k → Climbed ids above (k + 1)
 climbed-more ids hashes above k lt none is c =
     let half = length-paired hashes in
     let len : length above ≡ length (paired hashes) = ap length is in
@@ -225,7 +231,8 @@ climbed-more ids hashes above k lt none is c =
       by_order l (inl below) before = c.clear l below
       by_order l (inr at) before = let same : l ≡ k = omega arith in rw (same, c.level_is) none
 
-pub climbed-repeat : (ids hashes : List Digest) (k place : ℕ) → 1 < length hashes → HasFirst place (repeats_from 0 hashes) → Climbed ids hashes k → (merkle_of ids ≡ Repeated k place) × IsFirstRepeat ids k place
+pub climbed-repeat : (ids hashes : List Digest) (k place : ℕ) → 1 < length hashes → HasFirst place (repeats_from 0 hashes) → Climbed ids hashes k
+    → (merkle_of ids ≡ Repeated k place) × IsFirstRepeat ids k place
 climbed-repeat ids hashes k place lt begins c =
     let at_level : HasFirst place (repeats_from 0 (level ids k)) = rw c.level_is begins in
     let first = first-repeat (level ids k) 0 place at_level in
@@ -243,7 +250,8 @@ one-hash [] root some few is = absurd (omega arith)
 one-hash (x ∷ []) root some few is = ap (λ (d : Digest). d ∷ []) (sym is)
 one-hash (x ∷ y ∷ xs) root some few is = absurd (omega arith)
 
-pub climbed-root : (ids hashes : List Digest) (k : ℕ) (root : Digest) → length hashes ≤ 1 → root ≡ get_or hashes 0 root → Climbed ids hashes k → (merkle_of ids ≡ Root root) × IsRoot ids root
+pub climbed-root : (ids hashes : List Digest) (k : ℕ) (root : Digest) → length hashes ≤ 1 → root ≡ get_or hashes 0 root → Climbed ids hashes k
+    → (merkle_of ids ≡ Root root) × IsRoot ids root
 climbed-root ids hashes k root few is c =
     let top : level ids k ≡ root ∷ [] = c.level_is ∙ one-hash hashes root c.some few is in (
       root-of ids k root (omega (arith, c.fewer)) c.clear top,

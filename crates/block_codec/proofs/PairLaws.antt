@@ -1,5 +1,6 @@
 -- Pairs of a level, one after the other.
-use Rattle.std.proofs.Common.{◌≡◌, ℕ, suc, ◌+◌, ◌*◌, ◌<◌, ◌≤◌, Bool, true, false, List, [], ◌∷◌, ◌++◌, length, take, drop, set, get_or, refl, sym, ap, ◌∙◌, arith, append_assoc, append-nil}
+use Rattle.std.proofs.Common.{◌≡◌, ℕ, suc, ◌+◌, ◌*◌, ◌<◌, ◌≤◌, Bool, true, false, List, [], ◌∷◌, ◌++◌, length, take, drop, set, get_or, refl, sym, ap}
+use Rattle.std.proofs.Common.{◌∙◌, arith, append_assoc, append-nil}
 use Rattle.std.proofs.lemmas.List.{take_more_set, drop-set-lt, drop_all, drop-drop}
 use Rattle.std.proofs.Math.ListN.{length-set}
 use Rattle.std.proofs.Math.Seq.{drop-cons}
@@ -12,7 +13,8 @@ use Rattle.block_codec.specs.Pairs.{HasFirst, IsAbove, TellsRepeat}
 at_last : (xs : List Digest) (k : ℕ) (d : Digest) → k < length xs → length xs ≤ k + 1 → drop k xs ≡ get_or xs k d ∷ []
 at_last xs k d lt end = drop-cons xs k d lt ∙ ap (λ (ys : List Digest). get_or xs k d ∷ ys) (drop_all (suc k) xs (omega arith))
 
-at_pair : (xs : List Digest) (k : ℕ) (d right : Digest) → k + 1 < length xs → right ≡ get_or xs (k + 1) right → drop k xs ≡ get_or xs k d ∷ right ∷ drop (k + 2) xs
+at_pair : (xs : List Digest) (k : ℕ) (d right : Digest) → k + 1 < length xs → right ≡ get_or xs (k + 1) right
+    → drop k xs ≡ get_or xs k d ∷ right ∷ drop (k + 2) xs
 at_pair xs k d right lt is =
     let first : drop k xs ≡ get_or xs k d ∷ drop (suc k) xs = drop-cons xs k d (omega arith) in
     let second : drop (suc k) xs ≡ get_or xs (suc k) right ∷ drop (suc (suc k)) xs = drop-cons xs (suc k) right (omega arith) in
@@ -22,11 +24,13 @@ at_pair xs k d right lt is =
 
 -- ---- what its first pair gives
 
-pub last_above : (xs : List Digest) (k : ℕ) (d : Digest) → k < length xs → length xs ≤ k + 1 → IsAbove (hash_over (get_or xs k d) (get_or xs k d)) (drop k xs)
+pub last_above : (xs : List Digest) (k : ℕ) (d : Digest) → k < length xs → length xs ≤ k + 1
+    → IsAbove (hash_over (get_or xs k d) (get_or xs k d)) (drop k xs)
 unfolding paired
 last_above xs k d lt end = rw (at_last xs k d lt end) refl
 
-pub both_above : (xs : List Digest) (k : ℕ) (d right : Digest) → k + 1 < length xs → right ≡ get_or xs (k + 1) right → IsAbove (hash_over (get_or xs k d) right) (drop k xs)
+pub both_above : (xs : List Digest) (k : ℕ) (d right : Digest) → k + 1 < length xs → right ≡ get_or xs (k + 1) right
+    → IsAbove (hash_over (get_or xs k d) right) (drop k xs)
 unfolding paired
 both_above xs k d right lt is = rw (at_pair xs k d right lt is) refl
 
@@ -35,7 +39,8 @@ pub last_tells : (xs : List Digest) (k : ℕ) → k < length xs → length xs �
 unfolding repeats_from
 last_tells xs k lt end = let none : Digest = record { 0 = [] } in rw (at_last xs k none lt end) (λ place. refl)
 
-pub both_tell : (xs : List Digest) (k : ℕ) (d right : Digest) → k + 1 < length xs → right ≡ get_or xs (k + 1) right → TellsRepeat (is_same (get_or xs k d) right) (drop k xs)
+pub both_tell : (xs : List Digest) (k : ℕ) (d right : Digest) → k + 1 < length xs → right ≡ get_or xs (k + 1) right
+    → TellsRepeat (is_same (get_or xs k d) right) (drop k xs)
 unfolding repeats_from
 both_tell xs k d right lt is = rw (at_pair xs k d right lt is) (by_test (is_same (get_or xs k d) right) refl)
   where
@@ -58,7 +63,8 @@ left-of now i hash =
     let next : 2 * i + 2 ≡ 2 * (i + 1) = omega arith in
     rw (drop-drop, next, drop-set-lt (2 * (i + 1)) now i hash (omega arith)) refl
 
-pub lifted-more : (start now : List Digest) (i : ℕ) (hash : Digest) → 2 * i < length now → IsAbove hash (drop (2 * i) now) → Lifted start now i → Lifted start (set now i hash) (i + 1)
+pub lifted-more : (start now : List Digest) (i : ℕ) (hash : Digest) → 2 * i < length now → IsAbove hash (drop (2 * i) now) → Lifted start now i
+    → Lifted start (set now i hash) (i + 1)
 lifted-more start now i hash lt gives r =
     let inside : i < length now = omega arith in
     record {

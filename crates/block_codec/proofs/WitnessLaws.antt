@@ -1,5 +1,6 @@
 -- Up to the root over ids, whatever is repeated.
-use Rattle.std.proofs.Common.{◌≡◌, ℕ, suc, ◌+◌, ◌<◌, ◌≤◌, List, [], ◌∷◌, ◌++◌, length, map, drop, replicate, get_or, Option, Some, None, refl, sym, ap, ◌∙◌, arith}
+use Rattle.std.proofs.Common.{◌≡◌, ℕ, suc, ◌+◌, ◌<◌, ◌≤◌, List, [], ◌∷◌, ◌++◌, length, map, drop, replicate, get_or, Option, Some, None, refl, sym}
+use Rattle.std.proofs.Common.{ap, ◌∙◌, arith}
 use Rattle.std.proofs.lemmas.List.{map-append, length-map}
 use Rattle.std.specs.Option.{option_or}
 use Rattle.uo_digest.specs.declared.digest.Digest.{Digest}
@@ -29,24 +30,28 @@ level-next ids hashes above lt is l = record {
   fewer = omega (arith, paired-fewer hashes above lt is, l.fewer);
 }
 
-pub level-root : (ids hashes : List Digest) (root : Digest) → length hashes ≤ 1 → root ≡ get_or hashes 0 root → IsLevel ids hashes → root ≡ merkle_root ids
+pub level-root : (ids hashes : List Digest) (root : Digest) → length hashes ≤ 1 → root ≡ get_or hashes 0 root → IsLevel ids hashes
+    → root ≡ merkle_root ids
 level-root ids hashes root few is l =
     let top : level ids l.number ≡ root ∷ [] = l.level_is ∙ one-hash hashes root l.some few is in
     rw (root-later ids root l.number (length ids) (omega (arith, l.fewer)) top) refl
 
 -- ---- the last output goes before
 
-pub last-more : (outputs : List Output) (output : Output) → last_commitment (outputs ++ output ∷ []) ≡ option_or (commitment_in output.script) (last_commitment outputs)
+pub last-more : (outputs : List Output) (output : Output)
+    → last_commitment (outputs ++ output ∷ []) ≡ option_or (commitment_in output.script) (last_commitment outputs)
 last-more [] output = before_none (commitment_in output.script) where
   before_none : (x : Option Digest) → x ≡ option_or x None
   before_none None = refl
   before_none (Some x) = refl
-last-more (first ∷ outputs) output = ap (λ x. option_or x (commitment_in first.script)) (last-more outputs output) ∙ behind (commitment_in output.script) (last_commitment outputs) (commitment_in first.script) where
-  behind : (x y z : Option Digest) → option_or (option_or x y) z ≡ option_or x (option_or y z)
-  behind None y z = refl
-  behind (Some x) y z = refl
+last-more (first ∷ outputs) output = ap (λ x. option_or x (commitment_in first.script)) (last-more outputs output)
+    ∙ behind (commitment_in output.script) (last_commitment outputs) (commitment_in first.script) where
+      behind : (x y z : Option Digest) → option_or (option_or x y) z ≡ option_or x (option_or y z)
+      behind None y z = refl
+      behind (Some x) y z = refl
 
-pub taken-more : (outputs : List OutView) (output : OutView) (last found : Option Digest) → last ≡ last_commitment (map output_of outputs) → found ≡ commitment_in output.script.now
+pub taken-more : (outputs : List OutView) (output : OutView) (last found : Option Digest) → last ≡ last_commitment (map output_of outputs)
+    → found ≡ commitment_in output.script.now
     → option_or found last ≡ last_commitment (map output_of (outputs ++ output ∷ []))
 taken-more outputs output last found so_far is =
     rw (so_far, is) (sym (ap last_commitment (map-append output_of outputs (output ∷ [])) ∙ last-more (map output_of outputs) (output_of output)))

@@ -29,7 +29,8 @@ impl<'a> Model for BlockView<'a> {
 
     ghost view = { λ s. block_of s.header s.txs.items };
 
-    ghost invariant = { λ s. IsBlockView s.bytes.now s.txids.items (block_of s.header s.txs.items) × (s.hash ≡ block_hash_of (block_of s.header s.txs.items)) };
+    ghost invariant = { λ s. IsBlockView s.bytes.now s.txids.items (block_of s.header s.txs.items)
+        × (s.hash ≡ block_hash_of (block_of s.header s.txs.items)) };
 }
 
 impl<'a> BlockView<'a> {
@@ -72,8 +73,7 @@ impl<'a> BlockView<'a> {
     }
 }
 
-/// SHA-256 of SHA-256 of the header, which names the block. It was hashed when the block was read, and is printed with its
-/// bytes reversed.
+/// SHA-256 of SHA-256 of the header, which names the block. It was hashed when the block was read, and is printed with its bytes reversed.
 pub fn block_hash(block: &BlockView<'_>) -> Digest
     ensures { result ≡ block_hash_of block.now }
 {

@@ -8,7 +8,8 @@ use Rattle.tx_codec.specs.Transaction.{Output, Transaction}
 use Rattle.leaf_record.specs.Leaf.{Outpoint, Leaf}
 use Rattle.leaf_record.specs.History.{somes, Entry, entry_if, History, newer, newest, same_point}
 use Rattle.block_rules.specs.declared.origins.Origins.{Origins}
-use Rattle.block_rules.specs.Blocks.{is_spendable, leaf_of, made_from, made_by, Placed, placed_from, Spend, once_taken, taken, spends_from, left_from, groups_from, left_of_all}
+use Rattle.block_rules.specs.Blocks.{is_spendable, leaf_of, made_from, made_by, Placed, placed_from, Spend, once_taken, taken, spends_from, left_from}
+use Rattle.block_rules.specs.Blocks.{groups_from, left_of_all}
 use Rattle.block_rules.specs.Kept.{kept_from}
 use Rattle.block_rules.specs.Known.{origin_at, history_at}
 use Rattle.block_rules.specs.Laws.{latest}
@@ -42,17 +43,20 @@ taken_is : (p : Outpoint) (us : History) → somes (taken p us) ≡ without p (s
 taken_is p [] = refl
 taken_is p (u ∷ us) = by_case u (newest p us) (taken_is p us) (sym (found_is p us))
   where
-    by_case : (u : Option Leaf) (n : Option Entry) → somes (once_taken n us) ≡ without p (somes us) → latest p (somes us) ≡ option_map (λ e. e.leaf) n → somes (once_taken (newer p u n) (u ∷ us)) ≡ without p (somes (u ∷ us))
+    by_case : (u : Option Leaf) (n : Option Entry) → somes (once_taken n us) ≡ without p (somes us) → latest p (somes us) ≡ option_map (λ e. e.leaf) n
+        → somes (once_taken (newer p u n) (u ∷ us)) ≡ without p (somes (u ∷ us))
     by_case None None h l = h
     by_case None (Some e) h l = h
     by_case (Some leaf) (Some e) h l =
         ap (λ xs. leaf ∷ xs) h
         ∙ sym (ap (λ x. where_found x (leaf ∷ without p (somes us)) (if same_point leaf.point p then somes us else leaf ∷ somes us)) l)
     by_case (Some leaf) None h l =
-        let here : somes (once_taken (entry_if p leaf) (Some leaf ∷ us)) ≡ (if same_point leaf.point p then somes us else leaf ∷ somes us) = ⊎_elim (λ t. rw t refl) (λ t. rw t refl) (cases_Bool (same_point leaf.point p)) in
+        let here : somes (once_taken (entry_if p leaf) (Some leaf ∷ us)) ≡ (if same_point leaf.point p then somes us else leaf ∷ somes us) =
+        ⊎_elim (λ t. rw t refl) (λ t. rw t refl) (cases_Bool (same_point leaf.point p)) in
         here ∙ sym (ap (λ x. where_found x (leaf ∷ without p (somes us)) (if same_point leaf.point p then somes us else leaf ∷ somes us)) l)
 
-spends_alike : (ats : List Placed) (f g : History) → somes f ≡ somes g → (spends_from ats f ≡ spends_from ats g) × (somes (left_from ats f) ≡ somes (left_from ats g))
+spends_alike : (ats : List Placed) (f g : History) → somes f ≡ somes g → (spends_from ats f ≡ spends_from ats g)
+    × (somes (left_from ats f) ≡ somes (left_from ats g))
 spends_alike [] f g e = (refl, e)
 spends_alike (at ∷ ats) f g e =
     let own = found_is at.point f ∙ (ap (latest at.point) e ∙ sym (found_is at.point g)) in
@@ -61,7 +65,8 @@ spends_alike (at ∷ ats) f g e =
     (ap₂ (λ (x : Option Leaf) xs. let s : Spend = record { at = at; own = x } in s ∷ xs) own rest.0, rest.1)
 
 pub groups_alike : (hash : Digest) (height t : ℕ) (txs : List Transaction) (f g : History) → somes f ≡ somes g →
-    (groups_from hash height t txs f ≡ groups_from hash height t txs g) × (somes (left_of_all hash height t txs f) ≡ somes (left_of_all hash height t txs g))
+    (groups_from hash height t txs f ≡ groups_from hash height t txs g)
+    × (somes (left_of_all hash height t txs f) ≡ somes (left_of_all hash height t txs g))
 groups_alike hash height t [] f g e = (refl, e)
 groups_alike hash height t (tx ∷ txs) f g e =
     let ats = placed_from t 0 tx.inputs in

@@ -15,7 +15,8 @@ use Rattle.block_rules.specs.declared.chain.Chain.{Chain}
 use Rattle.block_rules.specs.declared.chain.Outside.{Outside}
 use Rattle.block_rules.specs.declared.refusal.Refusal.TheVariants as Why
 use Rattle.block_rules.specs.Steps.{unless, first_of}
-use Rattle.block_rules.specs.Blocks.{Placed, placed_from, placed_of, made_by, made_first, Spend, taken, spends_from, left_from, groups_from, groups, others, is_external, outside_of, external_in, external}
+use Rattle.block_rules.specs.Blocks.{Placed, placed_from, placed_of, made_by, made_first, Spend, taken, spends_from, left_from, groups_from, groups}
+use Rattle.block_rules.specs.Blocks.{others, is_external, outside_of, external_in, external}
 use Rattle.block_rules.specs.Rules.{double, block_steps}
 use Rattle.block_rules.proofs.Firsts.{unless-passed, option_or-none, each_passes}
 
@@ -31,11 +32,13 @@ pub all_map : {X : Type 0} {P Q : X → Type 0} (xs : List X) → ((x : X) → P
 all_map [] f h = tt
 all_map (x ∷ xs) f h = (f x h.0, all_map xs f h.1)
 
-pub apart_from : (before : List Outpoint) (is : List Placed) → double before is ≡ None → AllByRecursion (λ j. list_any (same_point j.point) before ≡ false) is × Apart is
+pub apart_from : (before : List Outpoint) (is : List Placed) → double before is ≡ None
+    → AllByRecursion (λ j. list_any (same_point j.point) before ≡ false) is × Apart is
 apart_from before [] h = (tt, tt)
 apart_from before (i ∷ is) h =
     let a = option_or-none (unless (not (list_any (same_point i.point) before)) (Why.Double i.tx i.input)) (double (i.point ∷ before) is) h in
-    let here = not-true (list_any (same_point i.point) before) (unless-passed (not (list_any (same_point i.point) before)) (Why.Double i.tx i.input) a.0) in
+    let here = not-true (list_any (same_point i.point) before)
+    (unless-passed (not (list_any (same_point i.point) before)) (Why.Double i.tx i.input) a.0) in
     let rest = apart_from (i.point ∷ before) is a.1 in (
       (here, all_map is (λ j k. (or_parts (same_point j.point i.point) (list_any (same_point j.point) before) k).1) rest.0),
       (all_map is (λ j k. differ i.point j.point (or_parts (same_point j.point i.point) (list_any (same_point j.point) before) k).0) rest.0, rest.1),
@@ -59,11 +62,13 @@ pub map_append : {X Y : Type 0} (f : X → Y) (xs ys : List X) → map f (xs ++ 
 map_append f [] ys = refl
 map_append f (x ∷ xs) ys = ap (λ zs. f x ∷ zs) (map_append f xs ys)
 
-pub groups_at : (hash : Digest) (h t : ℕ) (txs : List Transaction) (fresh : History) → map (λ s. s.at) (flat_map (λ g. g) (groups_from hash h t txs fresh)) ≡ placed_of t txs
+pub groups_at : (hash : Digest) (h t : ℕ) (txs : List Transaction) (fresh : History)
+    → map (λ s. s.at) (flat_map (λ g. g) (groups_from hash h t txs fresh)) ≡ placed_of t txs
 groups_at hash h t [] fresh = refl
 groups_at hash h t (tx ∷ txs) fresh =
     map_append (λ s. s.at) (spends_from (placed_from t 0 tx.inputs) fresh) _
-    ∙ ap₂ (λ xs ys. xs ++ ys) (spends_at (placed_from t 0 tx.inputs) fresh) (groups_at hash h (suc t) txs (left_from (placed_from t 0 tx.inputs) fresh ++ map Some (made_by hash h false tx)))
+    ∙ ap₂ (λ xs ys. xs ++ ys) (spends_at (placed_from t 0 tx.inputs) fresh)
+    (groups_at hash h (suc t) txs (left_from (placed_from t 0 tx.inputs) fresh ++ map Some (made_by hash h false tx)))
 
 -- ---- external inputs
 
@@ -75,24 +80,28 @@ abbrev pub OutsideApart : List Outside → Type 0
 OutsideApart [] = Unit {0}
 OutsideApart (o ∷ os) = AllByRecursion (λ p. point_at o ≢ point_at p) os × OutsideApart os
 
-all_external : (P : Outpoint → Type 0) (ss : List Spend) → AllByRecursion (λ j. P j.point) (map (λ s. s.at) ss) → AllByRecursion (λ o. P (point_at o)) (external_in ss)
+all_external : (P : Outpoint → Type 0) (ss : List Spend) → AllByRecursion (λ j. P j.point) (map (λ s. s.at) ss)
+    → AllByRecursion (λ o. P (point_at o)) (external_in ss)
 all_external P [] h = tt
 all_external P (s ∷ ss) h = ⊎_elim (λ e. rw e (h.0, all_external P ss h.1)) (λ e. rw e (all_external P ss h.1)) (cases_Bool (is_external s))
 
 external_in-apart : (ss : List Spend) → Apart (map (λ s. s.at) ss) → OutsideApart (external_in ss)
 external_in-apart [] h = tt
-external_in-apart (s ∷ ss) h = ⊎_elim (λ e. rw e (all_external (λ p. s.at.point ≢ p) ss h.0, external_in-apart ss h.1)) (λ e. rw e (external_in-apart ss h.1)) (cases_Bool (is_external s))
+external_in-apart (s ∷ ss) h = ⊎_elim (λ e. rw e (all_external (λ p. s.at.point ≢ p) ss h.0, external_in-apart ss h.1))
+    (λ e. rw e (external_in-apart ss h.1)) (cases_Bool (is_external s))
 
 pub external_in-append : (ss rs : List Spend) → external_in (ss ++ rs) ≡ external_in ss ++ external_in rs
 external_in-append [] rs = refl
-external_in-append (s ∷ ss) rs = ⊎_elim (λ e. rw e (ap (λ xs. outside_of s.at ∷ xs) (external_in-append ss rs))) (λ e. rw e (external_in-append ss rs)) (cases_Bool (is_external s))
+external_in-append (s ∷ ss) rs = ⊎_elim (λ e. rw e (ap (λ xs. outside_of s.at ∷ xs) (external_in-append ss rs)))
+    (λ e. rw e (external_in-append ss rs)) (cases_Bool (is_external s))
 
 pub external_in-flat : (gs : List (List Spend)) → flat_map external_in gs ≡ external_in (flat_map (λ g. g) gs)
 external_in-flat [] = refl
 external_in-flat (g ∷ gs) = ap (λ xs. external_in g ++ xs) (external_in-flat gs) ∙ sym (external_in-append g (flat_map (λ g. g) gs))
 
 -- where no step on the block alone fails, the external inputs name different outputs
-pub external_apart : (net : Net) (limits : Limits) (chain : Chain) (b : Block) (height : ℕ) → first_of (block_steps net limits chain b) ≡ None → OutsideApart (external b height)
+pub external_apart : (net : Net) (limits : Limits) (chain : Chain) (b : Block) (height : ℕ) → first_of (block_steps net limits chain b) ≡ None
+    → OutsideApart (external b height)
 external_apart net limits chain b height h =
     let apart = apart_others b.txs (each_passes (block_steps net limits chain b) 6 h) in
     let hash = block_hash_of b in

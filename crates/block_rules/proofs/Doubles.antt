@@ -18,11 +18,14 @@ use Rattle.block_rules.specs.Seen.{Reaches, Sees}
 use Rattle.block_rules.proofs.Keyed.{points_put}
 use Rattle.block_rules.proofs.Numbered.{drop-get}
 
-module _ (t i : ℕ) (before : List Outpoint) (whole more : List Placed) (input : Input) (rest left : List Input) (old : BTreeSet OutpointKey) (key : OutpointKey) (e : left ≡ input ∷ rest) (k : point_of key ≡ outpoint_of input) (r : Reaches before whole (placed_from t i left ++ more) old) where
+module _ (t i : ℕ) (before : List Outpoint) (whole more : List Placed) (input : Input) (rest left : List Input) (old : BTreeSet OutpointKey)
+    (key : OutpointKey) (e : left ≡ input ∷ rest) (k : point_of key ≡ outpoint_of input)
+    (r : Reaches before whole (placed_from t i left ++ more) old) where
   was : list_any (same_point (outpoint_of input)) r.points ≡ set.contains key_cmp old key
   was = ap (λ p. list_any (same_point p) r.points) (sym k) ∙ sym (r.has key)
 
-  step : double before whole ≡ option_or (unless (not (set.contains key_cmp old key)) (Why.Double t i)) (double (outpoint_of input ∷ r.points) (placed_from t (suc i) rest ++ more))
+  step : double before whole ≡ option_or (unless (not (set.contains key_cmp old key)) (Why.Double t i))
+      (double (outpoint_of input ∷ r.points) (placed_from t (suc i) rest ++ more))
   step =
       r.same
       ∙ (ap (λ xs. double r.points (placed_from t i xs ++ more)) e
@@ -31,20 +34,24 @@ module _ (t i : ℕ) (before : List Outpoint) (whole more : List Placed) (input 
   -- it was spent before
   pub seen_here : set.contains key_cmp old key ≡ true → double before whole ≡ Some (Why.Double t i)
   unfolding step was
-  seen_here h = step ∙ ap (λ b. option_or (unless (not b) (Why.Double t i)) (double (outpoint_of input ∷ r.points) (placed_from t (suc i) rest ++ more))) h
+  seen_here h = step ∙ ap (λ b. option_or (unless (not b) (Why.Double t i))
+      (double (outpoint_of input ∷ r.points) (placed_from t (suc i) rest ++ more))) h
 
   -- it was not
-  pub seen_on : (new : BTreeSet OutpointKey) → set.contains key_cmp old key ≡ false → set.Updates key_cmp old new key true → Reaches before whole (placed_from t (i + 1) rest ++ more) new
+  pub seen_on : (new : BTreeSet OutpointKey) → set.contains key_cmp old key ≡ false → set.Updates key_cmp old new key true
+      → Reaches before whole (placed_from t (i + 1) rest ++ more) new
   unfolding step was
   seen_on new h u = record {
     points = outpoint_of input ∷ r.points;
     has = subst (λ p. HasPoints new (p ∷ r.points)) k (points_put old new key r.points r.has u);
-    same = rw add-one (step ∙ ap (λ b. option_or (unless (not b) (Why.Double t i)) (double (outpoint_of input ∷ r.points) (placed_from t (suc i) rest ++ more))) h);
+    same = rw add-one (step ∙ ap (λ b. option_or (unless (not b) (Why.Double t i))
+        (double (outpoint_of input ∷ r.points) (placed_from t (suc i) rest ++ more))) h);
   }
 
 -- ---- transaction by transaction
 
-module _ (t : ℕ) (txs : List Transaction) (tx : Transaction) (whole : List Placed) (old new : BTreeSet OutpointKey) (r : Reaches [] whole (placed_of t (drop t txs)) old) (e : slice_get txs t ≡ Some tx) where
+module _ (t : ℕ) (txs : List Transaction) (tx : Transaction) (whole : List Placed) (old new : BTreeSet OutpointKey)
+    (r : Reaches [] whole (placed_of t (drop t txs)) old) (e : slice_get txs t ≡ Some tx) where
   split : double [] whole ≡ double r.points (placed_from t 0 tx.inputs ++ placed_of (suc t) (drop (suc t) txs))
   split = r.same ∙ ap (λ xs. double r.points (placed_of t xs)) (drop-get txs t tx e)
 

@@ -25,7 +25,8 @@ then_eq Equal b = refl
 then_eq Greater b = refl
 
 nat_eq_is : (x y : ℕ) → is_eq (nat_cmp x y) ≡ (x == y)
-nat_eq_is x y = ⊎_elim (λ t. ⊎_elim (λ e. absurd (omega (arith, ltb-true x y t, eqb-true x y e))) (λ e. rw t (rw e refl)) (cases_Bool (x == y))) (λ t. rw t (⊎_elim (λ e. rw e refl) (λ e. rw e refl) (cases_Bool (x == y)))) (cases_Bool (nat_lt x y))
+nat_eq_is x y = ⊎_elim (λ t. ⊎_elim (λ e. absurd (omega (arith, ltb-true x y t, eqb-true x y e))) (λ e. rw t (rw e refl)) (cases_Bool (x == y)))
+    (λ t. rw t (⊎_elim (λ e. rw e refl) (λ e. rw e refl) (cases_Bool (x == y)))) (cases_Bool (nat_lt x y))
 
 -- two keys are equal where their outpoints are
 pub key_eq : (a b : OutpointKey) → is_eq (key_cmp a b) ≡ same_point (point_of a) (point_of b)
@@ -62,8 +63,10 @@ same_point-sym p q =
     (cases_Bool (same_point p q))
 
 -- the set, with one more
-pub points_put : (old new : BTreeSet OutpointKey) (key : OutpointKey) (points : List Outpoint) → HasPoints old points → set.Updates key_cmp old new key true → HasPoints new (point_of key ∷ points)
-points_put old new key points has u = λ q. u.0 q ∙ (ap (λ b. cond b true (set.contains key_cmp old q)) (key_eq key q ∙ same_point-sym (point_of key) (point_of q)) ∙ by_case (same_point (point_of q) (point_of key)) q)
+pub points_put : (old new : BTreeSet OutpointKey) (key : OutpointKey) (points : List Outpoint) → HasPoints old points
+    → set.Updates key_cmp old new key true → HasPoints new (point_of key ∷ points)
+points_put old new key points has u = λ q. u.0 q ∙ (ap (λ b. cond b true (set.contains key_cmp old q))
+    (key_eq key q ∙ same_point-sym (point_of key) (point_of q)) ∙ by_case (same_point (point_of q) (point_of key)) q)
   where
     by_case : (b : Bool) (q : OutpointKey) → cond b true (set.contains key_cmp old q) ≡ (b || list_any (same_point (point_of q)) points)
     by_case true q = refl

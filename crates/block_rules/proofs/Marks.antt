@@ -1,5 +1,6 @@
 -- Where numbers that stand for outpoints are all different, no outpoint is spent twice.
-use Rattle.std.proofs.Common.{◌≡◌, ℕ, suc, ◌+◌, Bool, false, List, [], ◌∷◌, ◌++◌, map, drop, Some, None, refl, sym, ap, ◌∙◌, subst, ⊎_elim, arith, add-one, append_assoc, ne_eqb, eq-eqb}
+use Rattle.std.proofs.Common.{◌≡◌, ℕ, suc, ◌+◌, Bool, false, List, [], ◌∷◌, ◌++◌, map, drop, Some, None, refl, sym, ap, ◌∙◌, subst, ⊎_elim, arith}
+use Rattle.std.proofs.Common.{add-one, append_assoc, ne_eqb, eq-eqb}
 use Rattle.std.specs.Prelude.{◌==◌, slice_get, not, ◌||◌}
 use Rattle.std.specs.List.{list_any, AllByRecursion, IsDistinct}
 use Rattle.std.specs.Option.{option_or}
@@ -26,7 +27,8 @@ marks_from : (t i : ℕ) (inputs : List Input) → marks_of (placed_from t i inp
 marks_from t i [] = refl
 marks_from t i (input ∷ inputs) = ap (λ xs. mark_of (outpoint_of input) ∷ xs) (marks_from t (suc i) inputs)
 
-pub marks_on : (t : ℕ) (txs : List Transaction) (tx : Transaction) (old new whole : List ℕ) → slice_get txs t ≡ Some tx → new ≡ old ++ map (λ input. mark_of (outpoint_of input)) tx.inputs → old ++ marks_of (placed_of t (drop t txs)) ≡ whole →
+pub marks_on : (t : ℕ) (txs : List Transaction) (tx : Transaction) (old new whole : List ℕ) → slice_get txs t ≡ Some tx
+    → new ≡ old ++ map (λ input. mark_of (outpoint_of input)) tx.inputs → old ++ marks_of (placed_of t (drop t txs)) ≡ whole →
     new ++ marks_of (placed_of (t + 1) (drop (t + 1) txs)) ≡ whole
 marks_on t txs tx old new whole e n h =
     rw add-one
@@ -41,27 +43,35 @@ abbrev eq : ℕ → ℕ → Bool
 eq x y = x == y
 
 eq_flips : (x y : ℕ) → eq x y ≡ eq y x
-eq_flips x y = ⊎_elim (λ t. t ∙ sym (eq-eqb y x (sym (eqb-true x y t)))) (λ f. f ∙ sym (ne_eqb y x (λ e. false≢true (sym f ∙ eq-eqb x y (sym e))))) (cases_Bool (x == y))
+eq_flips x y = ⊎_elim (λ t. t ∙ sym (eq-eqb y x (sym (eqb-true x y t)))) (λ f. f ∙ sym (ne_eqb y x (λ e. false≢true (sym f ∙ eq-eqb x y (sym e)))))
+    (cases_Bool (x == y))
 
 -- an outpoint whose number none of these has is none of theirs
-apart_more : (p : Outpoint) (before : List Outpoint) (ats : List Placed) → AllByRecursion (λ y. eq (mark_of p) y ≡ false) (marks_of ats) → AllByRecursion (λ at. list_any (same_point at.point) before ≡ false) ats → AllByRecursion (λ at. list_any (same_point at.point) (p ∷ before) ≡ false) ats
+apart_more : (p : Outpoint) (before : List Outpoint) (ats : List Placed) → AllByRecursion (λ y. eq (mark_of p) y ≡ false) (marks_of ats)
+    → AllByRecursion (λ at. list_any (same_point at.point) before ≡ false) ats
+    → AllByRecursion (λ at. list_any (same_point at.point) (p ∷ before) ≡ false) ats
 apart_more p before [] h k = tt
 apart_more p before (at ∷ ats) h k =
-    let other : same_point at.point p ≡ false = ⊎_elim (λ t. absurd (false≢true (sym h.0 ∙ eq-eqb _ _ (ap mark_of (sym (same_point-true at.point p t)))))) (λ f. f) (cases_Bool (same_point at.point p)) in
+    let other : same_point at.point p ≡ false = ⊎_elim (λ t. absurd
+    (false≢true (sym h.0 ∙ eq-eqb _ _ (ap mark_of (sym (same_point-true at.point p t)))))) (λ f. f) (cases_Bool (same_point at.point p)) in
     (ap (λ b. b || list_any (same_point at.point) before) other ∙ k.0, apart_more p before ats h.1 k.1)
 
-none_double : (before : List Outpoint) (ats : List Placed) → IsDistinct eq (marks_of ats) → AllByRecursion (λ at. list_any (same_point at.point) before ≡ false) ats → double before ats ≡ None
+none_double : (before : List Outpoint) (ats : List Placed) → IsDistinct eq (marks_of ats)
+    → AllByRecursion (λ at. list_any (same_point at.point) before ≡ false) ats → double before ats ≡ None
 none_double before [] d k = refl
 none_double before (at ∷ ats) d k =
     ap (λ b. option_or (unless (not b) (Why.Double at.tx at.input)) (double (at.point ∷ before) ats)) k.0
-    ∙ none_double (at.point ∷ before) ats (IsDistinct-tail eq (mark_of at.point) (marks_of ats) d) (apart_more at.point before ats (IsDistinct-head eq (mark_of at.point) (marks_of ats) d) k.1)
+    ∙ none_double (at.point ∷ before) ats (IsDistinct-tail eq (mark_of at.point) (marks_of ats) d)
+    (apart_more at.point before ats (IsDistinct-head eq (mark_of at.point) (marks_of ats) d) k.1)
 
 none_before : (ats : List Placed) → AllByRecursion (λ at. list_any (same_point at.point) [] ≡ false) ats
 none_before [] = tt
 none_before (at ∷ ats) = (refl, none_before ats)
 
-pub differ_none : (ats : List Placed) (marks sorted : List ℕ) → marks ≡ marks_of ats → IsPermutation marks sorted → IsStrictlyIncreasing sorted → double [] ats ≡ None
+pub differ_none : (ats : List Placed) (marks sorted : List ℕ) → marks ≡ marks_of ats → IsPermutation marks sorted → IsStrictlyIncreasing sorted
+    → double [] ats ≡ None
 differ_none ats marks sorted e perm rising =
     let d = IsDistinct-IsPermutation eq eq_flips sorted marks (IsPermutation-sym marks sorted perm)
-    (IsDistinct-from_apart eq sorted (λ i j d lt k. ne_eqb _ _ (λ e. let z = AllPairs-from_increasing sorted rising i j d lt k in absurd (omega (arith, z, e))))) in
+    (IsDistinct-from_apart eq sorted (λ i j d lt k. ne_eqb _ _ (λ e. let z = AllPairs-from_increasing sorted rising i j d lt k in
+    absurd (omega (arith, z, e))))) in
     none_double [] ats (subst (IsDistinct eq) e d) (none_before ats)

@@ -1,5 +1,6 @@
 -- The first answer over a list, found from its front.
-use Rattle.std.proofs.Common.{◌≡◌, ℕ, zero, suc, ◌+◌, ◌≤◌, Bool, true, false, ◌||◌, List, [], ◌∷◌, drop, length, Option, Some, None, refl, sym, ap, ◌∙◌, arith, add-one}
+use Rattle.std.proofs.Common.{◌≡◌, ℕ, zero, suc, ◌+◌, ◌≤◌, Bool, true, false, ◌||◌, List, [], ◌∷◌, drop, length, Option, Some, None, refl, sym, ap}
+use Rattle.std.proofs.Common.{◌∙◌, arith, add-one}
 use Rattle.std.specs.Prelude.{slice_get}
 use Rattle.std.specs.List.{list_any}
 use Rattle.std.specs.Option.{option_or}
@@ -21,15 +22,18 @@ drop-all (x ∷ xs) zero h = absurd (omega arith)
 drop-all (x ∷ xs) (suc k) h = drop-all xs k (omega arith)
 
 module _ {X Y : Type 0} (f : ℕ → X → Option Y) where
-  from-get : (xs : List X) (k : ℕ) (x : X) → slice_get xs k ≡ Some x → first_from k f (drop k xs) ≡ option_or (f k x) (first_from (suc k) f (drop (suc k) xs))
+  from-get : (xs : List X) (k : ℕ) (x : X) → slice_get xs k ≡ Some x
+      → first_from k f (drop k xs) ≡ option_or (f k x) (first_from (suc k) f (drop (suc k) xs))
   from-get xs k x e = ap (first_from k f) (drop-get xs k x e)
 
   -- it is here
-  pub stops-here : (xs : List X) (k : ℕ) (x : X) (y : Y) (whole : Option Y) → first_from k f (drop k xs) ≡ whole → slice_get xs k ≡ Some x → f k x ≡ Some y → whole ≡ Some y
+  pub stops-here : (xs : List X) (k : ℕ) (x : X) (y : Y) (whole : Option Y) → first_from k f (drop k xs) ≡ whole → slice_get xs k ≡ Some x
+      → f k x ≡ Some y → whole ≡ Some y
   stops-here xs k x y whole h e g = sym h ∙ (from-get xs k x e ∙ ap (λ z. option_or z (first_from (suc k) f (drop (suc k) xs))) g)
 
   -- it is not here
-  pub goes-on : (xs : List X) (k : ℕ) (x : X) (whole : Option Y) → first_from k f (drop k xs) ≡ whole → slice_get xs k ≡ Some x → f k x ≡ None → first_from (k + 1) f (drop (k + 1) xs) ≡ whole
+  pub goes-on : (xs : List X) (k : ℕ) (x : X) (whole : Option Y) → first_from k f (drop k xs) ≡ whole → slice_get xs k ≡ Some x → f k x ≡ None
+      → first_from (k + 1) f (drop (k + 1) xs) ≡ whole
   goes-on xs k x whole h e g = rw add-one (sym (from-get xs k x e ∙ ap (λ z. option_or z (first_from (suc k) f (drop (suc k) xs))) g) ∙ h)
 
   -- it is nowhere
@@ -37,7 +41,8 @@ module _ {X Y : Type 0} (f : ℕ → X → Option Y) where
   none-left xs k whole h l = sym h ∙ ap (first_from k f) (drop-all xs k l)
 
 module _ {X : Type 0} (p : X → Bool) where
-  any-get : (xs : List X) (k : ℕ) (x : X) (whole : Bool) → list_any p (drop k xs) ≡ whole → slice_get xs k ≡ Some x → whole ≡ (p x || list_any p (drop (suc k) xs))
+  any-get : (xs : List X) (k : ℕ) (x : X) (whole : Bool) → list_any p (drop k xs) ≡ whole → slice_get xs k ≡ Some x
+      → whole ≡ (p x || list_any p (drop (suc k) xs))
   any-get xs k x whole h e = sym h ∙ ap (list_any p) (drop-get xs k x e)
 
   -- one is here
@@ -45,7 +50,8 @@ module _ {X : Type 0} (p : X → Bool) where
   any-here xs k x whole h e is = any-get xs k x whole h e ∙ ap (λ b. b || list_any p (drop (suc k) xs)) is
 
   -- none is here
-  pub any-on : (xs : List X) (k : ℕ) (x : X) (whole : Bool) → list_any p (drop k xs) ≡ whole → slice_get xs k ≡ Some x → p x ≡ false → list_any p (drop (k + 1) xs) ≡ whole
+  pub any-on : (xs : List X) (k : ℕ) (x : X) (whole : Bool) → list_any p (drop k xs) ≡ whole → slice_get xs k ≡ Some x → p x ≡ false
+      → list_any p (drop (k + 1) xs) ≡ whole
   any-on xs k x whole h e is = rw add-one (sym (any-get xs k x whole h e ∙ ap (λ b. b || list_any p (drop (suc k) xs)) is))
 
   -- none is anywhere
@@ -64,6 +70,8 @@ value_at t tx = unless (has_value tx) t
 abbrev pub null_fault : ℕ → Transaction → Option ℕ
 null_fault t tx = unless (has_no_null tx) t
 
-pub coinbase_fault-first : (txs : List Transaction) (tx : Transaction) → slice_get txs 0 ≡ Some tx → coinbase_fault txs ≡ option_or (unless (is_coinbase tx.inputs) 0) (first_from 1 null_fault (drop 1 txs))
+pub coinbase_fault-first : (txs : List Transaction) (tx : Transaction) → slice_get txs 0 ≡ Some tx
+    → coinbase_fault txs ≡ option_or (unless (is_coinbase tx.inputs) 0) (first_from 1 null_fault (drop 1 txs))
 coinbase_fault-first [] tx e = absurd (none-some tx e)
-coinbase_fault-first (c ∷ txs) tx e = ap (λ (x : Transaction). option_or (unless (is_coinbase x.inputs) 0) (first_from 1 null_fault txs)) (same_Some c tx e)
+coinbase_fault-first (c ∷ txs) tx e = ap (λ (x : Transaction). option_or (unless (is_coinbase x.inputs) 0) (first_from 1 null_fault txs))
+    (same_Some c tx e)

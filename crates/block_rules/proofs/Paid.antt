@@ -1,5 +1,6 @@
 -- Input by input, and what is counted of a block.
-use Rattle.std.proofs.Common.{◌≡◌, ℕ, zero, suc, ◌+◌, ◌<◌, ◌≤◌, ◌^◌, false, cond, List, [], ◌∷◌, ◌++◌, map, drop, length, Option, Some, None, refl, sym, ap, ◌∙◌, arith, add-one}
+use Rattle.std.proofs.Common.{◌≡◌, ℕ, zero, suc, ◌+◌, ◌<◌, ◌≤◌, ◌^◌, false, cond, List, [], ◌∷◌, ◌++◌, map, drop, length, Option, Some, None, refl}
+use Rattle.std.proofs.Common.{sym, ap, ◌∙◌, arith, add-one}
 use Rattle.std.specs.Prelude.{slice_get, is_none, option_map, not, nat_le}
 use Rattle.std.specs.List.{flat_map, list_any}
 use Rattle.std.specs.Option.{option_or}
@@ -17,7 +18,8 @@ use Rattle.block_rules.specs.declared.chain.Found.{Found}
 use Rattle.block_rules.specs.declared.chain.Outside.{Outside}
 use Rattle.block_rules.specs.declared.refusal.Refusal.{Refusal}
 use Rattle.block_rules.specs.Steps.{unless, first_from}
-use Rattle.block_rules.specs.Blocks.{placed_from, made_by, made_first, Spend, spends_from, left_from, groups_from, groups, others, external_in, external, new_records}
+use Rattle.block_rules.specs.Blocks.{placed_from, made_by, made_first, Spend, spends_from, left_from, groups_from, groups, others, external_in}
+use Rattle.block_rules.specs.Blocks.{external, new_records}
 use Rattle.block_rules.specs.Money.{most_money, output_sum, found_of, Bill, own_found, bills_of, claimed_by, BlockSpends, spends_of, paid_from}
 use Rattle.block_rules.specs.Rules.{has_too_much, has_value, value_fault}
 use Rattle.block_rules.specs.Paying.{outside_count, outside_sum, IsCounted, PaysNext}
@@ -34,15 +36,18 @@ pub count_one : (o : Option Found) (own : List (Option Found)) → outside_count
 count_one o own = sum_by-append (λ x. cond (is_none x) 1 0) (o ∷ []) own
 
 -- an input that has ripened is passed
-pub ripe_on : (f : ℕ → Found → Option Refusal) (k : ℕ) (own : List (Option Found)) (o : Option Found) (left others : List Found) (paid : Found) (whole : Option Refusal) → drop k own ≡ o ∷ drop (suc k) own → PaysNext o left paid others → f k paid ≡ None →
+pub ripe_on : (f : ℕ → Found → Option Refusal) (k : ℕ) (own : List (Option Found)) (o : Option Found) (left others : List Found) (paid : Found)
+    (whole : Option Refusal) → drop k own ≡ o ∷ drop (suc k) own → PaysNext o left paid others → f k paid ≡ None →
     first_from k f (paid_from (drop k own) left) ≡ whole → first_from (k + 1) f (paid_from (drop (k + 1) own) others) ≡ whole
 ripe_on f k own o left others paid whole e p n h =
     rw add-one
     (sym (ap (λ z. option_or z (first_from (suc k) f (paid_from (drop (suc k) own) others))) n)
     ∙ (sym (ap (first_from k f) (ap (λ xs. paid_from xs left) e ∙ p.now (drop (suc k) own))) ∙ h))
 
-pub counts_on : (k : ℕ) (own : List (Option Found)) (o : Option Found) (found left others : List Found) (paid : Found) → drop k own ≡ o ∷ drop (suc k) own → PaysNext o left paid others →
-    outside_count own + length left ≡ length found + outside_count (drop k own) → outside_count own + length others ≡ length found + outside_count (drop (k + 1) own)
+pub counts_on : (k : ℕ) (own : List (Option Found)) (o : Option Found) (found left others : List Found) (paid : Found)
+    → drop k own ≡ o ∷ drop (suc k) own → PaysNext o left paid others →
+    outside_count own + length left ≡ length found + outside_count (drop k own)
+    → outside_count own + length others ≡ length found + outside_count (drop (k + 1) own)
 counts_on k own o found left others paid e p h =
     let a = count_one o (drop (suc k) own) in
     let b = ap outside_count e in
@@ -55,11 +60,14 @@ count_own : (g : List Spend) → outside_count (map own_found g) ≡ length (ext
 count_own [] = refl
 count_own (s ∷ ss) = count_one (own_found s) (map own_found ss) ∙ by_case s.own (count_own ss)
   where
-    by_case : (x : Option Leaf) → outside_count (map own_found ss) ≡ length (external_in ss) → outside_count (option_map (λ leaf. found_of leaf.rest) x ∷ []) + outside_count (map own_found ss) ≡ length (external_in (record { at = s.at; own = x } ∷ ss))
+    by_case : (x : Option Leaf) → outside_count (map own_found ss) ≡ length (external_in ss)
+        → outside_count (option_map (λ leaf. found_of leaf.rest) x ∷ []) + outside_count (map own_found ss)
+        ≡ length (external_in (record { at = s.at; own = x } ∷ ss))
     by_case None h = omega (arith, h)
     by_case (Some leaf) h = omega (arith, h)
 
-count_bills : (hash : Digest) (h t : ℕ) (txs : List Transaction) (fresh : History) → outside_sum (bills_of (groups_from hash h t txs fresh) txs) ≡ length (flat_map external_in (groups_from hash h t txs fresh))
+count_bills : (hash : Digest) (h t : ℕ) (txs : List Transaction) (fresh : History) → outside_sum (bills_of (groups_from hash h t txs fresh) txs)
+    ≡ length (flat_map external_in (groups_from hash h t txs fresh))
 count_bills hash h t [] fresh = refl
 count_bills hash h t (tx ∷ txs) fresh =
     let is = placed_from t 0 tx.inputs in
@@ -92,12 +100,15 @@ counted b height w few g =
     }
 
 -- the records of what is left are new
-new_are : (b : Block) (height : ℕ) (o : Origins) (outputs : List (Option Kept)) (w : Walked) → w.left ≡ history_at o outputs → IsWalked b height w → map (leaf_at o) (new_at height outputs) ≡ new_records b height
+new_are : (b : Block) (height : ℕ) (o : Origins) (outputs : List (Option Kept)) (w : Walked) → w.left ≡ history_at o outputs → IsWalked b height w
+    → map (leaf_at o) (new_at height outputs) ≡ new_records b height
 new_are b zero o outputs w e g = refl
 new_are b (suc h) o outputs w e g = leaves_left o outputs ∙ (ap somes (sym e) ∙ g.left)
 
-pub new_is : (b : Block) (height : ℕ) (o : Origins) (outputs left : List (Option Kept)) (w : Walked) → w.left ≡ history_at o outputs → IsWalked b height w → left ≡ map Some (new_at height outputs) → history_at o left ≡ map Some (new_records b height)
-new_is b height o outputs left w e g l = ap (history_at o) l ∙ (leaves_of o (new_at height outputs) ∙ ap (map Some) (new_are b height o outputs w e g))
+pub new_is : (b : Block) (height : ℕ) (o : Origins) (outputs left : List (Option Kept)) (w : Walked) → w.left ≡ history_at o outputs
+    → IsWalked b height w → left ≡ map Some (new_at height outputs) → history_at o left ≡ map Some (new_records b height)
+new_is b height o outputs left w e g l =
+    ap (history_at o) l ∙ (leaves_of o (new_at height outputs) ∙ ap (map Some) (new_are b height o outputs w e g))
 
 pub claimed_is : (txs : List Transaction) (tx : Transaction) → slice_get txs 0 ≡ Some tx → claimed_by txs ≡ output_sum tx
 claimed_is [] tx e = absurd (none-some tx e)
@@ -111,11 +122,29 @@ claimed_most (c ∷ txs) h =
     let p = and_parts (not (list_any has_too_much c.outputs)) (nat_le (output_sum c) most_money) (unless-passed (has_value c) 0 w.0) in
     leb-true _ _ p.1
 
-pub spends_are : (net : Net) (height high : ℕ) (b : Block) (outs : List Outside) (new : List Leaf) (claimed : ℕ) (bills : List Bill) → high ≡ height → outs ≡ external b height → new ≡ new_records b height → claimed ≡ claimed_by b.txs → bills ≡ bills_of (groups b height) (others b.txs) →
+pub spends_are : (net : Net) (height high : ℕ) (b : Block) (outs : List Outside) (new : List Leaf) (claimed : ℕ) (bills : List Bill) → high ≡ height
+    → outs ≡ external b height → new ≡ new_records b height → claimed ≡ claimed_by b.txs → bills ≡ bills_of (groups b height) (others b.txs) →
     ◌≡◌ {A = BlockSpends} (record { net = net; height = high; external = outs; new = new; claimed = claimed; bills = bills }) (spends_of net height b)
 spends_are net height high b outs new claimed bills h o n c l =
     ap (λ (x : ℕ). let s : BlockSpends = record { net = net; height = x; external = outs; new = new; claimed = claimed; bills = bills } in s) h
-    ∙ (ap (λ (x : List Outside). let s : BlockSpends = record { net = net; height = height; external = x; new = new; claimed = claimed; bills = bills } in s) o
-    ∙ (ap (λ (x : List Leaf). let s : BlockSpends = record { net = net; height = height; external = external b height; new = x; claimed = claimed; bills = bills } in s) n
-    ∙ (ap (λ (x : ℕ). let s : BlockSpends = record { net = net; height = height; external = external b height; new = new_records b height; claimed = x; bills = bills } in s) c
-    ∙ ap (λ (x : List Bill). let s : BlockSpends = record { net = net; height = height; external = external b height; new = new_records b height; claimed = claimed_by b.txs; bills = x } in s) l)))
+    ∙ (ap (λ (x : List Outside). let s : BlockSpends =
+    record { net = net; height = height; external = x; new = new; claimed = claimed; bills = bills } in s) o
+    ∙ (ap (λ (x : List Leaf). let s : BlockSpends =
+    record { net = net; height = height; external = external b height; new = x; claimed = claimed; bills = bills } in s) n
+    ∙ (ap (λ (x : ℕ). let s : BlockSpends = record {
+      net = net;
+      height = height;
+      external = external b height;
+      new = new_records b height;
+      claimed =
+          x;
+      bills = bills;
+    } in s) c
+    ∙ ap (λ (x : List Bill). let s : BlockSpends = record {
+      net = net;
+      height = height;
+      external = external b height;
+      new = new_records b height;
+      claimed = claimed_by b.txs;
+      bills = x;
+    } in s) l)))

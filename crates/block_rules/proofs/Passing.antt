@@ -19,22 +19,27 @@ module _ (t i : ℕ) (input : Input) (left rest : List Input) (h g : History) (e
   pub left_on : (whole : History) → left_from (placed_from t i left) h ≡ whole → left_from (placed_from t (i + 1) rest) g ≡ whole
   left_on whole w = rw add-one (ap (left_from (placed_from t (suc i) rest)) k ∙ (sym (ap (λ xs. left_from (placed_from t i xs) h) e) ∙ w))
 
-  pub external_on : (old new whole : List Outside) → new ≡ old ++ external_in (spend_at t i input h ∷ []) → old ++ external_in (spends_from (placed_from t i left) h) ≡ whole → new ++ external_in (spends_from (placed_from t (i + 1) rest) g) ≡ whole
+  pub external_on : (old new whole : List Outside) → new ≡ old ++ external_in (spend_at t i input h ∷ [])
+      → old ++ external_in (spends_from (placed_from t i left) h) ≡ whole → new ++ external_in (spends_from (placed_from t (i + 1) rest) g) ≡ whole
   external_on old new whole n w =
       rw add-one
       (ap₂ (λ xs f. xs ++ external_in (spends_from (placed_from t (suc i) rest) f)) n k
       ∙ (append_assoc old (external_in (spend_at t i input h ∷ [])) _
-      ∙ (ap (λ xs. old ++ xs) (sym (external_in-append (spend_at t i input h ∷ []) (spends_from (placed_from t (suc i) rest) (taken (outpoint_of input) h))))
+      ∙ (ap (λ xs. old ++ xs) (sym (external_in-append (spend_at t i input h ∷ [])
+      (spends_from (placed_from t (suc i) rest) (taken (outpoint_of input) h))))
       ∙ (sym (ap (λ xs. old ++ external_in (spends_from (placed_from t i xs) h)) e) ∙ w))))
 
-  pub found_on : (old new whole : List (Option Found)) → new ≡ old ++ own_found (spend_at t i input h) ∷ [] → old ++ map own_found (spends_from (placed_from t i left) h) ≡ whole → new ++ map own_found (spends_from (placed_from t (i + 1) rest) g) ≡ whole
+  pub found_on : (old new whole : List (Option Found)) → new ≡ old ++ own_found (spend_at t i input h) ∷ []
+      → old ++ map own_found (spends_from (placed_from t i left) h) ≡ whole → new ++ map own_found (spends_from (placed_from t (i + 1) rest) g)
+      ≡ whole
   found_on old new whole n w =
       rw add-one
       (ap₂ (λ xs f. xs ++ map own_found (spends_from (placed_from t (suc i) rest) f)) n k
       ∙ (append_assoc old (own_found (spend_at t i input h) ∷ []) _
       ∙ (sym (ap (λ xs. old ++ map own_found (spends_from (placed_from t i xs) h)) e) ∙ w)))
 
-pub walked_is : (left left' : History) (outsides outsides' : List Outside) (bills bills' : List Bill) → left ≡ left' → outsides ≡ outsides' → bills ≡ bills' →
+pub walked_is : (left left' : History) (outsides outsides' : List Outside) (bills bills' : List Bill) → left ≡ left' → outsides ≡ outsides'
+    → bills ≡ bills' →
     ◌≡◌ {A = Walked} (record { left = left; outsides = outsides; bills = bills }) (record { left = left'; outsides = outsides'; bills = bills' })
 walked_is left left' outsides outsides' bills bills' l o b =
     ap (λ (x : History). let w : Walked = record { left = x; outsides = outsides; bills = bills } in w) l
@@ -46,22 +51,28 @@ first_is o [] tx e = absurd (none-some tx e)
 first_is o (c ∷ txs) tx e = sym (ap (kept_of o 0) (same_Some c tx e))
 
 -- what was left, and what a transaction adds
-pub adds_kept : (o p : Origins) (old new : List (Option Kept)) (t : ℕ) (tx : Transaction) (left : History) → p ≡ o → new ≡ old ++ kept_from t 0 tx.outputs → history_at o old ≡ left → history_at p new ≡ left ++ kept_of o t tx
+pub adds_kept : (o p : Origins) (old new : List (Option Kept)) (t : ℕ) (tx : Transaction) (left : History) → p ≡ o
+    → new ≡ old ++ kept_from t 0 tx.outputs → history_at o old ≡ left → history_at p new ≡ left ++ kept_of o t tx
 adds_kept o p old new t tx left e n l =
     ap₂ (λ x xs. history_at x xs) e n
     ∙ (map_append (option_map (leaf_at o)) old (kept_from t 0 tx.outputs)
     ∙ ap (λ xs. xs ++ kept_of o t tx) l)
 
-pub pass_left : (o q r : Origins) (outs new : List (Option Kept)) (t : ℕ) (tx : Transaction) (h named : History) → q ≡ o → r ≡ q → new ≡ outs ++ kept_from t 0 tx.outputs → named ≡ h → history_at q outs ≡ left_from (placed_from t 0 tx.inputs) named →
+pub pass_left : (o q r : Origins) (outs new : List (Option Kept)) (t : ℕ) (tx : Transaction) (h named : History) → q ≡ o → r ≡ q
+    → new ≡ outs ++ kept_from t 0 tx.outputs → named ≡ h → history_at q outs ≡ left_from (placed_from t 0 tx.inputs) named →
     history_at r new ≡ left_from (placed_from t 0 tx.inputs) h ++ kept_of o t tx
-pass_left o q r outs new t tx h named a b n e l = adds_kept q r outs new t tx _ b n l ∙ ap₂ (λ x y. left_from (placed_from t 0 tx.inputs) x ++ kept_of y t tx) e a
+pass_left o q r outs new t tx h named a b n e l =
+    adds_kept q r outs new t tx _ b n l ∙ ap₂ (λ x y. left_from (placed_from t 0 tx.inputs) x ++ kept_of y t tx) e a
 
-pub bill_is : (own : List (Option Found)) (makes t : ℕ) (tx : Transaction) (h named : History) → named ≡ h → own ≡ map own_found (spends_from (placed_from t 0 tx.inputs) named) → makes ≡ output_sum tx →
+pub bill_is : (own : List (Option Found)) (makes t : ℕ) (tx : Transaction) (h named : History) → named ≡ h
+    → own ≡ map own_found (spends_from (placed_from t 0 tx.inputs) named) → makes ≡ output_sum tx →
     ◌≡◌ {A = Bill} (record { own = own; makes = makes }) (bill_for t tx h)
 bill_is own makes t tx h named e o m =
-    ap₂ (λ (x : List (Option Found)) (y : ℕ). let b : Bill = record { own = x; makes = y } in b) (o ∙ ap (λ x. map own_found (spends_from (placed_from t 0 tx.inputs) x)) e) m
+    ap₂ (λ (x : List (Option Found)) (y : ℕ). let b : Bill = record { own = x; makes = y } in
+    b) (o ∙ ap (λ x. map own_found (spends_from (placed_from t 0 tx.inputs) x)) e) m
 
-pub outs_are : (old new : List Outside) (t : ℕ) (tx : Transaction) (h named : History) → named ≡ h → new ≡ old ++ external_in (spends_from (placed_from t 0 tx.inputs) named) → new ≡ old ++ external_in (spends_from (placed_from t 0 tx.inputs) h)
+pub outs_are : (old new : List Outside) (t : ℕ) (tx : Transaction) (h named : History) → named ≡ h
+    → new ≡ old ++ external_in (spends_from (placed_from t 0 tx.inputs) named) → new ≡ old ++ external_in (spends_from (placed_from t 0 tx.inputs) h)
 outs_are old new t tx h named e n = n ∙ ap (λ x. old ++ external_in (spends_from (placed_from t 0 tx.inputs) x)) e
 
 spends_len : (ats : List Placed) (h : History) → length (spends_from ats h) ≡ length ats
@@ -72,5 +83,7 @@ placed_len : (t i : ℕ) (inputs : List Input) → length (placed_from t i input
 placed_len t i [] = refl
 placed_len t i (input ∷ inputs) = ap (λ n. suc n) (placed_len t (suc i) inputs)
 
-pub own_len : (own : List (Option Found)) (t : ℕ) (inputs : List Input) (h : History) → own ≡ map own_found (spends_from (placed_from t 0 inputs) h) → length own ≡ length inputs
-own_len own t inputs h e = ap length e ∙ (length-map (spends_from (placed_from t 0 inputs) h) own_found ∙ (spends_len (placed_from t 0 inputs) h ∙ placed_len t 0 inputs))
+pub own_len : (own : List (Option Found)) (t : ℕ) (inputs : List Input) (h : History) → own ≡ map own_found (spends_from (placed_from t 0 inputs) h)
+    → length own ≡ length inputs
+own_len own t inputs h e = ap length e ∙ (length-map (spends_from (placed_from t 0 inputs) h) own_found
+    ∙ (spends_len (placed_from t 0 inputs) h ∙ placed_len t 0 inputs))

@@ -48,19 +48,23 @@ map-get f [] k x e = absurd (none-some x e)
 map-get f (y ∷ ys) zero x e = ap (λ z. Some (f z)) (same_Some y x e)
 map-get f (y ∷ ys) (suc k) x e = map-get f ys k x e
 
-some_at : (leaves : List Leaf) (i : ℕ) (u : Option Leaf) → slice_get (map Some leaves) i ≡ Some u → (leaf : Leaf) × (u ≡ Some leaf) × (slice_get leaves i ≡ Some leaf)
+some_at : (leaves : List Leaf) (i : ℕ) (u : Option Leaf) → slice_get (map Some leaves) i ≡ Some u → (leaf : Leaf) × (u ≡ Some leaf)
+    × (slice_get leaves i ≡ Some leaf)
 some_at [] i u e = absurd (none-some u e)
 some_at (leaf ∷ leaves) zero u e = (leaf, sym (same_Some _ u e), refl)
 some_at (leaf ∷ leaves) (suc i) u e = some_at leaves i u e
 
 -- what stands at an index where nothing is missing
-pub whole_at : (o : Origins) (us : List (Option Kept)) (i : ℕ) (u : Option Kept) → IsWhole (history_at o us) → i < length (somes (history_at o us)) → u ≡ get_or us i u → (kept : Kept) × (u ≡ Some kept) × (slice_get (somes (history_at o us)) i ≡ Some (leaf_at o kept))
+pub whole_at : (o : Origins) (us : List (Option Kept)) (i : ℕ) (u : Option Kept) → IsWhole (history_at o us) → i < length (somes (history_at o us))
+    → u ≡ get_or us i u → (kept : Kept) × (u ≡ Some kept) × (slice_get (somes (history_at o us)) i ≡ Some (leaf_at o kept))
 whole_at o us i u w lt e =
     let long = whole_len o us w in
     let at = slice_get_read us (length us) i u refl (omega (arith, lt, long)) e in
-    let r = some_at (somes (history_at o us)) i (option_map (leaf_at o) u) (ap (λ xs. slice_get xs i) (sym w) ∙ map-get (option_map (leaf_at o)) us i u at) in
+    let r = some_at (somes (history_at o us)) i (option_map (leaf_at o) u)
+    (ap (λ xs. slice_get xs i) (sym w) ∙ map-get (option_map (leaf_at o)) us i u at) in
     by_case u r.0 r.1 r.2
   where
-    by_case : (x : Option Kept) (leaf : Leaf) → option_map (leaf_at o) x ≡ Some leaf → slice_get (somes (history_at o us)) i ≡ Some leaf → (kept : Kept) × (x ≡ Some kept) × (slice_get (somes (history_at o us)) i ≡ Some (leaf_at o kept))
+    by_case : (x : Option Kept) (leaf : Leaf) → option_map (leaf_at o) x ≡ Some leaf → slice_get (somes (history_at o us)) i ≡ Some leaf
+        → (kept : Kept) × (x ≡ Some kept) × (slice_get (somes (history_at o us)) i ≡ Some (leaf_at o kept))
     by_case None leaf n g = absurd (none-some leaf n)
     by_case (Some kept) leaf n g = (kept, refl, g ∙ ap (λ x. Some x) (sym (same_Some (leaf_at o kept) leaf n)))

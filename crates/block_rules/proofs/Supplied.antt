@@ -1,5 +1,6 @@
 -- Sums of amounts over a block: where the rules on money pass, what it adds is paid.
-use Rattle.std.proofs.Common.{◌≡◌, ℕ, zero, suc, ◌+◌, ◌-◌, ◌≤◌, Bool, true, false, List, [], ◌∷◌, ◌++◌, map, Option, Some, None, refl, sym, ap, ◌∙◌, ⊎_elim, arith, sum_by}
+use Rattle.std.proofs.Common.{◌≡◌, ℕ, zero, suc, ◌+◌, ◌-◌, ◌≤◌, Bool, true, false, List, [], ◌∷◌, ◌++◌, map, Option, Some, None, refl, sym, ap, ◌∙◌}
+use Rattle.std.proofs.Common.{⊎_elim, arith, sum_by}
 use Rattle.std.specs.Prelude.{nat_le, ◌&&◌, option_map}
 use Rattle.std.proofs.lemmas.Bool.{cases_Bool, and_parts, leb-true}
 use Rattle.std.proofs.lemmas.List.Sums.{sum_by-cons}
@@ -13,8 +14,10 @@ use Rattle.leaf_record.proofs.HistoryLaws.{newest_is, value_of, supply-append, s
 use Rattle.block_rules.specs.declared.chain.Found.{Found}
 use Rattle.block_rules.specs.declared.refusal.Refusal.TheVariants as Why
 use Rattle.block_rules.specs.Steps.{first_of, first_from}
-use Rattle.block_rules.specs.Blocks.{Origin, leaf_of, is_spendable, origin_of, made_from, made_by, made_first, Placed, placed_from, Spend, once_taken, taken, spends_from, left_from, groups_from, groups, left_of_all, new_records, others}
-use Rattle.block_rules.specs.Money.{most_money, subsidy_at, output_sum, found_of, Bill, own_found, bills_of, claimed_by, spends_of, Paid, paid_from, found_after, paid_by, pays, overspend, fees, money_steps}
+use Rattle.block_rules.specs.Blocks.{Origin, leaf_of, is_spendable, origin_of, made_from, made_by, made_first, Placed, placed_from, Spend, once_taken}
+use Rattle.block_rules.specs.Blocks.{taken, spends_from, left_from, groups_from, groups, left_of_all, new_records, others}
+use Rattle.block_rules.specs.Money.{most_money, subsidy_at, output_sum, found_of, Bill, own_found, bills_of, claimed_by, spends_of, Paid, paid_from}
+use Rattle.block_rules.specs.Money.{found_after, paid_by, pays, overspend, fees, money_steps}
 use Rattle.block_rules.proofs.Firsts.{unless-passed, option_or-none, each_passes}
 
 -- ---- what is made and what is spent inside
@@ -49,7 +52,8 @@ made_most origin i [] = omega arith
 made_most origin i (o ∷ os) =
     let rest = made_most origin (suc i) os in
     let c = sum_by-cons output_amount o os in
-    ⊎_elim (λ e. rw e (let d = sum_by-cons amount_of (leaf_of origin i o) (made_from origin (suc i) os) in omega (arith, rest, c, d))) (λ e. rw e (omega (arith, rest, c))) (cases_Bool (is_spendable o))
+    ⊎_elim (λ e. rw e (let d = sum_by-cons amount_of (leaf_of origin i o) (made_from origin (suc i) os) in omega (arith, rest, c, d)))
+    (λ e. rw e (omega (arith, rest, c))) (cases_Bool (is_spendable o))
 
 made_supply : (hash : Digest) (h : ℕ) (c : Bool) (tx : Transaction) → supply (map Some (made_by hash h c tx)) ≤ output_sum tx
 made_supply hash h c tx =
@@ -58,7 +62,8 @@ made_supply hash h c tx =
     omega (arith, a, m)
 
 -- what is left of the outputs of a block, and what it spends inside
-left_most : (hash : Digest) (h t : ℕ) (txs : List Transaction) (fresh : History) → supply (left_of_all hash h t txs fresh) + sum_by group_value (groups_from hash h t txs fresh) ≤ supply fresh + sum_by output_sum txs
+left_most : (hash : Digest) (h t : ℕ) (txs : List Transaction) (fresh : History)
+    → supply (left_of_all hash h t txs fresh) + sum_by group_value (groups_from hash h t txs fresh) ≤ supply fresh + sum_by output_sum txs
 left_most hash h t [] fresh = omega arith
 left_most hash h t (tx ∷ txs) fresh =
     let is = placed_from t 0 tx.inputs in
@@ -81,7 +86,8 @@ abbrev own_amount : Option Found → ℕ
 own_amount None = 0
 own_amount (Some f) = f.amount
 
-paid_from-total : (own : List (Option Found)) (found : List Found) → sum_by found_amount (paid_from own found) + sum_by found_amount (found_after own found) ≡ sum_by own_amount own + sum_by found_amount found
+paid_from-total : (own : List (Option Found)) (found : List Found)
+    → sum_by found_amount (paid_from own found) + sum_by found_amount (found_after own found) ≡ sum_by own_amount own + sum_by found_amount found
 paid_from-total [] found = omega arith
 paid_from-total (Some f ∷ own) found =
     let a = paid_from-total own found in
@@ -123,7 +129,8 @@ books_balance : (k : ℕ) (paid : List Paid) → first_from k overspend paid ≡
 books_balance k [] h = refl
 books_balance k (p ∷ ps) h =
     let w = option_or-none (overspend k p) (first_from (suc k) overspend ps) h in
-    let q = and_parts (nat_le p.makes (pays p)) (nat_le (pays p) most_money) (unless-passed (nat_le p.makes (pays p) && nat_le (pays p) most_money) (Why.Overspend k) w.0) in
+    let q = and_parts (nat_le p.makes (pays p)) (nat_le (pays p) most_money)
+    (unless-passed (nat_le p.makes (pays p) && nat_le (pays p) most_money) (Why.Overspend k) w.0) in
     let le : p.makes ≤ pays p = leb-true _ _ q.0 in
     let rest = books_balance (suc k) ps w.1 in
     let a = sum_by-cons (λ x. x.makes) p ps in
@@ -167,7 +174,8 @@ paid_makes (bill ∷ bills) found =
     omega (arith, a, b, c)
 
 -- one bill for each transaction
-bills_make : (hash : Digest) (h t : ℕ) (txs : List Transaction) (fresh : History) → sum_by (λ b. b.makes) (bills_of (groups_from hash h t txs fresh) txs) ≡ sum_by output_sum txs
+bills_make : (hash : Digest) (h t : ℕ) (txs : List Transaction) (fresh : History)
+    → sum_by (λ b. b.makes) (bills_of (groups_from hash h t txs fresh) txs) ≡ sum_by output_sum txs
 bills_make hash h t [] fresh = refl
 bills_make hash h t (tx ∷ txs) fresh =
     let is = placed_from t 0 tx.inputs in
@@ -182,10 +190,12 @@ first_most : (hash : Digest) (h : ℕ) (txs : List Transaction) → supply (map 
 first_most hash h [] = omega arith
 first_most hash h (coinbase ∷ txs) = made_supply hash h true coinbase
 
-sums : (left inside made other cb makes spends fee own outside sub : ℕ) → cb ≤ sub + fee → makes + fee ≡ spends → makes ≡ other → spends ≤ own + outside → own ≤ inside → left + inside ≤ made + other → made ≤ cb → left ≤ sub + outside
+sums : (left inside made other cb makes spends fee own outside sub : ℕ) → cb ≤ sub + fee → makes + fee ≡ spends → makes ≡ other
+    → spends ≤ own + outside → own ≤ inside → left + inside ≤ made + other → made ≤ cb → left ≤ sub + outside
 sums left inside made other cb makes spends fee own outside sub a b c d e f g = omega arith
 
-pub new_is_paid : (net : Net) (b : Block) (height : ℕ) (found : List Found) → first_of (money_steps (spends_of net height b) found) ≡ None → sum_by amount_of (new_records b height) ≤ subsidy_at net height + sum_by found_amount found
+pub new_is_paid : (net : Net) (b : Block) (height : ℕ) (found : List Found) → first_of (money_steps (spends_of net height b) found) ≡ None
+    → sum_by amount_of (new_records b height) ≤ subsidy_at net height + sum_by found_amount found
 new_is_paid net b zero found m = omega arith
 new_is_paid net b (suc k) found m =
     let hash = block_hash_of b in
@@ -197,11 +207,15 @@ new_is_paid net b (suc k) found m =
     let paid = paid_by bills found in
     let steps = money_steps (spends_of net height b) found in
     let over = each_passes steps 1 m in
-    let sub : claimed_by b.txs ≤ subsidy_at net height + fees paid = leb-true _ _ (unless-passed (nat_le (claimed_by b.txs) (subsidy_at net height + fees paid)) _ (each_passes steps 2 m)) in
+    let sub : claimed_by b.txs ≤ subsidy_at net height + fees paid =
+    leb-true _ _ (unless-passed (nat_le (claimed_by b.txs) (subsidy_at net height + fees paid)) _ (each_passes steps 2 m)) in
     let q1 : sum_by (λ p. p.makes) paid + fees paid ≡ sum_by pays paid = books_balance 1 paid over in
     let q2 : sum_by (λ p. p.makes) paid ≡ sum_by output_sum txs = paid_makes bills found ∙ bills_make hash height 1 txs made in
     let q3 : sum_by pays paid ≤ sum_by bill_own bills + sum_by found_amount found = paid_total bills found in
     let q4 : sum_by bill_own bills ≤ sum_by group_value gs = bills_own gs txs in
-    let q5 : supply (left_of_all hash height 1 txs made) + sum_by group_value gs ≤ supply made + sum_by output_sum txs = left_most hash height 1 txs made in
+    let q5 : supply (left_of_all hash height 1 txs made) + sum_by group_value gs ≤ supply made + sum_by output_sum txs =
+    left_most hash height 1 txs made in
     let q6 : supply made ≤ claimed_by b.txs = first_most hash height b.txs in
-    sums (supply (left_of_all hash height 1 txs made)) (sum_by group_value gs) (supply made) (sum_by output_sum txs) (claimed_by b.txs) (sum_by (λ p. p.makes) paid) (sum_by pays paid) (fees paid) (sum_by bill_own bills) (sum_by found_amount found) (subsidy_at net height) sub q1 q2 q3 q4 q5 q6
+    sums (supply (left_of_all hash height 1 txs made)) (sum_by group_value gs) (supply made) (sum_by output_sum txs) (claimed_by b.txs)
+    (sum_by (λ p. p.makes) paid) (sum_by pays paid) (fees paid) (sum_by bill_own bills) (sum_by found_amount found) (subsidy_at net height) sub q1
+    q2 q3 q4 q5 q6

@@ -1,5 +1,6 @@
 -- Where no outpoint is spent twice, the new records are the outputs that no input of the block spends.
-use Rattle.std.proofs.Common.{◌≡◌, ◌≢◌, ℕ, zero, suc, ◌+◌, ◌<◌, false, List, [], ◌∷◌, ◌++◌, map, set, length, Option, Some, None, refl, sym, ap, ◌∙◌, subst, ap₂, ⊎_elim, arith, append_assoc}
+use Rattle.std.proofs.Common.{◌≡◌, ◌≢◌, ℕ, zero, suc, ◌+◌, ◌<◌, false, List, [], ◌∷◌, ◌++◌, map, set, length, Option, Some, None, refl, sym, ap, ◌∙◌}
+use Rattle.std.proofs.Common.{subst, ap₂, ⊎_elim, arith, append_assoc}
 use Rattle.std.specs.Prelude.{option_map, slice_get}
 use Rattle.std.specs.List.{AllByRecursion}
 use Rattle.std.proofs.lemmas.Bool.{cases_Bool}
@@ -11,7 +12,8 @@ use Rattle.block_codec.specs.Block.{Block, block_hash_of}
 use Rattle.leaf_record.specs.Leaf.{Outpoint, Leaf}
 use Rattle.leaf_record.specs.History.{somes, Entry, History, same_point, newer, newest}
 use Rattle.leaf_record.proofs.HistoryLaws.{same_point-true, newest_is, shifted, newest-append}
-use Rattle.block_rules.specs.Blocks.{Placed, placed_from, placed_of, made_by, made_first, once_taken, taken, left_from, left_of_all, new_records, others}
+use Rattle.block_rules.specs.Blocks.{Placed, placed_from, placed_of, made_by, made_first, once_taken, taken, left_from, left_of_all, new_records}
+use Rattle.block_rules.specs.Blocks.{others}
 use Rattle.block_rules.specs.Rules.{double}
 use Rattle.block_rules.specs.Laws.{spent_in_order, literal_numbers, all_made, all_numbers}
 use Rattle.block_rules.proofs.Apart.{Apart, apart_others, apart_right, all_map, map_append}
@@ -27,7 +29,9 @@ newest-set p q us None e ne = refl
 newest-set p q [] (Some f) e ne = refl
 newest-set p q (u ∷ us) (Some f) e ne = by_case u (newest q us) refl e (λ g k. newest-set p q us (Some g) k ne)
   where
-    by_case : (u : Option Leaf) (n : Option Entry) → newest q us ≡ n → newer q u n ≡ Some f → ((g : Entry) → newest q us ≡ Some g → newest p (set us g.number None) ≡ newest p us) → newest p (set (u ∷ us) f.number None) ≡ newest p (u ∷ us)
+    by_case : (u : Option Leaf) (n : Option Entry) → newest q us ≡ n → newer q u n ≡ Some f
+        → ((g : Entry) → newest q us ≡ Some g → newest p (set us g.number None) ≡ newest p us)
+        → newest p (set (u ∷ us) f.number None) ≡ newest p (u ∷ us)
     by_case u (Some g) k e rest =
         subst (λ x. newest p (set (u ∷ us) x.number None) ≡ newest p (u ∷ us)) (same_Some _ f e) (ap (newer p u) (rest g k))
     by_case None None k e rest = absurd (none-some f e)
@@ -35,7 +39,8 @@ newest-set p q (u ∷ us) (Some f) e ne = by_case u (newest q us) refl e (λ g k
         ⊎_elim
         (λ t.
         let same : r.point ≡ q = same_point-true r.point q t in
-        subst (λ x. newest p (set (Some r ∷ us) x.number None) ≡ newest p (Some r ∷ us)) (same_Some _ f (rw t at e)) (newer-other p r (newest p us) (λ y. ne (sym same ∙ y))))
+        subst (λ x. newest p (set (Some r ∷ us) x.number None) ≡ newest p (Some r ∷ us)) (same_Some _ f (rw t at e))
+        (newer-other p r (newest p us) (λ y. ne (sym same ∙ y))))
         (λ t. absurd (none-some f (rw t at e)))
         (cases_Bool (same_point r.point q))
 
@@ -67,15 +72,18 @@ order-length (n ∷ ns) us = order-length ns (set us n None) ∙ length-set us n
 abbrev Same : List Placed → History → History → Type 0
 Same is fresh base = AllByRecursion (λ j. newest j.point fresh ≡ newest j.point base) is
 
-once_number : (n : Option Entry) (xs : List (Option ℕ)) (us : History) → spent_in_order (somes xs) (once_taken n us) ≡ spent_in_order (somes (option_map (λ e. e.number) n ∷ xs)) us
+once_number : (n : Option Entry) (xs : List (Option ℕ)) (us : History)
+    → spent_in_order (somes xs) (once_taken n us) ≡ spent_in_order (somes (option_map (λ e. e.number) n ∷ xs)) us
 once_number None xs us = refl
 once_number (Some e) xs us = refl
 
-inputs_left : (is more : List Placed) (fresh : History) (made : List Leaf) → Apart (is ++ more) → Same (is ++ more) fresh (map Some made) → (left_from is fresh ≡ spent_in_order (literal_numbers is made) fresh) × Same more (left_from is fresh) (map Some made)
+inputs_left : (is more : List Placed) (fresh : History) (made : List Leaf) → Apart (is ++ more) → Same (is ++ more) fresh (map Some made)
+    → (left_from is fresh ≡ spent_in_order (literal_numbers is made) fresh) × Same more (left_from is fresh) (map Some made)
 inputs_left [] more fresh made apart h = (refl, h)
 inputs_left (i ∷ is) more fresh made apart h =
     let next = taken i.point fresh in
-    let after = all_both (λ j. newest j.point next ≡ newest j.point (map Some made)) (is ++ more) (λ j ne e. newest-set j.point i.point fresh (newest i.point fresh) refl ne ∙ e) apart.0 h.1 in
+    let after = all_both (λ j. newest j.point next ≡ newest j.point (map Some made)) (is ++ more)
+    (λ j ne e. newest-set j.point i.point fresh (newest i.point fresh) refl ne ∙ e) apart.0 h.1 in
     let rest = inputs_left is more next made apart.1 after in (
       rest.0
           ∙ (ap (λ x. spent_in_order (literal_numbers is made) (once_taken x fresh)) h.0
@@ -87,7 +95,9 @@ pub numbers_below : (is : List Placed) (made : List Leaf) → AllByRecursion (λ
 numbers_below [] made = tt
 numbers_below (i ∷ is) made = by_case (newest i.point (map Some made)) refl (numbers_below is made)
   where
-    by_case : (x : Option Entry) → newest i.point (map Some made) ≡ x → AllByRecursion (λ n. n < length made) (literal_numbers is made) → AllByRecursion (λ n. n < length made) (somes (option_map (λ e. e.number) x ∷ map (λ j. option_map (λ e. e.number) (newest j.point (map Some made))) is))
+    by_case : (x : Option Entry) → newest i.point (map Some made) ≡ x → AllByRecursion (λ n. n < length made) (literal_numbers is made)
+        → AllByRecursion (λ n. n < length made) (somes
+        (option_map (λ e. e.number) x ∷ map (λ j. option_map (λ e. e.number) (newest j.point (map Some made))) is))
     by_case None e rest = rest
     by_case (Some f) e rest =
         let b = got_below (map Some made) f.number (Some f.leaf) (newest_is i.point (map Some made) f e).0 in
@@ -99,7 +109,8 @@ made_later : Digest → ℕ → List Transaction → List Leaf
 made_later hash height [] = []
 made_later hash height (tx ∷ txs) = made_by hash height false tx ++ made_later hash height txs
 
-all_made-is : (hash : Digest) (height : ℕ) (txs : List Transaction) (made : List Leaf) → all_made hash height txs made ≡ made ++ made_later hash height txs
+all_made-is : (hash : Digest) (height : ℕ) (txs : List Transaction) (made : List Leaf)
+    → all_made hash height txs made ≡ made ++ made_later hash height txs
 unfolding made_later
 all_made-is hash height [] made = nil made
   where
@@ -109,7 +120,8 @@ all_made-is hash height [] made = nil made
 all_made-is hash height (tx ∷ txs) made =
     all_made-is hash height txs (made ++ made_by hash height false tx) ∙ append_assoc made (made_by hash height false tx) (made_later hash height txs)
 
-blocks_left : (hash : Digest) (height t : ℕ) (txs : List Transaction) (fresh : History) (made : List Leaf) → Apart (placed_of t txs) → Same (placed_of t txs) fresh (map Some made) → length fresh ≡ length made →
+blocks_left : (hash : Digest) (height t : ℕ) (txs : List Transaction) (fresh : History) (made : List Leaf) → Apart (placed_of t txs)
+    → Same (placed_of t txs) fresh (map Some made) → length fresh ≡ length made →
     left_of_all hash height t txs fresh ≡ spent_in_order (all_numbers hash height t txs made) (fresh ++ map Some (made_later hash height txs))
 unfolding made_later shifted
 blocks_left hash height t [] fresh made apart h long = nil fresh
@@ -148,10 +160,14 @@ start_same [] us = tt
 start_same (i ∷ is) us = (refl, start_same is us)
 
 pub unspent : (b : Block) (h : ℕ) → double [] (placed_of 0 b.txs) ≡ None →
-    new_records b (suc h) ≡ somes (spent_in_order (all_numbers (block_hash_of b) (suc h) 1 (others b.txs) (made_first (block_hash_of b) (suc h) b.txs)) (map Some (all_made (block_hash_of b) (suc h) (others b.txs) (made_first (block_hash_of b) (suc h) b.txs))))
+    new_records b (suc h) ≡ somes (spent_in_order (all_numbers (block_hash_of b) (suc h) 1 (others b.txs)
+    (made_first (block_hash_of b) (suc h) b.txs))
+    (map Some (all_made (block_hash_of b) (suc h) (others b.txs) (made_first (block_hash_of b) (suc h) b.txs))))
 unspent b h none =
     let hash = block_hash_of b in
     let made = made_first hash (suc h) b.txs in
     let numbers = all_numbers hash (suc h) 1 (others b.txs) made in
-    ap somes (blocks_left hash (suc h) 1 (others b.txs) (map Some made) made (apart_others b.txs none) (start_same (placed_of 1 (others b.txs)) (map Some made)) (length-map made (λ x. Some x))
-    ∙ ap (spent_in_order numbers) (sym (map_append (λ r. Some r) made (made_later hash (suc h) (others b.txs))) ∙ ap (map (λ r. Some r)) (sym (all_made-is hash (suc h) (others b.txs) made))))
+    ap somes (blocks_left hash (suc h) 1 (others b.txs) (map Some made) made (apart_others b.txs none)
+    (start_same (placed_of 1 (others b.txs)) (map Some made)) (length-map made (λ x. Some x))
+    ∙ ap (spent_in_order numbers) (sym (map_append (λ r. Some r) made (made_later hash (suc h) (others b.txs)))
+    ∙ ap (map (λ r. Some r)) (sym (all_made-is hash (suc h) (others b.txs) made))))

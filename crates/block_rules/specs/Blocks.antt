@@ -1,5 +1,6 @@
 -- What a block spends from outside, and what it adds.
-use Rattle.std.specs.Prelude.{ℕ, zero, suc, Bool, true, false, not, nat_le, ◌&&◌, ◌==◌, List, [], ◌∷◌, ◌++◌, map, set, length, filter, Option, Some, None, is_none, option_map, if◌then◌else◌}
+use Rattle.std.specs.Prelude.{ℕ, zero, suc, Bool, true, false, not, nat_le, ◌&&◌, ◌==◌, List, [], ◌∷◌, ◌++◌, map, set, length, filter, Option, Some}
+use Rattle.std.specs.Prelude.{None, is_none, option_map, if◌then◌else◌}
 use Rattle.std.specs.List.{flat_map}
 use Rattle.uo_digest.specs.declared.digest.Digest.{Digest}
 use Rattle.tx_codec.specs.Transaction.{Input, Output, Transaction}
@@ -59,7 +60,8 @@ leaf_of origin i output = record {
 -- the records of the spendable ones of these outputs, of which the first has the index i
 abbrev pub made_from : Origin → ℕ → List Output → List Leaf
 made_from origin i [] = []
-made_from origin i (output ∷ outputs) = if is_spendable output then leaf_of origin i output ∷ made_from origin (suc i) outputs else made_from origin (suc i) outputs
+made_from origin i (output ∷ outputs) = if is_spendable output then leaf_of origin i output ∷ made_from origin (suc i) outputs else made_from origin
+    (suc i) outputs
 
 abbrev pub made_by : Digest → ℕ → Bool → Transaction → List Leaf
 made_by hash height coinbase tx = made_from (origin_of hash height coinbase tx) 0 tx.outputs

@@ -26,7 +26,8 @@ HasPoints seen points = (key : OutpointKey) → set.contains key_cmp seen key �
 
 -- the first eight bytes of an id, as a number
 abbrev pub head_of : Digest → ℕ
-head_of id = from_le_bytes w64 (slice_index id.0 0 ∷ slice_index id.0 1 ∷ slice_index id.0 2 ∷ slice_index id.0 3 ∷ slice_index id.0 4 ∷ slice_index id.0 5 ∷ slice_index id.0 6 ∷ slice_index id.0 7 ∷ [])
+head_of id = from_le_bytes w64 (slice_index id.0 0 ∷ slice_index id.0 1 ∷ slice_index id.0 2 ∷ slice_index id.0 3 ∷ slice_index id.0 4
+    ∷ slice_index id.0 5 ∷ slice_index id.0 6 ∷ slice_index id.0 7 ∷ [])
 
 abbrev pub key_of_id : Digest → TxidKey
 key_of_id id = record { head = head_of id; txid = id.0 }

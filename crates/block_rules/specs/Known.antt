@@ -1,5 +1,6 @@
 -- The outputs that a block has made so far, and how they are found by their names.
-use Rattle.std.specs.Prelude.{◌≡◌, ◌<◌, ◌≤◌, ◌+◌, ◌-◌, ◌==◌, ℕ, false, List, map, length, replicate, slice_get, slice_index_or, bytes_eq, nat_lt, Option, Some, None, option_map, if◌then◌else◌}
+use Rattle.std.specs.Prelude.{◌≡◌, ◌<◌, ◌≤◌, ◌+◌, ◌-◌, ◌==◌, ℕ, false, List, map, length, replicate, slice_get, slice_index_or, bytes_eq, nat_lt}
+use Rattle.std.specs.Prelude.{Option, Some, None, option_map, if◌then◌else◌}
 use Rattle.std.specs.BTreeMap as tree
 use Rattle.std.specs.BTreeMap.{BTreeMap}
 use Rattle.uo_digest.specs.declared.digest.Digest.{Digest}
@@ -83,7 +84,8 @@ IsNewest ids named h id few to (Some k) = IsLast ids named h id few to k
 pub record IsPlaced (ids : List Digest) (named : List Named) (h : History) (known k : ℕ) (d : Named) : Type 0 where
   pub ordered : d.start ≤ d.end
   pub within : d.end ≤ known
-  pub own : (n : ℕ) (leaf : Leaf) → d.start ≤ n → n < d.end → slice_get h n ≡ Some (Some leaf) → (leaf.point.txid ≡ txid_at ids k) × (d.start + leaf.point.index ≡ n)
+  pub own : (n : ℕ) (leaf : Leaf) → d.start ≤ n → n < d.end → slice_get h n ≡ Some (Some leaf) → (leaf.point.txid ≡ txid_at ids k)
+      × (d.start + leaf.point.index ≡ n)
   pub before : IsNewest ids named h (txid_at ids k) k d.start d.before
 
 -- the outputs up to a number are found by their names
@@ -94,7 +96,8 @@ pub record IsNamed (ids : List Digest) (named : List Named) (names : BTreeMap Tx
 
 -- the outputs from a number on are those of transaction t, each at its place
 abbrev pub AreOf : List Digest → ℕ → ℕ → History → Type 0
-AreOf ids t known h = (n : ℕ) (leaf : Leaf) → known ≤ n → slice_get h n ≡ Some (Some leaf) → (leaf.point.txid ≡ txid_at ids t) × (known + leaf.point.index ≡ n)
+AreOf ids t known h = (n : ℕ) (leaf : Leaf) → known ≤ n → slice_get h n ≡ Some (Some leaf) → (leaf.point.txid ≡ txid_at ids t)
+    × (known + leaf.point.index ≡ n)
 
 -- all but those of the last transaction are named
 pub record Knows (made : Made) : Type 0 where

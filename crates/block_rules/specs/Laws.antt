@@ -25,7 +25,8 @@ literal_spends (at ∷ ats) made = record { at = at; own = latest at.point made 
 
 abbrev pub literal_groups : Digest → ℕ → ℕ → List Transaction → List Leaf → List (List Spend)
 literal_groups hash height t [] made = []
-literal_groups hash height t (tx ∷ txs) made = literal_spends (placed_from t 0 tx.inputs) made ∷ literal_groups hash height (suc t) txs (made ++ made_by hash height false tx)
+literal_groups hash height t (tx ∷ txs) made =
+    literal_spends (placed_from t 0 tx.inputs) made ∷ literal_groups hash height (suc t) txs (made ++ made_by hash height false tx)
 
 -- where no outpoint is spent twice, the walk over a block finds what the letter says
 abbrev pub InternalIsLatest : Type 0
@@ -44,7 +45,8 @@ all_made hash height (tx ∷ txs) made = all_made hash height txs (made ++ made_
 
 abbrev pub all_numbers : Digest → ℕ → ℕ → List Transaction → List Leaf → List ℕ
 all_numbers hash height t [] made = []
-all_numbers hash height t (tx ∷ txs) made = literal_numbers (placed_from t 0 tx.inputs) made ++ all_numbers hash height (suc t) txs (made ++ made_by hash height false tx)
+all_numbers hash height t (tx ∷ txs) made =
+    literal_numbers (placed_from t 0 tx.inputs) made ++ all_numbers hash height (suc t) txs (made ++ made_by hash height false tx)
 
 abbrev pub spent_in_order : List ℕ → History → History
 spent_in_order [] history = history
@@ -54,7 +56,8 @@ spent_in_order (n ∷ ns) history = spent_in_order ns (set history n None)
 abbrev pub NewIsUnspent : Type 0
 NewIsUnspent = (b : Block) (h : ℕ) → double [] (placed_of 0 b.txs) ≡ None →
     let made = made_first (block_hash_of b) (suc h) b.txs in
-    new_records b (suc h) ≡ somes (spent_in_order (all_numbers (block_hash_of b) (suc h) 1 (others b.txs) made) (map Some (all_made (block_hash_of b) (suc h) (others b.txs) made)))
+    new_records b (suc h) ≡ somes (spent_in_order (all_numbers (block_hash_of b) (suc h) 1 (others b.txs) made)
+    (map Some (all_made (block_hash_of b) (suc h) (others b.txs) made)))
 
 -- ---- value: where the rules on money pass, what a block adds is no more than the subsidy and what it spends from outside
 abbrev pub NewIsPaid : Type 0

@@ -21,7 +21,8 @@ SeesAt t before whole more (Some i) seen = double before whole ≡ Some (Why.Dou
 SeesAt t before whole more None seen = Reaches before whole more seen
 
 abbrev pub Sees : BTreeSet OutpointKey → List Input → Option ℕ → BTreeSet OutpointKey → Type 0
-Sees old inputs found new = (t : ℕ) (before : List Outpoint) (more : List Placed) → HasPoints old before → SeesAt t before (placed_from t 0 inputs ++ more) more found new
+Sees old inputs found new = (t : ℕ) (before : List Outpoint) (more : List Placed) → HasPoints old before
+    → SeesAt t before (placed_from t 0 inputs ++ more) more found new
 
 -- a number that stands for an outpoint: the head of the id, and the index
 abbrev pub mark_of : Outpoint → ℕ

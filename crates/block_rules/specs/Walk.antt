@@ -6,14 +6,18 @@ use Rattle.leaf_record.specs.History.{somes, History, newest}
 use Rattle.block_rules.specs.declared.chain.Outside.{Outside}
 use Rattle.block_rules.specs.declared.origins.Origins.{Origins}
 use Rattle.block_rules.specs.declared.walk.Walk.{Walk}
-use Rattle.block_rules.specs.Blocks.{outpoint_of, placed_from, Spend, spends_from, left_from, left_of_all, external_in, external, groups, made_first, others}
+use Rattle.block_rules.specs.Blocks.{outpoint_of, placed_from, Spend, spends_from, left_from, left_of_all, external_in, external, groups, made_first}
+use Rattle.block_rules.specs.Blocks.{others}
 use Rattle.block_rules.specs.Kept.{Kept, kept_from}
 use Rattle.block_rules.specs.Known.{history_at, history}
 use Rattle.block_rules.specs.Money.{Bill, output_sum, own_found, bills_of}
 
 -- an input of transaction t, and what it spends of the outputs that are left
 abbrev pub spend_at : ℕ → ℕ → Input → History → Spend
-spend_at t i input left = record { at = record { tx = t; input = i; point = outpoint_of input }; own = option_map (λ e. e.leaf) (newest (outpoint_of input) left) }
+spend_at t i input left = record {
+  at = record { tx = t; input = i; point = outpoint_of input };
+  own = option_map (λ e. e.leaf) (newest (outpoint_of input) left);
+}
 
 -- what was met so far: what is left of the outputs, the external inputs, and the bills
 pub record Walked : Type 0 where

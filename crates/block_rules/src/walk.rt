@@ -36,7 +36,8 @@ impl<'a> Walk<'a> {
         ensures origins { self.new.made.origins ≡ self.old.made.origins }
         ensures named { self.new.made.named.items ≡ self.old.made.named.items }
         ensures bills { self.new.bills.items ≡ self.old.bills.items }
-        ensures external { OnOk result (self.new.external.items ≡ self.old.external.items ++ external_in (spend_at t i (input_of input.now) (history self.old.made) ∷ [])) }
+        ensures external { OnOk result (self.new.external.items ≡ self.old.external.items
+            ++ external_in (spend_at t i (input_of input.now) (history self.old.made) ∷ [])) }
         ensures found { IfOk result (λ found. found ≡ own_found (spend_at t i (input_of input.now) (history self.old.made))) }
     {
         match self.made.take(&input.txid, input.index) {
@@ -66,7 +67,8 @@ impl<'a> Walk<'a> {
         ensures origins { self.new.made.origins ≡ self.old.made.origins }
         ensures named { self.new.made.named.items ≡ self.old.made.named.items }
         ensures bills { self.new.bills.items ≡ self.old.bills.items }
-        ensures external { OnOk result (self.new.external.items ≡ self.old.external.items ++ external_in (spends_from (placed_from t 0 tx.now.inputs) (history self.old.made))) }
+        ensures external { OnOk result (self.new.external.items ≡ self.old.external.items
+            ++ external_in (spends_from (placed_from t 0 tx.now.inputs) (history self.old.made))) }
         ensures found { IfOk result (λ found. found.items ≡ map own_found (spends_from (placed_from t 0 tx.now.inputs) (history self.old.made))) }
         ensures few { length tx.now.inputs < 2 ^ 32 }
     {

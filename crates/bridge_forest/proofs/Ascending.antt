@@ -1,5 +1,6 @@
 -- The way up from a part to the root of its slot: where it stands beneath the parts above it.
-use Rattle.std.proofs.Common.{◌≡◌, ℕ, suc, ◌+◌, ◌-◌, ◌*◌, ◌/◌, ◌%◌, ◌^◌, ◌<◌, ◌≤◌, Bool, true, false, List, length, Option, Some, None, refl, sym, ap, ap₂, ◌∙◌, ⊎_elim, arith}
+use Rattle.std.proofs.Common.{◌≡◌, ℕ, suc, ◌+◌, ◌-◌, ◌*◌, ◌/◌, ◌%◌, ◌^◌, ◌<◌, ◌≤◌, Bool, true, false, List, length, Option, Some, None, refl, sym, ap}
+use Rattle.std.proofs.Common.{ap₂, ◌∙◌, ⊎_elim, arith}
 use Rattle.std.specs.Prelude.{is_some}
 use Rattle.std.proofs.Math.Nat.{div-le_self, pow-suc}
 use Rattle.std.specs.Bool.{OnTrue, OnFalse}
@@ -22,7 +23,8 @@ pub record IsAscent (es : List (Option Digest)) (parts : PartLists) (from : Plac
   pub few : rows ≤ row
   pub wide : width ≤ 2 ^ row
   pub inside : left < width
-  pub stands : (q : Place) → tree_at es q.row q.off ≡ content es row off → (rows ≤ q.row) × (tree_at es (q.row - rows) (q.off * width + left) ≡ content es from.row from.off)
+  pub stands : (q : Place) → tree_at es q.row q.off ≡ content es row off
+      → (rows ≤ q.row) × (tree_at es (q.row - rows) (q.off * width + left) ≡ content es from.row from.off)
 
 -- an offset is below the number of entries
 pub off-below : (n row off : ℕ) → InForest n row off → off < n
@@ -41,7 +43,8 @@ not_there (Some d) e = absurd (true≢false (sym e))
 
 module _ (es : List (Option Digest)) (parts : PartLists) (right : AreAlike es parts) (from : Place) where
   -- nothing is beside the part
-  pub ascent-same : (row off rows width left : ℕ) → is_root (length es) row off ≡ false → None ≡ kept es parts row (sibling_off off) → 2 ^ (row + 1) ≡ 2 ^ row * 2 → IsAscent es parts from row off rows width left → IsAscent es parts from (row + 1) (off / 2) rows width left
+  pub ascent-same : (row off rows width left : ℕ) → is_root (length es) row off ≡ false → None ≡ kept es parts row (sibling_off off)
+      → 2 ^ (row + 1) ≡ 2 ^ row * 2 → IsAscent es parts from row off rows width left → IsAscent es parts from (row + 1) (off / 2) rows width left
   ascent-same row off rows width left other told twice a =
       let up = up_code es parts right row off a.within other in
       let beside = sibling_within (length es) row off a.within other in
@@ -55,7 +58,8 @@ module _ (es : List (Option Digest)) (parts : PartLists) (right : AreAlike es pa
       }
 
   -- the place of the part is beneath that of the one above
-  pub ascent-deeper : (row off rows width left : ℕ) (d : Digest) → is_root (length es) row off ≡ false → Some d ≡ kept es parts row (sibling_off off) → 2 ^ (row + 1) ≡ 2 ^ row * 2 → IsAscent es parts from row off rows width left →
+  pub ascent-deeper : (row off rows width left : ℕ) (d : Digest) → is_root (length es) row off ≡ false → Some d ≡ kept es parts row (sibling_off off)
+      → 2 ^ (row + 1) ≡ 2 ^ row * 2 → IsAscent es parts from row off rows width left →
       IsAscent es parts from (row + 1) (off / 2) (rows + 1) (width * 2) (left + off % 2 * width)
   ascent-deeper row off rows width left d other told twice a =
       let up = up_code es parts right row off a.within other in
@@ -82,8 +86,10 @@ module _ (es : List (Option Digest)) (parts : PartLists) (right : AreAlike es pa
       moved : (o side : ℕ) → o * (width * 2) + (left + side * width) ≡ (2 * o + side) * width + left
       moved o side = omega arith
 
-  pub ascent-on : (beside : Bool) (row off rows width left rows' width' left' : ℕ) (above : Place) → is_root (length es) row off ≡ false → beside ≡ is_some (kept es parts row (sibling_off off)) → above ≡ record { row = row + 1; off = off / 2 } →
-      OnTrue beside ((rows' ≡ rows + 1) × (width' ≡ width * 2) × (left' ≡ left + off % 2 * width)) → OnFalse beside ((rows' ≡ rows) × (width' ≡ width) × (left' ≡ left)) →
+  pub ascent-on : (beside : Bool) (row off rows width left rows' width' left' : ℕ) (above : Place) → is_root (length es) row off ≡ false
+      → beside ≡ is_some (kept es parts row (sibling_off off)) → above ≡ record { row = row + 1; off = off / 2 } →
+      OnTrue beside ((rows' ≡ rows + 1) × (width' ≡ width * 2) × (left' ≡ left + off % 2 * width))
+      → OnFalse beside ((rows' ≡ rows) × (width' ≡ width) × (left' ≡ left)) →
       IsAscent es parts from row off rows width left → IsAscent es parts from above.row above.off rows' width' left'
   ascent-on true row off rows width left rows' width' left' above other is up more less a =
       let x = there (kept es parts row (sibling_off off)) is in
@@ -95,8 +101,10 @@ module _ (es : List (Option Digest)) (parts : PartLists) (right : AreAlike es pa
       rw (up, less.0, less.1, less.2) (ascent-same row off rows width left other x twice a)
 
   -- at the root of the slot
-  pub ascent-ends : (row off rows width left : ℕ) → is_root (length es) row off ≡ true → IsAscent es parts from row off rows width left → InForest (length es) from.row from.off → (kept es parts from.row from.off ≡ None → ⊥) →
-      (rows ≤ row) × (tree_at es (row - rows) (off * width + left) ≡ content es from.row from.off) × InForest (length es) (row - rows) (off * width + left)
+  pub ascent-ends : (row off rows width left : ℕ) → is_root (length es) row off ≡ true → IsAscent es parts from row off rows width left
+      → InForest (length es) from.row from.off → (kept es parts from.row from.off ≡ None → ⊥) →
+      (rows ≤ row) × (tree_at es (row - rows) (off * width + left) ≡ content es from.row from.off)
+      × InForest (length es) (row - rows) (off * width + left)
   ascent-ends row off rows width left root a within some =
       let here = a.stands (record { row = row; off = off }) (tree_at-root es row off root) in
       (here.0, here.1, place_child_within es parts right from.row from.off (record { row = row - rows; off = off * width + left }) here.1 within some)

@@ -1,5 +1,6 @@
 -- What is noted at and beneath a place.
-use Rattle.std.proofs.Common.{◌≡◌, ◌≢◌, ℕ, zero, suc, ◌+◌, ◌-◌, ◌*◌, ◌/◌, ◌^◌, ◌<◌, ◌≤◌, true, false, List, [], ◌∷◌, ◌++◌, length, set, get_or, Option, Some, None, refl, sym, ap, ap₂, ◌∙◌, subst, ⊎_elim, ◌⊎◌, inl, inr, arith}
+use Rattle.std.proofs.Common.{◌≡◌, ◌≢◌, ℕ, zero, suc, ◌+◌, ◌-◌, ◌*◌, ◌/◌, ◌^◌, ◌<◌, ◌≤◌, true, false, List, [], ◌∷◌, ◌++◌, length, set, get_or}
+use Rattle.std.proofs.Common.{Option, Some, None, refl, sym, ap, ap₂, ◌∙◌, subst, ⊎_elim, ◌⊎◌, inl, inr, arith}
 use Rattle.std.specs.Prelude.{nat_le, filter, Result, Ok, Err, OnOk}
 use Rattle.std.specs.List.{filter_map}
 use Rattle.std.proofs.Math.Nat.{pow-suc}
@@ -30,7 +31,8 @@ row_places-append row from zero b =
 row_places-append row from (suc a) b =
     let e : suc from + a ≡ from + suc a = omega arith in
     let more : suc a + b ≡ suc (a + b) = omega arith in
-    ap (row_places row from) more ∙ ap (λ ps. record { row = row; off = from } ∷ ps) (row_places-append row (suc from) a b ∙ ap (λ k. row_places row (suc from) a ++ row_places row k b) e)
+    ap (row_places row from) more ∙ ap (λ ps. record { row = row; off = from } ∷ ps)
+    (row_places-append row (suc from) a b ∙ ap (λ k. row_places row (suc from) a ++ row_places row k b) e)
 
 not_needed-beside : (n : ℕ) (ts : List Place) (r o : ℕ) → cover ts r (sibling_off o) ≡ None → is_needed n ts (record { row = r; off = o }) ≡ false
 not_needed-beside n ts r o none =
@@ -67,15 +69,18 @@ module _ (H : List ℕ → Digest) (es : List (Option Digest)) (ts : List Place)
   in_row-append row from a b =
       ap (λ ps. filter_map (standing H es) (filter (is_needed (length es) ts) ps)) (row_places-append row from a b)
       ∙ (ap (filter_map (standing H es)) (filter-append (is_needed (length es) ts) (row_places row from a) (row_places row (from + a) b))
-      ∙ filter_map-append (standing H es) (filter (is_needed (length es) ts) (row_places row from a)) (filter (is_needed (length es) ts) (row_places row (from + a) b)))
+      ∙ filter_map-append (standing H es) (filter (is_needed (length es) ts) (row_places row from a))
+      (filter (is_needed (length es) ts) (row_places row (from + a) b)))
 
-  pub in_row-none : (row from count : ℕ) → ((o : ℕ) → from ≤ o → o < from + count → is_needed (length es) ts (record { row = row; off = o }) ≡ false) → in_row H es ts row from count ≡ []
+  pub in_row-none : (row from count : ℕ) → ((o : ℕ) → from ≤ o → o < from + count → is_needed (length es) ts (record { row = row; off = o }) ≡ false)
+      → in_row H es ts row from count ≡ []
   in_row-none row from zero none = refl
   in_row-none row from (suc count) none =
       let first : is_needed (length es) ts (record { row = row; off = from }) ≡ false = none from (omega arith) (omega arith) in
       rw first (in_row-none row (suc from) count (λ o le lt. none o (omega (arith, le)) (omega (arith, lt))))
 
-  in_row-one : (row off : ℕ) → is_needed (length es) ts (record { row = row; off = off }) ≡ true → in_row H es ts row off 1 ≡ filter_map (standing H es) (record { row = row; off = off } ∷ [])
+  in_row-one : (row off : ℕ) → is_needed (length es) ts (record { row = row; off = off }) ≡ true
+      → in_row H es ts row off 1 ≡ filter_map (standing H es) (record { row = row; off = off } ∷ [])
   in_row-one row off needed = rw needed refl
 
   -- ---- at and beneath a place
@@ -93,7 +98,8 @@ module _ (H : List ℕ → Digest) (es : List (Option Digest)) (ts : List Place)
       beneath_row q q.row (omega arith) ∙ (ap (λ k. in_row H es ts q.row (q.off * 2 ^ k) (2 ^ k)) e ∙ ap (λ o. in_row H es ts q.row o 1) f)
 
   -- where no place beneath is covered, none is needed there
-  pub beneath_nothing : (q : Place) → ((k r o : ℕ) → r + suc k ≡ q.row → o / 2 ^ suc k ≡ q.off → cover ts r o ≡ None) → (row : ℕ) → row < q.row → beneath H es ts q row ≡ []
+  pub beneath_nothing : (q : Place) → ((k r o : ℕ) → r + suc k ≡ q.row → o / 2 ^ suc k ≡ q.off → cover ts r o ≡ None) → (row : ℕ) → row < q.row
+      → beneath H es ts q row ≡ []
   beneath_nothing q none row under = beneath_row q row (omega (arith, under)) ∙ by_rows (q.row - suc row) (omega (arith, under))
     where
       within : (k o : ℕ) → q.off * 2 ^ k ≤ o → o < q.off * 2 ^ k + 2 ^ k → o / 2 ^ k ≡ q.off
@@ -107,29 +113,38 @@ module _ (H : List ℕ → Digest) (es : List (Option Digest)) (ts : List Place)
           let deep : q.row - row ≡ suc k = omega (arith, e) in
           ap (λ j. in_row H es ts row (q.off * 2 ^ j) (2 ^ j)) deep
           ∙ in_row-none row (q.off * 2 ^ suc k) (2 ^ suc k) (λ o le lt. not_needed-beside (length es) ts row o
-          (none k row (sibling_off o) e (half_pow (sibling_off o) k ∙ (ap (λ x. x / 2 ^ k) (sibling_half o) ∙ (sym (half_pow o k) ∙ within (suc k) o le lt)))))
+          (none k row (sibling_off o) e (half_pow (sibling_off o) k
+          ∙ (ap (λ x. x / 2 ^ k) (sibling_half o) ∙ (sym (half_pow o k) ∙ within (suc k) o le lt)))))
 
   -- nothing more
   pub more_nothing : (q : Place) (rows : List (List Sibling)) → ((row : ℕ) → row ≤ q.row → beneath H es ts q row ≡ []) → AreMore H es ts q rows rows
   more_nothing q rows none = record {
-    is = λ row. sym (append-nil (list_of rows row)) ∙ ap (λ xs. list_of rows row ++ xs) (sym (⊎_elim (λ over. beneath_above q row over) (λ under. none row (omega (arith, under))) (cases_lt q.row row)));
+    is = λ row. sym (append-nil (list_of rows row)) ∙ ap (λ xs. list_of rows row ++ xs)
+        (sym (⊎_elim (λ over. beneath_above q row over) (λ under. none row (omega (arith, under))) (cases_lt q.row row)));
   }
 
   -- where a place is needed and nothing beneath it, it is noted alone
-  pub more_one : (q : Place) (old new : List (List Sibling)) → is_needed (length es) ts (record { row = q.row; off = q.off }) ≡ true → ((row : ℕ) → row < q.row → beneath H es ts q row ≡ []) → list_of new q.row ≡ list_of old q.row ++ filter_map (standing H es) (q ∷ []) → ((row : ℕ) → row ≢ q.row → list_of new row ≡ list_of old row) → AreMore H es ts q old new
+  pub more_one : (q : Place) (old new : List (List Sibling)) → is_needed (length es) ts (record { row = q.row; off = q.off }) ≡ true
+      → ((row : ℕ) → row < q.row → beneath H es ts q row ≡ []) → list_of new q.row ≡ list_of old q.row ++ filter_map (standing H es) (q ∷ [])
+      → ((row : ℕ) → row ≢ q.row → list_of new row ≡ list_of old row) → AreMore H es ts q old new
   more_one q old new needed none here others = record {
     is = λ row.
         ⊎_elim
-        (λ same. subst (λ r. list_of new r ≡ list_of old r ++ beneath H es ts q r) (sym same) (here ∙ ap (λ xs. list_of old q.row ++ xs) (sym (beneath_here q ∙ in_row-one q.row q.off needed))))
-        (λ other. others row other ∙ (sym (append-nil (list_of old row)) ∙ ap (λ xs. list_of old row ++ xs) (sym (⊎_elim (λ over. beneath_above q row over) (λ under. none row (omega (arith, under, other))) (cases_lt q.row row)))))
+        (λ same. subst (λ r. list_of new r ≡ list_of old r ++ beneath H es ts q r) (sym same)
+        (here ∙ ap (λ xs. list_of old q.row ++ xs) (sym (beneath_here q ∙ in_row-one q.row q.off needed))))
+        (λ other. others row other ∙ (sym (append-nil (list_of old row))
+        ∙ ap (λ xs. list_of old row ++ xs) (sym (⊎_elim (λ over. beneath_above q row over) (λ under. none row (omega (arith, under, other)))
+        (cases_lt q.row row)))))
         (cases_eq row q.row);
   }
 
   pub covered_top : (q : Place) (c : Cover) → cover ts q.row q.off ≡ Some c → beneath H es ts q q.row ≡ []
-  covered_top q c some = beneath_here q ∙ in_row-none q.row q.off 1 (λ o le lt. let e : o ≡ q.off = omega (arith, le, lt) in ap (λ x. is_needed (length es) ts (record { row = q.row; off = x })) e ∙ not_needed-covered (length es) ts q.row q.off c some)
+  covered_top q c some = beneath_here q ∙ in_row-none q.row q.off 1 (λ o le lt. let e : o ≡ q.off = omega (arith, le, lt) in
+      ap (λ x. is_needed (length es) ts (record { row = q.row; off = x })) e ∙ not_needed-covered (length es) ts q.row q.off c some)
 
   -- what is beneath the two places under a covered one is all that is beneath it
-  module _ (q left right : Place) (c : Cover) (high : 0 < q.row) (lr : left.row ≡ q.row - 1) (lo : left.off ≡ 2 * q.off) (rr : right.row ≡ q.row - 1) (ro : right.off ≡ 2 * q.off + 1) (some : cover ts q.row q.off ≡ Some c) where
+  module _ (q left right : Place) (c : Cover) (high : 0 < q.row) (lr : left.row ≡ q.row - 1) (lo : left.off ≡ 2 * q.off) (rr : right.row ≡ q.row - 1)
+      (ro : right.off ≡ 2 * q.off + 1) (some : cover ts q.row q.off ≡ Some c) where
     at_top : (row : ℕ) → q.row ≤ row → beneath H es ts q row ≡ []
     at_top row h =
         ⊎_elim
@@ -149,42 +164,56 @@ module _ (H : List ℕ → Digest) (es : List (Option Digest)) (ts : List Place)
         let middle : (2 * q.off + 1) * 2 ^ k ≡ 2 * q.off * 2 ^ k + 2 ^ k = next (2 * q.off) (2 ^ k) in
         ap₂ (λ xs ys. xs ++ ys)
         (beneath_row left row (omega (arith, under)) ∙ ap (λ o. in_row H es ts row (o * 2 ^ k) (2 ^ k)) lo)
-        (beneath_row right row (omega (arith, under, lr, rr)) ∙ (ap (λ j. in_row H es ts row (right.off * 2 ^ j) (2 ^ j)) same ∙ ap (λ o. in_row H es ts row o (2 ^ k)) (ap (λ o. o * 2 ^ k) ro ∙ middle)))
+        (beneath_row right row (omega (arith, under, lr, rr)) ∙ (ap (λ j. in_row H es ts row (right.off * 2 ^ j) (2 ^ j)) same
+        ∙ ap (λ o. in_row H es ts row o (2 ^ k)) (ap (λ o. o * 2 ^ k) ro ∙ middle)))
         ∙ (sym (in_row-append row (2 * q.off * 2 ^ k) (2 ^ k) (2 ^ k))
         ∙ (ap₂ (λ o m. in_row H es ts row o m) (sym begin) (sym double)
         ∙ (ap (λ j. in_row H es ts row (q.off * 2 ^ j) (2 ^ j)) (sym deep) ∙ sym (beneath_row q row (omega (arith, under, lr)))))))
-        (λ over. ap₂ (λ xs ys. xs ++ ys) (beneath_above left row (omega (arith, over))) (beneath_above right row (omega (arith, over, lr, rr))) ∙ sym (at_top row (omega (arith, over, lr))))
+        (λ over. ap₂ (λ xs ys. xs ++ ys) (beneath_above left row (omega (arith, over))) (beneath_above right row (omega (arith, over, lr, rr)))
+        ∙ sym (at_top row (omega (arith, over, lr))))
         (by_order row left.row)
 
     pub more_halves : (old mid new : List (List Sibling)) → AreMore H es ts left old mid → AreMore H es ts right mid new → AreMore H es ts q old new
     more_halves old mid new low above = record {
-      is = λ row. above.is row ∙ (ap (λ xs. xs ++ beneath H es ts right row) (low.is row) ∙ (append_assoc (list_of old row) (beneath H es ts left row) (beneath H es ts right row) ∙ ap (λ xs. list_of old row ++ xs) (both row)));
+      is = λ row. above.is row ∙ (ap (λ xs. xs ++ beneath H es ts right row) (low.is row)
+          ∙ (append_assoc (list_of old row) (beneath H es ts left row) (beneath H es ts right row) ∙ ap (λ xs. list_of old row ++ xs) (both row)));
     }
 
     -- in each row one of the two has nothing, so it does not matter which is noted first
-    pub more_across : (old mid new : List (List Sibling)) → ((row : ℕ) → (beneath H es ts left row ≡ []) ⊎ (beneath H es ts right row ≡ [])) → AreMore H es ts right old mid → AreMore H es ts left mid new → AreMore H es ts q old new
+    pub more_across : (old mid new : List (List Sibling)) → ((row : ℕ) → (beneath H es ts left row ≡ []) ⊎ (beneath H es ts right row ≡ []))
+        → AreMore H es ts right old mid → AreMore H es ts left mid new → AreMore H es ts q old new
     more_across old mid new apart above low = record {
-      is = λ row. low.is row ∙ (ap (λ xs. xs ++ beneath H es ts left row) (above.is row) ∙ (append_assoc (list_of old row) (beneath H es ts right row) (beneath H es ts left row) ∙ ap (λ xs. list_of old row ++ xs) (either row ∙ both row)));
+      is = λ row. low.is row ∙ (ap (λ xs. xs ++ beneath H es ts left row) (above.is row)
+          ∙ (append_assoc (list_of old row) (beneath H es ts right row) (beneath H es ts left row)
+          ∙ ap (λ xs. list_of old row ++ xs) (either row ∙ both row)));
     }
       where
         either : (row : ℕ) → beneath H es ts right row ++ beneath H es ts left row ≡ beneath H es ts left row ++ beneath H es ts right row
         either row =
             ⊎_elim
-            (λ none. ap (λ xs. beneath H es ts right row ++ xs) none ∙ (append-nil (beneath H es ts right row) ∙ ap (λ xs. xs ++ beneath H es ts right row) (sym none)))
-            (λ none. ap (λ xs. xs ++ beneath H es ts left row) none ∙ (sym (append-nil (beneath H es ts left row)) ∙ ap (λ xs. beneath H es ts left row ++ xs) (sym none)))
+            (λ none. ap (λ xs. beneath H es ts right row ++ xs) none
+            ∙ (append-nil (beneath H es ts right row) ∙ ap (λ xs. xs ++ beneath H es ts right row) (sym none)))
+            (λ none. ap (λ xs. xs ++ beneath H es ts left row) none
+            ∙ (sym (append-nil (beneath H es ts left row)) ∙ ap (λ xs. beneath H es ts left row ++ xs) (sym none)))
             (apart row)
 
 -- what was put to a row stands there, if there was memory for it
-pub put_here : {A F : Type 0} (done : Result A F) (rows : List (List Sibling)) (x : Sibling) (old new : List Sibling) → x.place.row < length rows → old ≡ get_or rows x.place.row old → OnOk done (new ≡ old ++ x ∷ []) → OnOk done (list_of (set rows x.place.row new) x.place.row ≡ list_of rows x.place.row ++ x ∷ [])
+pub put_here : {A F : Type 0} (done : Result A F) (rows : List (List Sibling)) (x : Sibling) (old new : List Sibling) → x.place.row < length rows
+    → old ≡ get_or rows x.place.row old → OnOk done (new ≡ old ++ x ∷ [])
+    → OnOk done (list_of (set rows x.place.row new) x.place.row ≡ list_of rows x.place.row ++ x ∷ [])
 put_here (Ok u) rows x old new within is more =
-    let there : list_of rows x.place.row ≡ old = same_Some _ _ (sym (slice_get-get_or rows x.place.row [] within) ∙ slice_get-get_or rows x.place.row old within) ∙ sym is in
+    let there : list_of rows x.place.row ≡ old =
+    same_Some _ _ (sym (slice_get-get_or rows x.place.row [] within) ∙ slice_get-get_or rows x.place.row old within) ∙ sym is in
     get_or-set_same rows x.place.row new [] within ∙ (more ∙ ap (λ xs. xs ++ x ∷ []) (sym there))
 put_here (Err e) rows x old new within is more = tt
 
 -- a place is noted with the digest that stands there
-pub noted_is : (H : List ℕ → Digest) (es : List (Option Digest)) (q : Place) (d : Digest) → digest_at H es q.row q.off ≡ Some d → filter_map (standing H es) (q ∷ []) ≡ record { place = q; digest = d } ∷ []
+pub noted_is : (H : List ℕ → Digest) (es : List (Option Digest)) (q : Place) (d : Digest) → digest_at H es q.row q.off ≡ Some d
+    → filter_map (standing H es) (q ∷ []) ≡ record { place = q; digest = d } ∷ []
 noted_is H es q d stands = rw stands refl
 
-pub noted_here : {A F : Type 0} (H : List ℕ → Digest) (es : List (Option Digest)) (done : Result A F) (q : Place) (d : Digest) (old new : List Sibling) → digest_at H es q.row q.off ≡ Some d → OnOk done (new ≡ old ++ record { place = q; digest = d } ∷ []) → OnOk done (new ≡ old ++ filter_map (standing H es) (q ∷ []))
+pub noted_here : {A F : Type 0} (H : List ℕ → Digest) (es : List (Option Digest)) (done : Result A F) (q : Place) (d : Digest)
+    (old new : List Sibling) → digest_at H es q.row q.off ≡ Some d → OnOk done (new ≡ old ++ record { place = q; digest = d } ∷ [])
+    → OnOk done (new ≡ old ++ filter_map (standing H es) (q ∷ []))
 noted_here H es (Ok u) q d old new stands more = more ∙ ap (λ xs. old ++ xs) (sym (noted_is H es q d stands))
 noted_here H es (Err e) q d old new stands more = tt

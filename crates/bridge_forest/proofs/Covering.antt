@@ -1,5 +1,6 @@
 -- Which places are covered: those where the tree that stands there has one of the entries at the targets.
-use Rattle.std.proofs.Common.{◌≡◌, ℕ, zero, suc, ◌+◌, ◌*◌, ◌/◌, ◌%◌, ◌^◌, true, List, length, get_or, Option, Some, None, refl, sym, ap, ◌∙◌, subst, ⊎_elim, inl, inr, arith}
+use Rattle.std.proofs.Common.{◌≡◌, ℕ, zero, suc, ◌+◌, ◌*◌, ◌/◌, ◌%◌, ◌^◌, true, List, length, get_or, Option, Some, None, refl, sym, ap, ◌∙◌, subst}
+use Rattle.std.proofs.Common.{⊎_elim, inl, inr, arith}
 use Rattle.std.specs.Prelude.{option_and_then}
 use Rattle.std.proofs.lemmas.Bool.{cases_Bool, cases_eq}
 use Rattle.std.proofs.lemmas.Nat.{shr-shr}
@@ -52,7 +53,8 @@ target_beneath ts (suc r) o c e =
     (λ d f. target_above ts r o (2 * o + 1) (omega arith) (target_beneath ts r (2 * o + 1) d f)))
     (cases_Bool (has_place ts (suc r) o))
   where
-    of_halves : (x y : Option Cover) → cover_of_halves r o x y ≡ Some c → ((d : Cover) → x ≡ Some d → HasTarget ts (suc r) o) → ((d : Cover) → y ≡ Some d → HasTarget ts (suc r) o) → HasTarget ts (suc r) o
+    of_halves : (x y : Option Cover) → cover_of_halves r o x y ≡ Some c → ((d : Cover) → x ≡ Some d → HasTarget ts (suc r) o)
+        → ((d : Cover) → y ≡ Some d → HasTarget ts (suc r) o) → HasTarget ts (suc r) o
     of_halves None None g left right = absurd (none-some c g)
     of_halves None (Some d) g left right = right d refl
     of_halves (Some d) y g left right = left d refl
@@ -62,7 +64,8 @@ half_has i zero l r s e h = inl (subst (HasLeaf i) (sym (same_Some l s e)) h)
 half_has i (suc side) l r s e h = inr (subst (HasLeaf i) (sym (same_Some r s e)) h)
 
 -- the leaves of what stands beneath a place are leaves of the tree that stands there
-leaf_above : (es : List (Option Digest)) (i k r o row off : ℕ) (s : Tree) → r + k ≡ row → o / 2 ^ k ≡ off → InForest (length es) row off → tree_at es r o ≡ Some s → HasLeaf i s → (t : Tree) × (tree_at es row off ≡ Some t) × HasLeaf i t
+leaf_above : (es : List (Option Digest)) (i k r o row off : ℕ) (s : Tree) → r + k ≡ row → o / 2 ^ k ≡ off → InForest (length es) row off
+    → tree_at es r o ≡ Some s → HasLeaf i s → (t : Tree) × (tree_at es row off ≡ Some t) × HasLeaf i t
 leaf_above es i zero r o row off s e f within st h =
     let a : row ≡ r = omega (arith, e) in
     let z : o / 1 ≡ off = f in
@@ -71,12 +74,14 @@ leaf_above es i zero r o row off s e f within st h =
 leaf_above es i (suc k) r o row off s e f within st h =
     let a : suc r + k ≡ row = omega (arith, e) in
     let b : o / 2 / 2 ^ k ≡ off = sym (half_pow o k) ∙ f in
-    let up = InForest-beneath (length es) k (suc r) (o / 2) (subst (λ x. InForest (length es) x (o / 2 / 2 ^ k)) (sym a) (subst (InForest (length es) row) (sym b) within)) in
+    let up = InForest-beneath (length es) k (suc r) (o / 2)
+    (subst (λ x. InForest (length es) x (o / 2 / 2 ^ k)) (sym a) (subst (InForest (length es) row) (sym b) within)) in
     let w = inner_from_half (o % 2) (tree_at es (suc r) (o / 2)) s (sym (tree_at-up es r o up) ∙ st) in
     leaf_above es i k (suc r) (o / 2) row off (inner w.0 w.1) a b within w.2 (half_has i (o % 2) w.0 w.1 s w.3 h)
 
 -- the tree of a part has each live entry of it
-part_has : (es : List (Option Digest)) (i : ℕ) (d : Digest) → get_or es i None ≡ Some d → (row off : ℕ) (t : Tree) → i / 2 ^ row ≡ off → content es row off ≡ Some t → HasLeaf i t
+part_has : (es : List (Option Digest)) (i : ℕ) (d : Digest) → get_or es i None ≡ Some d → (row off : ℕ) (t : Tree) → i / 2 ^ row ≡ off
+    → content es row off ≡ Some t → HasLeaf i t
 part_has es i d live zero off t part e =
     let l = leaf_from off (get_or es off None) t e in
     let o : i ≡ off = let z : i / 1 ≡ off = part in omega (arith, z) in
@@ -104,7 +109,8 @@ leaf_is P i (inner l r) each h = ⊎_elim (λ k. leaf_is P i l each.0 k) (λ k. 
 
 module _ (es : List (Option Digest)) (ts : List Place) (all : List ℕ) (at : StandAt es ts all) where
   -- a place is covered whose tree has one of the entries
-  pub covered : (row off : ℕ) (q : Place) (i : ℕ) → tree_at es q.row q.off ≡ content es row off → is_spent all i ≡ true → i / 2 ^ row ≡ off → (c : Cover) × (cover ts q.row q.off ≡ Some c)
+  pub covered : (row off : ℕ) (q : Place) (i : ℕ) → tree_at es q.row q.off ≡ content es row off → is_spent all i ≡ true → i / 2 ^ row ≡ off
+      → (c : Cover) × (cover ts q.row q.off ≡ Some c)
   covered row off q i s spent part = by_cover (cover ts q.row q.off) refl
     where
       gone : get_or (entries_without all es) i None ≡ None
@@ -113,8 +119,10 @@ module _ (es : List (Option Digest)) (ts : List Place) (all : List ℕ) (at : St
       by_tree : (d : Digest) → get_or es i None ≡ Some d → cover ts q.row q.off ≡ None → (x : Option Tree) → content es row off ≡ x → ⊥
       by_tree d live e None g = none-some d (sym ((content_none_iff es row off).0 g i part) ∙ live)
       by_tree d live e (Some t) g =
-          let left : content (entries_without all es) row off ≡ Some t = content-entries_without all es row off ∙ (ap (option_and_then (tree_without all)) g ∙ stays_whole es ts all at q.row q.off (Some t) (s ∙ g) e) in
-          let w = leaf_is (λ j x. get_or (entries_without all es) j None ≡ Some x) i t (content-leaves (entries_without all es) row off t left) (part_has es i d live row off t part g) in
+          let left : content (entries_without all es) row off ≡ Some t = content-entries_without all es row off
+          ∙ (ap (option_and_then (tree_without all)) g ∙ stays_whole es ts all at q.row q.off (Some t) (s ∙ g) e) in
+          let w = leaf_is (λ j x. get_or (entries_without all es) j None ≡ Some x) i t (content-leaves (entries_without all es) row off t left)
+          (part_has es i d live row off t part g) in
           none-some w.0 (sym gone ∙ w.1)
 
       by_cover : (x : Option Cover) → cover ts q.row q.off ≡ x → (c : Cover) × (x ≡ Some c)
@@ -124,7 +132,8 @@ module _ (es : List (Option Digest)) (ts : List Place) (all : List ℕ) (at : St
       by_cover (Some c) e = (c, refl)
 
   -- a target at or beneath a place of the forest has an entry of the tree that stands there
-  target_leaf : (r o k : ℕ) (q : Place) → InForest (length es) q.row q.off → r + k ≡ q.row → o / 2 ^ k ≡ q.off → HasTarget ts r o → (i : ℕ) × (t : Tree) × (is_spent all i ≡ true) × (tree_at es q.row q.off ≡ Some t) × HasLeaf i t
+  target_leaf : (r o k : ℕ) (q : Place) → InForest (length es) q.row q.off → r + k ≡ q.row → o / 2 ^ k ≡ q.off → HasTarget ts r o
+      → (i : ℕ) × (t : Tree) × (is_spent all i ≡ true) × (tree_at es q.row q.off ≡ Some t) × HasLeaf i t
   target_leaf r o k q within e f h =
       let w = target_entry es ts all h.row h.off at h.is in
       let b : h.off / 2 ^ (h.deep + k) ≡ q.off = sym (shr-shr h.off h.deep k) ∙ (ap (λ x. x / 2 ^ k) h.beneath ∙ f) in
@@ -132,7 +141,8 @@ module _ (es : List (Option Digest)) (ts : List Place) (all : List ℕ) (at : St
       (w.0, t.0, w.3, t.1, t.2)
 
   -- where the tree of a place of the forest has none of them, no place is covered at or beneath it
-  pub uncovered : (row off : ℕ) (q : Place) → InForest (length es) q.row q.off → tree_at es q.row q.off ≡ content es row off → ((i : ℕ) → is_spent all i ≡ true → i / 2 ^ row ≡ off → ⊥) → (k r o : ℕ) → r + k ≡ q.row → o / 2 ^ k ≡ q.off → cover ts r o ≡ None
+  pub uncovered : (row off : ℕ) (q : Place) → InForest (length es) q.row q.off → tree_at es q.row q.off ≡ content es row off
+      → ((i : ℕ) → is_spent all i ≡ true → i / 2 ^ row ≡ off → ⊥) → (k r o : ℕ) → r + k ≡ q.row → o / 2 ^ k ≡ q.off → cover ts r o ≡ None
   uncovered row off q within s none k r o e f = by_cover (cover ts r o) refl
     where
       by_cover : (x : Option Cover) → cover ts r o ≡ x → x ≡ None
@@ -142,7 +152,8 @@ module _ (es : List (Option Digest)) (ts : List Place) (all : List ℕ) (at : St
           absurd (none w.0 w.2 (content-part es row off w.1 w.0 (sym s ∙ w.3) w.4))
 
   -- none is covered beneath one entry
-  pub uncovered_under : (q : Place) (i : ℕ) (d : Digest) → tree_at es q.row q.off ≡ Some (leaf i d) → (k r o : ℕ) → r + suc k ≡ q.row → o / 2 ^ suc k ≡ q.off → cover ts r o ≡ None
+  pub uncovered_under : (q : Place) (i : ℕ) (d : Digest) → tree_at es q.row q.off ≡ Some (leaf i d) → (k r o : ℕ) → r + suc k ≡ q.row
+      → o / 2 ^ suc k ≡ q.off → cover ts r o ≡ None
   uncovered_under q i d s k r o e f = by_cover (cover ts r o) refl
     where
       by_cover : (x : Option Cover) → cover ts r o ≡ x → x ≡ None
@@ -152,6 +163,8 @@ module _ (es : List (Option Digest)) (ts : List Place) (all : List ℕ) (at : St
           let w = target_entry es ts all h.row h.off at h.is in
           let a : q.row ≡ h.row + suc (h.deep + k) = omega (arith, h.up, e) in
           let l : h.deep + suc k ≡ suc (h.deep + k) = omega arith in
-          let b : q.off ≡ h.off / 2 ^ suc (h.deep + k) = sym f ∙ (ap (λ x. x / 2 ^ suc k) (sym h.beneath) ∙ (shr-shr h.off h.deep (suc k) ∙ ap (λ x. h.off / 2 ^ x) l)) in
-          let st = subst (λ x. tree_at es x (h.off / 2 ^ suc (h.deep + k)) ≡ Some (leaf i d)) a (subst (λ x. tree_at es q.row x ≡ Some (leaf i d)) b s) in
+          let b : q.off ≡ h.off / 2 ^ suc (h.deep + k) =
+          sym f ∙ (ap (λ x. x / 2 ^ suc k) (sym h.beneath) ∙ (shr-shr h.off h.deep (suc k) ∙ ap (λ x. h.off / 2 ^ x) l)) in
+          let st = subst (λ x. tree_at es x (h.off / 2 ^ suc (h.deep + k)) ≡ Some (leaf i d)) a
+          (subst (λ x. tree_at es q.row x ≡ Some (leaf i d)) b s) in
           absurd (none-some (leaf w.0 w.1) (sym (nothing_beneath es (h.deep + k) h.row h.off i d st) ∙ w.2))

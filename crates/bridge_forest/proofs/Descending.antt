@@ -1,5 +1,6 @@
 -- The way down from a part to those of all entries that it has: what is noted on it.
-use Rattle.std.proofs.Common.{◌≡◌, ◌≢◌, ℕ, zero, suc, ◌+◌, ◌-◌, ◌*◌, ◌/◌, ◌%◌, ◌^◌, ◌<◌, ◌≤◌, Bool, true, false, List, [], ◌∷◌, length, get_or, Option, Some, None, refl, sym, ap, ap₂, ◌∙◌, subst, ⊎_elim, ◌⊎◌, arith, eq-eqb, All}
+use Rattle.std.proofs.Common.{◌≡◌, ◌≢◌, ℕ, zero, suc, ◌+◌, ◌-◌, ◌*◌, ◌/◌, ◌%◌, ◌^◌, ◌<◌, ◌≤◌, Bool, true, false, List, [], ◌∷◌, length, get_or}
+use Rattle.std.proofs.Common.{Option, Some, None, refl, sym, ap, ap₂, ◌∙◌, subst, ⊎_elim, ◌⊎◌, arith, eq-eqb, All}
 use Rattle.std.specs.Prelude.{◌==◌, not, nat_le, filter, option_map, Result, Ok, Err, OnOk}
 use Rattle.std.proofs.lemmas.Bool.{true≢false, cases_Bool, cases_lt, eqb-true, le-leb, lt-leb, leb-true, leb-false, not-true, and_parts, and_from}
 use Rattle.std.proofs.Math.Nat.{div-eq_of_lt}
@@ -43,7 +44,8 @@ pub record HalvesOf (n : ℕ) (part left right : Place) : Type 0 where
   pub left_within : InForest n left.row left.off
   pub right_within : InForest n right.row right.off
 
-pub halves_of : (n : ℕ) (part left right : Place) → 0 < part.row → InForest n part.row part.off → (left.row + 1 ≡ part.row) × (right.row + 1 ≡ part.row) → left.off ≡ 2 * part.off → right.off ≡ 2 * part.off + 1 → HalvesOf n part left right
+pub halves_of : (n : ℕ) (part left right : Place) → 0 < part.row → InForest n part.row part.off → (left.row + 1 ≡ part.row)
+    × (right.row + 1 ≡ part.row) → left.off ≡ 2 * part.off → right.off ≡ 2 * part.off + 1 → HalvesOf n part left right
 halves_of n part left right some within rows left_off right_off =
     let low : left.row ≡ part.row - 1 = omega (arith, rows.0) in
     let high : right.row ≡ part.row - 1 = omega (arith, rows.1) in
@@ -70,50 +72,64 @@ not_in es row off i none live here =
     let some = some_from_test (get_or es i None) live in
     none-some some.0 (sym ((content_none_iff es row off).0 none i here) ∙ some.1)
 
-pub in_one : (es : List (Option Digest)) (row off : ℕ) (numbers : List ℕ) → 0 < length numbers → AreIn es row off numbers → AreIn es row off (get_or numbers 0 0 ∷ [])
-in_one es row off numbers some inside = All-cons (λ i. (is_live es i ≡ true) × (i / 2 ^ row ≡ off)) (get_or numbers 0 0) [] (inside 0 0 some) (All-nil (λ i. (is_live es i ≡ true) × (i / 2 ^ row ≡ off)))
+pub in_one : (es : List (Option Digest)) (row off : ℕ) (numbers : List ℕ) → 0 < length numbers → AreIn es row off numbers
+    → AreIn es row off (get_or numbers 0 0 ∷ [])
+in_one es row off numbers some inside = All-cons (λ i. (is_live es i ≡ true) × (i / 2 ^ row ≡ off)) (get_or numbers 0 0) [] (inside 0 0 some)
+    (All-nil (λ i. (is_live es i ≡ true) × (i / 2 ^ row ≡ off)))
 
-module _ (es : List (Option Digest)) (part left right : Place) (numbers : List ℕ) (h : HalvesOf (length es) part left right) (left_off : left.off ≡ 2 * part.off) (right_off : right.off ≡ 2 * part.off + 1) (inside : AreIn es part.row part.off numbers) where
+module _ (es : List (Option Digest)) (part left right : Place) (numbers : List ℕ) (h : HalvesOf (length es) part left right)
+    (left_off : left.off ≡ 2 * part.off) (right_off : right.off ≡ 2 * part.off + 1) (inside : AreIn es part.row part.off numbers) where
   pub in_right : content es left.row left.off ≡ None → AreIn es right.row right.off numbers
-  in_right none = All-weaker (λ i. (is_live es i ≡ true) × (i / 2 ^ part.row ≡ part.off)) (λ i. (is_live es i ≡ true) × (i / 2 ^ right.row ≡ right.off)) (λ i w.
+  in_right none = All-weaker (λ i. (is_live es i ≡ true) × (i / 2 ^ part.row ≡ part.off))
+      (λ i. (is_live es i ≡ true) × (i / 2 ^ right.row ≡ right.off)) (λ i w.
       let half = half_of i right.row part h.some h.right_row in
       let low : i / 2 ^ left.row ≡ i / 2 ^ right.row = ap (λ r. i / 2 ^ r) (h.left_row ∙ sym h.right_row) in
       let apart : i / 2 ^ left.row ≢ left.off = λ e. not_in es left.row left.off i none w.0 e in
       (w.0, omega (arith, half, w.1, low, apart, left_off, right_off))) numbers inside
 
   pub in_left : content es right.row right.off ≡ None → AreIn es left.row left.off numbers
-  in_left none = All-weaker (λ i. (is_live es i ≡ true) × (i / 2 ^ part.row ≡ part.off)) (λ i. (is_live es i ≡ true) × (i / 2 ^ left.row ≡ left.off)) (λ i w.
+  in_left none = All-weaker (λ i. (is_live es i ≡ true) × (i / 2 ^ part.row ≡ part.off)) (λ i. (is_live es i ≡ true) × (i / 2 ^ left.row ≡ left.off))
+      (λ i w.
       let half = half_of i left.row part h.some h.left_row in
       let high : i / 2 ^ right.row ≡ i / 2 ^ left.row = ap (λ r. i / 2 ^ r) (h.right_row ∙ sym h.left_row) in
       let apart : i / 2 ^ right.row ≢ right.off = λ e. not_in es right.row right.off i none w.0 e in
       (w.0, omega (arith, half, w.1, high, apart, left_off, right_off))) numbers inside
 
   pub in_low : AreIn es left.row left.off (filter (λ i. nat_le (i / 2 ^ left.row) left.off) numbers)
-  in_low = filter_holds (λ i. nat_le (i / 2 ^ left.row) left.off) (λ i. (is_live es i ≡ true) × (i / 2 ^ part.row ≡ part.off)) (λ i. (is_live es i ≡ true) × (i / 2 ^ left.row ≡ left.off)) (λ i w yes.
+  in_low = filter_holds (λ i. nat_le (i / 2 ^ left.row) left.off) (λ i. (is_live es i ≡ true) × (i / 2 ^ part.row ≡ part.off))
+      (λ i. (is_live es i ≡ true) × (i / 2 ^ left.row ≡ left.off)) (λ i w yes.
       let half = half_of i left.row part h.some h.left_row in
       let upto : i / 2 ^ left.row ≤ left.off = leb-true _ _ yes in
       (w.0, omega (arith, half, w.1, upto, left_off))) numbers inside
 
   pub in_high : AreIn es right.row right.off (filter (λ i. not (nat_le (i / 2 ^ left.row) left.off)) numbers)
-  in_high = filter_holds (λ i. not (nat_le (i / 2 ^ left.row) left.off)) (λ i. (is_live es i ≡ true) × (i / 2 ^ part.row ≡ part.off)) (λ i. (is_live es i ≡ true) × (i / 2 ^ right.row ≡ right.off)) (λ i w yes.
+  in_high = filter_holds (λ i. not (nat_le (i / 2 ^ left.row) left.off)) (λ i. (is_live es i ≡ true) × (i / 2 ^ part.row ≡ part.off))
+      (λ i. (is_live es i ≡ true) × (i / 2 ^ right.row ≡ right.off)) (λ i w yes.
       let half = half_of i right.row part h.some h.right_row in
       let low : i / 2 ^ left.row ≡ i / 2 ^ right.row = ap (λ r. i / 2 ^ r) (h.left_row ∙ sym h.right_row) in
       let over : left.off < i / 2 ^ left.row = leb-false _ _ (not-true _ yes) in
       (w.0, omega (arith, half, w.1, low, over, left_off, right_off))) numbers inside
 
 -- those in a slot, and those behind it
-pub in_slot : (es : List (Option Digest)) (row off : ℕ) (numbers : List ℕ) → length es / 2 ^ row % 2 ≡ 1 → off ≡ length es / 2 ^ row - 1 → AreBehind es (suc row) numbers → AreIn es row off (filter (λ i. nat_le (i / 2 ^ row) off) numbers)
-in_slot es row off numbers odd is later = filter_holds (λ i. nat_le (i / 2 ^ row) off) (λ i. (is_live es i ≡ true) × (length es / 2 ^ suc row ≤ i / 2 ^ suc row)) (λ i. (is_live es i ≡ true) × (i / 2 ^ row ≡ off)) (λ i w yes.
+pub in_slot : (es : List (Option Digest)) (row off : ℕ) (numbers : List ℕ) → length es / 2 ^ row % 2 ≡ 1 → off ≡ length es / 2 ^ row - 1
+    → AreBehind es (suc row) numbers → AreIn es row off (filter (λ i. nat_le (i / 2 ^ row) off) numbers)
+in_slot es row off numbers odd is later = filter_holds (λ i. nat_le (i / 2 ^ row) off)
+    (λ i. (is_live es i ≡ true) × (length es / 2 ^ suc row ≤ i / 2 ^ suc row)) (λ i. (is_live es i ≡ true) × (i / 2 ^ row ≡ off)) (λ i w yes.
     let upto : i / 2 ^ row ≤ off = leb-true _ _ yes in
     (w.0, omega (arith, parts-suc i row, parts-suc (length es) row, w.1, upto, odd, is))) numbers later
 
-pub behind_slot : (es : List (Option Digest)) (row off : ℕ) (numbers : List ℕ) → length es / 2 ^ row % 2 ≡ 1 → off ≡ length es / 2 ^ row - 1 → AreBehind es (suc row) numbers → AreBehind es row (filter (λ i. not (nat_le (i / 2 ^ row) off)) numbers)
-behind_slot es row off numbers odd is later = filter_holds (λ i. not (nat_le (i / 2 ^ row) off)) (λ i. (is_live es i ≡ true) × (length es / 2 ^ suc row ≤ i / 2 ^ suc row)) (λ i. (is_live es i ≡ true) × (length es / 2 ^ row ≤ i / 2 ^ row)) (λ i w yes.
+pub behind_slot : (es : List (Option Digest)) (row off : ℕ) (numbers : List ℕ) → length es / 2 ^ row % 2 ≡ 1 → off ≡ length es / 2 ^ row - 1
+    → AreBehind es (suc row) numbers → AreBehind es row (filter (λ i. not (nat_le (i / 2 ^ row) off)) numbers)
+behind_slot es row off numbers odd is later = filter_holds (λ i. not (nat_le (i / 2 ^ row) off))
+    (λ i. (is_live es i ≡ true) × (length es / 2 ^ suc row ≤ i / 2 ^ suc row)) (λ i. (is_live es i ≡ true) × (length es / 2 ^ row ≤ i / 2 ^ row))
+    (λ i w yes.
     let over : off < i / 2 ^ row = leb-false _ _ (not-true _ yes) in
     (w.0, omega (arith, over, is))) numbers later
 
-pub behind_none : (es : List (Option Digest)) (row : ℕ) (numbers : List ℕ) → length es / 2 ^ row % 2 ≡ 0 → AreBehind es (suc row) numbers → AreBehind es row numbers
-behind_none es row numbers even later = All-weaker (λ i. (is_live es i ≡ true) × (length es / 2 ^ suc row ≤ i / 2 ^ suc row)) (λ i. (is_live es i ≡ true) × (length es / 2 ^ row ≤ i / 2 ^ row)) (λ i w.
+pub behind_none : (es : List (Option Digest)) (row : ℕ) (numbers : List ℕ) → length es / 2 ^ row % 2 ≡ 0 → AreBehind es (suc row) numbers
+    → AreBehind es row numbers
+behind_none es row numbers even later = All-weaker (λ i. (is_live es i ≡ true) × (length es / 2 ^ suc row ≤ i / 2 ^ suc row))
+    (λ i. (is_live es i ≡ true) × (length es / 2 ^ row ≤ i / 2 ^ row)) (λ i w.
     (w.0, omega (arith, parts-suc i row, parts-suc (length es) row, w.1, even))) numbers later
 
 -- a live entry is one of those that there are
@@ -129,25 +145,30 @@ behind_nothing es (i ∷ is) later =
     let low = live_below es i here.0 in
     absurd (let over : length es / 1 ≤ i / 1 = here.1 in omega (arith, low, over))
 
-pub behind_all : (es : List (Option Digest)) (numbers : List ℕ) → length es < 2 ^ 40 → All (λ i. is_live es i ≡ true) numbers → AreBehind es 40 numbers
-behind_all es numbers few live = All-weaker (λ i. is_live es i ≡ true) (λ i. (is_live es i ≡ true) × (length es / 2 ^ 40 ≤ i / 2 ^ 40)) (λ i w. let none : length es / 2 ^ 40 ≡ 0 = div-eq_of_lt few in (w, omega (arith, none))) numbers live
+pub behind_all : (es : List (Option Digest)) (numbers : List ℕ) → length es < 2 ^ 40 → All (λ i. is_live es i ≡ true) numbers
+    → AreBehind es 40 numbers
+behind_all es numbers few live = All-weaker (λ i. is_live es i ≡ true) (λ i. (is_live es i ≡ true) × (length es / 2 ^ 40 ≤ i / 2 ^ 40))
+    (λ i w. let none : length es / 2 ^ 40 ≡ 0 = div-eq_of_lt few in (w, omega (arith, none))) numbers live
 
 module _ (es : List (Option Digest)) (ts : List Place) (all : List ℕ) (at : StandAt es ts all) where
   -- each of all entries is live
   alive : (i : ℕ) → is_spent all i ≡ true → (d : Digest) × (get_or es i None ≡ Some d)
   alive i h = let w = place_at es ts all i at h in (w.2, (found_where_it_stands es i w.2 (record { row = w.0; off = w.1 }) w.3).0)
 
-  pub in_part : (part q : Place) (numbers : List ℕ) (i : ℕ) → AreOfPart es ts all part q numbers → is_spent numbers i ≡ true → (is_spent all i ≡ true) × (i / 2 ^ part.row ≡ part.off)
+  pub in_part : (part q : Place) (numbers : List ℕ) (i : ℕ) → AreOfPart es ts all part q numbers → is_spent numbers i ≡ true → (is_spent all i ≡ true)
+      × (i / 2 ^ part.row ≡ part.off)
   in_part part q numbers i w h =
       let both = spent_filter (λ j. j / 2 ^ part.row == part.off) all i (ap (λ xs. is_spent xs i) (sym w.are) ∙ h) in
       (both.0, eqb-true _ _ both.1)
 
-  of_part : (part q : Place) (numbers : List ℕ) (i : ℕ) → AreOfPart es ts all part q numbers → is_spent all i ≡ true → i / 2 ^ part.row ≡ part.off → is_spent numbers i ≡ true
+  of_part : (part q : Place) (numbers : List ℕ) (i : ℕ) → AreOfPart es ts all part q numbers → is_spent all i ≡ true → i / 2 ^ part.row ≡ part.off
+      → is_spent numbers i ≡ true
   of_part part q numbers i w h e = ap (λ xs. is_spent xs i) w.are ∙ filter_spent (λ j. j / 2 ^ part.row == part.off) all i h (eq-eqb _ _ e)
 
   -- ---- nothing in the part: its place alone is noted
 
-  pub way_none : (H : List ℕ → Digest) (part q : Place) (numbers : List ℕ) → numbers ≡ [] → InForest (length es) q.row q.off → tree_at es q.row q.off ≡ content es part.row part.off → AreOfPart es ts all part q numbers →
+  pub way_none : (H : List ℕ → Digest) (part q : Place) (numbers : List ℕ) → numbers ≡ [] → InForest (length es) q.row q.off
+      → tree_at es q.row q.off ≡ content es part.row part.off → AreOfPart es ts all part q numbers →
       (is_needed (length es) ts (record { row = q.row; off = q.off }) ≡ true) × ((row : ℕ) → row < q.row → beneath H es ts q row ≡ [])
   way_none H part q numbers none there stands w =
       let bare = uncovered es ts all at part.row part.off q there stands (λ i h e. none_spent numbers i none (of_part part q numbers i w h e)) in
@@ -161,11 +182,14 @@ module _ (es : List (Option Digest)) (ts : List Place) (all : List ℕ) (at : St
 
   -- ---- one entry: nothing is noted
 
-  pub way_one : (H : List ℕ → Digest) (part q : Place) (numbers : List ℕ) (x : ℕ) → part.row ≡ 0 → is_spent numbers x ≡ true → tree_at es q.row q.off ≡ content es part.row part.off → AreOfPart es ts all part q numbers → (row : ℕ) → row ≤ q.row → beneath H es ts q row ≡ []
+  pub way_one : (H : List ℕ → Digest) (part q : Place) (numbers : List ℕ) (x : ℕ) → part.row ≡ 0 → is_spent numbers x ≡ true
+      → tree_at es q.row q.off ≡ content es part.row part.off → AreOfPart es ts all part q numbers → (row : ℕ) → row ≤ q.row
+      → beneath H es ts q row ≡ []
   way_one H part q numbers x one has stands w row under =
       ⊎_elim
       (λ below. beneath_nothing H es ts q (uncovered_under es ts all at q x live.0 leaf_there) row below)
-      (λ top. let same : row ≡ q.row = omega (arith, under, top) in subst (λ r. beneath H es ts q r ≡ []) (sym same) (covered_top H es ts q over.0 over.1))
+      (λ top. let same : row ≡ q.row = omega (arith, under, top) in
+      subst (λ r. beneath H es ts q r ≡ []) (sym same) (covered_top H es ts q over.0 over.1))
       (cases_lt row q.row)
     where
       its : (is_spent all x ≡ true) × (x / 2 ^ part.row ≡ part.off)
@@ -184,7 +208,8 @@ module _ (es : List (Option Digest)) (ts : List Place) (all : List ℕ) (at : St
 
   -- ---- one half has nothing: all are in the other
 
-  right_alone : (part half : Place) (i : ℕ) → 0 < part.row → half.row ≡ part.row - 1 → half.off ≡ 2 * part.off + 1 → content es half.row (2 * part.off) ≡ None → is_spent all i ≡ true → (i / 2 ^ part.row == part.off) ≡ (i / 2 ^ half.row == half.off)
+  right_alone : (part half : Place) (i : ℕ) → 0 < part.row → half.row ≡ part.row - 1 → half.off ≡ 2 * part.off + 1
+      → content es half.row (2 * part.off) ≡ None → is_spent all i ≡ true → (i / 2 ^ part.row == part.off) ≡ (i / 2 ^ half.row == half.off)
   right_alone part half i some row off none h =
       let half_is = half_of i half.row part some row in
       same_Bools _ _
@@ -196,7 +221,8 @@ module _ (es : List (Option Digest)) (ts : List Place) (all : List ℕ) (at : St
       (cases_lt (i / 2 ^ half.row) (2 * part.off + 1))))
       (λ e. let there : i / 2 ^ half.row ≡ half.off = eqb-true _ _ e in eq-eqb _ _ (half_is ∙ omega (arith, there, off)))
 
-  left_alone : (part half : Place) (i : ℕ) → 0 < part.row → half.row ≡ part.row - 1 → half.off ≡ 2 * part.off → content es half.row (2 * part.off + 1) ≡ None → is_spent all i ≡ true → (i / 2 ^ part.row == part.off) ≡ (i / 2 ^ half.row == half.off)
+  left_alone : (part half : Place) (i : ℕ) → 0 < part.row → half.row ≡ part.row - 1 → half.off ≡ 2 * part.off
+      → content es half.row (2 * part.off + 1) ≡ None → is_spent all i ≡ true → (i / 2 ^ part.row == part.off) ≡ (i / 2 ^ half.row == half.off)
   left_alone part half i some row off none h =
       let half_is = half_of i half.row part some row in
       same_Bools _ _
@@ -208,11 +234,15 @@ module _ (es : List (Option Digest)) (ts : List Place) (all : List ℕ) (at : St
       (cases_lt (i / 2 ^ half.row) (2 * part.off + 1))))
       (λ e. let there : i / 2 ^ half.row ≡ half.off = eqb-true _ _ e in eq-eqb _ _ (half_is ∙ omega (arith, there, off)))
 
-  pub way_right : (part half q : Place) (numbers : List ℕ) → 0 < part.row → half.row ≡ part.row - 1 → half.off ≡ 2 * part.off + 1 → content es half.row (2 * part.off) ≡ None → AreOfPart es ts all part q numbers → AreOfPart es ts all half q numbers
-  way_right part half q numbers some row off none w = record { are = w.are ∙ filter_alike _ _ all (λ i h. right_alone part half i some row off none h); beside = w.beside }
+  pub way_right : (part half q : Place) (numbers : List ℕ) → 0 < part.row → half.row ≡ part.row - 1 → half.off ≡ 2 * part.off + 1
+      → content es half.row (2 * part.off) ≡ None → AreOfPart es ts all part q numbers → AreOfPart es ts all half q numbers
+  way_right part half q numbers some row off none w =
+      record { are = w.are ∙ filter_alike _ _ all (λ i h. right_alone part half i some row off none h); beside = w.beside }
 
-  pub way_left : (part half q : Place) (numbers : List ℕ) → 0 < part.row → half.row ≡ part.row - 1 → half.off ≡ 2 * part.off → content es half.row (2 * part.off + 1) ≡ None → AreOfPart es ts all part q numbers → AreOfPart es ts all half q numbers
-  way_left part half q numbers some row off none w = record { are = w.are ∙ filter_alike _ _ all (λ i h. left_alone part half i some row off none h); beside = w.beside }
+  pub way_left : (part half q : Place) (numbers : List ℕ) → 0 < part.row → half.row ≡ part.row - 1 → half.off ≡ 2 * part.off
+      → content es half.row (2 * part.off + 1) ≡ None → AreOfPart es ts all part q numbers → AreOfPart es ts all half q numbers
+  way_left part half q numbers some row off none w =
+      record { are = w.are ∙ filter_alike _ _ all (λ i h. left_alone part half i some row off none h); beside = w.beside }
 
   -- ---- both halves have something
 
@@ -232,7 +262,8 @@ module _ (es : List (Option Digest)) (ts : List Place) (all : List ℕ) (at : St
     pub left_stands : tree_at es under.row under.off ≡ content es left.row left.off
     pub right_stands : tree_at es beside.row beside.off ≡ content es right.row right.off
 
-  module _ (part q left right under beside : Place) (numbers : List ℕ) (a : AreHalved part q left right under beside) (w : AreOfPart es ts all part q numbers) where
+  module _ (part q left right under beside : Place) (numbers : List ℕ) (a : AreHalved part q left right under beside)
+      (w : AreOfPart es ts all part q numbers) where
     -- those of the left half are those up to it
     low_are : filter (λ i. nat_le (i / 2 ^ left.row) left.off) numbers ≡ filter (λ i. i / 2 ^ left.row == left.off) all
     low_are =
@@ -273,7 +304,8 @@ module _ (es : List (Option Digest)) (ts : List Place) (all : List ℕ) (at : St
     no_root_beside = ap₂ (is_root (length es)) (a.beside_row ∙ sym a.under_row) a.beside_off ∙ not_root-right (length es) under.row q.off there_above
 
     -- an entry of the part is in one of its halves, of which the other has nothing
-    pub way_low : (low : List ℕ) (x : ℕ) → low ≡ filter (λ i. nat_le (i / 2 ^ left.row) left.off) numbers → is_spent numbers x ≡ true → AreOfPart es ts all left under low
+    pub way_low : (low : List ℕ) (x : ℕ) → low ≡ filter (λ i. nat_le (i / 2 ^ left.row) left.off) numbers → is_spent numbers x ≡ true
+        → AreOfPart es ts all left under low
     way_low low x is has = record {
       are = is ∙ low_are;
       beside = λ none.
@@ -281,36 +313,56 @@ module _ (es : List (Option Digest)) (ts : List Place) (all : List ℕ) (at : St
           let there : x / 2 ^ left.row / 2 ≡ part.off = sym (half_of x left.row part a.some a.left_row) ∙ its.1 in
           let over : left.off < x / 2 ^ left.row = ⊎_elim
           (λ lt. lt)
-          (λ le. absurd (none_spent low x none (ap (λ xs. is_spent xs x) is ∙ filter_spent (λ i. nat_le (i / 2 ^ left.row) left.off) numbers x has (le-leb _ _ le))))
+          (λ le. absurd (none_spent low x none (ap (λ xs. is_spent xs x) is
+          ∙ filter_spent (λ i. nat_le (i / 2 ^ left.row) left.off) numbers x has (le-leb _ _ le))))
           (cases_lt left.off (x / 2 ^ left.row)) in
-          let right_is : x / 2 ^ right.row ≡ right.off = ap (λ r. x / 2 ^ r) (a.right_row ∙ sym a.left_row) ∙ omega (arith, there, over, a.left_off, a.right_off) in
-          let c = covered es ts all at right.row right.off beside x a.right_stands its.0 right_is in
-          (no_root_under, (c.0, ap₂ (cover ts) (a.under_row ∙ sym a.beside_row) (ap sibling_off a.under_off ∙ (sibling_off-left q.off ∙ sym a.beside_off)) ∙ c.1));
+          let right_is : x / 2 ^ right.row ≡ right.off = ap (λ r. x / 2 ^ r) (a.right_row ∙ sym a.left_row)
+          ∙ omega (arith, there, over, a.left_off, a.right_off) in
+          let c = covered es ts all at right.row right.off beside x a.right_stands its.0 right_is in (
+            no_root_under,
+            (
+              c.0,
+              ap₂ (cover ts) (a.under_row ∙ sym a.beside_row)
+                  (ap sibling_off a.under_off ∙ (sibling_off-left q.off ∙ sym a.beside_off)) ∙ c.1,
+            ),
+          );
     }
 
-    pub way_high : (high : List ℕ) (x : ℕ) → high ≡ filter (λ i. not (nat_le (i / 2 ^ left.row) left.off)) numbers → is_spent numbers x ≡ true → AreOfPart es ts all right beside high
+    pub way_high : (high : List ℕ) (x : ℕ) → high ≡ filter (λ i. not (nat_le (i / 2 ^ left.row) left.off)) numbers → is_spent numbers x ≡ true
+        → AreOfPart es ts all right beside high
     way_high high x is has = record {
       are = is ∙ high_are;
       beside = λ none.
           let its = in_part part q numbers x w has in
           let there : x / 2 ^ left.row / 2 ≡ part.off = sym (half_of x left.row part a.some a.left_row) ∙ its.1 in
           let upto : x / 2 ^ left.row ≤ left.off = ⊎_elim
-          (λ lt. absurd (none_spent high x none (ap (λ xs. is_spent xs x) is ∙ filter_spent (λ i. not (nat_le (i / 2 ^ left.row) left.off)) numbers x has (let f : nat_le (x / 2 ^ left.row) left.off ≡ false = lt-leb _ _ lt in rw f refl))))
+          (λ lt. absurd (none_spent high x none (ap (λ xs. is_spent xs x) is
+          ∙ filter_spent (λ i. not (nat_le (i / 2 ^ left.row) left.off)) numbers x has (let f : nat_le (x / 2 ^ left.row) left.off ≡ false =
+          lt-leb _ _ lt in rw f refl))))
           (λ le. le)
           (cases_lt left.off (x / 2 ^ left.row)) in
           let left_is : x / 2 ^ left.row ≡ left.off = omega (arith, there, upto, a.left_off) in
-          let c = covered es ts all at left.row left.off under x a.left_stands its.0 left_is in
-          (no_root_beside, (c.0, ap₂ (cover ts) (a.beside_row ∙ sym a.under_row) (ap sibling_off a.beside_off ∙ (sibling_off-right q.off ∙ sym a.under_off)) ∙ c.1));
+          let c = covered es ts all at left.row left.off under x a.left_stands its.0 left_is in (
+            no_root_beside,
+            (
+              c.0,
+              ap₂ (cover ts) (a.beside_row ∙ sym a.under_row)
+                  (ap sibling_off a.beside_off ∙ (sibling_off-right q.off ∙ sym a.under_off)) ∙ c.1,
+            ),
+          );
     }
 
-    pub way_both : (H : List ℕ → Digest) (x : ℕ) (old mid new : List (List Sibling)) → tree_at es q.row q.off ≡ content es part.row part.off → is_spent numbers x ≡ true → AreMore H es ts under old mid → AreMore H es ts beside mid new → AreMore H es ts q old new
+    pub way_both : (H : List ℕ → Digest) (x : ℕ) (old mid new : List (List Sibling)) → tree_at es q.row q.off ≡ content es part.row part.off
+        → is_spent numbers x ≡ true → AreMore H es ts under old mid → AreMore H es ts beside mid new → AreMore H es ts q old new
     way_both H x old mid new stands has one two =
         let its = in_part part q numbers x w has in
         let c = covered es ts all at part.row part.off q x stands its.0 its.1 in
         more_halves H es ts q under beside c.0 a.high a.under_row a.under_off a.beside_row a.beside_off c.1 old mid new one two
 
     -- the same where the right half is noted first, and each row has something of one half at most
-    pub way_across : (H : List ℕ → Digest) (x : ℕ) (old mid new : List (List Sibling)) → tree_at es q.row q.off ≡ content es part.row part.off → is_spent numbers x ≡ true → ((row : ℕ) → (beneath H es ts under row ≡ []) ⊎ (beneath H es ts beside row ≡ [])) → AreMore H es ts beside old mid → AreMore H es ts under mid new → AreMore H es ts q old new
+    pub way_across : (H : List ℕ → Digest) (x : ℕ) (old mid new : List (List Sibling)) → tree_at es q.row q.off ≡ content es part.row part.off
+        → is_spent numbers x ≡ true → ((row : ℕ) → (beneath H es ts under row ≡ []) ⊎ (beneath H es ts beside row ≡ []))
+        → AreMore H es ts beside old mid → AreMore H es ts under mid new → AreMore H es ts q old new
     way_across H x old mid new stands has apart two one =
         let its = in_part part q numbers x w has in
         let c = covered es ts all at part.row part.off q x stands its.0 its.1 in

@@ -37,22 +37,29 @@ rows_stay n old new same has = record { is = λ row off h. omega (arith, same, h
 
 module _ (H : List ℕ → Digest) (es : List (Option Digest)) (parts : PartLists) (right : AreParts H (length es) es parts) where
   -- the digest of a part whose tree stands there
-  pub digest_here : (row off : ℕ) (q : Place) (d : Digest) → InForest (length es) row off → tree_at es q.row q.off ≡ content es row off → Some d ≡ kept es parts row off → digest_at H es q.row q.off ≡ Some d
+  pub digest_here : (row off : ℕ) (q : Place) (d : Digest) → InForest (length es) row off → tree_at es q.row q.off ≡ content es row off
+      → Some d ≡ kept es parts row off → digest_at H es q.row q.off ≡ Some d
   digest_here row off q d h s e = ap (option_map (digest_of H)) s ∙ sym (e ∙ kept_right H (length es) es parts row off right h)
 
-  pub there : (row off : ℕ) (q : Place) (d : Digest) → InForest (length es) row off → tree_at es q.row q.off ≡ content es row off → Some d ≡ kept es parts row off → InForest (length es) q.row q.off
+  pub there : (row off : ℕ) (q : Place) (d : Digest) → InForest (length es) row off → tree_at es q.row q.off ≡ content es row off
+      → Some d ≡ kept es parts row off → InForest (length es) q.row q.off
   there row off q d h s e =
       let t = tree_some es parts (alike H es parts right) row off d h e in
       tree_at-forest es q.row q.off t.0 (s ∙ t.1)
 
   -- a part with nothing in one half stands where the other half does
-  pub stands_right : (row off : ℕ) (q : Place) → 0 < row → InForest (length es) row off → tree_at es q.row q.off ≡ content es row off → None ≡ kept es parts (row - 1) (2 * off) → tree_at es q.row q.off ≡ content es (row - 1) (2 * off + 1)
+  pub stands_right : (row off : ℕ) (q : Place) → 0 < row → InForest (length es) row off → tree_at es q.row q.off ≡ content es row off
+      → None ≡ kept es parts (row - 1) (2 * off) → tree_at es q.row q.off ≡ content es (row - 1) (2 * off + 1)
   stands_right row off q some h s e =
-      s ∙ (tree_above es row off some ∙ ap (λ x. join x (content es (row - 1) (2 * off + 1))) (tree_none es parts (alike H es parts right) (row - 1) (2 * off) (within_left (length es) row off some h) e))
+      s ∙ (tree_above es row off some ∙ ap (λ x. join x (content es (row - 1) (2 * off + 1)))
+      (tree_none es parts (alike H es parts right) (row - 1) (2 * off) (within_left (length es) row off some h) e))
 
-  pub stands_left : (row off : ℕ) (q : Place) → 0 < row → InForest (length es) row off → tree_at es q.row q.off ≡ content es row off → None ≡ kept es parts (row - 1) (2 * off + 1) → tree_at es q.row q.off ≡ content es (row - 1) (2 * off)
+  pub stands_left : (row off : ℕ) (q : Place) → 0 < row → InForest (length es) row off → tree_at es q.row q.off ≡ content es row off
+      → None ≡ kept es parts (row - 1) (2 * off + 1) → tree_at es q.row q.off ≡ content es (row - 1) (2 * off)
   stands_left row off q some h s e =
-      s ∙ (tree_above es row off some ∙ (ap (join (content es (row - 1) (2 * off))) (tree_none es parts (alike H es parts right) (row - 1) (2 * off + 1) (within_right (length es) row off some h) e) ∙ joined-none (content es (row - 1) (2 * off))))
+      s ∙ (tree_above es row off some ∙ (ap (join (content es (row - 1) (2 * off)))
+      (tree_none es parts (alike H es parts right) (row - 1) (2 * off + 1) (within_right (length es) row off some h) e)
+      ∙ joined-none (content es (row - 1) (2 * off))))
 
   -- and one with something in both stands above them
   pub record AreHalves (row off : ℕ) (q : Place) : Type 0 where
@@ -60,7 +67,8 @@ module _ (H : List ℕ → Digest) (es : List (Option Digest)) (parts : PartList
     pub low : tree_at es (q.row - 1) (2 * q.off) ≡ content es (row - 1) (2 * off)
     pub above : tree_at es (q.row - 1) (2 * q.off + 1) ≡ content es (row - 1) (2 * off + 1)
 
-  pub stand_both : (row off : ℕ) (q : Place) (x y : Digest) → 0 < row → InForest (length es) row off → tree_at es q.row q.off ≡ content es row off → Some x ≡ kept es parts (row - 1) (2 * off) → Some y ≡ kept es parts (row - 1) (2 * off + 1) → AreHalves row off q
+  pub stand_both : (row off : ℕ) (q : Place) (x y : Digest) → 0 < row → InForest (length es) row off → tree_at es q.row q.off ≡ content es row off
+      → Some x ≡ kept es parts (row - 1) (2 * off) → Some y ≡ kept es parts (row - 1) (2 * off + 1) → AreHalves row off q
   stand_both row off q x y some h s e f =
       let a = alike H es parts right in
       let l = tree_some es parts a (row - 1) (2 * off) x (within_left (length es) row off some h) e in

@@ -1,5 +1,6 @@
 -- Numbers that are parted by a test.
-use Rattle.std.proofs.Common.{◌≡◌, ℕ, zero, suc, ◌/◌, ◌^◌, ◌<◌, ◌≤◌, Bool, true, false, not, ◌&&◌, List, [], ◌∷◌, length, take, drop, get_or, refl, sym, ap, ◌∙◌, ⊎_elim, arith, eq-eqb}
+use Rattle.std.proofs.Common.{◌≡◌, ℕ, zero, suc, ◌/◌, ◌^◌, ◌<◌, ◌≤◌, Bool, true, false, not, ◌&&◌, List, [], ◌∷◌, length, take, drop, get_or, refl}
+use Rattle.std.proofs.Common.{sym, ap, ◌∙◌, ⊎_elim, arith, eq-eqb}
 use Rattle.std.specs.Prelude.{◌==◌, nat_le, filter}
 use Rattle.std.specs.List.Sorted.{IsNonDecreasing}
 use Rattle.std.proofs.Math.Nat.{div-mul-le_self}
@@ -8,7 +9,8 @@ use Rattle.std.proofs.lemmas.Bool.{cases_Bool, lt-leb, eqb-true, false≢true, o
 use Rattle.forest_model.proofs.Deleting.{is_spent}
 
 -- the first elements pass a test and the others fail it: so they are a filter each
-pub parted : {X : Type 0} (p : X → Bool) (xs : List X) (k : ℕ) (d : X) → k ≤ length xs → ((j : ℕ) → j < k → p (get_or xs j d) ≡ true) → ((j : ℕ) → k ≤ j → j < length xs → p (get_or xs j d) ≡ false) → (take k xs ≡ filter p xs) × (drop k xs ≡ filter (λ x. not (p x)) xs)
+pub parted : {X : Type 0} (p : X → Bool) (xs : List X) (k : ℕ) (d : X) → k ≤ length xs → ((j : ℕ) → j < k → p (get_or xs j d) ≡ true)
+    → ((j : ℕ) → k ≤ j → j < length xs → p (get_or xs j d) ≡ false) → (take k xs ≡ filter p xs) × (drop k xs ≡ filter (λ x. not (p x)) xs)
 parted p [] zero d h up beyond = (refl, refl)
 parted p [] (suc k) d h up beyond = absurd (omega (arith, h))
 parted p (x ∷ xs) zero d h up beyond =
@@ -17,7 +19,8 @@ parted p (x ∷ xs) zero d h up beyond =
     (rest.0 ∙ rw first refl, ap (λ ys. x ∷ ys) rest.1 ∙ rw first refl)
 parted p (x ∷ xs) (suc k) d h up beyond =
     let first : p x ≡ true = up 0 (omega arith) in
-    let rest = parted p xs k d (omega (arith, h)) (λ j lt. up (suc j) (omega (arith, lt))) (λ j le lt. beyond (suc j) (omega (arith, le)) (omega (arith, lt))) in
+    let rest = parted p xs k d (omega (arith, h)) (λ j lt. up (suc j) (omega (arith, lt)))
+    (λ j le lt. beyond (suc j) (omega (arith, le)) (omega (arith, lt))) in
     (ap (λ ys. x ∷ ys) rest.0 ∙ rw first refl, rest.1 ∙ rw first refl)
 
 -- two tests that agree on the elements of a list
@@ -84,7 +87,11 @@ parts_rise : (row x y : ℕ) → x ≤ y → x / 2 ^ row ≤ y / 2 ^ row
 parts_rise row x y h = le-div (x / 2 ^ row) y (2 ^ row) (pow_pos row) (omega (arith, h, div-mul-le_self x (2 ^ row)))
 
 -- numbers that rise are parted by a bound on the parts in which they lie
-pub parted_upto : (numbers : List ℕ) (row off count : ℕ) → IsNonDecreasing numbers → count ≤ length numbers → ((j : ℕ) → j < count → nat_le (get_or numbers j 0 / 2 ^ row) off ≡ true) → (count < length numbers → off < get_or numbers count 0 / 2 ^ row) → (take count numbers ≡ filter (λ i. nat_le (i / 2 ^ row) off) numbers) × (drop count numbers ≡ filter (λ i. not (nat_le (i / 2 ^ row) off)) numbers)
+pub parted_upto : (numbers : List ℕ) (row off count : ℕ) → IsNonDecreasing numbers → count ≤ length numbers
+    → ((j : ℕ) → j < count → nat_le (get_or numbers j 0 / 2 ^ row) off ≡ true) → (count < length numbers → off < get_or numbers count 0 / 2 ^ row)
+    → (take count numbers ≡ filter (λ i. nat_le (i / 2 ^ row) off) numbers)
+    × (drop count numbers ≡ filter (λ i. not (nat_le (i / 2 ^ row) off)) numbers)
 parted_upto numbers row off count rise within upto over =
     parted (λ i. nat_le (i / 2 ^ row) off) numbers count 0 within upto
-    (λ j le lt. lt-leb (get_or numbers j 0 / 2 ^ row) off (omega (arith, over (omega (arith, le, lt)), parts_rise row (get_or numbers count 0) (get_or numbers j 0) (rise count j 0 le lt))))
+    (λ j le lt. lt-leb (get_or numbers j 0 / 2 ^ row) off
+    (omega (arith, over (omega (arith, le, lt)), parts_rise row (get_or numbers count 0) (get_or numbers j 0) (rise count j 0 le lt))))

@@ -1,5 +1,6 @@
 -- Where the digest of a part is kept.
-use Rattle.std.proofs.Common.{◌≡◌, ℕ, zero, suc, ◌+◌, ◌-◌, ◌*◌, ◌/◌, ◌%◌, ◌^◌, ◌<◌, ◌≤◌, List, length, get_or, set, Option, None, refl, sym, ap, ◌∙◌, subst, ⊎_elim, arith, pow-suc, mod-eq_of_lt}
+use Rattle.std.proofs.Common.{◌≡◌, ℕ, zero, suc, ◌+◌, ◌-◌, ◌*◌, ◌/◌, ◌%◌, ◌^◌, ◌<◌, ◌≤◌, List, length, get_or, set, Option, None, refl, sym, ap, ◌∙◌}
+use Rattle.std.proofs.Common.{subst, ⊎_elim, arith, pow-suc, mod-eq_of_lt}
 use Rattle.std.specs.Prelude.{if◌then◌else◌}
 use Rattle.std.proofs.lemmas.Bool.{cases_lt, lt-ltb, le-ltb}
 use Rattle.std.proofs.lemmas.Nat.{shr-shr}
@@ -15,7 +16,8 @@ seam_is zero off = omega arith
 seam_is (suc row) off =
     let power = pow-suc 2 (suc row) in
     let begin : (off + 1 - off % 2) * 2 ^ suc (suc row) ≡ 2 * ((off + 1 - off % 2) * 2 ^ suc row) =
-    ap (λ x. (off + 1 - off % 2) * x) power ∙ (let z : (off + 1 - off % 2) * (2 ^ suc row * 2) ≡ 2 * ((off + 1 - off % 2) * 2 ^ suc row) = omega arith in z) in
+    ap (λ x. (off + 1 - off % 2) * x) power ∙ (let z : (off + 1 - off % 2) * (2 ^ suc row * 2) ≡ 2 * ((off + 1 - off % 2) * 2 ^ suc row) =
+    omega arith in z) in
     omega (arith, seam_is row off, begin)
 
 -- as the code works it out
@@ -64,13 +66,17 @@ pub seam_high : (n row off : ℕ) → 8 ≤ row → InForest n (suc row) off →
 seam_high n row off high h = seam_below (n / 2 ^ 8) (row - 8) off (above_low n row off high h)
 
 pub stored_low : (parts : PartLists) (row off : ℕ) → row < 8 → stored parts row off ≡ get_or parts.low (seam row off) None
-stored_low parts row off low = ap (λ b. if b then get_or parts.low (seam row off) None else get_or parts.high (seam (row - 8) off) None) (lt-ltb row 8 low)
+stored_low parts row off low = ap (λ b. if b then get_or parts.low (seam row off) None else get_or parts.high (seam (row - 8) off) None)
+    (lt-ltb row 8 low)
 
 pub stored_high : (parts : PartLists) (row off : ℕ) → 8 ≤ row → stored parts row off ≡ get_or parts.high (seam (row - 8) off) None
-stored_high parts row off high = ap (λ b. if b then get_or parts.low (seam row off) None else get_or parts.high (seam (row - 8) off) None) (le-ltb row 8 high)
+stored_high parts row off high = ap (λ b. if b then get_or parts.low (seam row off) None else get_or parts.high (seam (row - 8) off) None)
+    (le-ltb row 8 high)
 
 -- what is kept for the parts of n entries stays where both lists keep their fronts
-pub stored_same : (parts parts' : PartLists) (n row off : ℕ) → ((i : ℕ) → i < n → get_or parts'.low i None ≡ get_or parts.low i None) → ((i : ℕ) → i < n / 2 ^ 8 → get_or parts'.high i None ≡ get_or parts.high i None) → InForest n (suc row) off → stored parts' row off ≡ stored parts row off
+pub stored_same : (parts parts' : PartLists) (n row off : ℕ) → ((i : ℕ) → i < n → get_or parts'.low i None ≡ get_or parts.low i None)
+    → ((i : ℕ) → i < n / 2 ^ 8 → get_or parts'.high i None ≡ get_or parts.high i None) → InForest n (suc row) off
+    → stored parts' row off ≡ stored parts row off
 stored_same parts parts' n row off low high h =
     ⊎_elim
     (λ lt. stored_low parts' row off lt ∙ low (seam row off) (seam_below n row off h) ∙ sym (stored_low parts row off lt))
@@ -79,27 +85,32 @@ stored_same parts parts' n row off low high h =
 
 -- one part of the first rows is written
 module _ (parts parts' : PartLists) (row off : ℕ) (digest : Option Digest) where
-  pub low_written : row < 8 → seam row off < length parts.low → parts'.low ≡ set parts.low (seam row off) digest → parts'.high ≡ parts.high → IsPut parts parts' row off digest
+  pub low_written : row < 8 → seam row off < length parts.low → parts'.low ≡ set parts.low (seam row off) digest → parts'.high ≡ parts.high
+      → IsPut parts parts' row off digest
   low_written lt room l h = record {
     here = stored_low parts' row off lt ∙ ap (λ xs. get_or xs (seam row off) None) l ∙ get_or-set_same parts.low (seam row off) digest None room;
     others = λ r o apart.
         ⊎_elim
         (λ rl.
         stored_low parts' r o rl ∙ ap (λ xs. get_or xs (seam r o) None) l ∙
-        get_or-set_other parts.low (seam row off) (seam r o) digest None (λ e. let w = seam_one r o row off e in apart w.0 w.1) ∙ sym (stored_low parts r o rl))
+        get_or-set_other parts.low (seam row off) (seam r o) digest None (λ e. let w = seam_one r o row off e in apart w.0 w.1)
+        ∙ sym (stored_low parts r o rl))
         (λ rh. stored_high parts' r o rh ∙ ap (λ xs. get_or xs (seam (r - 8) o) None) h ∙ sym (stored_high parts r o rh))
         (cases_lt r 8);
   }
 
-  pub high_written : 8 ≤ row → seam (row - 8) off < length parts.high → parts'.high ≡ set parts.high (seam (row - 8) off) digest → parts'.low ≡ parts.low → IsPut parts parts' row off digest
+  pub high_written : 8 ≤ row → seam (row - 8) off < length parts.high → parts'.high ≡ set parts.high (seam (row - 8) off) digest
+      → parts'.low ≡ parts.low → IsPut parts parts' row off digest
   high_written ge room h l = record {
-    here = stored_high parts' row off ge ∙ ap (λ xs. get_or xs (seam (row - 8) off) None) h ∙ get_or-set_same parts.high (seam (row - 8) off) digest None room;
+    here = stored_high parts' row off ge ∙ ap (λ xs. get_or xs (seam (row - 8) off) None) h
+        ∙ get_or-set_same parts.high (seam (row - 8) off) digest None room;
     others = λ r o apart.
         ⊎_elim
         (λ rl. stored_low parts' r o rl ∙ ap (λ xs. get_or xs (seam r o) None) l ∙ sym (stored_low parts r o rl))
         (λ rh.
         stored_high parts' r o rh ∙ ap (λ xs. get_or xs (seam (r - 8) o) None) h ∙
-        get_or-set_other parts.high (seam (row - 8) off) (seam (r - 8) o) digest None (λ e. let w = seam_one (r - 8) o (row - 8) off e in apart (omega (arith, w.0, rh, ge)) w.1) ∙ sym (stored_high parts r o rh))
+        get_or-set_other parts.high (seam (row - 8) off) (seam (r - 8) o) digest None (λ e. let w = seam_one (r - 8) o (row - 8) off e in
+        apart (omega (arith, w.0, rh, ge)) w.1) ∙ sym (stored_high parts r o rh))
         (cases_lt r 8);
   }
 

@@ -1,5 +1,6 @@
 -- What is noted from slot to slot, from the greatest down.
-use Rattle.std.proofs.Common.{◌≡◌, ℕ, zero, suc, ◌+◌, ◌-◌, ◌*◌, ◌/◌, ◌%◌, ◌^◌, ◌<◌, ◌≤◌, true, false, List, [], ◌∷◌, ◌++◌, length, get_or, Option, Some, None, refl, sym, ap, ap₂, ◌∙◌, subst, ⊎_elim, arith, eq-eqb, All}
+use Rattle.std.proofs.Common.{◌≡◌, ℕ, zero, suc, ◌+◌, ◌-◌, ◌*◌, ◌/◌, ◌%◌, ◌^◌, ◌<◌, ◌≤◌, true, false, List, [], ◌∷◌, ◌++◌, length, get_or, Option}
+use Rattle.std.proofs.Common.{Some, None, refl, sym, ap, ap₂, ◌∙◌, subst, ⊎_elim, arith, eq-eqb, All}
 use Rattle.std.specs.Prelude.{◌==◌, not, nat_le, filter}
 use Rattle.std.specs.List.{filter_map, flat_map}
 use Rattle.std.proofs.Math.Nat.{pow-suc, div-eq_of_lt}
@@ -24,7 +25,8 @@ use Rattle.bridge_forest.specs.State.{is_live}
 use Rattle.bridge_forest.specs.declared.batch.Sibling.{Sibling}
 use Rattle.bridge_forest.specs.Proving.{places_of, standing, proof_of, in_row, beneath, list_of, HasRows, AreMore, width_from, AreFrom, behind}
 use Rattle.bridge_forest.proofs.Parting.{filter_alike, filter_twice, filter_spent, none_spent}
-use Rattle.bridge_forest.proofs.Beneath.{twice, next, in_row-append, in_row-none, not_needed-root, beneath_above, beneath_row, beneath_here, beneath_nothing, more_nothing}
+use Rattle.bridge_forest.proofs.Beneath.{twice, next, in_row-append, in_row-none, not_needed-root, beneath_above, beneath_row, beneath_here}
+use Rattle.bridge_forest.proofs.Beneath.{beneath_nothing, more_nothing}
 use Rattle.bridge_forest.proofs.Covering.{uncovered}
 
 -- ---- how wide the rows are
@@ -44,18 +46,23 @@ width_same n slot row over =
     let z : suc slot - suc slot ≡ 0 = omega arith in
     let one : n / 2 ^ suc slot * 1 ≡ n / 2 ^ suc slot = omega arith in
     subst (λ r. width_from n (suc slot) r ≡ width_from n slot r) (sym e)
-    (width_under n (suc slot) (suc slot) (omega arith) ∙ (ap (λ k. n / 2 ^ suc slot * 2 ^ k) z ∙ (one ∙ sym (width_over n slot (suc slot) (omega arith))))))
+    (width_under n (suc slot) (suc slot) (omega arith)
+    ∙ (ap (λ k. n / 2 ^ suc slot * 2 ^ k) z ∙ (one ∙ sym (width_over n slot (suc slot) (omega arith))))))
     (cases_lt (suc slot) row)
 
 width_above : (n slot row : ℕ) → row ≤ slot → width_from n (suc slot) row ≡ 2 * (n / 2 ^ suc slot) * 2 ^ (slot - row)
 width_above n slot row h =
     let k : suc slot - row ≡ suc (slot - row) = omega (arith, h) in
-    width_under n (suc slot) row (omega (arith, h)) ∙ (ap (λ j. n / 2 ^ suc slot * 2 ^ j) k ∙ (ap (λ x. n / 2 ^ suc slot * x) (pow-suc 2 (slot - row)) ∙ twice (n / 2 ^ suc slot) (2 ^ (slot - row))))
+    width_under n (suc slot) row (omega (arith, h)) ∙ (ap (λ j. n / 2 ^ suc slot * 2 ^ j) k
+    ∙ (ap (λ x. n / 2 ^ suc slot * x) (pow-suc 2 (slot - row)) ∙ twice (n / 2 ^ suc slot) (2 ^ (slot - row))))
 
 module _ (H : List ℕ → Digest) (es : List (Option Digest)) (ts : List Place) where
   -- a row that has no root
   pub from_same : (slot : ℕ) (rows : List (List Sibling)) → length es / 2 ^ slot % 2 ≡ 0 → AreFrom H es ts (suc slot) rows → AreFrom H es ts slot rows
-  from_same slot rows even f = record { is = λ row. f.is row ∙ ap (in_row H es ts row 0) (⊎_elim (λ over. width_same (length es) slot row over) (λ under. wide row under) (cases_lt slot row)) }
+  from_same slot rows even f = record {
+    is = λ row. f.is row ∙ ap (in_row H es ts row 0)
+        (⊎_elim (λ over. width_same (length es) slot row over) (λ under. wide row under) (cases_lt slot row));
+  }
     where
       wide : (row : ℕ) → row ≤ slot → width_from (length es) (suc slot) row ≡ width_from (length es) slot row
       wide row h =
@@ -64,18 +71,23 @@ module _ (H : List ℕ → Digest) (es : List (Option Digest)) (ts : List Place)
           width_above (length es) slot row h ∙ (ap (λ x. x * 2 ^ (slot - row)) e ∙ sym (width_under (length es) slot row h))
 
   -- a row with a root, of whose slot all is noted
-  pub from_more : (slot : ℕ) (q : Place) (old new : List (List Sibling)) → q.row ≡ slot → q.off ≡ length es / 2 ^ slot - 1 → length es / 2 ^ slot % 2 ≡ 1 → AreFrom H es ts (suc slot) old → AreMore H es ts q old new → AreFrom H es ts slot new
-  from_more slot q old new row_is off_is odd f m = record { is = λ row. m.is row ∙ (ap (λ xs. xs ++ beneath H es ts q row) (f.is row) ∙ ⊎_elim (over row) (under row) (cases_lt slot row)) }
+  pub from_more : (slot : ℕ) (q : Place) (old new : List (List Sibling)) → q.row ≡ slot → q.off ≡ length es / 2 ^ slot - 1
+      → length es / 2 ^ slot % 2 ≡ 1 → AreFrom H es ts (suc slot) old → AreMore H es ts q old new → AreFrom H es ts slot new
+  from_more slot q old new row_is off_is odd f m =
+      record { is = λ row. m.is row ∙ (ap (λ xs. xs ++ beneath H es ts q row) (f.is row) ∙ ⊎_elim (over row) (under row) (cases_lt slot row)) }
     where
       half : length es / 2 ^ suc slot ≡ length es / 2 ^ slot / 2
       half = parts-suc (length es) slot
 
-      over : (row : ℕ) → slot < row → in_row H es ts row 0 (width_from (length es) (suc slot) row) ++ beneath H es ts q row ≡ in_row H es ts row 0 (width_from (length es) slot row)
+      over : (row : ℕ) → slot < row → in_row H es ts row 0 (width_from (length es) (suc slot) row) ++ beneath H es ts q row
+          ≡ in_row H es ts row 0 (width_from (length es) slot row)
       over row h =
-          ap₂ (λ xs ys. xs ++ ys) (ap (in_row H es ts row 0) (width_same (length es) slot row h)) (beneath_above H es ts q row (omega (arith, h, row_is)))
+          ap₂ (λ xs ys. xs ++ ys) (ap (in_row H es ts row 0) (width_same (length es) slot row h))
+          (beneath_above H es ts q row (omega (arith, h, row_is)))
           ∙ append-nil (in_row H es ts row 0 (width_from (length es) slot row))
 
-      under : (row : ℕ) → row ≤ slot → in_row H es ts row 0 (width_from (length es) (suc slot) row) ++ beneath H es ts q row ≡ in_row H es ts row 0 (width_from (length es) slot row)
+      under : (row : ℕ) → row ≤ slot → in_row H es ts row 0 (width_from (length es) (suc slot) row) ++ beneath H es ts q row
+          ≡ in_row H es ts row 0 (width_from (length es) slot row)
       under row h =
           let w = 2 ^ (slot - row) in
           let low = 2 * (length es / 2 ^ suc slot) in
@@ -85,7 +97,8 @@ module _ (H : List ℕ → Digest) (es : List (Option Digest)) (ts : List Place)
           let none : 0 + low * w ≡ low * w = omega arith in
           ap₂ (λ xs ys. xs ++ ys)
           (ap (in_row H es ts row 0) (width_above (length es) slot row h))
-          (beneath_row H es ts q row (omega (arith, h, row_is)) ∙ (ap (λ k. in_row H es ts row (q.off * 2 ^ k) (2 ^ k)) deep ∙ ap (λ o. in_row H es ts row (o * w) w) off))
+          (beneath_row H es ts q row (omega (arith, h, row_is))
+          ∙ (ap (λ k. in_row H es ts row (q.off * 2 ^ k) (2 ^ k)) deep ∙ ap (λ o. in_row H es ts row (o * w) w) off))
           ∙ (ap (λ o. in_row H es ts row 0 (low * w) ++ in_row H es ts row o w) (sym none)
           ∙ (sym (in_row-append H es ts row 0 (low * w) w)
           ∙ ap (in_row H es ts row 0) (sym (next low w) ∙ (ap (λ x. x * w) count ∙ sym (width_under (length es) slot row h)))))
@@ -105,7 +118,8 @@ pub behind_even : (n slot : ℕ) (numbers all : List ℕ) → n / 2 ^ slot % 2 �
 behind_even n slot numbers all even is = is ∙ behind_same n slot all even
 
 -- those in the slot, and those behind it
-pub slot_has : (n slot off : ℕ) (numbers all : List ℕ) → n / 2 ^ slot % 2 ≡ 1 → off ≡ n / 2 ^ slot - 1 → numbers ≡ behind n (suc slot) all → filter (λ i. nat_le (i / 2 ^ slot) off) numbers ≡ filter (λ i. i / 2 ^ slot == off) all
+pub slot_has : (n slot off : ℕ) (numbers all : List ℕ) → n / 2 ^ slot % 2 ≡ 1 → off ≡ n / 2 ^ slot - 1 → numbers ≡ behind n (suc slot) all
+    → filter (λ i. nat_le (i / 2 ^ slot) off) numbers ≡ filter (λ i. i / 2 ^ slot == off) all
 slot_has n slot off numbers all odd off_is is =
     let half = parts-suc n slot in
     ap (filter (λ i. nat_le (i / 2 ^ slot) off)) is
@@ -121,7 +135,8 @@ slot_has n slot off numbers all odd off_is is =
     let upto : i / 2 ^ slot ≤ off = omega (arith, there) in
     and_from _ _ (le-leb _ _ le) (le-leb _ _ upto))))
 
-pub slot_leaves : (n slot off : ℕ) (numbers all : List ℕ) → n / 2 ^ slot % 2 ≡ 1 → off ≡ n / 2 ^ slot - 1 → numbers ≡ behind n (suc slot) all → filter (λ i. not (nat_le (i / 2 ^ slot) off)) numbers ≡ behind n slot all
+pub slot_leaves : (n slot off : ℕ) (numbers all : List ℕ) → n / 2 ^ slot % 2 ≡ 1 → off ≡ n / 2 ^ slot - 1 → numbers ≡ behind n (suc slot) all
+    → filter (λ i. not (nat_le (i / 2 ^ slot) off)) numbers ≡ behind n slot all
 slot_leaves n slot off numbers all odd off_is is =
     let half = parts-suc n slot in
     ap (filter (λ i. not (nat_le (i / 2 ^ slot) off))) is
@@ -139,16 +154,21 @@ slot_leaves n slot off numbers all odd off_is is =
     and_from _ _ (le-leb _ _ higher) passed)))
 
 -- a slot that has none of all entries
-pub slot_nothing : (H : List ℕ → Digest) (es : List (Option Digest)) (ts : List Place) (all : List ℕ) → StandAt es ts all → (q : Place) (rows : List (List Sibling)) → is_root (length es) q.row q.off ≡ true → filter (λ i. i / 2 ^ q.row == q.off) all ≡ [] → AreMore H es ts q rows rows
+pub slot_nothing : (H : List ℕ → Digest) (es : List (Option Digest)) (ts : List Place) (all : List ℕ) → StandAt es ts all
+    → (q : Place) (rows : List (List Sibling)) → is_root (length es) q.row q.off ≡ true → filter (λ i. i / 2 ^ q.row == q.off) all ≡ []
+    → AreMore H es ts q rows rows
 slot_nothing H es ts all at q rows root none = more_nothing H es ts q rows (λ row h.
     ⊎_elim
     (λ below. beneath_nothing H es ts q (λ k r o e f. bare (suc k) r o e f) row below)
     (λ top. let same : row ≡ q.row = omega (arith, h, top) in
-    subst (λ r. beneath H es ts q r ≡ []) (sym same) (beneath_here H es ts q ∙ in_row-none H es ts q.row q.off 1 (λ o le lt. let e : o ≡ q.off = omega (arith, le, lt) in not_needed-root (length es) ts q.row o (ap (is_root (length es) q.row) e ∙ root))))
+    subst (λ r. beneath H es ts q r ≡ []) (sym same) (beneath_here H es ts q
+    ∙ in_row-none H es ts q.row q.off 1 (λ o le lt. let e : o ≡ q.off = omega (arith, le, lt) in
+    not_needed-root (length es) ts q.row o (ap (is_root (length es) q.row) e ∙ root))))
     (cases_lt row q.row))
   where
     bare : (k r o : ℕ) → r + k ≡ q.row → o / 2 ^ k ≡ q.off → cover ts r o ≡ None
-    bare = uncovered es ts all at q.row q.off q (InForest-root (length es) q.row q.off root) (tree_at-root es q.row q.off root) (λ i h e. none_spent _ i none (filter_spent (λ j. j / 2 ^ q.row == q.off) all i h (eq-eqb _ _ e)))
+    bare = uncovered es ts all at q.row q.off q (InForest-root (length es) q.row q.off root) (tree_at-root es q.row q.off root)
+        (λ i h e. none_spent _ i none (filter_spent (λ j. j / 2 ^ q.row == q.off) all i h (eq-eqb _ _ e)))
 
 -- ---- before the first slot, and behind the last
 
@@ -165,7 +185,8 @@ all_behind n all few = sym (every all)
         let passes : nat_le (n / 2 ^ 40) (x / 2 ^ 40) ≡ true = le-leb _ _ low in
         rw passes (ap (λ ys. x ∷ ys) (every xs))
 
-pub from_nothing : (H : List ℕ → Digest) (es : List (Option Digest)) (ts : List Place) (rows : List (List Sibling)) → length es < 2 ^ 40 → ((row : ℕ) → list_of rows row ≡ []) → AreFrom H es ts 40 rows
+pub from_nothing : (H : List ℕ → Digest) (es : List (Option Digest)) (ts : List Place) (rows : List (List Sibling)) → length es < 2 ^ 40
+    → ((row : ℕ) → list_of rows row ≡ []) → AreFrom H es ts 40 rows
 from_nothing H es ts rows few none = record { is = λ row. none row ∙ ap (in_row H es ts row 0) (sym (narrow row)) }
   where
     empty : length es / 2 ^ 40 ≡ 0
@@ -178,7 +199,8 @@ from_nothing H es ts rows few none = record { is = λ row. none row ∙ ap (in_r
     narrow row =
         ⊎_elim
         (λ over. width_over (length es) 40 row over ∙ outside (length es) row (λ h. omega (arith, row_small (length es) row 0 40 h few, over)))
-        (λ under. let nothing : 0 * 2 ^ (40 - row) ≡ 0 = omega arith in width_under (length es) 40 row under ∙ (ap (λ x. x * 2 ^ (40 - row)) empty ∙ nothing))
+        (λ under. let nothing : 0 * 2 ^ (40 - row) ≡ 0 = omega arith in
+        width_under (length es) 40 row under ∙ (ap (λ x. x * 2 ^ (40 - row)) empty ∙ nothing))
         (cases_lt 40 row)
 
 -- live entries stand at their places
@@ -193,7 +215,9 @@ stand_there es (i ∷ is) live =
 
 -- ---- all rows in one list
 
-joined_rows : (H : List ℕ → Digest) (es : List (Option Digest)) (ts : List Place) (k r : ℕ) (rows : List (List Sibling)) → length rows ≡ k → ((i : ℕ) → i < k → list_of rows i ≡ in_row H es ts (r + i) 0 (length es / 2 ^ (r + i))) → flat_map (λ row. row) rows ≡ filter_map (standing H es) (filter (is_needed (length es) ts) (places_from (length es) k r))
+joined_rows : (H : List ℕ → Digest) (es : List (Option Digest)) (ts : List Place) (k r : ℕ) (rows : List (List Sibling)) → length rows ≡ k
+    → ((i : ℕ) → i < k → list_of rows i ≡ in_row H es ts (r + i) 0 (length es / 2 ^ (r + i)))
+    → flat_map (λ row. row) rows ≡ filter_map (standing H es) (filter (is_needed (length es) ts) (places_from (length es) k r))
 joined_rows H es ts zero r [] len are = refl
 joined_rows H es ts zero r (x ∷ xs) len are = absurd (omega (arith, len))
 joined_rows H es ts (suc k) r [] len are = absurd (omega (arith, len))
@@ -205,10 +229,13 @@ joined_rows H es ts (suc k) r (row ∷ rows) len are =
     let e : r + suc i ≡ suc r + i = omega arith in
     are (suc i) (omega (arith, lt)) ∙ ap (λ j. in_row H es ts j 0 (n / 2 ^ j)) e) in
     ap₂ (λ xs ys. xs ++ ys) here rest
-    ∙ (sym (filter_map-append (standing H es) (filter (is_needed n ts) (row_places r 0 (n / 2 ^ r))) (filter (is_needed n ts) (places_from n k (suc r))))
+    ∙ (sym (filter_map-append (standing H es) (filter (is_needed n ts) (row_places r 0 (n / 2 ^ r)))
+    (filter (is_needed n ts) (places_from n k (suc r))))
     ∙ ap (filter_map (standing H es)) (sym (filter-append (is_needed n ts) (row_places r 0 (n / 2 ^ r)) (places_from n k (suc r)))))
 
-pub proof_joined : (H : List ℕ → Digest) (es : List (Option Digest)) (numbers : List ℕ) (rows : List (List Sibling)) → HasRows (length es) rows → ((row : ℕ) → list_of rows row ≡ in_row H es (places_of es numbers) row 0 (length es / 2 ^ row)) → flat_map (λ row. row) rows ≡ proof_of H es numbers
+pub proof_joined : (H : List ℕ → Digest) (es : List (Option Digest)) (numbers : List ℕ) (rows : List (List Sibling)) → HasRows (length es) rows
+    → ((row : ℕ) → list_of rows row ≡ in_row H es (places_of es numbers) row 0 (length es / 2 ^ row))
+    → flat_map (λ row. row) rows ≡ proof_of H es numbers
 proof_joined H es numbers rows wide are =
     let n = length es in
     let k = length rows in
@@ -217,4 +244,5 @@ proof_joined H es numbers rows wide are =
     ∙ ap (λ ps. filter_map (standing H es) (filter (is_needed n ts) ps))
     (same_ascending (places_from n k 0) (places n) (rows_ascending n k 0) (places_ascending n)
     (λ r o h. places_have n r o (rows_had n k 0 r o h).0)
-    (λ r o h. let within = places_had n r o h in let low : r < k = wide.is r o within in rows_have n k 0 r o within (omega arith) (omega (arith, low))))
+    (λ r o h. let within = places_had n r o h in let low : r < k = wide.is r o within in
+    rows_have n k 0 r o within (omega arith) (omega (arith, low))))

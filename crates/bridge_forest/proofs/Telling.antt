@@ -14,7 +14,8 @@ number-made H (leaf i d) = refl
 number-made H (inner l r) = refl
 
 -- where no node is laid out nothing stands
-nothing_stands : (H : List ℕ → Digest) (es : List (Option Digest)) (row off : ℕ) → ((m : Node) → Contains (nodes H es) m → m.row ≡ row → m.off ≡ off → ⊥) → (x : Option Tree) → tree_at es row off ≡ x → tree_at es row off ≡ None
+nothing_stands : (H : List ℕ → Digest) (es : List (Option Digest)) (row off : ℕ)
+    → ((m : Node) → Contains (nodes H es) m → m.row ≡ row → m.off ≡ off → ⊥) → (x : Option Tree) → tree_at es row off ≡ x → tree_at es row off ≡ None
 nothing_stands H es row off free None e = e
 nothing_stands H es row off free (Some t) e =
     let w = standing_is_node H es (record { row = row; off = off }) t e in

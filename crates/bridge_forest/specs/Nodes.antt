@@ -17,4 +17,5 @@ pub record TellsNode (H : List ℕ → Digest) (es : List (Option Digest)) (row 
 
 -- so do the look-ups of a forest, which see all entries
 abbrev pub LookUpsTellNodes : Type 0
-LookUpsTellNodes = (H : List ℕ → Digest) (es : List (Option Digest)) (row off : ℕ) → TellsNode H es row off (digest_at H es row off) (leaf_number (tree_at es row off))
+LookUpsTellNodes = (H : List ℕ → Digest) (es : List (Option Digest)) (row off : ℕ)
+    → TellsNode H es row off (digest_at H es row off) (leaf_number (tree_at es row off))

@@ -1,6 +1,7 @@
 //! What proves entries: the digests that stand beside the ways down to them, all of them from one walk down. It goes through each part once,
 //! and where it reads the halves of one does not hang on what another has.
-ghost use Rattle.std.specs.Prelude.{◌≡◌, ◌≢◌, ℕ, List, suc, ◌++◌, ◌∷◌, ◌/◌, ◌^◌, ◌<◌, ◌≤◌, [], true, length, filter, map, take, drop, not, nat_le, Some, All, IfOk, OnOk, OnErr};
+ghost use Rattle.std.specs.Prelude.{◌≡◌, ◌≢◌, ℕ, List, suc, ◌++◌, ◌∷◌, ◌/◌, ◌^◌, ◌<◌, ◌≤◌, [], true, length, filter, map, take, drop, not, nat_le};
+ghost use Rattle.std.specs.Prelude.{Some, All, IfOk, OnOk, OnErr};
 ghost use Rattle.std.specs.List.{filter_map, flat_map};
 ghost use Rattle.std.specs.List.Sorted.{IsNonDecreasing};
 ghost use Rattle.forest_place.specs.Forest.{InForest};
@@ -10,7 +11,8 @@ ghost use Rattle.forest_model.specs.Deletion.{StandAt};
 ghost use Rattle.forest_model.specs.Standing.{tree_at};
 ghost use Rattle.forest_model.specs.EntryPlace.{entry_place};
 ghost use Rattle.bridge_forest.specs.Parts.{AreParts};
-ghost use Rattle.bridge_forest.specs.Proving.{places_of, standing, proof_of, in_row, list_of, HasRows, HasPlaces, AreIn, AreBehind, AreMore, AreOfPart, AreFrom, behind};
+ghost use Rattle.bridge_forest.specs.Proving.{places_of, standing, proof_of, in_row, list_of, HasRows, HasPlaces, AreIn, AreBehind, AreMore};
+ghost use Rattle.bridge_forest.specs.Proving.{AreOfPart, AreFrom, behind};
 ghost use Rattle.bridge_forest.specs.State.{is_live};
 
 use crate::arena::part_in;
@@ -29,8 +31,7 @@ const ROWS: usize = 40;
 /// So many digests lie in a row itself.
 const IN_ROW: usize = 2;
 
-/// Siblings that stand in one row, from left to right. The first two lie in it, so that a block which spends little asks for no memory row
-/// by row.
+/// Siblings that stand in one row, from left to right. The first two lie in it, so that a block which spends little asks for no memory row by row.
 #[derive(Drop)]
 pub struct Row {
     list: SmallVec<Sibling, IN_ROW>,
@@ -128,7 +129,8 @@ fn note<D: Digester>(
     requires stands { tree_at entries.now place.row place.off ≡ content entries.now part.row part.off }
     requires wide { HasRows (length entries.now) rows.old.items }
     ensures wide { HasRows (length entries.now) rows.new.items }
-    ensures here { OnOk result (list_of rows.new.items place.row ≡ list_of rows.old.items place.row ++ filter_map (standing D.digest_of entries.now) (place ∷ [])) }
+    ensures here { OnOk result (list_of rows.new.items place.row ≡ list_of rows.old.items place.row
+        ++ filter_map (standing D.digest_of entries.now) (place ∷ [])) }
     ensures others { (row : ℕ) → row ≢ place.row → list_of rows.new.items row ≡ list_of rows.old.items row }
 {
     let n = entries.len() as u64;
@@ -162,7 +164,8 @@ fn descend_to<D: Digester>(
     requires wide { HasRows (length entries.now) rows.old.items }
     ensures wide { HasRows (length entries.now) rows.new.items }
     ensures places { OnOk result (HasPlaces entries.now (number ∷ []) places.old.items places.new.items) }
-    ensures noted { OnOk result ((ts : List Place) (all : List ℕ) → StandAt entries.now ts all → AreOfPart entries.now ts all part place (number ∷ []) → AreMore D.digest_of entries.now ts place rows.old.items rows.new.items) }
+    ensures noted { OnOk result ((ts : List Place) (all : List ℕ) → StandAt entries.now ts all → AreOfPart entries.now ts all part place (number ∷ [])
+        → AreMore D.digest_of entries.now ts place rows.old.items rows.new.items) }
 {
     let n = entries.len() as u64;
     let mut at = part;
@@ -221,7 +224,8 @@ fn descend<D: Digester>(
     ensures places { OnOk result (HasPlaces entries.now numbers.now places.old.items places.new.items) }
 
     // Whatever all entries are of which it has these.
-    ensures noted { OnOk result ((ts : List Place) (all : List ℕ) → StandAt entries.now ts all → AreOfPart entries.now ts all part place numbers.now → AreMore D.digest_of entries.now ts place rows.old.items rows.new.items) }
+    ensures noted { OnOk result ((ts : List Place) (all : List ℕ) → StandAt entries.now ts all → AreOfPart entries.now ts all part place numbers.now
+        → AreMore D.digest_of entries.now ts place rows.old.items rows.new.items) }
 {
     if numbers.is_empty() {
         return note::<D>(entries, parts, part, place, rows);
@@ -267,9 +271,13 @@ fn descend_from<'a, D: Digester>(
     ensures wide { HasRows (length entries.now) rows.new.items }
     ensures rise { IfOk result (λ numbers. IsNonDecreasing numbers.now) }
     ensures later { IfOk result (λ left. AreBehind entries.now row left.now) }
-    ensures places { IfOk result (λ left. (here : List ℕ) × (here ++ left.now ≡ numbers.now) × HasPlaces entries.now here places.old.items places.new.items) }
-    ensures behind { IfOk result (λ left. (all : List ℕ) → numbers.now ≡ behind (length entries.now) (suc row) all → left.now ≡ behind (length entries.now) row all) }
-    ensures noted { OnOk result ((ts : List Place) (all : List ℕ) → StandAt entries.now ts all → numbers.now ≡ behind (length entries.now) (suc row) all → AreFrom D.digest_of entries.now ts (suc row) rows.old.items → AreFrom D.digest_of entries.now ts row rows.new.items) }
+    ensures places { IfOk result (λ left. (here : List ℕ) × (here ++ left.now ≡ numbers.now)
+        × HasPlaces entries.now here places.old.items places.new.items) }
+    ensures behind { IfOk result (λ left. (all : List ℕ) → numbers.now ≡ behind (length entries.now) (suc row) all
+        → left.now ≡ behind (length entries.now) row all) }
+    ensures noted { OnOk result ((ts : List Place) (all : List ℕ) → StandAt entries.now ts all
+        → numbers.now ≡ behind (length entries.now) (suc row) all → AreFrom D.digest_of entries.now ts (suc row) rows.old.items
+        → AreFrom D.digest_of entries.now ts row rows.new.items) }
 {
     let count = entries.len() as u64 >> row;
     if count % 2 == 0 {
@@ -301,7 +309,8 @@ fn rows_of<D: Digester>(
     requires rise { IsNonDecreasing numbers.now }
     ensures wide { IfOk result (λ rows. HasRows (length entries.now) rows.items) }
     ensures places { OnOk result (HasPlaces entries.now numbers.now places.old.items places.new.items) }
-    ensures are { IfOk result (λ rows. (row : ℕ) → list_of rows.items row ≡ in_row D.digest_of entries.now (places_of entries.now numbers.now) row 0 (length entries.now / 2 ^ row)) }
+    ensures are { IfOk result (λ rows. (row : ℕ)
+        → list_of rows.items row ≡ in_row D.digest_of entries.now (places_of entries.now numbers.now) row 0 (length entries.now / 2 ^ row)) }
 {
     let mut rows = no_rows(alloc, entries.len() as u64, numbers.len())?;
     let mut left = numbers;

@@ -78,7 +78,8 @@ record IsCountFault (m : Message) (t : Targeted) (known : ℕ → ℕ → Option
   told : why ≡ Why.Proof (Proof.HashCount want got)
   other : IsOtherCount m t known want got
 
-hashes_told : (m : Message) (t : Targeted) (known : ℕ → ℕ → Option Digest) (why : Refusal) → HashesJudged m t known (Err (Refused why)) → IsCountFault m t known why
+hashes_told : (m : Message) (t : Targeted) (known : ℕ → ℕ → Option Digest) (why : Refusal) → HashesJudged m t known (Err (Refused why))
+    → IsCountFault m t known why
 hashes_told m t known Why.Block h = absurd h
 hashes_told m t known Why.Link h = absurd h
 hashes_told m t known Why.MerkleRoot h = absurd h
@@ -105,20 +106,25 @@ hashes_told m t known (Why.Overspend x) h = absurd h
 hashes_told m t known (Why.Subsidy c a) h = absurd h
 
 -- roots matter in slots alone
-same_in_slots : (H : List ℕ → Digest) (text : Leaf → List ℕ) (points : List Outpoint) (m : Message) (n : ℕ) (f g : ℕ → Option Digest) (known : ℕ → ℕ → Option Digest) → ((row : ℕ) → is_slot n row ≡ true → f row ≡ g row) →
-    proof_fault H text (record { n = n; roots = f; known = known }) points m ≡ proof_fault H text (record { n = n; roots = g; known = known }) points m
+same_in_slots : (H : List ℕ → Digest) (text : Leaf → List ℕ) (points : List Outpoint) (m : Message) (n : ℕ) (f g : ℕ → Option Digest)
+    (known : ℕ → ℕ → Option Digest) → ((row : ℕ) → is_slot n row ≡ true → f row ≡ g row) →
+    proof_fault H text (record { n = n; roots = f; known = known }) points m
+    ≡ proof_fault H text (record { n = n; roots = g; known = known }) points m
 same_in_slots H text points m n f g known h =
     let ts = targets n m in
     let wanted = length (asked n ts (known_to m.lean known)) in
     let value = λ (c : Cover). evaluation H n ts (known_to m.lean known) (leaves_of H text points m) m.proof.hashes c in
-    ap₂ (λ (x y : Option ProofRefusal). first_of (shape_fault n [] 0 (named n m) ∷ unless (length m.proof.hashes == wanted) (Proof.HashCount wanted (length m.proof.hashes)) ∷ x ∷ y ∷ []))
+    ap₂ (λ (x y : Option ProofRefusal). first_of
+    (shape_fault n [] 0 (named n m) ∷ unless (length m.proof.hashes == wanted) (Proof.HashCount wanted (length m.proof.hashes)) ∷ x ∷ y ∷ []))
     (slots_alike (λ row c. empty_root (f row) row) (λ row c. empty_root (g row) row) n ts n (λ row c s. ap (λ x. empty_root x row) (h row s)))
-    (slots_alike (λ row c. root_differs (f row) (value c) row) (λ row c. root_differs (g row) (value c) row) n ts n (λ row c s. ap (λ x. root_differs x (value c) row) (h row s)))
+    (slots_alike (λ row c. root_differs (f row) (value c) row) (λ row c. root_differs (g row) (value c) row) n ts n
+    (λ row c s. ap (λ x. root_differs x (value c) row) (h row s)))
 
 targeted : (t : Targeted) (n : ℕ) (ts : List Place) → t.leaves ≡ n → t.targets ≡ ts → t ≡ record { leaves = n; targets = ts }
 targeted t n ts a b = ap₂ (λ (k : ℕ) (ps : List Place). let x : Targeted = record { leaves = k; targets = ps } in x) a b
 
-module _ (H : List ℕ → Digest) (text : Leaf → List ℕ) (es : List (Option Digest)) (known : ℕ → ℕ → Option Digest) (ext : List Outside) (m : Message) where
+module _ (H : List ℕ → Digest) (text : Leaf → List ℕ) (es : List (Option Digest)) (known : ℕ → ℕ → Option Digest) (ext : List Outside)
+    (m : Message) where
   abbrev view : View
   view = record { n = length es; roots = root H es; known = known }
 
@@ -130,15 +136,18 @@ module _ (H : List ℕ → Digest) (text : Leaf → List ℕ) (es : List (Option
       first_of (
       unless (length m.proof.hashes == wanted) (Proof.HashCount wanted (length m.proof.hashes))
       ∷ first_slot (λ row c. empty_root (root H es row) row) n ts n
-      ∷ first_slot (λ row c. root_differs (root H es row) (evaluation H n ts (known_to m.lean known) (leaves_of H text (points_of ext) m) m.proof.hashes c) row) n ts n
+      ∷ first_slot (λ row c. root_differs (root H es row)
+      (evaluation H n ts (known_to m.lean known) (leaves_of H text (points_of ext) m) m.proof.hashes c) row) n ts n
       ∷ []
       )
 
-  pub misplaced : (n : ℕ) (fault : RuleFault) → n ≡ length es → TargetsJudged n m (Err fault) → IsFirst (option_map Why.Proof (fault_in H text es known ext m)) fault
+  pub misplaced : (n : ℕ) (fault : RuleFault) → n ≡ length es → TargetsJudged n m (Err fault)
+      → IsFirst (option_map Why.Proof (fault_in H text es known ext m)) fault
   misplaced n NoMemory same h = tt
   misplaced n (Refused why) same h =
       let w = targets_told n m why h in
-      let first : shape_fault (length es) [] 0 (named (length es) m) ≡ Some w.fault = subst (λ k. shape_fault k [] 0 (named k m) ≡ Some w.fault) same w.first in
+      let first : shape_fault (length es) [] 0 (named (length es) m) ≡ Some w.fault =
+      subst (λ k. shape_fault k [] 0 (named k m) ≡ Some w.fault) same w.first in
       ap (option_map Why.Proof) (ap (λ x. option_or x (behind (length es))) first) ∙ ap Some (sym w.told)
 
   module _ (t : Targeted) (is_named : AreNamed (length es) m t) where
@@ -159,10 +168,12 @@ module _ (H : List ℕ → Digest) (text : Leaf → List ℕ) (es : List (Option
         ∙ ap Some (sym w.told)
 
     as_many : length t.targets ≡ length m.proof.spends
-    as_many = sym (length-map t.targets Some) ∙ (ap length (sym is_named.places) ∙ (length-map (targets_of m.proof.spends) (place_by m.naming (length es)) ∙ length-map m.proof.spends (λ s. s.target)))
+    as_many = sym (length-map t.targets Some) ∙ (ap length (sym is_named.places)
+        ∙ (length-map (targets_of m.proof.spends) (place_by m.naming (length es)) ∙ length-map m.proof.spends (λ s. s.target)))
 
     -- there is a leaf for each target
-    pub leaf_each : (leaves : List Digest) → leaves ≡ leaves_of H text (points_of ext) m → length m.proof.spends ≡ length ext → length leaves ≡ length t.targets
+    pub leaf_each : (leaves : List Digest) → leaves ≡ leaves_of H text (points_of ext) m → length m.proof.spends ≡ length ext
+        → length leaves ≡ length t.targets
     leaf_each leaves e count = ap length e ∙ (leaves-long H text ext m count ∙ (sym count ∙ sym as_many))
 
     module _ (f : Stump) (stands : StandsFor H es f) (hashes : List Digest) (full : AreHashes m t known hashes) where
@@ -197,16 +208,19 @@ module _ (H : List ℕ → Digest) (text : Leaf → List ℕ) (es : List (Option
       all_asked : length (asked f.leaves ts nothing_known) ≡ length (need f.leaves ts)
       all_asked = ap length (asked_all f.leaves ts)
 
-      fault_is : (fault : ProofFault) → IsProofFault H f ts leaves hashes fault → proof_fault H text seen (points_of ext) p ≡ Some (proof_refusal fault)
+      fault_is : (fault : ProofFault) → IsProofFault H f ts leaves hashes fault
+          → proof_fault H text seen (points_of ext) p ≡ Some (proof_refusal fault)
       fault_is (Fault.HashCount want got) (wanted, given, other) =
           let w : length (asked f.leaves ts nothing_known) ≡ want = all_asked ∙ sym wanted in
           count_told H text seen (points_of ext) p named-here.passes (λ e. other (given ∙ (e ∙ w)))
           ∙ ap₂ (λ (a b : ℕ). Some (Proof.HashCount a b)) w (sym given)
-      fault_is (Fault.EmptyRoot row) (count, greatest) = empty_told H text seen (points_of ext) p named-here.passes row (count ∙ sym all_asked) greatest
+      fault_is (Fault.EmptyRoot row) (count, greatest) =
+          empty_told H text seen (points_of ext) p named-here.passes row (count ∙ sym all_asked) greatest
       fault_is (Fault.RootDiffers row had computed) (count, never, greatest, was, is) =
           other_told H text seen (points_of ext) p named-here.passes row (count ∙ sym all_asked) never greatest
 
-      pub refused_by : (fault : ProofFault) (leaves' hashes' : List Digest) → leaves' ≡ leaves → hashes' ≡ hashes → IsProofFault H f t.targets leaves' hashes' fault →
+      pub refused_by : (fault : ProofFault) (leaves' hashes' : List Digest) → leaves' ≡ leaves → hashes' ≡ hashes
+          → IsProofFault H f t.targets leaves' hashes' fault →
           option_map Why.Proof (fault_in H text es known ext m) ≡ Some (Why.Proof (proof_refusal fault))
       refused_by fault leaves' hashes' e h is =
           ap (option_map Why.Proof) (fault-here ∙ fault_is fault
@@ -214,7 +228,8 @@ module _ (H : List ℕ → Digest) (text : Leaf → List ℕ) (es : List (Option
           (subst (λ xs. IsProofFault H f t.targets xs hashes fault) e
           (subst (λ xs. IsProofFault H f t.targets leaves' xs fault) h is))))
 
-      pub checked_by : (tells : Bool) (leaves' hashes' : List Digest) (pairs : List (Place × Digest)) (g : Stump) → leaves' ≡ leaves → hashes' ≡ hashes → IsDeleted tells H f t.targets leaves' hashes' pairs g → IsChecked H text es known ext m t hashes
+      pub checked_by : (tells : Bool) (leaves' hashes' : List Digest) (pairs : List (Place × Digest)) (g : Stump) → leaves' ≡ leaves
+          → hashes' ≡ hashes → IsDeleted tells H f t.targets leaves' hashes' pairs g → IsChecked H text es known ext m t hashes
       checked_by tells leaves' hashes' pairs g e h d =
           let named_all : named f.leaves m ≡ map Some ts = named-here.places ∙ ap (map Some) targets-here in
           let accepted : IsAccepted H f.leaves (root_in f) ts nothing_known leaves hashes =
@@ -225,12 +240,15 @@ module _ (H : List ℕ → Digest) (text : Leaf → List ℕ) (es : List (Option
 
 -- ---- by a history
 
-pub same_known : (H : List ℕ → Digest) (text : Leaf → List ℕ) (scripts : List (List ℕ)) (us : History) (known : List (Place × Digest)) → AreKnown H text scripts us known → look known ≡ known_at H text scripts us
+pub same_known : (H : List ℕ → Digest) (text : Leaf → List ℕ) (scripts : List (List ℕ)) (us : History) (known : List (Place × Digest))
+    → AreKnown H text scripts us known → look known ≡ known_at H text scripts us
 same_known H text scripts us known k = fun_ext (λ row. fun_ext (λ off. k.each row off))
 
-pub fault_same : (H : List ℕ → Digest) (text : Leaf → List ℕ) (scripts : List (List ℕ)) (es : List (Option Digest)) (us : History) (known : List (Place × Digest)) (ext : List Outside) (m : Message) → es ≡ entries H text us → AreKnown H text scripts us known →
+pub fault_same : (H : List ℕ → Digest) (text : Leaf → List ℕ) (scripts : List (List ℕ)) (es : List (Option Digest)) (us : History)
+    (known : List (Place × Digest)) (ext : List Outside) (m : Message) → es ≡ entries H text us → AreKnown H text scripts us known →
     fault_in H text es (look known) ext m ≡ proof_fault H text (view_of H text scripts us) (points_of ext) m
 fault_same H text scripts es us known ext m e k =
     ap (λ x. fault_in H text x (look known) ext m) e
     ∙ (ap (λ x. fault_in H text (entries H text us) x ext m) (same_known H text scripts us known k)
-    ∙ ap (λ n. proof_fault H text (record { n = n; roots = root H (entries H text us); known = known_at H text scripts us }) (points_of ext) m) (length-map us (option_map (λ r. H (text r)))))
+    ∙ ap (λ n. proof_fault H text (record { n = n; roots = root H (entries H text us); known = known_at H text scripts us }) (points_of ext) m)
+    (length-map us (option_map (λ r. H (text r)))))

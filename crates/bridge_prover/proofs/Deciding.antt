@@ -63,9 +63,11 @@ module _ (s : BridgeState) (b : Block) where
     pub missing_refused : (fault : RuleFault) → IsFirst (first_missing s.held spends.external) fault → IsFirst (refusal_on s b) fault
     missing_refused fault e =
         first-behind before (evidence.steps ++ on_money) fault shaped.passes
-        (first-in evidence.steps on_money fault (one_first (first_missing s.held ext) fault (subst (λ x. IsFirst (first_missing s.held x) fault) same_external e)))
+        (first-in evidence.steps on_money fault (one_first (first_missing s.held ext) fault
+        (subst (λ x. IsFirst (first_missing s.held x) fault) same_external e)))
 
-    module _ (numbers : List ℕ) (found : map Some numbers ≡ newest_in s.held spends.external) (passes : first_missing s.held spends.external ≡ None) where
+    module _ (numbers : List ℕ) (found : map Some numbers ≡ newest_in s.held spends.external)
+        (passes : first_missing s.held spends.external ≡ None) where
       pub numbers_are : numbers ≡ (own_in s.held ext).numbers
       numbers_are = sym (somes-map numbers) ∙ ap somes (found ∙ ap (newest_in s.held) same_external)
 
@@ -88,9 +90,12 @@ module _ (s : BridgeState) (b : Block) where
             (first-behind evidence.steps on_money (Refused why) none_missing (ap first_of (sym same_money) ∙ e))
 
         pub block_passes : first_of (money_steps spends outputs) ≡ None → refusal_on s b ≡ None
-        block_passes e = none-both before (evidence.steps ++ on_money) shaped.passes (none-both evidence.steps on_money none_missing (ap first_of (sym same_money) ∙ e))
+        block_passes e = none-both before (evidence.steps ++ on_money) shaped.passes
+            (none-both evidence.steps on_money none_missing (ap first_of (sym same_money) ∙ e))
 
-module _ (H : List ℕ → Digest) (text : Leaf → List ℕ) (s : BridgeState) (b : Block) (spends : BlockSpends) (numbers : List ℕ) (outputs : List Found) (rests : List Rest) (is : IsBridge H text s) (shaped : IsShaped s.rules.net s.rules.limits s.chain b spends) (known : AreFound s.held spends.external numbers outputs rests) where
+module _ (H : List ℕ → Digest) (text : Leaf → List ℕ) (s : BridgeState) (b : Block) (spends : BlockSpends) (numbers : List ℕ) (outputs : List Found)
+    (rests : List Rest) (is : IsBridge H text s) (shaped : IsShaped s.rules.net s.rules.limits s.chain b spends)
+    (known : AreFound s.held spends.external numbers outputs rests) where
   pub money_refused_by : (why : Refusal) → first_of (money_steps spends outputs) ≡ Some why → refusal_on s b ≡ Some why
   money_refused_by why e = money_refused s b spends shaped numbers known.each known.passes outputs known.are why e
 
@@ -100,8 +105,10 @@ module _ (H : List ℕ → Digest) (text : Leaf → List ℕ) (s : BridgeState) 
   -- as many outputs are found as there are external inputs
   pub found_count : length outputs ≡ length spends.external
   found_count =
-      let steps : first_of (own is.levels.now.history (external b s.chain.blocks)).steps ≡ None = ap (λ (e : Evidence). first_of e.steps) (sym same_evidence) ∙ none_missing s b spends shaped numbers known.each known.passes in
-      let all = all_found is.levels.now.history (external b s.chain.blocks) (each_passes (own is.levels.now.history (external b s.chain.blocks)).steps 0 steps) in
+      let steps : first_of (own is.levels.now.history (external b s.chain.blocks)).steps ≡ None =
+      ap (λ (e : Evidence). first_of e.steps) (sym same_evidence) ∙ none_missing s b spends shaped numbers known.each known.passes in
+      let all = all_found is.levels.now.history (external b s.chain.blocks)
+      (each_passes (own is.levels.now.history (external b s.chain.blocks)).steps 0 steps) in
       ap length (found_are s b spends shaped numbers known.each known.passes outputs known.are ∙ ap (λ (e : Evidence). e.found) same_evidence)
       ∙ (length-map (somes (newest_of is.levels.now.history (external b s.chain.blocks))) _
       ∙ (sym (length-map (somes (newest_of is.levels.now.history (external b s.chain.blocks))) Some) ∙ (ap length all
@@ -125,16 +132,21 @@ module _ (H : List ℕ → Digest) (text : Leaf → List ℕ) (s : BridgeState) 
         subst (IsReady H text s hash numbers) (sym (ap (λ (x : BlockSpends). x.new) shaped.spends))
         (ready H text s b is passes_by hash numbers (numbers_are s b spends shaped numbers known.each known.passes) (omega (arith, few, count, same)))
 
-    pub proved_by : (hash : Digest) (message : Option (List ℕ)) (t : BridgeState) → hash ≡ block_hash_of b → message ≡ written_text spends.external (message_by H s.watch s.entries s.held numbers) → t ≡ bridge_with H text s hash numbers spends.new → IsProved H text s b message t
+    pub proved_by : (hash : Digest) (message : Option (List ℕ)) (t : BridgeState) → hash ≡ block_hash_of b
+        → message ≡ written_text spends.external (message_by H s.watch s.entries s.held numbers) → t ≡ bridge_with H text s hash numbers spends.new
+        → IsProved H text s b message t
     proved_by hash message t at says next =
         let are = numbers_are s b spends shaped numbers known.each known.passes in
         record {
           passes = passes_by;
           says = says ∙ ap₂ (λ ext ns. written_text ext (message_by H s.watch s.entries s.held ns)) (same_external s b spends shaped) are;
-          next = next ∙ (ap₂ (λ h ns. bridge_with H text s h ns spends.new) at are ∙ ap (bridge_with H text s (block_hash_of b) (own_in s.held (external b s.chain.blocks)).numbers) (ap (λ (x : BlockSpends). x.new) shaped.spends));
+          next = next ∙ (ap₂ (λ h ns. bridge_with H text s h ns spends.new) at are
+              ∙ ap (bridge_with H text s (block_hash_of b) (own_in s.held (external b s.chain.blocks)).numbers)
+              (ap (λ (x : BlockSpends). x.new) shaped.spends));
         }
 
-    pub steps_by : (before after : ℕ) → after ≤ before + length numbers * rows (length s.entries) + 2 * length spends.new + 40 → after ≤ before + (length (external b s.chain.blocks) * rows (length s.entries) + 2 * length (new_records b s.chain.blocks) + 40)
+    pub steps_by : (before after : ℕ) → after ≤ before + length numbers * rows (length s.entries) + 2 * length spends.new + 40
+        → after ≤ before + (length (external b s.chain.blocks) * rows (length s.entries) + 2 * length (new_records b s.chain.blocks) + 40)
     steps_by before after le =
         let few = subst (λ n. after ≤ before + n * rows (length s.entries) + 2 * length spends.new + 40) number_count le in
         omega (arith, few, new_count)

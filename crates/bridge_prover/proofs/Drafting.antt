@@ -25,7 +25,8 @@ module _ (s : BridgeState) (rests : List Rest) where
   draft_some [] d some is = absurd (false≢true (sym some))
   draft_some (at ∷ ext) d some is = is
 
-module _ (H : List ℕ → Digest) (text : Leaf → List ℕ) (s : BridgeState) (numbers spent : List ℕ) (rests : List Rest) (held : All (λ i. is_held_live i s.held ≡ true) numbers) (shown : rests ≡ map (λ leaf. leaf.rest) (leaves_in s.held numbers)) where
+module _ (H : List ℕ → Digest) (text : Leaf → List ℕ) (s : BridgeState) (numbers spent : List ℕ) (rests : List Rest)
+    (held : All (λ i. is_held_live i s.held ≡ true) numbers) (shown : rests ≡ map (λ leaf. leaf.rest) (leaves_in s.held numbers)) where
   pub draft_fits : (ext : List Outside) (draft : Option Draft) → IsDraftOf s ext rests draft → IsDraft s.entries numbers draft
   draft_fits [] draft is = rw is tt
   draft_fits (at ∷ ext) None is = absurd is
@@ -33,9 +34,12 @@ module _ (H : List ℕ → Digest) (text : Leaf → List ℕ) (s : BridgeState) 
 
   module _ (few : length s.entries ≤ 2 ^ 40) (live : All (λ i. is_live s.entries i ≡ true) numbers) (perm : IsPermutation numbers spent) where
     message_is : (d : Draft) → IsDraftIn s rests d → drafted H s.entries numbers spent d ≡ message_by H s.watch s.entries s.held numbers
-    message_is d is = whole_proof H s.entries few s.held d.kept.targets d.lean numbers spent d.rests live held perm (is.rests ∙ shown) ∙ message_told H text s d.kept.targets is.kept d.lean is.lean numbers
+    message_is d is = whole_proof H s.entries few s.held d.kept.targets d.lean numbers spent d.rests live held perm (is.rests ∙ shown)
+        ∙ message_told H text s d.kept.targets is.kept d.lean is.lean numbers
 
-    pub draft_told : (ext : List Outside) (draft : Option Draft) → IsDraftOf s ext rests draft → option_map (λ d. message_text (drafted H s.entries numbers spent d)) draft ≡ written_text ext (message_by H s.watch s.entries s.held numbers)
+    pub draft_told : (ext : List Outside) (draft : Option Draft) → IsDraftOf s ext rests draft
+        → option_map (λ d. message_text (drafted H s.entries numbers spent d)) draft
+        ≡ written_text ext (message_by H s.watch s.entries s.held numbers)
     draft_told [] draft is = rw is refl
     draft_told (at ∷ ext) None is = absurd is
     draft_told (at ∷ ext) (Some d) is = ap (λ m. Some (message_text m)) (message_is d is)

@@ -15,13 +15,15 @@ use Rattle.block_rules.specs.declared.verdict.Verdict.TheVariants.{Accepted, Ref
 use Rattle.block_rules.specs.Blocks.{external, new_records}
 use Rattle.node_rules.specs.Reading.{Handed}
 use Rattle.node_rules.specs.Judging.{Evidence, refusal, full, is_forged}
-use Rattle.node_rules.specs.Machine.{ChainEvent, BlockCame, RollbackCame, StrayCame, State, Outcome, chain_of, by_refusal, by_evidence, verdict_by, event_in}
+use Rattle.node_rules.specs.Machine.{ChainEvent, BlockCame, RollbackCame, StrayCame, State, Outcome, chain_of, by_refusal, by_evidence, verdict_by}
+use Rattle.node_rules.specs.Machine.{event_in}
 use Rattle.node_rules.specs.Laws.{SpendsDiffer}
 use Rattle.node_rules.proofs.Value.{middle, once, full_pays}
 use Rattle.bridge_prover.specs.Bridge.{BridgeState, bridge_with, bridge_by, chain_before, record_of}
 use Rattle.bridge_prover.specs.Standing.{Stands, IsBridge}
 use Rattle.bridge_prover.specs.Laws.{LevelsTold}
-use Rattle.bridge_prover.specs.Full.{watched_by, history_of, is_forged_on, full_refusal_on, unless_forged, judged_on, after_shown, kept_if, next_judged, BridgeIsFull, NextJudgedIsBridge, LevelsJudged}
+use Rattle.bridge_prover.specs.Full.{watched_by, history_of, is_forged_on, full_refusal_on, unless_forged, judged_on, after_shown, kept_if}
+use Rattle.bridge_prover.specs.Full.{next_judged, BridgeIsFull, NextJudgedIsBridge, LevelsJudged}
 use Rattle.bridge_prover.proofs.Giving.{length-after}
 use Rattle.bridge_prover.proofs.Historied.{is_history, newest_history}
 use Rattle.bridge_prover.proofs.Next.{at_level, at-then, room, there}
@@ -35,8 +37,10 @@ module _ (H : List ℕ → Digest) (text : Leaf → List ℕ) (s : BridgeState) 
     evidence chain = full H text (watched_by s) us (external b chain.blocks) handed
 
     -- the entries at the targets of an accepted block differ and are live
-    spends_differ : (chain : Chain) → refusal s.rules chain b (evidence chain) ≡ None → SpendsDiffer us (external b chain.blocks) (evidence chain).numbers
-    spends_differ chain passes = once us s.rules chain b (evidence chain) passes (full_pays H text us (watched_by s) (external b chain.blocks) handed (middle us s.rules chain b (evidence chain) passes).1)
+    spends_differ : (chain : Chain) → refusal s.rules chain b (evidence chain) ≡ None
+        → SpendsDiffer us (external b chain.blocks) (evidence chain).numbers
+    spends_differ chain passes = once us s.rules chain b (evidence chain) passes
+        (full_pays H text us (watched_by s) (external b chain.blocks) handed (middle us s.rules chain b (evidence chain) passes).1)
 
   -- ---- one block
 
@@ -59,15 +63,19 @@ module _ (H : List ℕ → Digest) (text : Leaf → List ℕ) (s : BridgeState) 
     abbrev Says : Outcome → Option Verdict → BridgeState → Type 0
     Says o v s' = (o.verdict ≡ v) × Stands H text o.state s'
 
-    by_refused : (x : Option Refusal) → refusal s.rules chain b shown ≡ x → Says (by_refusal t b shown x) (Some (verdict_by chain b (length new) x)) (bridge_by x next s)
+    by_refused : (x : Option Refusal) → refusal s.rules chain b shown ≡ x
+        → Says (by_refusal t b shown x) (Some (verdict_by chain b (length new) x)) (bridge_by x next s)
     by_refused (Some why) e = (refl, stands)
     by_refused None e =
         let each = spends_differ b handed us chain e in (
           ap (λ n. Some (Accepted t.now.blocks (block_hash_of b) n)) (length-after us shown.numbers new),
-          (at-then H text t s (at_level H text t s is stands) shown.numbers new (each_live us (external b t.now.blocks) shown.numbers each.0) each.1 (block_hash_of b)).stands,
+          (at-then H text t s (at_level H text t s is stands) shown.numbers new (each_live us (external b t.now.blocks) shown.numbers each.0) each.1
+              (block_hash_of b)).stands,
         )
 
-    by_forged : (x : Bool) → Says (by_evidence s.rules t b (if x then None else Some shown)) (unless_forged x (verdict_by chain b (length new) (refusal s.rules chain b shown))) (kept_if x s (bridge_by (refusal s.rules chain b shown) next s))
+    by_forged : (x : Bool) → Says (by_evidence s.rules t b (if x then None else Some shown))
+        (unless_forged x (verdict_by chain b (length new) (refusal s.rules chain b shown)))
+        (kept_if x s (bridge_by (refusal s.rules chain b shown) next s))
     by_forged true = (refl, stands)
     by_forged false = by_refused (refusal s.rules chain b shown) refl
 
@@ -76,13 +84,15 @@ module _ (H : List ℕ → Digest) (text : Leaf → List ℕ) (s : BridgeState) 
         let e = full H text (watched_by s) h (external b c.blocks) handed in
         let r = refusal s.rules c b e in
         let f = is_forged H text (watched_by s) s.rules c h b handed in
-        Says (by_evidence s.rules t b (if is_forged H text (watched_by s) s.rules chain us b handed then None else Some shown)) (unless_forged f (verdict_by c b (length (new_records b c.blocks)) r))
+        Says (by_evidence s.rules t b (if is_forged H text (watched_by s) s.rules chain us b handed then None else Some shown))
+        (unless_forged f (verdict_by c b (length (new_records b c.blocks)) r))
         (kept_if f s (bridge_by r (bridge_with H text s (block_hash_of b) e.numbers (new_records b c.blocks)) s))
 
     pub block_is_full : By s.chain (history_of s)
     block_is_full =
         subst (λ c. By c (history_of s)) (sym stands.chain)
-        (subst (By chain) (sym (is_history H text s us (newest_history H text t s is stands))) (by_forged (is_forged H text (watched_by s) s.rules chain us b handed)))
+        (subst (By chain) (sym (is_history H text s us (newest_history H text t s is stands)))
+        (by_forged (is_forged H text (watched_by s) s.rules chain us b handed)))
 
   -- ---- what is kept is a bridge
 
@@ -95,11 +105,14 @@ module _ (H : List ℕ → Digest) (text : Leaf → List ℕ) (s : BridgeState) 
     next_by None e =
         let us = is.levels.now.history in
         let same : history_of s ≡ us = is_history H text s us (newest_history H text is.levels s is is.stands) in
-        let passes : refusal s.rules s.chain b (evidence b handed us s.chain) ≡ None = subst (λ h. refusal s.rules s.chain b (evidence b handed h s.chain) ≡ None) same e in
+        let passes : refusal s.rules s.chain b (evidence b handed us s.chain) ≡ None =
+        subst (λ h. refusal s.rules s.chain b (evidence b handed h s.chain) ≡ None) same e in
         let each = spends_differ b handed us s.chain passes in
         let ns = (evidence b handed us s.chain).numbers in
-        subst (λ h. IsBridge H text (bridge_with H text s (block_hash_of b) (evidence b handed h s.chain).numbers (new_records b s.chain.blocks))) (sym same)
-        (there H text s is ns (new_records b s.chain.blocks) (each_live us (external b s.chain.blocks) ns each.0) each.1 (room s.rules s.chain b (evidence b handed us s.chain) passes) (block_hash_of b))
+        subst (λ h. IsBridge H text (bridge_with H text s (block_hash_of b) (evidence b handed h s.chain).numbers (new_records b s.chain.blocks)))
+        (sym same)
+        (there H text s is ns (new_records b s.chain.blocks) (each_live us (external b s.chain.blocks) ns each.0) each.1
+        (room s.rules s.chain b (evidence b handed us s.chain) passes) (block_hash_of b))
 
     pub next_is_so : (x : Bool) → IsBridge H text (kept_if x s (bridge_by (full_refusal_on H text s b handed) after s))
     next_is_so true = is
@@ -108,10 +121,20 @@ module _ (H : List ℕ → Digest) (text : Leaf → List ℕ) (s : BridgeState) 
     -- ---- what is told of the levels
 
     told_by : (x : Option Refusal) → LevelsTold s (verdict_by s.chain b (length (new_records b s.chain.blocks)) x) (bridge_by x after s)
-    told_by None = (refl, ap (λ cs. (let c : Chain = record { blocks = suc s.chain.blocks; tip = block_hash_of b; leaves = s.chain.leaves + length (new_records b s.chain.blocks) } in c ∷ cs)) (map_taken chain_before 100 (record_of s.chain (evidence b handed (history_of s) s.chain).numbers ∷ s.undo)))
+    told_by None = (
+      refl,
+      ap (λ cs. (let c : Chain = record {
+        blocks = suc s.chain.blocks;
+        tip = block_hash_of b;
+        leaves =
+            s.chain.leaves + length (new_records b s.chain.blocks);
+      } in c ∷ cs))
+          (map_taken chain_before 100 (record_of s.chain (evidence b handed (history_of s) s.chain).numbers ∷ s.undo)),
+    )
     told_by (Some why) = (refl, refl)
 
-    pub told_so : (x : Bool) → LevelsJudged s (unless_forged x (verdict_by s.chain b (length (new_records b s.chain.blocks)) (full_refusal_on H text s b handed))) (kept_if x s (bridge_by (full_refusal_on H text s b handed) after s))
+    pub told_so : (x : Bool) → LevelsJudged s (unless_forged x (verdict_by s.chain b (length (new_records b s.chain.blocks))
+        (full_refusal_on H text s b handed))) (kept_if x s (bridge_by (full_refusal_on H text s b handed) after s))
     told_so true = refl
     told_so false = told_by (full_refusal_on H text s b handed)
 
@@ -127,16 +150,20 @@ next_judged_is_bridge H text s (BlockCame (Some b) handed) is = next_is_so H tex
 next_judged_is_bridge H text s (RollbackCame k) is = next_is_bridge H text s (RollbackCame k) is
 next_judged_is_bridge H text s StrayCame is = is
 
-pub levels_judged : (H : List ℕ → Digest) (text : Leaf → List ℕ) (s : BridgeState) (e : ChainEvent) → IsBridge H text s → LevelsJudged s (judged_on H text s e) (next_judged H text s e)
+pub levels_judged : (H : List ℕ → Digest) (text : Leaf → List ℕ) (s : BridgeState) (e : ChainEvent) → IsBridge H text s
+    → LevelsJudged s (judged_on H text s e) (next_judged H text s e)
 levels_judged H text s (BlockCame None handed) is = (refl, refl)
 levels_judged H text s (BlockCame (Some b) handed) is = told_so H text s is b handed (is_forged_on H text s b handed)
 levels_judged H text s (RollbackCame k) is = levels_told H text s (RollbackCame k) is
 levels_judged H text s StrayCame is = refl
 
 -- what holds of what is said of each event and kept then holds of what `judge` answers and leaves
-pub judged_so : {E P : Type 0} (said_by : P → Option Verdict) (H : List ℕ → Digest) (text : Leaf → List ℕ) (Q : ChainEvent → Option Verdict → BridgeState → Type 0)
-    (s s' : BridgeState) (event : Event) (e : ChainEvent) (result : Result P E) → event_in (event_of event) ≡ e → ((x : ChainEvent) → Q x (judged_on H text s x) (next_judged H text s x)) →
-    IfOk result (λ p. said_by p ≡ judged_on H text s e) → OnOk result (s' ≡ next_judged H text s e) → IfOk result (λ p. Q (event_in (event_of event)) (said_by p) s')
+pub judged_so : {E P : Type 0} (said_by : P → Option Verdict) (H : List ℕ → Digest) (text : Leaf → List ℕ) (Q : ChainEvent → Option Verdict
+    → BridgeState → Type 0)
+    (s s' : BridgeState) (event : Event) (e : ChainEvent) (result : Result P E) → event_in (event_of event) ≡ e
+    → ((x : ChainEvent) → Q x (judged_on H text s x) (next_judged H text s x)) →
+    IfOk result (λ p. said_by p ≡ judged_on H text s e) → OnOk result (s' ≡ next_judged H text s e)
+    → IfOk result (λ p. Q (event_in (event_of event)) (said_by p) s')
 judged_so said_by H text Q s s' event e (Ok p) same q said next =
     subst (λ x. Q x (said_by p) s') (sym same)
     (subst (λ x. Q e x s') (sym said)

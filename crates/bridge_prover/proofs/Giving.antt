@@ -1,5 +1,6 @@
 -- What undoes the newest blocks, while the index changes and records are dropped.
-use Rattle.std.proofs.Common.{◌≡◌, ◌≢◌, ℕ, zero, suc, ◌+◌, ◌<◌, ◌≤◌, true, false, List, [], ◌∷◌, ◌++◌, map, set, length, take, get_or, Option, Some, None, refl, sym, ap, ap₂, ◌∙◌, subst, ⊎_elim, arith}
+use Rattle.std.proofs.Common.{◌≡◌, ◌≢◌, ℕ, zero, suc, ◌+◌, ◌<◌, ◌≤◌, true, false, List, [], ◌∷◌, ◌++◌, map, set, length, take, get_or, Option, Some}
+use Rattle.std.proofs.Common.{None, refl, sym, ap, ap₂, ◌∙◌, subst, ⊎_elim, arith}
 use Rattle.std.specs.Prelude.{slice_get, option_map, AllPairs}
 use Rattle.std.specs.List.{AllByRecursion}
 use Rattle.std.proofs.lemmas.Bool.{cases_Bool}
@@ -45,7 +46,10 @@ differ_at n (m ∷ ns) h = (h 0 0 (omega arith), differ_at n ns (λ j d lt. h (s
 
 pub differ_from : (ns : List ℕ) → AllPairs (λ i j. i ≢ j) ns → AllDiffer ns
 differ_from [] a = tt
-differ_from (n ∷ ns) a = (differ_at n ns (λ j d lt. a 0 (suc j) d (omega arith) (omega (arith, lt))), differ_from ns (λ i j d lt below. a (suc i) (suc j) d (omega (arith, lt)) (omega (arith, below))))
+differ_from (n ∷ ns) a = (
+  differ_at n ns (λ j d lt. a 0 (suc j) d (omega arith) (omega (arith, lt))),
+  differ_from ns (λ i j d lt below. a (suc i) (suc j) d (omega (arith, lt)) (omega (arith, below))),
+)
 
 -- ---- what was spent stays spent
 
@@ -75,7 +79,8 @@ spent_gone (n ∷ ns) us a =
     )
 
 pub all_gone : (us : History) (ns : List ℕ) (new : List Leaf) → AllByRecursion (IsLiveIn us) ns → AllByRecursion (IsGone (history_after us ns new)) ns
-all_gone us ns new a = all_mapped (IsGone (spent ns us)) (IsGone (history_after us ns new)) (λ m e. got_front (spent ns us) (map Some new) m None e) ns (spent_gone ns us a)
+all_gone us ns new a = all_mapped (IsGone (spent ns us)) (IsGone (history_after us ns new)) (λ m e. got_front (spent ns us) (map Some new) m None e)
+    ns (spent_gone ns us a)
 
 -- ---- the records, where the index changes
 
@@ -95,7 +100,8 @@ give_held hs ks n k newer (l ∷ ls) (u ∷ us) le g =
       give_held hs ks n k l ls us (omega (arith, few, le)) g.2,
     )
 
-pub give_taken : (k : ℕ) (hs : List Held) (newer : Level) (ls : List Level) (us : List UndoRecord) → GiveBack hs newer ls us → GiveBack hs newer (take k ls) (take k us)
+pub give_taken : (k : ℕ) (hs : List Held) (newer : Level) (ls : List Level) (us : List UndoRecord) → GiveBack hs newer ls us
+    → GiveBack hs newer (take k ls) (take k us)
 give_taken zero hs newer ls us g = tt
 give_taken (suc k) hs newer [] [] g = tt
 give_taken (suc k) hs newer [] (u ∷ us) g = absurd g
@@ -105,18 +111,21 @@ give_taken (suc k) hs newer (l ∷ ls) (u ∷ us) g = (g.0, g.1, give_taken k hs
 abbrev pub GoneIn : ℕ → Level → Type 0
 GoneIn n l = IsGone l.history n
 
-give_without : (n : ℕ) (hs : List Held) (newer : Level) (ls : List Level) (us : List UndoRecord) → AllByRecursion (GoneIn n) ls → GiveBack hs newer ls us → GiveBack (without n hs) newer ls us
+give_without : (n : ℕ) (hs : List Held) (newer : Level) (ls : List Level) (us : List UndoRecord) → AllByRecursion (GoneIn n) ls
+    → GiveBack hs newer ls us → GiveBack (without n hs) newer ls us
 give_without n hs newer [] [] a g = tt
 give_without n hs newer [] (u ∷ us) a g = g
 give_without n hs newer (l ∷ ls) [] a g = g
 give_without n hs newer (l ∷ ls) (u ∷ us) a g = (
   g.0,
-  λ i leaf e. leaf-without_other n i hs (λ same. let z : Some None ≡ Some (Some leaf) = sym a.0 ∙ (ap (slice_get l.history) (sym same) ∙ e) in none-some leaf (same_Some None (Some leaf) z)) ∙ g.1 i leaf e,
+  λ i leaf e. leaf-without_other n i hs (λ same. let z : Some None ≡ Some (Some leaf) = sym a.0 ∙ (ap (slice_get l.history) (sym same) ∙ e) in
+      none-some leaf (same_Some None (Some leaf) z)) ∙ g.1 i leaf e,
   give_without n hs l ls us a.1 g.2,
 )
 
 -- and where entries are forgotten that are spent on all levels
-pub give_forgotten : (ns : List ℕ) (hs : List Held) (newer : Level) (ls : List Level) (us : List UndoRecord) → AllByRecursion (λ n. AllByRecursion (GoneIn n) ls) ns → GiveBack hs newer ls us → GiveBack (forgotten_in ns hs) newer ls us
+pub give_forgotten : (ns : List ℕ) (hs : List Held) (newer : Level) (ls : List Level) (us : List UndoRecord)
+    → AllByRecursion (λ n. AllByRecursion (GoneIn n) ls) ns → GiveBack hs newer ls us → GiveBack (forgotten_in ns hs) newer ls us
 give_forgotten [] hs newer ls us a g = g
 give_forgotten (n ∷ ns) hs newer ls us a g = give_forgotten ns (without n hs) newer ls us a.1 (give_without n hs newer ls us a.0 g)
 
@@ -129,14 +138,16 @@ pub record IsOld (hs : List Held) (newer : Level) (ls : List Level) (k n : ℕ) 
   pub leaf : Leaf
   pub held : leaf_at n hs ≡ Some leaf
 
-pub all_old : (k : ℕ) (hs : List Held) (newer : Level) (ls : List Level) (us : List UndoRecord) (u : UndoRecord) → GiveBack hs newer ls us → slice_get us k ≡ Some u → AllByRecursion (IsOld hs newer ls k) u.spent × AllPairs (λ i j. i ≢ j) u.spent
+pub all_old : (k : ℕ) (hs : List Held) (newer : Level) (ls : List Level) (us : List UndoRecord) (u : UndoRecord) → GiveBack hs newer ls us
+    → slice_get us k ≡ Some u → AllByRecursion (IsOld hs newer ls k) u.spent × AllPairs (λ i j. i ≢ j) u.spent
 all_old k hs newer [] [] u g e = absurd (none-some u e)
 all_old k hs newer [] (w ∷ us) u g e = absurd g
 all_old k hs newer (l ∷ ls) [] u g e = absurd g
 all_old zero hs newer (l ∷ ls) (w ∷ us) u g e =
     let same : w ≡ u = same_Some w u e in
     subst (λ (x : UndoRecord). AllByRecursion (IsOld hs newer (l ∷ ls) 0) x.spent × AllPairs (λ i j. i ≢ j) x.spent) same (
-      all_both (IsLiveIn l.history) (IsGone newer.history) (IsOld hs newer (l ∷ ls) 0) (λ n live gone. record { newest = gone; others = tt; leaf = live.0; held = g.1 n live.0 live.1 }) w.spent g.0.live
+      all_both (IsLiveIn l.history) (IsGone newer.history) (IsOld hs newer (l ∷ ls) 0)
+          (λ n live gone. record { newest = gone; others = tt; leaf = live.0; held = g.1 n live.0 live.1 }) w.spent g.0.live
           (subst (λ us. AllByRecursion (IsGone us) w.spent) (sym g.0.after) (all_gone l.history w.spent g.0.new g.0.live)),
       g.0.apart,
     )
@@ -154,19 +165,23 @@ all_old (suc k) hs newer (l ∷ ls) (w ∷ us) u g e =
 -- ---- the index
 
 -- what is held and spent in the history is spent in the index
-pub spent_there : (hs : List Held) (us : History) → NumbersRise hs → IsIndexOf hs us → (n : ℕ) (leaf : Leaf) → IsGone us n → leaf_at n hs ≡ Some leaf → is_spent n hs ≡ true
+pub spent_there : (hs : List Held) (us : History) → NumbersRise hs → IsIndexOf hs us → (n : ℕ) (leaf : Leaf) → IsGone us n → leaf_at n hs ≡ Some leaf
+    → is_spent n hs ≡ true
 spent_there hs us rise index n leaf gone held =
     spent_from n hs (ap (λ x. elim x [ None ↦ false | Some y ↦ true ]) held)
     (⊎_elim
-    (λ live. let z : Some None ≡ Some (Some leaf) = sym gone ∙ (sym (live_is_there n hs us rise index live) ∙ ap (option_map Some) held) in absurd (none-some leaf (same_Some None (Some leaf) z)))
+    (λ live. let z : Some None ≡ Some (Some leaf) = sym gone ∙ (sym (live_is_there n hs us rise index live) ∙ ap (option_map Some) held) in
+    absurd (none-some leaf (same_Some None (Some leaf) z)))
     (λ dead. dead)
     (cases_Bool (is_live n hs)))
 
-pub index-forgotten : (ns : List ℕ) (hs : List Held) (us : History) → NumbersRise hs → AllByRecursion (λ n. is_spent n hs ≡ true) ns → AllDiffer ns → IsIndexOf hs us → IsIndexOf (forgotten_in ns hs) us
+pub index-forgotten : (ns : List ℕ) (hs : List Held) (us : History) → NumbersRise hs → AllByRecursion (λ n. is_spent n hs ≡ true) ns → AllDiffer ns
+    → IsIndexOf hs us → IsIndexOf (forgotten_in ns hs) us
 index-forgotten [] hs us r a d i = i
 index-forgotten (n ∷ ns) hs us r a d i =
     index-forgotten ns (without n hs) us (rise-filter _ hs r)
-    (all_both (λ m. n ≢ m) (λ m. is_spent m hs ≡ true) (λ m. is_spent m (without n hs) ≡ true) (λ m o s. spent-without_other n m hs (λ e. o (sym e)) ∙ s) ns d.0 a.1)
+    (all_both (λ m. n ≢ m) (λ m. is_spent m hs ≡ true) (λ m. is_spent m (without n hs) ≡ true)
+    (λ m o s. spent-without_other n m hs (λ e. o (sym e)) ∙ s) ns d.0 a.1)
     d.1 (forgotten_is_spent n hs us r a.0 i)
 
 -- an entry that is spent in the index, and was live in the history
@@ -176,7 +191,8 @@ pub record WasLive (hs : List Held) (us : History) (n : ℕ) : Type 0 where
   pub held : leaf_at n hs ≡ Some leaf
   pub live : slice_get us n ≡ Some (Some leaf)
 
-pub index-unspent : (ns : List ℕ) (hs : List Held) (us : History) → NumbersRise hs → AllByRecursion (WasLive hs us) ns → AllDiffer ns → IsIndexOf hs (spent ns us) → IsIndexOf (unspent_in ns hs) us
+pub index-unspent : (ns : List ℕ) (hs : List Held) (us : History) → NumbersRise hs → AllByRecursion (WasLive hs us) ns → AllDiffer ns
+    → IsIndexOf hs (spent ns us) → IsIndexOf (unspent_in ns hs) us
 index-unspent [] hs us r a d i = i
 index-unspent (n ∷ ns) hs us r a d i =
     let w = a.0 in

@@ -1,5 +1,6 @@
 -- The history of a bridge is that of the newest level for which it stands.
-use Rattle.std.proofs.Common.{◌≡◌, ℕ, zero, suc, ◌+◌, ◌<◌, Bool, true, false, List, [], ◌∷◌, map, length, get_or, Option, Some, None, refl, sym, ap, ap₂, ◌∙◌, subst, arith}
+use Rattle.std.proofs.Common.{◌≡◌, ℕ, zero, suc, ◌+◌, ◌<◌, Bool, true, false, List, [], ◌∷◌, map, length, get_or, Option, Some, None, refl, sym, ap}
+use Rattle.std.proofs.Common.{ap₂, ◌∙◌, subst, arith}
 use Rattle.std.specs.Prelude.{slice_get, option_map, if◌then◌else◌}
 use Rattle.std.specs.List.{range_with_len}
 use Rattle.std.proofs.lemmas.List.{length-map}
@@ -20,11 +21,13 @@ use Rattle.bridge_prover.specs.Laws.{KnowsAsOwn}
 use Rattle.bridge_prover.specs.Shown.{IsHistory, AreKnown}
 use Rattle.bridge_prover.specs.Full.{watched_by, live_leaf, history_of}
 
-by-index : {X : Type 0} (f : ℕ → Option X) (xs : List (Option X)) (k : ℕ) → ((i : ℕ) → i < length xs → f (k + i) ≡ get_or xs i None) → map f (range_with_len k (length xs)) ≡ xs
+by-index : {X : Type 0} (f : ℕ → Option X) (xs : List (Option X)) (k : ℕ) → ((i : ℕ) → i < length xs → f (k + i) ≡ get_or xs i None)
+    → map f (range_with_len k (length xs)) ≡ xs
 by-index f [] k h = refl
 by-index f (x ∷ xs) k h =
     let here : f k ≡ x = ap f (let e : k ≡ k + 0 = omega arith in e) ∙ h 0 (omega arith) in
-    ap₂ (λ y ys. y ∷ ys) here (by-index f xs (k + 1) (λ i lt. ap f (let e : k + 1 + i ≡ k + suc i = omega arith in e) ∙ h (suc i) (omega (arith, lt))))
+    ap₂ (λ y ys. y ∷ ys) here (by-index f xs (k + 1) (λ i lt. ap f (let e : k + 1 + i ≡ k + suc i = omega arith in e)
+    ∙ h (suc i) (omega (arith, lt))))
 
 module _ (hs : List Held) (us : History) (rise : NumbersRise hs) (index : IsIndexOf hs us) where
   live-leaf : (i : ℕ) → live_leaf hs i ≡ get_or us i None
@@ -52,21 +55,27 @@ module _ (hs : List Held) (us : History) (rise : NumbersRise hs) (index : IsInde
   pub held-history : map (live_leaf hs) (range_with_len 0 (length us)) ≡ us
   held-history = by-index (live_leaf hs) us 0 (λ i lt. ap (live_leaf hs) (let e : 0 + i ≡ i = omega arith in e) ∙ live-leaf i)
 
-pub is_history : (H : List ℕ → Digest) (text : Leaf → List ℕ) (s : BridgeState) (us : History) → IsHistory H text s.entries s.held us → history_of s ≡ us
+pub is_history : (H : List ℕ → Digest) (text : Leaf → List ℕ) (s : BridgeState) (us : History) → IsHistory H text s.entries s.held us
+    → history_of s ≡ us
 is_history H text s us is =
-    ap (λ n. map (live_leaf s.held) (range_with_len 0 n)) (ap length is.entries_are ∙ length-map us (option_map (λ r. H (text r)))) ∙ held-history s.held us is.rise is.index
+    ap (λ n. map (live_leaf s.held) (range_with_len 0 n)) (ap length is.entries_are ∙ length-map us (option_map (λ r. H (text r))))
+    ∙ held-history s.held us is.rise is.index
 
-pub newest_history : (H : List ℕ → Digest) (text : Leaf → List ℕ) (t : State) (s : BridgeState) → IsBridge H text s → Stands H text t s → IsHistory H text s.entries s.held t.now.history
+pub newest_history : (H : List ℕ → Digest) (text : Leaf → List ℕ) (t : State) (s : BridgeState) → IsBridge H text s → Stands H text t s
+    → IsHistory H text s.entries s.held t.now.history
 newest_history H text t s is stands = record { entries_are = stands.entries; index = stands.index; rise = is.rise }
 
 -- and one that the bridge has
-pub own_history : (H : List ℕ → Digest) (text : Leaf → List ℕ) (s : BridgeState) → IsBridge H text s → IsHistory H text s.entries s.held (history_of s)
+pub own_history : (H : List ℕ → Digest) (text : Leaf → List ℕ) (s : BridgeState) → IsBridge H text s
+    → IsHistory H text s.entries s.held (history_of s)
 own_history H text s is =
     let have = newest_history H text is.levels s is is.stands in
     subst (IsHistory H text s.entries s.held) (sym (is_history H text s is.levels.now.history have)) have
 
 -- what it knows is what is known under its history
-pub known_so : (H : List ℕ → Digest) (text : Leaf → List ℕ) (s : BridgeState) (known : List (Place × Digest)) → IsBridge H text s → KnowsAsOwn H text s known → AscendByPlace known → AreKnown H text (watched_by s) (history_of s) known
+pub known_so : (H : List ℕ → Digest) (text : Leaf → List ℕ) (s : BridgeState) (known : List (Place × Digest)) → IsBridge H text s
+    → KnowsAsOwn H text s known → AscendByPlace known → AreKnown H text (watched_by s) (history_of s) known
 known_so H text s known is own ascends =
-    subst (λ us. AreKnown H text (watched_by s) us known) (sym (is_history H text s is.levels.now.history (newest_history H text is.levels s is is.stands)))
+    subst (λ us. AreKnown H text (watched_by s) us known)
+    (sym (is_history H text s is.levels.now.history (newest_history H text is.levels s is is.stands)))
     (record { each = own is.levels is.stands; ascend = ascends })

@@ -1,5 +1,6 @@
 -- Where live entries stand: places that have shape.
-use Rattle.std.proofs.Common.{◌≡◌, ℕ, suc, ◌+◌, ◌-◌, ◌/◌, ◌^◌, ◌<◌, Bool, true, false, cond, List, [], ◌∷◌, ◌++◌, map, length, take, get_or, Option, Some, None, Result, Ok, Err, IfOk, refl, sym, ap, ap₂, ◌∙◌, subst, arith, ⊎_elim}
+use Rattle.std.proofs.Common.{◌≡◌, ℕ, suc, ◌+◌, ◌-◌, ◌/◌, ◌^◌, ◌<◌, Bool, true, false, cond, List, [], ◌∷◌, ◌++◌, map, length, take, get_or, Option}
+use Rattle.std.proofs.Common.{Some, None, Result, Ok, Err, IfOk, refl, sym, ap, ap₂, ◌∙◌, subst, arith, ⊎_elim}
 use Rattle.std.specs.Prelude.{nat_lt, ◌==◌, option_map, unwrap_or, is_some}
 use Rattle.std.specs.List.{AllByRecursion, filter, cons_option}
 use Rattle.std.proofs.lemmas.List.{take_more}
@@ -73,7 +74,13 @@ module _ (es : List (Option Digest)) where
       ⊎_elim
       (λ here.
       let same = same_from_is_at r o w.place here in
-      record { number = n; digest = w.digest; above = λ k b. b.0; there = subst (λ (p : Place). tree_at es p.row p.off ≡ Some (leaf n w.digest)) same w.there })
+      record {
+        number = n;
+        digest = w.digest;
+        above = λ k b. b.0;
+        there =
+            subst (λ (p : Place). tree_at es p.row p.off ≡ Some (leaf n w.digest)) same w.there;
+      })
       (λ later. let v = one_of ns a.1 r o later in record { number = v.number; digest = v.digest; above = λ k b. v.above k b.1; there = v.there })
       (or_cases (is_at r o w.place) (has_place (places_in es ns) r o) h')
 
@@ -111,23 +118,31 @@ module _ (es : List (Option Digest)) where
 
   -- ---- as targets
 
-  pub passed_all : (p : ℕ → Bool) (ns : List ℕ) → ((n : ℕ) → p n ≡ true → is_live es n ≡ true) → AllByRecursion (λ n. is_live es n ≡ true) (filter p ns)
+  pub passed_all : (p : ℕ → Bool) (ns : List ℕ) → ((n : ℕ) → p n ≡ true → is_live es n ≡ true)
+      → AllByRecursion (λ n. is_live es n ≡ true) (filter p ns)
   passed_all p [] h = tt
   passed_all p (n ∷ ns) h = by (p n) refl (passed_all p ns h)
     where
-      by : (b : Bool) → p n ≡ b → AllByRecursion (λ m. is_live es m ≡ true) (filter p ns) → AllByRecursion (λ m. is_live es m ≡ true) (cond b (n ∷ filter p ns) (filter p ns))
+      by : (b : Bool) → p n ≡ b → AllByRecursion (λ m. is_live es m ≡ true) (filter p ns)
+          → AllByRecursion (λ m. is_live es m ≡ true) (cond b (n ∷ filter p ns) (filter p ns))
       by true e r = (h n e, r)
       by false e r = r
 
-  pub are_targets : (ns positions : List ℕ) → positions ≡ map (target_of es) ns → AllByRecursion (λ n. is_live es n ≡ true) ns → HasShape (length es) (places_in es ns) → AreFixedTargets (length es) positions (places_in es ns)
+  pub are_targets : (ns positions : List ℕ) → positions ≡ map (target_of es) ns → AllByRecursion (λ n. is_live es n ≡ true) ns
+      → HasShape (length es) (places_in es ns) → AreFixedTargets (length es) positions (places_in es ns)
   are_targets ns positions e a shape = record { numbered = sym (e ∙ targets_are ns a); shape = shape }
 
 -- one more position
-pub positions_more : (f : ℕ → ℕ) (p : ℕ → Bool) (xs : List ℕ) (i : ℕ) (old new : List ℕ) → i < length xs → old ≡ map f (filter p (take i xs)) → new ≡ old ++ map f (filter p (get_or xs i 0 ∷ [])) → new ≡ map f (filter p (take (i + 1) xs))
+pub positions_more : (f : ℕ → ℕ) (p : ℕ → Bool) (xs : List ℕ) (i : ℕ) (old new : List ℕ) → i < length xs → old ≡ map f (filter p (take i xs))
+    → new ≡ old ++ map f (filter p (get_or xs i 0 ∷ [])) → new ≡ map f (filter p (take (i + 1) xs))
 positions_more f p xs i old new lt was e =
     e ∙ (ap (λ ys. ys ++ map f (filter p (get_or xs i 0 ∷ []))) was
-    ∙ (sym (map-append f (filter p (take i xs)) (filter p (get_or xs i 0 ∷ []))) ∙ ap (map f) (sym (filter-append p (take i xs) (get_or xs i 0 ∷ [])) ∙ ap (filter p) (sym (take_more xs i 0 lt)))))
+    ∙ (sym (map-append f (filter p (take i xs)) (filter p (get_or xs i 0 ∷ [])))
+    ∙ ap (map f) (sym (filter-append p (take i xs) (get_or xs i 0 ∷ [])) ∙ ap (filter p) (sym (take_more xs i 0 lt)))))
 
-pub targets_found : {E : Type 0} (n : ℕ) (positions : List ℕ) (places : List Place) → n < 2 ^ 40 → AreFixedTargets n positions places → (r : Result Targeted E) → IfOk r (λ t. (t.leaves ≡ n) × (map (place_by FixedPosition n) positions ≡ map Some t.targets)) → IfOk r (λ t. t.targets ≡ places)
-targets_found n positions places few a (Ok t) f = sym (somes-map t.targets) ∙ (ap somes (sym f.1 ∙ named_by FixedPosition n (omega (arith, few)) positions places a) ∙ somes-map places)
+pub targets_found : {E : Type 0} (n : ℕ) (positions : List ℕ) (places : List Place) → n < 2 ^ 40 → AreFixedTargets n positions places
+    → (r : Result Targeted E) → IfOk r (λ t. (t.leaves ≡ n) × (map (place_by FixedPosition n) positions ≡ map Some t.targets))
+    → IfOk r (λ t. t.targets ≡ places)
+targets_found n positions places few a (Ok t) f =
+    sym (somes-map t.targets) ∙ (ap somes (sym f.1 ∙ named_by FixedPosition n (omega (arith, few)) positions places a) ∙ somes-map places)
 targets_found n positions places few a (Err e) f = tt

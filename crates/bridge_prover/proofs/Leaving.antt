@@ -1,5 +1,6 @@
 -- A bridge with a watch list: what is known to it is what is known by the history, and what its messages leave out.
-use Rattle.std.proofs.Common.{◌≡◌, ℕ, zero, suc, ◌+◌, ◌*◌, Bool, true, false, cond, List, [], ◌∷◌, map, length, get_or, Option, Some, None, refl, sym, ap, ap₂, ◌∙◌, subst}
+use Rattle.std.proofs.Common.{◌≡◌, ℕ, zero, suc, ◌+◌, ◌*◌, Bool, true, false, cond, List, [], ◌∷◌, map, length, get_or, Option, Some, None, refl, sym}
+use Rattle.std.proofs.Common.{ap, ap₂, ◌∙◌, subst}
 use Rattle.std.specs.Prelude.{◌&&◌, ◌||◌, not, is_some, is_none, option_map, slice_get, if◌then◌else◌, IsSome, Result, Ok, Err, IfOk}
 use Rattle.std.specs.List.{filter}
 use Rattle.std.proofs.lemmas.Bool.{false≢true}
@@ -47,12 +48,14 @@ module _ (H : List ℕ → Digest) (text : Leaf → List ℕ) (hs : List Held) (
   long = length-map us (option_map (λ r. H (text r)))
 
   places_same : (scripts : List (List ℕ)) → places_in (entries H text us) (kept_in scripts hs) ≡ kept_places H text scripts us
-  places_same scripts = ap (places_in (entries H text us)) (kept_same scripts hs us index) ∙ somes-found (entry_place (entries H text us)) (kept scripts us)
+  places_same scripts = ap (places_in (entries H text us)) (kept_same scripts hs us index)
+      ∙ somes-found (entry_place (entries H text us)) (kept scripts us)
 
   pub known_same : (watch : Option (List (List ℕ))) → known_in H watch (entries H text us) hs ≡ known_for H text watch us
   known_same None = refl
   known_same (Some scripts) =
-      let by : ℕ → List Place → ℕ → ℕ → Option Digest = λ n ps row off. if is_known n ps (record { row = row; off = off }) then digest_at H (entries H text us) row off else None in
+      let by : ℕ → List Place → ℕ → ℕ → Option Digest =
+      λ n ps row off. if is_known n ps (record { row = row; off = off }) then digest_at H (entries H text us) row off else None in
       ap₂ by long (places_same scripts)
 
   list_same : (scripts : List (List ℕ)) → IsCacheOf H text scripts us (kept_leaves H text scripts us) (known_list H scripts (entries H text us) hs)
@@ -60,11 +63,13 @@ module _ (H : List ℕ → Digest) (text : Leaf → List ℕ) (hs : List Held) (
 
 module _ (H : List ℕ → Digest) (text : Leaf → List ℕ) (s : BridgeState) (t : State) (stands : Stands H text t s) where
   -- it is that of a cache
-  as_cache : IsCacheOf H text (scripts_of s.watch) t.now.history (kept_leaves H text (scripts_of s.watch) t.now.history) (known_list H (scripts_of s.watch) s.entries s.held)
+  as_cache : IsCacheOf H text (scripts_of s.watch) t.now.history (kept_leaves H text (scripts_of s.watch) t.now.history)
+      (known_list H (scripts_of s.watch) s.entries s.held)
   as_cache =
       let us = t.now.history in
       let scripts = scripts_of s.watch in
-      subst (λ es. IsCacheOf H text scripts us (kept_leaves H text scripts us) (known_list H scripts es s.held)) (sym stands.entries) (list_same H text s.held us stands.index scripts)
+      subst (λ es. IsCacheOf H text scripts us (kept_leaves H text scripts us) (known_list H scripts es s.held)) (sym stands.entries)
+      (list_same H text s.held us stands.index scripts)
 
 pub known_is_own : KnownIsOwn
 known_is_own H text s is = (
@@ -82,11 +87,13 @@ module _ (H : List ℕ → Digest) (text : Leaf → List ℕ) (s : BridgeState) 
       let there = live_is_there i s.held us is.rise is.stands.index live in
       by (held_at i s.held) (live_is_held i s.held live) there
     where
-      by : (x : Option Held) → IsSome x → option_map Some (option_map (λ (h : Held). h.leaf) x) ≡ slice_get is.levels.now.history i → forest.is_live s.entries i ≡ true
+      by : (x : Option Held) → IsSome x → option_map Some (option_map (λ (h : Held). h.leaf) x) ≡ slice_get is.levels.now.history i
+          → forest.is_live s.entries i ≡ true
       by None h e = absurd (false≢true h)
       by (Some x) h e =
           ap (λ es. is_some (get_or es i None)) is.stands.entries
-          ∙ ap is_some (got_entry (λ r. H (text r)) is.levels.now.history i ∙ ap (option_map (λ r. H (text r))) (got_back is.levels.now.history i x.leaf (sym e)))
+          ∙ ap is_some (got_entry (λ r. H (text r)) is.levels.now.history i
+          ∙ ap (option_map (λ r. H (text r))) (got_back is.levels.now.history i x.leaf (sym e)))
 
   module _ (numbers : List ℕ) (noted : numbers ≡ noted_in (scripts_of s.watch) s.held) where
     pub lives_are : filter (λ i. is_live i s.held) numbers ≡ kept_in (scripts_of s.watch) s.held
@@ -96,7 +103,8 @@ module _ (H : List ℕ → Digest) (text : Leaf → List ℕ) (s : BridgeState) 
     places_shaped =
         subst (λ ns. HasShape (length s.entries) (places_in s.entries ns)) (sym lives_are)
         (kept_shape s.entries (kept_in (scripts_of s.watch) s.held)
-        (all_mapped (λ i. is_live i s.held ≡ true) (λ i. forest.is_live s.entries i ≡ true) lives_stand (kept_in (scripts_of s.watch) s.held) (kept_live (scripts_of s.watch) s.held))
+        (all_mapped (λ i. is_live i s.held ≡ true) (λ i. forest.is_live s.entries i ≡ true) lives_stand (kept_in (scripts_of s.watch) s.held)
+        (kept_live (scripts_of s.watch) s.held))
         (kept_rise (scripts_of s.watch) s.held is.rise))
 
 -- ---- what is left out
@@ -110,7 +118,9 @@ no_cover row off = ap is_some (none row off)
 
 -- no place is known where no entry is kept
 pub none_known : (n : ℕ) (p : Place) → is_known n [] p ≡ false
-none_known n p = ap₂ (λ (a b : Bool). a || b) (no_cover p.row p.off) (and_false (not (is_root n p.row p.off)) (not (is_some (cover [] p.row p.off))) (is_some (cover [] p.row (sibling_off p.off))) (no_cover p.row (sibling_off p.off)))
+none_known n p = ap₂ (λ (a b : Bool). a || b) (no_cover p.row p.off)
+    (and_false (not (is_root n p.row p.off)) (not (is_some (cover [] p.row p.off))) (is_some (cover [] p.row (sibling_off p.off)))
+    (no_cover p.row (sibling_off p.off)))
   where
     and_false : (a b c : Bool) → c ≡ false → (a && b && c) ≡ false
     and_false true true c e = e
@@ -128,12 +138,14 @@ module _ (H : List ℕ → Digest) (es : List (Option Digest)) where
   Right known q = not (known q)
 
   -- where nothing stands at a place, there is nothing to leave out
-  left_out : (known : Place → Bool) (ps : List Place) → somes (map at (filter (λ p. is_none (if known p then at p else None)) ps)) ≡ somes (map at (filter (λ p. not (known p)) ps))
+  left_out : (known : Place → Bool) (ps : List Place) → somes (map at (filter (λ p. is_none (if known p then at p else None)) ps))
+      ≡ somes (map at (filter (λ p. not (known p)) ps))
   left_out known [] = refl
   left_out known (p ∷ ps) = by (known p) (at p) refl (left_out known ps)
     where
       by : (b : Bool) (x : Option Digest) → at p ≡ x → somes (map at (filter (Left known) ps)) ≡ somes (map at (filter (Right known) ps)) →
-          somes (map at (cond (is_none (if b then at p else None)) (p ∷ filter (Left known) ps) (filter (Left known) ps))) ≡ somes (map at (cond (not b) (p ∷ filter (Right known) ps) (filter (Right known) ps)))
+          somes (map at (cond (is_none (if b then at p else None)) (p ∷ filter (Left known) ps) (filter (Left known) ps)))
+          ≡ somes (map at (cond (not b) (p ∷ filter (Right known) ps) (filter (Right known) ps)))
       by false None e r = rw e r
       by false (Some d) e r = rw e (ap (λ ds. d ∷ ds) r)
       by true None e r = rw e (rw e r)
@@ -141,45 +153,60 @@ module _ (H : List ℕ → Digest) (es : List (Option Digest)) where
 
   all_asked : (known : Place → Bool) → ((p : Place) → known p ≡ false) → (ps : List Place) → filter (λ p. true) ps ≡ filter (λ p. not (known p)) ps
   all_asked known none [] = refl
-  all_asked known none (p ∷ ps) = ap (λ qs. p ∷ qs) (all_asked known none ps) ∙ sym (ap (λ b. cond (not b) (p ∷ filter (λ q. not (known q)) ps) (filter (λ q. not (known q)) ps)) (none p))
+  all_asked known none (p ∷ ps) = ap (λ qs. p ∷ qs) (all_asked known none ps)
+      ∙ sym (ap (λ b. cond (not b) (p ∷ filter (λ q. not (known q)) ps) (filter (λ q. not (known q)) ps)) (none p))
 
   -- without a list no entry is kept, since none is watched
   none_kept : (hs : List Held) → kept_in [] hs ≡ []
   none_kept [] = refl
   none_kept (h ∷ hs) = by h.live (none_kept hs)
     where
-      by : (b : Bool) → kept_in [] hs ≡ [] → map (λ (x : Held). x.number) (cond (b && false) (h ∷ filter (λ (x : Held). x.live && false) hs) (filter (λ (x : Held). x.live && false) hs)) ≡ []
+      by : (b : Bool) → kept_in [] hs ≡ [] → map (λ (x : Held). x.number)
+          (cond (b && false) (h ∷ filter (λ (x : Held). x.live && false) hs) (filter (λ (x : Held). x.live && false) hs)) ≡ []
       by true r = r
       by false r = r
 
   -- the hashes over what is needed, less the known ones
-  hashes_same : (watch : Option (List (List ℕ))) (hs : List Held) (ts : List Place) → somes (map at (asked (length es) ts (known_in H watch es hs))) ≡ somes (map at (filter (λ p. not (is_known (length es) (places_in es (kept_in (scripts_of watch) hs)) p)) (need (length es) ts)))
+  hashes_same : (watch : Option (List (List ℕ))) (hs : List Held) (ts : List Place) → somes (map at (asked (length es) ts (known_in H watch es hs)))
+      ≡ somes (map at (filter (λ p. not (is_known (length es) (places_in es (kept_in (scripts_of watch) hs)) p)) (need (length es) ts)))
   hashes_same None hs ts =
-      let none : (p : Place) → is_known (length es) (places_in es (kept_in [] hs)) p ≡ false = λ p. ap (λ ns. is_known (length es) (places_in es ns) p) (none_kept hs) ∙ none_known (length es) p in
+      let none : (p : Place) → is_known (length es) (places_in es (kept_in [] hs)) p ≡ false =
+      λ p. ap (λ ns. is_known (length es) (places_in es ns) p) (none_kept hs) ∙ none_known (length es) p in
       ap (λ ps. somes (map at ps)) (all_asked (is_known (length es) (places_in es (kept_in [] hs))) none (need (length es) ts))
   hashes_same (Some scripts) hs ts = left_out (is_known (length es) (places_in es (kept_in scripts hs))) (need (length es) ts)
 
-  pub proof_same_beside : (watch : Option (List (List ℕ))) (hs : List Held) (numbers : List ℕ) → proof_beside H (places_in es (kept_in (scripts_of watch) hs)) es hs numbers ≡ proof_by H watch es hs numbers
-  proof_same_beside watch hs numbers = ap (λ ds. (let p : BlockProof = record { spends = spends_by es hs numbers; hashes = ds } in p)) (sym (hashes_same watch hs (targets (length es) (sent false (record { spends = spends_by es hs numbers; hashes = [] })))))
+  pub proof_same_beside : (watch : Option (List (List ℕ))) (hs : List Held) (numbers : List ℕ)
+      → proof_beside H (places_in es (kept_in (scripts_of watch) hs)) es hs numbers ≡ proof_by H watch es hs numbers
+  proof_same_beside watch hs numbers = ap (λ ds. (let p : BlockProof = record { spends = spends_by es hs numbers; hashes = ds } in p))
+      (sym (hashes_same watch hs (targets (length es) (sent false (record { spends = spends_by es hs numbers; hashes = [] })))))
 
 -- ---- what the calls answer
 
 module _ (H : List ℕ → Digest) (text : Leaf → List ℕ) (s : BridgeState) where
   -- the targets of what is watched
-  pub kept_found : {E : Type 0} (inner : BridgeState) → inner ≡ s → IsBridge H text inner → (numbers : List ℕ) → numbers ≡ noted_in (scripts_of inner.watch) inner.held → (r : Result Targeted E) →
-      IfOk r (λ t. t.targets ≡ places_in inner.entries (filter (λ i. is_live i inner.held) numbers)) → IfOk r (λ t. t.targets ≡ places_in s.entries (kept_in (scripts_of s.watch) s.held))
+  pub kept_found : {E : Type 0} (inner : BridgeState) → inner ≡ s → IsBridge H text inner → (numbers : List ℕ)
+      → numbers ≡ noted_in (scripts_of inner.watch) inner.held → (r : Result Targeted E) →
+      IfOk r (λ t. t.targets ≡ places_in inner.entries (filter (λ i. is_live i inner.held) numbers))
+      → IfOk r (λ t. t.targets ≡ places_in s.entries (kept_in (scripts_of s.watch) s.held))
   kept_found inner same is numbers noted r =
-      IfOk-weaker r (λ (t : Targeted). t.targets ≡ places_in inner.entries (filter (λ i. is_live i inner.held) numbers)) (λ (t : Targeted). t.targets ≡ places_in s.entries (kept_in (scripts_of s.watch) s.held))
-      (λ (t : Targeted) e. e ∙ (ap (places_in inner.entries) (lives_are H text inner is numbers noted) ∙ ap (λ (x : BridgeState). places_in x.entries (kept_in (scripts_of x.watch) x.held)) same))
+      IfOk-weaker r (λ (t : Targeted). t.targets ≡ places_in inner.entries (filter (λ i. is_live i inner.held) numbers))
+      (λ (t : Targeted). t.targets ≡ places_in s.entries (kept_in (scripts_of s.watch) s.held))
+      (λ (t : Targeted) e. e ∙ (ap (places_in inner.entries) (lives_are H text inner is numbers noted)
+      ∙ ap (λ (x : BridgeState). places_in x.entries (kept_in (scripts_of x.watch) x.held)) same))
 
   -- the message
-  pub message_told : (kept : List Place) → kept ≡ places_in s.entries (kept_in (scripts_of s.watch) s.held) → (lean : Bool) → lean ≡ is_some s.watch → (numbers : List ℕ) →
+  pub message_told : (kept : List Place) → kept ≡ places_in s.entries (kept_in (scripts_of s.watch) s.held) → (lean : Bool) → lean ≡ is_some s.watch
+      → (numbers : List ℕ) →
       sent lean (proof_beside H kept s.entries s.held numbers) ≡ message_by H s.watch s.entries s.held numbers
   message_told kept at lean is numbers =
       let made : Bool → List Place → Message = λ b ps. sent b (proof_beside H ps s.entries s.held numbers) in
-      ap (λ b. made b kept) is ∙ (ap (λ ps. made (is_some s.watch) ps) at ∙ ap (sent (is_some s.watch)) (proof_same_beside H s.entries s.watch s.held numbers))
+      ap (λ b. made b kept) is ∙ (ap (λ ps. made (is_some s.watch) ps) at
+      ∙ ap (sent (is_some s.watch)) (proof_same_beside H s.entries s.watch s.held numbers))
 
   -- what is known
-  pub known_found : {X E : Type 0} (items : X → List (Place × Digest)) (P : List (Place × Digest) → Type 0) → P (known_list H (scripts_of s.watch) s.entries s.held) → (kept : List Place) → kept ≡ places_in s.entries (kept_in (scripts_of s.watch) s.held) → (r : Result X E) → IfOk r (λ known. items known ≡ held H s.entries kept) → IfOk r (λ known. P (items known))
+  pub known_found : {X E : Type 0} (items : X → List (Place × Digest)) (P : List (Place × Digest) → Type 0)
+      → P (known_list H (scripts_of s.watch) s.entries s.held) → (kept : List Place)
+      → kept ≡ places_in s.entries (kept_in (scripts_of s.watch) s.held) → (r : Result X E) → IfOk r (λ known. items known ≡ held H s.entries kept)
+      → IfOk r (λ known. P (items known))
   known_found items P holds kept at (Ok known) e = subst P (sym (e ∙ ap (held H s.entries) at)) holds
   known_found items P holds kept at (Err fault) e = tt

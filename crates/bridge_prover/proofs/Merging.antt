@@ -1,5 +1,6 @@
 -- Two ascending lists of places as one: what is covered and what is needed are what is known.
-use Rattle.std.proofs.Common.{◌≡◌, ℕ, ◌+◌, ◌<◌, ◌≤◌, Bool, true, false, cond, List, [], ◌∷◌, ◌++◌, length, get_or, take, drop, append-nil, refl, sym, ap, ap₂, ◌∙◌, subst, arith, ⊎_elim, inl, inr}
+use Rattle.std.proofs.Common.{◌≡◌, ℕ, ◌+◌, ◌<◌, ◌≤◌, Bool, true, false, cond, List, [], ◌∷◌, ◌++◌, length, get_or, take, drop, append-nil, refl, sym}
+use Rattle.std.proofs.Common.{ap, ap₂, ◌∙◌, subst, arith, ⊎_elim, inl, inr}
 use Rattle.std.specs.Prelude.{◌⊎◌, ◌&&◌, ◌||◌, ◌==◌, not, nat_lt, is_some, filter_map, Option, None, option_map, if◌then◌else◌}
 use Rattle.std.specs.List.{filter, cons_option}
 use Rattle.std.proofs.lemmas.Bool.{cases_Bool, or_cases, or_left, or_right, and_parts, false≢true, ltb-true, eqb-true, lt-ltb}
@@ -29,13 +30,16 @@ merged-nil : (xs : List Place) → merged xs [] ≡ xs
 merged-nil [] = refl
 merged-nil (x ∷ xs) = ap (λ zs. x ∷ zs) (merged-nil xs)
 
-pub merge_ends : (out left right : List Place) (i j : ℕ) → out ++ merged (drop i left) (drop j right) ≡ merged left right → (length left ≤ i) ⊎ (length right ≤ j) → (out ++ drop i left) ++ drop j right ≡ merged left right
+pub merge_ends : (out left right : List Place) (i j : ℕ) → out ++ merged (drop i left) (drop j right) ≡ merged left right
+    → (length left ≤ i) ⊎ (length right ≤ j) → (out ++ drop i left) ++ drop j right ≡ merged left right
 merge_ends out left right i j whole (inl none) =
     let e : drop i left ≡ [] = drop_all i left none in
-    ap (λ x. (out ++ x) ++ drop j right) e ∙ (ap (λ x. x ++ drop j right) (append-nil out) ∙ (ap (λ x. out ++ merged x (drop j right)) (sym e) ∙ whole))
+    ap (λ x. (out ++ x) ++ drop j right) e ∙ (ap (λ x. x ++ drop j right) (append-nil out)
+    ∙ (ap (λ x. out ++ merged x (drop j right)) (sym e) ∙ whole))
 merge_ends out left right i j whole (inr none) =
     let e : drop j right ≡ [] = drop_all j right none in
-    ap (λ x. (out ++ drop i left) ++ x) e ∙ (append-nil (out ++ drop i left) ∙ (ap (λ x. out ++ x) (sym (merged-nil (drop i left))) ∙ (ap (λ x. out ++ merged (drop i left) x) (sym e) ∙ whole)))
+    ap (λ x. (out ++ drop i left) ++ x) e ∙ (append-nil (out ++ drop i left)
+    ∙ (ap (λ x. out ++ x) (sym (merged-nil (drop i left))) ∙ (ap (λ x. out ++ merged (drop i left) x) (sym e) ∙ whole)))
 
 -- ---- which of two places comes first
 
@@ -86,7 +90,9 @@ module _ (p q : Place → Bool) (apart : (x : Place) → q x ≡ true → p x �
       let rest : merged (filter p xs) (filter q xs) ≡ filter (λ y. p y || q y) xs = both_parts xs a.1 in
       by_case (p x) (q x) refl refl rest
     where
-      by_case : (b c : Bool) → p x ≡ b → q x ≡ c → merged (filter p xs) (filter q xs) ≡ filter (λ y. p y || q y) xs → merged (cond b (x ∷ filter p xs) (filter p xs)) (cond c (x ∷ filter q xs) (filter q xs)) ≡ cond (b || c) (x ∷ filter (λ y. p y || q y) xs) (filter (λ y. p y || q y) xs)
+      by_case : (b c : Bool) → p x ≡ b → q x ≡ c → merged (filter p xs) (filter q xs) ≡ filter (λ y. p y || q y) xs
+          → merged (cond b (x ∷ filter p xs) (filter p xs)) (cond c (x ∷ filter q xs) (filter q xs))
+          ≡ cond (b || c) (x ∷ filter (λ y. p y || q y) xs) (filter (λ y. p y || q y) xs)
       by_case true true e f rest = absurd (false≢true (sym (apart x f) ∙ e))
       by_case true false e f rest = lead_left x (filter p xs) (filter q xs) (first_of_part q x xs a.0) ∙ ap (λ zs. x ∷ zs) rest
       by_case false true e f rest = lead_right x (filter p xs) (filter q xs) (first_of_part p x xs a.0) ∙ ap (λ zs. x ∷ zs) rest
@@ -110,12 +116,16 @@ is_covered ts p = is_some (cover ts p.row p.off)
 
 covered_is : (n : ℕ) (ts cs : List Place) → IsCoverOf n ts cs → cs ≡ filter (is_covered ts) (places n)
 covered_is n ts cs c =
-    same_ascending cs (filter (is_covered ts) (places n)) (ascending_from_rises n cs c.within c.rises) (ascending-filter (is_covered ts) (places n) (places_ascending n))
-    (λ r o h. let within = c.within r o h in filter_has (is_covered ts) (places n) r o (places_have n r o within) (sym (c.covered (record { row = r; off = o }) within) ∙ h))
+    same_ascending cs (filter (is_covered ts) (places n)) (ascending_from_rises n cs c.within c.rises)
+    (ascending-filter (is_covered ts) (places n) (places_ascending n))
+    (λ r o h. let within = c.within r o h in
+    filter_has (is_covered ts) (places n) r o (places_have n r o within) (sym (c.covered (record { row = r; off = o }) within) ∙ h))
     (λ r o h. let w = filter_had (is_covered ts) (places n) r o h in c.covered (record { row = r; off = o }) (places_had n r o w.0) ∙ w.1)
 
-pub known_are : (n : ℕ) (ts cs ns out : List Place) → IsCoverOf n ts cs → ns ≡ need n ts → out ≡ merged cs ns → out ≡ filter (is_known n ts) (places n)
-known_are n ts cs ns out c e is = is ∙ (ap₂ merged (covered_is n ts cs c) e ∙ both_parts (is_covered ts) (is_needed n ts) (needed_apart n ts) (places n) (places_ascending n))
+pub known_are : (n : ℕ) (ts cs ns out : List Place) → IsCoverOf n ts cs → ns ≡ need n ts → out ≡ merged cs ns
+    → out ≡ filter (is_known n ts) (places n)
+known_are n ts cs ns out c e is = is ∙ (ap₂ merged (covered_is n ts cs c) e
+    ∙ both_parts (is_covered ts) (is_needed n ts) (needed_apart n ts) (places n) (places_ascending n))
 
 -- ---- with their digests
 
@@ -126,17 +136,23 @@ told_of t f (x ∷ xs) = ⊎_elim (λ e. rw e (ap (cons_option (f x)) (told_of t
 abbrev pub with_digest : (List ℕ → Digest) → List (Option Digest) → Place → Option (Place × Digest)
 with_digest H es p = option_map (λ d. (p, d)) (digest_at H es p.row p.off)
 
-pub paired_alone : (H : List ℕ → Digest) (es : List (Option Digest)) (p : Place) (x : Option Digest) → x ≡ digest_at H es p.row p.off → filter_map (λ q. option_map (λ d. (q, d)) x) (p ∷ []) ≡ filter_map (with_digest H es) (p ∷ [])
+pub paired_alone : (H : List ℕ → Digest) (es : List (Option Digest)) (p : Place) (x : Option Digest) → x ≡ digest_at H es p.row p.off
+    → filter_map (λ q. option_map (λ d. (q, d)) x) (p ∷ []) ≡ filter_map (with_digest H es) (p ∷ [])
 paired_alone H es p x e = ap (λ y. cons_option (option_map (λ d. (p, d)) y) []) e
 
-pub held_are : (H : List ℕ → Digest) (es : List (Option Digest)) (ts ps : List Place) (known : List (Place × Digest)) → ps ≡ filter (is_known (length es) ts) (places (length es)) → known ≡ filter_map (with_digest H es) ps → known ≡ held H es ts
-held_are H es ts ps known are is = is ∙ (ap (filter_map (with_digest H es)) are ∙ told_of (is_known (length es) ts) (with_digest H es) (places (length es)))
+pub held_are : (H : List ℕ → Digest) (es : List (Option Digest)) (ts ps : List Place) (known : List (Place × Digest))
+    → ps ≡ filter (is_known (length es) ts) (places (length es)) → known ≡ filter_map (with_digest H es) ps → known ≡ held H es ts
+held_are H es ts ps known are is = is ∙ (ap (filter_map (with_digest H es)) are
+    ∙ told_of (is_known (length es) ts) (with_digest H es) (places (length es)))
 
 -- each needed place is one of the forest
-pub needed_within : (n : ℕ) (ts ns : List Place) (i : ℕ) (d : Place) → ns ≡ need n ts → i < length ns → InForest n (get_or ns i d).row (get_or ns i d).off
+pub needed_within : (n : ℕ) (ts ns : List Place) (i : ℕ) (d : Place) → ns ≡ need n ts → i < length ns
+    → InForest n (get_or ns i d).row (get_or ns i d).off
 needed_within n ts ns i d e lt =
     let p = get_or ns i d in
     (need_had n ts p.row p.off (subst (λ xs. has_place xs p.row p.off ≡ true) e (has_at ns i d lt))).0
 
-pub known_more : {X Y : Type 0} (f : X → Option Y) (xs : List X) (i : ℕ) (d : X) (old new : List Y) → i < length xs → old ≡ filter_map f (take i xs) → new ≡ old ++ filter_map f (get_or xs i d ∷ []) → new ≡ filter_map f (take (i + 1) xs)
-known_more f xs i d old new lt was e = e ∙ (ap (λ ys. ys ++ filter_map f (get_or xs i d ∷ [])) was ∙ (sym (filter_map-append f (take i xs) (get_or xs i d ∷ [])) ∙ ap (filter_map f) (sym (take_more xs i d lt))))
+pub known_more : {X Y : Type 0} (f : X → Option Y) (xs : List X) (i : ℕ) (d : X) (old new : List Y) → i < length xs → old ≡ filter_map f (take i xs)
+    → new ≡ old ++ filter_map f (get_or xs i d ∷ []) → new ≡ filter_map f (take (i + 1) xs)
+known_more f xs i d old new lt was e = e ∙ (ap (λ ys. ys ++ filter_map f (get_or xs i d ∷ [])) was
+    ∙ (sym (filter_map-append f (take i xs) (get_or xs i d ∷ [])) ∙ ap (filter_map f) (sym (take_more xs i d lt))))

@@ -1,5 +1,6 @@
 -- What a bridge keeps after a block is again what a bridge keeps, and stands for the next level.
-use Rattle.std.proofs.Common.{◌≡◌, ◌≢◌, ℕ, zero, suc, ◌+◌, ◌<◌, ◌≤◌, ◌^◌, true, List, [], ◌∷◌, ◌++◌, map, set, take, length, Option, Some, None, refl, sym, ap, ◌∙◌, subst, arith}
+use Rattle.std.proofs.Common.{◌≡◌, ◌≢◌, ℕ, zero, suc, ◌+◌, ◌<◌, ◌≤◌, ◌^◌, true, List, [], ◌∷◌, ◌++◌, map, set, take, length, Option, Some, None, refl}
+use Rattle.std.proofs.Common.{sym, ap, ◌∙◌, subst, arith}
 use Rattle.std.specs.Prelude.{slice_get, is_some, nat_lt, nat_le, option_map, unwrap_or, AllPairs}
 use Rattle.std.specs.List.{AllByRecursion}
 use Rattle.std.proofs.lemmas.Bool.{and_parts, ltb-true, leb-true}
@@ -35,7 +36,8 @@ use Rattle.bridge_prover.specs.Standing.{IsLiveIn, Undoes, GiveBack, Stands, IsB
 use Rattle.bridge_prover.proofs.Indexing.{above-numbered, append_same}
 use Rattle.bridge_prover.proofs.Owning.{all_index, own_same, live_each, apart}
 use Rattle.bridge_prover.proofs.Rising.{all_mapped, rise-numbered, rise-spent, rise-forgotten, above-forgotten, leaf-append, leaf-spent}
-use Rattle.bridge_prover.proofs.Giving.{length-spent, length-after, differ_from, gone_after, GoneIn, IsOld, all_old, give_held, give_taken, give_forgotten, spent_there, index-forgotten}
+use Rattle.bridge_prover.proofs.Giving.{length-spent, length-after, differ_from, gone_after, GoneIn, IsOld, all_old, give_held, give_taken}
+use Rattle.bridge_prover.proofs.Giving.{give_forgotten, spent_there, index-forgotten}
 
 -- the bridge stands for these levels, and its index is in order
 pub record IsAt (H : List ℕ → Digest) (text : Leaf → List ℕ) (t : State) (s : BridgeState) : Type 0 where
@@ -72,17 +74,23 @@ index-added [] hs us i = subst (λ x. IsIndexOf x (us ++ [])) (sym (append-nil h
 index-added (leaf ∷ new) hs us i =
     let h : Held = record { number = length us; leaf = leaf; live = true } in
     let rest = index-added new (hs ++ h ∷ []) (us ++ Some leaf ∷ []) (inserted_is_added leaf hs us i) in
-    let long : length (us ++ Some leaf ∷ []) ≡ suc (length us) = length-append us (Some leaf ∷ []) ∙ (let e : length us + 1 ≡ suc (length us) = omega arith in e) in
-    let held : (hs ++ h ∷ []) ++ numbered (length (us ++ Some leaf ∷ [])) new ≡ hs ++ h ∷ numbered (suc (length us)) new = ap (λ n. (hs ++ h ∷ []) ++ numbered n new) long ∙ append_same hs (h ∷ []) (numbered (suc (length us)) new) in
-    subst (λ x. IsIndexOf x (us ++ Some leaf ∷ map Some new)) held (subst (IsIndexOf ((hs ++ h ∷ []) ++ numbered (length (us ++ Some leaf ∷ [])) new)) (append_same us (Some leaf ∷ []) (map Some new)) rest)
+    let long : length (us ++ Some leaf ∷ []) ≡ suc (length us) =
+    length-append us (Some leaf ∷ []) ∙ (let e : length us + 1 ≡ suc (length us) = omega arith in e) in
+    let held : (hs ++ h ∷ []) ++ numbered (length (us ++ Some leaf ∷ [])) new ≡ hs ++ h ∷ numbered (suc (length us)) new =
+    ap (λ n. (hs ++ h ∷ []) ++ numbered n new) long ∙ append_same hs (h ∷ []) (numbered (suc (length us)) new) in
+    subst (λ x. IsIndexOf x (us ++ Some leaf ∷ map Some new)) held
+    (subst (IsIndexOf ((hs ++ h ∷ []) ++ numbered (length (us ++ Some leaf ∷ [])) new)) (append_same us (Some leaf ∷ []) (map Some new)) rest)
 
 index-spent : (ns : List ℕ) (hs : List Held) (us : History) → IsIndexOf hs us → IsIndexOf (spent_in ns hs) (spent ns us)
 index-spent [] hs us i = i
-index-spent (n ∷ ns) hs us i = subst (IsIndexOf (spent_in ns (with_live n _ hs))) (spent-set ns us n) (index-spent ns (with_live n _ hs) (set us n None) (spent_is_spent n hs us i))
+index-spent (n ∷ ns) hs us i = subst (IsIndexOf (spent_in ns (with_live n _ hs))) (spent-set ns us n)
+    (index-spent ns (with_live n _ hs) (set us n None) (spent_is_spent n hs us i))
 
 -- after a block
-index-after : (ns : List ℕ) (new : List Leaf) (hs : List Held) (us : History) → AllByRecursion (IsLiveIn us) ns → IsIndexOf hs us → IsIndexOf (spent_in ns (hs ++ numbered (length us) new)) (history_after us ns new)
-index-after ns new hs us live i = subst (IsIndexOf (spent_in ns (hs ++ numbered (length us) new))) (spent-append ns us (map Some new) live) (index-spent ns (hs ++ numbered (length us) new) (us ++ map Some new) (index-added new hs us i))
+index-after : (ns : List ℕ) (new : List Leaf) (hs : List Held) (us : History) → AllByRecursion (IsLiveIn us) ns → IsIndexOf hs us
+    → IsIndexOf (spent_in ns (hs ++ numbered (length us) new)) (history_after us ns new)
+index-after ns new hs us live i = subst (IsIndexOf (spent_in ns (hs ++ numbered (length us) new))) (spent-append ns us (map Some new) live)
+    (index-spent ns (hs ++ numbered (length us) new) (us ++ map Some new) (index-added new hs us i))
 
 above-spent : (n : ℕ) (ns : List ℕ) (hs : List Held) → IsAbove n hs → IsAbove n (spent_in ns hs)
 above-spent n [] hs a = a
@@ -93,25 +101,31 @@ map_twice f g [] = refl
 map_twice f g (x ∷ xs) = ap (λ ys. g (f x) ∷ ys) (map_twice f g xs)
 
 -- the entries after a block
-pub entries-then : (H : List ℕ → Digest) (text : Leaf → List ℕ) (us : History) (ns : List ℕ) (new : List Leaf) → entries_without ns (entries H text us) ++ map Some (map (λ leaf. H (text leaf)) new) ≡ entries H text (history_after us ns new)
-entries-then H text us ns new = ap (λ xs. entries_without ns (entries H text us) ++ xs) (sym (map_twice (λ leaf. H (text leaf)) Some new)) ∙ sym (entries-after H text us ns new)
+pub entries-then : (H : List ℕ → Digest) (text : Leaf → List ℕ) (us : History) (ns : List ℕ) (new : List Leaf)
+    → entries_without ns (entries H text us) ++ map Some (map (λ leaf. H (text leaf)) new) ≡ entries H text (history_after us ns new)
+entries-then H text us ns new = ap (λ xs. entries_without ns (entries H text us) ++ xs) (sym (map_twice (λ leaf. H (text leaf)) Some new))
+    ∙ sym (entries-after H text us ns new)
 
 -- ---- the room for a block
 
 room_before : (rules : Rules) (chain : Chain) (b : Block) → first_of (block_steps rules.net rules.limits chain b) ≡ None →
     (chain.blocks < 2 ^ 31) × (chain.leaves + length (new_records b chain.blocks) ≤ rules.limits.leaves)
 room_before rules chain b passed =
-    let sixth : unless (has_room rules.limits chain (length (new_records b chain.blocks))) Why.Full ≡ None = each_passes (block_steps rules.net rules.limits chain b) 7 passed in
-    let both = and_parts (nat_lt chain.blocks (2 ^ 31)) (nat_le (chain.leaves + length (new_records b chain.blocks)) rules.limits.leaves) (unless-passed _ _ sixth) in
+    let sixth : unless (has_room rules.limits chain (length (new_records b chain.blocks))) Why.Full ≡ None =
+    each_passes (block_steps rules.net rules.limits chain b) 7 passed in
+    let both = and_parts (nat_lt chain.blocks (2 ^ 31)) (nat_le (chain.leaves + length (new_records b chain.blocks)) rules.limits.leaves)
+    (unless-passed _ _ sixth) in
     (ltb-true _ _ both.0, leb-true _ _ both.1)
 
 pub room : (rules : Rules) (chain : Chain) (b : Block) (e : Evidence) → refusal rules chain b e ≡ None →
     (chain.blocks < 2 ^ 31) × (chain.leaves + length (new_records b chain.blocks) ≤ rules.limits.leaves)
-room rules chain b e h = room_before rules chain b (append_passes (block_steps rules.net rules.limits chain b) (e.steps ++ money_steps (spends_of rules.net chain.blocks b) e.found) h).0
+room rules chain b e h = room_before rules chain b
+    (append_passes (block_steps rules.net rules.limits chain b) (e.steps ++ money_steps (spends_of rules.net chain.blocks b) e.found) h).0
 
 -- ---- a block that spends some live entries, and adds some
 
-module _ (H : List ℕ → Digest) (text : Leaf → List ℕ) (t : State) (s : BridgeState) (at : IsAt H text t s) (ns : List ℕ) (new : List Leaf) (live : AllByRecursion (IsLiveIn t.now.history) ns) (differ : AllPairs (λ i j. i ≢ j) ns) where
+module _ (H : List ℕ → Digest) (text : Leaf → List ℕ) (t : State) (s : BridgeState) (at : IsAt H text t s) (ns : List ℕ) (new : List Leaf)
+    (live : AllByRecursion (IsLiveIn t.now.history) ns) (differ : AllPairs (λ i j. i ≢ j) ns) where
   abbrev us : History
   us = t.now.history
 
@@ -137,15 +151,18 @@ module _ (H : List ℕ → Digest) (text : Leaf → List ℕ) (t : State) (s : B
   old : AllByRecursion (IsOld s.held t.now t.older 99) (dropped s.undo) × AllPairs (λ i j. i ≢ j) (dropped s.undo)
   old = by (slice_get s.undo 99) refl
     where
-      by : (x : Option UndoRecord) → slice_get s.undo 99 ≡ x → let ms = unwrap_or (option_map (λ (u : UndoRecord). u.spent) x) [] in AllByRecursion (IsOld s.held t.now t.older 99) ms × AllPairs (λ i j. i ≢ j) ms
+      by : (x : Option UndoRecord) → slice_get s.undo 99 ≡ x → let ms = unwrap_or (option_map (λ (u : UndoRecord). u.spent) x) [] in
+          AllByRecursion (IsOld s.held t.now t.older 99) ms × AllPairs (λ i j. i ≢ j) ms
       by None e = (tt, λ i j d lt below. absurd (omega (arith, below)))
       by (Some u) e = all_old 99 s.held t.now t.older s.undo u at.stands.undo e
 
   old_spent : AllByRecursion (λ n. is_spent n held ≡ true) (dropped s.undo)
-  old_spent = all_mapped (IsOld s.held t.now t.older 99) (λ n. is_spent n held ≡ true) (λ n o. spent_there held after rise index n o.leaf (gone_after us ns new n o.newest) (still n o.leaf o.held)) (dropped s.undo) old.0
+  old_spent = all_mapped (IsOld s.held t.now t.older 99) (λ n. is_spent n held ≡ true)
+      (λ n o. spent_there held after rise index n o.leaf (gone_after us ns new n o.newest) (still n o.leaf o.held)) (dropped s.undo) old.0
 
   old_gone : AllByRecursion (λ n. AllByRecursion (GoneIn n) (take 100 (t.now ∷ t.older))) (dropped s.undo)
-  old_gone = all_mapped (IsOld s.held t.now t.older 99) (λ n. AllByRecursion (GoneIn n) (take 100 (t.now ∷ t.older))) (λ n o. (o.newest, o.others)) (dropped s.undo) old.0
+  old_gone = all_mapped (IsOld s.held t.now t.older 99) (λ n. AllByRecursion (GoneIn n) (take 100 (t.now ∷ t.older))) (λ n o. (o.newest, o.others))
+      (dropped s.undo) old.0
 
   module _ (hash : Digest) where
     abbrev level : Level
@@ -166,10 +183,12 @@ module _ (H : List ℕ → Digest) (text : Leaf → List ℕ) (t : State) (s : B
 
     stands-then : Stands H text (record { now = level; older = take 100 (t.now ∷ t.older) }) then
     stands-then = record {
-      chain = ap (λ (c : Chain). (let d : Chain = record { blocks = suc c.blocks; tip = hash; leaves = c.leaves + length new } in d)) at.stands.chain ∙ ap (λ n. (let d : Chain = record { blocks = suc t.now.blocks; tip = hash; leaves = n } in d)) (sym (length-after us ns new));
+      chain = ap (λ (c : Chain). (let d : Chain = record { blocks = suc c.blocks; tip = hash; leaves = c.leaves + length new } in d)) at.stands.chain
+          ∙ ap (λ n. (let d : Chain = record { blocks = suc t.now.blocks; tip = hash; leaves = n } in d)) (sym (length-after us ns new));
       entries = ap (λ es. entries_without ns es ++ map Some (map (λ leaf. H (text leaf)) new)) at.stands.entries ∙ entries-then H text us ns new;
       index = index-forgotten (dropped s.undo) held after rise old_spent (differ_from (dropped s.undo) old.1) index;
-      undo = give_forgotten (dropped s.undo) held level (take 100 (t.now ∷ t.older)) (take 100 (record_of s.chain ns ∷ s.undo)) old_gone (give_taken 100 held level (t.now ∷ t.older) (record_of s.chain ns ∷ s.undo) all_back);
+      undo = give_forgotten (dropped s.undo) held level (take 100 (t.now ∷ t.older)) (take 100 (record_of s.chain ns ∷ s.undo)) old_gone
+          (give_taken 100 held level (t.now ∷ t.older) (record_of s.chain ns ∷ s.undo) all_back);
     }
 
     pub at-then : IsAt H text (record { now = level; older = take 100 (t.now ∷ t.older) }) then
@@ -179,7 +198,8 @@ module _ (H : List ℕ → Digest) (text : Leaf → List ℕ) (t : State) (s : B
       rise = rise-forgotten (dropped s.undo) held rise;
     }
 
-module _ (H : List ℕ → Digest) (text : Leaf → List ℕ) (s : BridgeState) (is : IsBridge H text s) (ns : List ℕ) (new : List Leaf) (live : AllByRecursion (IsLiveIn is.levels.now.history) ns) (differ : AllPairs (λ i j. i ≢ j) ns)
+module _ (H : List ℕ → Digest) (text : Leaf → List ℕ) (s : BridgeState) (is : IsBridge H text s) (ns : List ℕ) (new : List Leaf)
+    (live : AllByRecursion (IsLiveIn is.levels.now.history) ns) (differ : AllPairs (λ i j. i ≢ j) ns)
     (fits : (s.chain.blocks < 2 ^ 31) × (s.chain.leaves + length new ≤ s.rules.limits.leaves)) (hash : Digest) where
   abbrev t : State
   t = is.levels
@@ -202,13 +222,15 @@ module _ (H : List ℕ → Digest) (text : Leaf → List ℕ) (s : BridgeState) 
       }
 
   live-held : AllByRecursion (λ n. is_live n s.held ≡ true) ns
-  live-held = all_mapped (IsLiveIn t.now.history) (λ n. is_live n s.held ≡ true) (λ n w. (there_is_live n w.0 s.held t.now.history is.rise is.stands.index w.1).0) ns live
+  live-held = all_mapped (IsLiveIn t.now.history) (λ n. is_live n s.held ≡ true)
+      (λ n w. (there_is_live n w.0 s.held t.now.history is.rise is.stands.index w.1).0) ns live
 
   live-entries : AllByRecursion (λ n. forest.is_live s.entries n ≡ true) ns
   live-entries =
       let us = t.now.history in
       subst (λ es. AllByRecursion (λ n. forest.is_live es n ≡ true) ns) (sym is.stands.entries)
-      (all_mapped (IsLiveIn us) (λ n. forest.is_live (entries H text us) n ≡ true) (λ n w. ap is_some (got_entry (λ r. H (text r)) us n ∙ ap (option_map (λ r. H (text r))) (got_back us n w.0 w.1))) ns live)
+      (all_mapped (IsLiveIn us) (λ n. forest.is_live (entries H text us) n ≡ true)
+      (λ n w. ap is_some (got_entry (λ r. H (text r)) us n ∙ ap (option_map (λ r. H (text r))) (got_back us n w.0 w.1))) ns live)
 
   -- it may be taken
   pub can_take : length ns < 2 ^ 32 → IsReady H text s hash ns new
@@ -227,7 +249,8 @@ module _ (H : List ℕ → Digest) (text : Leaf → List ℕ) (s : BridgeState) 
 
 -- ---- a block that breaks no rule
 
-module _ (H : List ℕ → Digest) (text : Leaf → List ℕ) (t : State) (s : BridgeState) (at : IsAt H text t s) (b : Block) (passes : refusal s.rules s.chain b (own t.now.history (external b s.chain.blocks)) ≡ None) where
+module _ (H : List ℕ → Digest) (text : Leaf → List ℕ) (t : State) (s : BridgeState) (at : IsAt H text t s) (b : Block)
+    (passes : refusal s.rules s.chain b (own t.now.history (external b s.chain.blocks)) ≡ None) where
   pub own_live : AllByRecursion (IsLiveIn t.now.history) (own t.now.history (external b s.chain.blocks)).numbers
   own_live = live_each s.held t.now.history at.rise at.stands.index H text s.rules s.chain b passes
 
@@ -254,33 +277,52 @@ module _ (H : List ℕ → Digest) (text : Leaf → List ℕ) (s : BridgeState) 
   fits = room s.rules s.chain b (own was.now.history (external b s.chain.blocks)) by_history
 
   -- a block that passes may be taken
-  pub ready : (hash : Digest) (numbers' : List ℕ) → numbers' ≡ (own_in s.held (external b s.chain.blocks)).numbers → length numbers' < 2 ^ 32 → IsReady H text s hash numbers' (new_records b s.chain.blocks)
+  pub ready : (hash : Digest) (numbers' : List ℕ) → numbers' ≡ (own_in s.held (external b s.chain.blocks)).numbers → length numbers' < 2 ^ 32
+      → IsReady H text s hash numbers' (new_records b s.chain.blocks)
   ready hash numbers' e short =
       let ns = (own was.now.history (external b s.chain.blocks)).numbers in
       let short' : length ns < 2 ^ 32 = subst (λ xs. length xs < 2 ^ 32) (e ∙ numbers) short in
       subst (λ xs. IsReady H text s hash xs (new_records b s.chain.blocks)) (sym (e ∙ numbers))
-      (can_take H text s is ns (new_records b s.chain.blocks) (own_live H text was s stood b by_history) (own_apart H text was s stood b by_history) fits hash short')
+      (can_take H text s is ns (new_records b s.chain.blocks) (own_live H text was s stood b by_history) (own_apart H text was s stood b by_history)
+      fits hash short')
 
-  pub next_is : (hash : Digest) → IsBridge H text (bridge_with H text s hash (own_in s.held (external b s.chain.blocks)).numbers (new_records b s.chain.blocks))
+  pub next_is : (hash : Digest) → IsBridge H text
+      (bridge_with H text s hash (own_in s.held (external b s.chain.blocks)).numbers (new_records b s.chain.blocks))
   next_is hash =
       subst (λ xs. IsBridge H text (bridge_with H text s hash xs (new_records b s.chain.blocks))) (sym numbers)
-      (there H text s is (own was.now.history (external b s.chain.blocks)).numbers (new_records b s.chain.blocks) (own_live H text was s stood b by_history) (own_apart H text was s stood b by_history) fits hash)
+      (there H text s is (own was.now.history (external b s.chain.blocks)).numbers (new_records b s.chain.blocks)
+      (own_live H text was s stood b by_history) (own_apart H text was s stood b by_history) fits hash)
 
 -- what the calls leave that take a block is again what a bridge keeps
-module _ (H : List ℕ → Digest) (text : Leaf → List ℕ) (inner s : BridgeState) (same : inner ≡ s) (hash : Digest) (ns : List ℕ) (new : List Leaf) (next : IsBridge H text (bridge_with H text s hash ns new)) where
+module _ (H : List ℕ → Digest) (text : Leaf → List ℕ) (inner s : BridgeState) (same : inner ≡ s) (hash : Digest) (ns : List ℕ) (new : List Leaf)
+    (next : IsBridge H text (bridge_with H text s hash ns new)) where
   abbrev made : ℕ → ℕ → List (Option Digest) → List Held → List UndoRecord → BridgeState
-  made blocks count es hs undo = record { rules = inner.rules; watch = inner.watch; chain = record { blocks = blocks; tip = hash; leaves = inner.chain.leaves + count }; entries = es; held = hs; undo = undo }
+  made blocks count es hs undo = record {
+    rules = inner.rules;
+    watch = inner.watch;
+    chain =
+        record { blocks = blocks; tip = hash; leaves = inner.chain.leaves + count };
+    entries = es;
+    held = hs;
+    undo = undo;
+  }
 
-  pub extended_is : (count : ℕ) (es : List (Option Digest)) (hs : List Held) (undo : List UndoRecord) → count ≡ length new → es ≡ (bridge_with H text inner hash ns new).entries → hs ≡ (bridge_with H text inner hash ns new).held → undo ≡ (bridge_with H text inner hash ns new).undo →
+  pub extended_is : (count : ℕ) (es : List (Option Digest)) (hs : List Held) (undo : List UndoRecord) → count ≡ length new
+      → es ≡ (bridge_with H text inner hash ns new).entries → hs ≡ (bridge_with H text inner hash ns new).held
+      → undo ≡ (bridge_with H text inner hash ns new).undo →
       made (inner.chain.blocks + 1) count es hs undo ≡ bridge_with H text s hash ns new
   extended_is count es hs undo c e h u =
       let blocks : inner.chain.blocks + 1 ≡ suc inner.chain.blocks = omega arith in
       let after = bridge_with H text inner hash ns new in
       let whole : made (inner.chain.blocks + 1) count es hs undo ≡ after =
       ap (λ n. made n count es hs undo) blocks ∙ (ap (λ n. made (suc inner.chain.blocks) n es hs undo) c
-      ∙ (ap (λ x. made (suc inner.chain.blocks) (length new) x hs undo) e ∙ (ap (λ x. made (suc inner.chain.blocks) (length new) after.entries x undo) h ∙ ap (λ x. made (suc inner.chain.blocks) (length new) after.entries after.held x) u))) in
+      ∙ (ap (λ x. made (suc inner.chain.blocks) (length new) x hs undo) e
+      ∙ (ap (λ x. made (suc inner.chain.blocks) (length new) after.entries x undo) h
+      ∙ ap (λ x. made (suc inner.chain.blocks) (length new) after.entries after.held x) u))) in
       whole ∙ ap (λ (x : BridgeState). bridge_with H text x hash ns new) same
 
-  pub extended_like : (count : ℕ) (es : List (Option Digest)) (hs : List Held) (undo : List UndoRecord) → count ≡ length new → es ≡ (bridge_with H text inner hash ns new).entries → hs ≡ (bridge_with H text inner hash ns new).held → undo ≡ (bridge_with H text inner hash ns new).undo →
+  pub extended_like : (count : ℕ) (es : List (Option Digest)) (hs : List Held) (undo : List UndoRecord) → count ≡ length new
+      → es ≡ (bridge_with H text inner hash ns new).entries → hs ≡ (bridge_with H text inner hash ns new).held
+      → undo ≡ (bridge_with H text inner hash ns new).undo →
       IsBridge H text (made (inner.chain.blocks + 1) count es hs undo)
   extended_like count es hs undo c e h u = subst (IsBridge H text) (sym (extended_is count es hs undo c e h u)) next

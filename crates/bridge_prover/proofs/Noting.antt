@@ -1,5 +1,6 @@
 -- The numbers of watched outputs, while the index changes, and which of them are live.
-use Rattle.std.proofs.Common.{◌≡◌, ℕ, suc, ◌+◌, ◌<◌, Bool, true, false, cond, List, [], ◌∷◌, ◌++◌, map, length, take, Option, Some, None, refl, sym, ap, ap₂, ◌∙◌, subst, ⊎_elim, arith, ne_eqb, eq-eqb}
+use Rattle.std.proofs.Common.{◌≡◌, ℕ, suc, ◌+◌, ◌<◌, Bool, true, false, cond, List, [], ◌∷◌, ◌++◌, map, length, take, Option, Some, None, refl, sym}
+use Rattle.std.proofs.Common.{ap, ap₂, ◌∙◌, subst, ⊎_elim, arith, ne_eqb, eq-eqb}
 use Rattle.std.specs.Prelude.{◌==◌, ◌&&◌, ◌||◌, not, nat_lt, option_map, is_some, slice_get, if◌then◌else◌}
 use Rattle.std.specs.List.{AllByRecursion, filter}
 use Rattle.std.proofs.lemmas.Bool.{cases_Bool, cases_eq, false≢true, eqb-true}
@@ -35,7 +36,8 @@ filter_twice p q h [] = refl
 filter_twice p q h (x ∷ xs) =
     ⊎_elim
     (λ t. ap (λ b. filter p (cond b (x ∷ filter q xs) (filter q xs))) t ∙ ap (λ (ys : List ℕ). cond (p x) (x ∷ ys) ys) (filter_twice p q h xs))
-    (λ f. ap (λ b. filter p (cond b (x ∷ filter q xs) (filter q xs))) f ∙ (filter_twice p q h xs ∙ sym (ap (λ b. cond b (x ∷ filter p xs) (filter p xs)) (h x f))))
+    (λ f. ap (λ b. filter p (cond b (x ∷ filter q xs) (filter q xs))) f
+    ∙ (filter_twice p q h xs ∙ sym (ap (λ b. cond b (x ∷ filter p xs) (filter p xs)) (h x f))))
     (cases_Bool (q x))
 
 -- numbers that rise
@@ -59,15 +61,19 @@ module _ (scripts : List (List ℕ)) where
   noted-append [] ks = refl
   noted-append (h ∷ hs) ks = by_case (is_noted scripts h) (noted-append hs ks)
     where
-      by_case : (b : Bool) → noted_in scripts (hs ++ ks) ≡ noted_in scripts hs ++ noted_in scripts ks → numbers_of (cond b (h ∷ noted (hs ++ ks)) (noted (hs ++ ks))) ≡ numbers_of (cond b (h ∷ noted hs) (noted hs)) ++ noted_in scripts ks
+      by_case : (b : Bool) → noted_in scripts (hs ++ ks) ≡ noted_in scripts hs ++ noted_in scripts ks
+          → numbers_of (cond b (h ∷ noted (hs ++ ks)) (noted (hs ++ ks))) ≡ numbers_of (cond b (h ∷ noted hs) (noted hs)) ++ noted_in scripts ks
       by_case true r = ap (λ ns. h.number ∷ ns) r
       by_case false r = r
 
   -- one more new output
-  pub noted_more : (n i : ℕ) (new : List Leaf) (leaf : Leaf) (old after : List ℕ) → slice_get new i ≡ Some leaf → length (take i new) ≡ i → old ≡ noted_in scripts (numbered n (take i new)) →
-      after ≡ old ++ noted_in scripts (record { number = n + i; leaf = leaf; live = true } ∷ []) → after ≡ noted_in scripts (numbered n (take (i + 1) new))
+  pub noted_more : (n i : ℕ) (new : List Leaf) (leaf : Leaf) (old after : List ℕ) → slice_get new i ≡ Some leaf → length (take i new) ≡ i
+      → old ≡ noted_in scripts (numbered n (take i new)) →
+      after ≡ old ++ noted_in scripts (record { number = n + i; leaf = leaf; live = true } ∷ [])
+      → after ≡ noted_in scripts (numbered n (take (i + 1) new))
   noted_more n i new leaf old after got long was e =
-      let pushed = numbered-push n (take i new) leaf ∙ ap (λ k. (let h : Held = record { number = n + k; leaf = leaf; live = true } in numbered n (take i new) ++ h ∷ [])) long in
+      let pushed = numbered-push n (take i new) leaf
+      ∙ ap (λ k. (let h : Held = record { number = n + k; leaf = leaf; live = true } in numbered n (take i new) ++ h ∷ [])) long in
       e
       ∙ (ap (λ xs. (let h : Held = record { number = n + i; leaf = leaf; live = true } in xs ++ noted_in scripts (h ∷ []))) was
       ∙ (sym (noted-append (numbered n (take i new)) _) ∙ ap (noted_in scripts) (sym pushed ∙ ap (numbered n) (took_more new i leaf got))))
@@ -75,10 +81,13 @@ module _ (scripts : List (List ℕ)) where
   noted-with_live : (n : ℕ) (live : Bool) (hs : List Held) → noted_in scripts (with_live n live hs) ≡ noted_in scripts hs
   noted-with_live n live [] = refl
   noted-with_live n live (h ∷ hs) =
-      ap (λ (l : Leaf). numbers_of (cond (is_watched scripts (Some l)) (with_live_at n live h ∷ noted (with_live n live hs)) (noted (with_live n live hs)))) (same_leaf n live h)
+      ap (λ (l : Leaf). numbers_of (cond (is_watched scripts (Some l)) (with_live_at n live h ∷ noted (with_live n live hs))
+      (noted (with_live n live hs)))) (same_leaf n live h)
       ∙ by_case (is_noted scripts h) (noted-with_live n live hs)
     where
-      by_case : (b : Bool) → noted_in scripts (with_live n live hs) ≡ noted_in scripts hs → numbers_of (cond b (with_live_at n live h ∷ noted (with_live n live hs)) (noted (with_live n live hs))) ≡ numbers_of (cond b (h ∷ noted hs) (noted hs))
+      by_case : (b : Bool) → noted_in scripts (with_live n live hs) ≡ noted_in scripts hs
+          → numbers_of (cond b (with_live_at n live h ∷ noted (with_live n live hs)) (noted (with_live n live hs)))
+          ≡ numbers_of (cond b (h ∷ noted hs) (noted hs))
       by_case true r = ap₂ (λ (m : ℕ) (ms : List ℕ). m ∷ ms) (same_number n live h) r
       by_case false r = r
 
@@ -102,8 +111,10 @@ module _ (scripts : List (List ℕ)) where
       (λ f. ap (λ b. noted_in scripts (cond b (h ∷ passing q hs) (passing q hs))) f ∙ (noted-filtered q hs ∙ failed (is_noted scripts h) f))
       (cases_Bool (q h.number))
     where
-      passed : (b : Bool) → q h.number ≡ true → noted_in scripts (passing q hs) ≡ filter q (noted_in scripts hs) → numbers_of (cond b (h ∷ noted (passing q hs)) (noted (passing q hs))) ≡ filter q (numbers_of (cond b (h ∷ noted hs) (noted hs)))
-      passed true t r = ap (λ ns. h.number ∷ ns) r ∙ sym (ap (λ b. cond b (h.number ∷ filter q (noted_in scripts hs)) (filter q (noted_in scripts hs))) t)
+      passed : (b : Bool) → q h.number ≡ true → noted_in scripts (passing q hs) ≡ filter q (noted_in scripts hs)
+          → numbers_of (cond b (h ∷ noted (passing q hs)) (noted (passing q hs))) ≡ filter q (numbers_of (cond b (h ∷ noted hs) (noted hs)))
+      passed true t r = ap (λ ns. h.number ∷ ns) r
+          ∙ sym (ap (λ b. cond b (h.number ∷ filter q (noted_in scripts hs)) (filter q (noted_in scripts hs))) t)
       passed false t r = r
 
       failed : (b : Bool) → q h.number ≡ false → filter q (noted_in scripts hs) ≡ filter q (numbers_of (cond b (h ∷ noted hs) (noted hs)))
@@ -116,7 +127,8 @@ module _ (scripts : List (List ℕ)) where
   -- each of them is held
   noted-held : (hs : List Held) → AllByRecursion (λ i. is_some (leaf_at i hs) ≡ true) (noted_in scripts hs)
   noted-held [] = tt
-  noted-held (h ∷ hs) = by_case (is_noted scripts h) (all_mapped (λ i. is_some (leaf_at i hs) ≡ true) (λ i. is_some (leaf_at i (h ∷ hs)) ≡ true) more (noted_in scripts hs) (noted-held hs))
+  noted-held (h ∷ hs) = by_case (is_noted scripts h)
+      (all_mapped (λ i. is_some (leaf_at i hs) ≡ true) (λ i. is_some (leaf_at i (h ∷ hs)) ≡ true) more (noted_in scripts hs) (noted-held hs))
     where
       more : (i : ℕ) → is_some (leaf_at i hs) ≡ true → is_some (leaf_at i (h ∷ hs)) ≡ true
       more i e = by (h.number == i)
@@ -125,8 +137,13 @@ module _ (scripts : List (List ℕ)) where
           by true = refl
           by false = e
 
-      by_case : (b : Bool) → AllByRecursion (λ i. is_some (leaf_at i (h ∷ hs)) ≡ true) (noted_in scripts hs) → AllByRecursion (λ i. is_some (leaf_at i (h ∷ hs)) ≡ true) (numbers_of (cond b (h ∷ noted hs) (noted hs)))
-      by_case true r = (ap (λ b. is_some (option_map (λ (x : Held). x.leaf) (if b then Some h else held_at h.number hs))) (eq-eqb h.number h.number refl), r)
+      by_case : (b : Bool) → AllByRecursion (λ i. is_some (leaf_at i (h ∷ hs)) ≡ true) (noted_in scripts hs)
+          → AllByRecursion (λ i. is_some (leaf_at i (h ∷ hs)) ≡ true) (numbers_of (cond b (h ∷ noted hs) (noted hs)))
+      by_case true r = (
+        ap (λ b. is_some (option_map (λ (x : Held). x.leaf) (if b then Some h else held_at h.number hs)))
+            (eq-eqb h.number h.number refl),
+        r,
+      )
       by_case false r = r
 
   -- ---- what is not held any more
@@ -136,7 +153,8 @@ module _ (scripts : List (List ℕ)) where
   gone-here n (h ∷ hs) =
       ⊎_elim
       (λ t. ap (λ b. leaf_at n (cond (not b) (h ∷ without n hs) (without n hs))) t ∙ gone-here n hs)
-      (λ f. ap (λ b. leaf_at n (cond (not b) (h ∷ without n hs) (without n hs))) f ∙ (ap (λ b. option_map (λ (x : Held). x.leaf) (if b then Some h else held_at n (without n hs))) f ∙ gone-here n hs))
+      (λ f. ap (λ b. leaf_at n (cond (not b) (h ∷ without n hs) (without n hs))) f
+      ∙ (ap (λ b. option_map (λ (x : Held). x.leaf) (if b then Some h else held_at n (without n hs))) f ∙ gone-here n hs))
       (cases_Bool (h.number == n))
 
   gone-still : (n m : ℕ) (hs : List Held) → leaf_at n hs ≡ None → leaf_at n (without m hs) ≡ None
@@ -150,13 +168,15 @@ module _ (scripts : List (List ℕ)) where
   gone-later n [] hs e = e
   gone-later n (m ∷ ns) hs e = gone-later n ns (without m hs) (gone-still n m hs e)
 
-  noted-forgotten : (ns : List ℕ) (hs : List Held) → noted_in scripts (forgotten_in ns hs) ≡ filter (λ i. is_some (leaf_at i (forgotten_in ns hs))) (noted_in scripts hs)
+  noted-forgotten : (ns : List ℕ) (hs : List Held)
+      → noted_in scripts (forgotten_in ns hs) ≡ filter (λ i. is_some (leaf_at i (forgotten_in ns hs))) (noted_in scripts hs)
   noted-forgotten [] hs = sym (filter_all (λ i. is_some (leaf_at i hs)) (noted_in scripts hs) (noted-held hs))
   noted-forgotten (n ∷ ns) hs =
       let last = forgotten_in ns (without n hs) in
       noted-forgotten ns (without n hs)
       ∙ (ap (filter (λ i. is_some (leaf_at i last))) (noted-filtered (λ i. not (i == n)) hs)
-      ∙ filter_twice (λ i. is_some (leaf_at i last)) (λ i. not (i == n)) (λ i f. ap (λ k. is_some (leaf_at k last)) (is_same i (i == n) refl f) ∙ ap is_some (gone-later n ns (without n hs) (gone-here n hs))) (noted_in scripts hs))
+      ∙ filter_twice (λ i. is_some (leaf_at i last)) (λ i. not (i == n)) (λ i f. ap (λ k. is_some (leaf_at k last)) (is_same i (i == n) refl f)
+      ∙ ap is_some (gone-later n ns (without n hs) (gone-here n hs))) (noted_in scripts hs))
     where
       is_same : (i : ℕ) (b : Bool) → (i == n) ≡ b → not b ≡ false → i ≡ n
       is_same i true e f = eqb-true i n e
@@ -164,17 +184,23 @@ module _ (scripts : List (List ℕ)) where
 
   -- ---- a block, and the way back
 
-  pub noted_then : (ns dropped : List ℕ) (n : ℕ) (new : List Leaf) (hs : List Held) (before more after : List ℕ) (put left : List Held) → before ≡ noted_in scripts hs → more ≡ noted_in scripts (numbered n new) →
-      put ≡ spent_in ns (hs ++ numbered n new) → left ≡ forgotten_in dropped put → after ≡ filter (λ i. is_some (leaf_at i left)) (before ++ more) → after ≡ noted_in scripts left
+  pub noted_then : (ns dropped : List ℕ) (n : ℕ) (new : List Leaf) (hs : List Held) (before more after : List ℕ) (put left : List Held)
+      → before ≡ noted_in scripts hs → more ≡ noted_in scripts (numbered n new) →
+      put ≡ spent_in ns (hs ++ numbered n new) → left ≡ forgotten_in dropped put → after ≡ filter (λ i. is_some (leaf_at i left)) (before ++ more)
+      → after ≡ noted_in scripts left
   noted_then ns dropped n new hs before more after put left was add p l e =
-      let all : before ++ more ≡ noted_in scripts put = ap₂ (λ (xs ys : List ℕ). xs ++ ys) was add ∙ (sym (noted-append hs (numbered n new)) ∙ (sym (noted-spent ns (hs ++ numbered n new)) ∙ ap (noted_in scripts) (sym p))) in
+      let all : before ++ more ≡ noted_in scripts put = ap₂ (λ (xs ys : List ℕ). xs ++ ys) was add
+      ∙ (sym (noted-append hs (numbered n new)) ∙ (sym (noted-spent ns (hs ++ numbered n new)) ∙ ap (noted_in scripts) (sym p))) in
       e
       ∙ (ap (filter (λ i. is_some (leaf_at i left))) all
-      ∙ (ap (λ x. filter (λ i. is_some (leaf_at i x)) (noted_in scripts put)) l ∙ (sym (noted-forgotten dropped put) ∙ ap (noted_in scripts) (sym l))))
+      ∙ (ap (λ x. filter (λ i. is_some (leaf_at i x)) (noted_in scripts put)) l
+      ∙ (sym (noted-forgotten dropped put) ∙ ap (noted_in scripts) (sym l))))
 
-  pub noted_back : (ns : List ℕ) (n : ℕ) (hs cut back : List Held) (before after : List ℕ) → before ≡ noted_in scripts hs → cut ≡ cut_in n hs → back ≡ unspent_in ns cut → after ≡ filter (λ i. nat_lt i n) before → after ≡ noted_in scripts back
+  pub noted_back : (ns : List ℕ) (n : ℕ) (hs cut back : List Held) (before after : List ℕ) → before ≡ noted_in scripts hs → cut ≡ cut_in n hs
+      → back ≡ unspent_in ns cut → after ≡ filter (λ i. nat_lt i n) before → after ≡ noted_in scripts back
   noted_back ns n hs cut back before after was c b e =
-      e ∙ (ap (filter (λ i. nat_lt i n)) was ∙ (sym (noted-cut n hs) ∙ (ap (noted_in scripts) (sym c) ∙ (sym (noted-unspent ns cut) ∙ ap (noted_in scripts) (sym b)))))
+      e ∙ (ap (filter (λ i. nat_lt i n)) was ∙ (sym (noted-cut n hs)
+      ∙ (ap (noted_in scripts) (sym c) ∙ (sym (noted-unspent ns cut) ∙ ap (noted_in scripts) (sym b)))))
 
   -- ---- those that are live
 
@@ -196,23 +222,27 @@ module _ (scripts : List (List ℕ)) where
   other_live : (h : Held) (hs : List Held) (i : ℕ) → h.number < i → is_live i (h ∷ hs) ≡ is_live i hs
   other_live h hs i lt = ap (λ b. b && h.live || is_live i hs) (ne_eqb h.number i (λ e. omega (arith, lt, e)))
 
-  others_live : (h : Held) (hs : List Held) → AllByRecursion (λ other. h.number < other.number) hs → filter (λ i. is_live i (h ∷ hs)) (noted_in scripts hs) ≡ filter (λ i. is_live i hs) (noted_in scripts hs)
+  others_live : (h : Held) (hs : List Held) → AllByRecursion (λ other. h.number < other.number) hs
+      → filter (λ i. is_live i (h ∷ hs)) (noted_in scripts hs) ≡ filter (λ i. is_live i hs) (noted_in scripts hs)
   others_live h hs a =
       filter_alike (λ i. is_live i (h ∷ hs)) (λ i. is_live i hs) (noted_in scripts hs)
-      (all_noted (λ i. is_live i (h ∷ hs) ≡ is_live i hs) hs (all_mapped (λ (x : Held). h.number < x.number) (λ (x : Held). is_live x.number (h ∷ hs) ≡ is_live x.number hs) (λ x lt. other_live h hs x.number lt) hs a))
+      (all_noted (λ i. is_live i (h ∷ hs) ≡ is_live i hs) hs (all_mapped (λ (x : Held). h.number < x.number)
+      (λ (x : Held). is_live x.number (h ∷ hs) ≡ is_live x.number hs) (λ x lt. other_live h hs x.number lt) hs a))
 
   or_none : (b : Bool) → (b || false) ≡ b
   or_none true = refl
   or_none false = refl
 
   first_live : (h : Held) (hs : List Held) → AllByRecursion (λ other. h.number < other.number) hs → is_live h.number (h ∷ hs) ≡ h.live
-  first_live h hs a = ap (λ b. b && h.live || is_live h.number hs) (eq-eqb h.number h.number refl) ∙ (ap (λ b. h.live || b) (none-live h.number hs a) ∙ or_none h.live)
+  first_live h hs a = ap (λ b. b && h.live || is_live h.number hs) (eq-eqb h.number h.number refl)
+      ∙ (ap (λ b. h.live || b) (none-live h.number hs a) ∙ or_none h.live)
 
   pub kept-live : (hs : List Held) → NumbersRise hs → filter (λ i. is_live i hs) (noted_in scripts hs) ≡ kept_in scripts hs
   kept-live [] r = refl
   kept-live (h ∷ hs) r = by_case (is_noted scripts h) (kept-live hs r.1)
     where
-      by_live : (b : Bool) → cond b (h.number ∷ numbers_of (kept_held hs)) (numbers_of (kept_held hs)) ≡ numbers_of (cond (b && true) (h ∷ kept_held hs) (kept_held hs))
+      by_live : (b : Bool) → cond b (h.number ∷ numbers_of (kept_held hs)) (numbers_of (kept_held hs))
+          ≡ numbers_of (cond (b && true) (h ∷ kept_held hs) (kept_held hs))
       by_live true = refl
       by_live false = refl
 
@@ -220,7 +250,9 @@ module _ (scripts : List (List ℕ)) where
       no_more true = refl
       no_more false = refl
 
-      by_case : (b : Bool) → filter (λ i. is_live i hs) (noted_in scripts hs) ≡ numbers_of (kept_held hs) → filter (λ i. is_live i (h ∷ hs)) (numbers_of (cond b (h ∷ noted hs) (noted hs))) ≡ numbers_of (cond (h.live && b) (h ∷ kept_held hs) (kept_held hs))
+      by_case : (b : Bool) → filter (λ i. is_live i hs) (noted_in scripts hs) ≡ numbers_of (kept_held hs)
+          → filter (λ i. is_live i (h ∷ hs)) (numbers_of (cond b (h ∷ noted hs) (noted hs)))
+          ≡ numbers_of (cond (h.live && b) (h ∷ kept_held hs) (kept_held hs))
       by_case true e = ap₂ (λ (b : Bool) (ns : List ℕ). cond b (h.number ∷ ns) ns) (first_live h hs r.0) (others_live h hs r.0 ∙ e) ∙ by_live h.live
       by_case false e = others_live h hs r.0 ∙ (e ∙ no_more h.live)
 
@@ -236,11 +268,14 @@ module _ (scripts : List (List ℕ)) where
   kept_lives [] = refl
   kept_lives (h ∷ hs) = by_live h.live (kept_lives hs)
     where
-      by_case : (b : Bool) → numbers_of (kept_held hs) ≡ entry_numbers (watched (lives hs)) → numbers_of (cond b (h ∷ kept_held hs) (kept_held hs)) ≡ entry_numbers (cond b (entry_of h ∷ watched (lives hs)) (watched (lives hs)))
+      by_case : (b : Bool) → numbers_of (kept_held hs) ≡ entry_numbers (watched (lives hs))
+          → numbers_of (cond b (h ∷ kept_held hs) (kept_held hs)) ≡ entry_numbers (cond b (entry_of h ∷ watched (lives hs)) (watched (lives hs)))
       by_case true r = ap (λ ns. h.number ∷ ns) r
       by_case false r = r
 
-      by_live : (b : Bool) → numbers_of (kept_held hs) ≡ entry_numbers (watched (lives hs)) → numbers_of (cond (b && is_noted scripts h) (h ∷ kept_held hs) (kept_held hs)) ≡ entry_numbers (watched (if b then entry_of h ∷ lives hs else lives hs))
+      by_live : (b : Bool) → numbers_of (kept_held hs) ≡ entry_numbers (watched (lives hs))
+          → numbers_of (cond (b && is_noted scripts h) (h ∷ kept_held hs) (kept_held hs))
+          ≡ entry_numbers (watched (if b then entry_of h ∷ lives hs else lives hs))
       by_live true r = by_case (is_noted scripts h) r
       by_live false r = r
 
@@ -250,7 +285,8 @@ module _ (scripts : List (List ℕ)) where
   kept_history n (Some leaf ∷ us) = by_case (is_watched scripts (Some leaf)) (kept_history (suc n) us)
     where
       by_case : (b : Bool) → kept_from (suc n) scripts us ≡ entry_numbers (watched (lives_from (suc n) us)) →
-          (if b then n ∷ kept_from (suc n) scripts us else kept_from (suc n) scripts us) ≡ entry_numbers (cond b (record { number = n; leaf = leaf } ∷ watched (lives_from (suc n) us)) (watched (lives_from (suc n) us)))
+          (if b then n ∷ kept_from (suc n) scripts us else kept_from (suc n) scripts us)
+          ≡ entry_numbers (cond b (record { number = n; leaf = leaf } ∷ watched (lives_from (suc n) us)) (watched (lives_from (suc n) us)))
       by_case true r = ap (λ ns. n ∷ ns) r
       by_case false r = r
 
@@ -277,7 +313,9 @@ module _ (scripts : List (List ℕ)) where
 
   pub kept_live : (hs : List Held) → AllByRecursion (λ i. is_live i hs ≡ true) (kept_in scripts hs)
   kept_live [] = tt
-  kept_live (h ∷ hs) = by_case (h.live && is_noted scripts h) refl (all_mapped (λ i. is_live i hs ≡ true) (λ i. is_live i (h ∷ hs) ≡ true) (λ i e. ap (λ b. h.number == i && h.live || b) e ∙ or_true (h.number == i && h.live)) (kept_in scripts hs) (kept_live hs))
+  kept_live (h ∷ hs) = by_case (h.live && is_noted scripts h) refl
+      (all_mapped (λ i. is_live i hs ≡ true) (λ i. is_live i (h ∷ hs) ≡ true)
+      (λ i e. ap (λ b. h.number == i && h.live || b) e ∙ or_true (h.number == i && h.live)) (kept_in scripts hs) (kept_live hs))
     where
       or_true : (b : Bool) → (b || true) ≡ true
       or_true true = refl
@@ -287,6 +325,11 @@ module _ (scripts : List (List ℕ)) where
       is_live_one true c e = refl
       is_live_one false c e = absurd (false≢true e)
 
-      by_case : (b : Bool) → (h.live && is_noted scripts h) ≡ b → AllByRecursion (λ i. is_live i (h ∷ hs) ≡ true) (kept_in scripts hs) → AllByRecursion (λ i. is_live i (h ∷ hs) ≡ true) (numbers_of (cond b (h ∷ kept_held hs) (kept_held hs)))
-      by_case true e r = (ap₂ (λ (a b : Bool). a && b || is_live h.number hs) (eq-eqb h.number h.number refl) (is_live_one h.live (is_noted scripts h) e), r)
+      by_case : (b : Bool) → (h.live && is_noted scripts h) ≡ b → AllByRecursion (λ i. is_live i (h ∷ hs) ≡ true) (kept_in scripts hs)
+          → AllByRecursion (λ i. is_live i (h ∷ hs) ≡ true) (numbers_of (cond b (h ∷ kept_held hs) (kept_held hs)))
+      by_case true e r = (
+        ap₂ (λ (a b : Bool). a && b || is_live h.number hs) (eq-eqb h.number h.number refl)
+            (is_live_one h.live (is_noted scripts h) e),
+        r,
+      )
       by_case false e r = r

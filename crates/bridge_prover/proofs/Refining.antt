@@ -1,5 +1,6 @@
 -- A bridge says and does what the proving node says and does, and stays a bridge.
-use Rattle.std.proofs.Common.{◌≡◌, ℕ, zero, suc, ◌<◌, ◌≤◌, ◌^◌, Bool, true, false, List, [], ◌∷◌, length, Option, Some, None, refl, sym, ap, ap₂, ◌∙◌, subst, ⊎_elim, arith}
+use Rattle.std.proofs.Common.{◌≡◌, ℕ, zero, suc, ◌<◌, ◌≤◌, ◌^◌, Bool, true, false, List, [], ◌∷◌, length, Option, Some, None, refl, sym, ap, ap₂, ◌∙◌}
+use Rattle.std.proofs.Common.{subst, ⊎_elim, arith}
 use Rattle.std.specs.Prelude.{nat_le, slice_get, take, drop, is_some, if◌then◌else◌}
 use Rattle.std.proofs.lemmas.Bool.{cases_Bool, leb-true}
 use Rattle.std.proofs.lemmas.Option.{none-some, same_Some}
@@ -20,14 +21,16 @@ use Rattle.block_rules.specs.Blocks.{external, new_records}
 use Rattle.node_rules.specs.Reading.{Handed}
 use Rattle.node_rules.specs.Messages.{sent}
 use Rattle.node_rules.specs.Judging.{Rules, Evidence, own, refusal, proof_of}
-use Rattle.node_rules.specs.Machine.{ChainEvent, BlockCame, RollbackCame, StrayCame, Level, State, Outcome, chain_of, height_of, back, by_refusal, is_made, verdict_by}
+use Rattle.node_rules.specs.Machine.{ChainEvent, BlockCame, RollbackCame, StrayCame, Level, State, Outcome, chain_of, height_of, back, by_refusal}
+use Rattle.node_rules.specs.Machine.{is_made, verdict_by}
 use Rattle.node_rules.specs.Proving.{written_text, text_beside}
 use Rattle.bridge_forest.specs.Blocks.{all_restored}
 use Rattle.output_index.specs.Held.{Held}
 use Rattle.reorg_undo.specs.Undo.{UndoRecord}
 use Rattle.node_rules.specs.Machine.{gone_to}
 use Rattle.bridge_prover.specs.Own.{own_in, cut_in, unspent_in}
-use Rattle.bridge_prover.specs.Bridge.{BridgeState, fresh_bridge, refusal_on, chain_before, chain_back, restored_in, verdict_on, bridge_with, bridge_by, after_block, undone_by, gone_back, next_bridge, proof_by, message_by, told_if, message_on}
+use Rattle.bridge_prover.specs.Bridge.{BridgeState, fresh_bridge, refusal_on, chain_before, chain_back, restored_in, verdict_on, bridge_with}
+use Rattle.bridge_prover.specs.Bridge.{bridge_by, after_block, undone_by, gone_back, next_bridge, proof_by, message_by, told_if, message_on}
 use Rattle.bridge_prover.specs.Judged.{CanUndo}
 use Rattle.bridge_prover.specs.Standing.{GiveBack, Stands, IsBridge}
 use Rattle.bridge_prover.specs.Laws.{own_outcome, text_by, BridgeIsOwn, FreshStands, FreshIsBridge, NextIsBridge}
@@ -52,22 +55,27 @@ fresh_is_bridge H text net limits watch few = record {
 }
 
 -- as made
-pub fresh_like : (H : List ℕ → Digest) (text : Leaf → List ℕ) (net : Net) (limits : Limits) (watch : Option (List (List ℕ))) (es : List (Option Digest)) (hs : List Held) (undo : List UndoRecord) → es ≡ [] → hs ≡ [] → undo ≡ [] → limits.leaves < 2 ^ 40 →
-    let s = fresh_bridge net limits watch in IsBridge H text (record { rules = s.rules; watch = s.watch; chain = s.chain; entries = es; held = hs; undo = undo })
+pub fresh_like : (H : List ℕ → Digest) (text : Leaf → List ℕ) (net : Net) (limits : Limits) (watch : Option (List (List ℕ)))
+    (es : List (Option Digest)) (hs : List Held) (undo : List UndoRecord) → es ≡ [] → hs ≡ [] → undo ≡ [] → limits.leaves < 2 ^ 40 →
+    let s = fresh_bridge net limits watch in
+    IsBridge H text (record { rules = s.rules; watch = s.watch; chain = s.chain; entries = es; held = hs; undo = undo })
 fresh_like H text net limits watch es hs undo e h u few =
     let s = fresh_bridge net limits watch in
     subst (λ x. IsBridge H text (record { rules = s.rules; watch = s.watch; chain = s.chain; entries = x; held = hs; undo = undo })) (sym e)
     (subst (λ x. IsBridge H text (record { rules = s.rules; watch = s.watch; chain = s.chain; entries = []; held = x; undo = undo })) (sym h)
-    (subst (λ x. IsBridge H text (record { rules = s.rules; watch = s.watch; chain = s.chain; entries = []; held = []; undo = x })) (sym u) (fresh_is_bridge H text net limits watch few)))
+    (subst (λ x. IsBridge H text (record { rules = s.rules; watch = s.watch; chain = s.chain; entries = []; held = []; undo = x })) (sym u)
+    (fresh_is_bridge H text net limits watch few)))
 
 -- ---- back by k blocks
 
 module _ (H : List ℕ → Digest) (text : Leaf → List ℕ) where
   -- the newest block, where there is a level before it
-  pub at-one_back : (now older : Level) (ls : List Level) (s : BridgeState) → IsAt H text (record { now = now; older = older ∷ ls }) s → IsAt H text (record { now = older; older = ls }) (undone_by H text s.undo s)
+  pub at-one_back : (now older : Level) (ls : List Level) (s : BridgeState) → IsAt H text (record { now = now; older = older ∷ ls }) s
+      → IsAt H text (record { now = older; older = ls }) (undone_by H text s.undo s)
   at-one_back now older ls s at = by s.undo at.stands.undo
     where
-      by : (undo : List UndoRecord) → GiveBack s.held now (older ∷ ls) undo → IsAt H text (record { now = older; older = ls }) (undone_by H text undo s)
+      by : (undo : List UndoRecord) → GiveBack s.held now (older ∷ ls) undo
+          → IsAt H text (record { now = older; older = ls }) (undone_by H text undo s)
       by [] g = absurd g
       by (u ∷ us) g = at-undone H text s now older ls u us (record {
         counted = ap (λ (c : Chain). c.leaves) at.stands.chain;
@@ -80,7 +88,8 @@ module _ (H : List ℕ → Digest) (text : Leaf → List ℕ) where
         later = g.2;
       })
 
-  pub at-back : (k : ℕ) (now : Level) (ls : List Level) (s : BridgeState) → k ≤ length ls → IsAt H text (record { now = now; older = ls }) s → IsAt H text (back k now ls) (gone_back H text k s)
+  pub at-back : (k : ℕ) (now : Level) (ls : List Level) (s : BridgeState) → k ≤ length ls → IsAt H text (record { now = now; older = ls }) s
+      → IsAt H text (back k now ls) (gone_back H text k s)
   at-back zero now ls s le at = at
   at-back (suc k) now [] s le at = absurd (omega (arith, le))
   at-back (suc k) now (l ∷ ls) s le at = at-back k l ls (undone_by H text s.undo s) (omega (arith, le)) (at-one_back now l ls s at)
@@ -100,7 +109,8 @@ module _ (H : List ℕ → Digest) (text : Leaf → List ℕ) where
       none zero r e = refl
       none (suc k) r e = subst (λ us. (gone_back H text k (undone_by H text us r)).chain ≡ r.chain) (sym e) (none k r e)
 
-      by : (us : List UndoRecord) → s.undo ≡ us → ((r : BridgeState) → (gone_back H text k r).chain ≡ chain_back k r.chain r.undo) → (gone_back H text k (undone_by H text us s)).chain ≡ chain_back (suc k) s.chain us
+      by : (us : List UndoRecord) → s.undo ≡ us → ((r : BridgeState) → (gone_back H text k r).chain ≡ chain_back k r.chain r.undo)
+          → (gone_back H text k (undone_by H text us s)).chain ≡ chain_back (suc k) s.chain us
       by [] e later = none k s e
       by (u ∷ us) e later = later (undone_by H text (u ∷ us) s)
 
@@ -146,7 +156,8 @@ module _ (H : List ℕ → Digest) (text : Leaf → List ℕ) where
   head_of u (w ∷ us) e = ap (λ x. x ∷ us) (sym (same_Some u w e))
 
   pub can_go_back : (s : BridgeState) (u : UndoRecord) → IsBridge H text s → Some u ≡ slice_get s.undo 0 → CanUndo H text s u
-  can_go_back s u is e = by is.levels.older (drop 1 s.undo) (subst (GiveBack s.held is.levels.now is.levels.older) (head_of u s.undo e) is.stands.undo)
+  can_go_back s u is e = by is.levels.older (drop 1 s.undo)
+      (subst (GiveBack s.held is.levels.now is.levels.older) (head_of u s.undo e) is.stands.undo)
     where
       by : (ls : List Level) (us : List UndoRecord) → GiveBack s.held is.levels.now ls (u ∷ us) → CanUndo H text s u
       by [] us g = absurd g
@@ -163,16 +174,32 @@ module _ (H : List ℕ → Digest) (text : Leaf → List ℕ) where
 
   -- what the calls leave that undo the newest block is again what a bridge keeps
   pub undone_like : (s : BridgeState) (u : UndoRecord) → IsBridge H text s → Some u ≡ slice_get s.undo 0 →
-      (es front : List (Option Digest)) (hs left : List Held) (ns ms : List ℕ) (undo : List UndoRecord) → ns ≡ u.spent → front ≡ take u.leaves s.entries → es ≡ all_restored (restored_in H text s.held ns) front →
+      (es front : List (Option Digest)) (hs left : List Held) (ns ms : List ℕ) (undo : List UndoRecord) → ns ≡ u.spent
+      → front ≡ take u.leaves s.entries → es ≡ all_restored (restored_in H text s.held ns) front →
       ms ≡ u.spent → left ≡ cut_in u.leaves s.held → hs ≡ unspent_in ms left → undo ≡ drop 1 s.undo →
       IsBridge H text (record { rules = s.rules; watch = s.watch; chain = chain_before u; entries = es; held = hs; undo = undo })
   undone_like s u is e es front hs left ns ms undo n f x m l h o =
       let gone = subst (λ us. IsBridge H text (undone_by H text us s)) (head_of u s.undo e) (one_back-is s is) in
-      let es_are : es ≡ all_restored (restored_in H text s.held u.spent) (take u.leaves s.entries) = x ∙ ap₂ (λ ns front. all_restored (restored_in H text s.held ns) front) n f in
+      let es_are : es ≡ all_restored (restored_in H text s.held u.spent) (take u.leaves s.entries) =
+      x ∙ ap₂ (λ ns front. all_restored (restored_in H text s.held ns) front) n f in
       let hs_are : hs ≡ unspent_in u.spent (cut_in u.leaves s.held) = h ∙ ap₂ unspent_in m l in
       subst (λ us. IsBridge H text (record { rules = s.rules; watch = s.watch; chain = chain_before u; entries = es; held = hs; undo = us })) (sym o)
-      (subst (λ y. IsBridge H text (record { rules = s.rules; watch = s.watch; chain = chain_before u; entries = es; held = y; undo = drop 1 s.undo })) (sym hs_are)
-      (subst (λ y. IsBridge H text (record { rules = s.rules; watch = s.watch; chain = chain_before u; entries = y; held = unspent_in u.spent (cut_in u.leaves s.held); undo = drop 1 s.undo })) (sym es_are) gone))
+      (subst (λ y. IsBridge H text (record {
+        rules = s.rules;
+        watch = s.watch;
+        chain = chain_before u;
+        entries = es;
+        held = y;
+        undo = drop 1 s.undo;
+      })) (sym hs_are)
+      (subst (λ y. IsBridge H text (record {
+        rules = s.rules;
+        watch = s.watch;
+        chain = chain_before u;
+        entries = y;
+        held = unspent_in u.spent (cut_in u.leaves s.held);
+        undo = drop 1 s.undo;
+      })) (sym es_are) gone))
 
   pub back-is : (k : ℕ) (s : BridgeState) → IsBridge H text s → IsBridge H text (gone_back H text k s)
   back-is zero s is = is
@@ -184,7 +211,8 @@ module _ (H : List ℕ → Digest) (text : Leaf → List ℕ) where
 abbrev Same : (H : List ℕ → Digest) (text : Leaf → List ℕ) → Outcome → Verdict → Option (List ℕ) → Option (List ℕ) → BridgeState → Type 0
 Same H text o v m own s = (o.verdict ≡ Some v) × (m ≡ (if is_made o.verdict then own else None)) × Stands H text o.state s
 
-module _ (H : List ℕ → Digest) (text : Leaf → List ℕ) (rules : Rules) (watch : Option (List (List ℕ))) (t : State) (hs : List Held) (undo : List UndoRecord) where
+module _ (H : List ℕ → Digest) (text : Leaf → List ℕ) (rules : Rules) (watch : Option (List (List ℕ))) (t : State) (hs : List Held)
+    (undo : List UndoRecord) where
   abbrev us : History
   us = t.now.history
 
@@ -207,7 +235,8 @@ module _ (H : List ℕ → Digest) (text : Leaf → List ℕ) (rules : Rules) (w
 
       abbrev With : Evidence → Option Refusal → Option Refusal → Type 0
       With e x y =
-          Same H text (by_refusal t b evidence x) (verdict_by (chain_of t.now) b (length new) y) (told_if y (written_text ext (message_by H watch (entries H text us) hs e.numbers))) (text_beside H text watch t.now (Some b))
+          Same H text (by_refusal t b evidence x) (verdict_by (chain_of t.now) b (length new) y)
+          (told_if y (written_text ext (message_by H watch (entries H text us) hs e.numbers))) (text_beside H text watch t.now (Some b))
           (bridge_by y (bridge_with H text bridge (block_hash_of b) e.numbers new) bridge)
 
       by_case : (x : Option Refusal) → refusal rules (chain_of t.now) b evidence ≡ x → With evidence x x
@@ -215,28 +244,35 @@ module _ (H : List ℕ → Digest) (text : Leaf → List ℕ) (rules : Rules) (w
       by_case None passes =
           let long = length-after us evidence.numbers new in
           let numbers : (own_in hs ext).numbers ≡ evidence.numbers = ap (λ (e : Evidence). e.numbers) (own_same hs us at.rise at.stands.index ext) in
-          let proof : proof_by H watch (entries H text us) hs evidence.numbers ≡ proof_of H text watch us ext = ap (proof_by H watch (entries H text us) hs) (sym numbers) ∙ proof_same hs us at.rise at.stands.index H text watch ext in (
+          let proof : proof_by H watch (entries H text us) hs evidence.numbers ≡ proof_of H text watch us ext =
+          ap (proof_by H watch (entries H text us) hs) (sym numbers) ∙ proof_same hs us at.rise at.stands.index H text watch ext in (
             ap (λ n. Some (Accepted t.now.blocks (block_hash_of b) n)) long,
             ap (λ (p : BlockProof). written_text ext (sent (is_some watch) p)) proof,
-            (at-then H text t bridge at evidence.numbers new (own_live H text t bridge at b passes) (own_apart H text t bridge at b passes) (block_hash_of b)).stands,
+            (at-then H text t bridge at evidence.numbers new (own_live H text t bridge at b passes) (own_apart H text t bridge at b passes)
+                (block_hash_of b)).stands,
           )
 
       at_block : (handed : Handed) → Follows bridge (BlockCame (Some b) handed)
       at_block handed =
           let same : own_in hs ext ≡ evidence = own_same hs us at.rise at.stands.index ext in
-          subst (λ e. With e (refusal rules (chain_of t.now) b evidence) (refusal rules (chain_of t.now) b e)) (sym same) (by_case (refusal rules (chain_of t.now) b evidence) refl)
+          subst (λ e. With e (refusal rules (chain_of t.now) b evidence) (refusal rules (chain_of t.now) b e)) (sym same)
+          (by_case (refusal rules (chain_of t.now) b evidence) refl)
 
     back_follows : (k : ℕ) → Follows bridge (RollbackCame k)
     back_follows k =
         let long : length undo ≡ length t.older = give_long H text hs t.now t.older undo at.stands.undo in
-        subst (λ n. Same H text (own_outcome rules t (RollbackCame k)) (if nat_le k n then gone_to k (chain_back k (chain_of t.now) undo) else TooDeep k n) None None (if nat_le k n then gone_back H text k bridge else bridge)) (sym long)
+        subst (λ n. Same H text (own_outcome rules t (RollbackCame k))
+        (if nat_le k n then gone_to k (chain_back k (chain_of t.now) undo) else TooDeep k n) None None
+        (if nat_le k n then gone_back H text k bridge else bridge)) (sym long)
         (by_test (nat_le k (length t.older)) refl)
       where
         by_test : (test : Bool) → nat_le k (length t.older) ≡ test →
-            Same H text (own_outcome rules t (RollbackCame k)) (if nat_le k (length t.older) then gone_to k (chain_back k (chain_of t.now) undo) else TooDeep k (length t.older)) None None (if nat_le k (length t.older) then gone_back H text k bridge else bridge)
+            Same H text (own_outcome rules t (RollbackCame k)) (if nat_le k (length t.older) then gone_to k (chain_back k (chain_of t.now) undo) else
+            TooDeep k (length t.older)) None None (if nat_le k (length t.older) then gone_back H text k bridge else bridge)
         by_test true e =
             let there = at-back H text k t.now t.older bridge (leb-true k (length t.older) e) at in
-            let chain : chain_back k (chain_of t.now) undo ≡ chain_of (back k t.now t.older).now = sym (chain-back H text k bridge) ∙ there.stands.chain in
+            let chain : chain_back k (chain_of t.now) undo ≡ chain_of (back k t.now t.older).now =
+            sym (chain-back H text k bridge) ∙ there.stands.chain in
             rw e (ap (λ (c : Chain). Some (RolledBack k (height_of c.blocks) c.tip c.leaves)) (sym chain), refl, there.stands)
         by_test false e = rw e (refl, refl, at.stands)
 
@@ -250,8 +286,11 @@ pub bridge_is_own : BridgeIsOwn
 bridge_is_own H text s e is t stands =
     let chain = stands.chain in
     let es = stands.entries in
-    let written : s ≡ bridge H text s.rules s.watch t s.held s.undo = ap₂ (λ c es. (let x : BridgeState = record { rules = s.rules; watch = s.watch; chain = c; entries = es; held = s.held; undo = s.undo } in x)) chain es in
-    let all = subst (λ x. Follows H text s.rules s.watch t s.held s.undo x e) (sym written) (follows H text s.rules s.watch t s.held s.undo (subst (IsAt H text t) written (at_level H text t s is stands)) e) in
+    let written : s ≡ bridge H text s.rules s.watch t s.held s.undo =
+    ap₂ (λ c es. (let x : BridgeState = record { rules = s.rules; watch = s.watch; chain = c; entries = es; held = s.held; undo = s.undo } in x))
+    chain es in
+    let all = subst (λ x. Follows H text s.rules s.watch t s.held s.undo x e) (sym written)
+    (follows H text s.rules s.watch t s.held s.undo (subst (IsAt H text t) written (at_level H text t s is stands)) e) in
     record { said = all.0; passed = all.1; stands = all.2 }
 
 pub next_is_bridge : NextIsBridge

@@ -17,14 +17,19 @@ restored-append (p ∷ ps) qs es = restored-append ps qs (set es p.0 (Some p.1))
 
 module _ (H : List ℕ → Digest) (text : Leaf → List ℕ) (hs : List Held) where
   -- one more
-  pub restored_more : (ns : List ℕ) (i : ℕ) (first old new : List (Option Digest)) → i < length ns → old ≡ all_restored (restored_in H text hs (take i ns)) first → new ≡ all_restored (restored_in H text hs (get_or ns i 0 ∷ [])) old →
+  pub restored_more : (ns : List ℕ) (i : ℕ) (first old new : List (Option Digest)) → i < length ns
+      → old ≡ all_restored (restored_in H text hs (take i ns)) first → new ≡ all_restored (restored_in H text hs (get_or ns i 0 ∷ [])) old →
       new ≡ all_restored (restored_in H text hs (take (i + 1) ns)) first
   restored_more ns i first old new lt was e =
-      let more : restored_in H text hs (take (i + 1) ns) ≡ restored_in H text hs (take i ns) ++ restored_in H text hs (get_or ns i 0 ∷ []) = gathered_more (λ n. option_map (restored_at H text n) (leaf_at n hs)) ns i 0 lt in
-      e ∙ (ap (all_restored (restored_in H text hs (get_or ns i 0 ∷ []))) was ∙ (sym (restored-append (restored_in H text hs (take i ns)) (restored_in H text hs (get_or ns i 0 ∷ [])) first) ∙ ap (λ ps. all_restored ps first) (sym more)))
+      let more : restored_in H text hs (take (i + 1) ns) ≡ restored_in H text hs (take i ns) ++ restored_in H text hs (get_or ns i 0 ∷ []) =
+      gathered_more (λ n. option_map (restored_at H text n) (leaf_at n hs)) ns i 0 lt in
+      e ∙ (ap (all_restored (restored_in H text hs (get_or ns i 0 ∷ []))) was
+      ∙ (sym (restored-append (restored_in H text hs (take i ns)) (restored_in H text hs (get_or ns i 0 ∷ [])) first)
+      ∙ ap (λ ps. all_restored ps first) (sym more)))
 
   -- another entry is as it was
-  pub live-restored_other : (n q : ℕ) (es : List (Option Digest)) → q ≢ n → is_live (all_restored (restored_in H text hs (n ∷ [])) es) q ≡ is_live es q
+  pub live-restored_other : (n q : ℕ) (es : List (Option Digest)) → q ≢ n → is_live (all_restored (restored_in H text hs (n ∷ [])) es) q
+      ≡ is_live es q
   live-restored_other n q es o = by (leaf_at n hs)
     where
       by : (x : Option Leaf) → is_live (all_restored (somes (option_map (restored_at H text n) x ∷ [])) es) q ≡ is_live es q

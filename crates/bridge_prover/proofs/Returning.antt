@@ -1,5 +1,6 @@
 -- Entries that a block spends, and that are live again once it is undone.
-use Rattle.std.proofs.Common.{◌≡◌, ℕ, zero, suc, ◌<◌, Bool, true, false, List, [], ◌∷◌, length, get_or, All, refl, sym, ap, ap₂, ◌∙◌, subst, ⊎_elim, arith, ne_eqb, eq-eqb, ◌++◌, ◌+◌, ◌≤◌}
+use Rattle.std.proofs.Common.{◌≡◌, ℕ, zero, suc, ◌<◌, Bool, true, false, List, [], ◌∷◌, length, get_or, All, refl, sym, ap, ap₂, ◌∙◌, subst, ⊎_elim}
+use Rattle.std.proofs.Common.{arith, ne_eqb, eq-eqb, ◌++◌, ◌+◌, ◌≤◌}
 use Rattle.std.specs.Prelude.{◌==◌, ◌&&◌, ◌||◌, not}
 use Rattle.std.specs.List.{AllByRecursion, list_any}
 use Rattle.std.proofs.lemmas.Bool.{cases_Bool, eqb-true, false≢true, or_parts}
@@ -95,9 +96,11 @@ first_live false false c l f = absurd (false≢true (sym f ∙ l))
 live_named : (n : ℕ) (hs : List Held) → NumbersRise hs → is_live n hs ≡ true → AllByRecursion (λ h. (h.number == n) ≡ true → h.live ≡ true) hs
 live_named n [] r l = tt
 live_named n (h ∷ hs) r l = (
-  λ t. first_live (h.number == n) h.live (is_live n hs) l (none_live n hs (subst (λ m. AllByRecursion (λ (x : Held). m < x.number) hs) (eqb-true h.number n t) r.0)),
+  λ t. first_live (h.number == n) h.live (is_live n hs) l
+      (none_live n hs (subst (λ m. AllByRecursion (λ (x : Held). m < x.number) hs) (eqb-true h.number n t) r.0)),
   ⊎_elim
-      (λ t. all_mapped (λ (x : Held). h.number < x.number) (λ (x : Held). (x.number == n) ≡ true → x.live ≡ true) (λ x lt s. let e = eqb-true h.number n t in let q = eqb-true x.number n s in absurd (omega (arith, e, q, lt))) hs r.0)
+      (λ t. all_mapped (λ (x : Held). h.number < x.number) (λ (x : Held). (x.number == n) ≡ true → x.live ≡ true)
+      (λ x lt s. let e = eqb-true h.number n t in let q = eqb-true x.number n s in absurd (omega (arith, e, q, lt))) hs r.0)
       (λ f. live_named n hs r.1 (subst (λ b. (b && h.live || is_live n hs) ≡ true) f l))
       (cases_Bool (h.number == n)),
 )
@@ -106,10 +109,12 @@ none_named : (hs : List Held) → AllByRecursion (λ h. is_named [] h ≡ true �
 none_named [] = tt
 none_named (h ∷ hs) = (λ m. absurd (false≢true m), none_named hs)
 
-all_named : (ns : List ℕ) (hs : List Held) → NumbersRise hs → AllByRecursion (λ n. is_live n hs ≡ true) ns → AllByRecursion (λ h. is_named ns h ≡ true → h.live ≡ true) hs
+all_named : (ns : List ℕ) (hs : List Held) → NumbersRise hs → AllByRecursion (λ n. is_live n hs ≡ true) ns
+    → AllByRecursion (λ h. is_named ns h ≡ true → h.live ≡ true) hs
 all_named [] hs r a = none_named hs
 all_named (n ∷ ns) hs r a =
-    all_both (λ (h : Held). (h.number == n) ≡ true → h.live ≡ true) (λ (h : Held). is_named ns h ≡ true → h.live ≡ true) (λ (h : Held). is_named (n ∷ ns) h ≡ true → h.live ≡ true)
+    all_both (λ (h : Held). (h.number == n) ≡ true → h.live ≡ true) (λ (h : Held). is_named ns h ≡ true → h.live ≡ true)
+    (λ (h : Held). is_named (n ∷ ns) h ≡ true → h.live ≡ true)
     (λ h here later m. ⊎_elim (λ t. here t) (λ f. later (subst (λ b. (b || is_named ns h) ≡ true) f m)) (cases_Bool (h.number == n)))
     hs (live_named n hs r a.0) (all_named ns hs r a.1)
 
@@ -133,9 +138,11 @@ spent_one i ns [] m l = absurd (false≢true l)
 spent_one i ns (h ∷ hs) m l =
     ap (is_spent i) (spent_first ns h hs)
     ∙ ⊎_elim
-    (λ t. ap (λ (x : Held). x.number == i && not x.live || is_spent i (spent_in ns hs)) (set_named false ns h (subst (λ j. list_any (λ n. j == n) ns ≡ true) (sym (eqb-true h.number i t)) m))
+    (λ t. ap (λ (x : Held). x.number == i && not x.live || is_spent i (spent_in ns hs))
+    (set_named false ns h (subst (λ j. list_any (λ n. j == n) ns ≡ true) (sym (eqb-true h.number i t)) m))
     ∙ ap (λ b. b && true || is_spent i (spent_in ns hs)) t)
-    (λ f. ap (λ b. (set_at false ns h).number == i && not (set_at false ns h).live || b) (spent_one i ns hs m (subst (λ b. (b && h.live || is_live i hs) ≡ true) f l))
+    (λ f. ap (λ b. (set_at false ns h).number == i && not (set_at false ns h).live || b)
+    (spent_one i ns hs m (subst (λ b. (b && h.live || is_live i hs) ≡ true) f l))
     ∙ or_true ((set_at false ns h).number == i && not (set_at false ns h).live))
     (cases_Bool (h.number == i))
 
@@ -153,7 +160,8 @@ live_front i (h ∷ hs) ks live = by_case (h.number == i && h.live) (is_live i h
     by_case true rest e more = refl
     by_case false rest e more = more e
 
-module _ (ns : List ℕ) (n : ℕ) (new : List Leaf) (hs : List Held) (rise : NumbersRise hs) (above : IsAbove n hs) (live : All (λ i. is_live i hs ≡ true) ns) where
+module _ (ns : List ℕ) (n : ℕ) (new : List Leaf) (hs : List Held) (rise : NumbersRise hs) (above : IsAbove n hs)
+    (live : All (λ i. is_live i hs ≡ true) ns) where
   live_both : All (λ i. is_live i (hs ++ numbered n new) ≡ true) ns
   live_both = λ k d lt. live_front (get_or ns k d) hs (numbered n new) (live k d lt)
 

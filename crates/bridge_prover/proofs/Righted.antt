@@ -1,5 +1,6 @@
 -- What is told of a message by forest and index is what the history tells: which entries it shows, and whether it is right.
-use Rattle.std.proofs.Common.{◌≡◌, ◌≢◌, ℕ, zero, suc, ◌+◌, ◌<◌, ◌≤◌, Bool, true, false, List, [], ◌∷◌, ◌++◌, map, length, take, drop, get_or, filter, Option, Some, None, refl, sym, ap, ap₂, ◌∙◌, subst, arith, eq-eqb}
+use Rattle.std.proofs.Common.{◌≡◌, ◌≢◌, ℕ, zero, suc, ◌+◌, ◌<◌, ◌≤◌, Bool, true, false, List, [], ◌∷◌, ◌++◌, map, length, take, drop, get_or, filter}
+use Rattle.std.proofs.Common.{Option, Some, None, refl, sym, ap, ap₂, ◌∙◌, subst, arith, eq-eqb}
 use Rattle.std.specs.Prelude.{◌&&◌, slice_get, is_some, is_none, option_map, if◌then◌else◌}
 use Rattle.std.specs.Global.{Vec}
 use Rattle.std.proofs.lemmas.Bool.{and_from}
@@ -41,35 +42,45 @@ use Rattle.bridge_prover.proofs.Gathering.{somes-map}
 
 -- ---- the loop over the spends
 
-pub shown-next : (es : List (Option Digest)) (hs : List Held) (ts : List Place) (claims : List Leaf) (i : ℕ) (d : Place) (claim : Leaf) → i < length ts → slice_get claims i ≡ Some claim → slice_get (shown_all es hs ts claims) i ≡ Some (shown_at es hs (get_or ts i d) claim)
+pub shown-next : (es : List (Option Digest)) (hs : List Held) (ts : List Place) (claims : List Leaf) (i : ℕ) (d : Place) (claim : Leaf)
+    → i < length ts → slice_get claims i ≡ Some claim → slice_get (shown_all es hs ts claims) i ≡ Some (shown_at es hs (get_or ts i d) claim)
 shown-next es hs [] claims i d claim lt got = absurd (omega (arith, lt))
 shown-next es hs (p ∷ ts) [] i d claim lt got = absurd (none-some claim got)
 shown-next es hs (p ∷ ts) (c ∷ claims) zero d claim lt got = ap (λ x. Some (shown_at es hs p x)) (same_Some c claim got)
 shown-next es hs (p ∷ ts) (c ∷ claims) (suc i) d claim lt got = shown-next es hs ts claims i d claim (omega (arith, lt)) got
 
 -- the next one
-pub shown-here : (es : List (Option Digest)) (hs : List Held) (ts : List Place) (ext : List Outside) (rests : List Rest) (i : ℕ) (d : Outside) (e : Place) (rest : Rest) (claim : Leaf) (number : Option ℕ) → i < length ext → length ts ≡ length ext → slice_get rests i ≡ Some rest →
-    claim ≡ record { point = point_of (get_or ext i d); rest = rest } → number ≡ shown_at es hs (get_or ts i e) claim → slice_get (shown_all es hs ts (claimed (points_of ext) rests)) i ≡ Some number
+pub shown-here : (es : List (Option Digest)) (hs : List Held) (ts : List Place) (ext : List Outside) (rests : List Rest) (i : ℕ) (d : Outside)
+    (e : Place) (rest : Rest) (claim : Leaf) (number : Option ℕ) → i < length ext → length ts ≡ length ext → slice_get rests i ≡ Some rest →
+    claim ≡ record { point = point_of (get_or ext i d); rest = rest } → number ≡ shown_at es hs (get_or ts i e) claim
+    → slice_get (shown_all es hs ts (claimed (points_of ext) rests)) i ≡ Some number
 shown-here es hs ts ext rests i d e rest claim number lt long got is shown =
-    shown-next es hs ts (claimed (points_of ext) rests) i e claim (omega (arith, lt, long)) (claim_at ext rests i (get_or ext i d) rest (slice_get-get_or ext i d lt) got ∙ ap Some (sym is)) ∙ ap Some (sym shown)
+    shown-next es hs ts (claimed (points_of ext) rests) i e claim (omega (arith, lt, long))
+    (claim_at ext rests i (get_or ext i d) rest (slice_get-get_or ext i d lt) got ∙ ap Some (sym is)) ∙ ap Some (sym shown)
 
-pub shown-more : (shown : List (Option ℕ)) (i : ℕ) (number : ℕ) (old new : List ℕ) → slice_get shown i ≡ Some (Some number) → map Some old ≡ take i shown → new ≡ old ++ number ∷ [] → map Some new ≡ take (i + 1) shown
+pub shown-more : (shown : List (Option ℕ)) (i : ℕ) (number : ℕ) (old new : List ℕ) → slice_get shown i ≡ Some (Some number)
+    → map Some old ≡ take i shown → new ≡ old ++ number ∷ [] → map Some new ≡ take (i + 1) shown
 shown-more shown i number old new got was e = one_more _ _ _ _ _ got was (ap (map Some) e ∙ map-append Some old (number ∷ []))
 
-shown-long : (es : List (Option Digest)) (hs : List Held) (ts : List Place) (claims : List Leaf) → length ts ≡ length claims → length (shown_all es hs ts claims) ≡ length ts
+shown-long : (es : List (Option Digest)) (hs : List Held) (ts : List Place) (claims : List Leaf) → length ts ≡ length claims
+    → length (shown_all es hs ts claims) ≡ length ts
 shown-long es hs [] claims e = refl
 shown-long es hs (p ∷ ts) [] e = absurd (omega (arith, e))
 shown-long es hs (p ∷ ts) (c ∷ claims) e = ap suc (shown-long es hs ts claims (omega (arith, e)))
 
-pub shown-end : (es : List (Option Digest)) (hs : List Held) (ts : List Place) (ext : List Outside) (rests : List Rest) (i : ℕ) (numbers : List ℕ) → length ts ≡ length ext → length rests ≡ length ext → length ext ≤ i →
-    map Some numbers ≡ take i (shown_all es hs ts (claimed (points_of ext) rests)) → map Some numbers ≡ shown_all es hs ts (claimed (points_of ext) rests)
+pub shown-end : (es : List (Option Digest)) (hs : List Held) (ts : List Place) (ext : List Outside) (rests : List Rest) (i : ℕ) (numbers : List ℕ)
+    → length ts ≡ length ext → length rests ≡ length ext → length ext ≤ i →
+    map Some numbers ≡ take i (shown_all es hs ts (claimed (points_of ext) rests))
+    → map Some numbers ≡ shown_all es hs ts (claimed (points_of ext) rests)
 shown-end es hs ts ext rests i numbers long count le is =
-    is ∙ take_all i _ (let a = shown-long es hs ts (claimed (points_of ext) rests) (long ∙ sym (claims-long ext rests count)) in omega (arith, a, long, le))
+    is ∙ take_all i _ (let a = shown-long es hs ts (claimed (points_of ext) rests) (long ∙ sym (claims-long ext rests count)) in
+    omega (arith, a, long, le))
 
 -- ---- the loop over the hashes
 
 -- one that stands where it should
-pub hash-more : (hashes : List Digest) (found : List (Option Digest)) (i : ℕ) (hash : Digest) → slice_get hashes i ≡ Some hash → slice_get found i ≡ Some (Some hash) → map Some (take i hashes) ≡ take i found → map Some (take (i + 1) hashes) ≡ take (i + 1) found
+pub hash-more : (hashes : List Digest) (found : List (Option Digest)) (i : ℕ) (hash : Digest) → slice_get hashes i ≡ Some hash
+    → slice_get found i ≡ Some (Some hash) → map Some (take i hashes) ≡ take i found → map Some (take (i + 1) hashes) ≡ take (i + 1) found
 hash-more [] found i hash got there was = absurd (none-some hash got)
 hash-more (x ∷ hashes) [] i hash got there was = absurd (none-some _ there)
 hash-more (x ∷ hashes) (y ∷ found) zero hash got there was = ap (λ z. z ∷ []) (ap Some (same_Some x hash got) ∙ sym (same_Some y (Some hash) there))
@@ -80,7 +91,8 @@ hash-more (x ∷ hashes) (y ∷ found) (suc i) hash got there was =
     rw next (ap₂ (λ (z : Option Digest) zs. z ∷ zs) head (hash-more hashes found i hash got there tail))
 
 -- and one that does not
-pub hash-other : (hashes : List Digest) (found : List (Option Digest)) (i : ℕ) (hash : Digest) (there : Option Digest) → slice_get hashes i ≡ Some hash → slice_get found i ≡ Some there → there ≢ Some hash → map Some hashes ≡ found → ⊥
+pub hash-other : (hashes : List Digest) (found : List (Option Digest)) (i : ℕ) (hash : Digest) (there : Option Digest)
+    → slice_get hashes i ≡ Some hash → slice_get found i ≡ Some there → there ≢ Some hash → map Some hashes ≡ found → ⊥
 hash-other hashes found i hash there got at differ same =
     let e : slice_get (map Some hashes) i ≡ Some (Some hash) = slice_get-map Some hashes i ∙ ap (option_map Some) got in
     differ (same_Some there (Some hash) (sym at ∙ (ap (λ xs. slice_get xs i) (sym same) ∙ e)))
@@ -95,7 +107,8 @@ module _ (f there : Place → Option Digest) (knows : (p : Place) (d : Digest) �
   front hs next = get_or hs next (record { 0 = [] })
 
   -- behind a place that is asked for
-  one_less : (p : Place) (ps : List Place) (hs : List Digest) (next : ℕ) → f p ≡ None → length (drop next hs) ≡ length (asked_of (p ∷ ps)) → (drop next hs ≡ front hs next ∷ drop (suc next) hs) × (length (drop (suc next) hs) ≡ length (asked_of ps))
+  one_less : (p : Place) (ps : List Place) (hs : List Digest) (next : ℕ) → f p ≡ None → length (drop next hs) ≡ length (asked_of (p ∷ ps))
+      → (drop next hs ≡ front hs next ∷ drop (suc next) hs) × (length (drop (suc next) hs) ≡ length (asked_of ps))
   one_less p ps hs next e count =
       let keep : asked_of (p ∷ ps) ≡ p ∷ asked_of ps = rw e refl in
       let many : length (drop next hs) ≡ suc (length (asked_of ps)) = count ∙ ap length keep in
@@ -105,11 +118,14 @@ module _ (f there : Place → Option Digest) (knows : (p : Place) (d : Digest) �
       let one : next + 1 ≡ suc next = omega arith in
       (drop_more hs next (record { 0 = [] }) lt ∙ ap (λ k. front hs next ∷ drop k hs) one, omega (arith, many, n, n'))
 
-  pub filled-stand : (ps : List Place) (hs : List Digest) (next : ℕ) → length (drop next hs) ≡ length (asked_of ps) → map Some (drop next hs) ≡ map there (asked_of ps) → map Some (filled hs next (map f ps)) ≡ map there ps
+  pub filled-stand : (ps : List Place) (hs : List Digest) (next : ℕ) → length (drop next hs) ≡ length (asked_of ps)
+      → map Some (drop next hs) ≡ map there (asked_of ps) → map Some (filled hs next (map f ps)) ≡ map there ps
   filled-stand [] hs next count same = refl
   filled-stand (p ∷ ps) hs next count same = by (λ k. filled-stand ps hs k) (f p) refl
     where
-      by : ((k : ℕ) → length (drop k hs) ≡ length (asked_of ps) → map Some (drop k hs) ≡ map there (asked_of ps) → map Some (filled hs k (map f ps)) ≡ map there ps) → (x : Option Digest) → f p ≡ x → map Some (filled hs next (f p ∷ map f ps)) ≡ map there (p ∷ ps)
+      by : ((k : ℕ) → length (drop k hs) ≡ length (asked_of ps) → map Some (drop k hs) ≡ map there (asked_of ps)
+          → map Some (filled hs k (map f ps)) ≡ map there ps) → (x : Option Digest) → f p ≡ x
+          → map Some (filled hs next (f p ∷ map f ps)) ≡ map there (p ∷ ps)
       by later (Some d) e =
           let skip : asked_of (p ∷ ps) ≡ asked_of ps = rw e refl in
           ap (λ x. map Some (filled hs next (x ∷ map f ps))) e
@@ -117,13 +133,15 @@ module _ (f there : Place → Option Digest) (knows : (p : Place) (d : Digest) �
       by later None e =
           let keep : asked_of (p ∷ ps) ≡ p ∷ asked_of ps = rw e refl in
           let less = one_less p ps hs next e count in
-          let both : Some (front hs next) ∷ map Some (drop (suc next) hs) ≡ there p ∷ map there (asked_of ps) = sym (ap (map Some) less.0) ∙ (same ∙ ap (map there) keep) in
+          let both : Some (front hs next) ∷ map Some (drop (suc next) hs) ≡ there p ∷ map there (asked_of ps) =
+          sym (ap (map Some) less.0) ∙ (same ∙ ap (map there) keep) in
           let head : Some (front hs next) ≡ there p = cc in
           let tail : map Some (drop (suc next) hs) ≡ map there (asked_of ps) = cc in
           ap (λ x. map Some (filled hs next (x ∷ map f ps))) e
           ∙ ap₂ (λ (y : Option Digest) ys. y ∷ ys) head (later (suc next) less.1 tail)
 
-  pub given-stand : (ps : List Place) (hs : List Digest) (next : ℕ) → length (drop next hs) ≡ length (asked_of ps) → map Some (filled hs next (map f ps)) ≡ map there ps → map Some (drop next hs) ≡ map there (asked_of ps)
+  pub given-stand : (ps : List Place) (hs : List Digest) (next : ℕ) → length (drop next hs) ≡ length (asked_of ps)
+      → map Some (filled hs next (map f ps)) ≡ map there ps → map Some (drop next hs) ≡ map there (asked_of ps)
   given-stand [] hs next count same = ap (map Some) (none_left (drop next hs) count)
     where
       none_left : (ds : List Digest) → length ds ≡ 0 → ds ≡ []
@@ -131,16 +149,19 @@ module _ (f there : Place → Option Digest) (knows : (p : Place) (d : Digest) �
       none_left (d ∷ ds) e = absurd (omega (arith, e))
   given-stand (p ∷ ps) hs next count same = by (λ k. given-stand ps hs k) (f p) refl
     where
-      by : ((k : ℕ) → length (drop k hs) ≡ length (asked_of ps) → map Some (filled hs k (map f ps)) ≡ map there ps → map Some (drop k hs) ≡ map there (asked_of ps)) → (x : Option Digest) → f p ≡ x → map Some (drop next hs) ≡ map there (asked_of (p ∷ ps))
+      by : ((k : ℕ) → length (drop k hs) ≡ length (asked_of ps) → map Some (filled hs k (map f ps)) ≡ map there ps
+          → map Some (drop k hs) ≡ map there (asked_of ps)) → (x : Option Digest) → f p ≡ x → map Some (drop next hs) ≡ map there (asked_of (p ∷ ps))
       by later (Some d) e =
           let skip : asked_of (p ∷ ps) ≡ asked_of ps = rw e refl in
-          let both : Some d ∷ map Some (filled hs next (map f ps)) ≡ there p ∷ map there ps = sym (ap (λ x. map Some (filled hs next (x ∷ map f ps))) e) ∙ same in
+          let both : Some d ∷ map Some (filled hs next (map f ps)) ≡ there p ∷ map there ps =
+          sym (ap (λ x. map Some (filled hs next (x ∷ map f ps))) e) ∙ same in
           let tail : map Some (filled hs next (map f ps)) ≡ map there ps = cc in
           later next (count ∙ ap length skip) tail ∙ sym (ap (map there) skip)
       by later None e =
           let keep : asked_of (p ∷ ps) ≡ p ∷ asked_of ps = rw e refl in
           let less = one_less p ps hs next e count in
-          let both : Some (front hs next) ∷ map Some (filled hs (suc next) (map f ps)) ≡ there p ∷ map there ps = sym (ap (λ x. map Some (filled hs next (x ∷ map f ps))) e) ∙ same in
+          let both : Some (front hs next) ∷ map Some (filled hs (suc next) (map f ps)) ≡ there p ∷ map there ps =
+          sym (ap (λ x. map Some (filled hs next (x ∷ map f ps))) e) ∙ same in
           let head : Some (front hs next) ≡ there p = cc in
           let tail : map Some (filled hs (suc next) (map f ps)) ≡ map there ps = cc in
           ap (map Some) less.0
@@ -170,7 +191,8 @@ module _ (H : List ℕ → Digest) (text : Leaf → List ℕ) (hs : List Held) (
       by : (x : Option Tree) → tree_at es p.row p.off ≡ x → is_some (shown_by hs claim (leaf_number x)) ≡ is_live us claim (leaf_number x)
       by None e = refl
       by (Some (inner a b)) e = refl
-      by (Some (leaf i d)) e = is_some-if i (is_leaf claim (leaf_at i hs)) ∙ ap (is_leaf claim) (leaf-same i d (tree_at-leaves es p.row p.off (leaf i d) e))
+      by (Some (leaf i d)) e = is_some-if i (is_leaf claim (leaf_at i hs))
+          ∙ ap (is_leaf claim) (leaf-same i d (tree_at-leaves es p.row p.off (leaf i d) e))
 
   if-some : (i j : ℕ) (b : Bool) → (if b then Some j else None) ≡ Some i → Some j ≡ Some i
   if-some i j true e = e
@@ -200,13 +222,16 @@ module _ (H : List ℕ → Digest) (text : Leaf → List ℕ) (hs : List Held) (
   and-false true b e = e
   and-false false b e = refl
 
-  one-missing : (ts : List Place) (claims : List Leaf) (i : ℕ) → slice_get (shown_all es hs ts claims) i ≡ Some None → length ts ≡ length claims → all_stand H text us (map Some ts) claims ≡ false
+  one-missing : (ts : List Place) (claims : List Leaf) (i : ℕ) → slice_get (shown_all es hs ts claims) i ≡ Some None → length ts ≡ length claims
+      → all_stand H text us (map Some ts) claims ≡ false
   one-missing [] claims i e long = absurd (none-some None e)
   one-missing (p ∷ ts) [] i e long = absurd (none-some None e)
-  one-missing (p ∷ ts) (c ∷ claims) zero e long = ap (λ x. x && all_stand H text us (map Some ts) claims) (sym (shown-same p c) ∙ ap is_some (same_Some _ None e))
+  one-missing (p ∷ ts) (c ∷ claims) zero e long =
+      ap (λ x. x && all_stand H text us (map Some ts) claims) (sym (shown-same p c) ∙ ap is_some (same_Some _ None e))
   one-missing (p ∷ ts) (c ∷ claims) (suc i) e long = and-false (stands_for H text us (Some p) c) _ (one-missing ts claims i e (omega (arith, long)))
 
-  module _ (ext : List Outside) (m : Message) (t : Targeted) (count : length m.proof.spends ≡ length ext) (are : AreNamed (length us) m t) (scripts : List (List ℕ)) where
+  module _ (ext : List Outside) (m : Message) (t : Targeted) (count : length m.proof.spends ≡ length ext) (are : AreNamed (length us) m t)
+      (scripts : List (List ℕ)) where
     abbrev claims : List Leaf
     claims = claimed (points_of ext) (rests_of m.proof.spends)
 
@@ -226,14 +251,17 @@ module _ (H : List ℕ → Digest) (text : Leaf → List ℕ) (hs : List Held) (
     targets-are : targets (length us) m ≡ t.targets
     targets-are = ap somes are.places ∙ somes-map t.targets
 
-    right-is : is_right_message H text scripts us ext (read m) ≡ (all_stand H text us (map Some t.targets) claims && same_digests m.proof.hashes given)
+    right-is : is_right_message H text scripts us ext (read m)
+        ≡ (all_stand H text us (map Some t.targets) claims && same_digests m.proof.hashes given)
     right-is =
         ap₂ (λ (a b : Bool). a && b) (eq-eqb (length m.proof.spends) (length (points_of ext)) (count ∙ sym (length-map ext point_of)))
         (ap (λ xs. all_stand H text us xs claims && same_digests m.proof.hashes given) are.places)
 
     long : length t.targets ≡ length claims
     long =
-        sym (length-map t.targets Some) ∙ (ap length (sym are.places) ∙ (length-map _ _ ∙ (length-map m.proof.spends (λ s. s.target) ∙ (count ∙ sym (claims-long ext (rests_of m.proof.spends) (length-map m.proof.spends (λ s. s.rest) ∙ count))))))
+        sym (length-map t.targets Some) ∙ (ap length (sym are.places)
+        ∙ (length-map _ _ ∙ (length-map m.proof.spends (λ s. s.target)
+        ∙ (count ∙ sym (claims-long ext (rests_of m.proof.spends) (length-map m.proof.spends (λ s. s.rest) ∙ count))))))
 
     pub entry-missing : (i : ℕ) → slice_get shown i ≡ Some None → is_right_message H text scripts us ext (read m) ≡ false
     entry-missing i e = right-is ∙ ap (λ b. b && same_digests m.proof.hashes given) (one-missing t.targets claims i e long)
@@ -246,18 +274,22 @@ module _ (H : List ℕ → Digest) (text : Leaf → List ℕ) (hs : List Held) (
       knows p d e = known_is H text scripts us m.lean p.row p.off d e
 
       hashes-are : hashes ≡ filled m.proof.hashes 0 (map f (need t.leaves t.targets))
-      hashes-are = full.hashes_are H ∙ sym (filled_is (H []) f (need t.leaves t.targets) m.proof.hashes 0 (distinct_from_ascending (need t.leaves t.targets) (need_ascending t.leaves t.targets)) full.count)
+      hashes-are = full.hashes_are H ∙ sym (filled_is (H []) f (need t.leaves t.targets) m.proof.hashes 0
+          (distinct_from_ascending (need t.leaves t.targets) (need_ascending t.leaves t.targets)) full.count)
 
       asked-are : asked t.leaves t.targets known ≡ asked (length us) (targets (length us) m) known
       asked-are = ap₂ (λ n ts. asked n ts known) are.leaves (sym targets-are)
 
       all-given : map Some hashes ≡ map stands (need t.leaves t.targets) → map Some m.proof.hashes ≡ given
-      all-given e = given-stand f stands knows (need t.leaves t.targets) m.proof.hashes 0 full.count (sym (ap (map Some) hashes-are) ∙ e) ∙ ap (map stands) asked-are
+      all-given e = given-stand f stands knows (need t.leaves t.targets) m.proof.hashes 0 full.count (sym (ap (map Some) hashes-are) ∙ e)
+          ∙ ap (map stands) asked-are
 
       all-filled : map Some m.proof.hashes ≡ given → map Some hashes ≡ map stands (need t.leaves t.targets)
-      all-filled e = ap (map Some) hashes-are ∙ filled-stand f stands knows (need t.leaves t.targets) m.proof.hashes 0 full.count (e ∙ sym (ap (map stands) asked-are))
+      all-filled e = ap (map Some) hashes-are ∙ filled-stand f stands knows (need t.leaves t.targets) m.proof.hashes 0 full.count
+          (e ∙ sym (ap (map stands) asked-are))
 
-      pub is-right : (ns : List ℕ) → map Some ns ≡ shown → map Some hashes ≡ map stands (need t.leaves t.targets) → (is_right_message H text scripts us ext (read m) ≡ true) × (ns ≡ judging.entries_shown H text us (read m))
+      pub is-right : (ns : List ℕ) → map Some ns ≡ shown → map Some hashes ≡ map stands (need t.leaves t.targets)
+          → (is_right_message H text scripts us ext (read m) ≡ true) × (ns ≡ judging.entries_shown H text us (read m))
       is-right ns e there =
           let all = all-shown t.targets claims ns long e in (
             right-is ∙ and_from _ _ all.0 (subst (λ xs. same_digests m.proof.hashes xs ≡ true) (all-given there) (digests_back m.proof.hashes)),
@@ -273,7 +305,8 @@ module _ (H : List ℕ → Digest) (text : Leaf → List ℕ) (hs : List Held) (
 
 -- ---- as the calls answer it
 
-module _ (H : List ℕ → Digest) (text : Leaf → List ℕ) (es' : List (Option Digest)) (hs : List Held) (us : History) (scripts : List (List ℕ)) (h : IsHistory H text es' hs us) (ext : List Outside) (m : Message) (t : Targeted)
+module _ (H : List ℕ → Digest) (text : Leaf → List ℕ) (es' : List (Option Digest)) (hs : List Held) (us : History) (scripts : List (List ℕ))
+    (h : IsHistory H text es' hs us) (ext : List Outside) (m : Message) (t : Targeted)
     (count : length m.proof.spends ≡ length ext) (are : AreNamed (length es') m t) (places : List Place) (at : places ≡ t.targets) where
   entries-long : length es' ≡ length us
   entries-long = ap length h.entries_are ∙ length-map us (option_map (λ r. H (text r)))
@@ -281,22 +314,27 @@ module _ (H : List ℕ → Digest) (text : Leaf → List ℕ) (es' : List (Optio
   named-so : AreNamed (length us) m t
   named-so = subst (λ n. AreNamed n m t) entries-long are
 
-  shown-so : shown_all es' hs places (claimed (points_of ext) (rests_of m.proof.spends)) ≡ shown_all (entries H text us) hs t.targets (claimed (points_of ext) (rests_of m.proof.spends))
+  shown-so : shown_all es' hs places (claimed (points_of ext) (rests_of m.proof.spends))
+      ≡ shown_all (entries H text us) hs t.targets (claimed (points_of ext) (rests_of m.proof.spends))
   shown-so = ap₂ (λ x ps. shown_all x hs ps (claimed (points_of ext) (rests_of m.proof.spends))) h.entries_are at
 
-  pub none_shown : (x : Option (Vec ℕ)) → x ≡ None → AreShown (shown_all es' hs places (claimed (points_of ext) (rests_of m.proof.spends))) x → is_right_message H text scripts us ext (read m) ≡ false
+  pub none_shown : (x : Option (Vec ℕ)) → x ≡ None → AreShown (shown_all es' hs places (claimed (points_of ext) (rests_of m.proof.spends))) x
+      → is_right_message H text scripts us ext (read m) ≡ false
   none_shown x e a =
       let b = subst (AreShown (shown_all es' hs places (claimed (points_of ext) (rests_of m.proof.spends)))) e a in
       entry-missing H text hs us h.rise h.index ext m t count named-so scripts b.0 (ap (λ xs. slice_get xs b.0) (sym shown-so) ∙ b.1)
 
-  module _ (hashes : List Digest) (full : AreHashes m t (known_at H text scripts us) hashes) (needed : List Place) (need_is : needed ≡ need t.leaves t.targets) where
+  module _ (hashes : List Digest) (full : AreHashes m t (known_at H text scripts us) hashes) (needed : List Place)
+      (need_is : needed ≡ need t.leaves t.targets) where
     there-so : map (λ p. digest_at H es' p.row p.off) needed ≡ map (λ p. digest_at H (entries H text us) p.row p.off) (need t.leaves t.targets)
     there-so = ap₂ (λ x ps. map (λ p. digest_at H x p.row p.off) ps) h.entries_are need_is
 
     pub hash_wrong : (map Some hashes ≡ map (λ p. digest_at H es' p.row p.off) needed → ⊥) → is_right_message H text scripts us ext (read m) ≡ false
     hash_wrong differ = hash-missing H text hs us h.rise h.index ext m t count named-so scripts hashes full (λ e. differ (e ∙ sym there-so))
 
-    pub all_right : (x : Option (Vec ℕ)) (numbers : Vec ℕ) → x ≡ Some numbers → AreShown (shown_all es' hs places (claimed (points_of ext) (rests_of m.proof.spends))) x → map Some hashes ≡ map (λ p. digest_at H es' p.row p.off) needed →
+    pub all_right : (x : Option (Vec ℕ)) (numbers : Vec ℕ) → x ≡ Some numbers
+        → AreShown (shown_all es' hs places (claimed (points_of ext) (rests_of m.proof.spends))) x
+        → map Some hashes ≡ map (λ p. digest_at H es' p.row p.off) needed →
         IsShown H text scripts us ext m (Some numbers)
     all_right x numbers e a stand =
         let b = subst (AreShown (shown_all es' hs places (claimed (points_of ext) (rests_of m.proof.spends)))) e a in

@@ -15,7 +15,8 @@ pub all_mapped : {X : Type 0} (P Q : X → Type 0) → ((x : X) → P x → Q x)
 all_mapped P Q f [] a = tt
 all_mapped P Q f (x ∷ xs) a = (f x a.0, all_mapped P Q f xs a.1)
 
-pub all_both : {X : Type 0} (P Q R : X → Type 0) → ((x : X) → P x → Q x → R x) → (xs : List X) → AllByRecursion P xs → AllByRecursion Q xs → AllByRecursion R xs
+pub all_both : {X : Type 0} (P Q R : X → Type 0) → ((x : X) → P x → Q x → R x) → (xs : List X) → AllByRecursion P xs → AllByRecursion Q xs
+    → AllByRecursion R xs
 all_both P Q R f [] a b = tt
 all_both P Q R f (x ∷ xs) a b = (f x a.0 b.0, all_both P Q R f xs a.1 b.1)
 
@@ -40,23 +41,28 @@ kept : (n : ℕ) (live : Bool) (h : Held) → (h.number == n) ≡ false → with
 kept n live h t = rw t refl
 
 pub same_number : (n : ℕ) (live : Bool) (h : Held) → (with_live_at n live h).number ≡ h.number
-same_number n live h = ⊎_elim (λ t. ap (λ (x : Held). x.number) (changed n live h t)) (λ t. ap (λ (x : Held). x.number) (kept n live h t)) (cases_Bool (h.number == n))
+same_number n live h = ⊎_elim (λ t. ap (λ (x : Held). x.number) (changed n live h t)) (λ t. ap (λ (x : Held). x.number) (kept n live h t))
+    (cases_Bool (h.number == n))
 
 pub same_leaf : (n : ℕ) (live : Bool) (h : Held) → (with_live_at n live h).leaf ≡ h.leaf
-same_leaf n live h = ⊎_elim (λ t. ap (λ (x : Held). x.leaf) (changed n live h t)) (λ t. ap (λ (x : Held). x.leaf) (kept n live h t)) (cases_Bool (h.number == n))
+same_leaf n live h = ⊎_elim (λ t. ap (λ (x : Held). x.leaf) (changed n live h t)) (λ t. ap (λ (x : Held). x.leaf) (kept n live h t))
+    (cases_Bool (h.number == n))
 
 pub leaf-with_live : (n q : ℕ) (live : Bool) (hs : List Held) → leaf_at q (with_live n live hs) ≡ leaf_at q hs
 leaf-with_live n q live [] = refl
 leaf-with_live n q live (h ∷ hs) =
-    ap (λ (m : ℕ). option_map (λ (x : Held). x.leaf) (if m == q then Some (with_live_at n live h) else held_at q (with_live n live hs))) (same_number n live h)
+    ap (λ (m : ℕ). option_map (λ (x : Held). x.leaf) (if m == q then Some (with_live_at n live h) else held_at q (with_live n live hs)))
+    (same_number n live h)
     ∙ by_case (h.number == q) (leaf-with_live n q live hs)
   where
     by_case : (b : Bool) → leaf_at q (with_live n live hs) ≡ leaf_at q hs →
-        option_map (λ (x : Held). x.leaf) (if b then Some (with_live_at n live h) else held_at q (with_live n live hs)) ≡ option_map (λ (x : Held). x.leaf) (if b then Some h else held_at q hs)
+        option_map (λ (x : Held). x.leaf) (if b then Some (with_live_at n live h) else held_at q (with_live n live hs))
+        ≡ option_map (λ (x : Held). x.leaf) (if b then Some h else held_at q hs)
     by_case true r = ap Some (same_leaf n live h)
     by_case false r = r
 
-any-with_other : (f : Bool → Bool) (n q : ℕ) (live : Bool) (hs : List Held) → q ≢ n → list_any (λ h. h.number == q && f h.live) (with_live n live hs) ≡ list_any (λ h. h.number == q && f h.live) hs
+any-with_other : (f : Bool → Bool) (n q : ℕ) (live : Bool) (hs : List Held) → q ≢ n → list_any (λ h. h.number == q && f h.live) (with_live n live hs)
+    ≡ list_any (λ h. h.number == q && f h.live) hs
 any-with_other f n q live [] o = refl
 any-with_other f n q live (x ∷ hs) o =
     ⊎_elim
@@ -78,7 +84,8 @@ spent-with_other n q live hs o = any-with_other not n q live hs o
 
 -- ---- the order
 
-all-with_live : (k n : ℕ) (live : Bool) (hs : List Held) → AllByRecursion (λ other. k < other.number) hs → AllByRecursion (λ other. k < other.number) (with_live n live hs)
+all-with_live : (k n : ℕ) (live : Bool) (hs : List Held) → AllByRecursion (λ other. k < other.number) hs
+    → AllByRecursion (λ other. k < other.number) (with_live n live hs)
 all-with_live k n live [] a = tt
 all-with_live k n live (h ∷ hs) a = (let e = same_number n live h in let b = a.0 in omega (arith, e, b), all-with_live k n live hs a.1)
 
@@ -86,7 +93,8 @@ pub rise-with_live : (n : ℕ) (live : Bool) (hs : List Held) → NumbersRise hs
 rise-with_live n live [] r = tt
 rise-with_live n live (h ∷ hs) r =
     let later = all-with_live h.number n live hs r.0 in (
-      all_mapped (λ (x : Held). h.number < x.number) (λ (x : Held). (with_live_at n live h).number < x.number) (λ x lt. let e = same_number n live h in omega (arith, e, lt)) (with_live n live hs) later,
+      all_mapped (λ (x : Held). h.number < x.number) (λ (x : Held). (with_live_at n live h).number < x.number)
+          (λ x lt. let e = same_number n live h in omega (arith, e, lt)) (with_live n live hs) later,
       rise-with_live n live hs r.1,
     )
 
@@ -108,7 +116,10 @@ numbered-rise n (x ∷ new) = (numbered-above n (suc n) new (omega arith), numbe
 
 pub rise-numbered : (n : ℕ) (new : List Leaf) (hs : List Held) → NumbersRise hs → IsAbove n hs → NumbersRise (hs ++ numbered n new)
 rise-numbered n new [] r a = numbered-rise n new
-rise-numbered n new (h ∷ hs) r a = (all_append (λ (x : Held). h.number < x.number) hs (numbered n new) r.0 (numbered-above h.number n new a.0), rise-numbered n new hs r.1 a.1)
+rise-numbered n new (h ∷ hs) r a = (
+  all_append (λ (x : Held). h.number < x.number) hs (numbered n new) r.0 (numbered-above h.number n new a.0),
+  rise-numbered n new hs r.1 a.1,
+)
 
 pub rise-spent : (ns : List ℕ) (hs : List Held) → NumbersRise hs → NumbersRise (spent_in ns hs)
 rise-spent [] hs r = r
@@ -143,7 +154,9 @@ pub leaf-append : (q : ℕ) (leaf : Leaf) (hs ks : List Held) → leaf_at q hs �
 leaf-append q leaf [] ks e = absurd (none-some leaf e)
 leaf-append q leaf (h ∷ hs) ks e = by_case (h.number == q) (leaf-append q leaf hs ks) e
   where
-    by_case : (b : Bool) → (leaf_at q hs ≡ Some leaf → leaf_at q (hs ++ ks) ≡ Some leaf) → option_map (λ (x : Held). x.leaf) (if b then Some h else held_at q hs) ≡ Some leaf → option_map (λ (x : Held). x.leaf) (if b then Some h else held_at q (hs ++ ks)) ≡ Some leaf
+    by_case : (b : Bool) → (leaf_at q hs ≡ Some leaf → leaf_at q (hs ++ ks) ≡ Some leaf)
+        → option_map (λ (x : Held). x.leaf) (if b then Some h else held_at q hs) ≡ Some leaf
+        → option_map (λ (x : Held). x.leaf) (if b then Some h else held_at q (hs ++ ks)) ≡ Some leaf
     by_case true r f = f
     by_case false r f = r f
 
@@ -161,9 +174,11 @@ leaf-cut n q (h ∷ hs) lt =
     ⊎_elim
     (λ below. ap (λ b. leaf_at q (cond b (h ∷ cut_in n hs) (cut_in n hs))) below ∙ by_case (h.number == q) (leaf-cut n q hs lt))
     (λ above. ap (λ b. leaf_at q (cond b (h ∷ cut_in n hs) (cut_in n hs))) above
-    ∙ (leaf-cut n q hs lt ∙ sym (ap (λ b. option_map (λ (x : Held). x.leaf) (if b then Some h else held_at q hs)) (ne_eqb h.number q (λ e. let g = ltb-false h.number n above in omega (arith, g, e, lt))))))
+    ∙ (leaf-cut n q hs lt ∙ sym (ap (λ b. option_map (λ (x : Held). x.leaf) (if b then Some h else held_at q hs))
+    (ne_eqb h.number q (λ e. let g = ltb-false h.number n above in omega (arith, g, e, lt))))))
     (cases_Bool (nat_lt h.number n))
   where
-    by_case : (b : Bool) → leaf_at q (cut_in n hs) ≡ leaf_at q hs → option_map (λ (x : Held). x.leaf) (if b then Some h else held_at q (cut_in n hs)) ≡ option_map (λ (x : Held). x.leaf) (if b then Some h else held_at q hs)
+    by_case : (b : Bool) → leaf_at q (cut_in n hs) ≡ leaf_at q hs → option_map (λ (x : Held). x.leaf) (if b then Some h else held_at q (cut_in n hs))
+        ≡ option_map (λ (x : Held). x.leaf) (if b then Some h else held_at q hs)
     by_case true r = refl
     by_case false r = r

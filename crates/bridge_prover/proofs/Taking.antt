@@ -34,7 +34,8 @@ use Rattle.node_rules.specs.Accepting.{View, proof_fault}
 use Rattle.node_rules.specs.Judged.{AreHashes, MessageJudged}
 use Rattle.node_rules.specs.Known.{view_of}
 use Rattle.node_rules.specs.Reading.{Handed, nothing, unread, read, handed_in}
-use Rattle.node_rules.specs.Judging.{Evidence, message_steps, view_step, compact, full, refusal, is_accepted, is_right_message, entries_shown, found_by, is_forged}
+use Rattle.node_rules.specs.Judging.{Evidence, message_steps, view_step, compact, full, refusal, is_accepted, is_right_message, entries_shown}
+use Rattle.node_rules.specs.Judging.{found_by, is_forged}
 use Rattle.node_rules.specs.Machine.{SpendEach}
 use Rattle.node_rules.proofs.Judging.{view_judges}
 use Rattle.node_rules.proofs.Value.{middle, once, full_pays}
@@ -93,18 +94,25 @@ module _ (H : List ℕ → Digest) (text : Leaf → List ℕ) (s : BridgeState) 
 
     -- what is right is not forged
     pub honest : is_right_message H text scripts us ext handed ≡ true → forged ≡ false
-    honest right = and-false (is_none (first_of (before ++ message_steps ext handed))) _ (and-false (is_accepted H text (view_of H text scripts us) ext handed) _ (ap not right))
+    honest right = and-false (is_none (first_of (before ++ message_steps ext handed))) _
+        (and-false (is_accepted H text (view_of H text scripts us) ext handed) _ (ap not right))
 
-    by_all_passes : forged ≡ false → first_of before ≡ None → first_of by_view.steps ≡ None → first_of on_money ≡ None → refusal s.rules s.chain b by_all ≡ None
-    by_all_passes f shape steps money = view_judges H text scripts us s.rules s.chain b handed f ∙ none-both before (by_view.steps ++ on_money) shape (none-both by_view.steps on_money steps money)
+    by_all_passes : forged ≡ false → first_of before ≡ None → first_of by_view.steps ≡ None → first_of on_money ≡ None
+        → refusal s.rules s.chain b by_all ≡ None
+    by_all_passes f shape steps money = view_judges H text scripts us s.rules s.chain b handed f
+        ∙ none-both before (by_view.steps ++ on_money) shape (none-both by_view.steps on_money steps money)
 
-    by_money : (why : Refusal) → forged ≡ false → first_of before ≡ None → first_of by_view.steps ≡ None → first_of on_money ≡ Some why → refusal s.rules s.chain b by_all ≡ Some why
+    by_money : (why : Refusal) → forged ≡ false → first_of before ≡ None → first_of by_view.steps ≡ None → first_of on_money ≡ Some why
+        → refusal s.rules s.chain b by_all ≡ Some why
     by_money why f shape steps money =
-        view_judges H text scripts us s.rules s.chain b handed f ∙ first-behind before (by_view.steps ++ on_money) (Refused why) shape (first-behind by_view.steps on_money (Refused why) steps money)
+        view_judges H text scripts us s.rules s.chain b handed f ∙ first-behind before (by_view.steps ++ on_money) (Refused why) shape
+        (first-behind by_view.steps on_money (Refused why) steps money)
 
-    by_step : (why : Refusal) → forged ≡ false → first_of before ≡ None → first_of by_view.steps ≡ Some why → refusal s.rules s.chain b by_all ≡ Some why
+    by_step : (why : Refusal) → forged ≡ false → first_of before ≡ None → first_of by_view.steps ≡ Some why
+        → refusal s.rules s.chain b by_all ≡ Some why
     by_step why f shape steps =
-        view_judges H text scripts us s.rules s.chain b handed f ∙ first-behind before (by_view.steps ++ on_money) (Refused why) shape (first-in by_view.steps on_money (Refused why) steps)
+        view_judges H text scripts us s.rules s.chain b handed f
+        ∙ first-behind before (by_view.steps ++ on_money) (Refused why) shape (first-in by_view.steps on_money (Refused why) steps)
 
     by_shape : (why : Refusal) → forged ≡ false → first_of before ≡ Some why → refusal s.rules s.chain b by_all ≡ Some why
     by_shape why f shape = view_judges H text scripts us s.rules s.chain b handed f ∙ first-in before (by_view.steps ++ on_money) (Refused why) shape
@@ -123,11 +131,16 @@ mapped-none : (x : Option ProofRefusal) → option_map Why.Proof x ≡ None → 
 mapped-none None e = refl
 mapped-none (Some f) e = absurd (none-some _ (sym e))
 
-module _ (H : List ℕ → Digest) (text : Leaf → List ℕ) (s : BridgeState) (b : Block) (us : History) (shape : first_of (block_steps s.rules.net s.rules.limits s.chain b) ≡ None) where
+module _ (H : List ℕ → Digest) (text : Leaf → List ℕ) (s : BridgeState) (b : Block) (us : History)
+    (shape : first_of (block_steps s.rules.net s.rules.limits s.chain b) ≡ None) where
   -- nor is one whose message the roots do not accept
-  pub refused_honest : (handed : Handed) (why : Refusal) → first_of (compact H text (view_of H text (watched_by s) us) (external b s.chain.blocks) handed).steps ≡ Some why → is_forged H text (watched_by s) s.rules s.chain us b handed ≡ false
-  refused_honest nothing why e = and-false (is_none (first_of (before H text s b nothing ++ message_steps (external b s.chain.blocks) nothing))) _ refl
-  refused_honest (unread f) why e = and-false (is_none (first_of (before H text s b (unread f) ++ message_steps (external b s.chain.blocks) (unread f)))) _ refl
+  pub refused_honest : (handed : Handed) (why : Refusal) → first_of
+      (compact H text (view_of H text (watched_by s) us) (external b s.chain.blocks) handed).steps ≡ Some why
+      → is_forged H text (watched_by s) s.rules s.chain us b handed ≡ false
+  refused_honest nothing why e = and-false (is_none (first_of (before H text s b nothing ++ message_steps (external b s.chain.blocks) nothing))) _
+      refl
+  refused_honest (unread f) why e = and-false
+      (is_none (first_of (before H text s b (unread f) ++ message_steps (external b s.chain.blocks) (unread f)))) _ refl
   refused_honest (read m) why e = by (proof_fault H text (view_of H text (watched_by s) us) (points_of (external b s.chain.blocks)) m) refl e
     where
       ahead : List (Option Refusal)
@@ -137,24 +150,30 @@ module _ (H : List ℕ → Digest) (text : Leaf → List ℕ) (s : BridgeState) 
       right = is_right_message H text (watched_by s) us (external b s.chain.blocks) (read m)
 
       by : (fault : Option ProofRefusal) → proof_fault H text (view_of H text (watched_by s) us) (points_of (external b s.chain.blocks)) m ≡ fault →
-          first_of (message_steps (external b s.chain.blocks) (read m) ++ (option_map Why.Proof fault ∷ [])) ≡ Some why → (is_none (first_of ahead) && (is_none fault && not right)) ≡ false
+          first_of (message_steps (external b s.chain.blocks) (read m) ++ (option_map Why.Proof fault ∷ [])) ≡ Some why
+          → (is_none (first_of ahead) && (is_none fault && not right)) ≡ false
       by None is e =
-          let first : first_of (message_steps (external b s.chain.blocks) (read m)) ≡ Some why = option_or-none _ why (sym (first_of-append (message_steps (external b s.chain.blocks) (read m)) (None ∷ [])) ∙ e) in
-          ap (λ x. is_none x && (true && not right)) (first-behind (block_steps s.rules.net s.rules.limits s.chain b) (message_steps (external b s.chain.blocks) (read m)) (Refused why) shape first)
+          let first : first_of (message_steps (external b s.chain.blocks) (read m)) ≡ Some why =
+          option_or-none _ why (sym (first_of-append (message_steps (external b s.chain.blocks) (read m)) (None ∷ [])) ∙ e) in
+          ap (λ x. is_none x && (true && not right)) (first-behind (block_steps s.rules.net s.rules.limits s.chain b)
+          (message_steps (external b s.chain.blocks) (read m)) (Refused why) shape first)
       by (Some fault) is e = and-false (is_none (first_of ahead)) _ refl
 
   -- one that the roots accept and that is not right is
-  pub wrong_forged : (handed : Handed) → IsWrongOf H text (watched_by s) us (external b s.chain.blocks) handed → is_forged H text (watched_by s) s.rules s.chain us b handed ≡ true
+  pub wrong_forged : (handed : Handed) → IsWrongOf H text (watched_by s) us (external b s.chain.blocks) handed
+      → is_forged H text (watched_by s) s.rules s.chain us b handed ≡ true
   wrong_forged nothing w = absurd (false≢true (sym w.wrong))
   wrong_forged (unread why) w = absurd (false≢true (sym w.wrong))
   wrong_forged (read m) w =
       let ms = message_steps (external b s.chain.blocks) (read m) in
       let parts = append_passes ms (view_step H text (view_of H text (watched_by s) us) (external b s.chain.blocks) (read m) ∷ []) w.passes in
-      let fault : proof_fault H text (view_of H text (watched_by s) us) (points_of (external b s.chain.blocks)) m ≡ None = mapped-none _ (each_passes (view_step H text (view_of H text (watched_by s) us) (external b s.chain.blocks) (read m) ∷ []) 0 parts.1) in
+      let fault : proof_fault H text (view_of H text (watched_by s) us) (points_of (external b s.chain.blocks)) m ≡ None =
+      mapped-none _ (each_passes (view_step H text (view_of H text (watched_by s) us) (external b s.chain.blocks) (read m) ∷ []) 0 parts.1) in
       let first = none-both (block_steps s.rules.net s.rules.limits s.chain b) ms shape parts.0 in
       forged-so _ _ _ first fault w.wrong
     where
-      forged-so : (x : Option Refusal) (fault : Option ProofRefusal) (right : Bool) → x ≡ None → fault ≡ None → right ≡ false → (is_none x && (is_none fault && not right)) ≡ true
+      forged-so : (x : Option Refusal) (fault : Option ProofRefusal) (right : Bool) → x ≡ None → fault ≡ None → right ≡ false
+          → (is_none x && (is_none fault && not right)) ≡ true
       forged-so x fault right e f g = rw (e, f, g) refl
 
 module _ (H : List ℕ → Digest) (text : Leaf → List ℕ) (s : BridgeState) (b : Block) (handed : Handed) where
@@ -183,7 +202,8 @@ module _ (H : List ℕ → Digest) (text : Leaf → List ℕ) (s : BridgeState) 
     pub caught : (t : BridgeState) → AreRight H text s spends.external handed None → t ≡ s → IsCaught H text s b handed t
     caught t a same =
         let us = history_of s in
-        let wrong : IsWrongOf H text (watched_by s) us (external b s.chain.blocks) handed = subst (λ ext. IsWrongOf H text (watched_by s) us ext handed) same_external a in
+        let wrong : IsWrongOf H text (watched_by s) us (external b s.chain.blocks) handed =
+        subst (λ ext. IsWrongOf H text (watched_by s) us ext handed) same_external a in
         record { forged = wrong_forged H text s b us shaped.passes handed wrong; next = same }
 
     -- and one that is right
@@ -205,7 +225,11 @@ module _ (H : List ℕ → Digest) (text : Leaf → List ℕ) (s : BridgeState) 
       not_forged = honest H text s b handed (history_of s) right_so.right
 
       pub unpaid : (why : Refusal) → first_of (money_steps spends shown.found.items) ≡ Some why → IsNotTaken H text s b handed (Refused why)
-      unpaid why e = (not_forged, by_money H text s b handed (history_of s) why not_forged shaped.passes right_so.passes (ap first_of (sym same_money) ∙ e))
+      unpaid why e = (
+        not_forged,
+        by_money H text s b handed (history_of s) why not_forged shaped.passes right_so.passes
+            (ap first_of (sym same_money) ∙ e),
+      )
 
       module _ (paid : first_of (money_steps spends shown.found.items) ≡ None) where
         accepted : refusal s.rules s.chain b (by_all H text s b handed (history_of s)) ≡ None
@@ -215,26 +239,33 @@ module _ (H : List ℕ → Digest) (text : Leaf → List ℕ) (s : BridgeState) 
         shown_ready is fits hash =
             let us = is.levels.now.history in
             let same : history_of s ≡ us = is_history H text s us (newest_history H text is.levels s is is.stands) in
-            let passes : refusal s.rules s.chain b (by_all H text s b handed us) ≡ None = subst (λ h. refusal s.rules s.chain b (by_all H text s b handed h) ≡ None) same accepted in
+            let passes : refusal s.rules s.chain b (by_all H text s b handed us) ≡ None =
+            subst (λ h. refusal s.rules s.chain b (by_all H text s b handed h) ≡ None) same accepted in
             let e = by_all H text s b handed us in
-            let each = once us s.rules s.chain b e passes (full_pays H text us (watched_by s) (external b s.chain.blocks) handed (middle us s.rules s.chain b e passes).1) in
+            let each = once us s.rules s.chain b e passes
+            (full_pays H text us (watched_by s) (external b s.chain.blocks) handed (middle us s.rules s.chain b e passes).1) in
             let few = external_few s.rules.net s.rules.limits s.chain b spends fits shaped in
             let long = each_long us (external b s.chain.blocks) e.numbers each.0 in
             let many = ap length same_external in
             subst (λ ns. IsReady H text s hash ns spends.new) (sym (right_so.numbers ∙ ap (λ h. entries_shown H text h handed) same))
             (subst (IsReady H text s hash e.numbers) (sym (ap (λ (x : BlockSpends). x.new) shaped.spends))
-            (can_take H text s is e.numbers (new_records b s.chain.blocks) (each_live us (external b s.chain.blocks) e.numbers each.0) each.1 (room s.rules s.chain b e passes) hash (omega (arith, few, long, many))))
+            (can_take H text s is e.numbers (new_records b s.chain.blocks) (each_live us (external b s.chain.blocks) e.numbers each.0) each.1
+            (room s.rules s.chain b e passes) hash (omega (arith, few, long, many))))
 
-        pub gone : (hash : Digest) (t : BridgeState) → hash ≡ block_hash_of b → t ≡ bridge_with H text s hash shown.numbers.items spends.new → IsGone H text s b handed t
+        pub gone : (hash : Digest) (t : BridgeState) → hash ≡ block_hash_of b → t ≡ bridge_with H text s hash shown.numbers.items spends.new
+            → IsGone H text s b handed t
         gone hash t at next =
             record {
               honest = not_forged;
               passes = accepted;
-              next = next ∙ (ap₂ (λ h ns. bridge_with H text s h ns spends.new) at right_so.numbers ∙ ap (bridge_with H text s (block_hash_of b) (entries_shown H text (history_of s) handed)) (ap (λ (x : BlockSpends). x.new) shaped.spends));
+              next = next ∙ (ap₂ (λ h ns. bridge_with H text s h ns spends.new) at right_so.numbers
+                  ∙ ap (bridge_with H text s (block_hash_of b) (entries_shown H text (history_of s) handed))
+                  (ap (λ (x : BlockSpends). x.new) shaped.spends));
             }
 
 -- what holds at a fault
-pub err_weaker : {T : Type 0} (P Q : RuleFault → Type 0) (result : Result T RuleFault) → ((fault : RuleFault) → P fault → Q fault) → IfErr result P → IfErr result Q
+pub err_weaker : {T : Type 0} (P Q : RuleFault → Type 0) (result : Result T RuleFault) → ((fault : RuleFault) → P fault → Q fault) → IfErr result P
+    → IfErr result Q
 err_weaker P Q (Ok x) f h = tt
 err_weaker P Q (Err e) f h = f e h
 
@@ -242,12 +273,14 @@ err_weaker P Q (Err e) f h = f e h
 
 module _ (H : List ℕ → Digest) (text : Leaf → List ℕ) (v : View) (ext : List Outside) where
   -- what was handed in is refused
-  pub unread_first : (bytes : Option (List ℕ)) (fault : RuleFault) → MessageJudged ext bytes (Err fault) → IsFirst (first_of (compact H text v ext (handed_in bytes)).steps) fault
+  pub unread_first : (bytes : Option (List ℕ)) (fault : RuleFault) → MessageJudged ext bytes (Err fault)
+      → IsFirst (first_of (compact H text v ext (handed_in bytes)).steps) fault
   unread_first bytes (Refused why) e = first-in (message_steps ext (handed_in bytes)) (view_step H text v ext (handed_in bytes) ∷ []) (Refused why) e
   unread_first bytes NoMemory e = tt
 
   -- or the proof of a message
-  pub proof_first : (handed : Handed) (m : Message) (fault : RuleFault) → handed ≡ read m → first_of (message_steps ext handed) ≡ None → IsFirst (option_map Why.Proof (proof_fault H text v (points_of ext) m)) fault → IsFirst (first_of (compact H text v ext handed).steps) fault
+  pub proof_first : (handed : Handed) (m : Message) (fault : RuleFault) → handed ≡ read m → first_of (message_steps ext handed) ≡ None
+      → IsFirst (option_map Why.Proof (proof_fault H text v (points_of ext) m)) fault → IsFirst (first_of (compact H text v ext handed).steps) fault
   proof_first handed m NoMemory is passes e = tt
   proof_first handed m (Refused why) is passes e =
       first-behind (message_steps ext handed) (view_step H text v ext handed ∷ []) (Refused why) passes
@@ -257,18 +290,31 @@ module _ (H : List ℕ → Digest) (text : Leaf → List ℕ) (s : BridgeState) 
   abbrev seen : View
   seen = view_of H text (watched_by s) (history_of s)
 
-  read_right : (m : Message) (shown : Option Shown) → first_of (message_steps ext (read m)) ≡ None → IsAcceptedBy H text s ext m shown → AreRight H text s ext (read m) shown
-  read_right m None passes a = record { passes = none-both (message_steps ext (read m)) (view_step H text seen ext (read m) ∷ []) passes (ap (λ x. option_or (option_map Why.Proof x) None) a.0); wrong = a.1 }
+  read_right : (m : Message) (shown : Option Shown) → first_of (message_steps ext (read m)) ≡ None → IsAcceptedBy H text s ext m shown
+      → AreRight H text s ext (read m) shown
+  read_right m None passes a = record {
+    passes = none-both (message_steps ext (read m)) (view_step H text seen ext (read m) ∷ []) passes
+        (ap (λ x. option_or (option_map Why.Proof x) None) a.0);
+    wrong = a.1;
+  }
   read_right m (Some shown) passes a =
-      record { passes = none-both (message_steps ext (read m)) (view_step H text seen ext (read m) ∷ []) passes (ap (λ x. option_or (option_map Why.Proof x) None) a.passes); right = a.right; numbers = a.numbers; found = a.found }
+      record {
+        passes = none-both (message_steps ext (read m)) (view_step H text seen ext (read m) ∷ []) passes
+            (ap (λ x. option_or (option_map Why.Proof x) None) a.passes);
+        right = a.right;
+        numbers = a.numbers;
+        found = a.found;
+      }
 
   -- a message that was read
-  pub message_right : (handed : Handed) (m : Message) (shown : Option Shown) → handed ≡ read m → first_of (message_steps ext handed) ≡ None → IsAcceptedBy H text s ext m shown → AreRight H text s ext handed shown
+  pub message_right : (handed : Handed) (m : Message) (shown : Option Shown) → handed ≡ read m → first_of (message_steps ext handed) ≡ None
+      → IsAcceptedBy H text s ext m shown → AreRight H text s ext handed shown
   message_right handed m shown is passes a =
       subst (λ h. AreRight H text s ext h shown) (sym is) (read_right m shown (subst (λ h. first_of (message_steps ext h) ≡ None) is passes) a)
 
   -- and nothing at all
-  pub nothing_right : (handed : Handed) (shown : Shown) → handed ≡ nothing → first_of (message_steps ext handed) ≡ None → shown.numbers.items ≡ [] → shown.found.items ≡ [] → AreRight H text s ext handed (Some shown)
+  pub nothing_right : (handed : Handed) (shown : Shown) → handed ≡ nothing → first_of (message_steps ext handed) ≡ None → shown.numbers.items ≡ []
+      → shown.found.items ≡ [] → AreRight H text s ext handed (Some shown)
   nothing_right handed shown is passes numbers found =
       subst (λ h. IsRightOf H text (watched_by s) (history_of s) ext h shown) (sym is)
       (let p : first_of (message_steps ext nothing) ≡ None = subst (λ h. first_of (message_steps ext h) ≡ None) is passes in
@@ -276,14 +322,16 @@ module _ (H : List ℕ → Digest) (text : Leaf → List ℕ) (s : BridgeState) 
 
 -- ---- a message, by forest and index
 
-module _ (H : List ℕ → Digest) (text : Leaf → List ℕ) (s : BridgeState) (is : IsBridge H text s) (ext : List Outside) (m : Message) (known : List (Place × Digest)) (are : AreKnown H text (watched_by s) (history_of s) known) where
+module _ (H : List ℕ → Digest) (text : Leaf → List ℕ) (s : BridgeState) (is : IsBridge H text s) (ext : List Outside) (m : Message)
+    (known : List (Place × Digest)) (are : AreKnown H text (watched_by s) (history_of s) known) where
   here : IsHistory H text s.entries s.held (history_of s)
   here = own_history H text s is
 
   fault-same : fault_in H text s.entries (look known) ext m ≡ fault_for H text s ext m
   fault-same = fault_same H text (watched_by s) s.entries (history_of s) known ext m here.entries_are are
 
-  pub refused_for : (fault : RuleFault) → IsFirst (option_map Why.Proof (fault_in H text s.entries (look known) ext m)) fault → IsFirst (option_map Why.Proof (fault_for H text s ext m)) fault
+  pub refused_for : (fault : RuleFault) → IsFirst (option_map Why.Proof (fault_in H text s.entries (look known) ext m)) fault
+      → IsFirst (option_map Why.Proof (fault_for H text s ext m)) fault
   refused_for (Refused why) e = ap (option_map Why.Proof) (sym fault-same) ∙ e
   refused_for NoMemory e = tt
 
@@ -291,17 +339,23 @@ module _ (H : List ℕ → Digest) (text : Leaf → List ℕ) (s : BridgeState) 
     pub hashes_many : (hashes' : List Digest) → hashes' ≡ hashes → length hashes' ≡ length (need t.leaves t.targets)
     hashes_many hashes' e = ap length (e ∙ checked.full.hashes_are H) ∙ length-map (need t.leaves t.targets) _
 
-    shown-so : (hashes' : List Digest) (numbers : Option (Vec ℕ)) → hashes' ≡ hashes → IsShownBy H text s.entries s.held ext m t hashes' numbers → IsShown H text (watched_by s) (history_of s) ext m numbers
+    shown-so : (hashes' : List Digest) (numbers : Option (Vec ℕ)) → hashes' ≡ hashes → IsShownBy H text s.entries s.held ext m t hashes' numbers
+        → IsShown H text (watched_by s) (history_of s) ext m numbers
     shown-so hashes' numbers e by =
         by (history_of s) (watched_by s) here
         (subst (λ xs. AreHashes m t (known_at H text (watched_by s) (history_of s)) xs) (sym e)
         (subst (λ k. AreHashes m t k hashes) (same_known H text (watched_by s) (history_of s) known are) checked.full))
 
-    pub accepted_right : (hashes' : List Digest) (x : Option (Vec ℕ)) (numbers : Vec ℕ) (shown : Shown) → hashes' ≡ hashes → IsShownBy H text s.entries s.held ext m t hashes' x → x ≡ Some numbers → shown.numbers.items ≡ numbers.items →
+    pub accepted_right : (hashes' : List Digest) (x : Option (Vec ℕ)) (numbers : Vec ℕ) (shown : Shown) → hashes' ≡ hashes
+        → IsShownBy H text s.entries s.held ext m t hashes' x → x ≡ Some numbers → shown.numbers.items ≡ numbers.items →
         shown.found.items ≡ map found_of (rests_of m.proof.spends) → IsAcceptedBy H text s ext m (Some shown)
     accepted_right hashes' x numbers shown e by at same found =
         let w = subst (IsShown H text (watched_by s) (history_of s) ext m) at (shown-so hashes' x e by) in
         record { passes = sym fault-same ∙ checked.passes; right = w.0; numbers = same ∙ w.1; found = found }
 
-    pub accepted_wrong : (hashes' : List Digest) (x : Option (Vec ℕ)) → hashes' ≡ hashes → IsShownBy H text s.entries s.held ext m t hashes' x → x ≡ None → IsAcceptedBy H text s ext m None
-    accepted_wrong hashes' x e by at = (sym fault-same ∙ checked.passes, subst (IsShown H text (watched_by s) (history_of s) ext m) at (shown-so hashes' x e by))
+    pub accepted_wrong : (hashes' : List Digest) (x : Option (Vec ℕ)) → hashes' ≡ hashes → IsShownBy H text s.entries s.held ext m t hashes' x
+        → x ≡ None → IsAcceptedBy H text s ext m None
+    accepted_wrong hashes' x e by at = (
+      sym fault-same ∙ checked.passes,
+      subst (IsShown H text (watched_by s) (history_of s) ext m) at (shown-so hashes' x e by),
+    )

@@ -1,5 +1,6 @@
 -- What holds of one event holds of a list of events.
-use Rattle.std.proofs.Common.{◌≡◌, ℕ, zero, suc, Bool, true, false, List, [], ◌∷◌, map, length, Option, Some, None, refl, sym, ap, ap₂, subst, ◌∙◌, ⊎_elim}
+use Rattle.std.proofs.Common.{◌≡◌, ℕ, zero, suc, Bool, true, false, List, [], ◌∷◌, map, length, Option, Some, None, refl, sym, ap, ap₂, subst, ◌∙◌}
+use Rattle.std.proofs.Common.{⊎_elim}
 use Rattle.std.specs.Prelude.{nat_le, if◌then◌else◌}
 use Rattle.std.proofs.lemmas.Bool.{cases_Bool}
 use Rattle.uo_base.specs.FeedEvent.{FeedEvent}
@@ -8,13 +9,16 @@ use Rattle.uo_digest.specs.declared.digest.Digest.{Digest}
 use Rattle.leaf_record.specs.Leaf.{Leaf}
 use Rattle.block_rules.specs.declared.refusal.Refusal.{Refusal}
 use Rattle.node_rules.specs.Judging.{Rules}
-use Rattle.node_rules.specs.Machine.{ChainEvent, BlockCame, RollbackCame, StrayCame, State, start, event_in, own_judge, is_made, verdict_before, goes_on, verdicts, state_after}
+use Rattle.node_rules.specs.Machine.{ChainEvent, BlockCame, RollbackCame, StrayCame, State, start, event_in, own_judge, is_made, verdict_before}
+use Rattle.node_rules.specs.Machine.{goes_on, verdicts, state_after}
 use Rattle.node_rules.specs.Proving.{passed_on, proved_events}
 use Rattle.reorg_undo.specs.Undo.{UndoRecord}
-use Rattle.bridge_prover.specs.Bridge.{BridgeState, fresh_bridge, refusal_on, verdict_on, after_block, bridge_by, undone_by, gone_back, next_bridge, message_on}
+use Rattle.bridge_prover.specs.Bridge.{BridgeState, fresh_bridge, refusal_on, verdict_on, after_block, bridge_by, undone_by, gone_back, next_bridge}
+use Rattle.bridge_prover.specs.Bridge.{message_on}
 use Rattle.bridge_prover.specs.Standing.{IsBridge, Stands}
 use Rattle.bridge_prover.specs.Laws.{own_outcome, own_text, text_by, IsAsOwn}
-use Rattle.bridge_prover.specs.Throughout.{verdicts_on, bridge_after, passed_by, passed_by_bridge, ProvesThroughout, BridgeProvesThroughout, FreshProvesThroughout}
+use Rattle.bridge_prover.specs.Throughout.{verdicts_on, bridge_after, passed_by, passed_by_bridge, ProvesThroughout, BridgeProvesThroughout}
+use Rattle.bridge_prover.specs.Throughout.{FreshProvesThroughout}
 use Rattle.bridge_prover.proofs.Refining.{bridge_is_own, next_is_bridge, fresh_stands, fresh_is_bridge}
 
 module _ (H : List ℕ → Digest) (text : Leaf → List ℕ) where
@@ -68,36 +72,48 @@ module _ (H : List ℕ → Digest) (text : Leaf → List ℕ) where
     -- ---- all events
 
     more : (t : State) (s : BridgeState) (event : FeedEvent) (events : List FeedEvent) → let e = event_in event in
-        IsAsOwn H text watch rules t e (verdict_on s e) (message_on H s e) (next_bridge H text s e) → ProvesThroughout H text watch rules (own_outcome rules t e).state (next_bridge H text s e) events → ProvesThroughout H text watch rules t s (event ∷ events)
+        IsAsOwn H text watch rules t e (verdict_on s e) (message_on H s e) (next_bridge H text s e)
+        → ProvesThroughout H text watch rules (own_outcome rules t e).state (next_bridge H text s e) events
+        → ProvesThroughout H text watch rules t s (event ∷ events)
     more t s event events one later =
         let e = event_in event in
         let o = own_outcome rules t e in
         let s' = next_bridge H text s e in
         let rest = map event_in events in
         record {
-          said = subst (λ w. (verdict_on s e ∷ verdicts_on H text s' rest) ≡ verdict_before w (verdicts rules own_judge o.state rest)) (sym one.said) (ap (λ vs. verdict_on s e ∷ vs) later.said);
+          said = subst (λ w. (verdict_on s e ∷ verdicts_on H text s' rest) ≡ verdict_before w (verdicts rules own_judge o.state rest)) (sym one.said)
+              (ap (λ vs. verdict_on s e ∷ vs) later.said);
           passed =
-              subst (λ w. passed_by_bridge H text s (event ∷ events) ≡ (if is_made w then passed_on H text watch t.now event ∷ proved_events H text watch rules o.state events else proved_events H text watch rules o.state events)) (sym one.said)
+              subst (λ w. passed_by_bridge H text s (event ∷ events) ≡ (if is_made w then passed_on H text watch t.now event
+              ∷ proved_events H text watch rules o.state events else proved_events H text watch rules o.state events)) (sym one.said)
               (by (is_made (Some (verdict_on s e))) refl);
-          stands = subst (λ w. Stands H text (goes_on w t (state_after rules own_judge o.state rest)) (bridge_after H text s' rest)) (sym one.said) later.stands;
+          stands = subst (λ w. Stands H text (goes_on w t (state_after rules own_judge o.state rest)) (bridge_after H text s' rest)) (sym one.said)
+              later.stands;
         }
       where
         by : (b : Bool) → is_made (Some (verdict_on s (event_in event))) ≡ b →
-            (let later' = passed_by_bridge H text (next_bridge H text s (event_in event)) events in if b then passed_by H s event ∷ later' else later')
-            ≡ (let own = proved_events H text watch rules (own_outcome rules t (event_in event)).state events in if b then passed_on H text watch t.now event ∷ own else own)
+            (let later' = passed_by_bridge H text (next_bridge H text s (event_in event)) events in
+            if b then passed_by H s event ∷ later' else later')
+            ≡ (let own = proved_events H text watch rules (own_outcome rules t (event_in event)).state events in
+            if b then passed_on H text watch t.now event ∷ own else own)
         by true made = ap₂ (λ x xs. x ∷ xs) (same_event t s event (ap is_made one.said ∙ made) one.passed) later.passed
         by false made = later.passed
 
-    agrees : (events : List FeedEvent) (t : State) (s : BridgeState) → s.watch ≡ watch → s.rules ≡ rules → IsBridge H text s → Stands H text t s → ProvesThroughout H text watch rules t s events
+    agrees : (events : List FeedEvent) (t : State) (s : BridgeState) → s.watch ≡ watch → s.rules ≡ rules → IsBridge H text s → Stands H text t s
+        → ProvesThroughout H text watch rules t s events
     agrees [] t s list same is stands = record { said = refl; passed = refl; stands = stands }
     agrees (event ∷ events) t s list same is stands =
         let e = event_in event in
         let one = subst (λ r. IsAsOwn H text watch r t e (verdict_on s e) (message_on H s e) (next_bridge H text s e)) same
-        (subst (λ w. IsAsOwn H text w s.rules t e (verdict_on s e) (message_on H s e) (next_bridge H text s e)) list (bridge_is_own H text s e is t stands)) in
-        more t s event events one (agrees events (own_outcome rules t e).state (next_bridge H text s e) (kept_watch s e ∙ list) (kept_rules s e ∙ same) (next_is_bridge H text s e is) one.stands)
+        (subst (λ w. IsAsOwn H text w s.rules t e (verdict_on s e) (message_on H s e) (next_bridge H text s e)) list
+        (bridge_is_own H text s e is t stands)) in
+        more t s event events one (agrees events (own_outcome rules t e).state (next_bridge H text s e) (kept_watch s e ∙ list)
+        (kept_rules s e ∙ same) (next_is_bridge H text s e is) one.stands)
 
 pub bridge_proves_throughout : BridgeProvesThroughout
 bridge_proves_throughout H text t s events is stands = agrees H text s.watch s.rules events t s refl refl is stands
 
 pub fresh_proves_throughout : FreshProvesThroughout
-fresh_proves_throughout H text net limits watch few events = bridge_proves_throughout H text start (fresh_bridge net limits watch) events (fresh_is_bridge H text net limits watch few) (fresh_stands H text net limits watch)
+fresh_proves_throughout H text net limits watch few events =
+    bridge_proves_throughout H text start (fresh_bridge net limits watch) events (fresh_is_bridge H text net limits watch few)
+    (fresh_stands H text net limits watch)

@@ -65,7 +65,8 @@ kept_if false s t = t
 
 abbrev pub next_judged : (List ℕ → Digest) → (Leaf → List ℕ) → BridgeState → ChainEvent → BridgeState
 next_judged H text s (BlockCame None handed) = s
-next_judged H text s (BlockCame (Some b) handed) = kept_if (is_forged_on H text s b handed) s (bridge_by (full_refusal_on H text s b handed) (after_shown H text s b handed) s)
+next_judged H text s (BlockCame (Some b) handed) =
+    kept_if (is_forged_on H text s b handed) s (bridge_by (full_refusal_on H text s b handed) (after_shown H text s b handed) s)
 next_judged H text s (RollbackCame k) = next_bridge H text s (RollbackCame k)
 next_judged H text s StrayCame = s
 
@@ -76,15 +77,18 @@ verdict_in Said.Forged = None
 
 -- where s stands for what that node holds, that node says v of the event, nothing where it is forged, and s' stands for what it holds then
 abbrev pub JudgesAsFull : (List ℕ → Digest) → (Leaf → List ℕ) → BridgeState → ChainEvent → Option Verdict → BridgeState → Type 0
-JudgesAsFull H text s e v s' = (t : State) → Stands H text t s → let o = full_outcome H text (watched_by s) s.rules t e in (o.verdict ≡ v) × Stands H text o.state s'
+JudgesAsFull H text s e v s' = (t : State) → Stands H text t s → let o = full_outcome H text (watched_by s) s.rules t e in
+    (o.verdict ≡ v) × Stands H text o.state s'
 
 -- a bridge does
 abbrev pub BridgeIsFull : Type 0
-BridgeIsFull = (H : List ℕ → Digest) (text : Leaf → List ℕ) (s : BridgeState) (e : ChainEvent) → IsBridge H text s → JudgesAsFull H text s e (judged_on H text s e) (next_judged H text s e)
+BridgeIsFull = (H : List ℕ → Digest) (text : Leaf → List ℕ) (s : BridgeState) (e : ChainEvent) → IsBridge H text s
+    → JudgesAsFull H text s e (judged_on H text s e) (next_judged H text s e)
 
 -- and it stays a bridge
 abbrev pub NextJudgedIsBridge : Type 0
-NextJudgedIsBridge = (H : List ℕ → Digest) (text : Leaf → List ℕ) (s : BridgeState) (e : ChainEvent) → IsBridge H text s → IsBridge H text (next_judged H text s e)
+NextJudgedIsBridge = (H : List ℕ → Digest) (text : Leaf → List ℕ) (s : BridgeState) (e : ChainEvent) → IsBridge H text s
+    → IsBridge H text (next_judged H text s e)
 
 -- what is said tells of the levels; at a forged event nothing changes
 abbrev pub LevelsJudged : BridgeState → Option Verdict → BridgeState → Type 0

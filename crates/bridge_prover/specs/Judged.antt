@@ -1,5 +1,6 @@
 -- What the calls on a block answer.
-use Rattle.std.specs.Prelude.{◌≡◌, ◌≢◌, ℕ, ◌+◌, ◌<◌, ◌≤◌, ◌^◌, true, false, not, List, [], ◌∷◌, ◌++◌, map, take, length, Option, Some, None, is_some, ⊤, if◌then◌else◌, All, AllPairs}
+use Rattle.std.specs.Prelude.{◌≡◌, ◌≢◌, ℕ, ◌+◌, ◌<◌, ◌≤◌, ◌^◌, true, false, not, List, [], ◌∷◌, ◌++◌, map, take, length, Option, Some, None, is_some}
+use Rattle.std.specs.Prelude.{⊤, if◌then◌else◌, All, AllPairs}
 use Rattle.std.specs.List.{filter}
 use Rattle.uo_digest.specs.declared.digest.Digest.{Digest}
 use Rattle.forest_place.specs.declared.place.Place.{Place}
@@ -46,7 +47,11 @@ abbrev pub proof_beside : (List ℕ → Digest) → List Place → List (Option 
 proof_beside H kept es hs numbers =
     let spends = spends_by es hs numbers in
     let ts = targets (length es) (sent false (record { spends = spends; hashes = [] })) in
-    record { spends = spends; hashes = somes (map (λ p. digest_at H es p.row p.off) (filter (λ p. not (is_known (length es) kept p)) (need (length es) ts))) }
+    record {
+      spends = spends;
+      hashes = somes
+          (map (λ p. digest_at H es p.row p.off) (filter (λ p. not (is_known (length es) kept p)) (need (length es) ts)));
+    }
 
 -- the hashes of siblings, without those that are known where the kept entries stand at these places
 abbrev pub hashes_unknown : ℕ → List Place → List Sibling → List Digest
@@ -54,7 +59,8 @@ hashes_unknown n kept siblings = map (λ s. s.digest) (filter (λ s. not (is_kno
 
 -- the message that a draft gives of these entries, of which spent has the same in ascending order
 abbrev pub drafted : (List ℕ → Digest) → List (Option Digest) → List ℕ → List ℕ → Draft → Message
-drafted H es numbers spent d = sent d.lean (record { spends = spends_of (map (target_of es) numbers) d.rests; hashes = hashes_unknown (length es) d.kept.targets (proof_of H es spent) })
+drafted H es numbers spent d = sent d.lean
+    (record { spends = spends_of (map (target_of es) numbers) d.rests; hashes = hashes_unknown (length es) d.kept.targets (proof_of H es spent) })
 
 -- it has the kept places of this forest, and a rest for each of these entries
 abbrev pub IsDraft : List (Option Digest) → List ℕ → Option Draft → Type 0
@@ -84,7 +90,8 @@ abbrev pub merged : List Place → List Place → List Place
 merged [] ys = ys
 merged (x ∷ xs) ys = merged_under x (merged xs) ys
 
--- all that has to hold so that a block may be taken which spends these entries: they are live and different, there is room, what can be forgotten then is spent, and what the bridge keeps then is again what a bridge keeps
+-- all that has to hold so that a block may be taken which spends these entries: they are live and different, there is room, what can be forgotten
+-- then is spent, and what the bridge keeps then is again what a bridge keeps
 pub record IsReady (H : List ℕ → Digest) (text : Leaf → List ℕ) (s : BridgeState) (hash : Digest) (numbers : List ℕ) (new : List Leaf) : Type 0 where
   pub live : All (λ i. forest.is_live s.entries i ≡ true) numbers
   pub held : All (λ i. is_live i s.held ≡ true) numbers
@@ -98,9 +105,11 @@ pub record IsReady (H : List ℕ → Digest) (text : Leaf → List ℕ) (s : Bri
   pub next : IsBridge H text (bridge_with H text s hash numbers new)
 
 -- no step fails, this is what is passed on, and this is what the bridge keeps then
-pub record IsProved (H : List ℕ → Digest) (text : Leaf → List ℕ) (s : BridgeState) (b : Block) (message : Option (List ℕ)) (t : BridgeState) : Type 0 where
+pub record IsProved (H : List ℕ → Digest) (text : Leaf → List ℕ) (s : BridgeState) (b : Block) (message : Option (List ℕ)) (t : BridgeState) : Type
+    0 where
   pub passes : refusal_on s b ≡ None
-  pub says : message ≡ written_text (external b s.chain.blocks) (message_by H s.watch s.entries s.held (own_in s.held (external b s.chain.blocks)).numbers)
+  pub says : message ≡ written_text (external b s.chain.blocks)
+      (message_by H s.watch s.entries s.held (own_in s.held (external b s.chain.blocks)).numbers)
   pub next : t ≡ after_block H text s b
 
 -- all that has to hold so that the newest block can be undone: what it added is live, and what it spent is spent

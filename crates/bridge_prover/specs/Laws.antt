@@ -12,7 +12,8 @@ use Rattle.block_rules.specs.declared.chain.Chain.{Chain}
 use Rattle.block_rules.specs.declared.verdict.Verdict.{Verdict}
 use Rattle.block_rules.specs.declared.verdict.Verdict.TheVariants.{Accepted, Refused, RolledBack, TooDeep, Stray}
 use Rattle.node_rules.specs.Judging.{Rules}
-use Rattle.node_rules.specs.Machine.{ChainEvent, BlockCame, RollbackCame, StrayCame, Level, State, Outcome, start, own_judge, is_made, height_of, step}
+use Rattle.node_rules.specs.Machine.{ChainEvent, BlockCame, RollbackCame, StrayCame, Level, State, Outcome, start, own_judge, is_made, height_of}
+use Rattle.node_rules.specs.Machine.{step}
 use Rattle.node_rules.specs.Proving.{text_beside}
 use Rattle.bridge_prover.specs.Watched.{scripts_of, known_list}
 use Rattle.bridge_prover.specs.Bridge.{BridgeState, fresh_bridge, chain_before, verdict_on, next_bridge, message_on}
@@ -32,7 +33,8 @@ abbrev pub own_text : (List ℕ → Digest) → (Leaf → List ℕ) → Option (
 own_text H text watch rules t e = if is_made (own_outcome rules t e).verdict then text_by H text watch t.now e else None
 
 -- that node says v of the event and passes the message on beside it, and s stands for what it holds then
-pub record IsAsOwn (H : List ℕ → Digest) (text : Leaf → List ℕ) (watch : Option (List (List ℕ))) (rules : Rules) (t : State) (e : ChainEvent) (v : Verdict) (message : Option (List ℕ)) (s : BridgeState) : Type 0 where
+pub record IsAsOwn (H : List ℕ → Digest) (text : Leaf → List ℕ) (watch : Option (List (List ℕ))) (rules : Rules) (t : State) (e : ChainEvent)
+    (v : Verdict) (message : Option (List ℕ)) (s : BridgeState) : Type 0 where
   pub said : (own_outcome rules t e).verdict ≡ Some v
   pub passed : message ≡ own_text H text watch rules t e
   pub stands : Stands H text (own_outcome rules t e).state s
@@ -48,7 +50,8 @@ BridgeIsOwn = (H : List ℕ → Digest) (text : Leaf → List ℕ) (s : BridgeSt
 
 -- where s stands for what the proving node holds, this is what is known there to one with its watch list
 abbrev pub KnowsAsOwn : (List ℕ → Digest) → (Leaf → List ℕ) → BridgeState → List (Place × Digest) → Type 0
-KnowsAsOwn H text s known = (t : State) → Stands H text t s → (row off : ℕ) → look known row off ≡ known_at H text (scripts_of s.watch) t.now.history row off
+KnowsAsOwn H text s known = (t : State) → Stands H text t s → (row off : ℕ)
+    → look known row off ≡ known_at H text (scripts_of s.watch) t.now.history row off
 
 -- what a bridge knows is that, each place once, in ascending order
 abbrev pub KnownIsOwn : Type 0
@@ -58,14 +61,17 @@ KnownIsOwn = (H : List ℕ → Digest) (text : Leaf → List ℕ) (s : BridgeSta
 
 -- at the start it stands for it
 abbrev pub FreshStands : Type 0
-FreshStands = (H : List ℕ → Digest) (text : Leaf → List ℕ) (net : Net) (limits : Limits) (watch : Option (List (List ℕ))) → Stands H text start (fresh_bridge net limits watch)
+FreshStands = (H : List ℕ → Digest) (text : Leaf → List ℕ) (net : Net) (limits : Limits) (watch : Option (List (List ℕ)))
+    → Stands H text start (fresh_bridge net limits watch)
 
 -- and a bridge stays one
 abbrev pub FreshIsBridge : Type 0
-FreshIsBridge = (H : List ℕ → Digest) (text : Leaf → List ℕ) (net : Net) (limits : Limits) (watch : Option (List (List ℕ))) → limits.leaves < 2 ^ 40 → IsBridge H text (fresh_bridge net limits watch)
+FreshIsBridge = (H : List ℕ → Digest) (text : Leaf → List ℕ) (net : Net) (limits : Limits) (watch : Option (List (List ℕ))) → limits.leaves < 2 ^ 40
+    → IsBridge H text (fresh_bridge net limits watch)
 
 abbrev pub NextIsBridge : Type 0
-NextIsBridge = (H : List ℕ → Digest) (text : Leaf → List ℕ) (s : BridgeState) (e : ChainEvent) → IsBridge H text s → IsBridge H text (next_bridge H text s e)
+NextIsBridge = (H : List ℕ → Digest) (text : Leaf → List ℕ) (s : BridgeState) (e : ChainEvent) → IsBridge H text s
+    → IsBridge H text (next_bridge H text s e)
 
 -- the chains of the levels that it can go back to, the newest first
 abbrev pub chains_of : BridgeState → List Chain
@@ -89,4 +95,5 @@ LevelsTold s (TooDeep asked kept) s' = (kept ≡ length s.undo) × (kept < asked
 LevelsTold s Stray s' = s' ≡ s
 
 abbrev pub VerdictsTellLevels : Type 0
-VerdictsTellLevels = (H : List ℕ → Digest) (text : Leaf → List ℕ) (s : BridgeState) (e : ChainEvent) → IsBridge H text s → LevelsTold s (verdict_on s e) (next_bridge H text s e)
+VerdictsTellLevels = (H : List ℕ → Digest) (text : Leaf → List ℕ) (s : BridgeState) (e : ChainEvent) → IsBridge H text s
+    → LevelsTold s (verdict_on s e) (next_bridge H text s e)

@@ -29,16 +29,19 @@ pub record IsHistory (H : List ℕ → Digest) (text : Leaf → List ℕ) (es : 
   pub rise : NumbersRise hs
 
 -- these are the digests that are known to one who watches the scripts, each place once, in ascending order
-pub record AreKnown (H : List ℕ → Digest) (text : Leaf → List ℕ) (scripts : List (List ℕ)) (us : History) (known : List (Place × Digest)) : Type 0 where
+pub record AreKnown (H : List ℕ → Digest) (text : Leaf → List ℕ) (scripts : List (List ℕ)) (us : History) (known : List (Place × Digest)) : Type
+    0 where
   pub each : (row off : ℕ) → look known row off ≡ known_at H text scripts us row off
   pub ascend : AscendByPlace known
 
 -- why the roots of a forest do not accept a message to whose reader these digests are known
-abbrev pub fault_in : (List ℕ → Digest) → (Leaf → List ℕ) → List (Option Digest) → (ℕ → ℕ → Option Digest) → List Outside → Message → Option ProofRefusal
+abbrev pub fault_in : (List ℕ → Digest) → (Leaf → List ℕ) → List (Option Digest) → (ℕ → ℕ → Option Digest) → List Outside → Message
+    → Option ProofRefusal
 fault_in H text es known ext m = proof_fault H text (record { n = length es; roots = root H es; known = known }) (points_of ext) m
 
 -- they accept it, it names these places, and these are the hashes of all places that its proof needs
-pub record IsChecked (H : List ℕ → Digest) (text : Leaf → List ℕ) (es : List (Option Digest)) (known : ℕ → ℕ → Option Digest) (ext : List Outside) (m : Message) (t : Targeted) (hashes : List Digest) : Type 0 where
+pub record IsChecked (H : List ℕ → Digest) (text : Leaf → List ℕ) (es : List (Option Digest)) (known : ℕ → ℕ → Option Digest) (ext : List Outside)
+    (m : Message) (t : Targeted) (hashes : List Digest) : Type 0 where
   pub passes : fault_in H text es known ext m ≡ None
   pub named : AreNamed (length es) m t
   pub full : AreHashes m t known hashes
@@ -68,8 +71,11 @@ DoHashesStand hashes found false = map Some hashes ≡ found → ⊥
 -- the message is right, and these are the entries at its targets; or it is not
 abbrev pub IsShown : (List ℕ → Digest) → (Leaf → List ℕ) → List (List ℕ) → History → List Outside → Message → Option (Vec ℕ) → Type 0
 IsShown H text scripts us ext m None = is_right_message H text scripts us ext (read m) ≡ false
-IsShown H text scripts us ext m (Some numbers) = (is_right_message H text scripts us ext (read m) ≡ true) × (numbers.items ≡ entries_shown H text us (read m))
+IsShown H text scripts us ext m (Some numbers) = (is_right_message H text scripts us ext (read m) ≡ true)
+    × (numbers.items ≡ entries_shown H text us (read m))
 
 -- so for each history whose forest and index these are, and each list of scripts under which the hashes are those of the message
-abbrev pub IsShownBy : (List ℕ → Digest) → (Leaf → List ℕ) → List (Option Digest) → List Held → List Outside → Message → Targeted → List Digest → Option (Vec ℕ) → Type 0
-IsShownBy H text es hs ext m t hashes numbers = (us : History) (scripts : List (List ℕ)) → IsHistory H text es hs us → AreHashes m t (known_at H text scripts us) hashes → IsShown H text scripts us ext m numbers
+abbrev pub IsShownBy : (List ℕ → Digest) → (Leaf → List ℕ) → List (Option Digest) → List Held → List Outside → Message → Targeted → List Digest
+    → Option (Vec ℕ) → Type 0
+IsShownBy H text es hs ext m t hashes numbers = (us : History) (scripts : List (List ℕ)) → IsHistory H text es hs us
+    → AreHashes m t (known_at H text scripts us) hashes → IsShown H text scripts us ext m numbers

@@ -24,7 +24,8 @@ abbrev pub fault_for : (List ℕ → Digest) → (Leaf → List ℕ) → BridgeS
 fault_for H text s ext m = proof_fault H text (view_of H text (watched_by s) (history_of s)) (points_of ext) m
 
 -- the roots accept the message; and it is right, and these are the entries and outputs that it shows, or it is not right
-pub record IsShownWhole (H : List ℕ → Digest) (text : Leaf → List ℕ) (s : BridgeState) (ext : List Outside) (m : Message) (shown : Shown) : Type 0 where
+pub record IsShownWhole (H : List ℕ → Digest) (text : Leaf → List ℕ) (s : BridgeState) (ext : List Outside) (m : Message) (shown : Shown) : Type
+    0 where
   pub passes : fault_for H text s ext m ≡ None
   pub right : is_right_message H text (watched_by s) (history_of s) ext (read m) ≡ true
   pub numbers : shown.numbers.items ≡ entries_shown H text (history_of s) (read m)
@@ -35,13 +36,15 @@ IsAcceptedBy H text s ext m None = (fault_for H text s ext m ≡ None) × (is_ri
 IsAcceptedBy H text s ext m (Some shown) = IsShownWhole H text s ext m shown
 
 -- the roots accept what stands beside the block
-pub record IsRightOf (H : List ℕ → Digest) (text : Leaf → List ℕ) (scripts : List (List ℕ)) (us : History) (ext : List Outside) (handed : Handed) (shown : Shown) : Type 0 where
+pub record IsRightOf (H : List ℕ → Digest) (text : Leaf → List ℕ) (scripts : List (List ℕ)) (us : History) (ext : List Outside) (handed : Handed)
+    (shown : Shown) : Type 0 where
   pub passes : first_of (compact H text (view_of H text scripts us) ext handed).steps ≡ None
   pub right : is_right_message H text scripts us ext handed ≡ true
   pub numbers : shown.numbers.items ≡ entries_shown H text us handed
   pub found : shown.found.items ≡ found_by handed
 
-pub record IsWrongOf (H : List ℕ → Digest) (text : Leaf → List ℕ) (scripts : List (List ℕ)) (us : History) (ext : List Outside) (handed : Handed) : Type 0 where
+pub record IsWrongOf (H : List ℕ → Digest) (text : Leaf → List ℕ) (scripts : List (List ℕ)) (us : History) (ext : List Outside)
+    (handed : Handed) : Type 0 where
   pub passes : first_of (compact H text (view_of H text scripts us) ext handed).steps ≡ None
   pub wrong : is_right_message H text scripts us ext handed ≡ false
 

@@ -35,20 +35,23 @@ passed_by_bridge H text s (event ∷ events) =
     let later = passed_by_bridge H text (next_bridge H text s (event_in event)) events in
     if is_made (Some (verdict_on s (event_in event))) then passed_by H s event ∷ later else later
 
--- the bridge says of each event what the proving node says, passes on what that one passes on with messages for one with this watch list, and
--- stands for what it holds then
-pub record ProvesThroughout (H : List ℕ → Digest) (text : Leaf → List ℕ) (watch : Option (List (List ℕ))) (rules : Rules) (t : State) (s : BridgeState) (events : List FeedEvent) : Type 0 where
+-- the bridge says of each event what the proving node says, passes on what that one passes on with messages for one with this watch list, and stands
+-- for what it holds then
+pub record ProvesThroughout (H : List ℕ → Digest) (text : Leaf → List ℕ) (watch : Option (List (List ℕ))) (rules : Rules) (t : State)
+    (s : BridgeState) (events : List FeedEvent) : Type 0 where
   pub said : verdicts_on H text s (map event_in events) ≡ verdicts rules own_judge t (map event_in events)
   pub passed : passed_by_bridge H text s events ≡ proved_events H text watch rules t events
   pub stands : Stands H text (state_after rules own_judge t (map event_in events)) (bridge_after H text s (map event_in events))
 
 -- so does each bridge that stands for it
 abbrev pub BridgeProvesThroughout : Type 0
-BridgeProvesThroughout = (H : List ℕ → Digest) (text : Leaf → List ℕ) (t : State) (s : BridgeState) (events : List FeedEvent) → IsBridge H text s → Stands H text t s →
+BridgeProvesThroughout = (H : List ℕ → Digest) (text : Leaf → List ℕ) (t : State) (s : BridgeState) (events : List FeedEvent) → IsBridge H text s
+    → Stands H text t s →
     ProvesThroughout H text s.watch s.rules t s events
 
 -- and each from its start
 abbrev pub FreshProvesThroughout : Type 0
-FreshProvesThroughout = (H : List ℕ → Digest) (text : Leaf → List ℕ) (net : Net) (limits : Limits) (watch : Option (List (List ℕ))) → limits.leaves < 2 ^ 40 →
+FreshProvesThroughout = (H : List ℕ → Digest) (text : Leaf → List ℕ) (net : Net) (limits : Limits) (watch : Option (List (List ℕ)))
+    → limits.leaves < 2 ^ 40 →
     let rules : Rules = record { net = net; limits = limits } in
     (events : List FeedEvent) → ProvesThroughout H text watch rules start (fresh_bridge net limits watch) events

@@ -41,8 +41,10 @@ pub(crate) fn check_proof<D: Digester, L: Ledger>(
     requires shown { length message.now.proof.spends ≡ length external.now }
     requires few { length external.now < 2 ^ 32 }
     requires ascends { AscendByPlace known.now }
-    ensures ok { IfOk result (λ checked. IsChecked D.digest_of leaf_text forest.now.entries (look known.now) external.now message.now checked.targets checked.hashes.items) }
-    ensures err { IfErr result (λ fault. IsFirst (option_map Why.Proof (fault_in D.digest_of leaf_text forest.now.entries (look known.now) external.now message.now)) fault) }
+    ensures ok { IfOk result (λ checked. IsChecked D.digest_of leaf_text forest.now.entries (look known.now) external.now message.now checked.targets
+        checked.hashes.items) }
+    ensures err { IfErr result (λ fault. IsFirst
+        (option_map Why.Proof (fault_in D.digest_of leaf_text forest.now.entries (look known.now) external.now message.now)) fault) }
 {
     let targets = targets_of(alloc, forest.leaves(), message)?;
     let hashes = full_hashes(alloc, message, &targets, known)?;

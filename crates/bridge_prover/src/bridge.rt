@@ -20,7 +20,7 @@ use leaf_cache::Watch;
 use leaf_record::LeafBuf;
 use node_rules::{Arrival, receive, rolled_back};
 use output_index::Outputs;
-use proof_shape::Targets;
+use proof_shape::Survey;
 use proof_wire::Rests;
 use reorg_undo::{Ring, Undo};
 use std::alloc::Global;
@@ -66,9 +66,24 @@ impl<D: Digester> Model for Bridge<D> {
 
     ghost Value = { BridgeState };
 
-    ghost view = { λ s. record { rules = record { net = s.net; limits = s.limits }; watch = s.watch; chain = s.chain; entries = s.forest.entries; held = s.outputs; undo = s.undo } };
+    ghost view = { λ s. record {
+      rules = record { net = s.net; limits = s.limits };
+      watch = s.watch;
+      chain = s.chain;
+      entries = s.forest.entries;
+      held = s.outputs;
+      undo = s.undo;
+    } };
 
-    ghost invariant = { λ s. IsBridge D.digest_of leaf_text (record { rules = record { net = s.net; limits = s.limits }; watch = s.watch; chain = s.chain; entries = s.forest.entries; held = s.outputs; undo = s.undo }) × (s.noted.items ≡ noted_in (scripts_of s.watch) s.outputs) };
+    ghost invariant = { λ s. IsBridge D.digest_of leaf_text (record {
+      rules = record { net = s.net; limits = s.limits };
+      watch = s.watch;
+      chain =
+          s.chain;
+      entries = s.forest.entries;
+      held = s.outputs;
+      undo = s.undo;
+    }) × (s.noted.items ≡ noted_in (scripts_of s.watch) s.outputs) };
 }
 
 impl<D: Digester> Bridge<D> {
@@ -88,14 +103,14 @@ impl<D: Digester> Bridge<D> {
     ghost use Rattle.cache_model.specs.Lists.{AscendByPlace};
     ghost use Rattle.bridge_forest.specs.State.{is_live};
     ghost use Rattle.bridge_prover.specs.Watched.{scripts_of, kept_in, places_in, known_list};
-    ghost use Rattle.bridge_prover.specs.Bridge.{bridge_with, fresh_bridge, gone_back, message_by, message_on, most_steps, next_bridge, refusal_on, spends_by, spent_by, undone_by, verdict_on};
+    ghost use Rattle.bridge_prover.specs.Bridge.{bridge_with, fresh_bridge, gone_back, message_by, message_on, most_steps, next_bridge, refusal_on};
+    ghost use Rattle.bridge_prover.specs.Bridge.{spends_by, spent_by, undone_by, verdict_on};
     ghost use Rattle.bridge_prover.specs.Own.{leaves_in};
     ghost use Rattle.bridge_prover.specs.Judged.{AreFound, IsDraft, IsDraftOf, IsProved, IsReady, drafted, first_missing};
     ghost use Rattle.bridge_prover.specs.Laws.{KnowsAsOwn, LevelsTold, SaysAsOwn};
     ghost use Rattle.bridge_prover.specs.Standing.{IsBridge};
 
-    /// A bridge with no block and no output, and room for what undoes a hundred blocks. Its messages are lean exactly where there
-    /// is a watch list.
+    /// A bridge with no block and no output, and room for what undoes a hundred blocks. Its messages are lean exactly where there is a watch list.
     pub fn new(
         alloc: Global,
         net: Net,
@@ -192,7 +207,8 @@ impl<D: Digester> Bridge<D> {
         ensures verdict { IfOk result (λ p. p.verdict ≡ verdict_on self.old (event_in (event_of event.entry))) }
 
         // Some exactly where a block was accepted that spends from outside.
-        ensures message { IfOk result (λ p. option_map (λ bytes. bytes.items) p.message ≡ message_on D.digest_of self.old (event_in (event_of event.entry))) }
+        ensures message { IfOk result (λ p. option_map (λ bytes. bytes.items) p.message
+            ≡ message_on D.digest_of self.old (event_in (event_of event.entry))) }
         ensures next { OnOk result (self.new ≡ next_bridge D.digest_of leaf_text self.old (event_in (event_of event.entry))) }
         ensures stays { OnErr result (self.new ≡ self.old) }
 
@@ -202,7 +218,8 @@ impl<D: Digester> Bridge<D> {
 
         // Where it stands for what the proving node holds, it says what that node says, passes on what that one passes on, and
         // stands for what that node holds then.
-        ensures refines { IfOk result (λ p. SaysAsOwn D.digest_of leaf_text self.old (event_in (event_of event.entry)) p.verdict (option_map (λ bytes. bytes.items) p.message) self.new) }
+        ensures refines { IfOk result (λ p. SaysAsOwn D.digest_of leaf_text self.old (event_in (event_of event.entry)) p.verdict
+            (option_map (λ bytes. bytes.items) p.message) self.new) }
         ensures steps { steps.new ≤ steps.old + most_steps self.old (event_in (event_of event.entry)) }
     {
         // What a bridge keeps is known.
@@ -271,7 +288,7 @@ impl<D: Digester> Bridge<D> {
     }
 
     // The places of the watched live outputs, as targets.
-    fn kept(&self) -> Result<Targets, NoMemory>
+    fn kept(&self) -> Result<Survey, NoMemory>
         ensures leaves { IfOk result (λ t. t.leaves ≡ length self.now.entries) }
         ensures targets { IfOk result (λ t. t.targets ≡ places_in self.now.entries (kept_in (scripts_of self.now.watch) self.now.held)) }
         ensures bridge { IsBridge D.digest_of leaf_text self.now }
@@ -280,7 +297,7 @@ impl<D: Digester> Bridge<D> {
     }
 
     // The digests of what is known where the kept entries stand at these places.
-    fn hashes_at(&self, kept: &Targets) -> Result<Vec<(Place, Digest)>, NoMemory>
+    fn hashes_at(&self, kept: &Survey) -> Result<Vec<(Place, Digest)>, NoMemory>
         requires { kept.now.leaves ≡ length self.now.entries }
         ensures { IfOk result (λ known. known.items ≡ held D.digest_of self.now.entries kept.now.targets) }
     {
@@ -299,8 +316,8 @@ impl<D: Digester> Bridge<D> {
         Ok(Some(Draft { lean, kept, rests }))
     }
 
-    // Goes on by a block that spends these entries, which have these rests, and answers the message that shows them, or leaves all as it was
-    // where there is no memory.
+    // Goes on by a block that spends these entries, which have these rests, and answers the message that shows them, or leaves all as it was where
+    // there is no memory.
     fn extend<L: Ledger>(
         &mut self,
         hash: Digest,
@@ -311,7 +328,8 @@ impl<D: Digester> Bridge<D> {
     ) -> Result<Option<Vec<u8>>, NoMemory>
         requires ready { IsReady D.digest_of leaf_text self.old hash numbers.items spends.now.new }
         requires rests { rests ≡ map (λ leaf. leaf.rest) (leaves_in self.old.held numbers.items) }
-        ensures says { IfOk result (λ m. option_map (λ bytes. bytes.items) m ≡ written_text spends.now.external (message_by D.digest_of self.old.watch self.old.entries self.old.held numbers.items)) }
+        ensures says { IfOk result (λ m. option_map (λ bytes. bytes.items) m
+            ≡ written_text spends.now.external (message_by D.digest_of self.old.watch self.old.entries self.old.held numbers.items)) }
         ensures next { OnOk result (self.new ≡ bridge_with D.digest_of leaf_text self.old hash numbers.items spends.now.new) }
         ensures stays { OnErr result (self.new ≡ self.old) }
         ensures steps { steps.new ≤ steps.old + length numbers.items * rows (length self.old.entries) + 2 * length spends.now.new + 40 }
@@ -355,7 +373,8 @@ impl<D: Digester> Bridge<D> {
         requires same { IsPermutation numbers.items spent.now }
         requires rise { IsNonDecreasing spent.now }
         requires draft { IsDraft self.old.entries numbers.items draft }
-        ensures says { IfOk result (λ m. option_map (λ bytes. bytes.items) m ≡ option_map (λ d. message_text (drafted D.digest_of self.old.entries numbers.items spent.now d)) draft) }
+        ensures says { IfOk result (λ m. option_map (λ bytes. bytes.items) m
+            ≡ option_map (λ d. message_text (drafted D.digest_of self.old.entries numbers.items spent.now d)) draft) }
         ensures next { OnOk result (self.new ≡ bridge_with D.digest_of leaf_text self.old hash numbers.items spends.now.new) }
         ensures stays { OnErr result (self.new ≡ self.old) }
         ensures steps { steps.new ≤ steps.old + length numbers.items * rows (length self.old.entries) + 2 * length spends.now.new + 40 }
@@ -438,7 +457,8 @@ impl<D: Digester> Bridge<D> {
         steps: &mut Steps<L>,
     ) -> Result<Proved, NoMemory>
         ensures verdict { IfOk result (λ p. p.verdict ≡ verdict_on self.old (BlockCame (Some block.now) nothing)) }
-        ensures message { IfOk result (λ p. option_map (λ bytes. bytes.items) p.message ≡ message_on D.digest_of self.old (BlockCame (Some block.now) nothing)) }
+        ensures message { IfOk result (λ p. option_map (λ bytes. bytes.items) p.message
+            ≡ message_on D.digest_of self.old (BlockCame (Some block.now) nothing)) }
         ensures next { OnOk result (self.new ≡ next_bridge D.digest_of leaf_text self.old (BlockCame (Some block.now) nothing)) }
         ensures stays { OnErr result (self.new ≡ self.old) }
         ensures steps { steps.new ≤ steps.old + most_steps self.old (BlockCame (Some block.now) nothing) }
@@ -466,7 +486,8 @@ impl<D: Digester> Bridge<D> {
     ) -> Result<Proved, NoMemory>
         requires short { length bytes.now < 2 ^ 32 }
         ensures verdict { IfOk result (λ p. p.verdict ≡ verdict_on self.old (BlockCame (block_in bytes.now) nothing)) }
-        ensures message { IfOk result (λ p. option_map (λ bytes. bytes.items) p.message ≡ message_on D.digest_of self.old (BlockCame (block_in bytes.now) nothing)) }
+        ensures message { IfOk result (λ p. option_map (λ bytes. bytes.items) p.message
+            ≡ message_on D.digest_of self.old (BlockCame (block_in bytes.now) nothing)) }
         ensures next { OnOk result (self.new ≡ next_bridge D.digest_of leaf_text self.old (BlockCame (block_in bytes.now) nothing)) }
         ensures stays { OnErr result (self.new ≡ self.old) }
         ensures steps { steps.new ≤ steps.old + most_steps self.old (BlockCame (block_in bytes.now) nothing) }

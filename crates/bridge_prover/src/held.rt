@@ -14,7 +14,8 @@ use uo_base::NoMemory;
 fn insert(outputs: &mut Outputs, number: u64, spends: &Spends<'_>, i: u64) -> Result<(), NoMemory>
     requires above { IsAbove number outputs.old }
     requires one { i < length spends.now.new }
-    ensures ok { OnOk result ((leaf : Leaf) × (slice_get spends.now.new i ≡ Some leaf) × (outputs.new ≡ outputs.old ++ record { number = number; leaf = leaf; live = true } ∷ [])) }
+    ensures ok { OnOk result ((leaf : Leaf) × (slice_get spends.now.new i ≡ Some leaf)
+        × (outputs.new ≡ outputs.old ++ record { number = number; leaf = leaf; live = true } ∷ [])) }
     ensures err { OnErr result (outputs.new ≡ outputs.old) }
 {
     outputs.insert_view(number, &spends.new_output(i))

@@ -1,13 +1,10 @@
 //! The message beside a block: what it spends, where that stands, and the hashes that prove it.
-ghost use Rattle.std.specs.Prelude.{◌≡◌, ◌<◌, ◌^◌, ◌++◌, ◌∷◌, [], true, Some, None, map, option_map, length, IfOk, OnOk, All};
+ghost use Rattle.std.specs.Prelude.{◌≡◌, ◌++◌, ◌∷◌, [], true, Some, None, map, option_map, IfOk, OnOk, All};
 ghost use Rattle.std.specs.List.{AllByRecursion, flat_map};
 ghost use Rattle.std.specs.List.Sorted.{IsNonDecreasing, IsPermutation};
 ghost use Rattle.uo_digest.specs.Reading.{IsDigest};
 ghost use Rattle.forest_place.specs.Forest.{InForest};
-ghost use Rattle.forest_place.specs.declared.naming.Naming.TheVariants.{FixedPosition};
-ghost use Rattle.forest_place.specs.Named.{place_by};
 ghost use Rattle.forest_model.specs.EntryPlace.{entry_place};
-ghost use Rattle.node_rules.specs.Accepting.{shape_fault};
 ghost use Rattle.cache_model.specs.Known.{is_known as is_known_of};
 ghost use Rattle.bridge_forest.specs.State.{is_live};
 ghost use Rattle.proof_wire.specs.BlockProof.{message_text};
@@ -17,7 +14,7 @@ ghost use Rattle.bridge_prover.specs.Judged.{IsDraft, drafted, hashes_unknown};
 use bridge_forest::{BatchProof, Forest, Sibling};
 use cache_update::is_known;
 use forest_place::{Place, fixed_position};
-use proof_shape::{ShapeFault, Targets};
+use proof_shape::Survey;
 use proof_wire::{Message, Rests};
 use std::alloc::{AllocError, Global};
 use uo_base::NoMemory;
@@ -32,8 +29,8 @@ pub(crate) fn target<D: Digester>(forest: &Forest<D>, number: u64) -> u64
     fixed_position(forest.place(number))
 }
 
-// The place at which a live entry stands. `spent` has entries in ascending order, and `places` has where each of them stands, so there it is
-// looked up first.
+// The place at which a live entry stands. `spent` has entries in ascending order, and `places` has where each of them stands, so there it is looked
+// up first.
 fn place_of<D: Digester>(forest: &Forest<D>, spent: &[u64], places: &[Place], number: u64) -> Place
     requires live { is_live forest.now.entries number ≡ true }
     requires told { map Some places.now ≡ map (entry_place forest.now.entries) spent.now }
@@ -69,7 +66,7 @@ fn targets_of<D: Digester>(
 }
 
 // Whether a place is known where the kept entries stand at these places. Where none is kept nothing is, and nothing is looked up.
-fn is_left_out(kept: &Targets, place: Place) -> bool
+fn is_left_out(kept: &Survey, place: Place) -> bool
     requires { InForest kept.now.leaves place.row place.off }
     ensures { result ≡ is_known_of kept.now.leaves kept.now.targets place }
 {
@@ -91,7 +88,7 @@ fn put_hash(hashes: &mut Vec<Digest>, digest: Digest) -> Result<(), AllocError>
 // Adds the digests of siblings, but for those that are known where the kept entries stand at these places.
 fn put_hashes(
     hashes: &mut Vec<Digest>,
-    kept: &Targets,
+    kept: &Survey,
     siblings: &[Sibling],
 ) -> Result<(), AllocError>
     requires { AllByRecursion (λ s. InForest kept.now.leaves s.place.row s.place.off) siblings.now }
@@ -107,9 +104,10 @@ fn put_hashes(
 }
 
 // The same of all siblings that prove entries.
-fn hashes_of(alloc: Global, kept: &Targets, proof: &BatchProof) -> Result<Vec<Digest>, AllocError>
+fn hashes_of(alloc: Global, kept: &Survey, proof: &BatchProof) -> Result<Vec<Digest>, AllocError>
     requires { AllByRecursion (λ s. InForest kept.now.leaves s.place.row s.place.off) (flat_map (λ row. row) proof.now.rows.items) }
-    ensures given { IfOk result (λ hashes. hashes.items ≡ hashes_unknown kept.now.leaves kept.now.targets (flat_map (λ row. row) proof.now.rows.items)) }
+    ensures given { IfOk result (λ hashes. hashes.items
+        ≡ hashes_unknown kept.now.leaves kept.now.targets (flat_map (λ row. row) proof.now.rows.items)) }
     ensures digests { IfOk result (λ hashes. AllByRecursion IsDigest hashes.items) }
 {
     let mut hashes = Vec::with_capacity(alloc, proof.count())?;
@@ -119,32 +117,16 @@ fn hashes_of(alloc: Global, kept: &Targets, proof: &BatchProof) -> Result<Vec<Di
     Ok(hashes)
 }
 
-// The targets at these fixed positions.
-pub(crate) fn targets_at(alloc: Global, n: u64, positions: &[u64]) -> Result<Targets, NoMemory>
-    requires few { n < 2 ^ 40 }
-    requires short { length positions.now < 2 ^ 32 }
-    requires shape { shape_fault n [] 0 (map (place_by FixedPosition n) positions.now) ≡ None }
-    ensures { IfOk result (λ t. (t.leaves ≡ n) × (map (place_by FixedPosition n) positions.now ≡ map Some t.targets)) }
-{
-    match Targets::new_fixed(alloc, n, positions) {
-        Ok(targets) => Ok(targets),
-        Err(ShapeFault::NoMemory) => Err(NoMemory),
-        Err(ShapeFault::Outside(_)) => unreachable!(),
-        Err(ShapeFault::Repeated(..)) => unreachable!(),
-        Err(ShapeFault::Beneath(..)) => unreachable!(),
-    }
-}
-
 /// What a message tells besides what the forest does: whether it is lean, where the kept entries stand, and the rests of what is spent.
 #[derive(Drop)]
 pub(crate) struct Draft {
     pub(crate) lean: bool,
-    pub(crate) kept: Targets,
+    pub(crate) kept: Survey,
     pub(crate) rests: Rests,
 }
 
-// Shows these live entries and what proves them, but for the hashes that are known where the kept entries stand. `spent` are the same
-// entries, ascending.
+// Shows these live entries and what proves them, but for the hashes that are known where the kept entries stand. `spent` are the same entries,
+// ascending.
 fn message_of<D: Digester>(
     alloc: Global,
     forest: &Forest<D>,
@@ -177,7 +159,8 @@ pub(crate) fn written<D: Digester>(
     requires live { All (λ i. is_live forest.now.entries i ≡ true) numbers.now }
     requires same { IsPermutation numbers.now spent.now }
     requires rise { IsNonDecreasing spent.now }
-    ensures { IfOk result (λ m. option_map (λ bytes. bytes.items) m ≡ option_map (λ d. message_text (drafted D.digest_of forest.now.entries numbers.now spent.now d)) draft) }
+    ensures { IfOk result (λ m. option_map (λ bytes. bytes.items) m
+        ≡ option_map (λ d. message_text (drafted D.digest_of forest.now.entries numbers.now spent.now d)) draft) }
 {
     let Some(draft) = draft else {
         return Ok(None);

@@ -59,7 +59,8 @@ fn entries_shown<D: Digester>(
 ) -> Result<Option<Vec<u64>>, NoMemory>
     requires count { length message.now.proof.spends ≡ length external.now }
     requires places { length places.now ≡ length external.now }
-    ensures { IfOk result (λ numbers. AreShown (shown_all forest.now.entries outputs.now places.now (claimed (points_of external.now) (rests_of message.now.proof.spends))) numbers) }
+    ensures { IfOk result (λ numbers. AreShown
+        (shown_all forest.now.entries outputs.now places.now (claimed (points_of external.now) (rests_of message.now.proof.spends))) numbers) }
 {
     let mut numbers = Vec::with_capacity(alloc, external.len())?;
     for i in 0..external.len() {
@@ -110,7 +111,8 @@ pub(crate) fn right_entries<D: Digester>(
     requires count { length message.now.proof.spends ≡ length external.now }
     requires named { AreNamed (length forest.now.entries) message.now targets.now }
     requires many { length hashes.now ≡ length (need targets.now.leaves targets.now.targets) }
-    ensures { IfOk result (λ numbers. IsShownBy D.digest_of leaf_text forest.now.entries outputs.now external.now message.now targets.now hashes.now numbers) }
+    ensures { IfOk result (λ numbers. IsShownBy D.digest_of leaf_text forest.now.entries outputs.now external.now message.now targets.now hashes.now
+        numbers) }
 {
     let Some(numbers) = entries_shown(alloc, forest, outputs, external, message, targets.places())?
     else {

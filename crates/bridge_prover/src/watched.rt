@@ -1,8 +1,12 @@
 //! The outputs that are watched, and what is known of the forest to one who watches them.
-ghost use Rattle.std.specs.Prelude.{◌≡◌, ℕ, ◌+◌, ◌<◌, ◌≤◌, ◌^◌, ◌++◌, ◌∷◌, [], true, nat_lt, Some, is_some, map, length, filter_map, option_map, vec_len, vec_capacity, IfOk, OnOk};
+ghost use Rattle.std.specs.Prelude.{◌≡◌, ℕ, ◌+◌, ◌<◌, ◌≤◌, ◌^◌, ◌++◌, ◌∷◌, [], true, nat_lt, Some, is_some, map, length, filter_map, option_map};
+ghost use Rattle.std.specs.Prelude.{vec_len, vec_capacity, IfOk, OnOk};
 ghost use Rattle.std.specs.List.{filter};
+ghost use Rattle.forest_place.specs.declared.naming.Naming.TheVariants.{FixedPosition};
+ghost use Rattle.forest_place.specs.Named.{place_by};
 ghost use Rattle.forest_place.specs.Places.{places};
 ghost use Rattle.forest_model.specs.Cover.{HasShape};
+ghost use Rattle.proof_shape.specs.Shape.{HasTargetsBy};
 ghost use Rattle.cache_model.specs.Known.{is_watched, is_known};
 ghost use Rattle.cache_model.specs.Cache.{held};
 ghost use Rattle.bridge_forest.specs.State as forest_state;
@@ -12,15 +16,15 @@ ghost use Rattle.bridge_prover.specs.Judged.{merged};
 ghost use Rattle.bridge_prover.specs.Own.{numbered};
 ghost use Rattle.bridge_prover.specs.Watched.{scripts_of, noted_in, places_in};
 
-use crate::message::{target, targets_at};
+use crate::message::target;
 use block_rules::Spends;
 use bridge_forest::Forest;
-use forest_place::Place;
+use forest_place::{Naming, Place};
 use leaf_cache::Watch;
 use leaf_record::RecordView;
 use node_rules::is_before;
 use output_index::Outputs;
-use proof_shape::Targets;
+use proof_shape::Survey;
 use std::alloc::{AllocError, Global};
 use uo_base::NoMemory;
 use uo_digest::{Digest, Digester};
@@ -42,7 +46,8 @@ fn note(
     number: u64,
     leaf: &RecordView<'_>,
 ) -> Result<(), AllocError>
-    ensures { OnOk result (numbers.new.items ≡ numbers.old.items ++ noted_in (scripts_of watch.now) (record { number = number; leaf = leaf.now; live = true } ∷ [])) }
+    ensures { OnOk result (numbers.new.items ≡ numbers.old.items
+        ++ noted_in (scripts_of watch.now) (record { number = number; leaf = leaf.now; live = true } ∷ [])) }
 {
     if is_noted(watch, leaf) {
         numbers.push(number)?;
@@ -102,7 +107,8 @@ fn put_position<D: Digester>(
     number: u64,
 ) -> Result<(), AllocError>
     requires { is_live number outputs.now ≡ true → forest_state.is_live forest.now.entries number ≡ true }
-    ensures { OnOk result (positions.new.items ≡ positions.old.items ++ map (target_of forest.now.entries) (filter (λ i. is_live i outputs.now) (number ∷ []))) }
+    ensures { OnOk result (positions.new.items ≡ positions.old.items
+        ++ map (target_of forest.now.entries) (filter (λ i. is_live i outputs.now) (number ∷ []))) }
 {
     if outputs.live(number) {
         positions.push(target(forest, number))?;
@@ -110,13 +116,25 @@ fn put_position<D: Digester>(
     Ok(())
 }
 
-// The places of the live ones among these entries, as targets. Of 2^32 or more there is no room for targets.
+// The targets at these fixed positions.
+fn targets_at(alloc: Global, n: u64, positions: &[u64]) -> Result<Survey, NoMemory>
+    requires few { n < 2 ^ 40 }
+    requires there { HasTargetsBy FixedPosition n positions.now }
+    ensures { IfOk result (λ t. (t.leaves ≡ n) × (map (place_by FixedPosition n) positions.now ≡ map Some t.targets)) }
+{
+    match Survey::named(alloc, Naming::FixedPosition, n, positions)? {
+        Some(targets) => Ok(targets),
+        None => unreachable!(),
+    }
+}
+
+// The places of the live ones among these entries, as targets.
 pub(crate) fn kept_targets<D: Digester>(
     alloc: Global,
     forest: &Forest<D>,
     outputs: &Outputs,
     noted: &[u64],
-) -> Result<Targets, NoMemory>
+) -> Result<Survey, NoMemory>
     requires live { (i : ℕ) → is_live i outputs.now ≡ true → forest_state.is_live forest.now.entries i ≡ true }
     requires shape { HasShape (length forest.now.entries) (places_in forest.now.entries (filter (λ i. is_live i outputs.now) noted.now)) }
     ensures leaves { IfOk result (λ t. t.leaves ≡ length forest.now.entries) }
@@ -125,9 +143,6 @@ pub(crate) fn kept_targets<D: Digester>(
     let mut positions = Vec::with_capacity(alloc, noted.len())?;
     for number in noted {
         put_position::<D>(&mut positions, forest, outputs, *number)?;
-    }
-    if positions.len() >= 1 << 32 {
-        return Err(NoMemory);
     }
     targets_at(alloc, forest.leaves(), &positions)
 }
@@ -154,7 +169,7 @@ fn merge(alloc: Global, left: &[Place], right: &[Place]) -> Result<Vec<Place>, A
 }
 
 // The places that are known where the kept entries stand at these places: the covered and the needed ones.
-fn known_places(alloc: Global, kept: &Targets) -> Result<Vec<Place>, AllocError>
+fn known_places(alloc: Global, kept: &Survey) -> Result<Vec<Place>, AllocError>
     ensures { IfOk result (λ known. known.items ≡ filter (is_known kept.now.leaves kept.now.targets) (places kept.now.leaves)) }
 {
     let (covered, _) = kept.covered();
@@ -180,7 +195,7 @@ fn put_known(
 pub(crate) fn hashes_of<D: Digester>(
     alloc: Global,
     forest: &Forest<D>,
-    kept: &Targets,
+    kept: &Survey,
 ) -> Result<Vec<(Place, Digest)>, NoMemory>
     requires { kept.now.leaves ≡ length forest.now.entries }
     ensures { IfOk result (λ known. known.items ≡ held D.digest_of forest.now.entries kept.now.targets) }

@@ -1,5 +1,6 @@
 -- The places beside the way up of one place are those that it needs.
-use Rattle.std.proofs.Common.{◌≡◌, ℕ, zero, suc, ◌+◌, ◌-◌, ◌*◌, ◌/◌, ◌%◌, ◌^◌, ◌<◌, ◌≤◌, Bool, true, false, cond, List, [], ◌∷◌, map, Option, Some, None, is_some, refl, sym, ap, ap₂, ◌∙◌, subst, ⊎_elim, inl, inr, arith, eqb-true}
+use Rattle.std.proofs.Common.{◌≡◌, ℕ, zero, suc, ◌+◌, ◌-◌, ◌*◌, ◌/◌, ◌%◌, ◌^◌, ◌<◌, ◌≤◌, Bool, true, false, cond, List, [], ◌∷◌, map, Option, Some}
+use Rattle.std.proofs.Common.{None, is_some, refl, sym, ap, ap₂, ◌∙◌, subst, ⊎_elim, inl, inr, arith, eqb-true}
 use Rattle.std.specs.Prelude.{◌==◌, ◌⊎◌}
 use Rattle.std.proofs.lemmas.Bool.{cases_Bool, cases_eq, false≢true, or_cases, or_left, or_right, and_parts}
 use Rattle.std.proofs.lemmas.Option.{none-some}
@@ -32,7 +33,8 @@ at_place p r o e =
     subst (λ (q : Place). (q.row ≤ r) × (q.off / 2 ^ (r - q.row) ≡ o)) (sym e)
     (omega arith, let z : r - r ≡ 0 = omega arith in ap (λ k. o / 2 ^ k) z ∙ (let y : o / 1 ≡ o = omega arith in y))
 
-one_higher : (p : Place) (r o side : ℕ) → side < 2 → (p.row ≤ r) × (p.off / 2 ^ (r - p.row) ≡ 2 * o + side) → (p.row ≤ suc r) × (p.off / 2 ^ (suc r - p.row) ≡ o)
+one_higher : (p : Place) (r o side : ℕ) → side < 2 → (p.row ≤ r) × (p.off / 2 ^ (r - p.row) ≡ 2 * o + side)
+    → (p.row ≤ suc r) × (p.off / 2 ^ (suc r - p.row) ≡ o)
 one_higher p r o side lt h =
     let le = h.0 in
     let e : suc r - p.row ≡ suc (r - p.row) = omega (arith, le) in
@@ -111,7 +113,9 @@ module _ (n : ℕ) (p : Place) where
   siblings_needed zero r o w a b h = absurd (false≢true h)
   siblings_needed (suc k) r o w a b h = by_root (λ f g. siblings_needed k (suc r) (o / 2) (way_up r o w f) a b g) (is_root n r o) refl h
     where
-      by_root : (is_root n r o ≡ false → has_place (siblings n k (suc r) (o / 2)) a b ≡ true → has_place (need n (p ∷ [])) a b ≡ true) → (x : Bool) → is_root n r o ≡ x → has_place (cond x [] (place r (sibling_off o) ∷ siblings n k (suc r) (o / 2))) a b ≡ true → has_place (need n (p ∷ [])) a b ≡ true
+      by_root : (is_root n r o ≡ false → has_place (siblings n k (suc r) (o / 2)) a b ≡ true → has_place (need n (p ∷ [])) a b ≡ true) → (x : Bool)
+          → is_root n r o ≡ x → has_place (cond x [] (place r (sibling_off o) ∷ siblings n k (suc r) (o / 2))) a b ≡ true
+          → has_place (need n (p ∷ [])) a b ≡ true
       by_root rest true e h = absurd (false≢true h)
       by_root rest false e h =
           ⊎_elim
@@ -124,7 +128,8 @@ module _ (n : ℕ) (p : Place) where
   siblings_from zero r o a b h = absurd (false≢true h)
   siblings_from (suc k) r o a b h = by_root (λ g. siblings_from k (suc r) (o / 2) a b g) (is_root n r o) h
     where
-      by_root : (has_place (siblings n k (suc r) (o / 2)) a b ≡ true → suc r ≤ a) → (x : Bool) → has_place (cond x [] (place r (sibling_off o) ∷ siblings n k (suc r) (o / 2))) a b ≡ true → r ≤ a
+      by_root : (has_place (siblings n k (suc r) (o / 2)) a b ≡ true → suc r ≤ a) → (x : Bool)
+          → has_place (cond x [] (place r (sibling_off o) ∷ siblings n k (suc r) (o / 2))) a b ≡ true → r ≤ a
       by_root rest true h = absurd (false≢true h)
       by_root rest false h =
           ⊎_elim
@@ -136,15 +141,18 @@ module _ (n : ℕ) (p : Place) where
   siblings_ascend zero r o = tt
   siblings_ascend (suc k) r o = by_root (is_root n r o) (siblings_ascend k (suc r) (o / 2))
     where
-      by_root : (x : Bool) → IsAscending (siblings n k (suc r) (o / 2)) → IsAscending (cond x [] (place r (sibling_off o) ∷ siblings n k (suc r) (o / 2)))
+      by_root : (x : Bool) → IsAscending (siblings n k (suc r) (o / 2))
+          → IsAscending (cond x [] (place r (sibling_off o) ∷ siblings n k (suc r) (o / 2)))
       by_root true rest = tt
       by_root false rest = (λ q h. let y = siblings_from k (suc r) (o / 2) q.row q.off h in inl (omega (arith, y)), rest)
 
   -- a place whose sibling is above a place of the way is beside the way
-  siblings_have : (k r o a b : ℕ) → r ≤ a → a < r + k → o / 2 ^ (a - r) ≡ sibling_off b → InForest n a b → is_root n a b ≡ false → has_place (siblings n k r o) a b ≡ true
+  siblings_have : (k r o a b : ℕ) → r ≤ a → a < r + k → o / 2 ^ (a - r) ≡ sibling_off b → InForest n a b → is_root n a b ≡ false
+      → has_place (siblings n k r o) a b ≡ true
   siblings_have zero r o a b le lt e h other = absurd (omega (arith, le, lt))
   siblings_have (suc k) r o a b le lt e h other =
-      ⊎_elim (λ same. here same) (λ apart. further (λ x y z. siblings_have k (suc r) (o / 2) a b x y z h other) (omega (arith, le, apart))) (cases_eq r a)
+      ⊎_elim (λ same. here same) (λ apart. further (λ x y z. siblings_have k (suc r) (o / 2) a b x y z h other) (omega (arith, le, apart)))
+      (cases_eq r a)
     where
       here : r ≡ a → has_place (siblings n (suc k) r o) a b ≡ true
       here same =
@@ -156,13 +164,15 @@ module _ (n : ℕ) (p : Place) where
           let first : is_at a b (place r (sibling_off o)) ≡ true = ap₂ (λ x y. is_at a b (place x y)) same back ∙ is_at-same a b in
           rw top (or_left (is_at a b (place r (sibling_off o))) (has_place (siblings n k (suc r) (o / 2)) a b) first)
 
-      further : (suc r ≤ a → a < suc r + k → o / 2 / 2 ^ (a - suc r) ≡ sibling_off b → has_place (siblings n k (suc r) (o / 2)) a b ≡ true) → r < a → has_place (siblings n (suc k) r o) a b ≡ true
+      further : (suc r ≤ a → a < suc r + k → o / 2 / 2 ^ (a - suc r) ≡ sibling_off b → has_place (siblings n k (suc r) (o / 2)) a b ≡ true) → r < a
+          → has_place (siblings n (suc k) r o) a b ≡ true
       further rest_has below =
           let z : a - r ≡ suc (a - suc r) = omega (arith, below) in
           let next : o / 2 / 2 ^ (a - suc r) ≡ sibling_off b = sym (ap (λ j. o / 2 ^ j) z ∙ half_pow o (a - suc r)) ∙ e in
           let sib = sibling_within n a b h other in
           let row : suc r + (a - suc r) ≡ a = omega (arith, below) in
-          let up : InForest n (suc r) (o / 2) = InForest-beneath n (a - suc r) (suc r) (o / 2) (subst (λ x. InForest n (suc r + (a - suc r)) x) (sym next) (subst (λ x. InForest n x (sibling_off b)) (sym row) sib)) in
+          let up : InForest n (suc r) (o / 2) = InForest-beneath n (a - suc r) (suc r) (o / 2)
+          (subst (λ x. InForest n (suc r + (a - suc r)) x) (sym next) (subst (λ x. InForest n x (sibling_off b)) (sym row) sib)) in
           let top = not_root-down n r o up in
           let rest = rest_has (omega (arith, below)) (omega (arith, lt)) next in
           rw top (or_right (is_at a b (place r (sibling_off o))) (has_place (siblings n k (suc r) (o / 2)) a b) rest)
@@ -182,7 +192,8 @@ module _ (n : ℕ) (p : Place) where
       on_way = (within, covered_target (p ∷ []) p.row p.off (or_left (is_at p.row p.off p) false (is_at-same p.row p.off)))
 
   -- what is held on a way up is what is held beside it
-  pub way_held : (hs : List (Place × Digest)) (k r o : ℕ) → ((a b : ℕ) → has_place (siblings n k r o) a b ≡ true → (d : Digest) × (look hs a b ≡ Some d)) → ((a b : ℕ) (d : Digest) → look hs a b ≡ Some d → InForest n a b) →
+  pub way_held : (hs : List (Place × Digest)) (k r o : ℕ) → ((a b : ℕ) → has_place (siblings n k r o) a b ≡ true
+      → (d : Digest) × (look hs a b ≡ Some d)) → ((a b : ℕ) (d : Digest) → look hs a b ≡ Some d → InForest n a b) →
       map Some (beside_way k hs r o) ≡ map (λ (q : Place). look hs q.row q.off) (siblings n k r o)
   way_held hs zero r o each within = refl
   way_held hs (suc k) r o each within = by_root (λ f. way_held hs k (suc r) (o / 2) f within) (is_root n r o) refl each
@@ -196,11 +207,17 @@ module _ (n : ℕ) (p : Place) where
           let lt = within r (sibling_off o) d e in
           absurd (⊎_elim (λ a. let z : ⊥ = omega (arith, a, even, last, lt) in z) (λ a. let z : ⊥ = omega (arith, a, even) in z) (sibling_cases o))
 
-      by_root : (((a b : ℕ) → has_place (siblings n k (suc r) (o / 2)) a b ≡ true → (d : Digest) × (look hs a b ≡ Some d)) → map Some (beside_way k hs (suc r) (o / 2)) ≡ map (λ (q : Place). look hs q.row q.off) (siblings n k (suc r) (o / 2))) → (x : Bool) → is_root n r o ≡ x →
-          ((a b : ℕ) → has_place (cond x [] (place r (sibling_off o) ∷ siblings n k (suc r) (o / 2))) a b ≡ true → (d : Digest) × (look hs a b ≡ Some d)) →
-          map Some (led (look hs r (sibling_off o)) (beside_way k hs (suc r) (o / 2))) ≡ map (λ (q : Place). look hs q.row q.off) (cond x [] (place r (sibling_off o) ∷ siblings n k (suc r) (o / 2)))
+      by_root : (((a b : ℕ) → has_place (siblings n k (suc r) (o / 2)) a b ≡ true → (d : Digest) × (look hs a b ≡ Some d))
+          → map Some (beside_way k hs (suc r) (o / 2)) ≡ map (λ (q : Place). look hs q.row q.off) (siblings n k (suc r) (o / 2))) → (x : Bool)
+          → is_root n r o ≡ x →
+          ((a b : ℕ) → has_place (cond x [] (place r (sibling_off o) ∷ siblings n k (suc r) (o / 2))) a b ≡ true
+          → (d : Digest) × (look hs a b ≡ Some d)) →
+          map Some (led (look hs r (sibling_off o)) (beside_way k hs (suc r) (o / 2)))
+          ≡ map (λ (q : Place). look hs q.row q.off) (cond x [] (place r (sibling_off o) ∷ siblings n k (suc r) (o / 2)))
       by_root rest true e has = led_none (look hs r (sibling_off o)) (beside_way k hs (suc r) (o / 2)) (nothing e (look hs r (sibling_off o)) refl)
       by_root rest false e has =
-          let d = has r (sibling_off o) (or_left (is_at r (sibling_off o) (place r (sibling_off o))) (has_place (siblings n k (suc r) (o / 2)) r (sibling_off o)) (is_at-same r (sibling_off o))) in
+          let d = has r (sibling_off o) (or_left (is_at r (sibling_off o) (place r (sibling_off o)))
+          (has_place (siblings n k (suc r) (o / 2)) r (sibling_off o)) (is_at-same r (sibling_off o))) in
           led_some (look hs r (sibling_off o)) d.0 (beside_way k hs (suc r) (o / 2)) d.1
-          ∙ ap (λ ys. look hs r (sibling_off o) ∷ ys) (rest (λ a b h. has a b (or_right (is_at a b (place r (sibling_off o))) (has_place (siblings n k (suc r) (o / 2)) a b) h)))
+          ∙ ap (λ ys. look hs r (sibling_off o) ∷ ys)
+          (rest (λ a b h. has a b (or_right (is_at a b (place r (sibling_off o))) (has_place (siblings n k (suc r) (o / 2)) a b) h)))

@@ -1,5 +1,6 @@
 -- The proof of a kept entry, read off what is held on its way up.
-use Rattle.std.proofs.Common.{◌≡◌, ℕ, ◌-◌, ◌^◌, ◌<◌, Bool, true, false, List, [], ◌∷◌, map, length, get_or, filter_map, Option, Some, None, refl, sym, ap, ◌∙◌, subst, ⊎_elim, arith}
+use Rattle.std.proofs.Common.{◌≡◌, ℕ, ◌-◌, ◌^◌, ◌<◌, Bool, true, false, List, [], ◌∷◌, map, length, get_or, filter_map, Option, Some, None, refl, sym}
+use Rattle.std.proofs.Common.{ap, ◌∙◌, subst, ⊎_elim, arith}
 use Rattle.std.specs.Prelude.{option_map}
 use Rattle.std.specs.List.{cons_option}
 use Rattle.std.proofs.lemmas.Bool.{cases_Bool, or_cases, false≢true}
@@ -60,16 +61,19 @@ module _ (H : List ℕ → Digest) (es : List (Option Digest)) (w : ℕ → Bool
       record {
         place = q;
         stands = entry_place-leaf es i q.row q.off d s.stands;
-        right = way_held (length es) q all_held (40 - q.row) q.row q.off (λ a b h. each_held a b (subst (λ ps. has_place ps a b ≡ true) same h)) (λ a b d e. look_within H es w a b d e)
+        right = way_held (length es) q all_held (40 - q.row) q.row q.off (λ a b h. each_held a b (subst (λ ps. has_place ps a b ≡ true) same h))
+            (λ a b d e. look_within H es w a b d e)
             ∙ (ap (map (λ (p : Place). look all_held p.row p.off)) same ∙ proof_right H es w i d q s);
       }
 
 -- what is found comes from one element
-found_from : {X : Type 0} (f : X → Option Kept) (i : ℕ) (xs : List X) (v : Kept) → find is_same_number leaf_key i (filter_map f xs) ≡ Some v → (x : X) × (f x ≡ Some v)
+found_from : {X : Type 0} (f : X → Option Kept) (i : ℕ) (xs : List X) (v : Kept) → find is_same_number leaf_key i (filter_map f xs) ≡ Some v
+    → (x : X) × (f x ≡ Some v)
 found_from f i [] v e = absurd (none-some v e)
 found_from {X = X} f i (x ∷ xs) v e = by_first (f x) refl e (found_from f i xs v)
   where
-    by_first : (y : Option Kept) → f x ≡ y → find is_same_number leaf_key i (cons_option y (filter_map f xs)) ≡ Some v → (find is_same_number leaf_key i (filter_map f xs) ≡ Some v → (z : X) × (f z ≡ Some v)) → (z : X) × (f z ≡ Some v)
+    by_first : (y : Option Kept) → f x ≡ y → find is_same_number leaf_key i (cons_option y (filter_map f xs)) ≡ Some v
+        → (find is_same_number leaf_key i (filter_map f xs) ≡ Some v → (z : X) × (f z ≡ Some v)) → (z : X) × (f z ≡ Some v)
     by_first None g e rest = rest e
     by_first (Some y) g e rest =
         ⊎_elim
@@ -80,15 +84,21 @@ found_from {X = X} f i (x ∷ xs) v e = by_first (f x) refl e (found_from f i xs
 pub proof_climbed : ProofIsClimbed
 proof_climbed H text scripts us ks hs number hashes few s e = by_found (find is_same_number leaf_key number ks) refl e
   where
-    by_found : (x : Option Kept) → find is_same_number leaf_key number ks ≡ x → option_map (λ (p : Place). beside_way (40 - p.row) hs p.row p.off) (option_map (λ (k : Kept). k.place) x) ≡ Some hashes → IsProofOf H (entries H text us) number hashes
+    by_found : (x : Option Kept) → find is_same_number leaf_key number ks ≡ x
+        → option_map (λ (p : Place). beside_way (40 - p.row) hs p.row p.off) (option_map (λ (k : Kept). k.place) x) ≡ Some hashes
+        → IsProofOf H (entries H text us) number hashes
     by_found None g e = absurd (none-some hashes e)
     by_found (Some k) g e =
-        let from = found_from (leaf_at H text scripts us) number (numbers (length us)) k (ap (find is_same_number leaf_key number) (sym (s.of_kept ∙ leaves_are H text scripts us)) ∙ g) in
-        let is = there (λ leaf. H (text leaf)) from.0 (get_or us from.0 None) (watched_place (entries H text us) (watch scripts us) from.0) k from.1 in
+        let from = found_from (leaf_at H text scripts us) number (numbers (length us)) k
+        (ap (find is_same_number leaf_key number) (sym (s.of_kept ∙ leaves_are H text scripts us)) ∙ g) in
+        let is = there (λ leaf. H (text leaf)) from.0 (get_or us from.0 None) (watched_place (entries H text us) (watch scripts us) from.0) k
+        from.1 in
         let kept = place_kept (entries H text us) (watch scripts us) from.0 k.place is.1 in
         let same : from.0 ≡ number = sym is.0 ∙ found_key is_same_number is_before_number leaf_key number_order number ks k g in
-        let all : hs ≡ held H (entries H text us) (watched_places (entries H text us) (watch scripts us)) = s.of_held ∙ ap (held H (entries H text us)) (sym (places_are H text scripts us)) in
-        let proof = climbed H (entries H text us) (watch scripts us) from.0 kept.0 k.place kept.1 (subst (λ n. n < 2 ^ 40) (sym (same_count H text us)) few) in
+        let all : hs ≡ held H (entries H text us) (watched_places (entries H text us) (watch scripts us)) =
+        s.of_held ∙ ap (held H (entries H text us)) (sym (places_are H text scripts us)) in
+        let proof = climbed H (entries H text us) (watch scripts us) from.0 kept.0 k.place kept.1
+        (subst (λ n. n < 2 ^ 40) (sym (same_count H text us)) few) in
         subst (λ (n : ℕ). IsProofOf H (entries H text us) n hashes) same
         (subst (IsProofOf H (entries H text us) from.0) (same_Some (beside_way (40 - k.place.row) hs k.place.row k.place.off) hashes e)
         (subst (λ xs. IsProofOf H (entries H text us) from.0 (beside_way (40 - k.place.row) xs k.place.row k.place.off)) (sym all) proof))

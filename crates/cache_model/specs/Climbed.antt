@@ -40,5 +40,6 @@ pub record IsProofOf (H : List ℕ → Digest) (es : List (Option Digest)) (numb
 
 -- what is held on the way up of a kept entry is its proof
 abbrev pub ProofIsClimbed : Type 0
-ProofIsClimbed = (H : List ℕ → Digest) (text : Leaf → List ℕ) (scripts : List (List ℕ)) (us : History) (ks : List Kept) (hs : List (Place × Digest)) (number : ℕ) (hashes : List Digest) →
+ProofIsClimbed = (H : List ℕ → Digest) (text : Leaf → List ℕ) (scripts : List (List ℕ)) (us : History) (ks : List Kept) (hs : List (Place × Digest))
+    (number : ℕ) (hashes : List Digest) →
     length us < 2 ^ 40 → IsCacheOf H text scripts us ks hs → proof_in ks hs number ≡ Some hashes → IsProofOf H (entries H text us) number hashes

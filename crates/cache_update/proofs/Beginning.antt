@@ -1,5 +1,6 @@
 -- The places of the kept entries behind a deletion, and a mark right after it was made.
-use Rattle.std.proofs.Common.{◌≡◌, ℕ, ◌+◌, ◌<◌, ◌≤◌, List, [], ◌∷◌, map, filter_map, length, Option, Some, None, refl, sym, ap, ap₂, ◌∙◌, subst, ⊎_elim, All, arith}
+use Rattle.std.proofs.Common.{◌≡◌, ℕ, ◌+◌, ◌<◌, ◌≤◌, List, [], ◌∷◌, map, filter_map, length, Option, Some, None, refl, sym, ap, ap₂, ◌∙◌, subst}
+use Rattle.std.proofs.Common.{⊎_elim, All, arith}
 use Rattle.std.specs.Prelude.{option_map, count_ones}
 use Rattle.std.specs.List.{cons_option}
 use Rattle.std.proofs.lemmas.Bool.{cases_Bool, true≢false, or_left, or_right}
@@ -23,20 +24,23 @@ use Rattle.cache_update.specs.Begun.{new_position, IsRoom, IsMark}
 use Rattle.cache_update.specs.Descent.{TellGoals}
 use Rattle.cache_update.specs.Differences.{where_stood}
 use Rattle.cache_update.specs.Given.{kept_given}
-use Rattle.cache_update.specs.Marks.{BoxedRoom, AreOfForest, HasRoomFor, HasRoomLeft, Fits, IsUnusedIn, WasBegun, kept_back, held_back, held_from, HoldKnown}
+use Rattle.cache_update.specs.Marks.{BoxedRoom, AreOfForest, HasRoomFor, HasRoomLeft, Fits, IsUnusedIn, WasBegun, kept_back, held_back, held_from}
+use Rattle.cache_update.specs.Marks.{HoldKnown}
 use Rattle.cache_update.proofs.Marking.{fresh_back, stood_ascends, stood_names, IsNamed}
 use Rattle.cache_update.proofs.Giving.{stood_key}
 use Rattle.cache_model.specs.Undo.{Ascends, is_same_number, is_before_number}
 use Rattle.cache_model.specs.Lists.{AscendByPlace, AscendByNumber}
 use Rattle.cache_update.proofs.Within.{IsKeptIn, IsHeldIn, moved_in}
 
-pub positions_are : (n : ℕ) (ts : List Place) (ks : List Kept) → filter_map (λ (k : Kept). new_position n ts k.place) ks ≡ positions_of n (leaf_places (moved_leaves n ts ks))
+pub positions_are : (n : ℕ) (ts : List Place) (ks : List Kept)
+    → filter_map (λ (k : Kept). new_position n ts k.place) ks ≡ positions_of n (leaf_places (moved_leaves n ts ks))
 positions_are n ts [] = refl
 positions_are n ts (k ∷ ks) = by_move (moved n ts k.place.row k.place.off) (positions_are n ts ks)
   where
     by_move : (q : Option Place) → filter_map (λ (k : Kept). new_position n ts k.place) ks ≡ positions_of n (leaf_places (moved_leaves n ts ks)) →
         cons_option (option_map (λ (p : Place). position n p.row p.off) q) (filter_map (λ (k : Kept). new_position n ts k.place) ks)
-        ≡ positions_of n (leaf_places (cons_option (option_map (λ (p : Place). let x : Kept = record { number = k.number; leaf = k.leaf; place = p; digest = k.digest } in x) q) (moved_leaves n ts ks)))
+        ≡ positions_of n (leaf_places (cons_option (option_map (λ (p : Place). let x : Kept =
+        record { number = k.number; leaf = k.leaf; place = p; digest = k.digest } in x) q) (moved_leaves n ts ks)))
     by_move None rest = rest
     by_move (Some q) rest = ap (λ ps. position n q.row q.off ∷ ps) rest
 
@@ -53,7 +57,8 @@ places_same n (p ∷ ps) [] a b e = let z = ap length e in absurd (omega (arith,
 places_same n (p ∷ ps) (q ∷ qs) a b e =
     let first : position n p.row p.off ≡ position n q.row q.off = cc in
     let rest : positions_of n ps ≡ positions_of n qs = cc in
-    ap₂ (λ x xs. x ∷ xs) (one_position n p q (within_first n p ps a) (within_first n q qs b) first) (places_same n ps qs (within_rest n p ps a) (within_rest n q qs b) rest)
+    ap₂ (λ x xs. x ∷ xs) (one_position n p q (within_first n p ps a) (within_first n q qs b) first)
+    (places_same n ps qs (within_rest n p ps a) (within_rest n q qs b) rest)
 
 kept_within : (n : ℕ) (ks : List Kept) → All (IsKeptIn n) ks → AreWithin n (leaf_places ks)
 kept_within n [] a r o h = absurd (true≢false (sym h))
@@ -64,16 +69,19 @@ kept_within n (k ∷ ks) a r o h =
     (cases_Bool (is_at r o k.place))
 
 -- targets at the new positions are the new places
-pub places_are : (n n' : ℕ) (ts : List Place) (ks : List Kept) (t : Targeted) (numbers : List ℕ) → All (IsKeptIn n) ks → n' ≡ n → t.leaves ≡ n' → AreTargets n' numbers t.targets → numbers ≡ positions_of n (leaf_places (moved_leaves n ts ks)) →
+pub places_are : (n n' : ℕ) (ts : List Place) (ks : List Kept) (t : Targeted) (numbers : List ℕ) → All (IsKeptIn n) ks → n' ≡ n → t.leaves ≡ n'
+    → AreTargets n' numbers t.targets → numbers ≡ positions_of n (leaf_places (moved_leaves n ts ks)) →
     t ≡ record { leaves = n; targets = leaf_places (moved_leaves n ts ks) }
 places_are n n' ts ks t numbers a e f are g =
     let are' : AreTargets n numbers t.targets = subst (λ (k : ℕ). AreTargets k numbers t.targets) e are in
     let within : AreWithin n t.targets = (λ r o h. are'.shape.within (record { row = r; off = o }) h) in
     ap₂ (λ (l : ℕ) (ps : List Place). let x : Targeted = record { leaves = l; targets = ps } in x) (f ∙ e)
-    (places_same n t.targets (leaf_places (moved_leaves n ts ks)) within (kept_within n (moved_leaves n ts ks) (moved_in n ts ks a)) (are'.numbered ∙ g))
+    (places_same n t.targets (leaf_places (moved_leaves n ts ks)) within (kept_within n (moved_leaves n ts ks) (moved_in n ts ks a))
+    (are'.numbered ∙ g))
 
 -- a mark that was just made
-module _ (t : Targeted) (p q : Parted) (adds watched : ℕ) (r : BoxedRoom) (m : Mark) (ordered : IsParted p) (forest : AreOfForest t.leaves p) (room : IsRoom t p adds r.value) (mark : IsMark t p adds watched r m) (kept : q.kept ≡ p.kept) (held : q.held ≡ p.held)
+module _ (t : Targeted) (p q : Parted) (adds watched : ℕ) (r : BoxedRoom) (m : Mark) (ordered : IsParted p) (forest : AreOfForest t.leaves p)
+    (room : IsRoom t p adds r.value) (mark : IsMark t p adds watched r m) (kept : q.kept ≡ p.kept) (held : q.held ≡ p.held)
     (kept_room : length p.kept + watched < q.kept_room) (held_room : r.value.most ≤ q.held_room) where
   pub begun_kept : kept_back m q.kept ≡ p.kept
   begun_kept =
@@ -97,7 +105,8 @@ module _ (t : Targeted) (p q : Parted) (adds watched : ℕ) (r : BoxedRoom) (m :
       record {
         ordered = (subst AscendByNumber (sym kept) ordered.0, subst AscendByPlace (sym held) ordered.1);
         forest = record {
-          numbers = subst (λ (n : ℕ). All (λ (k : Kept). k.number < n) q.kept) (sym mark.leaves) (subst (All (λ (k : Kept). k.number < t.leaves)) (sym kept) forest.numbers);
+          numbers = subst (λ (n : ℕ). All (λ (k : Kept). k.number < n) q.kept) (sym mark.leaves)
+              (subst (All (λ (k : Kept). k.number < t.leaves)) (sym kept) forest.numbers);
           kept = subst (λ (n : ℕ). All (IsKeptIn n) q.kept) (sym mark.leaves) (subst (All (IsKeptIn t.leaves)) (sym kept) forest.kept);
           held = subst (λ (n : ℕ). All (IsHeldIn n) q.held) (sym mark.leaves) (subst (All (IsHeldIn t.leaves)) (sym held) forest.held);
         };
@@ -134,8 +143,14 @@ module _ (t : Targeted) (p q : Parted) (adds watched : ℕ) (r : BoxedRoom) (m :
       let long = ap length kept in
       subst (IsUnusedIn t m q) (sym mark.room) (record {
         leaves = sym mark.leaves;
-        kept = room.kept ∙ ap (λ (ks : List Kept). let x : Targeted = record { leaves = t.leaves; targets = leaf_places (moved_leaves t.leaves t.targets ks) } in x) (sym kept);
-        known = (room.known.0, subst (λ (ks : List Kept). HoldKnown t.leaves (leaf_places (moved_leaves t.leaves t.targets ks)) room.known.0) (sym kept) room.known.1, omega (arith, count, mark.adds_are, room.known.2));
+        kept = room.kept ∙ ap (λ (ks : List Kept). let x : Targeted =
+            record { leaves = t.leaves; targets = leaf_places (moved_leaves t.leaves t.targets ks) } in x) (sym kept);
+        known = (
+          room.known.0,
+          subst (λ (ks : List Kept). HoldKnown t.leaves (leaf_places (moved_leaves t.leaves t.targets ks)) room.known.0)
+              (sym kept) room.known.1,
+          omega (arith, count, mark.adds_are, room.known.2),
+        );
         taken = (mark.taken, mark.added, mark.stood ∙ ap (map where_stood) (sym kept));
         taken_room = omega (arith, long, mark.taken_room);
         moves = room.moves;
@@ -144,7 +159,8 @@ module _ (t : Targeted) (p q : Parted) (adds watched : ℕ) (r : BoxedRoom) (m :
       })
 
 -- a mark with no block fits where there is room for what it gives back
-pub between_fits : (m : Mark) (p newer older : Parted) → m.room ≡ None → m.adds ≡ 0 → kept_back m newer.kept ≡ older.kept → held_back m newer.held ≡ older.held → (p.kept ≡ newer.kept) × (p.held ≡ newer.held) →
+pub between_fits : (m : Mark) (p newer older : Parted) → m.room ≡ None → m.adds ≡ 0 → kept_back m newer.kept ≡ older.kept
+    → held_back m newer.held ≡ older.held → (p.kept ≡ newer.kept) × (p.held ≡ newer.held) →
     length older.kept < p.kept_room → length older.held < p.held_room → Fits m p
 between_fits m p newer older none done kept held same kept_room held_room =
     let a = ap length (ap (kept_back m) same.0 ∙ kept) in

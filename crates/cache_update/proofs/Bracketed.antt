@@ -1,5 +1,6 @@
 -- A number sought among others that do not decrease.
-use Rattle.std.proofs.Common.{◌≡◌, ℕ, ◌+◌, ◌-◌, ◌<◌, ◌≤◌, true, false, Bool, not, ◌||◌, ◌&&◌, List, length, get_or, min, ◌⊎◌, inl, inr, ⊎_elim, arith, is_some, refl, sym, ap, ap₂, ◌∙◌, subst}
+use Rattle.std.proofs.Common.{◌≡◌, ℕ, ◌+◌, ◌-◌, ◌<◌, ◌≤◌, true, false, Bool, not, ◌||◌, ◌&&◌, List, length, get_or, min, ◌⊎◌, inl, inr, ⊎_elim, arith}
+use Rattle.std.proofs.Common.{is_some, refl, sym, ap, ap₂, ◌∙◌, subst}
 use Rattle.std.specs.Prelude.{Ok, Err}
 use Rattle.std.proofs.lemmas.Bool.{cases_lt, cases_Bool}
 use Rattle.std.specs.Bool.{OnTrue, OnFalse}
@@ -35,9 +36,16 @@ module _ (xs : List ℕ) (x low high m : ℕ) (sorted : IsNonDecreasing xs) (b :
 
 -- before anything is known
 pub bracket_all : (xs : List ℕ) (x : ℕ) → IsBracket xs x 0 (length xs)
-bracket_all xs x = record { order = omega arith; within = omega arith; below = λ k lt. absurd (omega (arith, lt)); above = λ k from inside. absurd (omega (arith, from, inside)) }
+bracket_all xs x = record {
+  order = omega arith;
+  within = omega arith;
+  below = λ k lt. absurd (omega (arith, lt));
+  above =
+      λ k from inside. absurd (omega (arith, from, inside));
+}
 
-pub bracket_back : (xs : List ℕ) (x near m : ℕ) → IsNonDecreasing xs → m ≡ min near (length xs) → (near < length xs → x ≤ get_or xs near 0) → IsBracket xs x 0 m
+pub bracket_back : (xs : List ℕ) (x near m : ℕ) → IsNonDecreasing xs → m ≡ min near (length xs) → (near < length xs → x ≤ get_or xs near 0)
+    → IsBracket xs x 0 m
 bracket_back xs x near m sorted e other = record {
   order = omega arith;
   within = omega (arith, e);
@@ -49,14 +57,23 @@ bracket_back xs x near m sorted e other = record {
 }
 
 pub bracket_end : (xs : List ℕ) (x low high : ℕ) → IsBracket xs x low high → high ≤ low → IsBracket xs x low low
-bracket_end xs x low high b le = let o = b.order in let w = b.within in record { order = omega arith; within = omega (arith, o, w, le); below = b.below; above = λ k from inside. b.above k (omega (arith, from, le)) inside }
+bracket_end xs x low high b le = let o = b.order in let w = b.within in
+    record {
+      order = omega arith;
+      within = omega (arith, o, w, le);
+      below = b.below;
+      above =
+          λ k from inside. b.above k (omega (arith, from, le)) inside;
+    }
 
 -- what stands there tells whether the place is covered
-pub tells_there : (n : ℕ) (ts cs : List Place) (xs : List ℕ) (p : Place) (x at : ℕ) → x ≡ position n p.row p.off → IsCoverOf n ts cs → xs ≡ positions_of n cs → InForest n p.row p.off → at < length xs → get_or xs at 0 ≡ x →
+pub tells_there : (n : ℕ) (ts cs : List Place) (xs : List ℕ) (p : Place) (x at : ℕ) → x ≡ position n p.row p.off → IsCoverOf n ts cs
+    → xs ≡ positions_of n cs → InForest n p.row p.off → at < length xs → get_or xs at 0 ≡ x →
     true ≡ is_some (cover ts p.row p.off)
 tells_there n ts cs xs p x at e s f within lt same = tells n ts cs xs p x (Ok at) e s f within (λ sorted. (lt, same))
 
-pub tells_absent : (n : ℕ) (ts cs : List Place) (xs : List ℕ) (p : Place) (x at : ℕ) → x ≡ position n p.row p.off → IsCoverOf n ts cs → xs ≡ positions_of n cs → InForest n p.row p.off → IsBracket xs x at at → (at < length xs → get_or xs at 0 ≡ x → ⊥) →
+pub tells_absent : (n : ℕ) (ts cs : List Place) (xs : List ℕ) (p : Place) (x at : ℕ) → x ≡ position n p.row p.off → IsCoverOf n ts cs
+    → xs ≡ positions_of n cs → InForest n p.row p.off → IsBracket xs x at at → (at < length xs → get_or xs at 0 ≡ x → ⊥) →
     false ≡ is_some (cover ts p.row p.off)
 tells_absent n ts cs xs p x at e s f within b other = tells n ts cs xs p x (Err at) e s f within (λ sorted. (
   b.within,
@@ -71,7 +88,8 @@ tells_absent n ts cs xs p x at e s f within b other = tells n ts cs xs p x (Err 
     ne_lt a c le le' ne = omega (arith, le, le', ne)
 
 -- a number that is one more or one less than an absent one, and stands neither there nor before
-pub beside_absent : (xs : List ℕ) (x y at : ℕ) → IsNonDecreasing xs → IsBracket xs x at at → (at < length xs → get_or xs at 0 ≡ x → ⊥) → (y ≡ x + 1) ⊎ (y + 1 ≡ x) → (at < length xs → get_or xs at 0 ≡ y → ⊥) → (0 < at → get_or xs (at - 1) 0 ≡ y → ⊥) → IsBracket xs y at at
+pub beside_absent : (xs : List ℕ) (x y at : ℕ) → IsNonDecreasing xs → IsBracket xs x at at → (at < length xs → get_or xs at 0 ≡ x → ⊥)
+    → (y ≡ x + 1) ⊎ (y + 1 ≡ x) → (at < length xs → get_or xs at 0 ≡ y → ⊥) → (0 < at → get_or xs (at - 1) 0 ≡ y → ⊥) → IsBracket xs y at at
 beside_absent xs x y at sorted b other near here before = record {
   order = omega arith;
   within = b.within;
@@ -99,11 +117,13 @@ beside_absent xs x y at sorted b other near here before = record {
     higher a c e le le' ne = omega (arith, e, le, le', ne)
 
 -- whether a place is known, by what stands near its position
-known_by : (n : ℕ) (ts : List Place) (p : Place) (b : Bool) → false ≡ is_some (cover ts p.row p.off) → is_root n p.row p.off ≡ false → b ≡ is_some (cover ts p.row (sibling_off p.off)) → b ≡ is_known n ts p
+known_by : (n : ℕ) (ts : List Place) (p : Place) (b : Bool) → false ≡ is_some (cover ts p.row p.off) → is_root n p.row p.off ≡ false
+    → b ≡ is_some (cover ts p.row (sibling_off p.off)) → b ≡ is_known n ts p
 known_by n ts p b a r e =
     sym (ap₂ (λ x y. x || (not (is_root n p.row p.off) && not x && y)) (sym a) (sym e) ∙ ap (λ t. false || (not t && not false && b)) r)
 
-module _ (n : ℕ) (ts cs : List Place) (xs : List ℕ) (p : Place) (x at : ℕ) (e : x ≡ position n p.row p.off) (s : IsCoverOf n ts cs) (f : xs ≡ positions_of n cs) (within : InForest n p.row p.off) where
+module _ (n : ℕ) (ts cs : List Place) (xs : List ℕ) (p : Place) (x at : ℕ) (e : x ≡ position n p.row p.off) (s : IsCoverOf n ts cs)
+    (f : xs ≡ positions_of n cs) (within : InForest n p.row p.off) where
   pub known_there : at < length xs → get_or xs at 0 ≡ x → true ≡ is_known n ts p
   known_there lt same = ap (λ b. b || is_needed n ts p) (tells_there n ts cs xs p x at e s f within lt same)
 
@@ -125,9 +145,11 @@ module _ (n : ℕ) (ts cs : List Place) (xs : List ℕ) (p : Place) (x at : ℕ)
           (sibling_cases p.off)
 
       pub known_beside : (k : ℕ) → k < length xs → get_or xs k 0 ≡ y → true ≡ is_known n ts p
-      known_beside k lt same = known_by n ts p true absent inner (tells_there n ts cs xs beside y k g s f (sibling_within n p.row p.off within inner) lt same)
+      known_beside k lt same = known_by n ts p true absent inner
+          (tells_there n ts cs xs beside y k g s f (sibling_within n p.row p.off within inner) lt same)
 
-      pub known_before : (t : Bool) → (at < length xs → get_or xs at 0 ≡ y → ⊥) → OnTrue t ((0 < at) × (get_or xs (at - 1) 0 ≡ y)) → OnFalse t (0 < at → get_or xs (at - 1) 0 ≡ y → ⊥) → t ≡ is_known n ts p
+      pub known_before : (t : Bool) → (at < length xs → get_or xs at 0 ≡ y → ⊥) → OnTrue t ((0 < at) × (get_or xs (at - 1) 0 ≡ y))
+          → OnFalse t (0 < at → get_or xs (at - 1) 0 ≡ y → ⊥) → t ≡ is_known n ts p
       known_before true here there none = let w = b.within in let some = there.0 in known_beside (at - 1) (omega (arith, w, some)) there.1
       known_before false here there none =
           known_by n ts p false absent inner
@@ -143,7 +165,8 @@ module _ (n : ℕ) (ts cs : List Place) (xs : List ℕ) (p : Place) (x at : ℕ)
     apart = record {
       order = omega arith;
       within = le;
-      below = λ k lt. let under = low (omega (arith, lt)) in let rest = sorted k (at - 1) 0 (omega (arith, lt)) (omega (arith, lt, le)) in omega (arith, under, rest);
+      below = λ k lt. let under = low (omega (arith, lt)) in let rest = sorted k (at - 1) 0 (omega (arith, lt)) (omega (arith, lt, le)) in
+          omega (arith, under, rest);
       above = λ k from inside. let over = high (omega (arith, from, inside)) in let rest = sorted at k 0 from inside in omega (arith, over, rest);
     }
 
@@ -157,8 +180,10 @@ module _ (n : ℕ) (ts cs : List Place) (xs : List ℕ) (p : Place) (x at : ℕ)
         by_inner r =
             let y = position n p.row (sibling_off p.off) in
             let beside_is = near apart not_there r y refl in
-            let here : at < length xs → get_or xs at 0 ≡ y → ⊥ = λ lt same. let over = high lt in ⊎_elim (λ z. omega (arith, over, same, z)) (λ z. omega (arith, over, same, z)) beside_is in
-            let before : 0 < at → get_or xs (at - 1) 0 ≡ y → ⊥ = λ lt same. let under = low lt in ⊎_elim (λ z. omega (arith, under, same, z)) (λ z. omega (arith, under, same, z)) beside_is in
+            let here : at < length xs → get_or xs at 0 ≡ y → ⊥ = λ lt same. let over = high lt in
+            ⊎_elim (λ z. omega (arith, over, same, z)) (λ z. omega (arith, over, same, z)) beside_is in
+            let before : 0 < at → get_or xs (at - 1) 0 ≡ y → ⊥ = λ lt same. let under = low lt in
+            ⊎_elim (λ z. omega (arith, under, same, z)) (λ z. omega (arith, under, same, z)) beside_is in
             known_by n ts p false (absent apart not_there) r
             (tells_absent n ts cs xs (beside apart not_there r y refl) y at refl s f (sibling_within n p.row p.off within r)
             (beside_absent xs x y at sorted apart not_there beside_is here before) here)

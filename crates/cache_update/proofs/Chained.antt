@@ -23,7 +23,8 @@ none_keep : (gained : List Place) → KeepKeys held_key (map digest_none gained)
 none_keep [] = tt
 none_keep (p ∷ gained) = (λ now v e. absurd (none-some v e), none_keep gained)
 
-pub given_ascends : (lost : List (Place × Digest)) (gained : List Place) (hs : List (Place × Digest)) → AscendByPlace hs → AscendByPlace (held_given lost gained hs)
+pub given_ascends : (lost : List (Place × Digest)) (gained : List Place) (hs : List (Place × Digest)) → AscendByPlace hs
+    → AscendByPlace (held_given lost gained hs)
 given_ascends lost gained hs a =
     (undone is_same_place is_before_place held_key place_order (map digest_was lost) (undo_digests (map digest_none gained) hs)
     (undone is_same_place is_before_place held_key place_order (map digest_none gained) hs a (none_keep gained)).0 (was_keep lost)).0
@@ -43,7 +44,8 @@ in_order m p fits = by_room m.room fits.left
     by_room (Some r) h = h.before
 
 -- the same lists in more room
-module _ (m : Mark) (p q : Parted) (kept : q.kept ≡ p.kept) (held : q.held ≡ p.held) (kept_room : p.kept_room ≤ q.kept_room) (held_room : p.held_room ≤ q.held_room) where
+module _ (m : Mark) (p q : Parted) (kept : q.kept ≡ p.kept) (held : q.held ≡ p.held) (kept_room : p.kept_room ≤ q.kept_room)
+    (held_room : p.held_room ≤ q.held_room) where
   forest_more : AreOfForest m.leaves p → AreOfForest m.leaves q
   forest_more f = record {
     numbers = subst (All (λ (k : Kept). k.number < m.leaves)) (sym kept) f.numbers;

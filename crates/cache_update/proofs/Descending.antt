@@ -1,5 +1,6 @@
 -- Where what is held goes: where neither a place nor its sibling is gone, it goes with the one above it.
-use Rattle.std.proofs.Common.{◌≡◌, ℕ, zero, suc, ◌+◌, ◌-◌, ◌*◌, ◌/◌, ◌%◌, ◌^◌, ◌<◌, ◌≤◌, ◌⊎◌, inl, inr, Bool, true, false, not, List, [], ◌∷◌, ◌++◌, length, get_or, All, Option, Some, None, is_some, refl, sym, ap, ap₂, ◌∙◌, subst, ⊎_elim, arith, add-one}
+use Rattle.std.proofs.Common.{◌≡◌, ℕ, zero, suc, ◌+◌, ◌-◌, ◌*◌, ◌/◌, ◌%◌, ◌^◌, ◌<◌, ◌≤◌, ◌⊎◌, inl, inr, Bool, true, false, not, List, [], ◌∷◌, ◌++◌}
+use Rattle.std.proofs.Common.{length, get_or, All, Option, Some, None, is_some, refl, sym, ap, ap₂, ◌∙◌, subst, ⊎_elim, arith, add-one}
 use Rattle.std.specs.Prelude.{IfSome}
 use Rattle.std.specs.Bool.{OnTrue, OnFalse}
 use Rattle.std.proofs.lemmas.Bool.{cases_eq, cases_Bool, true≢false, false_from_ne_true, OnFalse_from}
@@ -43,21 +44,25 @@ half_stays ts r h x free side =
 
 -- neither a place nor its sibling is gone where no target stands at or beneath the one above them
 pub free_here : (ts : List Place) (r o : ℕ) → is_some (cover ts (suc r) (o / 2)) ≡ false → is_gone ts r o ≡ false
-free_here ts r o free = half_stays ts r (o / 2) o free (⊎_elim (λ e. let z = e.0 in inl (omega (arith, z))) (λ e. let z = e.0 in inr (omega (arith, z))) (sibling_cases o))
+free_here ts r o free = half_stays ts r (o / 2) o free
+    (⊎_elim (λ e. let z = e.0 in inl (omega (arith, z))) (λ e. let z = e.0 in inr (omega (arith, z))) (sibling_cases o))
 
 pub free_beside : (ts : List Place) (r o : ℕ) → is_some (cover ts (suc r) (o / 2)) ≡ false → is_gone ts r (sibling_off o) ≡ false
 free_beside ts r o free =
     half_stays ts r (o / 2) (sibling_off o) free
-    (⊎_elim (λ e. let z = e.0 in let y = e.1 in inr (omega (arith, z, y))) (λ e. let z = e.0 in let y = e.1 in inl (omega (arith, z, y))) (sibling_cases o))
+    (⊎_elim (λ e. let z = e.0 in let y = e.1 in inr (omega (arith, z, y))) (λ e. let z = e.0 in let y = e.1 in
+    inl (omega (arith, z, y))) (sibling_cases o))
 
-pub on_free : (ts : List Place) (r o : ℕ) (b : Bool) (P : Type 0) → b ≡ is_some (cover ts (suc r) (o / 2)) → (is_some (cover ts (suc r) (o / 2)) ≡ false → P) → OnFalse b P
+pub on_free : (ts : List Place) (r o : ℕ) (b : Bool) (P : Type 0) → b ≡ is_some (cover ts (suc r) (o / 2))
+    → (is_some (cover ts (suc r) (o / 2)) ≡ false → P) → OnFalse b P
 on_free ts r o b P e f = OnFalse_from b P (λ no. f (sym e ∙ no))
 
 pub stays_uncovered : (ts : List Place) (r o : ℕ) (b : Bool) → b ≡ is_some (cover ts r o) → OnTrue (not b) (is_gone ts r o ≡ false)
 stays_uncovered ts r o true e = tt
 stays_uncovered ts r o false e = uncovered_stays ts r o (sym e)
 
-follows : (n : ℕ) (ts : List Place) (r o : ℕ) → InForest n r o → is_root n r o ≡ false → is_gone ts r o ≡ false → is_gone ts r (sibling_off o) ≡ false → moved n ts r o ≡ child_place false (o % 2) (moved n ts (suc r) (o / 2))
+follows : (n : ℕ) (ts : List Place) (r o : ℕ) → InForest n r o → is_root n r o ≡ false → is_gone ts r o ≡ false → is_gone ts r (sibling_off o) ≡ false
+    → moved n ts r o ≡ child_place false (o % 2) (moved n ts (suc r) (o / 2))
 follows n ts r o h inner here beside = moved-step n ts r o h ∙ rw (here, inner, beside) refl
 
 -- the position beside one is at most one less
@@ -65,7 +70,8 @@ beside_past : (n r o last : ℕ) → last + 1 < position n r o → last < positi
 beside_past n r o last lt = ⊎_elim (λ a. let z = a.1 in omega (arith, lt, z)) (λ a. let z = a.1 in omega (arith, lt, z)) (sibling_cases o)
 
 -- what comes behind all that is gone goes with the place above it
-goes_on : (n : ℕ) (ts : List Place) (last : ℕ) → NoneGonePast n ts last → (r o : ℕ) → InForest n r o → last + 1 < position n r o → is_root n r o ≡ false → moved n ts (suc r) (o / 2) ≡ Some (place (suc r) (o / 2)) → moved n ts r o ≡ Some (place r o)
+goes_on : (n : ℕ) (ts : List Place) (last : ℕ) → NoneGonePast n ts last → (r o : ℕ) → InForest n r o → last + 1 < position n r o
+    → is_root n r o ≡ false → moved n ts (suc r) (o / 2) ≡ Some (place (suc r) (o / 2)) → moved n ts r o ≡ Some (place r o)
 goes_on n ts last none r o h lt inner above =
     let here = none r o h (omega (arith, lt)) in
     let beside = none r (sibling_off o) (sibling_within n r o h inner) (beside_past n r o last lt) in
@@ -76,7 +82,8 @@ goes_on n ts last none r o h lt inner above =
     ∙ ap₂ (λ (x y : ℕ). let z : Option Place = Some (place x y) in z) down off)
 
 -- and so stays where it is
-pub settled : (n : ℕ) (ts : List Place) (last : ℕ) → NoneGonePast n ts last → (k r o : ℕ) → n ≤ r + k → InForest n r o → last + 1 < position n r o → moved n ts r o ≡ Some (place r o)
+pub settled : (n : ℕ) (ts : List Place) (last : ℕ) → NoneGonePast n ts last → (k r o : ℕ) → n ≤ r + k → InForest n r o → last + 1 < position n r o
+    → moved n ts r o ≡ Some (place r o)
 settled n ts last none zero r o few h lt = let low = row_below n r o h in absurd (omega (arith, low, few))
 settled n ts last none (suc k) r o few h lt =
     ⊎_elim
@@ -93,11 +100,16 @@ IsHalf ts r o = (is_gone ts r o ≡ false) × (is_some (cover ts r o) ≡ true)
 
 module _ (n : ℕ) (ts : List Place) (shape : HasShape n ts) where
   half_up : (r o : ℕ) → IsHalf ts r o → IsHalf ts (suc r) (o / 2)
-  half_up r o h = (false_from_ne_true _ (λ gone. true≢false (sym h.1 ∙ target_bare n ts shape r o (up_in n r o ts h.0 gone))), covered_above ts r o h.1)
+  half_up r o h = (
+    false_from_ne_true _ (λ gone. true≢false (sym h.1 ∙ target_bare n ts shape r o (up_in n r o ts h.0 gone))),
+    covered_above ts r o h.1,
+  )
 
   half_above : (k r o : ℕ) → IsHalf ts r o → IsHalf ts (r + k) (o / 2 ^ k)
-  half_above zero r o h = let a : r ≡ r + 0 = omega arith in let b : o ≡ o / 2 ^ 0 = omega arith in subst (λ x. IsHalf ts x (o / 2 ^ 0)) a (subst (IsHalf ts r) b h)
-  half_above (suc k) r o h = let a : suc r + k ≡ r + suc k = omega arith in subst (λ x. IsHalf ts x (o / 2 ^ suc k)) a (subst (IsHalf ts (suc r + k)) (sym (half_pow o k)) (half_above k (suc r) (o / 2) (half_up r o h)))
+  half_above zero r o h = let a : r ≡ r + 0 = omega arith in let b : o ≡ o / 2 ^ 0 = omega arith in
+      subst (λ x. IsHalf ts x (o / 2 ^ 0)) a (subst (IsHalf ts r) b h)
+  half_above (suc k) r o h = let a : suc r + k ≡ r + suc k = omega arith in
+      subst (λ x. IsHalf ts x (o / 2 ^ suc k)) a (subst (IsHalf ts (suc r + k)) (sym (half_pow o k)) (half_above k (suc r) (o / 2) (half_up r o h)))
 
   -- above a needed place nothing is gone
   needed_half : (r o : ℕ) → has_place (need n ts) r o ≡ true → IsHalf ts (suc r) (o / 2)
@@ -105,7 +117,8 @@ module _ (n : ℕ) (ts : List Place) (shape : HasShape n ts) where
       let w = needed_parts n ts r o (need_had n ts r o h).1 in
       let beside : is_some (cover ts r (sibling_off o)) ≡ true = ap is_some w.2.1 in (
         false_from_ne_true _ (λ gone.
-            true≢false (sym beside ∙ target_bare n ts shape r (sibling_off o) (ap (has_place ts (suc r)) (sibling_half o) ∙ up_in n r o ts (uncovered_stays ts r o (ap is_some w.1)) gone))),
+            true≢false (sym beside ∙ target_bare n ts shape r (sibling_off o)
+            (ap (has_place ts (suc r)) (sibling_half o) ∙ up_in n r o ts (uncovered_stays ts r o (ap is_some w.1)) gone))),
         ap (λ x. is_some (cover ts (suc r) x)) (sym (sibling_half o)) ∙ covered_above ts r (sibling_off o) beside,
       )
 
@@ -116,11 +129,14 @@ module _ (n : ℕ) (ts : List Place) (shape : HasShape n ts) where
       let row : suc q.row + k ≡ p.row = omega (arith, low) in
       let up : suc k ≡ p.row - q.row = omega (arith, low) in
       let off : q.off / 2 / 2 ^ k ≡ p.off = sym (half_pow q.off k) ∙ (ap (λ x. q.off / 2 ^ x) up ∙ b.part) in
-      subst (λ x. is_gone ts x p.off ≡ false) row (subst (λ x. is_gone ts (suc q.row + k) x ≡ false) off (half_above k (suc q.row) (q.off / 2) (needed_half q.row q.off h)).0)
+      subst (λ x. is_gone ts x p.off ≡ false) row
+      (subst (λ x. is_gone ts (suc q.row + k) x ≡ false) off (half_above k (suc q.row) (q.off / 2) (needed_half q.row q.off h)).0)
 
   -- a needed place of the list
-  pub stays_by : (needed : List Place) (at : ℕ) (p d : Place) → needed ≡ need n ts → at < length needed → StandsBeneath (get_or needed at d) p → is_gone ts p.row p.off ≡ false
-  stays_by needed at p d e lt b = stays_above (get_or needed at d) p (subst (λ qs. has_place qs (get_or needed at d).row (get_or needed at d).off ≡ true) e (has_at needed at d lt)) b
+  pub stays_by : (needed : List Place) (at : ℕ) (p d : Place) → needed ≡ need n ts → at < length needed → StandsBeneath (get_or needed at d) p
+      → is_gone ts p.row p.off ≡ false
+  stays_by needed at p d e lt b = stays_above (get_or needed at d) p
+      (subst (λ qs. has_place qs (get_or needed at d).row (get_or needed at d).off ≡ true) e (has_at needed at d lt)) b
 
 module _ (n : ℕ) (ts : List Place) (p q : Place) (h : InForest n p.row p.off) (f : IsStayingAbove n ts p q) where
   above_row : q.row ≡ suc p.row
@@ -143,7 +159,9 @@ module _ (n : ℕ) (ts : List Place) (p q : Place) (h : InForest n p.row p.off) 
       (omega (arith, row, low), at.1)
 
 -- one more is told
-pub told_more : (n : ℕ) (ts : List Place) (hs : List (Place × Digest)) (goals now : List (Option Place)) (i : ℕ) (x : Place × Digest) (goal : Option Place) → TellGoals n ts hs goals → goal ≡ moved n ts (get_or hs i x).0.row (get_or hs i x).0.off → i + length goals + 1 ≡ length hs → now ≡ goals ++ goal ∷ [] → TellGoals n ts hs now
+pub told_more : (n : ℕ) (ts : List Place) (hs : List (Place × Digest)) (goals now : List (Option Place)) (i : ℕ) (x : Place × Digest)
+    (goal : Option Place) → TellGoals n ts hs goals → goal ≡ moved n ts (get_or hs i x).0.row (get_or hs i x).0.off → i + length goals + 1 ≡ length hs
+    → now ≡ goals ++ goal ∷ [] → TellGoals n ts hs now
 told_more n ts hs goals now i x goal t g end m = subst (TellGoals n ts hs) (sym m) (λ j k y d lt at.
     let long = length-append goals (goal ∷ []) in
     ⊎_elim
@@ -160,15 +178,19 @@ told_more n ts hs goals now i x goal t g end m = subst (TellGoals n ts hs) (sym 
     get_or_append_left goals (goal ∷ []) d k under ∙ t j k y d under at)
     (cases_eq k (length goals)))
 
-pub held_within : (n m : ℕ) (hs : List (Place × Digest)) (i : ℕ) (d : Place × Digest) → m ≡ n → All (λ x. InForest n x.0.row x.0.off) hs → i < length hs → InForest m (get_or hs i d).0.row (get_or hs i d).0.off
+pub held_within : (n m : ℕ) (hs : List (Place × Digest)) (i : ℕ) (d : Place × Digest) → m ≡ n → All (λ x. InForest n x.0.row x.0.off) hs
+    → i < length hs → InForest m (get_or hs i d).0.row (get_or hs i d).0.off
 held_within n m hs i d e a lt = subst (λ k. InForest k (get_or hs i d).0.row (get_or hs i d).0.off) (sym e) (a i d lt)
 
 -- the place above, where it is given
-pub staying_is : (n : ℕ) (ts : List Place) (p : Place) (staying : Option Place) (q : Place) → staying ≡ Some q → IfSome staying (λ (above : Place). IsStayingAbove n ts p above) → IsStayingAbove n ts p q
+pub staying_is : (n : ℕ) (ts : List Place) (p : Place) (staying : Option Place) (q : Place) → staying ≡ Some q
+    → IfSome staying (λ (above : Place). IsStayingAbove n ts p above) → IsStayingAbove n ts p q
 staying_is n ts p staying q e h = subst (λ (x : Option Place). IfSome x (λ (above : Place). IsStayingAbove n ts p above)) e h
 
 -- what is told for a place is told for its sibling
-pub stays_beside : (n : ℕ) (ts : List Place) (p s last : Place) (staying : Option Place) → s.row ≡ p.row → s.off ≡ sibling_off p.off → is_same_place s last ≡ true → is_root n p.row p.off ≡ false → IfSome staying (λ (above : Place). IsStayingAbove n ts last above) → IfSome staying (λ (above : Place). IsStayingAbove n ts p above)
+pub stays_beside : (n : ℕ) (ts : List Place) (p s last : Place) (staying : Option Place) → s.row ≡ p.row → s.off ≡ sibling_off p.off
+    → is_same_place s last ≡ true → is_root n p.row p.off ≡ false → IfSome staying (λ (above : Place). IsStayingAbove n ts last above)
+    → IfSome staying (λ (above : Place). IsStayingAbove n ts p above)
 stays_beside n ts p s last None row off same inner h = tt
 stays_beside n ts p s last (Some q) row off same inner h =
     let e : last ≡ s = sym (place_order.same s last same) in

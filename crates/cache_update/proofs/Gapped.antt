@@ -1,7 +1,9 @@
 -- A list with a gap, where the gap goes, and what is changed at it.
-use Rattle.std.proofs.Common.{◌≡◌, ℕ, zero, suc, ◌+◌, ◌-◌, ◌<◌, ◌≤◌, ◌⊎◌, inl, inr, Bool, true, false, List, [], ◌∷◌, ◌++◌, length, get_or, set, map, take, drop, Some, None, refl, sym, ap, ap₂, ◌∙◌, subst, ⊎_elim, arith}
+use Rattle.std.proofs.Common.{◌≡◌, ℕ, zero, suc, ◌+◌, ◌-◌, ◌<◌, ◌≤◌, ◌⊎◌, inl, inr, Bool, true, false, List, [], ◌∷◌, ◌++◌, length, get_or, set, map}
+use Rattle.std.proofs.Common.{take, drop, Some, None, refl, sym, ap, ap₂, ◌∙◌, subst, ⊎_elim, arith}
 use Rattle.std.proofs.lemmas.Bool.{cases_lt}
-use Rattle.std.proofs.lemmas.List.{append-nil, append_assoc, length-append, length-take-le, length-drop, take-set-le, drop-set, drop-set-lt, take_more, take_more_set, drop_more, drop_all, get_or-take, get_or-drop, get_or_default}
+use Rattle.std.proofs.lemmas.List.{append-nil, append_assoc, length-append, length-take-le, length-drop, take-set-le, drop-set, drop-set-lt}
+use Rattle.std.proofs.lemmas.List.{take_more, take_more_set, drop_more, drop_all, get_or-take, get_or-drop, get_or_default}
 use Rattle.uo_digest.specs.declared.digest.Digest.{Digest}
 use Rattle.forest_place.specs.declared.place.Place.{Place}
 use Rattle.cache_model.specs.Lists.{AscendByPlace}
@@ -32,7 +34,8 @@ module _ (from to : ℕ) (xs : Cells) (g : IsGap from to xs) where
       omega (arith, a, f, d, w)
 
   pub at_front : (d : Place × Digest) → 0 < from → get_or (around from to xs) (from - 1) d ≡ get_or xs (from - 1) d
-  at_front d pos = let f = front_length in front_of (take from xs) (drop to xs) (from - 1) d (omega (arith, f, pos)) ∙ get_or-take from xs (from - 1) d (omega (arith, pos))
+  at_front d pos = let f = front_length in
+      front_of (take from xs) (drop to xs) (from - 1) d (omega (arith, f, pos)) ∙ get_or-take from xs (from - 1) d (omega (arith, pos))
     where
       front_of : (ks ls : Cells) (i : ℕ) (d : Place × Digest) → i < length ks → get_or (ks ++ ls) i d ≡ get_or ks i d
       front_of [] ls i d lt = absurd (omega (arith, lt))
@@ -82,7 +85,8 @@ module _ (from to : ℕ) (xs : Cells) (g : IsGap from to xs) where
       let x = get_or xs (from - 1) d in
       let p : to - 1 + 1 ≡ to = omega (arith, o, pos) in
       let q : from - 1 + 1 ≡ from = omega (arith, pos) in
-      ap₂ (λ (ks ls : Cells). ks ++ ls) (take-set-le (from - 1) xs (to - 1) x (omega (arith, o))) (drop-set xs (to - 1) x (omega (arith, o, w, pos)) ∙ ap (λ i. x ∷ drop i xs) p)
+      ap₂ (λ (ks ls : Cells). ks ++ ls) (take-set-le (from - 1) xs (to - 1) x (omega (arith, o)))
+      (drop-set xs (to - 1) x (omega (arith, o, w, pos)) ∙ ap (λ i. x ∷ drop i xs) p)
       ∙ (sym (append_assoc (take (from - 1) xs) (x ∷ []) (drop to xs))
       ∙ ap (λ (ks : Cells). ks ++ drop to xs) (sym (take_more xs (from - 1) d (omega (arith, o, w, pos))) ∙ ap (λ i. take i xs) q))
 
@@ -101,29 +105,36 @@ module _ (from to : ℕ) (xs : Cells) (g : IsGap from to xs) where
     long : to < length xs → from < length (around from to xs)
     long lt = let l = length_around in omega (arith, l, lt)
 
-    pub gap_takes : (d : Place × Digest) → to < length xs → is_same_place p (get_or xs to d).0 ≡ true → around from (to + 1) xs ≡ change is_same_place is_before_place held_key p (λ now. None) (around from to xs)
+    pub gap_takes : (d : Place × Digest) → to < length xs → is_same_place p (get_or xs to d).0 ≡ true
+        → around from (to + 1) xs ≡ change is_same_place is_before_place held_key p (λ now. None) (around from to xs)
     gap_takes d lt t =
-        sym (change_at is_same_place is_before_place held_key place_order p (λ now. None) (around from to xs) from d s (long lt) (ap (λ (x : Place × Digest). is_same_place p x.0) (at_back d lt) ∙ t)
+        sym (change_at is_same_place is_before_place held_key place_order p (λ now. None) (around from to xs) from d s (long lt)
+        (ap (λ (x : Place × Digest). is_same_place p x.0) (at_back d lt) ∙ t)
         ∙ ap₂ (λ (ks ls : Cells). ks ++ ls) front_is (behind_next lt))
 
-    pub gap_leaves : (to < length xs → (d : Place × Digest) → is_same_place p (get_or xs to d).0 ≡ false) → around from to xs ≡ change is_same_place is_before_place held_key p (λ now. None) (around from to xs)
+    pub gap_leaves : (to < length xs → (d : Place × Digest) → is_same_place p (get_or xs to d).0 ≡ false)
+        → around from to xs ≡ change is_same_place is_before_place held_key p (λ now. None) (around from to xs)
     gap_leaves other = ⊎_elim
-        (λ lt. let d : Place × Digest = (p, record { 0 = [] }) in out_other (around from to xs) p from s d (long lt) (ap (λ (x : Place × Digest). is_same_place p x.0) (at_back d lt) ∙ other lt d))
+        (λ lt. let d : Place × Digest = (p, record { 0 = [] }) in out_other (around from to xs) p from s d (long lt)
+        (ap (λ (x : Place × Digest). is_same_place p x.0) (at_back d lt) ∙ other lt d))
         (λ ge. out_end (around from to xs) p from s (short ge))
         (cases_lt to (length xs))
 
-    pub gap_replaces : (x : Digest) (d : Place × Digest) → to < length xs → is_same_place p (get_or xs to d).0 ≡ true → around from to (set xs to (p, x)) ≡ put p x (around from to xs)
+    pub gap_replaces : (x : Digest) (d : Place × Digest) → to < length xs → is_same_place p (get_or xs to d).0 ≡ true
+        → around from to (set xs to (p, x)) ≡ put p x (around from to xs)
     gap_replaces x d lt t =
         let o = g.order in
         ap₂ (λ (ks ls : Cells). ks ++ ls) (take-set-le from xs to (p, x) o) (drop-set xs to (p, x) lt)
         ∙ sym (put_there (around from to xs) p x from d s (long lt) (ap (λ (x : Place × Digest). is_same_place p x.0) (at_back d lt) ∙ t)
         ∙ ap₂ (λ (ks ls : Cells). ks ++ (p, x) ∷ ls) front_is (behind_next lt))
 
-    pub gap_puts : (x : Digest) → from < to → (to < length xs → (d : Place × Digest) → is_same_place p (get_or xs to d).0 ≡ false) → around from (to - 1) (set xs (to - 1) (p, x)) ≡ put p x (around from to xs)
+    pub gap_puts : (x : Digest) → from < to → (to < length xs → (d : Place × Digest) → is_same_place p (get_or xs to d).0 ≡ false)
+        → around from (to - 1) (set xs (to - 1) (p, x)) ≡ put p x (around from to xs)
     gap_puts x room other =
         let o = g.order in let w = g.within in
         let e : to - 1 + 1 ≡ to = omega (arith, room) in
-        ap₂ (λ (ks ls : Cells). ks ++ ls) (take-set-le from xs (to - 1) (p, x) (omega (arith, room))) (drop-set xs (to - 1) (p, x) (omega (arith, w, room)) ∙ ap (λ i. (p, x) ∷ drop i xs) e)
+        ap₂ (λ (ks ls : Cells). ks ++ ls) (take-set-le from xs (to - 1) (p, x) (omega (arith, room)))
+        (drop-set xs (to - 1) (p, x) (omega (arith, w, room)) ∙ ap (λ i. (p, x) ∷ drop i xs) e)
         ∙ sym (⊎_elim
         (λ lt. let d : Place × Digest = (p, x) in
         put_before (around from to xs) p x from d s (long lt) (ap (λ (x : Place × Digest). is_same_place p x.0) (at_back d lt) ∙ other lt d)
@@ -150,25 +161,32 @@ gap_opened hs more from to e f =
 pub ends_at : (hs : Cells) (i : ℕ) (p : Place) → i ≡ 0 → EndsBefore hs i p
 ends_at hs i p e = λ pos d. absurd (omega (arith, e, pos))
 
-pub split_here : (hs : Cells) (i : ℕ) (p : Place) → AscendByPlace hs → i ≤ length hs → EndsBefore hs i p → (i < length hs → (d : Place × Digest) → is_before_place (get_or hs i d).0 p ≡ false) → IsSplit is_before_place held_key p hs i
+pub split_here : (hs : Cells) (i : ℕ) (p : Place) → AscendByPlace hs → i ≤ length hs → EndsBefore hs i p
+    → (i < length hs → (d : Place × Digest) → is_before_place (get_or hs i d).0 p ≡ false) → IsSplit is_before_place held_key p hs i
 split_here hs i p a inside before behind =
-    narrowed-end is_same_place is_before_place held_key place_order p hs i i (high (low (narrowed-start is_same_place is_before_place held_key place_order p hs))) (omega arith)
+    narrowed-end is_same_place is_before_place held_key place_order p hs i i
+    (high (low (narrowed-start is_same_place is_before_place held_key place_order p hs))) (omega arith)
   where
     x : Place × Digest
     x = (p, record { 0 = [] })
 
-    low : IsNarrowed is_same_place is_before_place held_key place_order p hs 0 (length hs) → IsNarrowed is_same_place is_before_place held_key place_order p hs i (length hs)
+    low : IsNarrowed is_same_place is_before_place held_key place_order p hs 0 (length hs)
+        → IsNarrowed is_same_place is_before_place held_key place_order p hs i (length hs)
     low n = ⊎_elim
         (λ pos. let e : i - 1 + 1 ≡ i = omega (arith, pos) in
         subst (λ l. IsNarrowed is_same_place is_before_place held_key place_order p hs l (length hs)) e
-        (narrowed-up is_same_place is_before_place held_key place_order p hs 0 (length hs) (i - 1) x a n (omega (arith, pos, inside)) (omega arith) (before pos x)))
-        (λ none. let e : 0 ≡ i = omega (arith, none) in subst (λ l. IsNarrowed is_same_place is_before_place held_key place_order p hs l (length hs)) e n)
+        (narrowed-up is_same_place is_before_place held_key place_order p hs 0 (length hs) (i - 1) x a n (omega (arith, pos, inside)) (omega arith)
+        (before pos x)))
+        (λ none. let e : 0 ≡ i = omega (arith, none) in
+        subst (λ l. IsNarrowed is_same_place is_before_place held_key place_order p hs l (length hs)) e n)
         (cases_lt 0 i)
 
-    high : IsNarrowed is_same_place is_before_place held_key place_order p hs i (length hs) → IsNarrowed is_same_place is_before_place held_key place_order p hs i i
+    high : IsNarrowed is_same_place is_before_place held_key place_order p hs i (length hs)
+        → IsNarrowed is_same_place is_before_place held_key place_order p hs i i
     high n = ⊎_elim
         (λ lt. narrowed-down is_same_place is_before_place held_key place_order p hs i (length hs) i x a n lt (omega arith) (behind lt x))
-        (λ ge. let e : length hs ≡ i = omega (arith, ge, inside) in subst (λ h. IsNarrowed is_same_place is_before_place held_key place_order p hs i h) e n)
+        (λ ge. let e : length hs ≡ i = omega (arith, ge, inside) in
+        subst (λ h. IsNarrowed is_same_place is_before_place held_key place_order p hs i h) e n)
         (cases_lt i (length hs))
 
 -- where the gap goes no further, on the way to a place
@@ -177,7 +195,8 @@ module _ (hs : Cells) (from to : ℕ) (xs : Cells) (p : Place) (g : IsGap from t
   ends_before x pos b = λ pos' d.
       let o = g.order in let w = g.within in
       ap (λ (ys : Cells). is_before_place (get_or ys (from - 1) d).0 p) (sym same)
-      ∙ (ap (λ (y : Place × Digest). is_before_place y.0 p) (at_front from to xs g d pos ∙ get_or_default xs (from - 1) d x (omega (arith, o, w, pos))) ∙ b)
+      ∙ (ap (λ (y : Place × Digest). is_before_place y.0 p)
+      (at_front from to xs g d pos ∙ get_or_default xs (from - 1) d x (omega (arith, o, w, pos))) ∙ b)
 
   pub ends_more : (x : Place × Digest) → to < length xs → is_before_place (get_or xs to x).0 p ≡ true → EndsBefore hs (from + 1) p
   ends_more x lt b = λ pos d.
@@ -189,7 +208,8 @@ module _ (hs : Cells) (from to : ℕ) (xs : Cells) (p : Place) (g : IsGap from t
   inside : from ≤ length hs
   inside = let w = g.within in let l = length_around from to xs g in let e = ap length same in omega (arith, w, l, e)
 
-  pub split_inside : (x : Place × Digest) → AscendByPlace hs → EndsBefore hs from p → to < length xs → is_before_place (get_or xs to x).0 p ≡ false → IsSplit is_before_place held_key p hs from
+  pub split_inside : (x : Place × Digest) → AscendByPlace hs → EndsBefore hs from p → to < length xs → is_before_place (get_or xs to x).0 p ≡ false
+      → IsSplit is_before_place held_key p hs from
   split_inside x a before lt b = split_here hs from p a inside before (λ below d.
       ap (λ (ys : Cells). is_before_place (get_or ys from d).0 p) (sym same)
       ∙ (ap (λ (y : Place × Digest). is_before_place y.0 p) (at_back from to xs g d lt ∙ get_or_default xs to d x lt) ∙ b))
@@ -199,24 +219,30 @@ module _ (hs : Cells) (from to : ℕ) (xs : Cells) (p : Place) (g : IsGap from t
       let l = length_around from to xs g in let e = ap length same in absurd (omega (arith, below, l, e, ge)))
 
 -- what stands right behind the gap, whatever the default
-pub behind_there : (xs : Cells) (to : ℕ) (p : Place) (x : Place × Digest) (b c : Bool) → to < length xs → b ≡ is_same_place p (get_or xs to x).0 → b ≡ c → (d : Place × Digest) → is_same_place p (get_or xs to d).0 ≡ c
+pub behind_there : (xs : Cells) (to : ℕ) (p : Place) (x : Place × Digest) (b c : Bool) → to < length xs → b ≡ is_same_place p (get_or xs to x).0
+    → b ≡ c → (d : Place × Digest) → is_same_place p (get_or xs to d).0 ≡ c
 behind_there xs to p x b c lt e f d = ap (λ (y : Place × Digest). is_same_place p y.0) (get_or_default xs to d x lt) ∙ (sym e ∙ f)
 
 -- as long as something is to be put, there is a gap: as many cells as are to come, or more than the list has at the end
-pub room_starts : (lost now : Cells) (i cells : ℕ) → i ≡ length lost → undo_digests (map digest_was lost) now ≡ undo_digests (map digest_was (take i lost)) now →
-    (length now + length lost ≤ cells) ⊎ (length (undo_digests (map digest_was lost) now) < cells) → (length now + i ≤ cells) ⊎ (length (undo_digests (map digest_was (take i lost)) now) < cells)
+pub room_starts : (lost now : Cells) (i cells : ℕ) → i ≡ length lost
+    → undo_digests (map digest_was lost) now ≡ undo_digests (map digest_was (take i lost)) now →
+    (length now + length lost ≤ cells) ⊎ (length (undo_digests (map digest_was lost) now) < cells) → (length now + i ≤ cells)
+    ⊎ (length (undo_digests (map digest_was (take i lost)) now) < cells)
 room_starts lost now i cells e f (inl h) = inl (omega (arith, e, h))
 room_starts lost now i cells e f (inr h) = inr (let l = ap length f in omega (arith, l, h))
 
-pub has_gap : (lost : Cells) (from to : ℕ) (xs : Cells) (i : ℕ) → IsGap from to xs → 0 < i → (length (around from to xs) + i ≤ length xs) ⊎ (length (undo_digests (map digest_was (take i lost)) (around from to xs)) < length xs) → from < to
+pub has_gap : (lost : Cells) (from to : ℕ) (xs : Cells) (i : ℕ) → IsGap from to xs → 0 < i → (length (around from to xs) + i ≤ length xs)
+    ⊎ (length (undo_digests (map digest_was (take i lost)) (around from to xs)) < length xs) → from < to
 has_gap lost from to xs i g pos (inl h) = let l = length_around from to xs g in omega (arith, l, h, pos)
 has_gap lost from to xs i g pos (inr h) =
     let l = length_around from to xs g in
     let long = undo_long is_same_place is_before_place held_key digest_was (λ x v. refl) (take i lost) (around from to xs) in
     omega (arith, l, h, long)
 
-pub room_stays : (lost now next : Cells) (p : Place) (x : Digest) (cells i j : ℕ) → j + 1 ≡ i → next ≡ put p x now → undo_digests (map digest_was (take i lost)) now ≡ undo_digests (map digest_was (take j lost)) next →
-    (length now + i ≤ cells) ⊎ (length (undo_digests (map digest_was (take i lost)) now) < cells) → (length next + j ≤ cells) ⊎ (length (undo_digests (map digest_was (take j lost)) next) < cells)
+pub room_stays : (lost now next : Cells) (p : Place) (x : Digest) (cells i j : ℕ) → j + 1 ≡ i → next ≡ put p x now
+    → undo_digests (map digest_was (take i lost)) now ≡ undo_digests (map digest_was (take j lost)) next →
+    (length now + i ≤ cells) ⊎ (length (undo_digests (map digest_was (take i lost)) now) < cells) → (length next + j ≤ cells)
+    ⊎ (length (undo_digests (map digest_was (take j lost)) next) < cells)
 room_stays lost now next p x cells i j e f g (inl h) =
     let l = ap length f in
     let short = change_short is_same_place is_before_place held_key p (λ y. Some (p, x)) now in
@@ -228,33 +254,45 @@ pub room_kept : (a b cells cells' : ℕ) → cells' ≡ cells → (a ≤ cells) 
 room_kept a b cells cells' e (inl h) = inl (omega (arith, e, h))
 room_kept a b cells cells' e (inr h) = inr (omega (arith, e, h))
 
-pub room_between : (lost : Cells) (gained : List Place) (hs now : Cells) (cells cells' : ℕ) → now ≡ undo_digests (map digest_none gained) hs → cells' ≡ cells →
-    (length hs + length lost ≤ cells) ⊎ (length (held_given lost gained hs) < cells) → (length now + length lost ≤ cells') ⊎ (length (undo_digests (map digest_was lost) now) < cells')
+pub room_between : (lost : Cells) (gained : List Place) (hs now : Cells) (cells cells' : ℕ) → now ≡ undo_digests (map digest_none gained) hs
+    → cells' ≡ cells →
+    (length hs + length lost ≤ cells) ⊎ (length (held_given lost gained hs) < cells) → (length now + length lost ≤ cells')
+    ⊎ (length (undo_digests (map digest_was lost) now) < cells')
 room_between lost gained hs now cells cells' e f (inl h) =
     let l = ap length e in
     let short = undo_no_longer is_same_place is_before_place held_key digest_none (λ p. refl) gained hs in
     inl (omega (arith, f, l, short, h))
-room_between lost gained hs now cells cells' e f (inr h) = inr (let l = ap (λ (xs : Cells). length (undo_digests (map digest_was lost) xs)) e in omega (arith, f, l, h))
+room_between lost gained hs now cells cells' e f (inr h) =
+    inr (let l = ap (λ (xs : Cells). length (undo_digests (map digest_was lost) xs)) e in omega (arith, f, l, h))
 
 -- and so there is from the start
-pub room_opened : (lost : Cells) (gained : List Place) (hs opened held : Cells) (from to len capacity : ℕ) → IsGap from to held → opened ≡ hs → len ≡ length hs → (len + length lost ≤ to) ⊎ (capacity ≤ to) →
-    length (held_given lost gained hs) < capacity → (length opened + length lost ≤ length held) ⊎ (length (held_given lost gained opened) < length held)
-room_opened lost gained hs opened held from to len capacity g e f (inl h) room = inl (let l = ap length e in let w = g.within in omega (arith, l, f, w, h))
-room_opened lost gained hs opened held from to len capacity g e f (inr h) room = inr (let l = ap (λ (xs : Cells). length (held_given lost gained xs)) e in let w = g.within in omega (arith, l, w, h, room))
+pub room_opened : (lost : Cells) (gained : List Place) (hs opened held : Cells) (from to len capacity : ℕ) → IsGap from to held → opened ≡ hs
+    → len ≡ length hs → (len + length lost ≤ to) ⊎ (capacity ≤ to) →
+    length (held_given lost gained hs) < capacity → (length opened + length lost ≤ length held)
+    ⊎ (length (held_given lost gained opened) < length held)
+room_opened lost gained hs opened held from to len capacity g e f (inl h) room =
+    inl (let l = ap length e in let w = g.within in omega (arith, l, f, w, h))
+room_opened lost gained hs opened held from to len capacity g e f (inr h) room =
+    inr (let l = ap (λ (xs : Cells). length (held_given lost gained xs)) e in let w = g.within in omega (arith, l, w, h, room))
 
 -- what is changed behind a way to a place
-module _ (hs : Cells) (from to : ℕ) (xs : Cells) (p : Place) (g : IsGap from to xs) (same : around from to xs ≡ hs) (s : IsSplit is_before_place held_key p hs from) where
+module _ (hs : Cells) (from to : ℕ) (xs : Cells) (p : Place) (g : IsGap from to xs) (same : around from to xs ≡ hs)
+    (s : IsSplit is_before_place held_key p hs from) where
   here : IsSplit is_before_place held_key p (around from to xs) from
   here = subst (λ (ys : Cells). IsSplit is_before_place held_key p ys from) (sym same) s
 
-  pub taken_out : (d : Place × Digest) → to < length xs → is_same_place p (get_or xs to d).0 ≡ true → around from (to + 1) xs ≡ change is_same_place is_before_place held_key p (λ now. None) hs
+  pub taken_out : (d : Place × Digest) → to < length xs → is_same_place p (get_or xs to d).0 ≡ true
+      → around from (to + 1) xs ≡ change is_same_place is_before_place held_key p (λ now. None) hs
   taken_out d lt t = gap_takes from to xs g p here d lt t ∙ ap (change is_same_place is_before_place held_key p (λ now. None)) same
 
-  pub left_out : (to < length xs → (d : Place × Digest) → is_same_place p (get_or xs to d).0 ≡ false) → around from to xs ≡ change is_same_place is_before_place held_key p (λ now. None) hs
+  pub left_out : (to < length xs → (d : Place × Digest) → is_same_place p (get_or xs to d).0 ≡ false)
+      → around from to xs ≡ change is_same_place is_before_place held_key p (λ now. None) hs
   left_out other = gap_leaves from to xs g p here other ∙ ap (change is_same_place is_before_place held_key p (λ now. None)) same
 
-  pub replaced : (x : Digest) (d : Place × Digest) → to < length xs → is_same_place p (get_or xs to d).0 ≡ true → around from to (set xs to (p, x)) ≡ put p x hs
+  pub replaced : (x : Digest) (d : Place × Digest) → to < length xs → is_same_place p (get_or xs to d).0 ≡ true
+      → around from to (set xs to (p, x)) ≡ put p x hs
   replaced x d lt t = gap_replaces from to xs g p here x d lt t ∙ ap (put p x) same
 
-  pub put_new : (x : Digest) → from < to → (to < length xs → (d : Place × Digest) → is_same_place p (get_or xs to d).0 ≡ false) → around from (to - 1) (set xs (to - 1) (p, x)) ≡ put p x hs
+  pub put_new : (x : Digest) → from < to → (to < length xs → (d : Place × Digest) → is_same_place p (get_or xs to d).0 ≡ false)
+      → around from (to - 1) (set xs (to - 1) (p, x)) ≡ put p x hs
   put_new x room other = gap_puts from to xs g p here x room other ∙ ap (put p x) same

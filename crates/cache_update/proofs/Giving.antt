@@ -40,7 +40,8 @@ back_was i (k ∷ taken) x = ⊎_elim (λ t. rw t refl) (λ t. rw t (back_was i 
 
 back_stood : (i : ℕ) (stood : List (ℕ × Place)) (x : Option Kept) → back is_same_number i (map entry_stood stood) x ≡ put_at (stood_of i stood) x
 back_stood i [] x = refl
-back_stood i (s ∷ stood) x = ⊎_elim (λ t. rw t (ap (option_map (at_place s)) (back_stood i stood x) ∙ twice (stood_of i stood) x)) (λ t. rw t (back_stood i stood x)) (cases_Bool (is_same_number i s.0))
+back_stood i (s ∷ stood) x = ⊎_elim (λ t. rw t (ap (option_map (at_place s)) (back_stood i stood x) ∙ twice (stood_of i stood) x))
+    (λ t. rw t (back_stood i stood x)) (cases_Bool (is_same_number i s.0))
   where
     twice : (y : Option (ℕ × Place)) (x : Option Kept) → option_map (at_place s) (put_at y x) ≡ option_map (at_place s) x
     twice None x = refl
@@ -67,35 +68,44 @@ none_keep : (added : List ℕ) → KeepKeys leaf_key (map entry_none added)
 none_keep [] = tt
 none_keep (i ∷ added) = (λ x v e. absurd (none-some v e), none_keep added)
 
-undone_entries : (log : List (ℕ × (Option Kept → Option Kept))) (ks : List Kept) → AscendByNumber ks → KeepKeys leaf_key log → AscendByNumber (undo_entries log ks) × ((i : ℕ) → found i (undo_entries log ks) ≡ back is_same_number i log (found i ks))
+undone_entries : (log : List (ℕ × (Option Kept → Option Kept))) (ks : List Kept) → AscendByNumber ks → KeepKeys leaf_key log
+    → AscendByNumber (undo_entries log ks) × ((i : ℕ) → found i (undo_entries log ks) ≡ back is_same_number i log (found i ks))
 undone_entries log ks a h = undone is_same_number is_before_number leaf_key number_order log ks a h
 
 -- the list given back ascends, and has this under each number
-pub given_is : (taken : List Kept) (stood : List (ℕ × Place)) (added : List ℕ) (ks : List Kept) → AscendByNumber ks → AscendByNumber (kept_given taken stood added ks) × ((i : ℕ) → found i (kept_given taken stood added ks) ≡ given taken stood added i (found i ks))
+pub given_is : (taken : List Kept) (stood : List (ℕ × Place)) (added : List ℕ) (ks : List Kept) → AscendByNumber ks
+    → AscendByNumber (kept_given taken stood added ks)
+    × ((i : ℕ) → found i (kept_given taken stood added ks) ≡ given taken stood added i (found i ks))
 given_is taken stood added ks a =
     let x = undone_entries (map entry_none added) ks a (none_keep added) in
     let y = undone_entries (map entry_stood stood) (undo_entries (map entry_none added) ks) x.0 (stood_keep stood) in
-    let z = undone_entries (map entry_was taken) (undo_entries (map entry_stood stood) (undo_entries (map entry_none added) ks)) y.0 (was_keep taken) in (
+    let z = undone_entries (map entry_was taken) (undo_entries (map entry_stood stood) (undo_entries (map entry_none added) ks)) y.0
+    (was_keep taken) in (
       z.0,
-      λ i. z.1 i ∙ (back_was i taken _ ∙ ap (option_or (found i taken)) (y.1 i ∙ (back_stood i stood _ ∙ ap (put_at (stood_of i stood)) (x.1 i ∙ back_none i added (found i ks))))),
+      λ i. z.1 i ∙ (back_was i taken _ ∙ ap (option_or (found i taken))
+          (y.1 i ∙ (back_stood i stood _ ∙ ap (put_at (stood_of i stood)) (x.1 i ∙ back_none i added (found i ks))))),
     )
 
 -- two marks that make the same under each number give back the same
-pub given_alike : (taken taken' : List Kept) (stood stood' : List (ℕ × Place)) (added added' : List ℕ) (ks ks' : List Kept) → AscendByNumber ks → AscendByNumber ks' →
-    ((i : ℕ) → given taken' stood' added' i (found i ks') ≡ given taken stood added i (found i ks)) → kept_given taken' stood' added' ks' ≡ kept_given taken stood added ks
+pub given_alike : (taken taken' : List Kept) (stood stood' : List (ℕ × Place)) (added added' : List ℕ) (ks ks' : List Kept) → AscendByNumber ks
+    → AscendByNumber ks' →
+    ((i : ℕ) → given taken' stood' added' i (found i ks') ≡ given taken stood added i (found i ks))
+    → kept_given taken' stood' added' ks' ≡ kept_given taken stood added ks
 given_alike taken taken' stood stood' added added' ks ks' a b h =
     let x = given_is taken stood added ks a in
     let y = given_is taken' stood' added' ks' b in
     same_found is_same_number is_before_number leaf_key number_order _ _ y.0 x.0 (λ i. y.1 i ∙ (h i ∙ sym (x.1 i)))
 
 -- a mark gives back a list that it makes again under each number
-pub given_back : (taken : List Kept) (stood : List (ℕ × Place)) (added : List ℕ) (ks old : List Kept) → AscendByNumber ks → AscendByNumber old → ((i : ℕ) → given taken stood added i (found i ks) ≡ found i old) → kept_given taken stood added ks ≡ old
+pub given_back : (taken : List Kept) (stood : List (ℕ × Place)) (added : List ℕ) (ks old : List Kept) → AscendByNumber ks → AscendByNumber old
+    → ((i : ℕ) → given taken stood added i (found i ks) ≡ found i old) → kept_given taken stood added ks ≡ old
 given_back taken stood added ks old a b h =
     let x = given_is taken stood added ks a in
     same_found is_same_number is_before_number leaf_key number_order _ _ x.0 b (λ i. x.1 i ∙ h i)
 
 -- the last that was taken out comes back first
-pub taken_on : (all : List Kept) (taken rest : List Kept) (ks now : List Kept) (k : Kept) (last : Option Kept) → taken ≡ rest ++ option_to_list last → last ≡ Some k → now ≡ change is_same_number is_before_number leaf_key k.number (λ x. Some k) ks →
+pub taken_on : (all : List Kept) (taken rest : List Kept) (ks now : List Kept) (k : Kept) (last : Option Kept) → taken ≡ rest ++ option_to_list last
+    → last ≡ Some k → now ≡ change is_same_number is_before_number leaf_key k.number (λ x. Some k) ks →
     all ≡ undo_entries (map entry_was taken) ks → all ≡ undo_entries (map entry_was rest) now
 taken_on all taken rest ks now k last e f g h =
     h ∙ (ap (λ (ys : List Kept). undo_entries (map entry_was ys) ks) (e ∙ ap (λ (x : Option Kept). rest ++ option_to_list x) f)

@@ -1,5 +1,6 @@
 -- Where a deletion and an addition move places, as such rules.
-use Rattle.std.proofs.Common.{◌≡◌, ℕ, zero, suc, ◌+◌, ◌-◌, ◌*◌, ◌/◌, ◌%◌, ◌^◌, ◌<◌, ◌≤◌, Bool, true, false, cond, List, Option, Some, None, refl, sym, ap, ◌∙◌, subst, ⊎_elim, inl, inr, arith, eqb-true}
+use Rattle.std.proofs.Common.{◌≡◌, ℕ, zero, suc, ◌+◌, ◌-◌, ◌*◌, ◌/◌, ◌%◌, ◌^◌, ◌<◌, ◌≤◌, Bool, true, false, cond, List, Option, Some, None, refl, sym}
+use Rattle.std.proofs.Common.{ap, ◌∙◌, subst, ⊎_elim, inl, inr, arith, eqb-true}
 use Rattle.std.specs.Prelude.{◌⊎◌, ◌==◌}
 use Rattle.std.proofs.Math.Nat.{mul-le-mul_right, div-mul-le_self}
 use Rattle.std.proofs.lemmas.Nat.{pow-add, shr-shr}
@@ -40,10 +41,12 @@ module _ (n : ℕ) (ts : List Place) where
   has_parent : (r o : ℕ) (q : Place) → InForest n r o → is_root n r o ≡ false → moved n ts r o ≡ Some q → HasParent n ts r o q
   has_parent r o q h not_root e =
       let kept = stays r o q h e in
-      let z : child_place (is_gone ts r (sibling_off o)) (o % 2) (moved n ts (suc r) (o / 2)) ≡ Some q = rw (kept, not_root) at (sym (moved-step n ts r o h) ∙ e) in
+      let z : child_place (is_gone ts r (sibling_off o)) (o % 2) (moved n ts (suc r) (o / 2)) ≡ Some q =
+      rw (kept, not_root) at (sym (moved-step n ts r o h) ∙ e) in
       by_child (is_gone ts r (sibling_off o)) refl (moved n ts (suc r) (o / 2)) refl z
     where
-      by_child : (g : Bool) → is_gone ts r (sibling_off o) ≡ g → (m : Option Place) → moved n ts (suc r) (o / 2) ≡ m → child_place g (o % 2) m ≡ Some q → HasParent n ts r o q
+      by_child : (g : Bool) → is_gone ts r (sibling_off o) ≡ g → (m : Option Place) → moved n ts (suc r) (o / 2) ≡ m
+          → child_place g (o % 2) m ≡ Some q → HasParent n ts r o q
       by_child g a None b e = absurd (none-some q e)
       by_child true a (Some p) b e = record { parent = p; goes = b; to = inl (a, sym (same_Some p q e)) }
       by_child false a (Some p) b e = record { parent = p; goes = b; to = inr (sym (same_Some (child (o % 2) p) q e)) }
@@ -57,7 +60,8 @@ module _ (n : ℕ) (ts : List Place) where
       (λ s. subst (λ (x : Place). IsIn x w.parent) (sym s) (child_in_span (o % 2) w.parent some (omega arith)))
       w.to
 
-  pub moved_up : (r o : ℕ) (q : Place) → InForest n r o → is_root n r o ≡ false → moved n ts r o ≡ Some q → (p : Place) × (moved n ts (suc r) (o / 2) ≡ Some p) × IsIn q p
+  pub moved_up : (r o : ℕ) (q : Place) → InForest n r o → is_root n r o ≡ false → moved n ts r o ≡ Some q
+      → (p : Place) × (moved n ts (suc r) (o / 2) ≡ Some p) × IsIn q p
   moved_up r o q h not_root e = let w = has_parent r o q h not_root e in (w.parent, w.goes, within_parent r o q h not_root w)
 
   beside : (o u : ℕ) → o / 2 ≡ u / 2 → (o ≡ u → ⊥) → sibling_off o ≡ u
@@ -69,7 +73,8 @@ module _ (n : ℕ) (ts : List Place) where
       even_is : (o : ℕ) → o % 2 ≡ 0 → (o % 2 == 0) ≡ true
       even_is o x = rw x refl
 
-  pub moved_halves : (r o u : ℕ) (p q : Place) → InForest n r o → InForest n r u → is_root n r o ≡ false → is_root n r u ≡ false → o / 2 ≡ u / 2 → (o ≡ u → ⊥) → moved n ts r o ≡ Some p → moved n ts r u ≡ Some q → AreApart p q
+  pub moved_halves : (r o u : ℕ) (p q : Place) → InForest n r o → InForest n r u → is_root n r o ≡ false → is_root n r u ≡ false → o / 2 ≡ u / 2
+      → (o ≡ u → ⊥) → moved n ts r o ≡ Some p → moved n ts r u ≡ Some q → AreApart p q
   moved_halves r o u p q h i not_root not_root' e ne a b =
       let v = has_parent r o p h not_root a in
       let w = has_parent r u q i not_root' b in
@@ -81,7 +86,8 @@ module _ (n : ℕ) (ts : List Place) where
       (subst (λ (z : Place). AreApart (child (o % 2) v.parent) (child (u % 2) z)) same
       (halves_apart (o % 2) (u % 2) v.parent (omega arith) (omega arith) (λ x. ne (omega (arith, x, e))))))
     where
-      to_side : (r o u : ℕ) (p : Place) → InForest n r o → InForest n r u → o / 2 ≡ u / 2 → (o ≡ u → ⊥) → moved n ts r o ≡ Some p → (q : Place) → moved n ts r u ≡ Some q → (v : HasParent n ts r o p) → p ≡ child (o % 2) v.parent
+      to_side : (r o u : ℕ) (p : Place) → InForest n r o → InForest n r u → o / 2 ≡ u / 2 → (o ≡ u → ⊥) → moved n ts r o ≡ Some p → (q : Place)
+          → moved n ts r u ≡ Some q → (v : HasParent n ts r o p) → p ≡ child (o % 2) v.parent
       to_side r o u p h i e ne a q b v =
           ⊎_elim
           (λ s. absurd (true≢false (sym s.0 ∙ (ap (is_gone ts r) (beside o u e ne) ∙ stays r u q i b))))
@@ -95,7 +101,8 @@ module _ (n : ℕ) (ts : List Place) where
       let kept = stays h (root_off n h) q (InForest-root n h (root_off n h) top) e in
       same_Some q (place h (root_off n h)) (sym e ∙ moved-root n ts h (root_off n h) kept top)
 
-  pub moved_roots : (r h : ℕ) (p q : Place) → r < h → is_slot n r ≡ true → is_slot n h ≡ true → Unit {0} → Unit {0} → moved n ts r (root_off n r) ≡ Some p → moved n ts h (root_off n h) ≡ Some q → AreApart p q
+  pub moved_roots : (r h : ℕ) (p q : Place) → r < h → is_slot n r ≡ true → is_slot n h ≡ true → Unit {0} → Unit {0}
+      → moved n ts r (root_off n r) ≡ Some p → moved n ts h (root_off n h) ≡ Some q → AreApart p q
   moved_roots r h p q lt a b _ _ e g =
       subst (λ (x : Place). AreApart x q) (sym (moved_root_is r p a e))
       (subst (λ (y : Place). AreApart (place r (root_off n r)) y) (sym (moved_root_is h q b g)) (roots_apart n r h lt a b))
@@ -131,7 +138,8 @@ module _ (e : ℕ → Bool) (n m : ℕ) (all : all_slots n m ≡ true) where
       let le = row_is k (suc row) f in
       by_empty (e row) (let z : 0 < (carried_place e n k (suc row)).row = omega (arith, le) in z)
     where
-      by_empty : (b : Bool) → 0 < (carried_place e n k (suc row)).row → IsIn (cond b (carried_place e n k (suc row)) (child 1 (carried_place e n k (suc row)))) (carried_place e n k (suc row))
+      by_empty : (b : Bool) → 0 < (carried_place e n k (suc row)).row
+          → IsIn (cond b (carried_place e n k (suc row)) (child 1 (carried_place e n k (suc row)))) (carried_place e n k (suc row))
       by_empty true lt = in_itself (carried_place e n k (suc row))
       by_empty false lt = child_in_span 1 (carried_place e n k (suc row)) lt (omega arith)
 
@@ -139,12 +147,14 @@ module _ (e : ℕ → Bool) (n m : ℕ) (all : all_slots n m ≡ true) where
   carried_chain zero a k row up f g h =
       let x : k ≡ a = omega (arith, f) in
       let y : up ≡ row = omega (arith, g) in
-      subst (λ i. IsIn (carried_place e n i row) (carried_place e n k up)) x (subst (λ i. IsIn (carried_place e n k i) (carried_place e n k up)) y (in_itself (carried_place e n k up)))
+      subst (λ i. IsIn (carried_place e n i row) (carried_place e n k up)) x
+      (subst (λ i. IsIn (carried_place e n k i) (carried_place e n k up)) y (in_itself (carried_place e n k up)))
   carried_chain (suc d) a k row up f g h =
       let x : suc (k + d) ≡ a = omega (arith, f) in
       let next = carried_chain d (k + d) k (suc row) up refl (omega (arith, g)) h in
       subst (λ i. IsIn (carried_place e n i row) (carried_place e n k up)) x
-      (in_in (carried_place e n (suc (k + d)) row) (carried_place e n (k + d) (suc row)) (carried_place e n k up) (carried_step (k + d) row (omega (arith, g, h))) next)
+      (in_in (carried_place e n (suc (k + d)) row) (carried_place e n (k + d) (suc row)) (carried_place e n k up)
+      (carried_step (k + d) row (omega (arith, g, h))) next)
 
   -- what is carried to a row
   abbrev pub carried : ℕ → Place
@@ -187,37 +197,46 @@ module _ (e : ℕ → Bool) (n m : ℕ) (all : all_slots n m ≡ true) where
   raised_child : (r o : ℕ) → InForest n r o → is_root n r o ≡ false → raised e n m r o ≡ child (o % 2) (raised e n m (suc r) (o / 2))
   raised_child r o h not_root = raised-step e n m r o h ∙ rw not_root refl
 
-  pub raised_up : (r o : ℕ) (q : Place) → InForest n r o → is_root n r o ≡ false → rise r o ≡ Some q → (p : Place) × (rise (suc r) (o / 2) ≡ Some p) × IsIn q p
+  pub raised_up : (r o : ℕ) (q : Place) → InForest n r o → is_root n r o ≡ false → rise r o ≡ Some q → (p : Place) × (rise (suc r) (o / 2) ≡ Some p)
+      × IsIn q p
   raised_up r o q h not_root g = (
     raised e n m (suc r) (o / 2),
     refl,
     (let at = raised_in e n m all (n - suc r) (suc r) (o / 2) refl (InForest-up n r o h not_root) in
         let some : 0 < (raised e n m (suc r) (o / 2)).row = omega (arith, at.0) in
-        subst (λ (x : Place). IsIn x (raised e n m (suc r) (o / 2))) (sym (raised_child r o h not_root) ∙ same_Some (raised e n m r o) q g) (child_in_span (o % 2) (raised e n m (suc r) (o / 2)) some (omega arith))),
+        subst (λ (x : Place). IsIn x (raised e n m (suc r) (o / 2))) (sym (raised_child r o h not_root) ∙ same_Some (raised e n m r o) q g)
+        (child_in_span (o % 2) (raised e n m (suc r) (o / 2)) some (omega arith))),
   )
 
-  pub raised_halves : (r o u : ℕ) (p q : Place) → InForest n r o → InForest n r u → is_root n r o ≡ false → is_root n r u ≡ false → o / 2 ≡ u / 2 → (o ≡ u → ⊥) → rise r o ≡ Some p → rise r u ≡ Some q → AreApart p q
+  pub raised_halves : (r o u : ℕ) (p q : Place) → InForest n r o → InForest n r u → is_root n r o ≡ false → is_root n r u ≡ false → o / 2 ≡ u / 2
+      → (o ≡ u → ⊥) → rise r o ≡ Some p → rise r u ≡ Some q → AreApart p q
   raised_halves r o u p q h i not_root not_root' f ne a b =
       let top = raised e n m (suc r) (o / 2) in
       let left : child (o % 2) top ≡ p = sym (raised_child r o h not_root) ∙ same_Some (raised e n m r o) p a in
-      let right : child (u % 2) top ≡ q = ap (λ x. child (u % 2) (raised e n m (suc r) x)) f ∙ (sym (raised_child r u i not_root') ∙ same_Some (raised e n m r u) q b) in
-      subst (λ (x : Place). AreApart x q) left (subst (λ (y : Place). AreApart (child (o % 2) top) y) right (halves_apart (o % 2) (u % 2) top (omega arith) (omega arith) (λ x. ne (omega (arith, x, f)))))
+      let right : child (u % 2) top ≡ q = ap (λ x. child (u % 2) (raised e n m (suc r) x)) f
+      ∙ (sym (raised_child r u i not_root') ∙ same_Some (raised e n m r u) q b) in
+      subst (λ (x : Place). AreApart x q) left (subst (λ (y : Place). AreApart (child (o % 2) top) y) right
+      (halves_apart (o % 2) (u % 2) top (omega arith) (omega arith) (λ x. ne (omega (arith, x, f)))))
 
-  pub raised_roots : (r h : ℕ) (p q : Place) → r < h → is_slot n r ≡ true → is_slot n h ≡ true → IsMet r → IsMet h → rise r (root_off n r) ≡ Some p → rise h (root_off n h) ≡ Some q → AreApart p q
+  pub raised_roots : (r h : ℕ) (p q : Place) → r < h → is_slot n r ≡ true → is_slot n h ≡ true → IsMet r → IsMet h → rise r (root_off n r) ≡ Some p
+      → rise h (root_off n h) ≡ Some q → AreApart p q
   raised_roots r h p q lt a b fr fh g k =
       subst (λ (x : Place). AreApart x q) (same_Some (raised e n m r (root_off n r)) p g)
-      (subst (λ (y : Place). AreApart (raised e n m r (root_off n r)) y) (same_Some (raised e n m h (root_off n h)) q k) (by_rows (cases_lt r m) (cases_lt h m)))
+      (subst (λ (y : Place). AreApart (raised e n m r (root_off n r)) y) (same_Some (raised e n m h (root_off n h)) q k)
+      (by_rows (cases_lt r m) (cases_lt h m)))
     where
       by_rows : (r < m) ⊎ (m ≤ r) → (h < m) ⊎ (m ≤ h) → AreApart (raised e n m r (root_off n r)) (raised e n m h (root_off n h))
       by_rows (inl x) (inl y) =
           subst (λ (z : Place). AreApart z (raised e n m h (root_off n h))) (sym (joined_at r x a))
           (subst (λ (z : Place). AreApart (child 0 (carried (suc r))) z) (sym (joined_at h y b))
-          (joined_apart h (child 0 (carried (suc r))) y (fh y) (in_in (child 0 (carried (suc r))) (carried (suc r)) (carried h) (side_up 0 r x (omega arith)) (carried_below (suc r) h (omega (arith, lt)) (omega (arith, y))))))
+          (joined_apart h (child 0 (carried (suc r))) y (fh y) (in_in (child 0 (carried (suc r))) (carried (suc r)) (carried h)
+          (side_up 0 r x (omega arith)) (carried_below (suc r) h (omega (arith, lt)) (omega (arith, y))))))
       by_rows (inl x) (inr y) =
           subst (λ (z : Place). AreApart z (raised e n m h (root_off n h))) (sym (joined_at r x a))
           (subst (λ (z : Place). AreApart (child 0 (carried (suc r))) z) (sym (raised-same e n m h (root_off n h) (is_root-root_off n h b) y))
           (apart_turned (place h (root_off n h)) (child 0 (carried (suc r)))
-          (high_above h (child 0 (carried (suc r))) y b (in_in (child 0 (carried (suc r))) (carried (suc r)) (carried m) (side_up 0 r x (omega arith)) (carried_below (suc r) m (omega (arith, x)) (omega arith))))))
+          (high_above h (child 0 (carried (suc r))) y b (in_in (child 0 (carried (suc r))) (carried (suc r)) (carried m) (side_up 0 r x (omega arith))
+          (carried_below (suc r) m (omega (arith, x)) (omega arith))))))
       by_rows (inr x) (inl y) = absurd (omega (arith, lt, x, y))
       by_rows (inr x) (inr y) =
           subst (λ (z : Place). AreApart z (raised e n m h (root_off n h))) (sym (raised-same e n m r (root_off n r) (is_root-root_off n r a) x))
@@ -228,7 +247,8 @@ module _ (e : ℕ → Bool) (n m : ℕ) (all : all_slots n m ≡ true) where
   pub root_in_made : (r : ℕ) → r < m → is_slot n r ≡ true → IsIn (raised e n m r (root_off n r)) (place m (n / 2 ^ m))
   root_in_made r lt slot =
       subst (λ (z : Place). IsIn z (place m (n / 2 ^ m))) (sym (joined_at r lt slot))
-      (subst (IsIn (child 0 (carried (suc r)))) carried_top (in_in (child 0 (carried (suc r))) (carried (suc r)) (carried m) (side_up 0 r lt (omega arith)) (carried_below (suc r) m (omega (arith, lt)) (omega arith))))
+      (subst (IsIn (child 0 (carried (suc r)))) carried_top (in_in (child 0 (carried (suc r))) (carried (suc r)) (carried m)
+      (side_up 0 r lt (omega arith)) (carried_below (suc r) m (omega (arith, lt)) (omega arith))))
 
   pub last_in_made : IsIn (carried 0) (place m (n / 2 ^ m))
   last_in_made = subst (IsIn (carried 0)) carried_top (carried_below 0 m (omega arith) (omega arith))
@@ -238,7 +258,8 @@ module _ (e : ℕ → Bool) (n m : ℕ) (all : all_slots n m ≡ true) where
   root_beside_last r slot met =
       ⊎_elim
       (λ lt. subst (λ (z : Place). AreApart z (carried 0)) (sym (joined_at r lt slot))
-      (apart_turned (carried 0) (child 0 (carried (suc r))) (joined_apart r (carried 0) lt (met lt) (carried_below 0 r (omega arith) (omega (arith, lt))))))
+      (apart_turned (carried 0) (child 0 (carried (suc r)))
+      (joined_apart r (carried 0) lt (met lt) (carried_below 0 r (omega arith) (omega (arith, lt))))))
       (λ le. subst (λ (z : Place). AreApart z (carried 0)) (sym (raised-same e n m r (root_off n r) (is_root-root_off n r slot) le))
       (high_above r (carried 0) le slot (carried_below 0 m (omega arith) (omega arith))))
       (cases_lt r m)

@@ -1,5 +1,6 @@
 -- How many digests additions put, and how many known places there are.
-use Rattle.std.proofs.Common.{◌≡◌, ℕ, zero, suc, ◌+◌, ◌-◌, ◌*◌, ◌≤◌, Bool, true, false, List, [], ◌∷◌, ◌++◌, map, filter_map, length, Option, Some, None, is_some, refl, sym, ap, ◌∙◌, subst, ⊎_elim, All, arith}
+use Rattle.std.proofs.Common.{◌≡◌, ℕ, zero, suc, ◌+◌, ◌-◌, ◌*◌, ◌≤◌, Bool, true, false, List, [], ◌∷◌, ◌++◌, map, filter_map, length, Option, Some}
+use Rattle.std.proofs.Common.{None, is_some, refl, sym, ap, ◌∙◌, subst, ⊎_elim, All, arith}
 use Rattle.std.specs.Prelude.{count_ones}
 use Rattle.std.specs.List.{cons_option}
 use Rattle.std.proofs.lemmas.Bool.{cases_Bool, true≢false, and_from, or_left, or_right, or_cases}
@@ -51,7 +52,8 @@ growth_step n m a b all e =
     omega (arith, joined, ones, same, low, e)
 
 -- the places of an ascending list, each once
-held_has : (hs : List (Place × Digest)) (r o : ℕ) → has_place (map held_key hs) r o ≡ true → (x : Place × Digest) × (find is_same_place held_key (record { row = r; off = o }) hs ≡ Some x)
+held_has : (hs : List (Place × Digest)) (r o : ℕ) → has_place (map held_key hs) r o ≡ true
+    → (x : Place × Digest) × (find is_same_place held_key (record { row = r; off = o }) hs ≡ Some x)
 held_has [] r o h = absurd (true≢false (sym h))
 held_has (x ∷ hs) r o h =
     ⊎_elim
@@ -61,7 +63,12 @@ held_has (x ∷ hs) r o h =
 
 held_once : (hs : List (Place × Digest)) → AscendByPlace hs → HasNoRepeat (map held_key hs)
 held_once [] a = tt
-held_once (x ∷ hs) a = (⊎_elim (λ t. let w = held_has hs x.0.row x.0.off t in absurd (true≢false (sym (place_order.itself x.0) ∙ place_order.apart x.0 x.0 (a.0 x.0 w.0 w.1)))) (λ t. t) (cases_Bool (has_place (map held_key hs) x.0.row x.0.off)), held_once hs a.1)
+held_once (x ∷ hs) a = (
+  ⊎_elim (λ t. let w = held_has hs x.0.row x.0.off t in
+      absurd (true≢false (sym (place_order.itself x.0) ∙ place_order.apart x.0 x.0 (a.0 x.0 w.0 w.1)))) (λ t. t)
+      (cases_Bool (has_place (map held_key hs) x.0.row x.0.off)),
+  held_once hs a.1,
+)
 
 all_has : (P : Place → Type 0) (hs : List (Place × Digest)) → All (λ x. P x.0) hs → (q : Place) → has_place (map held_key hs) q.row q.off ≡ true → P q
 all_has P [] a q h = absurd (true≢false (sym h))
@@ -99,7 +106,8 @@ pub passed_length : {X Y : Type 0} (f : X → Option Y) (xs : List X) → length
 passed_length f [] = omega arith
 passed_length f (x ∷ xs) = cons_length (f x) (filter_map f xs) (length xs) (passed_length f xs)
 
-pub more_length : (e : ℕ → Bool) (n m : ℕ) (watched : Option Leaf) (d : Digest) (ks : List Kept) (b : ℕ) → (is_some watched ≡ true → b ≡ 1) → length (leaves_more e n m watched d ks) ≤ length ks + b
+pub more_length : (e : ℕ → Bool) (n m : ℕ) (watched : Option Leaf) (d : Digest) (ks : List Kept) (b : ℕ) → (is_some watched ≡ true → b ≡ 1)
+    → length (leaves_more e n m watched d ks) ≤ length ks + b
 more_length e n m None d ks b h =
     let long = length-append (raised_leaves e n m ks) [] in
     let same : length (raised_leaves e n m ks) ≡ length ks = length-map ks _ in
@@ -112,14 +120,17 @@ more_length e n m (Some leaf) d ks b h =
     omega (arith, long, same, one)
 
 -- what a mark gives back is no longer than what there is and what it puts back
-pub kept_short : (taken : List Kept) (stood : List (ℕ × Place)) (added : List ℕ) (ks : List Kept) → length (kept_given taken stood added ks) ≤ length ks + length taken
+pub kept_short : (taken : List Kept) (stood : List (ℕ × Place)) (added : List ℕ) (ks : List Kept)
+    → length (kept_given taken stood added ks) ≤ length ks + length taken
 kept_short taken stood added ks =
     let a = undo_no_longer is_same_number is_before_number leaf_key entry_none (λ i. refl) added ks in
     let b = undo_no_longer is_same_number is_before_number leaf_key entry_stood (λ s. refl) stood (undo_entries (map entry_none added) ks) in
-    let c = undo_short is_same_number is_before_number leaf_key entry_was taken (undo_entries (map entry_stood stood) (undo_entries (map entry_none added) ks)) in
+    let c = undo_short is_same_number is_before_number leaf_key entry_was taken
+    (undo_entries (map entry_stood stood) (undo_entries (map entry_none added) ks)) in
     omega (arith, a, b, c)
 
-pub held_short : (lost : List (Place × Digest)) (gained : List Place) (hs : List (Place × Digest)) → length (held_given lost gained hs) ≤ length hs + length lost
+pub held_short : (lost : List (Place × Digest)) (gained : List Place) (hs : List (Place × Digest))
+    → length (held_given lost gained hs) ≤ length hs + length lost
 held_short lost gained hs =
     let a = undo_no_longer is_same_place is_before_place held_key digest_none (λ p. refl) gained hs in
     let b = undo_short is_same_place is_before_place held_key digest_was lost (undo_digests (map digest_none gained) hs) in

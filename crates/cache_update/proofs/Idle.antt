@@ -1,5 +1,6 @@
 -- What a block leaves of a cache that keeps and holds nothing.
-use Rattle.std.proofs.Common.{◌≡◌, ℕ, zero, suc, ◌+◌, ◌*◌, ◌<◌, Bool, true, false, ◌||◌, ◌&&◌, not, cond, List, [], ◌∷◌, ◌++◌, filter, length, Option, Some, None, is_some, refl, sym, ap, ap₂, ◌∙◌, subst, arith}
+use Rattle.std.proofs.Common.{◌≡◌, ℕ, zero, suc, ◌+◌, ◌*◌, ◌<◌, Bool, true, false, ◌||◌, ◌&&◌, not, cond, List, [], ◌∷◌, ◌++◌, filter, length, Option}
+use Rattle.std.proofs.Common.{Some, None, is_some, refl, sym, ap, ap₂, ◌∙◌, subst, arith}
 use Rattle.std.proofs.lemmas.List.{append-nil}
 use Rattle.leaf_record.specs.Leaf.{Leaf}
 use Rattle.uo_digest.specs.declared.digest.Digest.{Digest}
@@ -27,7 +28,8 @@ no_cover (suc row) off = rw (no_cover row (2 * off), no_cover row (2 * off + 1))
 
 unknown : (n : ℕ) (p : Place) → is_known n [] p ≡ false
 unknown n p =
-    ap₂ (λ (a b : Bool). a || (not (is_root n p.row p.off) && not a && b)) (ap is_some (no_cover p.row p.off)) (ap is_some (no_cover p.row (sibling_off p.off)))
+    ap₂ (λ (a b : Bool). a || (not (is_root n p.row p.off) && not a && b)) (ap is_some (no_cover p.row p.off))
+    (ap is_some (no_cover p.row (sibling_off p.off)))
     ∙ by_root (is_root n p.row p.off)
   where
     by_root : (b : Bool) → (false || (not b && not false && false)) ≡ false
@@ -42,10 +44,12 @@ no_pair n (x ∷ pairs) = rw (unknown n x.0) (no_pair n pairs)
 pub none_moved : (n : ℕ) (ts : List Place) (ks : List Kept) → ks ≡ [] → ks ≡ moved_leaves n ts ks
 none_moved n ts ks e = subst (λ (xs : List Kept). xs ≡ moved_leaves n ts xs) (sym e) refl
 
-pub none_deleted : (n : ℕ) (ts : List Place) (pairs : List (Place × Digest)) (ks : List Kept) (hs : List (Place × Digest)) → ks ≡ [] → hs ≡ [] → hs ≡ held_deleted n ts pairs (leaf_places (moved_leaves n ts ks)) hs
+pub none_deleted : (n : ℕ) (ts : List Place) (pairs : List (Place × Digest)) (ks : List Kept) (hs : List (Place × Digest)) → ks ≡ [] → hs ≡ []
+    → hs ≡ held_deleted n ts pairs (leaf_places (moved_leaves n ts ks)) hs
 none_deleted n ts pairs ks hs e f =
     subst (λ (xs : List Kept). hs ≡ held_deleted n ts pairs (leaf_places (moved_leaves n ts xs)) hs) (sym e)
-    (subst (λ (xs : List (Place × Digest)). xs ≡ held_deleted n ts pairs [] xs) (sym f) (sym (ap (λ (xs : List (Place × Digest)). put_all xs []) (no_pair n pairs))))
+    (subst (λ (xs : List (Place × Digest)). xs ≡ held_deleted n ts pairs [] xs) (sym f)
+    (sym (ap (λ (xs : List (Place × Digest)). put_all xs []) (no_pair n pairs))))
 
 -- and so does an addition that is not watched
 none_shown : (js : List Join) (d : Digest) (n k row : ℕ) → shown_by js d n (is_root_held n []) false k row ≡ []
@@ -60,13 +64,16 @@ pub none_more : (e : ℕ → Bool) (n m : ℕ) (leaf : Option Leaf) (d : Digest)
 none_more e n m leaf d ks f g =
     subst (λ (x : Option Leaf). ks ≡ leaves_more e n m x d ks) (sym g) (subst (λ (xs : List Kept). xs ≡ leaves_more e n m None d xs) (sym f) refl)
 
-pub none_added : (js : List Join) (d : Digest) (n : ℕ) (leaf : Option Leaf) (hs : List (Place × Digest)) → hs ≡ [] → leaf ≡ None → hs ≡ added_by js d n (is_some leaf) hs
+pub none_added : (js : List Join) (d : Digest) (n : ℕ) (leaf : Option Leaf) (hs : List (Place × Digest)) → hs ≡ [] → leaf ≡ None
+    → hs ≡ added_by js d n (is_some leaf) hs
 none_added js d n leaf hs f g =
     subst (λ (x : Option Leaf). hs ≡ added_by js d n (is_some x) hs) (sym g)
-    (subst (λ (xs : List (Place × Digest)). xs ≡ added_by js d n false xs) (sym f) (sym (ap (λ (xs : List (Place × Digest)). put_all xs []) (none_shown js d n (length js) 0))))
+    (subst (λ (xs : List (Place × Digest)). xs ≡ added_by js d n false xs) (sym f)
+    (sym (ap (λ (xs : List (Place × Digest)). put_all xs []) (none_shown js d n (length js) 0))))
 
 -- a mark that was just made
-module _ (leaves adds : ℕ) (m : Mark) (p q : Parted) (idle : IsIdleMark leaves adds m) (no_kept : p.kept ≡ []) (no_held : p.held ≡ []) (kept : q.kept ≡ p.kept) (held : q.held ≡ p.held) where
+module _ (leaves adds : ℕ) (m : Mark) (p q : Parted) (idle : IsIdleMark leaves adds m) (no_kept : p.kept ≡ []) (no_held : p.held ≡ [])
+    (kept : q.kept ≡ p.kept) (held : q.held ≡ p.held) where
   pub idle_kept : kept_back m q.kept ≡ p.kept
   idle_kept =
       ap (kept_back m) kept
@@ -93,21 +100,25 @@ module _ (leaves adds : ℕ) (m : Mark) (p q : Parted) (idle : IsIdleMark leaves
   idle_begun some t = subst (IsUnusedIn t m q) (sym idle.room) (omega (arith, some, idle.adds_are))
 
 -- a mark that only counts
-pub same_back : (m m' : Mark) (ks : List Kept) → m'.taken.items ≡ m.taken.items → m'.stood.items ≡ m.stood.items → m'.added.items ≡ m.added.items → kept_back m' ks ≡ kept_back m ks
+pub same_back : (m m' : Mark) (ks : List Kept) → m'.taken.items ≡ m.taken.items → m'.stood.items ≡ m.stood.items → m'.added.items ≡ m.added.items
+    → kept_back m' ks ≡ kept_back m ks
 same_back m m' ks e f g =
     ap (λ (x : List Kept). kept_given x m'.stood.items m'.added.items ks) e
     ∙ ap₂ (λ (s : List (ℕ × Place)) (j : List ℕ). kept_given m.taken.items s j ks) f g
 
-pub none_counted : (leaf : Option Leaf) (added new : List ℕ) (n : ℕ) (b : Bool) → b ≡ is_some leaf → leaf ≡ None → new ≡ added ++ cond b (n ∷ []) [] → new ≡ added
+pub none_counted : (leaf : Option Leaf) (added new : List ℕ) (n : ℕ) (b : Bool) → b ≡ is_some leaf → leaf ≡ None → new ≡ added ++ cond b (n ∷ []) []
+    → new ≡ added
 none_counted leaf added new n b e f g = let h : b ≡ false = e ∙ ap is_some f in g ∙ (ap (λ c. added ++ cond c (n ∷ []) []) h ∙ append-nil added)
 
-pub same_held : (m m' : Mark) (hs : List (Place × Digest)) → m.room ≡ None → m'.room ≡ None → m'.lost.items ≡ m.lost.items → m'.gained.items ≡ m.gained.items → held_back m' hs ≡ held_back m hs
+pub same_held : (m m' : Mark) (hs : List (Place × Digest)) → m.room ≡ None → m'.room ≡ None → m'.lost.items ≡ m.lost.items
+    → m'.gained.items ≡ m.gained.items → held_back m' hs ≡ held_back m hs
 same_held m m' hs e f g h =
     ap (λ (r : Option BoxedRoom). held_from r m'.lost.items m'.gained.items hs) f
     ∙ (ap₂ (λ (x : List (Place × Digest)) (y : List Place). held_given x y hs) g h
     ∙ sym (ap (λ (r : Option BoxedRoom). held_from r m.lost.items m.gained.items hs) e))
 
-pub idle_on : (m m' : Mark) (p : Parted) → m'.room ≡ None → kept_back m' p.kept ≡ kept_back m p.kept → held_back m' p.held ≡ held_back m p.held → m'.watched ≡ 0 → IsIdle m p → Fits m p → Fits m' p
+pub idle_on : (m m' : Mark) (p : Parted) → m'.room ≡ None → kept_back m' p.kept ≡ kept_back m p.kept → held_back m' p.held ≡ held_back m p.held
+    → m'.watched ≡ 0 → IsIdle m p → Fits m p → Fits m' p
 idle_on m m' p none kept held watched idle fits =
     let k = ap length kept in let h = ap length held in let a = fits.kept_room in let b = fits.held_room in
     record {

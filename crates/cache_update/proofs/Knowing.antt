@@ -12,8 +12,11 @@ use Rattle.proof_shape.proofs.Ordered.{found_is}
 use Rattle.proof_shape.proofs.Needing.{rises_sorted, positions_tell}
 use Rattle.std.specs.List.Sorted.{IsNonDecreasing}
 
-pub tells : (n : ℕ) (ts cs : List Place) (xs : List ℕ) (p : Place) (x : ℕ) (r : Result ℕ ℕ) → x ≡ position n p.row p.off → IsCoverOf n ts cs → xs ≡ positions_of n cs → InForest n p.row p.off →
-    (((i j : ℕ) → i ≤ j → j < length xs → get_or xs i 0 ≤ get_or xs j 0) → MatchResult r (λ i. (i < length xs) × (get_or xs i 0 ≡ x)) (λ i. (i ≤ length xs) × ((k : ℕ) → k < i → get_or xs k 0 < x) × ((k : ℕ) → i ≤ k → k < length xs → x < get_or xs k 0))) →
+pub tells : (n : ℕ) (ts cs : List Place) (xs : List ℕ) (p : Place) (x : ℕ) (r : Result ℕ ℕ) → x ≡ position n p.row p.off → IsCoverOf n ts cs
+    → xs ≡ positions_of n cs → InForest n p.row p.off →
+    (((i j : ℕ) → i ≤ j → j < length xs → get_or xs i 0 ≤ get_or xs j 0)
+    → MatchResult r (λ i. (i < length xs) × (get_or xs i 0 ≡ x)) (λ i. (i ≤ length xs) × ((k : ℕ) → k < i → get_or xs k 0 < x)
+    × ((k : ℕ) → i ≤ k → k < length xs → x < get_or xs k 0))) →
     is_ok r ≡ is_some (cover ts p.row p.off)
 tells n ts cs xs p x r at s e within found =
     let sorted : IsNonDecreasing xs = subst IsNonDecreasing (sym e) (rises_sorted n cs s.rises) in

@@ -1,5 +1,6 @@
 -- The lists of a history are of the roots that stand for it.
-use Rattle.std.proofs.Common.{◌≡◌, ℕ, suc, ◌+◌, ◌-◌, ◌*◌, ◌/◌, ◌^◌, ◌<◌, true, List, [], ◌∷◌, length, get_or, Option, Some, None, is_some, refl, sym, ap, ap₂, ◌∙◌, subst, ⊎_elim, All, arith, ltb-true, eqb-true}
+use Rattle.std.proofs.Common.{◌≡◌, ℕ, suc, ◌+◌, ◌-◌, ◌*◌, ◌/◌, ◌^◌, ◌<◌, true, List, [], ◌∷◌, length, get_or, Option, Some, None, is_some, refl, sym}
+use Rattle.std.proofs.Common.{ap, ap₂, ◌∙◌, subst, ⊎_elim, All, arith, ltb-true, eqb-true}
 use Rattle.std.specs.Prelude.{option_map, nat_lt, ◌==◌}
 use Rattle.std.proofs.lemmas.Bool.{cases_Bool, or_cases, and_parts, false≢true, false_from_ne_true}
 use Rattle.std.proofs.lemmas.List.Elements.{All-nil, All-cons, All-head, All-tail}
@@ -48,9 +49,25 @@ module _ (es : List (Option Digest)) where
 
   has_top : (row off : ℕ) (t : Tree) → tree_at es row off ≡ Some t → HasTop row off t
   has_top = all_trees es HasTop
-      (λ row off t top e. record { h = row; of_slot = slot_of_root (length es) row off top; tree = t; top = ap (content es row) (sym (root_off-is_root (length es) row off top).0) ∙ e })
-      (λ row off l r up s p. record { h = p.h; of_slot = (let z : (2 * off) / 2 ≡ off = omega arith in child_slot row off (2 * off) p.h z p.of_slot); tree = p.tree; top = p.top })
-      (λ row off l r up s p. record { h = p.h; of_slot = (let z : (2 * off + 1) / 2 ≡ off = omega arith in child_slot row off (2 * off + 1) p.h z p.of_slot); tree = p.tree; top = p.top })
+      (λ row off t top e. record {
+        h = row;
+        of_slot = slot_of_root (length es) row off top;
+        tree = t;
+        top = ap (content es row) (sym (root_off-is_root (length es) row off top).0) ∙ e;
+      })
+      (λ row off l r up s p. record {
+        h = p.h;
+        of_slot = (let z : (2 * off) / 2 ≡ off = omega arith in child_slot row off (2 * off) p.h z p.of_slot);
+        tree = p.tree;
+        top = p.top;
+      })
+      (λ row off l r up s p. record {
+        h = p.h;
+        of_slot =
+            (let z : (2 * off + 1) / 2 ≡ off = omega arith in child_slot row off (2 * off + 1) p.h z p.of_slot);
+        tree = p.tree;
+        top = p.top;
+      })
 
   -- where a kept entry stands
   abbrev pub Stands : Kept → Type 0
@@ -69,7 +86,8 @@ module _ (es : List (Option Digest)) where
       (λ here. record {
         entry = k;
         found = (let t : is_same_number k.number k.number ≡ true = number_order.itself k.number in (k, rw t refl));
-        stands = subst (λ (q : Place). tree_at es q.row q.off ≡ Some (leaf k.number k.digest)) (same_from_is_at p.row p.off k.place here) (All-head Stands k ks a);
+        stands = subst (λ (q : Place). tree_at es q.row q.off ≡ Some (leaf k.number k.digest)) (same_from_is_at p.row p.off k.place here)
+            (All-head Stands k ks a);
       })
       (λ there.
       let w = one_of ks (All-tail Stands k ks a) p there in
@@ -105,11 +123,13 @@ module _ (es : List (Option Digest)) where
         let e : p.row - q.row ≡ suc k = omega (arith, lt) in
         let f : p.row ≡ q.row + suc k = omega (arith, lt) in
         let g : q.off / 2 ^ suc k ≡ p.off = subst (λ j. q.off / 2 ^ j ≡ p.off) e at in
-        let s : tree_at es (q.row + suc k) (q.off / 2 ^ suc k) ≡ Some (leaf high.entry.number high.entry.digest) = ap₂ (tree_at es) (sym f) g ∙ high.stands in
+        let s : tree_at es (q.row + suc k) (q.off / 2 ^ suc k) ≡ Some (leaf high.entry.number high.entry.digest) =
+        ap₂ (tree_at es) (sym f) g ∙ high.stands in
         none-some _ (sym (nothing_beneath es k q.row q.off _ _ s) ∙ low.stands));
   }
 
-module _ (H : List ℕ → Digest) (text : Leaf → List ℕ) (scripts : List (List ℕ)) (us : History) (f : Stump) (ks : List Kept) (hs : List (Place × Digest)) (standing : StandsFor H (entries H text us) f) (s : IsCacheOf H text scripts us ks hs) where
+module _ (H : List ℕ → Digest) (text : Leaf → List ℕ) (scripts : List (List ℕ)) (us : History) (f : Stump) (ks : List Kept)
+    (hs : List (Place × Digest)) (standing : StandsFor H (entries H text us) f) (s : IsCacheOf H text scripts us ks hs) where
   abbrev es : List (Option Digest)
   es = entries H text us
 
@@ -119,7 +139,8 @@ module _ (H : List ℕ → Digest) (text : Leaf → List ℕ) (scripts : List (L
   abbrev IsOne : Kept → Type 0
   IsOne k = Stands es k × (k.number < length es)
 
-  as_one : (i : ℕ) (x : Option Leaf) (y : Option Place) (k : Kept) → get_or us i None ≡ x → entry_place es i ≡ y → kept_leaf_of (λ r. H (text r)) i x y ≡ Some k → IsOne k
+  as_one : (i : ℕ) (x : Option Leaf) (y : Option Place) (k : Kept) → get_or us i None ≡ x → entry_place es i ≡ y
+      → kept_leaf_of (λ r. H (text r)) i x y ≡ Some k → IsOne k
   as_one i None y k a b e = absurd (none-some k e)
   as_one i (Some r) None k a b e = absurd (none-some k e)
   as_one i (Some r) (Some p) k a b e =
@@ -134,7 +155,8 @@ module _ (H : List ℕ → Digest) (text : Leaf → List ℕ) (scripts : List (L
   each_one : All IsOne ks
   each_one =
       subst (All IsOne) (sym s.of_kept)
-      (passed (λ (i : ℕ). Unit {0}) IsOne (kept_leaf H text us) (λ i k u e. as_one i (get_or us i None) (entry_place es i) k refl refl e) (kept scripts us) (any (kept scripts us)))
+      (passed (λ (i : ℕ). Unit {0}) IsOne (kept_leaf H text us) (λ i k u e. as_one i (get_or us i None) (entry_place es i) k refl refl e)
+      (kept scripts us) (any (kept scripts us)))
     where
       any : (xs : List ℕ) → All (λ (i : ℕ). Unit {0}) xs
       any [] = All-nil (λ (i : ℕ). Unit {0})
@@ -147,7 +169,8 @@ module _ (H : List ℕ → Digest) (text : Leaf → List ℕ) (scripts : List (L
   rooted : (k : Kept) → IsOne k → IsRooted f k.place
   rooted k one row t =
       let w = has_top es k.place.row k.place.off (leaf k.number k.digest) one.0 in
-      let same : row ≡ w.h = one_slot (length es) k.place.row k.place.off row w.h (subst (λ n. IsSlotOf n k.place.row k.place.off row) count t) w.of_slot in
+      let same : row ≡ w.h = one_slot (length es) k.place.row k.place.off row w.h (subst (λ n. IsSlotOf n k.place.row k.place.off row) count t)
+      w.of_slot in
       ap (λ x. is_some (root_in f x)) same
       ∙ (ap is_some (standing.roots w.h (ap (λ n. is_slot n w.h) count ∙ w.of_slot.slot)) ∙ ap (λ x. is_some (option_map (digest_of H) x)) w.top)
 
@@ -161,7 +184,8 @@ module _ (H : List ℕ → Digest) (text : Leaf → List ℕ) (scripts : List (L
   pub of_its_roots : AreOfRoots f ks hs
   of_its_roots = record {
     numbers = weaker IsOne (λ (k : Kept). k.number < f.leaves) (λ k one. subst (λ n. k.number < n) (sym count) one.1) ks each_one;
-    shape = subst (λ n. HasShape n (leaf_places ks)) (sym count) (shape es ks (is_ordered H text scripts us ks hs s).0 (weaker IsOne (Stands es) (λ k one. one.0) ks each_one));
+    shape = subst (λ n. HasShape n (leaf_places ks)) (sym count)
+        (shape es ks (is_ordered H text scripts us ks hs s).0 (weaker IsOne (Stands es) (λ k one. one.0) ks each_one));
     rooted = weaker IsOne (λ (k : Kept). IsRooted f k.place) rooted ks each_one;
     held = subst (λ n. All (IsHeldIn n) hs) (sym count) held_within;
   }

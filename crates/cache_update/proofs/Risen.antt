@@ -1,5 +1,6 @@
 -- What stands beneath no slot below the highest empty root that is joined stays where it is.
-use Rattle.std.proofs.Common.{◌≡◌, ℕ, zero, suc, ◌+◌, ◌-◌, ◌*◌, ◌/◌, ◌%◌, ◌^◌, ◌<◌, ◌≤◌, Bool, true, false, cond, List, [], ◌∷◌, length, get_or, All, None, is_none, refl, sym, ap, ap₂, ◌∙◌, subst, ⊎_elim, arith, eqb-true, nat_lt, ltb-true, lt-ltb, le-ltb}
+use Rattle.std.proofs.Common.{◌≡◌, ℕ, zero, suc, ◌+◌, ◌-◌, ◌*◌, ◌/◌, ◌%◌, ◌^◌, ◌<◌, ◌≤◌, Bool, true, false, cond, List, [], ◌∷◌, length, get_or, All}
+use Rattle.std.proofs.Common.{None, is_none, refl, sym, ap, ap₂, ◌∙◌, subst, ⊎_elim, arith, eqb-true, nat_lt, ltb-true, lt-ltb, le-ltb}
 use Rattle.std.specs.Prelude.{◌==◌}
 use Rattle.std.proofs.lemmas.Bool.{cases_Bool, cases_eq, cases_lt, true≢false, eq-eqb}
 use Rattle.std.proofs.lemmas.List.{get_or_default}
@@ -54,7 +55,8 @@ module _ (e : ℕ → Bool) (n m top : ℕ) (all : all_slots n m ≡ true) (full
       (λ other.
       let a : suc r - 1 ≡ r = omega arith in
       let b : 2 * (o / 2) + o % 2 ≡ o = omega arith in
-      raised-step e n m r o h ∙ (rw other (ap (child (o % 2)) (above k (suc r) (o / 2) (omega (arith, f)) (omega (arith, le)) (InForest-up n r o h other)) ∙ ap₂ place a b)))
+      raised-step e n m r o h ∙ (rw other (ap (child (o % 2))
+      (above k (suc r) (o / 2) (omega (arith, f)) (omega (arith, le)) (InForest-up n r o h other)) ∙ ap₂ place a b)))
       (cases_Bool (is_root n r o))
 
   below : (k r o : ℕ) → r + k ≡ top → InForest n (r + k) (o / 2 ^ k) → raised e n m r o ≡ place r o
@@ -64,7 +66,8 @@ module _ (e : ℕ → Bool) (n m top : ℕ) (all : all_slots n m ≡ true) (full
       above (n - r) r o refl (omega (arith, f)) (subst (λ x. InForest n r x) b (subst (λ x. InForest n x (o / 1)) a h))
   below (suc k) r o f h =
       let s : r + suc k ≡ suc r + k = omega arith in
-      let up : InForest n (suc r + k) (o / 2 / 2 ^ k) = subst (InForest n (suc r + k)) (half_pow o k) (subst (λ x. InForest n x (o / 2 ^ suc k)) s h) in
+      let up : InForest n (suc r + k) (o / 2 / 2 ^ k) =
+      subst (InForest n (suc r + k)) (half_pow o k) (subst (λ x. InForest n x (o / 2 ^ suc k)) s h) in
       let within = InForest-beneath n k (suc r) (o / 2) up in
       let a : suc r - 1 ≡ r = omega arith in
       let b : 2 * (o / 2) + o % 2 ≡ o = omega arith in
@@ -82,18 +85,21 @@ module _ (e : ℕ → Bool) (n m top : ℕ) (all : all_slots n m ≡ true) (full
       (λ ge. sym (above (n - p.row) p.row p.off refl ge h))
       (cases_lt p.row top)
 
-  same_held : (hs : List (Place × Digest)) → All (λ x. InForest n x.0.row x.0.off) hs → All (λ x. stays n top x.0 ≡ true) hs → raised_held e n m hs ≡ hs
+  same_held : (hs : List (Place × Digest)) → All (λ x. InForest n x.0.row x.0.off) hs → All (λ x. stays n top x.0 ≡ true) hs
+      → raised_held e n m hs ≡ hs
   same_held [] h s = refl
   same_held (x ∷ xs) h s =
       ap₂ (λ (p : Place) ys. (p, x.1) ∷ ys)
       (sym (stays_put x.0 (All-head (λ x. InForest n x.0.row x.0.off) x xs h) (All-head (λ x. stays n top x.0 ≡ true) x xs s)))
       (same_held xs (All-tail (λ x. InForest n x.0.row x.0.off) x xs h) (All-tail (λ x. stays n top x.0 ≡ true) x xs s))
 
-  pub held_stay : (hs : List (Place × Digest)) → All (λ x. InForest n x.0.row x.0.off) hs → AscendByPlace hs → All (λ x. stays n top x.0 ≡ true) hs → hs ≡ put_all (raised_held e n m hs) []
+  pub held_stay : (hs : List (Place × Digest)) → All (λ x. InForest n x.0.row x.0.off) hs → AscendByPlace hs → All (λ x. stays n top x.0 ≡ true) hs
+      → hs ≡ put_all (raised_held e n m hs) []
   held_stay hs h a s = sym (ap (λ xs. put_all xs []) (same_held hs h s) ∙ put_again hs a)
 
 -- between two places of a row and of the next one nothing is held
-pub none_from : (hs : List (Place × Digest)) (row off first next : ℕ) → IsSplit is_before_place held_key (place row off) hs first → IsSplit is_before_place held_key (place (row + 1) 0) hs next → next ≤ first → All (λ x. x.0.row ≡ row → x.0.off < off) hs
+pub none_from : (hs : List (Place × Digest)) (row off first next : ℕ) → IsSplit is_before_place held_key (place row off) hs first
+    → IsSplit is_before_place held_key (place (row + 1) 0) hs next → next ≤ first → All (λ x. x.0.row ≡ row → x.0.off < off) hs
 none_from hs row off first next s t le k d lt same =
     ⊎_elim
     (λ before.
@@ -126,7 +132,8 @@ pub stays_above : (n top : ℕ) (p : Place) → top ≤ p.row → stays n top p 
 stays_above n top p le = rw (le-ltb p.row top le) refl
 
 -- where no row below has any from the last slots on, all stay
-pub all_stay : (n top : ℕ) (hs : List (Place × Digest)) → ((row : ℕ) → row < top → All (λ x. x.0.row ≡ row → x.0.off < n / 2 ^ top * 2 ^ (top - row)) hs) → All (λ x. stays n top x.0 ≡ true) hs
+pub all_stay : (n top : ℕ) (hs : List (Place × Digest)) → ((row : ℕ) → row < top
+    → All (λ x. x.0.row ≡ row → x.0.off < n / 2 ^ top * 2 ^ (top - row)) hs) → All (λ x. stays n top x.0 ≡ true) hs
 all_stay n top hs none k d lt =
     let p = (get_or hs k d).0 in
     ⊎_elim
@@ -135,12 +142,14 @@ all_stay n top hs none k d lt =
     (cases_lt p.row top)
 
 -- a root more that is not empty
-pub full_down : (js : List Join) (row : ℕ) (x : Join) → 0 < row → row ≤ length js → x ≡ get_or js (row - 1) x → is_none x.left ≡ false → AreFull js row → AreFull js (row - 1)
+pub full_down : (js : List Join) (row : ℕ) (x : Join) → 0 < row → row ≤ length js → x ≡ get_or js (row - 1) x → is_none x.left ≡ false
+    → AreFull js row → AreFull js (row - 1)
 full_down js row x pos within e t full r le lt =
     ⊎_elim
     (λ same.
     let inside : row - 1 < length js = omega (arith, pos, within) in
-    ap (is_empty_of js) same ∙ (ap (λ (j : Join). is_none j.left) (get_or_default js (row - 1) (record { row = 0; left = None; result = record { 0 = [] } }) x inside ∙ sym e) ∙ t))
+    ap (is_empty_of js) same ∙ (ap (λ (j : Join). is_none j.left)
+    (get_or_default js (row - 1) (record { row = 0; left = None; result = record { 0 = [] } }) x inside ∙ sym e) ∙ t))
     (λ other. full r (omega (arith, le, other)) lt)
     (cases_eq r (row - 1))
 
@@ -152,7 +161,9 @@ shift_small n top k few le =
     mod-eq_of_lt (omega (arith, few, a, b))
 
 -- a row in which nothing is held from the last slots on
-pub row_clear : (n top row r : ℕ) (hs : List (Place × Digest)) → n < 2 ^ 40 → row < top → r ≡ row → All (λ x. x.0.row ≡ row → x.0.off < n / 2 ^ top * 2 ^ (top - row) % 2 ^ 64) hs → All (λ x. x.0.row ≡ r → x.0.off < n / 2 ^ top * 2 ^ (top - r)) hs
+pub row_clear : (n top row r : ℕ) (hs : List (Place × Digest)) → n < 2 ^ 40 → row < top → r ≡ row
+    → All (λ x. x.0.row ≡ row → x.0.off < n / 2 ^ top * 2 ^ (top - row) % 2 ^ 64) hs
+    → All (λ x. x.0.row ≡ r → x.0.off < n / 2 ^ top * 2 ^ (top - r)) hs
 row_clear n top row r hs few lt e a k d inside same =
     subst (λ v. (get_or hs k d).0.off < n / 2 ^ top * 2 ^ (top - v)) (sym e)
     (subst (λ v. (get_or hs k d).0.off < v) (shift_small n top (top - row) few (omega (arith, lt))) (a k d inside (same ∙ e)))

@@ -1,5 +1,6 @@
 -- Lists of places: shape, and spans that are apart from each other.
-use Rattle.std.proofs.Common.{◌≡◌, ℕ, true, List, [], ◌∷◌, ◌++◌, filter_map, Option, Some, None, refl, sym, ap, ap₂, ◌∙◌, subst, ⊎_elim, inl, inr, All}
+use Rattle.std.proofs.Common.{◌≡◌, ℕ, true, List, [], ◌∷◌, ◌++◌, filter_map, Option, Some, None, refl, sym, ap, ap₂, ◌∙◌, subst, ⊎_elim, inl, inr}
+use Rattle.std.proofs.Common.{All}
 use Rattle.std.specs.Prelude.{◌⊎◌}
 use Rattle.std.specs.List.{cons_option}
 use Rattle.std.proofs.lemmas.Bool.{or_cases, or_left, or_right, true≢false, false≢true, false_from_ne_true}
@@ -42,19 +43,26 @@ each_from P [] f = All-nil P
 each_from P (p ∷ ps) f = All-cons P p ps (f p (has_head p ps)) (each_from P ps (λ q h. f q (has_more p ps q.row q.off h)))
 
 -- two that are there are one, or apart
-one_or_apart : (ps : List Place) → LieApart ps → (p q : Place) → has_place ps p.row p.off ≡ true → has_place ps q.row q.off ≡ true → (p ≡ q) ⊎ AreApart p q
+one_or_apart : (ps : List Place) → LieApart ps → (p q : Place) → has_place ps p.row p.off ≡ true → has_place ps q.row q.off ≡ true
+    → (p ≡ q) ⊎ AreApart p q
 one_or_apart [] a p q h i = absurd (false≢true h)
-one_or_apart (x ∷ xs) a p q h i = by_place (or_cases (is_at p.row p.off x) (has_place xs p.row p.off) h) (or_cases (is_at q.row q.off x) (has_place xs q.row q.off) i) (one_or_apart xs a.1 p q)
+one_or_apart (x ∷ xs) a p q h i = by_place (or_cases (is_at p.row p.off x) (has_place xs p.row p.off) h)
+    (or_cases (is_at q.row q.off x) (has_place xs q.row q.off) i) (one_or_apart xs a.1 p q)
   where
-    by_place : (is_at p.row p.off x ≡ true) ⊎ (has_place xs p.row p.off ≡ true) → (is_at q.row q.off x ≡ true) ⊎ (has_place xs q.row q.off ≡ true) → (has_place xs p.row p.off ≡ true → has_place xs q.row q.off ≡ true → (p ≡ q) ⊎ AreApart p q) → (p ≡ q) ⊎ AreApart p q
+    by_place : (is_at p.row p.off x ≡ true) ⊎ (has_place xs p.row p.off ≡ true) → (is_at q.row q.off x ≡ true) ⊎ (has_place xs q.row q.off ≡ true)
+        → (has_place xs p.row p.off ≡ true → has_place xs q.row q.off ≡ true → (p ≡ q) ⊎ AreApart p q) → (p ≡ q) ⊎ AreApart p q
     by_place (inl s) (inl t) rest = inl (sym (same_from_is_at p.row p.off x s) ∙ same_from_is_at q.row q.off x t)
     by_place (inl s) (inr j) rest = inr (subst (λ (y : Place). AreApart y q) (same_from_is_at p.row p.off x s) (each_has (AreApart x) xs a.0 q j))
-    by_place (inr j) (inl t) rest = inr (apart_turned q p (subst (λ (y : Place). AreApart y p) (same_from_is_at q.row q.off x t) (each_has (AreApart x) xs a.0 p j)))
+    by_place (inr j) (inl t) rest = inr (apart_turned q p
+        (subst (λ (y : Place). AreApart y p) (same_from_is_at q.row q.off x t) (each_has (AreApart x) xs a.0 p j)))
     by_place (inr j) (inr k) rest = rest j k
 
 apart_distinct : (ps : List Place) → LieApart ps → IsDistinct ps
 apart_distinct [] a = tt
-apart_distinct (p ∷ ps) a = (false_from_ne_true (has_place ps p.row p.off) (λ h. not_apart_in p p (in_itself p) (each_has (AreApart p) ps a.0 p h)), apart_distinct ps a.1)
+apart_distinct (p ∷ ps) a = (
+  false_from_ne_true (has_place ps p.row p.off) (λ h. not_apart_in p p (in_itself p) (each_has (AreApart p) ps a.0 p h)),
+  apart_distinct ps a.1,
+)
 
 -- places that lie apart have shape
 pub apart_shape : (n : ℕ) (ps : List Place) → All (IsPlaceIn n) ps → LieApart ps → HasShape n ps

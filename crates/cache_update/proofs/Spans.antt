@@ -1,5 +1,6 @@
 -- The entries that a place stands for, as a span of numbers, and when the spans of two places are apart.
-use Rattle.std.proofs.Common.{◌≡◌, ℕ, zero, suc, ◌+◌, ◌-◌, ◌*◌, ◌/◌, ◌%◌, ◌^◌, ◌<◌, ◌≤◌, true, refl, sym, ap, ◌∙◌, subst, inl, inr, arith, pow-suc, ltb-true}
+use Rattle.std.proofs.Common.{◌≡◌, ℕ, zero, suc, ◌+◌, ◌-◌, ◌*◌, ◌/◌, ◌%◌, ◌^◌, ◌<◌, ◌≤◌, true, refl, sym, ap, ◌∙◌, subst, inl, inr, arith, pow-suc}
+use Rattle.std.proofs.Common.{ltb-true}
 use Rattle.std.specs.Prelude.{◌⊎◌, ◌==◌, nat_lt}
 use Rattle.std.proofs.Math.Nat.{mul-le-mul_right, div-mul-le_self, lt-div-mul-add}
 use Rattle.std.proofs.lemmas.Nat.{pow_pos, pow-add, shr-shr}
@@ -57,7 +58,8 @@ half_in o x (suc (suc s)) lt = absurd (omega arith)
 
 pub child_in_span : (s : ℕ) (q : Place) → 0 < q.row → s < 2 → IsIn (child s q) q
 child_in_span s q lt b =
-    subst (λ y. (q.off * y ≤ (2 * q.off + s) * 2 ^ (q.row - 1)) × ((2 * q.off + s + 1) * 2 ^ (q.row - 1) ≤ (q.off + 1) * y)) (sym (twice_wide q.row lt)) (half_in q.off (2 ^ (q.row - 1)) s b)
+    subst (λ y. (q.off * y ≤ (2 * q.off + s) * 2 ^ (q.row - 1)) × ((2 * q.off + s + 1) * 2 ^ (q.row - 1) ≤ (q.off + 1) * y))
+    (sym (twice_wide q.row lt)) (half_in q.off (2 ^ (q.row - 1)) s b)
 
 pub halves_apart : (s t : ℕ) (q : Place) → s < 2 → t < 2 → (s ≡ t → ⊥) → AreApart (child s q) (child t q)
 halves_apart zero zero q a b n = absurd (n refl)
@@ -114,7 +116,8 @@ root_last n r o s u top h le other =
         let wide : 2 ^ s ≡ 2 ^ r * 2 * 2 ^ k = ap (λ x. 2 ^ x) (sym up) ∙ (pow-add 2 (suc r) k ∙ ap (λ x. x * 2 ^ k) (pow-suc 2 r)) in
         let m = mul-le-mul_right (2 ^ r * 2) fit in
         let two : o ≡ 2 * (o / 2) = omega (arith, even) in
-        let twice : o * 2 ^ r ≡ o / 2 * (2 ^ r * 2) = ap (λ x. x * 2 ^ r) two ∙ (let z : 2 * (o / 2) * 2 ^ r ≡ o / 2 * (2 ^ r * 2) = omega arith in z) in
+        let twice : o * 2 ^ r ≡ o / 2 * (2 ^ r * 2) =
+        ap (λ x. x * 2 ^ r) two ∙ (let z : 2 * (o / 2) * 2 ^ r ≡ o / 2 * (2 ^ r * 2) = omega arith in z) in
         subst (λ y. (u + 1) * y ≤ o * 2 ^ r) (sym wide) (omega (arith, m, twice))
     by_order even last (inr (inr gt)) = absurd (omega (arith, le, gt))
 
@@ -131,10 +134,12 @@ same_slot n q h k slot i s = by_order (cases_order k h)
     by_order : (k ≡ h) ⊎ ((k < h) ⊎ (h < k)) → k ≡ h
     by_order (inl e) = e
     by_order (inr (inl lt)) =
-        let far = root_last n k (root_off n k) h (root_off n h) (is_root-root_off n k s.slot) (root_in h slot) (omega (arith, lt)) (λ e f. omega (arith, e, lt)) in
+        let far = root_last n k (root_off n k) h (root_off n h) (is_root-root_off n k s.slot) (root_in h slot) (omega (arith, lt))
+        (λ e f. omega (arith, e, lt)) in
         let some = not_empty q in
         absurd (omega (arith, far, some, i.0, i.1, other.0, other.1))
     by_order (inr (inr gt)) =
-        let far = root_last n h (root_off n h) k (root_off n k) (is_root-root_off n h slot) (root_in k s.slot) (omega (arith, gt)) (λ e f. omega (arith, e, gt)) in
+        let far = root_last n h (root_off n h) k (root_off n k) (is_root-root_off n h slot) (root_in k s.slot) (omega (arith, gt))
+        (λ e f. omega (arith, e, gt)) in
         let some = not_empty q in
         absurd (omega (arith, far, some, i.0, i.1, other.0, other.1))

@@ -1,5 +1,6 @@
 -- Undoing a log from its end, and how long the list is on the way.
-use Rattle.std.proofs.Common.{◌≡◌, ℕ, zero, suc, ◌+◌, ◌<◌, ◌≤◌, Bool, true, false, cond, List, [], ◌∷◌, ◌++◌, map, length, get_or, take, drop, Option, Some, None, is_some, refl, sym, ap, ◌∙◌, arith}
+use Rattle.std.proofs.Common.{◌≡◌, ℕ, zero, suc, ◌+◌, ◌<◌, ◌≤◌, Bool, true, false, cond, List, [], ◌∷◌, ◌++◌, map, length, get_or, take, drop, Option}
+use Rattle.std.proofs.Common.{Some, None, is_some, refl, sym, ap, ◌∙◌, arith}
 use Rattle.std.specs.List.{remove, cons_option}
 use Rattle.std.proofs.lemmas.Bool.{false≢true}
 use Rattle.std.proofs.lemmas.List.{map-append}
@@ -25,7 +26,8 @@ take_whole [] = refl
 take_whole (x ∷ xs) = ap (λ ys. x ∷ ys) (take_whole xs)
 
 module _ {K V : Type 0} (at before : K → K → Bool) (key : V → K) where
-  pub undo_append : (log more : List (K × (Option V → Option V))) (xs : List V) → undo at before key (log ++ more) xs ≡ undo at before key log (undo at before key more xs)
+  pub undo_append : (log more : List (K × (Option V → Option V))) (xs : List V)
+      → undo at before key (log ++ more) xs ≡ undo at before key log (undo at before key more xs)
   undo_append [] more xs = refl
   undo_append (c ∷ log) more xs = ap (change at before key c.0 c.1) (undo_append log more xs)
 
@@ -42,8 +44,10 @@ module _ {K V : Type 0} (at before : K → K → Bool) (key : V → K) where
       let b = cons_short (f None) (y ∷ ys) in
       by_tests (at k (key y)) (before k (key y)) (omega (arith, a)) b (omega (arith, rest))
     where
-      by_tests : (t u : Bool) → length (cons_option (f (Some y)) ys) ≤ length (y ∷ ys) + 1 → length (cons_option (f None) (y ∷ ys)) ≤ length (y ∷ ys) + 1 → length (y ∷ change at before key k f ys) ≤ length (y ∷ ys) + 1 →
-          length (cond t (cons_option (f (Some y)) ys) (cond u (cons_option (f None) (y ∷ ys)) (y ∷ change at before key k f ys))) ≤ length (y ∷ ys) + 1
+      by_tests : (t u : Bool) → length (cons_option (f (Some y)) ys) ≤ length (y ∷ ys) + 1
+          → length (cons_option (f None) (y ∷ ys)) ≤ length (y ∷ ys) + 1 → length (y ∷ change at before key k f ys) ≤ length (y ∷ ys) + 1 →
+          length (cond t (cons_option (f (Some y)) ys) (cond u (cons_option (f None) (y ∷ ys)) (y ∷ change at before key k f ys))) ≤ length (y ∷ ys)
+          + 1
       by_tests true u a b c = a
       by_tests false true a b c = b
       by_tests false false a b c = c
@@ -56,7 +60,8 @@ module _ {K V : Type 0} (at before : K → K → Bool) (key : V → K) where
   cons_some None xs e = absurd (false≢true e)
   cons_some (Some y) xs e = omega arith
 
-  pub change_long : (k : K) (f : Option V → Option V) (xs : List V) → ((v : V) → is_some (f (Some v)) ≡ true) → length xs ≤ length (change at before key k f xs)
+  pub change_long : (k : K) (f : Option V → Option V) (xs : List V) → ((v : V) → is_some (f (Some v)) ≡ true)
+      → length xs ≤ length (change at before key k f xs)
   change_long k f [] h = omega arith
   change_long k f (y ∷ ys) h =
       let rest = change_long k f ys h in
@@ -64,7 +69,8 @@ module _ {K V : Type 0} (at before : K → K → Bool) (key : V → K) where
       let b = cons_long (f None) (y ∷ ys) in
       by_tests (at k (key y)) (before k (key y)) (omega (arith, a)) b (omega (arith, rest))
     where
-      by_tests : (t u : Bool) → length (y ∷ ys) ≤ length (cons_option (f (Some y)) ys) → length (y ∷ ys) ≤ length (cons_option (f None) (y ∷ ys)) → length (y ∷ ys) ≤ length (y ∷ change at before key k f ys) →
+      by_tests : (t u : Bool) → length (y ∷ ys) ≤ length (cons_option (f (Some y)) ys) → length (y ∷ ys) ≤ length (cons_option (f None) (y ∷ ys))
+          → length (y ∷ ys) ≤ length (y ∷ change at before key k f ys) →
           length (y ∷ ys) ≤ length (cond t (cons_option (f (Some y)) ys) (cond u (cons_option (f None) (y ∷ ys)) (y ∷ change at before key k f ys)))
       by_tests true u a b c = a
       by_tests false true a b c = b
@@ -81,17 +87,20 @@ module _ {K V : Type 0} (at before : K → K → Bool) (key : V → K) where
       let b = cons_not (f None) (y ∷ ys) h in
       by_tests (at k (key y)) (before k (key y)) (omega (arith, a)) b (omega (arith, rest))
     where
-      by_tests : (t u : Bool) → length (cons_option (f (Some y)) ys) ≤ length (y ∷ ys) → length (cons_option (f None) (y ∷ ys)) ≤ length (y ∷ ys) → length (y ∷ change at before key k f ys) ≤ length (y ∷ ys) →
+      by_tests : (t u : Bool) → length (cons_option (f (Some y)) ys) ≤ length (y ∷ ys) → length (cons_option (f None) (y ∷ ys)) ≤ length (y ∷ ys)
+          → length (y ∷ change at before key k f ys) ≤ length (y ∷ ys) →
           length (cond t (cons_option (f (Some y)) ys) (cond u (cons_option (f None) (y ∷ ys)) (y ∷ change at before key k f ys))) ≤ length (y ∷ ys)
       by_tests true u a b c = a
       by_tests false true a b c = b
       by_tests false false a b c = c
 
   module _ {X : Type 0} (f : X → K × (Option V → Option V)) where
-    pub undo_start : (log : List X) (xs : List V) (i : ℕ) → i ≡ length log → undo at before key (map f log) xs ≡ undo at before key (map f (take i log)) xs
+    pub undo_start : (log : List X) (xs : List V) (i : ℕ) → i ≡ length log
+        → undo at before key (map f log) xs ≡ undo at before key (map f (take i log)) xs
     undo_start log xs i e = ap (λ ys. undo at before key (map f ys) xs) (sym (ap (λ k. take k log) e ∙ take_whole log))
 
-    pub undo_on : (log : List X) (all xs now : List V) (i j : ℕ) (d : X) → j + 1 ≡ i → j < length log → now ≡ change at before key (f (get_or log j d)).0 (f (get_or log j d)).1 xs →
+    pub undo_on : (log : List X) (all xs now : List V) (i j : ℕ) (d : X) → j + 1 ≡ i → j < length log
+        → now ≡ change at before key (f (get_or log j d)).0 (f (get_or log j d)).1 xs →
         all ≡ undo at before key (map f (take i log)) xs → all ≡ undo at before key (map f (take j log)) now
     undo_on log all xs now i j d e lt g h =
         let z : i ≡ suc j = omega (arith, e) in
@@ -108,7 +117,8 @@ module _ {K V : Type 0} (at before : K → K → Bool) (key : V → K) where
         let more = change_short (f x).0 (f x).1 (undo at before key (map f log) xs) in
         omega (arith, rest, more)
 
-    pub undo_long : ((x : X) (v : V) → is_some ((f x).1 (Some v)) ≡ true) → (log : List X) (xs : List V) → length xs ≤ length (undo at before key (map f log) xs)
+    pub undo_long : ((x : X) (v : V) → is_some ((f x).1 (Some v)) ≡ true) → (log : List X) (xs : List V)
+        → length xs ≤ length (undo at before key (map f log) xs)
     undo_long h [] xs = omega arith
     undo_long h (x ∷ log) xs =
         let rest = undo_long h log xs in

@@ -1,6 +1,7 @@
 -- A walk through an ascending list beside another.
 use Rattle.proof_shape.specs.Survey.{up}
-use Rattle.std.proofs.Common.{◌≡◌, ℕ, ◌+◌, ◌<◌, ◌≤◌, true, false, List, length, get_or, ap, ◌∙◌, ⊎_elim, arith, suc, ◌-◌, ◌/◌, ◌⊎◌, inl, inr, nat_lt, lt-ltb, le-ltb, ltb-true, eqb-true, refl, sym, ap₂, subst}
+use Rattle.std.proofs.Common.{◌≡◌, ℕ, ◌+◌, ◌<◌, ◌≤◌, true, false, List, length, get_or, ap, ◌∙◌, ⊎_elim, arith, suc, ◌-◌, ◌/◌, ◌⊎◌, inl, inr, nat_lt}
+use Rattle.std.proofs.Common.{lt-ltb, le-ltb, ltb-true, eqb-true, refl, sym, ap₂, subst}
 use Rattle.std.specs.Prelude.{◌==◌}
 use Rattle.std.proofs.lemmas.Bool.{cases_Bool, cases_eq, cases_lt, and_parts, true≢false, eq-eqb}
 use Rattle.std.proofs.lemmas.List.{get_or_default}
@@ -16,7 +17,8 @@ use Rattle.cache_update.specs.Differences.{AreBefore}
 
 module _ (hs : List (Place × Digest)) (p : Place) (at : ℕ) (n : AreBefore hs at p) where
   -- the walk stops
-  pub split_at : (d : Place × Digest) → AscendByPlace hs → at < length hs → is_before_place (get_or hs at d).0 p ≡ false → IsSplit is_before_place held_key p hs at
+  pub split_at : (d : Place × Digest) → AscendByPlace hs → at < length hs → is_before_place (get_or hs at d).0 p ≡ false
+      → IsSplit is_before_place held_key p hs at
   split_at x a lt b =
       let inside = n.within in
       narrowed-end is_same_place is_before_place held_key place_order p hs at at
@@ -36,7 +38,8 @@ module _ (hs : List (Place × Digest)) (p : Place) (at : ℕ) (n : AreBefore hs 
   before_more x lt b = record {
     within = omega (arith, lt);
     each = λ j d below. ⊎_elim
-        (λ same. ap (λ i. is_before_place (get_or hs i d).0 p) same ∙ (ap (λ (y : Place × Digest). is_before_place y.0 p) (get_or_default hs at d x lt) ∙ b))
+        (λ same. ap (λ i. is_before_place (get_or hs i d).0 p) same
+        ∙ (ap (λ (y : Place × Digest). is_before_place y.0 p) (get_or_default hs at d x lt) ∙ b))
         (λ other. n.each j d (omega (arith, below, other)))
         (cases_eq j at);
   }
@@ -45,33 +48,39 @@ pub before_first : (hs : List (Place × Digest)) (p : Place) → AreBefore hs 0 
 before_first hs p = record { within = omega arith; each = λ j d lt. absurd (omega (arith, lt)) }
 
 -- all that comes before an index, where the last of them does
-pub before_last : (hs : List (Place × Digest)) (p : Place) (at : ℕ) (x : Place × Digest) → AscendByPlace hs → 0 < at → at ≤ length hs → is_before_place (get_or hs (at - 1) x).0 p ≡ true → AreBefore hs at p
+pub before_last : (hs : List (Place × Digest)) (p : Place) (at : ℕ) (x : Place × Digest) → AscendByPlace hs → 0 < at → at ≤ length hs
+    → is_before_place (get_or hs (at - 1) x).0 p ≡ true → AreBefore hs at p
 before_last hs p at x a some inside b = record {
   within = inside;
   each = λ j d below.
-      let last : is_before_place (get_or hs (at - 1) d).0 p ≡ true = ap (λ (y : Place × Digest). is_before_place y.0 p) (get_or_default hs (at - 1) d x (omega (arith, some, inside))) ∙ b in
+      let last : is_before_place (get_or hs (at - 1) d).0 p ≡ true =
+      ap (λ (y : Place × Digest). is_before_place y.0 p) (get_or_default hs (at - 1) d x (omega (arith, some, inside))) ∙ b in
       ⊎_elim
       (λ same. ap (λ i. is_before_place (get_or hs i d).0 p) same ∙ last)
       (λ other.
-      let step : is_before_place (get_or hs j d).0 (get_or hs (at - 1) d).0 ≡ true = rises is_same_place is_before_place held_key place_order hs j (at - 1) d a (omega (arith, below, other)) (omega (arith, some, inside)) in
+      let step : is_before_place (get_or hs j d).0 (get_or hs (at - 1) d).0 ≡ true =
+      rises is_same_place is_before_place held_key place_order hs j (at - 1) d a (omega (arith, below, other)) (omega (arith, some, inside)) in
       place_order.further (get_or hs j d).0 (get_or hs (at - 1) d).0 p step last)
       (cases_eq j (at - 1));
 }
 
 -- what comes before a place comes before the next one of an ascending list
-pub before_next : (hs list : List (Place × Digest)) (i at : ℕ) (x d : Place × Digest) → AscendByPlace list → i + 1 < length list → IsSplit is_before_place held_key (get_or list i x).0 hs at → AreBefore hs at (get_or list (i + 1) d).0
+pub before_next : (hs list : List (Place × Digest)) (i at : ℕ) (x d : Place × Digest) → AscendByPlace list → i + 1 < length list
+    → IsSplit is_before_place held_key (get_or list i x).0 hs at → AreBefore hs at (get_or list (i + 1) d).0
 before_next hs list i at x d a lt s = record {
   within = s.within;
   each = λ j y below.
       let first : i < length list = omega (arith, lt) in
-      let step : is_before_place (get_or list i d).0 (get_or list (i + 1) d).0 ≡ true = rises is_same_place is_before_place held_key place_order list i (i + 1) d a (omega arith) lt in
+      let step : is_before_place (get_or list i d).0 (get_or list (i + 1) d).0 ≡ true =
+      rises is_same_place is_before_place held_key place_order list i (i + 1) d a (omega arith) lt in
       place_order.further (get_or hs j y).0 (get_or list i x).0 (get_or list (i + 1) d).0 (s.low j y below)
       (ap (λ (z : Place × Digest). is_before_place z.0 (get_or list (i + 1) d).0) (get_or_default list i x d first) ∙ step);
 }
 
 -- a walk back
 module _ (hs : List (Place × Digest)) (p : Place) (at : ℕ) (n : NoneBefore hs at p) where
-  pub split_back : (d : Place × Digest) → AscendByPlace hs → 0 < at → is_before_place (get_or hs (at - 1) d).0 p ≡ true → IsSplit is_before_place held_key p hs at
+  pub split_back : (d : Place × Digest) → AscendByPlace hs → 0 < at → is_before_place (get_or hs (at - 1) d).0 p ≡ true
+      → IsSplit is_before_place held_key p hs at
   split_back d a pos b =
       let inside = n.within in
       let e : at - 1 + 1 ≡ at = omega (arith, pos) in
@@ -86,13 +95,18 @@ module _ (hs : List (Place × Digest)) (p : Place) (at : ℕ) (n : NoneBefore hs
       (omega arith)
 
   pub split_first : at ≡ 0 → IsSplit is_before_place held_key p hs 0
-  split_first e = record { within = omega arith; low = λ j d lt. absurd (omega (arith, lt)); high = λ j d from below. n.each j d (omega (arith, e)) below }
+  split_first e = record {
+    within = omega arith;
+    low = λ j d lt. absurd (omega (arith, lt));
+    high = λ j d from below. n.each j d (omega (arith, e)) below;
+  }
 
   pub none_more : (x : Place × Digest) → 0 < at → is_before_place (get_or hs (at - 1) x).0 p ≡ false → NoneBefore hs (at - 1) p
   none_more x pos b = record {
     within = (let inside = n.within in omega (arith, inside));
     each = λ j d from below. ⊎_elim
-        (λ same. ap (λ i. is_before_place (get_or hs i d).0 p) same ∙ (ap (λ (y : Place × Digest). is_before_place y.0 p) (get_or_default hs (at - 1) d x (let inside = n.within in omega (arith, inside, pos))) ∙ b))
+        (λ same. ap (λ i. is_before_place (get_or hs i d).0 p) same ∙ (ap (λ (y : Place × Digest). is_before_place y.0 p)
+        (get_or_default hs (at - 1) d x (let inside = n.within in omega (arith, inside, pos))) ∙ b))
         (λ other. n.each j d (omega (arith, from, other)) below)
         (cases_eq j (at - 1));
   }
@@ -120,14 +134,16 @@ up_before p q b =
     (cases_lt p.row q.row)
 
 -- what does not come before a place above does not come before the one above an earlier place
-pub none_up : (hs list : List (Place × Digest)) (i k at : ℕ) (x d : Place × Digest) → AscendByPlace list → i < k → k < length list → IsSplit is_before_place held_key (up (get_or list k x).0) hs at → NoneBefore hs at (up (get_or list i d).0)
+pub none_up : (hs list : List (Place × Digest)) (i k at : ℕ) (x d : Place × Digest) → AscendByPlace list → i < k → k < length list
+    → IsSplit is_before_place held_key (up (get_or list k x).0) hs at → NoneBefore hs at (up (get_or list i d).0)
 none_up hs list i k at x d a lt end s = record {
   within = s.within;
   each = λ j y from below.
       let p = (get_or list i d).0 in
       let q = (get_or list k x).0 in
       let here : is_before_place (get_or hs j y).0 (up q) ≡ false = s.high j y from below in
-      let step : is_before_place p q ≡ true = ap (λ (z : Place × Digest). is_before_place z.0 q) (get_or_default list i d x (omega (arith, lt, end))) ∙ rises is_same_place is_before_place held_key place_order list i k x a lt end in
+      let step : is_before_place p q ≡ true = ap (λ (z : Place × Digest). is_before_place z.0 q) (get_or_default list i d x (omega (arith, lt, end)))
+      ∙ rises is_same_place is_before_place held_key place_order list i k x a lt end in
       ⊎_elim
       (λ e. ap (is_before_place (get_or hs j y).0) e ∙ here)
       (λ b. ⊎_elim

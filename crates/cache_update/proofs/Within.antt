@@ -1,5 +1,6 @@
 -- Places stay in the forest, whatever a proof said.
-use Rattle.std.proofs.Common.{◌≡◌, ℕ, zero, suc, ◌+◌, ◌-◌, ◌*◌, ◌/◌, ◌%◌, ◌<◌, ◌≤◌, Bool, true, false, cond, ◌||◌, List, [], ◌∷◌, filter_map, length, Option, Some, None, refl, sym, ap, ◌∙◌, subst, ⊎_elim, All, arith, ◌^◌, ltb-true}
+use Rattle.std.proofs.Common.{◌≡◌, ℕ, zero, suc, ◌+◌, ◌-◌, ◌*◌, ◌/◌, ◌%◌, ◌<◌, ◌≤◌, Bool, true, false, cond, ◌||◌, List, [], ◌∷◌, filter_map, length}
+use Rattle.std.proofs.Common.{Option, Some, None, refl, sym, ap, ◌∙◌, subst, ⊎_elim, All, arith, ◌^◌, ltb-true}
 use Rattle.std.specs.Prelude.{option_map}
 use Rattle.std.specs.List.{cons_option}
 use Rattle.std.proofs.lemmas.Bool.{cases_Bool, cases_lt, and_parts}
@@ -54,7 +55,8 @@ module _ (P : Place × Digest → Type 0) where
   put_all_in [] hs a b = b
   put_all_in (x ∷ xs) hs a b = put_all_in xs (put x.0 x.1 hs) (All-tail P x xs a) (put_in x.0 x.1 hs (All-head P x xs a) b)
 
-pub passed : {X Y : Type 0} (P : X → Type 0) (Q : Y → Type 0) (f : X → Option Y) → ((x : X) (y : Y) → P x → f x ≡ Some y → Q y) → (xs : List X) → All P xs → All Q (filter_map f xs)
+pub passed : {X Y : Type 0} (P : X → Type 0) (Q : Y → Type 0) (f : X → Option Y) → ((x : X) (y : Y) → P x → f x ≡ Some y → Q y) → (xs : List X)
+    → All P xs → All Q (filter_map f xs)
 passed P Q f g [] a = All-nil Q
 passed {Y = Y} P Q f g (x ∷ xs) a = by_first (f x) refl (passed P Q f g xs (All-tail P x xs a))
   where
@@ -112,13 +114,15 @@ staying_known n ts ps x y h e = (
   option_and_then_some (λ q. cond (is_at x.0.row x.0.off q) (Some x) None) (destined n ts ps x.0) y e (λ q m k.
       ⊎_elim
       (λ t. let same : q ≡ x.0 = same_from_is_at x.0.row x.0.off q t in
-      subst (λ (z : Place × Digest). is_known n ps z.0 ≡ true) (same_Some x y (rw t at k)) (ap (is_known n ps) (sym same) ∙ known_there n ts ps x.0 q m))
+      subst (λ (z : Place × Digest). is_known n ps z.0 ≡ true) (same_Some x y (rw t at k))
+      (ap (is_known n ps) (sym same) ∙ known_there n ts ps x.0 q m))
       (λ t. absurd (none-some y (rw t at k)))
       (cases_Bool (is_at x.0.row x.0.off q))),
 )
 
 -- what stays or moves is at known places then
-pub sorted_known : (n : ℕ) (ts ps : List Place) (hs : List (Place × Digest)) → All (IsHeldIn n) hs → All (IsKnownIn n ps) (put_all (filter_map (moving n ts ps) hs) (filter_map (staying n ts ps) hs))
+pub sorted_known : (n : ℕ) (ts ps : List Place) (hs : List (Place × Digest)) → All (IsHeldIn n) hs
+    → All (IsKnownIn n ps) (put_all (filter_map (moving n ts ps) hs) (filter_map (staying n ts ps) hs))
 sorted_known n ts ps hs a =
     put_all_in (IsKnownIn n ps) (filter_map (moving n ts ps) hs) (filter_map (staying n ts ps) hs)
     (passed (IsHeldIn n) (IsKnownIn n ps) (moving n ts ps) (moving_known n ts ps) hs a)
@@ -135,7 +139,9 @@ known_held n ps (x ∷ hs) a = All-cons (IsHeldIn n) x hs (All-head (IsKnownIn n
 pub moved_in : (n : ℕ) (ts : List Place) (ks : List Kept) → All (IsKeptIn n) ks → All (IsKeptIn n) (moved_leaves n ts ks)
 moved_in n ts ks a = passed (IsKeptIn n) (IsKeptIn n) (moved_leaf n ts) (λ x y h e. goes x y h (moved n ts x.place.row x.place.off) refl e) ks a
   where
-    goes : (x y : Kept) → IsKeptIn n x → (q : Option Place) → moved n ts x.place.row x.place.off ≡ q → option_map (λ (q : Place). let k : Kept = record { number = x.number; leaf = x.leaf; place = q; digest = x.digest } in k) q ≡ Some y → IsKeptIn n y
+    goes : (x y : Kept) → IsKeptIn n x → (q : Option Place) → moved n ts x.place.row x.place.off ≡ q
+        → option_map (λ (q : Place). let k : Kept = record { number = x.number; leaf = x.leaf; place = q; digest = x.digest } in k) q ≡ Some y
+        → IsKeptIn n y
     goes x y h None m e = absurd (none-some y e)
     goes x y h (Some q) m e = subst (IsKeptIn n) (same_Some _ y e) (goes_within n ts (n - x.place.row) x.place.row x.place.off q refl h m).1
 
@@ -153,22 +159,27 @@ module _ (e : ℕ → Bool) (n m : ℕ) (all : all_slots n m ≡ true) where
       let up = carried_in k (suc row) (omega (arith, f)) in
       by_empty (e row) up
     where
-      by_empty : (b : Bool) → IsAt (suc n) (suc row) (carried_place e n k (suc row)) → IsAt (suc n) row (cond b (carried_place e n k (suc row)) (place ((carried_place e n k (suc row)).row - 1) (2 * (carried_place e n k (suc row)).off + 1)))
+      by_empty : (b : Bool) → IsAt (suc n) (suc row) (carried_place e n k (suc row))
+          → IsAt (suc n) row (cond b (carried_place e n k (suc row))
+          (place ((carried_place e n k (suc row)).row - 1) (2 * (carried_place e n k (suc row)).off + 1)))
       by_empty true up = (omega (arith, up.0), up.1)
-      by_empty false up = let le : row + 1 ≤ (carried_place e n k (suc row)).row = omega (arith, up.0) in child_within (suc n) row (carried_place e n k (suc row)).row (carried_place e n k (suc row)).off 1 le up.1 (omega arith)
+      by_empty false up = let le : row + 1 ≤ (carried_place e n k (suc row)).row = omega (arith, up.0) in
+          child_within (suc n) row (carried_place e n k (suc row)).row (carried_place e n k (suc row)).off 1 le up.1 (omega arith)
 
   child_in : (side row : ℕ) (q : Place) → side < 2 → IsAt (suc n) (suc row) q → IsAt (suc n) row (child side q)
   child_in side row q lt up = let le : row + 1 ≤ q.row = omega (arith, up.0) in child_within (suc n) row q.row q.off side le up.1 lt
 
   pub raised_in : (k r o : ℕ) → n - r ≡ k → InForest n r o → IsAt (suc n) r (raised e n m r o)
   raised_in zero r o f h = let lt = row_below n r o h in absurd (omega (arith, lt, f))
-  raised_in (suc k) r o f h = ⊎_elim at_root (λ t. below t (raised_in k (suc r) (o / 2) (omega (arith, f)) (InForest-up n r o h t))) (cases_Bool (is_root n r o))
+  raised_in (suc k) r o f h = ⊎_elim at_root (λ t. below t (raised_in k (suc r) (o / 2) (omega (arith, f)) (InForest-up n r o h t)))
+      (cases_Bool (is_root n r o))
     where
       at_root : is_root n r o ≡ true → IsAt (suc n) r (raised e n m r o)
       at_root t =
           ⊎_elim
           (λ lt. let z : suc r + (m - suc r) ≡ m = omega (arith, lt) in
-          subst (IsAt (suc n) r) (sym (raised-joined e n m r o t lt)) (child_in 0 r (carried_place e n (m - suc r) (suc r)) (omega arith) (carried_in (m - suc r) (suc r) z)))
+          subst (IsAt (suc n) r) (sym (raised-joined e n m r o t lt))
+          (child_in 0 r (carried_place e n (m - suc r) (suc r)) (omega arith) (carried_in (m - suc r) (suc r) z)))
           (λ ge. subst (IsAt (suc n) r) (sym (raised-same e n m r o t ge)) (omega arith, one_more n r o h))
           (cases_lt r m)
 
@@ -178,39 +189,53 @@ module _ (e : ℕ → Bool) (n m : ℕ) (all : all_slots n m ≡ true) where
 
   pub raised_kept_in : (ks : List Kept) → All (IsKeptIn n) ks → All (IsKeptIn (suc n)) (raised_leaves e n m ks)
   raised_kept_in [] a = All-nil (IsKeptIn (suc n))
-  raised_kept_in (k ∷ ks) a = All-cons (IsKeptIn (suc n)) _ (raised_leaves e n m ks) (raised_in (n - k.place.row) k.place.row k.place.off refl (All-head (IsKeptIn n) k ks a)).1 (raised_kept_in ks (All-tail (IsKeptIn n) k ks a))
+  raised_kept_in (k ∷ ks) a = All-cons (IsKeptIn (suc n)) _ (raised_leaves e n m ks)
+      (raised_in (n - k.place.row) k.place.row k.place.off refl (All-head (IsKeptIn n) k ks a)).1 (raised_kept_in ks (All-tail (IsKeptIn n) k ks a))
 
   raised_held_in : (hs : List (Place × Digest)) → All (IsHeldIn n) hs → All (IsHeldIn (suc n)) (raised_held e n m hs)
   raised_held_in [] a = All-nil (IsHeldIn (suc n))
-  raised_held_in (x ∷ hs) a = All-cons (IsHeldIn (suc n)) _ (raised_held e n m hs) (raised_in (n - x.0.row) x.0.row x.0.off refl (All-head (IsHeldIn n) x hs a)).1 (raised_held_in hs (All-tail (IsHeldIn n) x hs a))
+  raised_held_in (x ∷ hs) a = All-cons (IsHeldIn (suc n)) _ (raised_held e n m hs)
+      (raised_in (n - x.0.row) x.0.row x.0.off refl (All-head (IsHeldIn n) x hs a)).1 (raised_held_in hs (All-tail (IsHeldIn n) x hs a))
 
   pub more_in : (watched : Option Leaf) (d : Digest) (ks : List Kept) → All (IsKeptIn n) ks → All (IsKeptIn (suc n)) (leaves_more e n m watched d ks)
   more_in None d ks a = subst (All (IsKeptIn (suc n))) (sym (append-nil (raised_leaves e n m ks))) (raised_kept_in ks a)
-  more_in (Some leaf) d ks a = All-append (IsKeptIn (suc n)) (raised_leaves e n m ks) _ (raised_kept_in ks a) (All-cons (IsKeptIn (suc n)) _ [] (carried_in m 0 (omega arith)).1 (All-nil (IsKeptIn (suc n))))
+  more_in (Some leaf) d ks a = All-append (IsKeptIn (suc n)) (raised_leaves e n m ks) _ (raised_kept_in ks a)
+      (All-cons (IsKeptIn (suc n)) _ [] (carried_in m 0 (omega arith)).1 (All-nil (IsKeptIn (suc n))))
 
 module _ (js : List Join) (d : Digest) (n : ℕ) (w : ℕ → Bool) (all : all_slots n (length js) ≡ true) where
   shown_in : (c : Bool) (k row : ℕ) → row + k ≡ length js → All (IsHeldIn (suc n)) (shown_by js d n w c k row)
-  shown_in true zero row f = All-cons (IsHeldIn (suc n)) _ [] (carried_in (is_empty_of js) n (length js) all zero row f).1 (All-nil (IsHeldIn (suc n)))
+  shown_in true zero row f = All-cons (IsHeldIn (suc n)) _ [] (carried_in (is_empty_of js) n (length js) all zero row f).1
+      (All-nil (IsHeldIn (suc n)))
   shown_in false zero row f = All-nil (IsHeldIn (suc n))
   shown_in c (suc k) row f =
       let up = carried_in (is_empty_of js) n (length js) all k (suc row) (omega (arith, f)) in
-      by_known (c || w row) (root_of js row) (carried_in (is_empty_of js) n (length js) all (suc k) row f).1 (child_in (is_empty_of js) n (length js) all 0 row (carried_place (is_empty_of js) n k (suc row)) (omega arith) up).1
+      by_known (c || w row) (root_of js row) (carried_in (is_empty_of js) n (length js) all (suc k) row f).1
+      (child_in (is_empty_of js) n (length js) all 0 row (carried_place (is_empty_of js) n k (suc row)) (omega arith) up).1
       (shown_in (c || w row) k (suc row) (omega (arith, f)))
     where
-      by_known : (b : Bool) (x : Option Digest) → IsHeldIn (suc n) (carried_place (is_empty_of js) n (suc k) row, carried_to d js row) → InForest (suc n) (child 0 (carried_place (is_empty_of js) n k (suc row))).row (child 0 (carried_place (is_empty_of js) n k (suc row))).off →
+      by_known : (b : Bool) (x : Option Digest) → IsHeldIn (suc n) (carried_place (is_empty_of js) n (suc k) row, carried_to d js row)
+          → InForest (suc n) (child 0 (carried_place (is_empty_of js) n k (suc row))).row (child 0 (carried_place (is_empty_of js) n k (suc row))).off
+          →
           All (IsHeldIn (suc n)) (shown_by js d n w (c || w row) k (suc row)) →
-          All (IsHeldIn (suc n)) (noted b (carried_place (is_empty_of js) n (suc k) row, carried_to d js row) (option_map (λ x. (child 0 (carried_place (is_empty_of js) n k (suc row)), x)) x) (shown_by js d n w (c || w row) k (suc row)))
+          All (IsHeldIn (suc n)) (noted b (carried_place (is_empty_of js) n (suc k) row, carried_to d js row)
+          (option_map (λ x. (child 0 (carried_place (is_empty_of js) n k (suc row)), x)) x) (shown_by js d n w (c || w row) k (suc row)))
       by_known false x a b rest = rest
-      by_known true None a b rest = All-cons (IsHeldIn (suc n)) (carried_place (is_empty_of js) n (suc k) row, carried_to d js row) (shown_by js d n w (c || w row) k (suc row)) a rest
+      by_known true None a b rest = All-cons (IsHeldIn (suc n)) (carried_place (is_empty_of js) n (suc k) row, carried_to d js row)
+          (shown_by js d n w (c || w row) k (suc row)) a rest
       by_known true (Some x) a b rest =
-          All-cons (IsHeldIn (suc n)) (carried_place (is_empty_of js) n (suc k) row, carried_to d js row) ((child 0 (carried_place (is_empty_of js) n k (suc row)), x) ∷ shown_by js d n w (c || w row) k (suc row)) a
-          (All-cons (IsHeldIn (suc n)) (child 0 (carried_place (is_empty_of js) n k (suc row)), x) (shown_by js d n w (c || w row) k (suc row)) b rest)
+          All-cons (IsHeldIn (suc n)) (carried_place (is_empty_of js) n (suc k) row, carried_to d js row)
+          ((child 0 (carried_place (is_empty_of js) n k (suc row)), x) ∷ shown_by js d n w (c || w row) k (suc row)) a
+          (All-cons (IsHeldIn (suc n)) (child 0 (carried_place (is_empty_of js) n k (suc row)), x) (shown_by js d n w (c || w row) k (suc row)) b
+          rest)
 
-pub added_in : (js : List Join) (d : Digest) (n : ℕ) (watched : Bool) (hs : List (Place × Digest)) → all_slots n (length js) ≡ true → All (IsHeldIn n) hs → All (IsHeldIn (suc n)) (added_by js d n watched hs)
+pub added_in : (js : List Join) (d : Digest) (n : ℕ) (watched : Bool) (hs : List (Place × Digest)) → all_slots n (length js) ≡ true
+    → All (IsHeldIn n) hs → All (IsHeldIn (suc n)) (added_by js d n watched hs)
 added_in js d n watched hs all a =
-    put_all_in (IsHeldIn (suc n)) (shown_by js d n (is_root_held n hs) watched (length js) zero) (put_all (raised_held (is_empty_of js) n (length js) hs) [])
+    put_all_in (IsHeldIn (suc n)) (shown_by js d n (is_root_held n hs) watched (length js) zero)
+    (put_all (raised_held (is_empty_of js) n (length js) hs) [])
     (shown_in js d n (is_root_held n hs) all watched (length js) zero (omega arith))
-    (put_all_in (IsHeldIn (suc n)) (raised_held (is_empty_of js) n (length js) hs) [] (raised_held_in (is_empty_of js) n (length js) all hs a) (All-nil (IsHeldIn (suc n))))
+    (put_all_in (IsHeldIn (suc n)) (raised_held (is_empty_of js) n (length js) hs) [] (raised_held_in (is_empty_of js) n (length js) all hs a)
+    (All-nil (IsHeldIn (suc n))))
 
 -- the numbers stay below the count of entries
 abbrev pub IsNumbered : ℕ → Kept → Type 0
@@ -219,14 +244,18 @@ IsNumbered n k = k.number < n
 pub numbers_moved : (n : ℕ) (ts : List Place) (b : ℕ) (ks : List Kept) → All (IsNumbered b) ks → All (IsNumbered b) (moved_leaves n ts ks)
 numbers_moved n ts b ks a = passed (IsNumbered b) (IsNumbered b) (moved_leaf n ts) (λ x y h e. goes x y h (moved n ts x.place.row x.place.off) e) ks a
   where
-    goes : (x y : Kept) → IsNumbered b x → (q : Option Place) → option_map (λ (q : Place). let k : Kept = record { number = x.number; leaf = x.leaf; place = q; digest = x.digest } in k) q ≡ Some y → IsNumbered b y
+    goes : (x y : Kept) → IsNumbered b x → (q : Option Place) → option_map (λ (q : Place). let k : Kept =
+        record { number = x.number; leaf = x.leaf; place = q; digest = x.digest } in k) q ≡ Some y → IsNumbered b y
     goes x y h None e = absurd (none-some y e)
     goes x y h (Some q) e = subst (IsNumbered b) (same_Some _ y e) h
 
 raised_numbers : (e : ℕ → Bool) (n m : ℕ) (ks : List Kept) → All (IsNumbered n) ks → All (IsNumbered (n + 1)) (raised_leaves e n m ks)
 raised_numbers e n m [] a = All-nil (IsNumbered (n + 1))
-raised_numbers e n m (k ∷ ks) a = All-cons (IsNumbered (n + 1)) _ (raised_leaves e n m ks) (let lt = All-head (IsNumbered n) k ks a in omega (arith, lt)) (raised_numbers e n m ks (All-tail (IsNumbered n) k ks a))
+raised_numbers e n m (k ∷ ks) a = All-cons (IsNumbered (n + 1)) _ (raised_leaves e n m ks) (let lt = All-head (IsNumbered n) k ks a in
+    omega (arith, lt)) (raised_numbers e n m ks (All-tail (IsNumbered n) k ks a))
 
-pub numbers_more : (e : ℕ → Bool) (n m : ℕ) (watched : Option Leaf) (d : Digest) (ks : List Kept) → All (IsNumbered n) ks → All (IsNumbered (n + 1)) (leaves_more e n m watched d ks)
+pub numbers_more : (e : ℕ → Bool) (n m : ℕ) (watched : Option Leaf) (d : Digest) (ks : List Kept) → All (IsNumbered n) ks
+    → All (IsNumbered (n + 1)) (leaves_more e n m watched d ks)
 numbers_more e n m None d ks a = subst (All (IsNumbered (n + 1))) (sym (append-nil (raised_leaves e n m ks))) (raised_numbers e n m ks a)
-numbers_more e n m (Some leaf) d ks a = All-append (IsNumbered (n + 1)) (raised_leaves e n m ks) _ (raised_numbers e n m ks a) (All-cons (IsNumbered (n + 1)) _ [] (omega arith) (All-nil (IsNumbered (n + 1))))
+numbers_more e n m (Some leaf) d ks a = All-append (IsNumbered (n + 1)) (raised_leaves e n m ks) _ (raised_numbers e n m ks a)
+    (All-cons (IsNumbered (n + 1)) _ [] (omega arith) (All-nil (IsNumbered (n + 1))))

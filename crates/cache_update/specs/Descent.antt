@@ -21,7 +21,8 @@ pub record StandsBeneath (q p : Place) : Type 0 where
 
 -- the list tells where the last of the held digests go, the last one first
 abbrev pub TellGoals : ℕ → List Place → List (Place × Digest) → List (Option Place) → Type 0
-TellGoals n ts hs goals = (i k : ℕ) (x : Place × Digest) (d : Option Place) → k < length goals → i + k + 1 ≡ length hs → get_or goals k d ≡ moved n ts (get_or hs i x).0.row (get_or hs i x).0.off
+TellGoals n ts hs goals = (i k : ℕ) (x : Place × Digest) (d : Option Place) → k < length goals → i + k + 1 ≡ length hs
+    → get_or goals k d ≡ moved n ts (get_or hs i x).0.row (get_or hs i x).0.off
 
 -- none that is held from an index on comes before the place
 pub record NoneBefore (hs : List (Place × Digest)) (at : ℕ) (p : Place) : Type 0 where

@@ -1,5 +1,6 @@
 -- What a mark gives back over a cache, and when it fits one.
-use Rattle.std.specs.Prelude.{◌≡◌, ℕ, ◌+◌, ◌*◌, ◌<◌, ◌≤◌, Bool, true, ◌||◌, ◌&&◌, nat_lt, ◌/◌, ◌^◌, List, [], map, filter, length, Option, Some, None, is_some, count_ones, Box, vec_len, vec_capacity, All}
+use Rattle.std.specs.Prelude.{◌≡◌, ℕ, ◌+◌, ◌*◌, ◌<◌, ◌≤◌, Bool, true, ◌||◌, ◌&&◌, nat_lt, ◌/◌, ◌^◌, List, [], map, filter, length, Option, Some, None}
+use Rattle.std.specs.Prelude.{is_some, count_ones, Box, vec_len, vec_capacity, All}
 use Rattle.std.specs.List.{list_any}
 use Rattle.std.specs.declared.alloc.Global.{Global}
 use Rattle.uo_digest.specs.declared.digest.Digest.{Digest}

@@ -1,5 +1,6 @@
 //! A cache through one block: the deletion, and each addition.
-ghost use Rattle.std.specs.Prelude.{◌≡◌, ℕ, List, Option, ◌+◌, ◌<◌, ◌≤◌, ◌^◌, ◌∷◌, ◌++◌, [], true, false, length, map, is_some, Some, None, if◌then◌else◌, vec_len, vec_capacity};
+ghost use Rattle.std.specs.Prelude.{◌≡◌, ℕ, List, Option, ◌+◌, ◌<◌, ◌≤◌, ◌^◌, ◌∷◌, ◌++◌, [], true, false, length, map, is_some, Some, None};
+ghost use Rattle.std.specs.Prelude.{if◌then◌else◌, vec_len, vec_capacity};
 ghost use Rattle.uo_digest.specs.declared.digest.Digest.{Digest as Digested};
 ghost use Rattle.leaf_record.specs.Leaf.{Leaf};
 ghost use Rattle.leaf_record.specs.History.{History, spent};
@@ -33,7 +34,8 @@ fn delete_in(parts: &mut Parts, mark: &mut Mark, targets: &Targets, pairs: &[(Pl
     requires fits { Fits mark.old parts.old }
     requires begun { WasBegun targets.now mark.old parts.old }
     ensures kept { parts.new.kept ≡ moved_leaves targets.now.leaves targets.now.targets parts.old.kept }
-    ensures held { parts.new.held ≡ held_deleted targets.now.leaves targets.now.targets (pairs_within targets.now.leaves pairs.now) (leaf_places (moved_leaves targets.now.leaves targets.now.targets parts.old.kept)) parts.old.held }
+    ensures held { parts.new.held ≡ held_deleted targets.now.leaves targets.now.targets (pairs_within targets.now.leaves pairs.now)
+        (leaf_places (moved_leaves targets.now.leaves targets.now.targets parts.old.kept)) parts.old.held }
     ensures fits { Fits mark.new parts.new }
     ensures kept_back { kept_back mark.new parts.new.kept ≡ kept_back mark.old parts.old.kept }
     ensures held_back { held_back mark.new parts.new.held ≡ held_back mark.old parts.old.held }
@@ -106,7 +108,8 @@ impl Mark {
         ensures adds { self.new.adds + 1 ≡ self.old.adds }
         ensures watched { self.new.watched + (if is_watched then 1 else 0) ≡ self.old.watched }
         ensures added { self.new.added.items ≡ self.old.added.items ++ (if is_watched then self.old.leaves ∷ [] else []) }
-        ensures added_room { vec_len self.new.added + self.new.watched + vec_capacity self.old.added ≤ vec_len self.old.added + self.old.watched + vec_capacity self.new.added }
+        ensures added_room { vec_len self.new.added + self.new.watched + vec_capacity self.old.added ≤ vec_len self.old.added + self.old.watched
+            + vec_capacity self.new.added }
         ensures taken { self.new.taken.items ≡ self.old.taken.items }
         ensures stood { self.new.stood.items ≡ self.old.stood.items }
         ensures stood_len { vec_len self.new.stood ≡ vec_len self.old.stood }
@@ -136,11 +139,13 @@ pub fn after_delete<D>(
     requires fits { Fits mark.old cache.old.parts }
     requires begun { WasBegun targets.now mark.old cache.old.parts }
     ensures kept { cache.new.parts.kept ≡ moved_leaves targets.now.leaves targets.now.targets cache.old.parts.kept }
-    ensures held { cache.new.parts.held ≡ held_deleted targets.now.leaves targets.now.targets (pairs_within targets.now.leaves changes.now) (leaf_places (moved_leaves targets.now.leaves targets.now.targets cache.old.parts.kept)) cache.old.parts.held }
+    ensures held { cache.new.parts.held ≡ held_deleted targets.now.leaves targets.now.targets (pairs_within targets.now.leaves changes.now)
+        (leaf_places (moved_leaves targets.now.leaves targets.now.targets cache.old.parts.kept)) cache.old.parts.held }
     ensures watch { cache.new.watch ≡ cache.old.watch }
 
     // Where the cache stands for a history, the targets are places of live entries and the changes are those of right hashes.
-    ensures stands { (H : List ℕ → Digested) (text : Leaf → List ℕ) (scripts : List (List ℕ)) (us : History) (numbers : List ℕ) (hashes : List Digested) →
+    ensures stands { (H : List ℕ → Digested) (text : Leaf → List ℕ) (scripts : List (List ℕ)) (us : History) (numbers : List ℕ)
+        (hashes : List Digested) →
         length us ≡ targets.now.leaves → StandAt (entries H text us) targets.now.targets numbers →
         map Some hashes ≡ map (λ p. digest_at H (entries H text us) p.row p.off) (need (length us) targets.now.targets) →
         AreChanges H (length us) targets.now.targets hashes changes.now → IsCacheOf H text scripts us cache.old.parts.kept cache.old.parts.held →
@@ -180,7 +185,8 @@ pub fn after_add<D>(
 
     // Where the cache stands for a history, and roots that stand for it joined these.
     ensures stands { (H : List ℕ → Digested) (text : Leaf → List ℕ) (scripts : List (List ℕ)) (us : History) (u : Leaf) (f : Stump) →
-        length us ≡ n → StandsFor H (entries H text us) f → digest ≡ H (text u) → joins.now ≡ joins_of H f (H (text u)) → is_slot n (length joins.now) ≡ false →
+        length us ≡ n → StandsFor H (entries H text us) f → digest ≡ H (text u) → joins.now ≡ joins_of H f (H (text u))
+        → is_slot n (length joins.now) ≡ false →
         leaf ≡ (if is_watched scripts (Some u) then Some u else None) → IsCacheOf H text scripts us cache.old.parts.kept cache.old.parts.held →
         IsCacheOf H text scripts (us ++ Some u ∷ []) cache.new.parts.kept cache.new.parts.held }
 

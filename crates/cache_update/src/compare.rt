@@ -75,7 +75,8 @@ pub fn between<D>(
     ensures held_room { cache.old.parts.held_room ≤ cache.new.parts.held_room }
 
     // It fits each cache that has the newer lists and this room.
-    ensures fits { IfOk result (λ m. (p : PartedCache) → HaveSameLists p newer.now → cache.new.parts.kept_room ≤ p.kept_room → cache.new.parts.held_room ≤ p.held_room → Fits m p) }
+    ensures fits { IfOk result (λ m. (p : PartedCache) → HaveSameLists p newer.now → cache.new.parts.kept_room ≤ p.kept_room
+        → cache.new.parts.held_room ≤ p.held_room → Fits m p) }
     ensures kept_back { IfOk result (λ m. kept_back m newer.now.kept ≡ older.now.kept) }
     ensures held_back { IfOk result (λ m. held_back m newer.now.held ≡ older.now.held) }
     ensures done { IfOk result (λ m. m.adds ≡ 0) }

@@ -89,7 +89,7 @@ fn stays(targets: &Targets, near: Near, place: Place) -> (bool, Near)
     if is_beneath(targets.needed(), needed, place) {
         return (true, Near { needed, ..near });
     }
-    let sought = covered_near(targets, near.here, place);
+    let sought = covered_near(targets.survey(), near.here, place);
     let here = sought.1;
     (
         !sought.0,
@@ -109,7 +109,7 @@ fn covered_above(targets: &Targets, near: usize, place: Place) -> (bool, usize)
     ensures here { OnFalse result.0 (is_gone targets.now.targets place.row place.off ≡ false) }
     ensures beside { OnFalse result.0 (is_gone targets.now.targets place.row (sibling_off place.off) ≡ false) }
 {
-    covered_near(targets, near, parent(place))
+    covered_near(targets.survey(), near, parent(place))
 }
 
 // Whether the place and its sibling are seen to stay, each by itself.

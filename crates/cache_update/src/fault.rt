@@ -11,8 +11,6 @@ pub enum BeginFault {
     /// The cache is none of the forest over the targets' entries: that lacks a number or a place of it, or one kept entry stands
     /// where another does, or above it.
     Elsewhere,
-    /// Behind the deletion 2^32 or more entries would be kept. No list of targets is so long.
-    TooMany,
     /// There was no memory.
     NoMemory,
 }

@@ -1,5 +1,4 @@
-//! An ascending list with a gap, which goes to where the list is changed. Changes from the end of a list to its front so move each
-//! element once.
+//! An ascending list with a gap, which goes to where the list is changed. Changes from the end of a list to its front so move each element once.
 ghost use Rattle.std.specs.Prelude.{◌≡◌, ◌+◌, ◌<◌, ◌≤◌, ◌⊎◌, true, false, None, length, take, get_or, vec_len, vec_capacity};
 ghost use Rattle.std.specs.Bool.{OnTrue, OnFalse};
 ghost use Rattle.cache_model.specs.Lists.{AscendByPlace};
@@ -132,7 +131,8 @@ pub(crate) fn take_out(list: &mut [(Place, Digest)], gap: Gap, place: Place) -> 
     requires gap { IsGap gap.from gap.to list.old }
     requires ascends { AscendByPlace (around gap.from gap.to list.old) }
     ensures gap { IsGap result.from result.to list.new }
-    ensures items { around result.from result.to list.new ≡ change is_same_place is_before_place held_key place (λ now. None) (around gap.from gap.to list.old) }
+    ensures items { around result.from result.to list.new
+        ≡ change is_same_place is_before_place held_key place (λ now. None) (around gap.from gap.to list.old) }
     ensures ascends { AscendByPlace (around result.from result.to list.new) }
 {
     let here = go_to(list, gap, place);

@@ -17,7 +17,7 @@ use forest_place::Place;
 use forest_roots::Join;
 use leaf_cache::{Kept, Parts};
 use leaf_record::Record;
-use proof_shape::Targets;
+use proof_shape::{Survey, Targets};
 use uo_digest::Digest;
 
 // The lists become those after a deletion of `targets`, where `kept` are the places at which the kept entries stand then. The
@@ -27,7 +27,7 @@ pub(crate) fn delete_from(
     taken: &mut Vec<Kept>,
     scratch: &mut Scratch,
     targets: &Targets,
-    kept: &Targets,
+    kept: &Survey,
     pairs: &[(Place, Digest)],
 )
     requires same { kept.now.leaves ≡ targets.now.leaves }
@@ -41,7 +41,8 @@ pub(crate) fn delete_from(
     requires each { vec_len scratch.old.goals ≡ length parts.old.held }
     requires taken_room { vec_len taken.old + length parts.old.kept ≤ vec_capacity taken.old }
     ensures kept { parts.new.kept ≡ moved_leaves targets.now.leaves targets.now.targets parts.old.kept }
-    ensures held { parts.new.held ≡ held_deleted targets.now.leaves targets.now.targets (pairs_within targets.now.leaves pairs.now) kept.now.targets parts.old.held }
+    ensures held { parts.new.held ≡ held_deleted targets.now.leaves targets.now.targets (pairs_within targets.now.leaves pairs.now) kept.now.targets
+        parts.old.held }
     ensures ordered { IsParted parts.new }
     ensures forest { AreOfForest targets.now.leaves parts.new }
     ensures known { All (IsKnownIn kept.now.leaves kept.now.targets) parts.new.held }

@@ -1,7 +1,7 @@
 //! What a block changes of a cache, and the room for it.
 use forest_place::Place;
 use leaf_cache::Kept;
-use proof_shape::Targets;
+use proof_shape::Survey;
 use uo_digest::Digest;
 
 /// What a block took out of a cache, and which places it changed, with what was held there. It gives back the cache that was,
@@ -34,7 +34,7 @@ pub(crate) struct Room {
     pub(crate) most: usize,
 
     // The places at which the kept entries stand after the deletion.
-    pub(crate) kept: Targets,
+    pub(crate) kept: Survey,
 
     // The held digests when the block began.
     pub(crate) before: Vec<(Place, Digest)>,

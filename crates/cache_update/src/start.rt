@@ -18,7 +18,7 @@ use crate::known::is_within;
 use crate::mark::{Mark, Room, Scratch};
 use forest_place::{Place, position};
 use leaf_cache::{Cache, Kept, Parts};
-use proof_shape::{ShapeFault, Targets};
+use proof_shape::{Survey, Targets};
 use std::alloc::Global;
 use uo_base::NoMemory;
 use uo_digest::Digest;
@@ -108,7 +108,8 @@ fn new_positions(
     requires within { All (λ k. InForest targets.now.leaves k.place.row k.place.off) kept.now }
     requires ascends { AscendByPlace held.now }
     requires told { TellGoals targets.now.leaves targets.now.targets held.now goals.now }
-    ensures { IfOk result (λ v. v.items ≡ positions_of targets.now.leaves (leaf_places (moved_leaves targets.now.leaves targets.now.targets kept.now))) }
+    ensures { IfOk result (λ v. v.items ≡ positions_of targets.now.leaves
+        (leaf_places (moved_leaves targets.now.leaves targets.now.targets kept.now))) }
 {
     let mut positions = Vec::with_capacity(alloc, kept.len())?;
     for i in 0..kept.len() {
@@ -124,29 +125,27 @@ fn new_places(
     kept: &[Kept],
     held: &[(Place, Digest)],
     goals: &[Option<Place>],
-) -> Result<Targets, BeginFault>
+) -> Result<Survey, BeginFault>
     requires within { All (λ k. InForest targets.now.leaves k.place.row k.place.off) kept.now }
     requires ascends { AscendByPlace held.now }
     requires told { TellGoals targets.now.leaves targets.now.targets held.now goals.now }
-    ensures ok { IfOk result (λ t. t ≡ record { leaves = targets.now.leaves; targets = leaf_places (moved_leaves targets.now.leaves targets.now.targets kept.now) }) }
-    ensures err { IfErr result (λ fault. IsKeptFault targets.now.leaves targets.now.targets kept.now fault) }
+    ensures ok { IfOk result (λ t. t ≡ record {
+      leaves = targets.now.leaves;
+      targets =
+          leaf_places (moved_leaves targets.now.leaves targets.now.targets kept.now);
+    }) }
+    ensures err { IfErr result (λ fault. IsKeptFault targets.now.leaves kept.now fault) }
 {
     let positions = new_positions(alloc, targets, kept, held, goals)?;
-    if positions.len() >= 1 << 32 {
-        return Err(BeginFault::TooMany);
-    }
-    match Targets::new(alloc, targets.leaves(), &positions) {
-        Ok(places) => Ok(places),
-        Err(ShapeFault::NoMemory) => Err(BeginFault::NoMemory),
-        Err(ShapeFault::Outside(_)) => Err(BeginFault::Elsewhere),
-        Err(ShapeFault::Repeated(_, _)) => Err(BeginFault::Elsewhere),
-        Err(ShapeFault::Beneath(_, _)) => Err(BeginFault::Elsewhere),
+    match Survey::of(alloc, targets.leaves(), &positions)? {
+        Some(places) => Ok(places),
+        None => Err(BeginFault::Elsewhere),
     }
 }
 
 // More than a cache that holds this many digests has to hold at any time in the block, where the kept entries stand at these
 // places once the targets are gone.
-fn most_of(kept: &Targets, held: usize, n: u64, adds: u64) -> Option<usize>
+fn most_of(kept: &Survey, held: usize, n: u64, adds: u64) -> Option<usize>
     ensures held { IfSome result (λ most. held + growth n adds < most) }
     ensures known { IfSome result (λ most. (m : _) × HoldKnown kept.now.leaves kept.now.targets m × (m + growth n adds < most)) }
 {
@@ -179,10 +178,14 @@ fn room_with(
     parts: &Parts,
     targets: &Targets,
     adds: u64,
-    kept: Targets,
+    kept: Survey,
     goals: Vec<Option<Place>>,
 ) -> Result<Box<Room>, NoMemory>
-    requires kept { kept ≡ record { leaves = targets.now.leaves; targets = leaf_places (moved_leaves targets.now.leaves targets.now.targets parts.now.kept) } }
+    requires kept { kept ≡ record {
+      leaves = targets.now.leaves;
+      targets =
+          leaf_places (moved_leaves targets.now.leaves targets.now.targets parts.now.kept);
+    } }
     requires goals { TellGoals targets.now.leaves targets.now.targets parts.now.held goals.items }
     requires each { vec_len goals ≡ length parts.now.held }
     ensures { IfOk result (λ r. IsRoom targets.now parts.now adds r.value) }
@@ -217,7 +220,7 @@ fn room_for(
     requires held { All (λ x. InForest targets.now.leaves x.0.row x.0.off) parts.now.held }
     requires ascends { AscendByPlace parts.now.held }
     ensures ok { IfOk result (λ r. IsRoom targets.now parts.now adds r.value) }
-    ensures err { IfErr result (λ fault. IsKeptFault targets.now.leaves targets.now.targets parts.now.kept fault) }
+    ensures err { IfErr result (λ fault. IsKeptFault targets.now.leaves parts.now.kept fault) }
 {
     let goals = goals_of(alloc, targets, &parts.held)?;
     let kept = new_places(alloc, targets, &parts.kept, &parts.held, &goals)?;
@@ -345,7 +348,7 @@ fn begin_changing(
     ensures kept_back { IfOk result (λ m. kept_back m parts.new.kept ≡ parts.old.kept) }
     ensures held_back { IfOk result (λ m. held_back m parts.new.held ≡ parts.old.held) }
     ensures left { IfOk result (λ m. (m.leaves ≡ targets.now.leaves) × (m.adds ≡ adds) × (m.watched ≡ watched)) }
-    ensures err { IfErr result (λ fault. IsBeginFault targets.now.leaves targets.now.targets parts.old fault) }
+    ensures err { IfErr result (λ fault. IsBeginFault targets.now.leaves parts.old fault) }
 {
     if !is_of_forest(targets.leaves(), parts) {
         return Err(BeginFault::Elsewhere);
@@ -370,7 +373,7 @@ fn begin_in(
     ensures kept_back { IfOk result (λ m. kept_back m parts.new.kept ≡ parts.old.kept) }
     ensures held_back { IfOk result (λ m. held_back m parts.new.held ≡ parts.old.held) }
     ensures left { IfOk result (λ m. (m.leaves ≡ targets.now.leaves) × (m.adds ≡ adds) × (m.watched ≡ watched)) }
-    ensures err { IfErr result (λ fault. IsBeginFault targets.now.leaves targets.now.targets parts.old fault) }
+    ensures err { IfErr result (λ fault. IsBeginFault targets.now.leaves parts.old fault) }
 {
     if is_idle(parts, adds, watched) {
         Ok(begin_idle(alloc, parts, targets, adds, watched)?)
@@ -382,8 +385,8 @@ fn begin_in(
 /// Takes all memory for one block: the deletion of `targets`, then `adds` additions of which `watched` are watched. What the
 /// cache keeps and holds stays. The mark gives back this cache, through the deletion and the additions.
 ///
-/// The cache is one of the forest over as many entries as the targets are of. For another one there is no mark, nor where 2^32 or
-/// more entries would be kept.
+/// The cache is one of the forest over as many entries as the targets are of. For another one there is no mark, nor where 2^32 or more entries would
+/// be kept.
 pub fn begin<D>(
     alloc: Global,
     cache: &mut Cache<D>,
@@ -400,7 +403,7 @@ pub fn begin<D>(
     ensures kept_back { IfOk result (λ m. kept_back m cache.new.parts.kept ≡ cache.old.parts.kept) }
     ensures held_back { IfOk result (λ m. held_back m cache.new.parts.held ≡ cache.old.parts.held) }
     ensures left { IfOk result (λ m. (m.leaves ≡ targets.now.leaves) × (m.adds ≡ adds) × (m.watched ≡ watched)) }
-    ensures err { IfErr result (λ fault. IsBeginFault targets.now.leaves targets.now.targets cache.old.parts fault) }
+    ensures err { IfErr result (λ fault. IsBeginFault targets.now.leaves cache.old.parts fault) }
 {
     begin_in(alloc, cache.parts(), targets, adds, watched)
 }

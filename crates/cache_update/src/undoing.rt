@@ -3,7 +3,8 @@ ghost use Rattle.std.specs.Prelude.{◌≡◌, ◌+◌, ◌<◌, ◌≤◌, ◌�
 ghost use Rattle.cache_model.specs.Lists.{AscendByNumber, AscendByPlace, leaf_key};
 ghost use Rattle.cache_model.specs.Undo.{change, is_same_number, is_before_number};
 ghost use Rattle.cache_update.specs.Gaps.{IsGap, around};
-ghost use Rattle.cache_update.specs.Given.{entry_was, entry_stood, entry_none, at_place, digest_was, digest_none, undo_entries, undo_digests, kept_given, held_given};
+ghost use Rattle.cache_update.specs.Given.{entry_was, entry_stood, entry_none, at_place, digest_was, digest_none, undo_entries, undo_digests};
+ghost use Rattle.cache_update.specs.Given.{kept_given, held_given};
 
 use crate::gap::{Gap, close, open, put_in, take_out};
 use forest_place::Place;
@@ -31,7 +32,8 @@ fn take_out_gained(list: &mut [(Place, Digest)], gap: Gap, gained: &[Place]) -> 
 fn put_back_lost(list: &mut [(Place, Digest)], gap: Gap, lost: &[(Place, Digest)]) -> Gap
     requires gap { IsGap gap.from gap.to list.old }
     requires ascends { AscendByPlace (around gap.from gap.to list.old) }
-    requires room { (length (around gap.from gap.to list.old) + length lost.now ≤ length list.old) ⊎ (length (undo_digests (map digest_was lost.now) (around gap.from gap.to list.old)) < length list.old) }
+    requires room { (length (around gap.from gap.to list.old) + length lost.now ≤ length list.old)
+        ⊎ (length (undo_digests (map digest_was lost.now) (around gap.from gap.to list.old)) < length list.old) }
     ensures gap { IsGap result.from result.to list.new }
     ensures items { around result.from result.to list.new ≡ undo_digests (map digest_was lost.now) (around gap.from gap.to list.old) }
     ensures ascends { AscendByPlace (around result.from result.to list.new) }
@@ -54,7 +56,8 @@ fn undo_around(
 ) -> Gap
     requires gap { IsGap gap.from gap.to list.old }
     requires ascends { AscendByPlace (around gap.from gap.to list.old) }
-    requires room { (length (around gap.from gap.to list.old) + length lost.now ≤ length list.old) ⊎ (length (held_given lost.now gained.now (around gap.from gap.to list.old)) < length list.old) }
+    requires room { (length (around gap.from gap.to list.old) + length lost.now ≤ length list.old)
+        ⊎ (length (held_given lost.now gained.now (around gap.from gap.to list.old)) < length list.old) }
     ensures gap { IsGap result.from result.to list.new }
     ensures items { around result.from result.to list.new ≡ held_given lost.now gained.now (around gap.from gap.to list.old) }
 {
@@ -103,7 +106,8 @@ fn take_out_entry(kept: &mut Vec<Kept>, number: u64)
 // The entry with this number stands here, if it is kept.
 fn set_place(kept: &mut Vec<Kept>, number: u64, place: Place)
     requires { AscendByNumber kept.old.items }
-    ensures items { kept.new.items ≡ change is_same_number is_before_number leaf_key number (λ now. option_map (at_place (number, place)) now) kept.old.items }
+    ensures items { kept.new.items ≡ change is_same_number is_before_number leaf_key number (λ now. option_map (at_place (number, place)) now)
+        kept.old.items }
     ensures ascends { AscendByNumber kept.new.items }
     ensures capacity { vec_capacity kept.new ≡ vec_capacity kept.old }
 {

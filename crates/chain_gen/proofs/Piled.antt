@@ -19,7 +19,8 @@ pile_at piles number = slice_index_or piles number []
 
 -- ---- the way to an index
 
-pub all-more : (piles : List (List Coin)) (n : ℕ) → n < length piles → length (all_of (take (n + 1) piles)) ≡ length (all_of (take n piles)) + length (pile_at piles n)
+pub all-more : (piles : List (List Coin)) (n : ℕ) → n < length piles
+    → length (all_of (take (n + 1) piles)) ≡ length (all_of (take n piles)) + length (pile_at piles n)
 all-more [] n l = absurd (omega arith)
 all-more (p ∷ ps) zero l = (let e = length-append p [] in omega (arith, e))
 all-more (p ∷ ps) (suc n) l =
@@ -32,15 +33,19 @@ all-more (p ∷ ps) (suc n) l =
     one_more : suc n + 1 ≡ suc (n + 1)
     one_more = omega arith
 
-pub none-behind : (piles : List (List Coin)) (index within : ℕ) → index < length (all_of piles) → index ≡ length (all_of (take (length piles) piles)) + within → ⊥
+pub none-behind : (piles : List (List Coin)) (index within : ℕ) → index < length (all_of piles)
+    → index ≡ length (all_of (take (length piles) piles)) + within → ⊥
 none-behind piles index within l e = let a = ap (λ (ps : List (List Coin)). length (all_of ps)) (take-length piles) in omega (arith, l, e, a)
 
 -- ---- the coin there
 
-pub same-coin : (piles : List (List Coin)) (index number within : ℕ) → IsAt piles index number within → coin_at (pile_at piles number) within ≡ coin_at (all_of piles) index
-same-coin piles index number within a = sym (ap (coin_at (all_of piles)) a.before ∙ get_or-flat_map (λ (pile : List Coin). pile) piles number within [] none a.there a.inside)
+pub same-coin : (piles : List (List Coin)) (index number within : ℕ) → IsAt piles index number within
+    → coin_at (pile_at piles number) within ≡ coin_at (all_of piles) index
+same-coin piles index number within a = sym
+    (ap (coin_at (all_of piles)) a.before ∙ get_or-flat_map (λ (pile : List Coin). pile) piles number within [] none a.there a.inside)
 
-taken-at : (piles : List (List Coin)) (number within : ℕ) → number < length piles → within < length (pile_at piles number) → all_of (slice_set piles number (remove (pile_at piles number) within)) ≡ remove (all_of piles) (length (all_of (take number piles)) + within)
+taken-at : (piles : List (List Coin)) (number within : ℕ) → number < length piles → within < length (pile_at piles number)
+    → all_of (slice_set piles number (remove (pile_at piles number) within)) ≡ remove (all_of piles) (length (all_of (take number piles)) + within)
 taken-at [] number within a b = absurd (omega arith)
 taken-at (p ∷ ps) zero within a b = sym (ap (remove (p ++ all_of ps)) same ∙ remove-append_left p (all_of ps) within b)
   where
@@ -59,12 +64,14 @@ taken-at (p ∷ ps) (suc n) within a b =
     back : place - length p ≡ length (all_of (take n ps)) + within
     back = omega (arith, len)
 
-pub taken : (piles : List (List Coin)) (index number within : ℕ) → IsAt piles index number within → all_of (slice_set piles number (remove (pile_at piles number) within)) ≡ remove (all_of piles) index
+pub taken : (piles : List (List Coin)) (index number within : ℕ) → IsAt piles index number within
+    → all_of (slice_set piles number (remove (pile_at piles number) within)) ≡ remove (all_of piles) index
 taken piles index number within a = taken-at piles number within a.there a.inside ∙ ap (remove (all_of piles)) (sym a.before)
 
 -- ---- the count
 
-pub counted-less : (piles after : List (List Coin)) (len index : ℕ) → IsCounted piles len → index < length (all_of piles) → all_of after ≡ remove (all_of piles) index → IsCounted after (len - 1)
+pub counted-less : (piles after : List (List Coin)) (len index : ℕ) → IsCounted piles len → index < length (all_of piles)
+    → all_of after ≡ remove (all_of piles) index → IsCounted after (len - 1)
 counted-less piles after len index c l e = record {
   count = (let r = length-remove (all_of piles) index l in let a = ap length e in let n = c.count in omega (arith, r, a, n));
   few = (let f = c.few in omega (arith, f));
@@ -73,19 +80,26 @@ counted-less piles after len index c l e = record {
 pub pushed : (piles : List (List Coin)) (pile : List Coin) → all_of (piles ++ pile ∷ []) ≡ all_of piles ++ pile
 pushed piles pile = flat_map-append (λ (p : List Coin). p) piles (pile ∷ []) ∙ ap (λ (xs : List Coin). all_of piles ++ xs) (append-nil pile)
 
-pub counted-more : (piles after : List (List Coin)) (pile : List Coin) (len more : ℕ) → IsCounted piles len → more ≡ length pile → len + more ≤ 4294967295 → after ≡ piles ++ pile ∷ [] → IsCounted after (len + more)
+pub counted-more : (piles after : List (List Coin)) (pile : List Coin) (len more : ℕ) → IsCounted piles len → more ≡ length pile
+    → len + more ≤ 4294967295 → after ≡ piles ++ pile ∷ [] → IsCounted after (len + more)
 counted-more piles after pile len more c e few is = record {
-  count = (let a = length-append (all_of piles) pile in let p = ap (λ (ps : List (List Coin)). length (all_of ps)) is in let q = ap length (pushed piles pile) in let n = c.count in omega (arith, a, p, q, n, e));
+  count = (let a = length-append (all_of piles) pile in let p = ap (λ (ps : List (List Coin)). length (all_of ps)) is in
+      let q = ap length (pushed piles pile) in let n = c.count in omega (arith, a, p, q, n, e));
   few = few;
 }
 
 -- ---- one is taken
 
-seen_is : (piles : List (List Coin)) (index number within : ℕ) (seen : List Coin) → IsAt piles index number within → seen ≡ slice_index_or piles number seen → seen ≡ pile_at piles number
+seen_is : (piles : List (List Coin)) (index number within : ℕ) (seen : List Coin) → IsAt piles index number within
+    → seen ≡ slice_index_or piles number seen → seen ≡ pile_at piles number
 seen_is piles index number within seen a e = e ∙ same_index piles number seen [] a.there
 
-pub coin-there : (piles : List (List Coin)) (index number within : ℕ) (seen : List Coin) → IsAt piles index number within → seen ≡ slice_index_or piles number seen → coin_at seen within ≡ coin_at (all_of piles) index
-coin-there piles index number within seen a e = ap (λ (pile : List Coin). coin_at pile within) (seen_is piles index number within seen a e) ∙ same-coin piles index number within a
+pub coin-there : (piles : List (List Coin)) (index number within : ℕ) (seen : List Coin) → IsAt piles index number within
+    → seen ≡ slice_index_or piles number seen → coin_at seen within ≡ coin_at (all_of piles) index
+coin-there piles index number within seen a e = ap (λ (pile : List Coin). coin_at pile within) (seen_is piles index number within seen a e)
+    ∙ same-coin piles index number within a
 
-pub others-left : (piles : List (List Coin)) (index number within : ℕ) (seen others : List Coin) → IsAt piles index number within → seen ≡ slice_index_or piles number seen → others ≡ remove seen within → all_of (slice_set piles number others) ≡ remove (all_of piles) index
-others-left piles index number within seen others a e is = ap (λ (pile : List Coin). all_of (slice_set piles number pile)) (is ∙ ap (λ (pile : List Coin). remove pile within) (seen_is piles index number within seen a e)) ∙ taken piles index number within a
+pub others-left : (piles : List (List Coin)) (index number within : ℕ) (seen others : List Coin) → IsAt piles index number within
+    → seen ≡ slice_index_or piles number seen → others ≡ remove seen within → all_of (slice_set piles number others) ≡ remove (all_of piles) index
+others-left piles index number within seen others a e is = ap (λ (pile : List Coin). all_of (slice_set piles number pile))
+    (is ∙ ap (λ (pile : List Coin). remove pile within) (seen_is piles index number within seen a e)) ∙ taken piles index number within a

@@ -1,5 +1,6 @@
 -- A purse that is kept in two parts: ripe coins in front, and the others behind them.
-use Rattle.std.proofs.Common.{◌≡◌, ℕ, zero, suc, ◌+◌, ◌-◌, ◌≤◌, ◌<◌, Bool, true, false, List, [], ◌∷◌, ◌++◌, length, map, take, drop, Some, refl, sym, ap, ap₂, ◌∙◌, arith}
+use Rattle.std.proofs.Common.{◌≡◌, ℕ, zero, suc, ◌+◌, ◌-◌, ◌≤◌, ◌<◌, Bool, true, false, List, [], ◌∷◌, ◌++◌, length, map, take, drop, Some, refl, sym}
+use Rattle.std.proofs.Common.{ap, ap₂, ◌∙◌, arith}
 use Rattle.std.specs.Prelude.{◌||◌, not, nat_le, slice_index, if◌then◌else◌}
 use Rattle.std.specs.List.{AllByRecursion, range_with_len, remove}
 use Rattle.std.proofs.lemmas.Bool.{leb-true}
@@ -73,11 +74,14 @@ ripe-shift height a b (coin ∷ coins) = by_case (is_ripe height coin) (ap (λ n
     moved : suc (a + b) ≡ a + suc b
     moved = omega arith
 
-    by_case : (t : Bool) → ripe_from height (suc (a + b)) coins ≡ map (λ i. a + i) (ripe_from height (suc b) coins) → (if t then (a + b) ∷ ripe_from height (suc (a + b)) coins else ripe_from height (suc (a + b)) coins) ≡ map (λ i. a + i) (if t then b ∷ ripe_from height (suc b) coins else ripe_from height (suc b) coins)
+    by_case : (t : Bool) → ripe_from height (suc (a + b)) coins ≡ map (λ i. a + i) (ripe_from height (suc b) coins)
+        → (if t then (a + b) ∷ ripe_from height (suc (a + b)) coins else ripe_from height (suc (a + b)) coins)
+        ≡ map (λ i. a + i) (if t then b ∷ ripe_from height (suc b) coins else ripe_from height (suc b) coins)
     by_case true next = ap (λ xs. (a + b) ∷ xs) next
     by_case false next = next
 
-ripe-front : (height place : ℕ) (front coins : List Coin) → AllRipe height front → ripe_from height place (front ++ coins) ≡ range_with_len place (length front) ++ ripe_from height (place + length front) coins
+ripe-front : (height place : ℕ) (front coins : List Coin) → AllRipe height front
+    → ripe_from height place (front ++ coins) ≡ range_with_len place (length front) ++ ripe_from height (place + length front) coins
 ripe-front height place [] coins a = ap (λ n. ripe_from height n coins) same
   where
     same : place ≡ place + 0
@@ -98,12 +102,14 @@ abbrev both : ℕ → List Coin → List Coin → List ℕ
 both height front coins = range_with_len 0 (length front) ++ map (λ i. length front + i) (ripe_from height 0 coins)
 
 places-both : (height : ℕ) (front coins : List Coin) → AllRipe height front → places_of (purse height (front ++ coins)) ≡ both height front coins
-places-both height front coins a = ripe-front height 0 front coins a ∙ ap (λ xs. range_with_len 0 (length front) ++ xs) (ap (λ n. ripe_from height n coins) moved ∙ ripe-shift height (length front) 0 coins)
+places-both height front coins a = ripe-front height 0 front coins a
+    ∙ ap (λ xs. range_with_len 0 (length front) ++ xs) (ap (λ n. ripe_from height n coins) moved ∙ ripe-shift height (length front) 0 coins)
   where
     moved : 0 + length front ≡ length front + 0
     moved = omega arith
 
-pub count-both : (height : ℕ) (front coins : List Coin) → AllRipe height front → length (places_of (purse height (front ++ coins))) ≡ length front + length (ripe_from height 0 coins)
+pub count-both : (height : ℕ) (front coins : List Coin) → AllRipe height front
+    → length (places_of (purse height (front ++ coins))) ≡ length front + length (ripe_from height 0 coins)
 count-both height front coins a =
     let l = length-append (range_with_len 0 (length front)) (map (λ i. length front + i) (ripe_from height 0 coins)) in
     let r = length-range_with_len 0 (length front) in
@@ -112,7 +118,8 @@ count-both height front coins a =
     omega (arith, l, r, m, p)
 
 -- the place that a number draws
-place-in_front : (height k : ℕ) (front coins : List Coin) → AllRipe height front → k < length front → slice_index (places_of (purse height (front ++ coins))) k ≡ k
+place-in_front : (height k : ℕ) (front coins : List Coin) → AllRipe height front → k < length front
+    → slice_index (places_of (purse height (front ++ coins))) k ≡ k
 place-in_front height k front coins a l =
     let r = length-range_with_len 0 (length front) in
     ap (λ xs. slice_index xs k) (places-both height front coins a)
@@ -122,21 +129,28 @@ place-in_front height k front coins a l =
     zero_more : 0 + k ≡ k
     zero_more = omega arith
 
-place-behind : (height k : ℕ) (front coins : List Coin) → AllRipe height front → length front ≤ k → k - length front < length (ripe_from height 0 coins) → slice_index (places_of (purse height (front ++ coins))) k ≡ length front + slice_index (ripe_from height 0 coins) (k - length front)
+place-behind : (height k : ℕ) (front coins : List Coin) → AllRipe height front → length front ≤ k
+    → k - length front < length (ripe_from height 0 coins) → slice_index (places_of (purse height (front ++ coins))) k
+    ≡ length front + slice_index (ripe_from height 0 coins) (k - length front)
 place-behind height k front coins a l less =
     ap (λ xs. slice_index xs k) (places-both height front coins a)
-    ∙ (get_or-append_right (range_with_len 0 (length front)) (map (λ i. length front + i) (ripe_from height 0 coins)) (length front) k 0 (length-range_with_len 0 (length front)) l
+    ∙ (get_or-append_right (range_with_len 0 (length front)) (map (λ i. length front + i) (ripe_from height 0 coins)) (length front) k 0
+    (length-range_with_len 0 (length front)) l
     ∙ get_or-map (λ i. length front + i) (ripe_from height 0 coins) (k - length front) 0 0 less)
 
 -- ---- one is drawn
 
-drawn-is : (height k word : ℕ) (front coins : List Coin) → AllRipe height front → k ≡ drawn word (length front + length (ripe_from height 0 coins)) → place_drawn word (purse height (front ++ coins)) ≡ slice_index (places_of (purse height (front ++ coins))) k
-drawn-is height k word front coins a e = ap (slice_index (places_of (purse height (front ++ coins)))) (ap (drawn word) (count-both height front coins a) ∙ sym e)
+drawn-is : (height k word : ℕ) (front coins : List Coin) → AllRipe height front → k ≡ drawn word (length front + length (ripe_from height 0 coins))
+    → place_drawn word (purse height (front ++ coins)) ≡ slice_index (places_of (purse height (front ++ coins))) k
+drawn-is height k word front coins a e =
+    ap (slice_index (places_of (purse height (front ++ coins)))) (ap (drawn word) (count-both height front coins a) ∙ sym e)
 
-pub chosen-none : (height : ℕ) (front others : List Coin) → AllRipe height front → length front + length (ripe_from height 0 others) ≡ 0 → length (places_of (purse height (front ++ others))) ≡ 0
+pub chosen-none : (height : ℕ) (front others : List Coin) → AllRipe height front → length front + length (ripe_from height 0 others) ≡ 0
+    → length (places_of (purse height (front ++ others))) ≡ 0
 chosen-none height front others r e = let c = count-both height front others r in omega (arith, c, e)
 
-pub chosen-front : (height old new k : ℕ) (front others : List Coin) → AllRipe height front → new ≡ next_word old → k ≡ drawn new (length front + length (ripe_from height 0 others)) → k < length front →
+pub chosen-front : (height old new k : ℕ) (front others : List Coin) → AllRipe height front → new ≡ next_word old
+    → k ≡ drawn new (length front + length (ripe_from height 0 others)) → k < length front →
     Chosen old new (purse height (front ++ others)) (purse height (remove front k ++ others)) (Some (coin_at front k))
 chosen-front height old new k front others r word choice inside = (
   omega (arith, count, inside),
@@ -151,16 +165,21 @@ chosen-front height old new k front others r word choice inside = (
     place : place_drawn new (purse height (front ++ others)) ≡ k
     place = drawn-is height k new front others r choice ∙ place-in_front height k front others r inside
 
-pub behind-inside : (height k n : ℕ) (others : List Coin) → k < length (ripe_from height 0 others) → slice_index (ripe_from height 0 others) k < length others
-behind-inside height k n others less = index_below (length others) k (ripe_from height 0 others) (ripe_below height 0 (length others) others (omega arith)) less
+pub behind-inside : (height k n : ℕ) (others : List Coin) → k < length (ripe_from height 0 others)
+    → slice_index (ripe_from height 0 others) k < length others
+behind-inside height k n others less = index_below (length others) k (ripe_from height 0 others)
+    (ripe_below height 0 (length others) others (omega arith)) less
 
-pub chosen-behind : (height old new k j : ℕ) (front others : List Coin) → AllRipe height front → new ≡ next_word old → k ≡ drawn new (length front + length (ripe_from height 0 others)) → k ≡ length front + j → j < length (ripe_from height 0 others) →
-    Chosen old new (purse height (front ++ others)) (purse height (front ++ remove others (slice_index (ripe_from height 0 others) j))) (Some (coin_at others (slice_index (ripe_from height 0 others) j)))
+pub chosen-behind : (height old new k j : ℕ) (front others : List Coin) → AllRipe height front → new ≡ next_word old
+    → k ≡ drawn new (length front + length (ripe_from height 0 others)) → k ≡ length front + j → j < length (ripe_from height 0 others) →
+    Chosen old new (purse height (front ++ others)) (purse height (front ++ remove others (slice_index (ripe_from height 0 others) j)))
+    (Some (coin_at others (slice_index (ripe_from height 0 others) j)))
 chosen-behind height old new k j front others r word choice at less = (
   omega (arith, count, less),
   word,
   sym (ap (coin_at (front ++ others)) place ∙ get_or-append-add front others there none),
-  ap (purse height) (sym (ap (remove (front ++ others)) place ∙ (remove-append_right front others (length front) (length front + there) refl (omega arith) ∙ ap (λ n. front ++ remove others n) back))),
+  ap (purse height) (sym (ap (remove (front ++ others)) place ∙ (remove-append_right front others (length front) (length front + there) refl
+      (omega arith) ∙ ap (λ n. front ++ remove others n) back))),
 )
   where
     there : ℕ
@@ -178,4 +197,5 @@ chosen-behind height old new k j front others r word choice at less = (
     place : place_drawn new (purse height (front ++ others)) ≡ length front + there
     place =
         drawn-is height k new front others r choice
-        ∙ (place-behind height k front others r (omega (arith, at)) (omega (arith, rank, less)) ∙ ap (λ n. length front + slice_index (ripe_from height 0 others) n) rank)
+        ∙ (place-behind height k front others r (omega (arith, at)) (omega (arith, rank, less))
+        ∙ ap (λ n. length front + slice_index (ripe_from height 0 others) n) rank)

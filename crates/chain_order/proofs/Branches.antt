@@ -1,5 +1,6 @@
 -- Branches to a tip, and what the way back finds of them.
-use Rattle.std.proofs.Common.{◌≡◌, ◌≢◌, ℕ, zero, suc, ◌+◌, ◌-◌, ◌≤◌, Bool, true, false, List, [], ◌∷◌, ◌++◌, Option, Some, None, Result, Ok, Err, length, refl, sym, ap, ap₂, ◌∙◌, subst, arith, ◌||◌}
+use Rattle.std.proofs.Common.{◌≡◌, ◌≢◌, ℕ, zero, suc, ◌+◌, ◌-◌, ◌≤◌, Bool, true, false, List, [], ◌∷◌, ◌++◌, Option, Some, None, Result, Ok, Err}
+use Rattle.std.proofs.Common.{length, refl, sym, ap, ap₂, ◌∙◌, subst, arith, ◌||◌}
 use Rattle.std.specs.Prelude.{find, bytes_eq, Contains, IfOk, IfErr}
 use Rattle.std.specs.Result.{result_map_both}
 use Rattle.std.specs.List.{list_any, AllByRecursion, IsDistinct}
@@ -71,7 +72,8 @@ record IsMet (arrivals : List Arrival) (tip hash : Digest) (met : List Arrival) 
   once : AreDifferent met
   ends : end_of hash met ≡ tip
 
-member : (arrivals met : List Arrival) → AllByRecursion (λ (a : Arrival). find (has_hash a.hash) arrivals ≡ Some a) met → (hash : Digest) → has_arrived met hash ≡ true → has_arrived arrivals hash ≡ true
+member : (arrivals met : List Arrival) → AllByRecursion (λ (a : Arrival). find (has_hash a.hash) arrivals ≡ Some a) met → (hash : Digest)
+    → has_arrived met hash ≡ true → has_arrived arrivals hash ≡ true
 member arrivals [] f hash e = absurd (false≢true e)
 member arrivals (a ∷ met) f hash e = by (member arrivals met f.1 hash) (has_hash hash a) refl
   where
@@ -83,7 +85,8 @@ few_met : (arrivals met : List Arrival) (tip hash : Digest) → IsMet arrivals t
 few_met arrivals met tip hash m = length-le_from_is_member by_hash met arrivals m.once (λ q e. member arrivals met m.found q.hash e)
 
 -- one more is met
-met_more : (arrivals : List Arrival) (tip hash : Digest) (met : List Arrival) (a : Arrival) → IsMet arrivals tip hash met → find (has_hash hash) arrivals ≡ Some a → has_arrived met hash ≡ false → a.prev ≢ no_hash
+met_more : (arrivals : List Arrival) (tip hash : Digest) (met : List Arrival) (a : Arrival) → IsMet arrivals tip hash met
+    → find (has_hash hash) arrivals ≡ Some a → has_arrived met hash ≡ false → a.prev ≢ no_hash
     → IsMet arrivals tip a.prev (a ∷ met)
 met_more arrivals tip hash met a m e first goes =
     let same : hash ≡ a.hash = hash_is hash a.hash (found_passes (has_hash hash) arrivals a e) in
@@ -91,29 +94,35 @@ met_more arrivals tip hash met a m e first goes =
       found = (subst (λ h. find (has_hash h) arrivals ≡ Some a) same e, m.found);
       linked = (refl, subst (λ h. AreLinked h met) same m.linked);
       going = (goes, m.going);
-      once = IsDistinct-cons (λ (x y : Arrival). has_hash x.hash y) a met (none_passes (has_hash a.hash) met (subst (λ h. has_arrived met h ≡ false) same first)) m.once;
+      once = IsDistinct-cons (λ (x y : Arrival). has_hash x.hash y) a met
+          (none_passes (has_hash a.hash) met (subst (λ h. has_arrived met h ≡ false) same first)) m.once;
       ends = subst (λ h. end_of h met ≡ tip) same m.ends;
     }
 
-contained : (arrivals met : List Arrival) → AllByRecursion (λ (a : Arrival). find (has_hash a.hash) arrivals ≡ Some a) met → AllByRecursion (Contains arrivals) met
+contained : (arrivals met : List Arrival) → AllByRecursion (λ (a : Arrival). find (has_hash a.hash) arrivals ≡ Some a) met
+    → AllByRecursion (Contains arrivals) met
 contained arrivals [] f = tt
 contained arrivals (a ∷ met) f = (found_in (has_hash a.hash) arrivals a f.0, contained arrivals met f.1)
 
 -- it is a branch, with one more in front of it
-branch_more : (arrivals : List Arrival) (tip hash : Digest) (met : List Arrival) (a : Arrival) → IsMet arrivals tip hash met → find (has_hash hash) arrivals ≡ Some a → has_arrived met hash ≡ false
+branch_more : (arrivals : List Arrival) (tip hash : Digest) (met : List Arrival) (a : Arrival) → IsMet arrivals tip hash met
+    → find (has_hash hash) arrivals ≡ Some a → has_arrived met hash ≡ false
     → IsBranch arrivals a.prev tip (a ∷ met)
 branch_more arrivals tip hash met a m e first =
     let same : hash ≡ a.hash = hash_is hash a.hash (found_passes (has_hash hash) arrivals a e) in
     record {
-      arrived = All-cons (Contains arrivals) a met (found_in (has_hash hash) arrivals a e) (All-from_recursion (Contains arrivals) met (contained arrivals met m.found));
+      arrived = All-cons (Contains arrivals) a met (found_in (has_hash hash) arrivals a e)
+          (All-from_recursion (Contains arrivals) met (contained arrivals met m.found));
       linked = (refl, subst (λ h. AreLinked h met) same m.linked);
       later = All-from_recursion (λ (x : Arrival). x.prev ≢ no_hash) met m.going;
-      once = IsDistinct-cons (λ (x y : Arrival). has_hash x.hash y) a met (none_passes (has_hash a.hash) met (subst (λ h. has_arrived met h ≡ false) same first)) m.once;
+      once = IsDistinct-cons (λ (x y : Arrival). has_hash x.hash y) a met
+          (none_passes (has_hash a.hash) met (subst (λ h. has_arrived met h ≡ false) same first)) m.once;
       ends = subst (λ h. EndsWith (a ∷ met) h) (subst (λ h. end_of h met ≡ tip) same m.ends) (ends_with a met);
     }
 
 -- what was met is a branch
-branch_met : (arrivals : List Arrival) (tip hash : Digest) (a : Arrival) (met : List Arrival) → IsMet arrivals tip hash (a ∷ met) → IsBranch arrivals hash tip (a ∷ met)
+branch_met : (arrivals : List Arrival) (tip hash : Digest) (a : Arrival) (met : List Arrival) → IsMet arrivals tip hash (a ∷ met)
+    → IsBranch arrivals hash tip (a ∷ met)
 branch_met arrivals tip hash a met m = record {
   arrived = All-from_recursion (Contains arrivals) (a ∷ met) (contained arrivals (a ∷ met) m.found);
   linked = m.linked;
@@ -133,11 +142,13 @@ record IsLed (arrivals : List Arrival) (hash tip : Digest) (branch : List Arriva
   new : has_arrived later first.hash ≡ false
   met : IsMet arrivals tip first.hash later
 
-all_found : (arrivals branch : List Arrival) → AreDifferent arrivals → AllByRecursion (Contains arrivals) branch → AllByRecursion (λ (a : Arrival). find (has_hash a.hash) arrivals ≡ Some a) branch
+all_found : (arrivals branch : List Arrival) → AreDifferent arrivals → AllByRecursion (Contains arrivals) branch
+    → AllByRecursion (λ (a : Arrival). find (has_hash a.hash) arrivals ≡ Some a) branch
 all_found arrivals [] d c = tt
 all_found arrivals (a ∷ branch) d c = (found_own arrivals a d c.0, all_found arrivals branch d c.1)
 
-led : (arrivals : List Arrival) (hash tip : Digest) (branch : List Arrival) → AreDifferent arrivals → IsBranch arrivals hash tip branch → IsLed arrivals hash tip branch
+led : (arrivals : List Arrival) (hash tip : Digest) (branch : List Arrival) → AreDifferent arrivals → IsBranch arrivals hash tip branch
+    → IsLed arrivals hash tip branch
 led arrivals hash tip [] d b = absurd (no_end b.ends.front b.ends.last b.ends.split)
   where
     no_end : (front : List Arrival) (last : Arrival) → [] ≡ front ++ last ∷ [] → ⊥
@@ -162,26 +173,37 @@ led arrivals hash tip (a ∷ later) d b =
     }
 
 -- a branch is no longer than the list of all arrivals
-pub few_branch : (arrivals : List Arrival) (hash tip : Digest) (branch : List Arrival) → AreDifferent arrivals → IsBranch arrivals hash tip branch → length branch ≤ length arrivals
+pub few_branch : (arrivals : List Arrival) (hash tip : Digest) (branch : List Arrival) → AreDifferent arrivals → IsBranch arrivals hash tip branch
+    → length branch ≤ length arrivals
 few_branch arrivals hash tip branch d b =
     length-le_from_is_member by_hash branch arrivals b.once
     (λ q e. member arrivals branch (all_found arrivals branch d (recursion_from_All (Contains arrivals) branch b.arrived)) q.hash e)
 
 -- the way back comes to where a branch begins
-comes : (arrivals : List Arrival) (tip hash : Digest) (n : ℕ) (met : List Arrival) → IsMet arrivals tip hash met → way_back arrivals (n + length met) [] tip ≡ way_back arrivals n met hash
+comes : (arrivals : List Arrival) (tip hash : Digest) (n : ℕ) (met : List Arrival) → IsMet arrivals tip hash met
+    → way_back arrivals (n + length met) [] tip ≡ way_back arrivals n met hash
 comes arrivals tip hash n [] m = ap₂ (λ k h. way_back arrivals k [] h) (omega arith) (sym m.ends)
 comes arrivals tip hash n (a ∷ met) m =
     let more : n + length (a ∷ met) ≡ suc n + length met = omega arith in
-    let inner : IsMet arrivals tip a.hash met = record { found = m.found.1; linked = m.linked.1; going = m.going.1; once = IsDistinct-tail (λ (x y : Arrival). has_hash x.hash y) a met m.once; ends = m.ends } in
+    let inner : IsMet arrivals tip a.hash met = record {
+      found = m.found.1;
+      linked = m.linked.1;
+      going = m.going.1;
+      once = IsDistinct-tail (λ (x y : Arrival). has_hash x.hash y) a met m.once;
+      ends = m.ends;
+    } in
     let new = passes_none (has_hash a.hash) met (IsDistinct-head (λ (x y : Arrival). has_hash x.hash y) a met m.once) in
     ap (λ k. way_back arrivals k [] tip) more ∙ comes arrivals tip a.hash (suc n) met inner
     ∙ goes_on arrivals n met a.hash a m.found.0 new (is_some_hash a.prev m.going.0) ∙ ap (λ h. way_back arrivals n (a ∷ met) h) m.linked.0
 
 -- the tip of a branch has arrived
-tip_there : (arrivals : List Arrival) (hash tip : Digest) (branch : List Arrival) → AreDifferent arrivals → IsBranch arrivals hash tip branch → has_arrived arrivals tip ≡ true
+tip_there : (arrivals : List Arrival) (hash tip : Digest) (branch : List Arrival) → AreDifferent arrivals → IsBranch arrivals hash tip branch
+    → has_arrived arrivals tip ≡ true
 tip_there arrivals hash tip branch d b =
-    let last_in = All-contains (Contains arrivals) branch b.ends.last b.arrived (subst (λ l. Contains l b.ends.last) (sym b.ends.split) (Contains-push b.ends.front b.ends.last)) in
-    subst (λ h. has_arrived arrivals h ≡ true) b.ends.is (found_any (has_hash b.ends.last.hash) arrivals b.ends.last (found_own arrivals b.ends.last d last_in))
+    let last_in = All-contains (Contains arrivals) branch b.ends.last b.arrived
+    (subst (λ l. Contains l b.ends.last) (sym b.ends.split) (Contains-push b.ends.front b.ends.last)) in
+    subst (λ h. has_arrived arrivals h ≡ true) b.ends.is
+    (found_any (has_hash b.ends.last.hash) arrivals b.ends.last (found_own arrivals b.ends.last d last_in))
 
 -- and so does the path's function
 module _ (arrivals : List Arrival) (tip : Digest) (d : AreDifferent arrivals) where
@@ -198,7 +220,8 @@ module _ (arrivals : List Arrival) (tip : Digest) (d : AreDifferent arrivals) wh
     to_first : path_of arrivals tip ≡ way_back arrivals (suc rest) l.later l.first.hash
     to_first =
         let e : suc (length arrivals) ≡ suc rest + length l.later = omega (arith, enough) in
-        from_tip arrivals tip (tip_there arrivals hash tip branch d b) ∙ ap (λ k. way_back arrivals k [] tip) e ∙ comes arrivals tip l.first.hash (suc rest) l.later l.met
+        from_tip arrivals tip (tip_there arrivals hash tip branch d b) ∙ ap (λ k. way_back arrivals k [] tip) e
+        ∙ comes arrivals tip l.first.hash (suc rest) l.later l.met
 
     path_here : hash ≡ no_hash → path_of arrivals tip ≡ Ok branch
     path_here e =
@@ -211,7 +234,8 @@ module _ (arrivals : List Arrival) (tip : Digest) (d : AreDifferent arrivals) wh
       whole =
           let first_goes : l.first.prev ≢ no_hash = λ e. goes (sym l.prev ∙ e) in
           subst (λ xs. IsMet arrivals tip hash xs) (sym l.split)
-          (subst (λ h. IsMet arrivals tip h (l.first ∷ l.later)) l.prev (met_more arrivals tip l.first.hash l.later l.first l.met l.found l.new first_goes))
+          (subst (λ h. IsMet arrivals tip h (l.first ∷ l.later)) l.prev
+          (met_more arrivals tip l.first.hash l.later l.first l.met l.found l.new first_goes))
 
       left : ℕ
       left = length arrivals - length branch
@@ -220,7 +244,8 @@ module _ (arrivals : List Arrival) (tip : Digest) (d : AreDifferent arrivals) wh
       to_hash =
           let few = few_met arrivals branch tip hash whole in
           let e : suc (length arrivals) ≡ suc (length arrivals - length branch) + length branch = omega (arith, few) in
-          from_tip arrivals tip (tip_there arrivals hash tip branch d b) ∙ ap (λ k. way_back arrivals k [] tip) e ∙ comes arrivals tip hash (suc (length arrivals - length branch)) branch whole
+          from_tip arrivals tip (tip_there arrivals hash tip branch d b) ∙ ap (λ k. way_back arrivals k [] tip) e
+          ∙ comes arrivals tip hash (suc (length arrivals - length branch)) branch whole
 
       missing_here : has_arrived arrivals hash ≡ false → path_of arrivals tip ≡ Err (Missing hash)
       missing_here none = to_hash ∙ missing arrivals (length arrivals - length branch) branch hash (find_none (has_hash hash) arrivals none)
@@ -242,16 +267,19 @@ module _ (arrivals : List Arrival) (tip : Digest) (d : AreDifferent arrivals) wh
 
   -- what is told within so many steps holds
   abbrev Holds : ℕ → Type 0
-  Holds n = (hash : Digest) (met : List Arrival) → IsMet arrivals tip hash met → n + length met ≡ suc (length arrivals) → (met ≡ [] → has_arrived arrivals hash ≡ true) → IsToldOf arrivals tip (way_back arrivals n met hash)
+  Holds n = (hash : Digest) (met : List Arrival) → IsMet arrivals tip hash met → n + length met ≡ suc (length arrivals)
+      → (met ≡ [] → has_arrived arrivals hash ≡ true) → IsToldOf arrivals tip (way_back arrivals n met hash)
 
   -- what the function tells holds
-  holds : (n : ℕ) (hash : Digest) (met : List Arrival) → IsMet arrivals tip hash met → n + length met ≡ suc (length arrivals) → (met ≡ [] → has_arrived arrivals hash ≡ true)
+  holds : (n : ℕ) (hash : Digest) (met : List Arrival) → IsMet arrivals tip hash met → n + length met ≡ suc (length arrivals)
+      → (met ≡ [] → has_arrived arrivals hash ≡ true)
       → IsToldOf arrivals tip (way_back arrivals n met hash)
   holds zero hash met m count start = let few = few_met arrivals met tip hash m in absurd (omega (arith, few, count))
   holds (suc n) hash met m count start = by (λ prev xs. holds n prev xs) (find (has_hash hash) arrivals) refl
     where
       -- nothing is met at the start alone
-      no_way : (met : List Arrival) → IsMet arrivals tip hash met → (met ≡ [] → has_arrived arrivals hash ≡ true) → find (has_hash hash) arrivals ≡ None → IsCause arrivals tip (Missing hash)
+      no_way : (met : List Arrival) → IsMet arrivals tip hash met → (met ≡ [] → has_arrived arrivals hash ≡ true)
+          → find (has_hash hash) arrivals ≡ None → IsCause arrivals tip (Missing hash)
       no_way [] m start e = absurd (true≢false (sym (start refl) ∙ none_any (has_hash hash) arrivals e))
       no_way (a ∷ met) m start e = record {
         branch = a ∷ met;
@@ -262,12 +290,20 @@ module _ (arrivals : List Arrival) (tip : Digest) (d : AreDifferent arrivals) wh
 
       looped : (met : List Arrival) → IsMet arrivals tip hash met → has_arrived met hash ≡ true → IsCause arrivals tip (Loop hash)
       looped [] m e = absurd (false≢true e)
-      looped (a ∷ met) m e = record { branch = a ∷ met; is = branch_met arrivals tip hash a met m; goes_on = λ z. m.going.0 (m.linked.0 ∙ z); again = e }
+      looped (a ∷ met) m e = record {
+        branch = a ∷ met;
+        is = branch_met arrivals tip hash a met m;
+        goes_on = λ z. m.going.0 (m.linked.0 ∙ z);
+        again =
+            e;
+      }
 
-      told : (r : Result (List Arrival) PathFault) → way_back arrivals (suc n) met hash ≡ r → IsToldOf arrivals tip r → IsToldOf arrivals tip (way_back arrivals (suc n) met hash)
+      told : (r : Result (List Arrival) PathFault) → way_back arrivals (suc n) met hash ≡ r → IsToldOf arrivals tip r
+          → IsToldOf arrivals tip (way_back arrivals (suc n) met hash)
       told r e t = subst (IsToldOf arrivals tip) (sym e) t
 
-      at_prev : Holds n → (a : Arrival) → find (has_hash hash) arrivals ≡ Some a → has_arrived met hash ≡ false → (b : Bool) → is_no_hash a.prev ≡ b → IsToldOf arrivals tip (way_back arrivals (suc n) met hash)
+      at_prev : Holds n → (a : Arrival) → find (has_hash hash) arrivals ≡ Some a → has_arrived met hash ≡ false → (b : Bool) → is_no_hash a.prev ≡ b
+          → IsToldOf arrivals tip (way_back arrivals (suc n) met hash)
       at_prev less a e first true t =
           told (Ok (a ∷ met)) (begins arrivals n met hash a e first t)
           (subst (λ h. IsBranch arrivals h tip (a ∷ met)) (hash_is a.prev no_hash t) (branch_more arrivals tip hash met a m e first))
@@ -278,7 +314,8 @@ module _ (arrivals : List Arrival) (tip : Digest) (d : AreDifferent arrivals) wh
           not_empty : a ∷ met ≡ [] → ⊥
           not_empty z = absurd cc
 
-      at_one : Holds n → (a : Arrival) → find (has_hash hash) arrivals ≡ Some a → (b : Bool) → has_arrived met hash ≡ b → IsToldOf arrivals tip (way_back arrivals (suc n) met hash)
+      at_one : Holds n → (a : Arrival) → find (has_hash hash) arrivals ≡ Some a → (b : Bool) → has_arrived met hash ≡ b
+          → IsToldOf arrivals tip (way_back arrivals (suc n) met hash)
       at_one less a e true t = told (Err (Loop hash)) (again arrivals n met hash a e t) (looped met m t, λ z. absurd cc)
       at_one less a e false t = at_prev less a e t (is_no_hash a.prev) refl
 
@@ -296,7 +333,8 @@ module _ (arrivals : List Arrival) (tip : Digest) (d : AreDifferent arrivals) wh
       by : (b : Bool) → has_arrived arrivals tip ≡ b → IsToldOf arrivals tip (path_of arrivals tip)
       by true t =
           subst (IsToldOf arrivals tip) (sym (from_tip arrivals tip t))
-          (holds (suc (length arrivals)) tip [] (record { found = tt; linked = tt; going = tt; once = none_once; ends = refl }) (omega arith) (λ z. t))
+          (holds (suc (length arrivals)) tip [] (record { found = tt; linked = tt; going = tt; once = none_once; ends = refl }) (omega arith)
+          (λ z. t))
       by false t = subst (IsToldOf arrivals tip) (sym (no_tip arrivals tip t)) (t, λ z. absurd cc)
 
   pub only_told : (told : Result (List Arrival) PathFault) → IsToldOf arrivals tip told → told ≡ path_of arrivals tip
@@ -335,7 +373,8 @@ module _ {T : Type 0} (items : T → List ℕ) (arrivals : List Arrival) (tip : 
       differ : (xs : List Arrival) (f : PathFault) → (let r : Result (List Arrival) PathFault = Ok xs in r) ≡ Err f → ⊥
       differ xs f g = absurd cc
 
-  pub none_given : (r : Result T PathFault) → Answers arrivals tip (result_map_both items (λ fault. fault) r) → IfErr r (λ fault. fault ≢ NoMemory → (path : List Arrival) → IsPath arrivals tip path → ⊥)
+  pub none_given : (r : Result T PathFault) → Answers arrivals tip (result_map_both items (λ fault. fault) r)
+      → IfErr r (λ fault. fault ≢ NoMemory → (path : List Arrival) → IsPath arrivals tip path → ⊥)
   none_given (Ok numbers) a = tt
   none_given (Err NoTip) a = λ _. no_path NoTip a
   none_given (Err (Missing hash)) a = λ _. no_path (Missing hash) a

@@ -68,9 +68,11 @@ by_hash = on_equiv (λ (a : Arrival). a.hash.0) nat_list_eq_equiv
 -- one of a list of different ones is found by its hash
 pub found_own : (arrivals : List Arrival) (a : Arrival) → AreDifferent arrivals → Contains arrivals a → find (has_hash a.hash) arrivals ≡ Some a
 found_own [] a d (k, lt, e) = absurd (omega (arith, lt))
-found_own (b ∷ arrivals) a d (zero, lt, e) = rw (ap (λ (x : Arrival). has_hash a.hash x) e ∙ hash_same a.hash) (ap (λ (x : Arrival). let y : Option Arrival = Some x in y) e)
+found_own (b ∷ arrivals) a d (zero, lt, e) =
+    rw (ap (λ (x : Arrival). has_hash a.hash x) e ∙ hash_same a.hash) (ap (λ (x : Arrival). let y : Option Arrival = Some x in y) e)
 found_own (b ∷ arrivals) a d (suc k, lt, e) =
     let there : Contains arrivals a = (k, omega (arith, lt), e) in
     let others = IsDistinct-head (λ (x y : Arrival). has_hash x.hash y) b arrivals d in
-    let apart = All-contains (λ (x : Arrival). has_hash b.hash x ≡ false) arrivals a (All-from_recursion (λ (x : Arrival). has_hash b.hash x ≡ false) arrivals others) there in
+    let apart = All-contains (λ (x : Arrival). has_hash b.hash x ≡ false) arrivals a
+    (All-from_recursion (λ (x : Arrival). has_hash b.hash x ≡ false) arrivals others) there in
     rw (by_hash.symm a b ∙ apart) (found_own arrivals a (IsDistinct-tail (λ (x y : Arrival). has_hash x.hash y) b arrivals d) there)

@@ -1,5 +1,6 @@
 -- One more that is met on the way back.
-use Rattle.std.proofs.Common.{◌≡◌, ℕ, ◌+◌, ◌<◌, ◌≤◌, Bool, true, false, cond, List, [], ◌∷◌, ◌++◌, Some, None, length, get_or, set, map, reverse, refl, sym, ap, ap₂, ◌∙◌, subst, arith, replicate, ◌⊎◌, inl, inr, ◌||◌}
+use Rattle.std.proofs.Common.{◌≡◌, ℕ, ◌+◌, ◌<◌, ◌≤◌, Bool, true, false, cond, List, [], ◌∷◌, ◌++◌, Some, None, length, get_or, set, map, reverse}
+use Rattle.std.proofs.Common.{refl, sym, ap, ap₂, ◌∙◌, subst, arith, replicate, ◌⊎◌, inl, inr, ◌||◌}
 use Rattle.std.specs.Prelude.{find, bytes_eq, slice_get, count_by, not, is_some}
 use Rattle.std.proofs.lemmas.Bool.{cases_eq, cases_lt}
 use Rattle.std.proofs.lemmas.List.{get_or-set_same, get_or-set_other, length-set, length-replicate, get_or-replicate, reverse-append, map_push}
@@ -35,7 +36,8 @@ mark_tells arrivals marks numbers met has hash k number =
     let is = there arrivals hash.0 k number in
     has.marked k is.one is.got ∙ ap (λ h. has_arrived met h) (sym (hash_is hash is.one.hash is.has))
 
-module _ (arrivals : List Arrival) (different : AreDifferent arrivals) (marks : List Bool) (numbers : List ℕ) (met : List Arrival) (has : HasMet arrivals marks numbers met)
+module _ (arrivals : List Arrival) (different : AreDifferent arrivals) (marks : List Bool) (numbers : List ℕ) (met : List Arrival)
+    (has : HasMet arrivals marks numbers met)
     (hash : Digest) (k : ℕ) (number : number_of arrivals hash.0 ≡ Some k) where
   abbrev is : IsThere arrivals hash.0 k
   is = there arrivals hash.0 k number
@@ -59,7 +61,8 @@ module _ (arrivals : List Arrival) (different : AreDifferent arrivals) (marks : 
           let turned =
           subst (λ (x : Arrival). bytes_eq x.hash.0 a.hash.0 ≡ false) (get_or_from_slice_get arrivals k is.one a is.got)
           (subst (λ (x : Arrival). bytes_eq (get_or arrivals k a).hash.0 x.hash.0 ≡ false) (get_or_from_slice_get arrivals j a a got)
-          (apart_from_distinct (λ (x y : Arrival). has_hash x.hash y) arrivals k j a different (omega (arith, gt, apart)) (slice_get_within arrivals j a got))) in
+          (apart_from_distinct (λ (x y : Arrival). has_hash x.hash y) arrivals k j a different (omega (arith, gt, apart))
+          (slice_get_within arrivals j a got))) in
           by_hash.symm a is.one ∙ turned
 
       differs : bytes_eq a.hash.0 is.one.hash.0 ≡ false
@@ -73,7 +76,8 @@ module _ (arrivals : List Arrival) (different : AreDifferent arrivals) (marks : 
           let one_is : Some is.one ≡ Some a = sym is.got ∙ ap (slice_get arrivals) (sym same) ∙ got in
           let a_is : is.one ≡ a = cc in
           ap (λ i. get_or marks' i false) same ∙ get_or-set_same marks k true false within
-          ∙ sym (subst (λ (x : Arrival). has_arrived (is.one ∷ met) x.hash ≡ true) a_is (ap (λ b. b || has_arrived met is.one.hash) (hash_same is.one.hash)))
+          ∙ sym (subst (λ (x : Arrival). has_arrived (is.one ∷ met) x.hash ≡ true) a_is
+          (ap (λ b. b || has_arrived met is.one.hash) (hash_same is.one.hash)))
       by (inr apart) = others j a got apart
 
   pub meets_one : get_or marks k false ≡ false → MeetsOne arrivals hash marks marks' (numbers ++ k ∷ []) met is.one.prev
@@ -83,7 +87,8 @@ module _ (arrivals : List Arrival) (different : AreDifferent arrivals) (marks : 
     first = sym (mark_tells arrivals marks numbers met has hash k number) ∙ fresh;
     prev_is = refl;
     now = record {
-      numbered = map_push (slice_get arrivals) numbers k ∙ ap₂ (λ xs x. xs ++ x ∷ []) has.numbered is.got ∙ sym (map_push Some (reverse met) is.one) ∙ ap (λ xs. map Some xs) (sym (reverse-append (is.one ∷ []) met));
+      numbered = map_push (slice_get arrivals) numbers k ∙ ap₂ (λ xs x. xs ++ x ∷ []) has.numbered is.got ∙ sym (map_push Some (reverse met) is.one)
+          ∙ ap (λ xs. map Some xs) (sym (reverse-append (is.one ∷ []) met));
       len = length-set marks k true ∙ has.len;
       marked = marked;
     };
@@ -97,17 +102,20 @@ module _ (arrivals : List Arrival) (different : AreDifferent arrivals) (marks : 
           omega (arith, e, one)
 
   -- the same of what the calls left
-  pub meets_one_there : get_or marks k false ≡ false → (numbers' : List ℕ) (x : Arrival) (prev : Digest) → numbers' ≡ numbers ++ k ∷ [] → x ≡ get_or arrivals k x → prev ≡ x.prev
+  pub meets_one_there : get_or marks k false ≡ false → (numbers' : List ℕ) (x : Arrival) (prev : Digest) → numbers' ≡ numbers ++ k ∷ []
+      → x ≡ get_or arrivals k x → prev ≡ x.prev
       → MeetsOne arrivals hash marks marks' numbers' met prev
   meets_one_there fresh numbers' x prev grew x_is prev_is =
       let one_is : x ≡ is.one = x_is ∙ get_or_from_slice_get arrivals k is.one x is.got in
       subst (λ ns. MeetsOne arrivals hash marks marks' ns met prev) (sym grew)
-      (subst (λ p. MeetsOne arrivals hash marks marks' (numbers ++ k ∷ []) met p) (sym (prev_is ∙ ap (λ (y : Arrival). y.prev) one_is)) (meets_one fresh))
+      (subst (λ p. MeetsOne arrivals hash marks marks' (numbers ++ k ∷ []) met p) (sym (prev_is ∙ ap (λ (y : Arrival). y.prev) one_is))
+      (meets_one fresh))
 
 -- ---- none
 
 pub met_none : (arrivals : List Arrival) (hash : Digest) → number_of arrivals hash.0 ≡ None → find (has_hash hash) arrivals ≡ None
 met_none arrivals hash e = find_none (has_hash hash) arrivals (sym (is_some-number_of arrivals hash.0) ∙ ap is_some e)
 
-pub there_found : (arrivals : List Arrival) (hash : Digest) (k : ℕ) → number_of arrivals hash.0 ≡ Some k → (one : Arrival) × (find (has_hash hash) arrivals ≡ Some one)
+pub there_found : (arrivals : List Arrival) (hash : Digest) (k : ℕ) → number_of arrivals hash.0 ≡ Some k
+    → (one : Arrival) × (find (has_hash hash) arrivals ≡ Some one)
 there_found arrivals hash k number = let is = there arrivals hash.0 k number in (is.one, is.found)

@@ -1,5 +1,6 @@
 -- The way back, step by step.
-use Rattle.std.proofs.Common.{◌≡◌, ℕ, suc, ◌<◌, Bool, true, false, List, [], ◌∷◌, ◌++◌, Some, None, Result, Ok, Err, length, map, reverse, refl, sym, ap, ap₂, ◌∙◌, subst, arith, replicate, if◌then◌else◌}
+use Rattle.std.proofs.Common.{◌≡◌, ℕ, suc, ◌<◌, Bool, true, false, List, [], ◌∷◌, ◌++◌, Some, None, Result, Ok, Err, length, map, reverse, refl, sym}
+use Rattle.std.proofs.Common.{ap, ap₂, ◌∙◌, subst, arith, replicate, if◌then◌else◌}
 use Rattle.std.specs.Prelude.{find, slice_get, count_by, not, IsErrAnd}
 use Rattle.std.proofs.lemmas.List.{reverse-reverse, reverse-append, map-append}
 use Rattle.std.specs.Result.{result_map_both}
@@ -24,7 +25,8 @@ module _ (arrivals : List Arrival) (n : ℕ) (met : List Arrival) (hash : Digest
     pub again : has_arrived met hash ≡ true → way_back arrivals (suc n) met hash ≡ Err (Loop hash)
     again t = there ∙ ap (λ b. if b then Err (Loop hash) else if is_no_hash a.prev then Ok (a ∷ met) else way_back arrivals n (a ∷ met) a.prev) t
 
-    first : has_arrived met hash ≡ false → way_back arrivals (suc n) met hash ≡ (if is_no_hash a.prev then Ok (a ∷ met) else way_back arrivals n (a ∷ met) a.prev)
+    first : has_arrived met hash ≡ false → way_back arrivals (suc n) met hash
+        ≡ (if is_no_hash a.prev then Ok (a ∷ met) else way_back arrivals n (a ∷ met) a.prev)
     first t = there ∙ ap (λ b. if b then Err (Loop hash) else if is_no_hash a.prev then Ok (a ∷ met) else way_back arrivals n (a ∷ met) a.prev) t
 
     pub begins : has_arrived met hash ≡ false → is_no_hash a.prev ≡ true → way_back arrivals (suc n) met hash ≡ Ok (a ∷ met)
@@ -37,7 +39,8 @@ pub no_tip : (arrivals : List Arrival) (tip : Digest) → has_arrived arrivals t
 unfolding path_of
 no_tip arrivals tip t = ap (λ b. if b then way_back arrivals (suc (length arrivals)) [] tip else Err NoTip) t
 
-pub from_tip : (arrivals : List Arrival) (tip : Digest) → has_arrived arrivals tip ≡ true → path_of arrivals tip ≡ way_back arrivals (suc (length arrivals)) [] tip
+pub from_tip : (arrivals : List Arrival) (tip : Digest) → has_arrived arrivals tip ≡ true
+    → path_of arrivals tip ≡ way_back arrivals (suc (length arrivals)) [] tip
 unfolding path_of
 from_tip arrivals tip t = ap (λ b. if b then way_back arrivals (suc (length arrivals)) [] tip else Err NoTip) t
 
@@ -46,10 +49,12 @@ from_tip arrivals tip t = ap (λ b. if b then way_back arrivals (suc (length arr
 map-reverse : {A B : Type 0} (f : A → B) (xs : List A) → map f (reverse xs) ≡ reverse (map f xs)
 map-reverse f [] = refl
 map-reverse f (x ∷ xs) =
-    ap (λ l. map f l) (reverse-append (x ∷ []) xs) ∙ map-append f (reverse xs) (x ∷ []) ∙ ap (λ l. l ++ f x ∷ []) (map-reverse f xs) ∙ sym (reverse-append (f x ∷ []) (map f xs))
+    ap (λ l. map f l) (reverse-append (x ∷ []) xs) ∙ map-append f (reverse xs) (x ∷ []) ∙ ap (λ l. l ++ f x ∷ []) (map-reverse f xs)
+    ∙ sym (reverse-append (f x ∷ []) (map f xs))
 
 -- what an answer says is said of what is handed on
-pub answers_err : {T : Type 0} (items : T → List ℕ) (arrivals : List Arrival) (tip : Digest) (r : Result T PathFault) (fault : PathFault) → IsErrAnd r (λ e. e ≡ fault) → Answers arrivals tip (Err fault)
+pub answers_err : {T : Type 0} (items : T → List ℕ) (arrivals : List Arrival) (tip : Digest) (r : Result T PathFault) (fault : PathFault)
+    → IsErrAnd r (λ e. e ≡ fault) → Answers arrivals tip (Err fault)
     → Answers arrivals tip (result_map_both items (λ e. e) r)
 answers_err items arrivals tip (Ok x) fault h a = absurd h
 answers_err items arrivals tip (Err e) fault h a = subst (λ (f : PathFault). Answers arrivals tip (Err f)) (sym h) a
@@ -60,7 +65,8 @@ pub record IsWalking (arrivals : List Arrival) (tip : Digest) (marks : List Bool
   pub has : HasMet arrivals marks numbers met
   pub goes : path_of arrivals tip ≡ way_back arrivals (suc (count_by not marks)) met hash
 
-pub starts : (arrivals : List Arrival) (tip : Digest) (marks : List Bool) (numbers : List ℕ) → has_arrived arrivals tip ≡ true → marks ≡ replicate (length arrivals) false → numbers ≡ []
+pub starts : (arrivals : List Arrival) (tip : Digest) (marks : List Bool) (numbers : List ℕ) → has_arrived arrivals tip ≡ true
+    → marks ≡ replicate (length arrivals) false → numbers ≡ []
     → IsWalking arrivals tip marks numbers tip
 starts arrivals tip marks numbers t fresh none =
     subst (λ bs. IsWalking arrivals tip bs numbers tip) (sym fresh)
@@ -71,19 +77,24 @@ starts arrivals tip marks numbers t fresh none =
       goes = from_tip arrivals tip t ∙ ap (λ n. way_back arrivals (suc n) [] tip) (sym (none_counted (length arrivals)));
     })
 
-module _ (arrivals : List Arrival) (tip : Digest) (marks : List Bool) (numbers : List ℕ) (hash : Digest) (w : IsWalking arrivals tip marks numbers hash) where
+module _ (arrivals : List Arrival) (tip : Digest) (marks : List Bool) (numbers : List ℕ) (hash : Digest)
+    (w : IsWalking arrivals tip marks numbers hash) where
   -- why it stops
-  pub stops : (fault : PathFault) → ((met : List Arrival) → HasMet arrivals marks numbers met → MeetsNone arrivals hash met fault) → Answers arrivals tip (Err fault)
+  pub stops : (fault : PathFault) → ((met : List Arrival) → HasMet arrivals marks numbers met → MeetsNone arrivals hash met fault)
+      → Answers arrivals tip (Err fault)
   stops NoTip none = absurd (none w.met w.has)
   stops (Missing at) none =
       let e = none w.met w.has in
-      w.goes ∙ missing arrivals (count_by not marks) w.met hash e.1 ∙ ap (λ h. let r : Result (List Arrival) PathFault = Err (Missing h) in r) (sym e.0)
+      w.goes ∙ missing arrivals (count_by not marks) w.met hash e.1 ∙ ap (λ h. let r : Result (List Arrival) PathFault = Err (Missing h) in
+      r) (sym e.0)
   stops (Loop at) none =
       let e = none w.met w.has in
-      w.goes ∙ again arrivals (count_by not marks) w.met hash e.2.0 e.2.1 e.1 ∙ ap (λ h. let r : Result (List Arrival) PathFault = Err (Loop h) in r) (sym e.0)
+      w.goes ∙ again arrivals (count_by not marks) w.met hash e.2.0 e.2.1 e.1 ∙ ap (λ h. let r : Result (List Arrival) PathFault = Err (Loop h) in
+      r) (sym e.0)
   stops NoMemory none = tt
 
-  module _ (marks' : List Bool) (numbers' : List ℕ) (prev : Digest) (one : (met : List Arrival) → HasMet arrivals marks numbers met → MeetsOne arrivals hash marks marks' numbers' met prev) where
+  module _ (marks' : List Bool) (numbers' : List ℕ) (prev : Digest) (one : (met : List Arrival) → HasMet arrivals marks numbers met
+      → MeetsOne arrivals hash marks marks' numbers' met prev) where
     abbrev m : MeetsOne arrivals hash marks marks' numbers' w.met prev
     m = one w.met w.has
 

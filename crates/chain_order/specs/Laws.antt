@@ -15,8 +15,10 @@ IsToldOf arrivals tip (Err fault) = IsCause arrivals tip fault × (fault ≢ NoM
 -- Of arrivals with different hashes one thing holds, a path or a fault with its cause, and `path_of` is that one.
 abbrev pub PathIsTold : Type 0
 PathIsTold = (arrivals : List Arrival) (tip : Digest) → AreDifferent arrivals →
-    IsToldOf arrivals tip (path_of arrivals tip) × ((told : Result (List Arrival) PathFault) → IsToldOf arrivals tip told → told ≡ path_of arrivals tip)
+    IsToldOf arrivals tip (path_of arrivals tip)
+    × ((told : Result (List Arrival) PathFault) → IsToldOf arrivals tip told → told ≡ path_of arrivals tip)
 
 -- There is at most one path.
 abbrev pub OnePath : Type 0
-OnePath = (arrivals : List Arrival) (tip : Digest) → AreDifferent arrivals → (one other : List Arrival) → IsPath arrivals tip one → IsPath arrivals tip other → one ≡ other
+OnePath = (arrivals : List Arrival) (tip : Digest) → AreDifferent arrivals → (one other : List Arrival) → IsPath arrivals tip one
+    → IsPath arrivals tip other → one ≡ other

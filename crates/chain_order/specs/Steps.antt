@@ -13,7 +13,8 @@ pub record HasMet (arrivals : List Arrival) (marks : List Bool) (numbers : List 
   pub marked : (k : ℕ) (a : Arrival) → slice_get arrivals k ≡ Some a → get_or marks k false ≡ has_arrived met a.hash
 
 -- one more was met, which has this hash
-pub record MeetsOne (arrivals : List Arrival) (hash : Digest) (marks marks' : List Bool) (numbers' : List ℕ) (met : List Arrival) (prev : Digest) : Type 0 where
+pub record MeetsOne (arrivals : List Arrival) (hash : Digest) (marks marks' : List Bool) (numbers' : List ℕ) (met : List Arrival)
+    (prev : Digest) : Type 0 where
   pub one : Arrival
   pub found : find (has_hash hash) arrivals ≡ Some one
   pub first : has_arrived met hash ≡ false

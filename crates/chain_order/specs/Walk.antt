@@ -1,5 +1,6 @@
 -- The path to a block as a function of the arrivals.
-use Rattle.std.specs.Prelude.{◌≡◌, ℕ, zero, suc, Bool, List, [], ◌∷◌, ⊤, length, map, find, bytes_eq, slice_get, Option, Some, None, Result, Ok, Err, if◌then◌else◌}
+use Rattle.std.specs.Prelude.{◌≡◌, ℕ, zero, suc, Bool, List, [], ◌∷◌, ⊤, length, map, find, bytes_eq, slice_get, Option, Some, None, Result, Ok, Err}
+use Rattle.std.specs.Prelude.{if◌then◌else◌}
 use Rattle.uo_digest.specs.declared.digest.Digest.{Digest}
 use Rattle.chain_order.specs.declared.fault.PathFault.{PathFault}
 use Rattle.chain_order.specs.declared.fault.PathFault.TheVariants.{NoTip, Missing, Loop, NoMemory}
@@ -10,7 +11,8 @@ abbrev pub is_no_hash : Digest → Bool
 is_no_hash hash = bytes_eq hash.0 no_hash.0
 
 -- at a hash, behind those that were met: the one that has it, if there is one
-abbrev pub met_at : Option Arrival → (hash : Digest) → (met : List Arrival) → (Arrival → Result (List Arrival) PathFault) → Result (List Arrival) PathFault
+abbrev pub met_at : Option Arrival → (hash : Digest) → (met : List Arrival) → (Arrival → Result (List Arrival) PathFault)
+    → Result (List Arrival) PathFault
 met_at None hash met back = Err (Missing hash)
 met_at (Some a) hash met back = if has_arrived met hash then Err (Loop hash) else if is_no_hash a.prev then Ok (a ∷ met) else back a
 

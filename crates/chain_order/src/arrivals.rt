@@ -129,7 +129,8 @@ impl Arrivals {
         requires { length marks.old ≡ length self.now }
         ensures one { IfOk result (λ prev. (met : List Arrival) → HasMet self.now marks.old numbers.old.items met
             → MeetsOne self.now hash marks.old marks.new numbers.new.items met prev) }
-        ensures none { IfErr result (λ fault. (met : List Arrival) → HasMet self.now marks.old numbers.old.items met → MeetsNone self.now hash met fault) }
+        ensures none { IfErr result (λ fault. (met : List Arrival) → HasMet self.now marks.old numbers.old.items met
+            → MeetsNone self.now hash met fault) }
     {
         let Some(number) = self.number_of(&hash) else {
             return Err(PathFault::Missing { hash });

@@ -1,5 +1,6 @@
 -- From what the search finds to what it means, for a proof of some targets with some leaves and hashes, where some digests may be known.
-use Rattle.std.proofs.Common.{◌≡◌, ◌≢◌, ℕ, zero, suc, ◌+◌, ◌-◌, ◌*◌, ◌<◌, Bool, true, false, List, [], ◌∷◌, ◌++◌, map, length, get_or, Option, Some, None, Contains, refl, sym, ap, ◌∙◌, subst, ap₂, ⊎_elim, inl, inr, arith}
+use Rattle.std.proofs.Common.{◌≡◌, ◌≢◌, ℕ, zero, suc, ◌+◌, ◌-◌, ◌*◌, ◌<◌, Bool, true, false, List, [], ◌∷◌, ◌++◌, map, length, get_or, Option, Some}
+use Rattle.std.proofs.Common.{None, Contains, refl, sym, ap, ◌∙◌, subst, ap₂, ⊎_elim, inl, inr, arith}
 use Rattle.std.specs.Prelude.{◌⊎◌, option_map, option_and_then, slice_get, unwrap_or, bytes_eq, All, if◌then◌else◌}
 use Rattle.std.specs.List.{AllByRecursion}
 use Rattle.std.specs.Option.{option_or}
@@ -46,7 +47,8 @@ use Rattle.clash_find.proofs.Agreement.{value_of, node_text, cover_text, HasDige
 use Rattle.clash_find.proofs.Listing.{node_listed, cover_listed}
 
 -- what is beside the place at an index
-beside_slice : {X : Type 0} (none : X) (ps : List Place) (xs : List X) (i : ℕ) → IsDistinct ps → length xs ≡ length ps → i < length ps → beside none ps xs (place_in ps i).row (place_in ps i).off ≡ unwrap_or (slice_get xs i) none
+beside_slice : {X : Type 0} (none : X) (ps : List Place) (xs : List X) (i : ℕ) → IsDistinct ps → length xs ≡ length ps → i < length ps
+    → beside none ps xs (place_in ps i).row (place_in ps i).off ≡ unwrap_or (slice_get xs i) none
 beside_slice none [] xs i u e lt = absurd (omega (arith, lt))
 beside_slice none (p ∷ ps) [] i u e lt = absurd (omega (arith, e))
 beside_slice none (p ∷ ps) (x ∷ xs) zero u e lt = let here : is_at p.row p.off p ≡ true = is_at-same p.row p.off in rw here refl
@@ -59,19 +61,22 @@ beside_slice none (p ∷ ps) (x ∷ xs) (suc i) u e lt =
     rw other (beside_slice none ps xs i u.1 (omega (arith, e)) li)
 
 -- the first of what is shown at places in ascending order
-first-none : (f : Place → Option TextClash) (ps : List Place) → ((q : Place) → has_place ps q.row q.off ≡ true → f q ≡ None) → first_of (map f ps) ≡ None
+first-none : (f : Place → Option TextClash) (ps : List Place) → ((q : Place) → has_place ps q.row q.off ≡ true → f q ≡ None)
+    → first_of (map f ps) ≡ None
 first-none f [] h = refl
 first-none f (p ∷ ps) h =
     ap (λ x. option_or x (first_of (map f ps))) (h p (or_left (is_at p.row p.off p) (has_place ps p.row p.off) (is_at-same p.row p.off)))
     ∙ first-none f ps (λ q i. h q (or_right (is_at q.row q.off p) (has_place ps q.row q.off) i))
 
-first-is : (f : Place → Option TextClash) (ps : List Place) (p : Place) (c : TextClash) → IsAscending ps → has_place ps p.row p.off ≡ true → f p ≡ Some c → ((q : Place) → has_place ps q.row q.off ≡ true → IsBefore q p → f q ≡ None) → first_of (map f ps) ≡ Some c
+first-is : (f : Place → Option TextClash) (ps : List Place) (p : Place) (c : TextClash) → IsAscending ps → has_place ps p.row p.off ≡ true
+    → f p ≡ Some c → ((q : Place) → has_place ps q.row q.off ≡ true → IsBefore q p → f q ≡ None) → first_of (map f ps) ≡ Some c
 first-is f [] p c a i e before = absurd (false≢true i)
 first-is f (q ∷ qs) p c a i e before =
     ⊎_elim
     (λ (here : is_at p.row p.off q ≡ true). ap (λ x. option_or x (first_of (map f qs))) (ap f (same_from_is_at p.row p.off q here) ∙ e))
     (λ (later : has_place qs p.row p.off ≡ true).
-    ap (λ x. option_or x (first_of (map f qs))) (before q (or_left (is_at q.row q.off q) (has_place qs q.row q.off) (is_at-same q.row q.off)) (a.0 p later))
+    ap (λ x. option_or x (first_of (map f qs)))
+    (before q (or_left (is_at q.row q.off q) (has_place qs q.row q.off) (is_at-same q.row q.off)) (a.0 p later))
     ∙ first-is f qs p c a.1 later e (λ r j b. before r (or_right (is_at r.row r.off q) (has_place qs r.row r.off) j) b))
     (or_cases (is_at p.row p.off q) (has_place qs p.row p.off) i)
 
@@ -88,9 +93,11 @@ differing-other c other =
     ap (λ (b : Bool). if b then None else Some c) (false_from_ne_true (bytes_eq c.first c.second) (λ t. other (bytes_eq-true c.first c.second t)))
 
 differing-same : (x y : List ℕ) (d : Digest) → x ≡ y → differing x y d ≡ None
-differing-same x y d e = ap (λ (b : Bool). if b then None else Some (let c : TextClash = record { first = x; second = y; digest = d } in c)) (subst (λ z. bytes_eq x z ≡ true) e (bytes_eq-same x))
+differing-same x y d e = ap (λ (b : Bool). if b then None else Some (let c : TextClash = record { first = x; second = y; digest = d } in c))
+    (subst (λ z. bytes_eq x z ≡ true) e (bytes_eq-same x))
 
-place_of_item : (items : List CoveredPlace) (i : ℕ) → place_in (map (λ (item : CoveredPlace). item.place) items) i ≡ (get_or items i (record { place = record { row = 0; off = 0 }; made = Target 0; digest = record { 0 = [] } })).place
+place_of_item : (items : List CoveredPlace) (i : ℕ) → place_in (map (λ (item : CoveredPlace). item.place) items) i
+    ≡ (get_or items i (record { place = record { row = 0; off = 0 }; made = Target 0; digest = record { 0 = [] } })).place
 place_of_item [] i = refl
 place_of_item (x ∷ items) zero = refl
 place_of_item (x ∷ items) (suc i) = place_of_item items i
@@ -115,13 +122,15 @@ target_is ts (suc r) o a b e =
     no_target (Some x) (Some y) e = absurd (let z = same_Some _ _ e in cc)
 
 -- what has a digest is there
-standing : (H : List ℕ → Digest) (x : Option Tree) (d : Digest) → option_map (digest_of H) x ≡ Some d → (t : Tree) × (x ≡ Some t) × (digest_of H t ≡ d)
+standing : (H : List ℕ → Digest) (x : Option Tree) (d : Digest) → option_map (digest_of H) x ≡ Some d → (t : Tree) × (x ≡ Some t)
+    × (digest_of H t ≡ d)
 standing H None d e = absurd (none-some d e)
 standing H (Some t) d e = (t, refl, same_Some _ _ e)
 
 -- what the search goes over: targets that have shape, a leaf for each, and the hashes of all needed places, which are the known ones and
 -- between them those that were shown; and what they come to
-pub record IsReady (H : List ℕ → Digest) (n : ℕ) (ts : List Place) (rs : List Leaf) (k : ℕ → ℕ → Option Digest) (hs : List Digest) (items : List CoveredPlace) : Type 0 where
+pub record IsReady (H : List ℕ → Digest) (n : ℕ) (ts : List Place) (rs : List Leaf) (k : ℕ → ℕ → Option Digest) (hs : List Digest)
+    (items : List CoveredPlace) : Type 0 where
   pub shape : HasShape n ts
   pub each_leaf : length rs ≡ length ts
   pub count : length hs ≡ length (asked n ts k)
@@ -131,7 +140,8 @@ pub record IsReady (H : List ℕ → Digest) (n : ℕ) (ts : List Place) (rs : L
   pub evaluated : AreEvaluatedAt H n ts (digests_of H rs) full items
 
 module _ (H : List ℕ → Digest) (long : (x : List ℕ) → IsDigest (H x)) (us : History) (outputs : List Held)
-    (held : (i : ℕ) (l : Leaf) → slice_get us i ≡ Some (Some l) → leaf_at i outputs ≡ Some l) (fit : (i : ℕ) (l : Leaf) → slice_get us i ≡ Some (Some l) → LeafFits l)
+    (held : (i : ℕ) (l : Leaf) → slice_get us i ≡ Some (Some l) → leaf_at i outputs ≡ Some l) (fit : (i : ℕ) (l : Leaf)
+    → slice_get us i ≡ Some (Some l) → LeafFits l)
     (ts : List Place) (rs : List Leaf) (k : ℕ → ℕ → Option Digest) (hs : List Digest) where
   abbrev es : List (Option Digest)
   es = entries H leaf_text us
@@ -226,7 +236,8 @@ module _ (H : List ℕ → Digest) (long : (x : List ℕ) → IsDigest (H x)) (u
         same : (c : Cover) → cover ts item.place.row item.place.off ≡ Some c → AreSame H n ts hashes full_hashes same_hash c
         same c q = same_cover H n ts hashes full_hashes same_hash item.place.row item.place.off c e.within q
 
-        by_made : (c : Cover) → cover ts item.place.row item.place.off ≡ Some c → item.digest ≡ evaluation H n ts nothing_known (digests_of H rs) ready.full c → (made : Made) → item.made ≡ made →
+        by_made : (c : Cover) → cover ts item.place.row item.place.off ≡ Some c
+            → item.digest ≡ evaluation H n ts nothing_known (digests_of H rs) ready.full c → (made : Made) → item.made ≡ made →
             IsMade H n ts (digests_of H rs) ready.full item.place c item.made → IsItem item
         by_made (target a b) q d (Target i) is made =
             let w = target_is ts item.place.row item.place.off a b q in
@@ -243,9 +254,11 @@ module _ (H : List ℕ → Digest) (long : (x : List ℕ) → IsDigest (H x)) (u
               listed = Contains-first _ [];
               form = inl (sym at);
             }
-        by_made (target a b) q d (Halves x y) is made = absurd (subst (λ (x : Made). IsMade H n ts (digests_of H rs) ready.full item.place (target a b) x) is made)
+        by_made (target a b) q d (Halves x y) is made =
+            absurd (subst (λ (x : Made). IsMade H n ts (digests_of H rs) ready.full item.place (target a b) x) is made)
         by_made (given a b) q d z is made = absurd made
-        by_made (both l r) q d (Target i) is made = absurd (subst (λ (x : Made). IsMade H n ts (digests_of H rs) ready.full item.place (both l r) x) is made)
+        by_made (both l r) q d (Target i) is made =
+            absurd (subst (λ (x : Made). IsMade H n ts (digests_of H rs) ready.full item.place (both l r) x) is made)
         by_made (both l r) q d (Halves x y) is made =
             let here = subst (λ (x : Made). IsMade H n ts (digests_of H rs) ready.full item.place (both l r) x) is made in
             let s = same (both l r) q in
@@ -272,14 +285,16 @@ module _ (H : List ℕ → Digest) (long : (x : List ℕ) → IsDigest (H x)) (u
     Accepts = IsAccepted H n (root H es) ts k (digests_of H rs) hs
 
     -- the digest at a covered place, by its item
-    root_is : DoRootsAgree H es items true → (row : ℕ) (c : Cover) → is_slot n row ≡ true → cover ts row (root_off n row) ≡ Some c → root H es row ≡ Some (V c)
+    root_is : DoRootsAgree H es items true → (row : ℕ) (c : Cover) → is_slot n row ≡ true → cover ts row (root_off n row) ≡ Some c
+        → root H es row ≡ Some (V c)
     root_is agree row c slot e =
         let o = root_off n row in
         let top = is_root-root_off n row slot in
         let w = ready.evaluated.all row o c (InForest-root n row o top) e in
         let at : (get_or items w.0 blank).place ≡ place row o = w.2 blank in
         let it = item_at w.0 blank w.1 in
-        let here : is_root n (get_or items w.0 blank).place.row (get_or items w.0 blank).place.off ≡ true = subst (λ (p : Place). is_root n p.row p.off ≡ true) (sym at) top in
+        let here : is_root n (get_or items w.0 blank).place.row (get_or items w.0 blank).place.off ≡ true =
+        subst (λ (p : Place). is_root n p.row p.off ≡ true) (sym at) top in
         let got = agree w.0 blank w.1 here in
         let same : it.beneath ≡ c = same_Some _ _ (sym it.covered ∙ (ap (λ (p : Place). cover ts p.row p.off) at ∙ e)) in
         ap (option_map (digest_of H)) (sym (tree_at-root es row o top))
@@ -301,13 +316,16 @@ module _ (H : List ℕ → Digest) (long : (x : List ℕ) → IsDigest (H x)) (u
         let t = root_off-is_root n p.row p.off top in
         let e : cover ts p.row (root_off n p.row) ≡ Some it.beneath = ap (cover ts p.row) (sym t.0) ∙ it.covered in
         let same = a.agrees p.row it.beneath t.1 e in
-        other (ap (option_map (digest_of H)) (tree_at-root es p.row p.off top) ∙ (ap (λ o. option_map (digest_of H) (content es p.row o)) t.0 ∙ (same ∙ ap Some (comes_to it.beneath ∙ sym it.digest))))
+        other (ap (option_map (digest_of H)) (tree_at-root es p.row p.off top)
+        ∙ (ap (λ o. option_map (digest_of H) (content es p.row o)) t.0 ∙ (same ∙ ap Some (comes_to it.beneath ∙ sym it.digest))))
 
     -- ---- the texts
 
     -- what stands at an item whose digest is the forest's
-    stands_at : (i : ℕ) (lt : i < length items) → digest_at H es (get_or items i blank).place.row (get_or items i blank).place.off ≡ Some (get_or items i blank).digest →
-        (t : Tree) × (tree_at es (get_or items i blank).place.row (get_or items i blank).place.off ≡ Some t) × (digest_of H t ≡ (get_or items i blank).digest)
+    stands_at : (i : ℕ) (lt : i < length items) → digest_at H es (get_or items i blank).place.row (get_or items i blank).place.off
+        ≡ Some (get_or items i blank).digest →
+        (t : Tree) × (tree_at es (get_or items i blank).place.row (get_or items i blank).place.off ≡ Some t)
+        × (digest_of H t ≡ (get_or items i blank).digest)
     stands_at i lt e = standing H (tree_at es (get_or items i blank).place.row (get_or items i blank).place.off) (get_or items i blank).digest e
 
     -- where no item shows a clash, the texts are equal
@@ -319,7 +337,8 @@ module _ (H : List ℕ → Digest) (long : (x : List ℕ) → IsDigest (H x)) (u
         let it = item_at w.0 blank w.1 in
         let same : it.beneath ≡ c = same_Some _ _ (sym it.covered ∙ (ap (λ (p : Place). cover ts p.row p.off) at ∙ e)) in
         let there : tree_at es item.place.row item.place.off ≡ Some t = ap (λ (p : Place). tree_at es p.row p.off) at ∙ s in
-        let digest : digest_at H es item.place.row item.place.off ≡ Some item.digest = ap (option_map (digest_of H)) there ∙ ap Some (sym v ∙ (ap V (sym same) ∙ sym it.digest)) in
+        let digest : digest_at H es item.place.row item.place.off ≡ Some item.digest =
+        ap (option_map (digest_of H)) there ∙ ap Some (sym v ∙ (ap V (sym same) ∙ sym it.digest)) in
         let g = compared w.0 blank w.1 digest (node_text_of t) (node_shown item.place.row item.place.off t there) in
         (g.0 ∙ (it.text ∙ ap cover_text_of same), subst (HasDigests H es text_of ts leaf_texts hashes) same (it.whole g.1))
 
@@ -360,11 +379,13 @@ module _ (H : List ℕ → Digest) (long : (x : List ℕ) → IsDigest (H x)) (u
     clash_here : (item : CoveredPlace) → IsItem item → (c : TextClash) → IsClashAt H es outputs rs item c → shown_at item.place ≡ Some c
     clash_here item it c w =
         let p = item.place in
-        let there : is_digest (V it.beneath) (digest_at H es p.row p.off) ≡ true = is_there (V it.beneath) (digest_at H es p.row p.off) (w.same ∙ ap Some it.digest) in
+        let there : is_digest (V it.beneath) (digest_at H es p.row p.off) ≡ true =
+        is_there (V it.beneath) (digest_at H es p.row p.off) (w.same ∙ ap Some it.digest) in
         let second : c.second ≡ text_of_cover H n ts rs k hs it.beneath = w.second ∙ (it.text ∙ text_same it.beneath) in
         let digest : c.digest ≡ V it.beneath = w.digest ∙ it.digest in
         ap (option_and_then (pair_over H es outputs ts rs k hs p)) it.covered
-        ∙ (ap (λ b. if b then option_and_then (λ x. differing x (text_of_cover H n ts rs k hs it.beneath) (V it.beneath)) (text_at H es outputs p.row p.off) else None) there
+        ∙ (ap (λ b. if b then option_and_then (λ x. differing x (text_of_cover H n ts rs k hs it.beneath) (V it.beneath))
+        (text_at H es outputs p.row p.off) else None) there
         ∙ (ap (option_and_then (λ x. differing x (text_of_cover H n ts rs k hs it.beneath) (V it.beneath))) w.first
         ∙ (ap₂ (differing c.first) (sym second) (sym digest) ∙ differing-other c w.differ)))
 
@@ -373,16 +394,19 @@ module _ (H : List ℕ → Digest) (long : (x : List ℕ) → IsDigest (H x)) (u
         ap (option_and_then (pair_over H es outputs ts rs k hs item.place)) it.covered
         ∙ by_digest (is_digest (V it.beneath) (digest_at H es item.place.row item.place.off)) refl
       where
-        by_text : (x : Option (List ℕ)) → ((y : List ℕ) → x ≡ Some y → y ≡ text_of_cover H n ts rs k hs it.beneath) → option_and_then (λ y. differing y (text_of_cover H n ts rs k hs it.beneath) (V it.beneath)) x ≡ None
+        by_text : (x : Option (List ℕ)) → ((y : List ℕ) → x ≡ Some y → y ≡ text_of_cover H n ts rs k hs it.beneath)
+            → option_and_then (λ y. differing y (text_of_cover H n ts rs k hs it.beneath) (V it.beneath)) x ≡ None
         by_text None f = refl
         by_text (Some y) f = differing-same y (text_of_cover H n ts rs k hs it.beneath) (V it.beneath) (f y refl)
 
         by_digest : (b : Bool) → is_digest (V it.beneath) (digest_at H es item.place.row item.place.off) ≡ b →
-            (if b then option_and_then (λ x. differing x (text_of_cover H n ts rs k hs it.beneath) (V it.beneath)) (text_at H es outputs item.place.row item.place.off) else None) ≡ None
+            (if b then option_and_then (λ x. differing x (text_of_cover H n ts rs k hs it.beneath) (V it.beneath))
+            (text_at H es outputs item.place.row item.place.off) else None) ≡ None
         by_digest false e = refl
         by_digest true e =
             by_text (text_at H es outputs item.place.row item.place.off)
-            (λ y s. (w (there_is (V it.beneath) (digest_at H es item.place.row item.place.off) e ∙ ap Some (sym it.digest)) y s).0 ∙ (it.text ∙ text_same it.beneath))
+            (λ y s. (w (there_is (V it.beneath) (digest_at H es item.place.row item.place.off) e ∙ ap Some (sym it.digest)) y s).0
+            ∙ (it.text ∙ text_same it.beneath))
 
     -- nothing is shown at a place whose item shows nothing
     abbrev Silent : ℕ → Type 0
@@ -405,15 +429,20 @@ module _ (H : List ℕ → Digest) (long : (x : List ℕ) → IsDigest (H x)) (u
         ⊎_elim
         (λ less. less)
         (λ ge. ⊎_elim
-        (λ (same : j ≡ i). absurd (before_itself (get_or items i blank).place (subst (λ k. IsBefore (get_or items k blank).place (get_or items i blank).place) same before)))
+        (λ (same : j ≡ i). absurd (before_itself (get_or items i blank).place
+        (subst (λ k. IsBefore (get_or items k blank).place (get_or items i blank).place) same before)))
         (λ other.
         let up : i < j = omega (arith, ge, other) in
         let long : length (map (λ (item : CoveredPlace). item.place) items) ≡ length items = length-map items (λ (item : CoveredPlace). item.place) in
         let rises = ready.evaluated.order.rises i j up (omega (arith, lj, long)) in
-        let rises' : position n (get_or items i blank).place.row (get_or items i blank).place.off < position n (get_or items j blank).place.row (get_or items j blank).place.off =
-        subst (λ (p : Place). position n p.row p.off < position n (get_or items j blank).place.row (get_or items j blank).place.off) (place_of_item items i)
-        (subst (λ (p : Place). position n (place_in (map (λ (item : CoveredPlace). item.place) items) i).row (place_in (map (λ (item : CoveredPlace). item.place) items) i).off < position n p.row p.off) (place_of_item items j) rises) in
-        let falls = position_rises n (get_or items j blank).place (get_or items i blank).place (item_at j blank lj).within (item_at i blank li).within before in
+        let rises' : position n (get_or items i blank).place.row (get_or items i blank).place.off < position n (get_or items j blank).place.row
+        (get_or items j blank).place.off =
+        subst (λ (p : Place). position n p.row p.off < position n (get_or items j blank).place.row (get_or items j blank).place.off)
+        (place_of_item items i)
+        (subst (λ (p : Place). position n (place_in (map (λ (item : CoveredPlace). item.place) items) i).row
+        (place_in (map (λ (item : CoveredPlace). item.place) items) i).off < position n p.row p.off) (place_of_item items j) rises) in
+        let falls = position_rises n (get_or items j blank).place (get_or items i blank).place (item_at j blank lj).within (item_at i blank li).within
+        before in
         absurd (omega (arith, rises', falls)))
         (cases_eq j i))
         (cases_lt j i)
@@ -424,15 +453,19 @@ module _ (H : List ℕ → Digest) (long : (x : List ℕ) → IsDigest (H x)) (u
         let clash = subst (λ (x : CoveredPlace). IsClashAt H es outputs rs x c) (get_or_default items i d blank lt) at in
         let it = item_at i blank lt in
         let p = (get_or items i blank).place in
-        sym (first-is shown_at (places n) p c (places_ascending n) (places_have n p.row p.off it.within) (clash_here (get_or items i blank) it c clash)
-        (λ q j behind. place_none q (places_had n q.row q.off j) (λ l lk same. before l blank (in_order i l lt lk (subst (λ r. IsBefore r p) (sym same) behind)))))
+        sym (first-is shown_at (places n) p c (places_ascending n) (places_have n p.row p.off it.within)
+        (clash_here (get_or items i blank) it c clash)
+        (λ q j behind. place_none q (places_had n q.row q.off j)
+        (λ l lk same. before l blank (in_order i l lt lk (subst (λ r. IsBefore r p) (sym same) behind)))))
 
     -- ---- what a clash says
 
     -- of what is right, each covered place has one text
-    not_right : IsKnowledge H es k → (c : TextClash) (i : ℕ) → i < length items → IsClashAt H es outputs rs (get_or items i blank) c → IsRight H leaf_text us ts k rs hs → ⊥
+    not_right : IsKnowledge H es k → (c : TextClash) (i : ℕ) → i < length items → IsClashAt H es outputs rs (get_or items i blank) c
+        → IsRight H leaf_text us ts k rs hs → ⊥
     not_right view c i lt clash r =
-        let shown : map Some hs ≡ map (λ p. digest_at H es p.row p.off) (asked n ts k) = subst (λ j. map Some hs ≡ map (λ p. digest_at H es p.row p.off) (asked j ts k)) (sym same_length) r.shown in
+        let shown : map Some hs ≡ map (λ p. digest_at H es p.row p.off) (asked n ts k) =
+        subst (λ j. map Some hs ≡ map (λ p. digest_at H es p.row p.off) (asked j ts k)) (sym same_length) r.shown in
         let it = item_at i blank lt in
         let p = (get_or items i blank).place in
         let t = stands_at i lt clash.same in
@@ -462,7 +495,8 @@ module _ (H : List ℕ → Digest) (long : (x : List ℕ) → IsDigest (H x)) (u
         let first : c.first ≡ node_text_of t.0 = same_Some _ _ (sym clash.first ∙ node_shown p.row p.off t.0 t.1) in
         let second : c.second ≡ cover_text_of it.beneath = clash.second ∙ it.text in
         let node = node_listed H es text_of (n - p.row) p.row p.off t.0 (node_text_of t.0) refl it.within t.1 (first_listed t.0) in
-        let covered = cover_listed H n ts ready.shape leaf_texts hashes (n - p.row) p.row p.off it.beneath (cover_text_of it.beneath) refl it.within it.covered it.listed in
+        let covered = cover_listed H n ts ready.shape leaf_texts hashes (n - p.row) p.row p.off it.beneath (cover_text_of it.beneath) refl it.within
+        it.covered it.listed in
         record {
           of_forest = subst (IsNodeText H leaf_text us) (sym first) (record {
             row = node.row;
@@ -471,13 +505,14 @@ module _ (H : List ℕ → Digest) (long : (x : List ℕ) → IsDigest (H x)) (u
             of_slot = subst (λ j. content es node.row (root_off j node.row) ≡ Some node.tree) same_length node.of_slot;
             listed = node.listed;
           });
-          of_proof = subst (λ j. IsValueText H leaf_text j ts k rs hs c.second) same_length (subst (IsValueText H leaf_text n ts k rs hs) (sym second) (record {
-            row = covered.row;
-            covered = covered.covered;
-            slot = covered.slot;
-            of_slot = covered.of_slot;
-            listed = covered.listed;
-          }));
+          of_proof = subst (λ j. IsValueText H leaf_text j ts k rs hs c.second) same_length
+              (subst (IsValueText H leaf_text n ts k rs hs) (sym second) (record {
+                row = covered.row;
+                covered = covered.covered;
+                slot = covered.slot;
+                of_slot = covered.of_slot;
+                listed = covered.listed;
+              }));
           differ = clash.differ;
           first_is = ap H first ∙ (node_digest p.row p.off t.0 t.1 ∙ (t.2 ∙ sym clash.digest));
           second_is = ap H second ∙ (it.own ∙ (sym it.digest ∙ sym clash.digest));
@@ -488,13 +523,15 @@ module _ (H : List ℕ → Digest) (long : (x : List ℕ) → IsDigest (H x)) (u
         first_listed (inner l r) = Contains-first _ _
 
     -- what is found is two such texts, and what is taken to be known and shown is not right
-    pub some_found : IsKnowledge H es k → (c : TextClash) → AreCompared H es outputs rs items (Some c) → (IsRight H leaf_text us ts k rs hs → ⊥) × IsShownClash c
+    pub some_found : IsKnowledge H es k → (c : TextClash) → AreCompared H es outputs rs items (Some c) → (IsRight H leaf_text us ts k rs hs → ⊥)
+        × IsShownClash c
     some_found view c (i, d, lt, at, before) =
         let clash = subst (λ (x : CoveredPlace). IsClashAt H es outputs rs x c) (get_or_default items i d blank lt) at in
         (not_right view c i lt clash, is_clash c i lt clash)
 
 -- the targets of the items are among the leaves
-pub targets_within : (H : List ℕ → Digest) (n : ℕ) (ts : List Place) (rs : List Leaf) (leaves full : List Digest) (items : List CoveredPlace) → length rs ≡ length ts → AreEvaluatedAt H n ts leaves full items →
+pub targets_within : (H : List ℕ → Digest) (n : ℕ) (ts : List Place) (rs : List Leaf) (leaves full : List Digest) (items : List CoveredPlace)
+    → length rs ≡ length ts → AreEvaluatedAt H n ts leaves full items →
     (i : ℕ) (d : CoveredPlace) → i < length items → IsWithin (length rs) (get_or items i d).made
 targets_within H n ts rs leaves full items few evaluated i d lt = by_made (get_or items i d) (evaluated.each i d lt)
   where

@@ -13,7 +13,8 @@ module _ (H : List ℕ → Digest) (es : List (Option Digest)) (outputs : List H
   abbrev pub NoneBefore : ℕ → Type 0
   NoneBefore k = (i : ℕ) (d : CoveredPlace) → i < k → IsCompared H es outputs rs (get_or items i d) None
 
-  pub compared_more : (k : ℕ) (d0 : CoveredPlace) (x : Option TextClash) → k < length items → NoneBefore k → x ≡ None → IsCompared H es outputs rs (get_or items k d0) x → NoneBefore (k + 1)
+  pub compared_more : (k : ℕ) (d0 : CoveredPlace) (x : Option TextClash) → k < length items → NoneBefore k → x ≡ None
+      → IsCompared H es outputs rs (get_or items k d0) x → NoneBefore (k + 1)
   compared_more k d0 x lt before none here i d l =
       ⊎_elim
       (λ old. before i d old)

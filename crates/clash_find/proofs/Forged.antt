@@ -20,7 +20,8 @@ use Rattle.node_rules.specs.Judging.{Rules, message_steps, is_forged}
 use Rattle.clash_find.specs.Clashes.{TextClash}
 use Rattle.clash_find.specs.Answers.{view_over, IsAnswer}
 
-module _ (H : List ℕ → Digest) (us : History) (scripts : List (List ℕ)) (rules : Rules) (chain : Chain) (b : Block) (m : Message) (passes : first_of (block_steps rules.net rules.limits chain b ++ message_steps (external b chain.blocks) (read m)) ≡ None) where
+module _ (H : List ℕ → Digest) (us : History) (scripts : List (List ℕ)) (rules : Rules) (chain : Chain) (b : Block) (m : Message)
+    (passes : first_of (block_steps rules.net rules.limits chain b ++ message_steps (external b chain.blocks) (read m)) ≡ None) where
   abbrev known : ℕ → ℕ → Option Digest
   known = known_at H leaf_text scripts us
 
@@ -38,7 +39,8 @@ module _ (H : List ℕ → Digest) (us : History) (scripts : List (List ℕ)) (r
       by_fault (Some f) e = refl
   by_answer (Some c) (none, wrong, clash) = rw (none, wrong) refl
 
-  pub forged_is : (k : ℕ → ℕ → Option Digest) → ((row off : ℕ) → k row off ≡ known row off) → (r : Option TextClash) → IsAnswer H us k (points_of (external b chain.blocks)) m r → is_forged H leaf_text scripts rules chain us b (read m) ≡ is_some r
+  pub forged_is : (k : ℕ → ℕ → Option Digest) → ((row off : ℕ) → k row off ≡ known row off) → (r : Option TextClash)
+      → IsAnswer H us k (points_of (external b chain.blocks)) m r → is_forged H leaf_text scripts rules chain us b (read m) ≡ is_some r
   forged_is k same r a =
       let e : k ≡ known = fun_ext (λ row. fun_ext (λ off. same row off)) in
       rw passes (by_answer r (subst (λ (f : ℕ → ℕ → Option Digest). IsAnswer H us f (points_of (external b chain.blocks)) m r) e a))

@@ -31,7 +31,8 @@ module _ (H : List ℕ → Digest) (es : List (Option Digest)) (text_of : ℕ �
     pub of_slot : content es row (root_off (length es) row) ≡ Some tree
     pub listed : Contains (node_texts H text_of tree) x
 
-  pub node_listed : (k r o : ℕ) (t : Tree) (x : List ℕ) → length es - r ≡ k → InForest (length es) r o → tree_at es r o ≡ Some t → Contains (node_texts H text_of t) x → IsOfSlot x
+  pub node_listed : (k r o : ℕ) (t : Tree) (x : List ℕ) → length es - r ≡ k → InForest (length es) r o → tree_at es r o ≡ Some t
+      → Contains (node_texts H text_of t) x → IsOfSlot x
   node_listed zero r o t x n h s c = let lt = row_below (length es) r o h in absurd (omega (arith, n, lt))
   node_listed (suc k) r o t x n h s c =
       ⊎_elim
@@ -44,11 +45,13 @@ module _ (H : List ℕ → Digest) (es : List (Option Digest)) (text_of : ℕ �
       (λ even.
       let at = even_at o even in
       let w = inner_from_left (tree_at es (suc r) (o / 2)) t (sym (tree_at-left es r (o / 2) up) ∙ (ap (tree_at es r) at ∙ s)) in
-      node_listed k (suc r) (o / 2) (inner t w.0) x (omega (arith, n)) up w.1 (Contains-later _ x _ (Contains-append_left (node_texts H text_of t) (node_texts H text_of w.0) x c)))
+      node_listed k (suc r) (o / 2) (inner t w.0) x (omega (arith, n)) up w.1
+      (Contains-later _ x _ (Contains-append_left (node_texts H text_of t) (node_texts H text_of w.0) x c)))
       (λ odd.
       let at = odd_at o odd in
       let w = inner_from_right (tree_at es (suc r) (o / 2)) t (sym (tree_at-right es r (o / 2) up) ∙ (ap (tree_at es r) at ∙ s)) in
-      node_listed k (suc r) (o / 2) (inner w.0 t) x (omega (arith, n)) up w.1 (Contains-later _ x _ (Contains-append_right (node_texts H text_of w.0) (node_texts H text_of t) x c)))
+      node_listed k (suc r) (o / 2) (inner w.0 t) x (omega (arith, n)) up w.1
+      (Contains-later _ x _ (Contains-append_right (node_texts H text_of w.0) (node_texts H text_of t) x c)))
       (cases_eq (o % 2) 0))
       (cases_Bool (is_root (length es) r o))
 
@@ -74,7 +77,8 @@ module _ (H : List ℕ → Digest) (n : ℕ) (ts : List Place) (shape : HasShape
       let no_target = ap (has_place ts (suc r)) (sym half_is) ∙ parent_no_target n ts shape r (2 * h + 1) c e in
       (w.0, cover-both ts r h no_target ∙ (ap (λ (x : Option Cover). cover_of_halves r h (cover ts r (2 * h)) x) e ∙ w.1))
 
-  pub cover_listed : (k r o : ℕ) (c : Cover) (x : List ℕ) → n - r ≡ k → InForest n r o → cover ts r o ≡ Some c → Contains (value_texts H leaf_texts hashes c) x → IsOfCover x
+  pub cover_listed : (k r o : ℕ) (c : Cover) (x : List ℕ) → n - r ≡ k → InForest n r o → cover ts r o ≡ Some c
+      → Contains (value_texts H leaf_texts hashes c) x → IsOfCover x
   cover_listed zero r o c x m h e l = let lt = row_below n r o h in absurd (omega (arith, m, lt))
   cover_listed (suc k) r o c x m h e l =
       ⊎_elim
@@ -86,9 +90,11 @@ module _ (H : List ℕ → Digest) (n : ℕ) (ts : List Place) (shape : HasShape
       ⊎_elim
       (λ even.
       let w = above_left r (o / 2) c (ap (cover ts r) (even_at o even) ∙ e) in
-      cover_listed k (suc r) (o / 2) (both c w.0) x (omega (arith, m)) up w.1 (Contains-later _ x _ (Contains-append_left (value_texts H leaf_texts hashes c) (value_texts H leaf_texts hashes w.0) x l)))
+      cover_listed k (suc r) (o / 2) (both c w.0) x (omega (arith, m)) up w.1
+      (Contains-later _ x _ (Contains-append_left (value_texts H leaf_texts hashes c) (value_texts H leaf_texts hashes w.0) x l)))
       (λ odd.
       let w = above_right r (o / 2) c (ap (cover ts r) (odd_at o odd) ∙ e) in
-      cover_listed k (suc r) (o / 2) (both w.0 c) x (omega (arith, m)) up w.1 (Contains-later _ x _ (Contains-append_right (value_texts H leaf_texts hashes w.0) (value_texts H leaf_texts hashes c) x l)))
+      cover_listed k (suc r) (o / 2) (both w.0 c) x (omega (arith, m)) up w.1
+      (Contains-later _ x _ (Contains-append_right (value_texts H leaf_texts hashes w.0) (value_texts H leaf_texts hashes c) x l)))
       (cases_eq (o % 2) 0))
       (cases_Bool (is_root n r o))

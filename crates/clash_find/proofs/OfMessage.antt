@@ -37,7 +37,8 @@ use Rattle.clash_find.proofs.Claiming.{claims-long}
 use Rattle.clash_find.proofs.Refusing.{targets_are, named_all, targets_long, no_shape, no_count}
 use Rattle.clash_find.proofs.Answering.{IsReady, accepts, differs, right, exact, some_found}
 
-module _ (H : List ℕ → Digest) (long : (x : List ℕ) → IsDigest (H x)) (outputs : List Held) (ext : List Outside) (m : Message) (count : length m.proof.spends ≡ length ext) (known : ℕ → ℕ → Option Digest) where
+module _ (H : List ℕ → Digest) (long : (x : List ℕ) → IsDigest (H x)) (outputs : List Held) (ext : List Outside) (m : Message)
+    (count : length m.proof.spends ≡ length ext) (known : ℕ → ℕ → Option Digest) where
   abbrev points : List Outpoint
   points = points_of ext
 
@@ -61,12 +62,14 @@ module _ (H : List ℕ → Digest) (long : (x : List ℕ) → IsDigest (H x)) (o
 
   -- ---- where targets or hashes are refused
 
-  pub none_accepted : (es0 : List (Option Digest)) → ((roots : ℕ → Option Digest) → fault_over (length es0) roots ≢ None) → (us : History) → StandForHistory H es0 outputs us → IsAnswer H us known points m None
+  pub none_accepted : (es0 : List (Option Digest)) → ((roots : ℕ → Option Digest) → fault_over (length es0) roots ≢ None) → (us : History)
+      → StandForHistory H es0 outputs us → IsAnswer H us known points m None
   none_accepted es0 refused us s none =
       let same : length us ≡ length es0 = sym (length-map us (option_map (λ (r : Leaf). H (leaf_text r)))) ∙ ap length (sym s.entries_are) in
       absurd (refused (root H (entries H leaf_text us)) (subst (λ j. fault_over j (root H (entries H leaf_text us)) ≡ None) same none))
 
-  pub none_exact : (es : List (Option Digest)) → ((roots : ℕ → Option Digest) → fault_over (length es) roots ≢ None) → None ≡ clash_in H es outputs known ext m
+  pub none_exact : (es : List (Option Digest)) → ((roots : ℕ → Option Digest) → fault_over (length es) roots ≢ None)
+      → None ≡ clash_in H es outputs known ext m
   none_exact es refused = by_fault (fault_over (length es) (root H es)) refl
     where
       by_fault : (x : Option ProofRefusal) → fault_over (length es) (root H es) ≡ x → None ≡ clash_by es x
@@ -85,7 +88,8 @@ module _ (H : List ℕ → Digest) (long : (x : List ℕ) → IsDigest (H x)) (o
   lean_view es view true = view
   lean_view es view false = λ row off d e. absurd (none-some d e)
 
-  module _ (us : History) (held : (i : ℕ) (l : Leaf) → slice_get us i ≡ Some (Some l) → leaf_at i outputs ≡ Some l) (fit : (i : ℕ) (l : Leaf) → slice_get us i ≡ Some (Some l) → LeafFits l)
+  module _ (us : History) (held : (i : ℕ) (l : Leaf) → slice_get us i ≡ Some (Some l) → leaf_at i outputs ≡ Some l) (fit : (i : ℕ) (l : Leaf)
+      → slice_get us i ≡ Some (Some l) → LeafFits l)
       (t : Targeted) (full : List Digest) (answer : Option TextClash) (w : IsFoundFor (entries H leaf_text us) t full answer) where
     abbrev es : List (Option Digest)
     es = entries H leaf_text us
@@ -137,13 +141,18 @@ module _ (H : List ℕ → Digest) (long : (x : List ℕ) → IsDigest (H x)) (o
         by : (b : Bool) (x : Option TextClash) → AreFound H es outputs rs w.searched.items b x → IsAnswer H us known points m x
         by false x f =
             subst (IsAnswer H us known points m) (sym f.1)
-            (λ none. absurd (differs H long us outputs held fit ts rs k hs w.searched.items ready f.0 (taken (subst (λ j. fault_over j (root H es) ≡ None) (sym same_length) none))))
+            (λ none. absurd (differs H long us outputs held fit ts rs k hs w.searched.items ready f.0
+            (taken (subst (λ j. fault_over j (root H es) ≡ None) (sym same_length) none))))
         by true None f =
-            λ none. (right_is_tested H leaf_text us known points m).1
-            (subst RightBy same_length (right H long us outputs held fit ts rs k hs w.searched.items ready f.0 f.1), subst (λ j. named j m ≡ map Some (targets j m)) same_length all, points_count)
+            λ none. (right_is_tested H leaf_text us known points m).1 (
+              subst RightBy same_length (right H long us outputs held fit ts rs k hs w.searched.items ready f.0 f.1),
+              subst (λ j. named j m ≡ map Some (targets j m)) same_length all,
+              points_count,
+            )
         by true (Some c) f =
             let s = some_found H long us outputs held fit ts rs k hs w.searched.items ready (lean_view es view m.lean) c f.1 in (
-              subst (λ j. fault_over j (root H es) ≡ None) same_length (no_fault (accepts H long us outputs held fit ts rs k hs w.searched.items ready f.0)),
+              subst (λ j. fault_over j (root H es) ≡ None) same_length
+                  (no_fault (accepts H long us outputs held fit ts rs k hs w.searched.items ready f.0)),
               false_from_ne_true _ (λ tested. s.0 (subst RightBy (sym same_length) ((right_is_tested H leaf_text us known points m).0 tested).0)),
               record {
                 of_forest = s.1.of_forest;
@@ -162,39 +171,50 @@ module _ (H : List ℕ → Digest) (long : (x : List ℕ) → IsDigest (H x)) (o
         by_fault (Some f) e never = refl
 
         by : (b : Bool) (x : Option TextClash) → AreFound H es outputs rs w.searched.items b x → x ≡ clash_in H es outputs known ext m
-        by false x f = f.1 ∙ by_fault (fault_over n (root H es)) refl (λ e. differs H long us outputs held fit ts rs k hs w.searched.items ready f.0 (taken e))
+        by false x f = f.1 ∙ by_fault (fault_over n (root H es)) refl
+            (λ e. differs H long us outputs held fit ts rs k hs w.searched.items ready f.0 (taken e))
         by true x f =
             exact H long us outputs held fit ts rs k hs w.searched.items ready x f.1
             ∙ sym (ap (clash_by es) (no_fault (accepts H long us outputs held fit ts rs k hs w.searched.items ready f.0)))
 
   -- by the names of the calls
-  pub found_so : (es0 : List (Option Digest)) (n0 : ℕ) (t : Targeted) (full seen_full : List Digest) (seen : List Leaf) (ext0 : List Outside) (answer : Option TextClash) → n0 ≡ length es0 → ext0 ≡ ext → AreNamed n0 m t → HasShape t.leaves t.targets → AreHashes m t known full →
+  pub found_so : (es0 : List (Option Digest)) (n0 : ℕ) (t : Targeted) (full seen_full : List Digest) (seen : List Leaf) (ext0 : List Outside)
+      (answer : Option TextClash) → n0 ≡ length es0 → ext0 ≡ ext → AreNamed n0 m t → HasShape t.leaves t.targets → AreHashes m t known full →
       seen ≡ claims ext0 m → seen_full ≡ full → IsSearched H es0 outputs t.targets seen seen_full answer → IsFoundFor es0 t full answer
   found_so es0 n0 t full seen_full seen ext0 answer at same named_so shape hashes leaves_are full_is searched = record {
     named_so = subst (λ j. AreNamed j m t) at named_so;
     shape = shape;
     hashes = hashes;
-    searched = subst (λ l. IsSearched H es0 outputs t.targets l full answer) (leaves_are ∙ ap (λ x. claims x m) same) (subst (λ l. IsSearched H es0 outputs t.targets seen l answer) full_is searched);
+    searched = subst (λ l. IsSearched H es0 outputs t.targets l full answer) (leaves_are ∙ ap (λ x. claims x m) same)
+        (subst (λ l. IsSearched H es0 outputs t.targets seen l answer) full_is searched);
   }
 
-  pub found_answer : (es0 : List (Option Digest)) (t : Targeted) (full : List Digest) (answer : Option TextClash) → IsFoundFor es0 t full answer → (us : History) → StandForHistory H es0 outputs us → IsKnowledge H es0 known → IsAnswer H us known points m answer
+  pub found_answer : (es0 : List (Option Digest)) (t : Targeted) (full : List Digest) (answer : Option TextClash) → IsFoundFor es0 t full answer
+      → (us : History) → StandForHistory H es0 outputs us → IsKnowledge H es0 known → IsAnswer H us known points m answer
   found_answer es0 t full answer w us s view =
-      answered us s.held s.fit t full answer (subst (λ (e : List (Option Digest)). IsFoundFor e t full answer) s.entries_are w) (subst (λ (e : List (Option Digest)). IsKnowledge H e known) s.entries_are view)
+      answered us s.held s.fit t full answer (subst (λ (e : List (Option Digest)). IsFoundFor e t full answer) s.entries_are w)
+      (subst (λ (e : List (Option Digest)). IsKnowledge H e known) s.entries_are view)
 
-  pub found_exact : (es0 : List (Option Digest)) (t : Targeted) (full : List Digest) (answer : Option TextClash) → IsFoundFor es0 t full answer → (us : History) → StandForHistory H es0 outputs us → answer ≡ clash_in H es0 outputs known ext m
+  pub found_exact : (es0 : List (Option Digest)) (t : Targeted) (full : List Digest) (answer : Option TextClash) → IsFoundFor es0 t full answer
+      → (us : History) → StandForHistory H es0 outputs us → answer ≡ clash_in H es0 outputs known ext m
   found_exact es0 t full answer w us s =
       subst (λ (e : List (Option Digest)). answer ≡ clash_in H e outputs known ext m) (sym s.entries_are)
       (which us s.held s.fit t full answer (subst (λ (e : List (Option Digest)). IsFoundFor e t full answer) s.entries_are w))
 
   -- as many leaves as targets
-  pub leaves_long : (n0 : ℕ) (t : Targeted) (ext0 : List Outside) (seen : List Leaf) → ext0 ≡ ext → AreNamed n0 m t → seen ≡ claims ext0 m → length seen ≡ length t.targets
-  leaves_long n0 t ext0 seen same a is = ap length (is ∙ ap (λ x. claims x m) same) ∙ (claims-long ext m count ∙ (sym count ∙ sym (targets_long n0 m t a)))
+  pub leaves_long : (n0 : ℕ) (t : Targeted) (ext0 : List Outside) (seen : List Leaf) → ext0 ≡ ext → AreNamed n0 m t → seen ≡ claims ext0 m
+      → length seen ≡ length t.targets
+  leaves_long n0 t ext0 seen same a is = ap length (is ∙ ap (λ x. claims x m) same)
+      ∙ (claims-long ext m count ∙ (sym count ∙ sym (targets_long n0 m t a)))
 
   -- where the targets or the hashes are refused
-  pub shape_refused : (es0 : List (Option Digest)) (n0 : ℕ) (fault : RuleFault) (why : Refusal) → n0 ≡ length es0 → TargetsJudged n0 m (Err fault) → fault ≡ Refused why → (roots : ℕ → Option Digest) → fault_over (length es0) roots ≢ None
+  pub shape_refused : (es0 : List (Option Digest)) (n0 : ℕ) (fault : RuleFault) (why : Refusal) → n0 ≡ length es0 → TargetsJudged n0 m (Err fault)
+      → fault ≡ Refused why → (roots : ℕ → Option Digest) → fault_over (length es0) roots ≢ None
   shape_refused es0 n0 fault why at h is roots =
-      no_shape H (length es0) ext m known roots why (subst (λ j. TargetsJudged j m (Err (Refused why))) at (subst (λ f. TargetsJudged n0 m (Err f)) is h))
+      no_shape H (length es0) ext m known roots why
+      (subst (λ j. TargetsJudged j m (Err (Refused why))) at (subst (λ f. TargetsJudged n0 m (Err f)) is h))
 
-  pub count_refused : (es0 : List (Option Digest)) (n0 : ℕ) (t : Targeted) (fault : RuleFault) (why : Refusal) → n0 ≡ length es0 → AreNamed n0 m t → HashesJudged m t known (Err fault) → fault ≡ Refused why → (roots : ℕ → Option Digest) → fault_over (length es0) roots ≢ None
+  pub count_refused : (es0 : List (Option Digest)) (n0 : ℕ) (t : Targeted) (fault : RuleFault) (why : Refusal) → n0 ≡ length es0 → AreNamed n0 m t
+      → HashesJudged m t known (Err fault) → fault ≡ Refused why → (roots : ℕ → Option Digest) → fault_over (length es0) roots ≢ None
   count_refused es0 n0 t fault why at a h is roots =
       no_count H (length es0) ext m known roots t why count (subst (λ j. AreNamed j m t) at a) (subst (λ f. HashesJudged m t known (Err f)) is h)

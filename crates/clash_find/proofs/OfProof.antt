@@ -23,13 +23,16 @@ use Rattle.clash_find.specs.Searched.{digests_of, AreFound, IsSearched}
 use Rattle.clash_find.proofs.Answering.{IsReady, accepts, differs, right, exact, some_found}
 
 -- the hashes of all needed places are those by their ranks
-pub all_shown : (H : List ℕ → Digest) (n : ℕ) (ts : List Place) (hs : List Digest) → length hs ≡ length (need n ts) → hs ≡ map (λ p. hash_of H n ts nothing_known hs p.row p.off) (need n ts)
+pub all_shown : (H : List ℕ → Digest) (n : ℕ) (ts : List Place) (hs : List Digest) → length hs ≡ length (need n ts)
+    → hs ≡ map (λ p. hash_of H n ts nothing_known hs p.row p.off) (need n ts)
 all_shown H n ts hs e =
     sym (map-id hs)
-    ∙ map_from (λ (d : Digest). d) (λ (p : Place). hash_of H n ts nothing_known hs p.row p.off) (H []) (need n ts) hs (distinct_from_ascending (need n ts) (need_ascending n ts)) e
+    ∙ map_from (λ (d : Digest). d) (λ (p : Place). hash_of H n ts nothing_known hs p.row p.off) (H []) (need n ts) hs
+    (distinct_from_ascending (need n ts) (need_ascending n ts)) e
     (λ r o i. ap (λ (ps : List Place). beside (H []) ps hs r o) (sym (asked_all n ts)))
 
-module _ (H : List ℕ → Digest) (long : (x : List ℕ) → IsDigest (H x)) (outputs : List Held) (ts : List Place) (rs : List Leaf) (hs : List Digest) where
+module _ (H : List ℕ → Digest) (long : (x : List ℕ) → IsDigest (H x)) (outputs : List Held) (ts : List Place) (rs : List Leaf)
+    (hs : List Digest) where
   abbrev AcceptedOver : List (Option Digest) → Type 0
   AcceptedOver es = IsAccepted H (length es) (root H es) ts nothing_known (digests_of H rs) hs
 
@@ -37,7 +40,8 @@ module _ (H : List ℕ → Digest) (long : (x : List ℕ) → IsDigest (H x)) (o
   other_count : (n : ℕ) (roots : ℕ → Option Digest) → length hs ≢ length (need n ts) → IsAccepted H n roots ts nothing_known (digests_of H rs) hs → ⊥
   other_count n roots other a = other (a.one_hash_each ∙ ap length (asked_all n ts))
 
-  pub count_answer : (es : List (Option Digest)) → length hs ≢ length (need (length es) ts) → (us : History) → StandForHistory H es outputs us → IsAnswerIn H us ts rs hs None
+  pub count_answer : (es : List (Option Digest)) → length hs ≢ length (need (length es) ts) → (us : History) → StandForHistory H es outputs us
+      → IsAnswerIn H us ts rs hs None
   count_answer es other us s a =
       let same : length us ≡ length es = sym (length-map us (option_map (λ (r : Leaf). H (leaf_text r)))) ∙ ap length (sym s.entries_are) in
       absurd (other_count (length us) (root H (entries H leaf_text us)) (subst (λ j. length hs ≢ length (need j ts)) (sym same) other) a)
@@ -52,7 +56,8 @@ module _ (H : List ℕ → Digest) (long : (x : List ℕ) → IsDigest (H x)) (o
     pub count : length hs ≡ length (need (length es) ts)
     pub searched : IsSearched H es outputs ts rs hs answer
 
-  module _ (us : History) (held : (i : ℕ) (l : Leaf) → slice_get us i ≡ Some (Some l) → leaf_at i outputs ≡ Some l) (fit : (i : ℕ) (l : Leaf) → slice_get us i ≡ Some (Some l) → LeafFits l)
+  module _ (us : History) (held : (i : ℕ) (l : Leaf) → slice_get us i ≡ Some (Some l) → leaf_at i outputs ≡ Some l) (fit : (i : ℕ) (l : Leaf)
+      → slice_get us i ≡ Some (Some l) → LeafFits l)
       (answer : Option TextClash) (w : IsFoundIn (entries H leaf_text us) answer) where
     abbrev es : List (Option Digest)
     es = entries H leaf_text us
@@ -84,7 +89,8 @@ module _ (H : List ℕ → Digest) (long : (x : List ℕ) → IsDigest (H x)) (o
     answered = by w.searched.agree answer w.searched.found
       where
         by : (b : Bool) (x : Option TextClash) → AreFound H es outputs rs w.searched.items b x → IsAnswerIn H us ts rs hs x
-        by false x f = subst (IsAnswerIn H us ts rs hs) (sym f.1) (λ a. absurd (differs H long us outputs held fit ts rs nothing_known hs w.searched.items ready f.0 (to_es a)))
+        by false x f = subst (IsAnswerIn H us ts rs hs) (sym f.1)
+            (λ a. absurd (differs H long us outputs held fit ts rs nothing_known hs w.searched.items ready f.0 (to_es a)))
         by true None f = λ a. right H long us outputs held fit ts rs nothing_known hs w.searched.items ready f.0 f.1
         by true (Some c) f =
             let s = some_found H long us outputs held fit ts rs nothing_known hs w.searched.items ready nothing_is_so c f.1 in (
@@ -106,15 +112,19 @@ module _ (H : List ℕ → Digest) (long : (x : List ℕ) → IsDigest (H x)) (o
           refused = λ no. absurd (no (accepts H long us outputs held fit ts rs nothing_known hs w.searched.items ready f.0));
         }
 
-  pub found_answer : (es0 : List (Option Digest)) (answer : Option TextClash) → IsFoundIn es0 answer → (us : History) → StandForHistory H es0 outputs us → IsAnswerIn H us ts rs hs answer
+  pub found_answer : (es0 : List (Option Digest)) (answer : Option TextClash) → IsFoundIn es0 answer → (us : History)
+      → StandForHistory H es0 outputs us → IsAnswerIn H us ts rs hs answer
   found_answer es0 answer w us s = answered us s.held s.fit answer (subst (λ (e : List (Option Digest)). IsFoundIn e answer) s.entries_are w)
 
-  pub found_exact : (es0 : List (Option Digest)) (answer : Option TextClash) → IsFoundIn es0 answer → (us : History) → StandForHistory H es0 outputs us → IsFirstPair H es0 outputs ts rs hs answer
+  pub found_exact : (es0 : List (Option Digest)) (answer : Option TextClash) → IsFoundIn es0 answer → (us : History)
+      → StandForHistory H es0 outputs us → IsFirstPair H es0 outputs ts rs hs answer
   found_exact es0 answer w us s =
-      subst (λ (e : List (Option Digest)). IsFirstPair H e outputs ts rs hs answer) (sym s.entries_are) (which us s.held s.fit answer (subst (λ (e : List (Option Digest)). IsFoundIn e answer) s.entries_are w))
+      subst (λ (e : List (Option Digest)). IsFirstPair H e outputs ts rs hs answer) (sym s.entries_are)
+      (which us s.held s.fit answer (subst (λ (e : List (Option Digest)). IsFoundIn e answer) s.entries_are w))
 
   -- by the names of the calls
-  pub found_so : (es0 : List (Option Digest)) (n0 : ℕ) (answer : Option TextClash) → n0 ≡ length es0 → HasShape n0 ts → length rs ≡ length ts → length hs ≡ length (need n0 ts) → IsSearched H es0 outputs ts rs hs answer → IsFoundIn es0 answer
+  pub found_so : (es0 : List (Option Digest)) (n0 : ℕ) (answer : Option TextClash) → n0 ≡ length es0 → HasShape n0 ts → length rs ≡ length ts
+      → length hs ≡ length (need n0 ts) → IsSearched H es0 outputs ts rs hs answer → IsFoundIn es0 answer
   found_so es0 n0 answer at shape each count searched = record {
     shape = subst (λ j. HasShape j ts) at shape;
     each_leaf = each;
@@ -122,5 +132,6 @@ module _ (H : List ℕ → Digest) (long : (x : List ℕ) → IsDigest (H x)) (o
     searched = searched;
   }
 
-  pub other_so : (es0 : List (Option Digest)) (n0 : ℕ) (needed : List Place) → n0 ≡ length es0 → needed ≡ need n0 ts → (length hs ≡ length needed → ⊥) → length hs ≢ length (need (length es0) ts)
+  pub other_so : (es0 : List (Option Digest)) (n0 : ℕ) (needed : List Place) → n0 ≡ length es0 → needed ≡ need n0 ts → (length hs ≡ length needed → ⊥)
+      → length hs ≢ length (need (length es0) ts)
   other_so es0 n0 needed at is other e = other (e ∙ sym (ap length is ∙ ap (λ j. length (need j ts)) at))

@@ -40,7 +40,8 @@ targets_refused n m (Why.Immature t i) h e = h
 targets_refused n m (Why.Overspend t) h e = h
 targets_refused n m (Why.Subsidy c a) h e = h
 
-hashes_refused : (m : Message) (t : Targeted) (known : ℕ → ℕ → Option Digest) (why : Refusal) → HashesJudged m t known (Err (Refused why)) → (want : ℕ) × (got : ℕ) × IsOtherCount m t known want got
+hashes_refused : (m : Message) (t : Targeted) (known : ℕ → ℕ → Option Digest) (why : Refusal) → HashesJudged m t known (Err (Refused why))
+    → (want : ℕ) × (got : ℕ) × IsOtherCount m t known want got
 hashes_refused m t known Why.Block h = absurd h
 hashes_refused m t known Why.Link h = absurd h
 hashes_refused m t known Why.MerkleRoot h = absurd h
@@ -87,7 +88,8 @@ module _ (H : List ℕ → Digest) (n : ℕ) (ext : List Outside) (m : Message) 
   pub no_shape : (why : Refusal) → TargetsJudged n m (Err (Refused why)) → proof_fault H leaf_text view (points_of ext) m ≢ None
   no_shape why h e = targets_refused n m why h (option_or-none (shape_fault n [] 0 (named n m)) _ e).0
 
-  pub no_count : (t : Targeted) (why : Refusal) → length m.proof.spends ≡ length ext → AreNamed n m t → HashesJudged m t known (Err (Refused why)) → proof_fault H leaf_text view (points_of ext) m ≢ None
+  pub no_count : (t : Targeted) (why : Refusal) → length m.proof.spends ≡ length ext → AreNamed n m t → HashesJudged m t known (Err (Refused why))
+      → proof_fault H leaf_text view (points_of ext) m ≢ None
   no_count t why count a h e =
       let w = hashes_refused m t known why h in
       let o = subst (λ (x : Targeted). IsOtherCount m x known w.0 w.1) (targets_are n m t a) w.2 in
@@ -99,5 +101,6 @@ module _ (H : List ℕ → Digest) (n : ℕ) (ext : List Outside) (m : Message) 
 pub targets_long : (n : ℕ) (m : Message) (t : Targeted) → AreNamed n m t → length t.targets ≡ length m.proof.spends
 targets_long n m t a = sym (length-map t.targets Some) ∙ (ap length (sym a.places) ∙ length-named n m)
 
-pub hashes_long : (H : List ℕ → Digest) (m : Message) (t : Targeted) (known : ℕ → ℕ → Option Digest) (hashes seen : List Digest) → seen ≡ hashes → AreHashes m t known hashes → length seen ≡ length (need t.leaves t.targets)
+pub hashes_long : (H : List ℕ → Digest) (m : Message) (t : Targeted) (known : ℕ → ℕ → Option Digest) (hashes seen : List Digest) → seen ≡ hashes
+    → AreHashes m t known hashes → length seen ≡ length (need t.leaves t.targets)
 hashes_long H m t known hashes seen same a = ap length (same ∙ a.hashes_are H) ∙ length-map (need t.leaves t.targets) _

@@ -50,9 +50,11 @@ abbrev pub view_over : (List ℕ → Digest) → History → (ℕ → ℕ → Op
 view_over H us known = record { n = length us; roots = root H (entries H leaf_text us); known = known }
 
 -- two different texts with one digest: a node's of the forest, and one that the message's proof digests
-pub record IsClash (H : List ℕ → Digest) (us : History) (known : ℕ → ℕ → Option Digest) (points : List Outpoint) (m : Message) (c : TextClash) : Type 0 where
+pub record IsClash (H : List ℕ → Digest) (us : History) (known : ℕ → ℕ → Option Digest) (points : List Outpoint) (m : Message) (c : TextClash) : Type
+    0 where
   pub of_forest : IsNodeText H leaf_text us c.first
-  pub of_proof : IsValueText H leaf_text (length us) (targets (length us) m) (known_to m.lean known) (claimed points (rests_of m.proof.spends)) m.proof.hashes c.second
+  pub of_proof : IsValueText H leaf_text (length us) (targets (length us) m) (known_to m.lean known) (claimed points (rests_of m.proof.spends))
+      m.proof.hashes c.second
   pub differ : c.first ≢ c.second
   pub first_is : H c.first ≡ c.digest
   pub second_is : H c.second ≡ c.digest
@@ -61,4 +63,5 @@ pub record IsClash (H : List ℕ → Digest) (us : History) (known : ℕ → ℕ
 abbrev pub IsAnswer : (List ℕ → Digest) → History → (ℕ → ℕ → Option Digest) → List Outpoint → Message → Option TextClash → Type 0
 IsAnswer H us known points m None = proof_fault H leaf_text (view_over H us known) points m ≡ None → is_right H leaf_text us known points m ≡ true
 IsAnswer H us known points m (Some c) =
-    (proof_fault H leaf_text (view_over H us known) points m ≡ None) × (is_right H leaf_text us known points m ≡ false) × IsClash H us known points m c
+    (proof_fault H leaf_text (view_over H us known) points m ≡ None) × (is_right H leaf_text us known points m ≡ false)
+    × IsClash H us known points m c

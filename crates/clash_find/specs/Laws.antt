@@ -18,7 +18,8 @@ use Rattle.clash_find.specs.Answers.{IsAnswer}
 -- where the steps before the proof pass, and what is taken to be known is what is known under a watch list, something is
 -- answered exactly where the event is forged
 abbrev pub FoundExactlyWhereForged : Type 0
-FoundExactlyWhereForged = (H : List ℕ → Digest) (us : History) (scripts : List (List ℕ)) (rules : Rules) (chain : Chain) (b : Block) (m : Message) (known : ℕ → ℕ → Option Digest) (answer : Option TextClash) →
+FoundExactlyWhereForged = (H : List ℕ → Digest) (us : History) (scripts : List (List ℕ)) (rules : Rules) (chain : Chain) (b : Block) (m : Message)
+    (known : ℕ → ℕ → Option Digest) (answer : Option TextClash) →
     first_of (block_steps rules.net rules.limits chain b ++ message_steps (external b chain.blocks) (read m)) ≡ None →
     ((row off : ℕ) → known row off ≡ known_at H leaf_text scripts us row off) →
     IsAnswer H us known (points_of (external b chain.blocks)) m answer →

@@ -18,13 +18,16 @@ digests_of H rs = map (λ r. H (leaf_text r)) rs
 
 -- the forest's digests at the covered roots are those that the proof comes to; or one is not
 abbrev pub DoRootsAgree : (List ℕ → Digest) → List (Option Digest) → List CoveredPlace → Bool → Type 0
-DoRootsAgree H es items true = (i : ℕ) (d : CoveredPlace) → i < length items → is_root (length es) (get_or items i d).place.row (get_or items i d).place.off ≡ true →
+DoRootsAgree H es items true = (i : ℕ) (d : CoveredPlace) → i < length items
+    → is_root (length es) (get_or items i d).place.row (get_or items i d).place.off ≡ true →
     digest_at H es (get_or items i d).place.row (get_or items i d).place.off ≡ Some (get_or items i d).digest
-DoRootsAgree H es items false = (i : ℕ) × (d : CoveredPlace) × (i < length items) × (is_root (length es) (get_or items i d).place.row (get_or items i d).place.off ≡ true) ×
+DoRootsAgree H es items false = (i : ℕ) × (d : CoveredPlace) × (i < length items)
+    × (is_root (length es) (get_or items i d).place.row (get_or items i d).place.off ≡ true) ×
     (digest_at H es (get_or items i d).place.row (get_or items i d).place.off ≢ Some (get_or items i d).digest)
 
 -- two texts at a covered place at which the two digests are equal
-pub record IsClashAt (H : List ℕ → Digest) (es : List (Option Digest)) (outputs : List Held) (rs : List Leaf) (item : CoveredPlace) (c : TextClash) : Type 0 where
+pub record IsClashAt (H : List ℕ → Digest) (es : List (Option Digest)) (outputs : List Held) (rs : List Leaf) (item : CoveredPlace)
+    (c : TextClash) : Type 0 where
   pub same : digest_at H es item.place.row item.place.off ≡ Some item.digest
   pub first : text_at H es outputs item.place.row item.place.off ≡ Some c.first
   pub second : c.second ≡ made_text rs item.made
@@ -35,7 +38,8 @@ pub record IsClashAt (H : List ℕ → Digest) (es : List (Option Digest)) (outp
 abbrev pub IsCompared : (List ℕ → Digest) → List (Option Digest) → List Held → List Leaf → CoveredPlace → Option TextClash → Type 0
 IsCompared H es outputs rs item (Some c) = IsClashAt H es outputs rs item c
 IsCompared H es outputs rs item None =
-    digest_at H es item.place.row item.place.off ≡ Some item.digest → (x : List ℕ) → text_at H es outputs item.place.row item.place.off ≡ Some x → (x ≡ made_text rs item.made) × AreDigests item.made
+    digest_at H es item.place.row item.place.off ≡ Some item.digest → (x : List ℕ) → text_at H es outputs item.place.row item.place.off ≡ Some x
+    → (x ≡ made_text rs item.made) × AreDigests item.made
 
 -- at the first of the places, or at none of them
 abbrev pub AreCompared : (List ℕ → Digest) → List (Option Digest) → List Held → List Leaf → List CoveredPlace → Option TextClash → Type 0
@@ -50,7 +54,8 @@ AreFound H es outputs rs items false answer = DoRootsAgree H es items false × (
 AreFound H es outputs rs items true answer = DoRootsAgree H es items true × AreCompared H es outputs rs items answer
 
 -- at what the proof of these targets comes to, with these leaves and the hashes of all needed places
-pub record IsSearched (H : List ℕ → Digest) (es : List (Option Digest)) (outputs : List Held) (ts : List Place) (rs : List Leaf) (full : List Digest) (answer : Option TextClash) : Type 0 where
+pub record IsSearched (H : List ℕ → Digest) (es : List (Option Digest)) (outputs : List Held) (ts : List Place) (rs : List Leaf) (full : List Digest)
+    (answer : Option TextClash) : Type 0 where
   pub fit : AllByRecursion LeafFits rs
   pub items : List CoveredPlace
   pub evaluated : AreEvaluatedAt H (length es) ts (digests_of H rs) full items

@@ -21,7 +21,8 @@ pub(crate) fn stands(found: Option<Digest>, digest: Digest) -> bool
 
 /// Whether the proof comes to the forest's digest at each root that is covered.
 pub(crate) fn roots_agree<D: Digester>(forest: &Forest<D>, items: &[CoveredPlace]) -> bool
-    requires { (i : ℕ) (d : Covered) → i < length items.now → InForest (length forest.now.entries) (get_or items.now i d).place.row (get_or items.now i d).place.off }
+    requires { (i : ℕ) (d : Covered) → i < length items.now
+        → InForest (length forest.now.entries) (get_or items.now i d).place.row (get_or items.now i d).place.off }
     ensures { DoRootsAgree D.digest_of forest.now.entries items.now result }
 {
     let n = forest.leaves();

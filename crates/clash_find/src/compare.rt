@@ -59,7 +59,8 @@ pub(crate) fn first_clash<D: Digester>(
     leaves: &[Record],
     items: &[CoveredPlace],
 ) -> Result<Option<Clash>, NoMemory>
-    requires within { (i : ℕ) (d : Covered) → i < length items.now → InForest (length forest.now.entries) (get_or items.now i d).place.row (get_or items.now i d).place.off }
+    requires within { (i : ℕ) (d : Covered) → i < length items.now
+        → InForest (length forest.now.entries) (get_or items.now i d).place.row (get_or items.now i d).place.off }
     requires targets { (i : ℕ) (d : Covered) → i < length items.now → IsWithin (length leaves.now) (get_or items.now i d).made }
     ensures { IfOk result (λ clash. AreCompared D.digest_of forest.now.entries outputs.now leaves.now items.now clash) }
 {

@@ -44,7 +44,7 @@ fn search<D: Digester, L: Ledger>(
     ensures { IfOk result (λ clash. IsSearched D.digest_of forest.now.entries outputs.now targets.now.targets leaves.now hashes.now clash) }
 {
     let digests = digests_of::<D, L>(alloc, leaves, steps)?;
-    let items = evaluate_covered::<D, L>(alloc, targets, &digests, hashes, steps)?;
+    let items = evaluate_covered::<D, L>(alloc, targets.survey(), &digests, hashes, steps)?;
     if !roots_agree(forest, &items) {
         return Ok(None);
     }
@@ -99,7 +99,8 @@ pub fn find<D: Digester, L: Ledger>(
     requires count { length message.now.proof.spends ≡ length spends.now.external }
     requires few { length message.now.proof.spends < 2 ^ 32 }
     requires ascends { AscendByPlace known.now }
-    ensures answer { IfOk result (λ clash. (us : History) → StandForHistory D.digest_of forest.now.entries outputs.now us → IsKnowledge D.digest_of forest.now.entries (look known.now) →
+    ensures answer { IfOk result (λ clash. (us : History) → StandForHistory D.digest_of forest.now.entries outputs.now us
+        → IsKnowledge D.digest_of forest.now.entries (look known.now) →
         IsAnswer D.digest_of us (look known.now) (points_of spends.now.external) message.now clash) }
 
     // Which it is.

@@ -1,12 +1,17 @@
 -- What is read out of words is what they mean.
-use Rattle.std.proofs.Common.{◌≡◌, ℕ, suc, ◌+◌, ◌-◌, ◌<◌, ◌≤◌, ◌^◌, Bool, true, false, List, [], ◌∷◌, ◌++◌, length, take, take_all, replicate, Option, Some, None, option_map, Result, Ok, Err, codes, decimal, bytes_eq, refl, sym, ap, subst, ◌∙◌, arith, if◌then◌else◌, length-append, append-nil, append_assoc}
+use Rattle.std.proofs.Common.{◌≡◌, ℕ, suc, ◌+◌, ◌-◌, ◌<◌, ◌≤◌, ◌^◌, Bool, true, false, List, [], ◌∷◌, ◌++◌, length, take, take_all, replicate, Option}
+use Rattle.std.proofs.Common.{Some, None, option_map, Result, Ok, Err, codes, decimal, bytes_eq, refl, sym, ap, subst, ◌∙◌, arith, if◌then◌else◌}
+use Rattle.std.proofs.Common.{length-append, append-nil, append_assoc}
 use Rattle.std.proofs.lemmas.Grind.{flat_map-append}
 use Rattle.std.specs.Cmp.Lexicographic.{same_text}
 use Rattle.command_words.specs.declared.words.WordFault.{WordFault}
 use Rattle.command_words.specs.Hashes.{is_hash_word}
 use Rattle.command_words.specs.Numbers.{number_in, positive_in}
 use Rattle.command_words.specs.Options.{Given, are_given, words_of, word_of, Settings, settings_of, needs}
-use Rattle.command_words.specs.Words.{Asked, Task, Following, Proving, Auditing, Generating, UpgradingFeed, UpgradingState, Ordering, Ticketing, Checking, Rechecking, Relaying, front_of, IsInRange, rule_of, options_of, is_enough, asked_by, Asks, Begins, Means, read_for, options_for, blocks_for, gen_for, upgrade_for, one_word_for, order_at, ticket_at, relay_at, command_of}
+use Rattle.command_words.specs.Words.{Asked, Task, Following, Proving, Auditing, Generating, UpgradingFeed, UpgradingState, Ordering, Ticketing}
+use Rattle.command_words.specs.Words.{Checking, Rechecking, Relaying, front_of, IsInRange, rule_of, options_of, is_enough, asked_by, Asks, Begins}
+use Rattle.command_words.specs.Words.{Means, read_for, options_for, blocks_for, gen_for, upgrade_for, one_word_for, order_at, ticket_at, relay_at}
+use Rattle.command_words.specs.Words.{command_of}
 use Rattle.command_words.proofs.NumberLaws.{number_is, number_again, positive_is, positive_again}
 use Rattle.command_words.proofs.OptionLaws.{Sound, sound, reads_all, from_named}
 
@@ -34,13 +39,15 @@ abbrev one_read : Option Task → List (List ℕ) → Result Asked WordFault
 one_read task words = needs task 1 (λ task. options_for task 2 words)
 
 -- behind the front of a command its options are read
-front_read : (task : Task) → IsInRange task → (words : List (List ℕ)) → command_of (front_of task ++ words) ≡ options_for task (length (front_of task)) words
+front_read : (task : Task) → IsInRange task → (words : List (List ℕ))
+    → command_of (front_of task ++ words) ≡ options_for task (length (front_of task)) words
 unfolding command_of gen_for blocks_for upgrade_for one_word_for
 front_read Following r words = refl
 front_read Proving r words = refl
 front_read Auditing r words = refl
 front_read (Generating number blocks) r words =
-    ap (λ x. needs x 1 (λ number. needs (number_in 100000 (decimal blocks)) 2 (λ blocks. options_for (Generating number blocks) 3 words))) (number_again (2 ^ 64 - 1) number (omega (arith, r.0)) r.0)
+    ap (λ x. needs x 1 (λ number. needs (number_in 100000 (decimal blocks)) 2 (λ blocks. options_for (Generating number blocks) 3 words)))
+    (number_again (2 ^ 64 - 1) number (omega (arith, r.0)) r.0)
     ∙ ap (λ x. needs x 2 (λ blocks. options_for (Generating number blocks) 3 words)) (number_again 100000 blocks r.1 (omega (arith, r.1)))
 front_read UpgradingFeed r words = refl
 front_read UpgradingState r words = refl
@@ -108,7 +115,8 @@ missing front b = record {
 }
 
 -- the word behind such a front is bad
-bad_word : (front : List (List ℕ)) (word : List ℕ) (rest : List (List ℕ)) → Begins front → ((more : List (List ℕ)) → command_of (front ++ word ∷ more) ≡ Err (record { at = length front }))
+bad_word : (front : List (List ℕ)) (word : List ℕ) (rest : List (List ℕ)) → Begins front
+    → ((more : List (List ℕ)) → command_of (front ++ word ∷ more) ≡ Err (record { at = length front }))
     → Stops (front ++ word ∷ rest) (record { at = length front })
 bad_word front word rest b bad = record {
   within = omega (arith, length-append front (word ∷ rest));
@@ -116,11 +124,13 @@ bad_word front word rest b bad = record {
   fails = fails;
 }
   where
-    fails : (j : ℕ) → length front < j → j ≤ length (front ++ word ∷ rest) → (more : List (List ℕ)) → command_of (take j (front ++ word ∷ rest) ++ more) ≡ Err (record { at = length front })
+    fails : (j : ℕ) → length front < j → j ≤ length (front ++ word ∷ rest) → (more : List (List ℕ))
+        → command_of (take j (front ++ word ∷ rest) ++ more) ≡ Err (record { at = length front })
     fails j above most more =
         let k = j - length front - 1 in
         let one : j - length front ≡ suc k = omega (arith, above) in
-        let cut : take j (front ++ word ∷ rest) ≡ front ++ word ∷ take k rest = take-within front (word ∷ rest) j (omega (arith, above)) ∙ ap (λ n. front ++ take n (word ∷ rest)) one in
+        let cut : take j (front ++ word ∷ rest) ≡ front ++ word ∷ take k rest = take-within front (word ∷ rest) j (omega (arith, above))
+        ∙ ap (λ n. front ++ take n (word ∷ rest)) one in
         ap (λ l. command_of (l ++ more)) cut ∙ ap command_of (append_assoc front (word ∷ take k rest) more) ∙ bad (take k rest ++ more)
 
 -- ---- words that are read as options
@@ -131,8 +141,13 @@ record IsCompleted (task : Task) (given : List Given) : Type 0 where
   fit : are_given (rule_of task) (options_of task) (given ++ extra) ≡ true
   enough : is_enough task (settings_of (given ++ extra)) ≡ true
 
-as_it_is : (task : Task) (given : List Given) → are_given (rule_of task) (options_of task) given ≡ true → ((s : Settings) → is_enough task s ≡ true) → IsCompleted task given
-as_it_is task given e all = record { extra = []; fit = subst (λ l. are_given (rule_of task) (options_of task) l ≡ true) (sym (append-nil given)) e; enough = all (settings_of (given ++ [])) }
+as_it_is : (task : Task) (given : List Given) → are_given (rule_of task) (options_of task) given ≡ true → ((s : Settings) → is_enough task s ≡ true)
+    → IsCompleted task given
+as_it_is task given e all = record {
+  extra = [];
+  fit = subst (λ l. are_given (rule_of task) (options_of task) l ≡ true) (sym (append-nil given)) e;
+  enough = all (settings_of (given ++ []));
+}
 
 completed : (task : Task) (given : List Given) → are_given (rule_of task) (options_of task) given ≡ true → IsCompleted task given
 completed Following given e = as_it_is Following given e (λ s. refl)
@@ -140,9 +155,11 @@ completed Proving given e = as_it_is Proving given e (λ s. refl)
 completed Auditing given e = as_it_is Auditing given e (λ s. refl)
 completed (Generating number blocks) given e = as_it_is (Generating number blocks) given e (λ s. refl)
 completed UpgradingFeed given e = as_it_is UpgradingFeed given e (λ s. refl)
-completed UpgradingState given e = let w = from_named (options_of UpgradingState) refl given e in record { extra = w.extra; fit = w.fit; enough = w.named }
+completed UpgradingState given e = let w = from_named (options_of UpgradingState) refl given e in
+    record { extra = w.extra; fit = w.fit; enough = w.named }
 completed (Ordering tip) given e = as_it_is (Ordering tip) given e (λ s. refl)
-completed (Ticketing number) given e = let w = from_named (options_of (Ticketing number)) refl given e in record { extra = w.extra; fit = w.fit; enough = w.named }
+completed (Ticketing number) given e = let w = from_named (options_of (Ticketing number)) refl given e in
+    record { extra = w.extra; fit = w.fit; enough = w.named }
 completed Checking given e = let w = from_named (options_of Checking) refl given e in record { extra = w.extra; fit = w.fit; enough = w.named }
 completed Rechecking given e = let w = from_named (options_of Rechecking) refl given e in record { extra = w.extra; fit = w.fit; enough = w.named }
 completed (Relaying followers) given e = as_it_is (Relaying followers) given e (λ s. refl)
@@ -155,23 +172,27 @@ module _ (task : Task) (in_range : IsInRange task) where
   at = length (front_of task)
 
   -- a front of the words, behind which options follow
-  begins_by : (front more : List (List ℕ)) (given : List Given) → are_given (rule_of task) (options_of task) given ≡ true → front ++ more ≡ words_of given → Begins (front_of task ++ front)
+  begins_by : (front more : List (List ℕ)) (given : List Given) → are_given (rule_of task) (options_of task) given ≡ true
+      → front ++ more ≡ words_of given → Begins (front_of task ++ front)
   begins_by front more given fit spelled =
       let c = completed task given fit in
       let whole : (front_of task ++ front) ++ (more ++ words_of c.extra) ≡ front_of task ++ words_of (given ++ c.extra) =
       append_assoc (front_of task) front (more ++ words_of c.extra)
-      ∙ ap (λ l. front_of task ++ l) (sym (append_assoc front more (words_of c.extra)) ∙ (ap (λ l. l ++ words_of c.extra) spelled ∙ sym (words_more given c.extra))) in
+      ∙ ap (λ l. front_of task ++ l) (sym (append_assoc front more (words_of c.extra))
+      ∙ (ap (λ l. l ++ words_of c.extra) spelled ∙ sym (words_more given c.extra))) in
       record {
         rest = more ++ words_of c.extra;
         asked = asked_by task (settings_of (given ++ c.extra));
         asks = record { task = task; in_range = in_range; given = given ++ c.extra; fit = c.fit; enough = c.enough; spelled = whole; is = refl };
       }
 
-  reads_by : (words : List (List ℕ)) (r : Result Settings WordFault) → Sound (rule_of task) (options_of task) [] at words r → Reads (front_of task ++ words) (read_for task (at + length words) r)
+  reads_by : (words : List (List ℕ)) (r : Result Settings WordFault) → Sound (rule_of task) (options_of task) [] at words r
+      → Reads (front_of task ++ words) (read_for task (at + length words) r)
   unfolding Reads
   reads_by words (Ok s) w = by (is_enough task s) refl
     where
-      by : (b : Bool) → is_enough task s ≡ b → Reads (front_of task ++ words) (if b then Ok (asked_by task s) else Err (record { at = at + length words }))
+      by : (b : Bool) → is_enough task s ≡ b → Reads (front_of task ++ words)
+          (if b then Ok (asked_by task s) else Err (record { at = at + length words }))
       by true enough = record {
         task = task;
         in_range = in_range;
@@ -194,11 +215,13 @@ module _ (task : Task) (in_range : IsInRange task) where
       cut : take fault.at (front_of task ++ words) ≡ front_of task ++ take w.n words
       cut = ap (λ k. take k (front_of task ++ words)) w.is ∙ take-front (front_of task) words w.n
 
-      fails : (j : ℕ) → fault.at < j → j ≤ length (front_of task ++ words) → (rest : List (List ℕ)) → command_of (take j (front_of task ++ words) ++ rest) ≡ Err fault
+      fails : (j : ℕ) → fault.at < j → j ≤ length (front_of task ++ words) → (rest : List (List ℕ))
+          → command_of (take j (front_of task ++ words) ++ rest) ≡ Err fault
       fails j above most rest =
           let k = j - at in
           let long = length-append (front_of task) words in
-          let shorter : take j (front_of task ++ words) ≡ front_of task ++ take k words = take-within (front_of task) words j (omega (arith, above, w.is)) in
+          let shorter : take j (front_of task ++ words) ≡ front_of task ++ take k words =
+          take-within (front_of task) words j (omega (arith, above, w.is)) in
           ap (λ l. command_of (l ++ rest)) shorter
           ∙ ap command_of (append_assoc (front_of task) (take k words) rest)
           ∙ front_read task in_range (take k words ++ rest)
@@ -216,7 +239,11 @@ begins_with task r = subst Begins (append-nil (front_of task)) (begins_by task r
 
 -- and what stands in front of its last words
 begins_shorter : (front more : List (List ℕ)) → Begins (front ++ more) → Begins front
-begins_shorter front more b = record { rest = more ++ b.rest; asked = b.asked; asks = subst (λ l. Asks l b.asked) (append_assoc front more b.rest) b.asks }
+begins_shorter front more b = record {
+  rest = more ++ b.rest;
+  asked = b.asked;
+  asks = subst (λ l. Asks l b.asked) (append_assoc front more b.rest) b.asks;
+}
 
 any_tip : List ℕ
 any_tip = replicate 64 48
@@ -232,7 +259,8 @@ begins_gen : Begins (codes "gen" ∷ [])
 begins_gen = begins_shorter (codes "gen" ∷ []) (decimal 0 ∷ decimal 0 ∷ []) (begins_with (Generating 0 0) (omega arith, omega arith))
 
 begins_number : (number : ℕ) → number < 2 ^ 64 → Begins (codes "gen" ∷ decimal number ∷ [])
-begins_number number small = begins_shorter (codes "gen" ∷ decimal number ∷ []) (decimal 0 ∷ []) (begins_with (Generating number 0) (small, omega arith))
+begins_number number small = begins_shorter (codes "gen" ∷ decimal number ∷ []) (decimal 0 ∷ [])
+    (begins_with (Generating number 0) (small, omega arith))
 
 begins_upgrade : Begins (codes "upgrade" ∷ [])
 begins_upgrade = begins_shorter (codes "upgrade" ∷ []) (codes "feed" ∷ []) (begins_with UpgradingFeed tt)
@@ -249,12 +277,14 @@ begins_relay = begins_shorter (codes "relay" ∷ []) (decimal 1 ∷ []) (begins_
 -- ---- the words of a command's own
 
 -- what is read behind a test
-by_test : (words : List (List ℕ)) (b : Bool) (x y : Result Asked WordFault) → (b ≡ true → Reads words x) → (b ≡ false → Reads words y) → Reads words (if b then x else y)
+by_test : (words : List (List ℕ)) (b : Bool) (x y : Result Asked WordFault) → (b ≡ true → Reads words x) → (b ≡ false → Reads words y)
+    → Reads words (if b then x else y)
 by_test words true x y first second = first refl
 by_test words false x y first second = second refl
 
 -- behind the same word the same is read
-renamed : (front : List (List ℕ)) (word name : List ℕ) (rest : List (List ℕ)) (r : Result Asked WordFault) → bytes_eq word name ≡ true → Reads (front ++ name ∷ rest) r → Reads (front ++ word ∷ rest) r
+renamed : (front : List (List ℕ)) (word name : List ℕ) (rest : List (List ℕ)) (r : Result Asked WordFault) → bytes_eq word name ≡ true
+    → Reads (front ++ name ∷ rest) r → Reads (front ++ word ∷ rest) r
 renamed front word name rest r same reads = subst (λ w. Reads (front ++ w ∷ rest) r) (sym (same_text _ _ (sym same))) reads
 
 module _ (number : ℕ) (small : number < 2 ^ 64) where
@@ -292,8 +322,10 @@ reads_upgrade : (words : List (List ℕ)) → Reads (codes "upgrade" ∷ words) 
 unfolding command_of upgrade_for Reads
 reads_upgrade [] = missing (codes "upgrade" ∷ []) begins_upgrade
 reads_upgrade (word ∷ rest) =
-    by_test _ (bytes_eq word (codes "feed")) _ _ (λ feed. renamed (codes "upgrade" ∷ []) word (codes "feed") rest _ feed (reads_options UpgradingFeed tt rest))
-    (λ no_feed. by_test _ (bytes_eq word (codes "state")) _ _ (λ state. renamed (codes "upgrade" ∷ []) word (codes "state") rest _ state (reads_options UpgradingState tt rest))
+    by_test _ (bytes_eq word (codes "feed")) _ _
+    (λ feed. renamed (codes "upgrade" ∷ []) word (codes "feed") rest _ feed (reads_options UpgradingFeed tt rest))
+    (λ no_feed. by_test _ (bytes_eq word (codes "state")) _ _
+    (λ state. renamed (codes "upgrade" ∷ []) word (codes "state") rest _ state (reads_options UpgradingState tt rest))
     (λ no_state. bad_word (codes "upgrade" ∷ []) word rest begins_upgrade (λ more. passed _ _ _ no_feed ∙ passed _ _ _ no_state)))
 
 one_task : (a b : Task) → Some a ≡ Some b → a ≡ b
@@ -301,7 +333,8 @@ one_task a b e = cc
 
 -- a command that has one word of its own
 module _ (name : List ℕ) (task_at : List ℕ → Option Task) (read : (words : List (List ℕ)) → command_of (name ∷ words) ≡ one_word_for task_at words)
-    (is : (word : List ℕ) (task : Task) → task_at word ≡ Some task → (front_of task ≡ name ∷ word ∷ []) × IsInRange task) (begins : Begins (name ∷ [])) where
+    (is : (word : List ℕ) (task : Task) → task_at word ≡ Some task → (front_of task ≡ name ∷ word ∷ []) × IsInRange task)
+    (begins : Begins (name ∷ [])) where
   reads_one : (words : List (List ℕ)) → Reads (name ∷ words) (one_word_for task_at words)
   unfolding one_word_for Reads
   reads_one [] = missing (name ∷ []) begins
@@ -316,18 +349,23 @@ module _ (name : List ℕ) (task_at : List ℕ → Option Task) (read : (words :
 order_is : (word : List ℕ) (task : Task) → order_at word ≡ Some task → (front_of task ≡ codes "order" ∷ word ∷ []) × IsInRange task
 order_is word task e = by (is_hash_word word) refl e
   where
-    by : (b : Bool) → is_hash_word word ≡ b → (if b then Some (Ordering word) else None) ≡ Some task → (front_of task ≡ codes "order" ∷ word ∷ []) × IsInRange task
+    by : (b : Bool) → is_hash_word word ≡ b → (if b then Some (Ordering word) else None) ≡ Some task → (front_of task ≡ codes "order" ∷ word ∷ [])
+        × IsInRange task
     by true hash e = subst (λ t. (front_of t ≡ codes "order" ∷ word ∷ []) × IsInRange t) (one_task _ _ e) (refl, hash)
     by false hash e = absurd cc
 
 ticket_is : (word : List ℕ) (task : Task) → ticket_at word ≡ Some task → (front_of task ≡ codes "ticket" ∷ word ∷ []) × IsInRange task
 ticket_is word task e = by (number_in (2 ^ 64 - 1) word) refl e
   where
-    by : (x : Option ℕ) → number_in (2 ^ 64 - 1) word ≡ x → option_map Ticketing x ≡ Some task → (front_of task ≡ codes "ticket" ∷ word ∷ []) × IsInRange task
+    by : (x : Option ℕ) → number_in (2 ^ 64 - 1) word ≡ x → option_map Ticketing x ≡ Some task → (front_of task ≡ codes "ticket" ∷ word ∷ [])
+        × IsInRange task
     by None number e = absurd cc
     by (Some n) number e =
         let is = number_is (2 ^ 64 - 1) word n number in
-        subst (λ t. (front_of t ≡ codes "ticket" ∷ word ∷ []) × IsInRange t) (one_task _ _ e) (ap (λ w. codes "ticket" ∷ w ∷ []) (sym is.0), omega (arith, is.1))
+        subst (λ t. (front_of t ≡ codes "ticket" ∷ word ∷ []) × IsInRange t) (one_task _ _ e) (
+          ap (λ w. codes "ticket" ∷ w ∷ []) (sym is.0),
+          omega (arith, is.1),
+        )
 
 relay_is : (word : List ℕ) (task : Task) → relay_at word ≡ Some task → (front_of task ≡ codes "relay" ∷ word ∷ []) × IsInRange task
 relay_is word task e = by (positive_in 100 word) refl e
@@ -361,11 +399,14 @@ reads (name ∷ rest) =
     (λ no_prove. by_test _ (bytes_eq name (codes "audit")) _ _ (λ e. renamed [] name (codes "audit") rest _ e (reads_options Auditing tt rest))
     (λ no_audit. by_test _ (bytes_eq name (codes "gen")) _ _ (λ e. renamed [] name (codes "gen") rest _ e (reads_gen rest))
     (λ no_gen. by_test _ (bytes_eq name (codes "upgrade")) _ _ (λ e. renamed [] name (codes "upgrade") rest _ e (reads_upgrade rest))
-    (λ no_upgrade. by_test _ (bytes_eq name (codes "order")) _ _ (λ e. renamed [] name (codes "order") rest _ e (reads_one (codes "order") order_at read_order order_is begins_order rest))
-    (λ no_order. by_test _ (bytes_eq name (codes "ticket")) _ _ (λ e. renamed [] name (codes "ticket") rest _ e (reads_one (codes "ticket") ticket_at read_ticket ticket_is begins_ticket rest))
+    (λ no_upgrade. by_test _ (bytes_eq name (codes "order")) _ _
+    (λ e. renamed [] name (codes "order") rest _ e (reads_one (codes "order") order_at read_order order_is begins_order rest))
+    (λ no_order. by_test _ (bytes_eq name (codes "ticket")) _ _ (λ e. renamed [] name (codes "ticket") rest _ e
+    (reads_one (codes "ticket") ticket_at read_ticket ticket_is begins_ticket rest))
     (λ no_ticket. by_test _ (bytes_eq name (codes "check")) _ _ (λ e. renamed [] name (codes "check") rest _ e (reads_options Checking tt rest))
     (λ no_check. by_test _ (bytes_eq name (codes "recheck")) _ _ (λ e. renamed [] name (codes "recheck") rest _ e (reads_options Rechecking tt rest))
-    (λ no_recheck. by_test _ (bytes_eq name (codes "relay")) _ _ (λ e. renamed [] name (codes "relay") rest _ e (reads_one (codes "relay") relay_at read_relay relay_is begins_relay rest))
+    (λ no_recheck. by_test _ (bytes_eq name (codes "relay")) _ _
+    (λ e. renamed [] name (codes "relay") rest _ e (reads_one (codes "relay") relay_at read_relay relay_is begins_relay rest))
     (λ no_relay. bad_word [] name rest begins_none (λ more.
     passed _ _ _ no_follow ∙ passed _ _ _ no_prove ∙ passed _ _ _ no_audit ∙ passed _ _ _ no_gen ∙ passed _ _ _ no_upgrade ∙ passed _ _ _ no_order
     ∙ passed _ _ _ no_ticket ∙ passed _ _ _ no_check ∙ passed _ _ _ no_recheck ∙ passed _ _ _ no_relay)))))))))))

@@ -1,5 +1,6 @@
 -- The words of the command line: which are accepted, what they ask for, and where others go wrong.
-use Rattle.std.specs.Prelude.{◌≡◌, ℕ, ◌+◌, ◌<◌, ◌≤◌, ◌-◌, ◌^◌, Bool, true, List, [], ◌∷◌, ◌++◌, length, take, Option, Some, None, Result, Ok, Err, codes, decimal, bytes_eq, is_some, option_map, option_copied, unwrap_or, if◌then◌else◌}
+use Rattle.std.specs.Prelude.{◌≡◌, ℕ, ◌+◌, ◌<◌, ◌≤◌, ◌-◌, ◌^◌, Bool, true, List, [], ◌∷◌, ◌++◌, length, take, Option, Some, None, Result, Ok, Err}
+use Rattle.std.specs.Prelude.{codes, decimal, bytes_eq, is_some, option_map, option_copied, unwrap_or, if◌then◌else◌}
 use Rattle.std.specs.List.{list_any}
 use Rattle.uo_base.specs.declared.event.Net.{Net}
 use Rattle.uo_base.specs.declared.event.Net.TheVariants.{Main}
@@ -8,7 +9,8 @@ use Rattle.command_words.specs.declared.options.OptionName.TheVariants as Name
 use Rattle.command_words.specs.declared.options.FromRule.{FromRule}
 use Rattle.command_words.specs.declared.options.FromRule.TheVariants.{Alone, Beside}
 use Rattle.command_words.specs.declared.words.Command.{Command}
-use Rattle.command_words.specs.declared.words.Command.TheVariants.{Follow, Prove, Audit, Gen, UpgradeFeed, UpgradeState, Order, Ticket, Check, Recheck, Relay}
+use Rattle.command_words.specs.declared.words.Command.TheVariants.{Follow, Prove, Audit, Gen, UpgradeFeed, UpgradeState, Order, Ticket, Check}
+use Rattle.command_words.specs.declared.words.Command.TheVariants.{Recheck, Relay}
 use Rattle.command_words.specs.declared.words.WordFault.{WordFault}
 use Rattle.command_words.specs.Hashes.{is_hash_word}
 use Rattle.command_words.specs.Numbers.{number_in, positive_in}
@@ -234,17 +236,28 @@ task_in (Recheck net from feed watch) = Rechecking
 task_in (Relay net followers feed from watch) = Relaying followers
 
 abbrev pub given_in : Command → Settings
-given_in (Follow net feed from to watch) = record { net = net; feed = option_copied feed; from = option_copied from; to = option_copied to; watch = option_copied watch }
-given_in (Prove net feed to watch) = record { net = Some net; feed = option_copied feed; from = None; to = option_copied to; watch = option_copied watch }
+given_in (Follow net feed from to watch) =
+    record { net = net; feed = option_copied feed; from = option_copied from; to = option_copied to; watch = option_copied watch }
+given_in (Prove net feed to watch) = record {
+  net = Some net;
+  feed = option_copied feed;
+  from = None;
+  to = option_copied to;
+  watch =
+      option_copied watch;
+}
 given_in (Audit net feed watch) = record { net = Some net; feed = option_copied feed; from = None; to = None; watch = option_copied watch }
 given_in (Gen net number blocks to) = record { net = Some net; feed = None; from = None; to = option_copied to; watch = None }
-given_in (UpgradeFeed net feed to watch) = record { net = Some net; feed = option_copied feed; from = None; to = option_copied to; watch = option_copied watch }
+given_in (UpgradeFeed net feed to watch) =
+    record { net = Some net; feed = option_copied feed; from = None; to = option_copied to; watch = option_copied watch }
 given_in (UpgradeState from to) = record { net = None; feed = None; from = Some from.now; to = option_copied to; watch = None }
 given_in (Order net tip feed to) = record { net = Some net; feed = option_copied feed; from = None; to = option_copied to; watch = None }
 given_in (Ticket number from to) = record { net = None; feed = None; from = Some from.now; to = option_copied to; watch = None }
 given_in (Check from feed) = record { net = None; feed = option_copied feed; from = Some from.now; to = None; watch = None }
-given_in (Recheck net from feed watch) = record { net = Some net; feed = option_copied feed; from = Some from.now; to = None; watch = option_copied watch }
-given_in (Relay net followers feed from watch) = record { net = Some net; feed = option_copied feed; from = option_copied from; to = None; watch = option_copied watch }
+given_in (Recheck net from feed watch) =
+    record { net = Some net; feed = option_copied feed; from = Some from.now; to = None; watch = option_copied watch }
+given_in (Relay net followers feed from watch) =
+    record { net = Some net; feed = option_copied feed; from = option_copied from; to = None; watch = option_copied watch }
 
 abbrev pub asked_in : Command → Asked
 asked_in command = record { task = task_in command; given = given_in command }

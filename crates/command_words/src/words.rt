@@ -2,7 +2,8 @@
 ghost use Rattle.std.specs.Prelude.{◌≡◌, ◌<◌, ◌^◌, map, length, All, IfOk};
 ghost use Rattle.std.specs.String.{string_bytes};
 ghost use Rattle.command_words.specs.Options.{settings_in};
-ghost use Rattle.command_words.specs.Words.{read_as, blocks_for, gen_for, upgrade_for, one_word_for, order_at, ticket_at, relay_at, Checking, Rechecking, options_for, command_of, reads_feed, task_in, given_in, Means};
+ghost use Rattle.command_words.specs.Words.{read_as, blocks_for, gen_for, upgrade_for, one_word_for, order_at, ticket_at, relay_at, Checking};
+ghost use Rattle.command_words.specs.Words.{Rechecking, options_for, command_of, reads_feed, task_in, given_in, Means};
 
 use crate::hashes::is_hash_word;
 use crate::numbers::{number_in, positive_in};

@@ -1,5 +1,6 @@
 -- The changes of a deletion as one list.
-use Rattle.std.proofs.Common.{◌≡◌, ℕ, zero, suc, ◌+◌, ◌-◌, ◌*◌, ◌/◌, ◌^◌, ◌<◌, Bool, true, false, ◌&&◌, ◌||◌, List, [], ◌∷◌, map, length, get_or, Option, Some, None, is_some, refl, sym, ap, ◌∙◌, ⊎_elim, lt-ltb, eq-eqb, arith}
+use Rattle.std.proofs.Common.{◌≡◌, ℕ, zero, suc, ◌+◌, ◌-◌, ◌*◌, ◌/◌, ◌^◌, ◌<◌, Bool, true, false, ◌&&◌, ◌||◌, List, [], ◌∷◌, map, length, get_or}
+use Rattle.std.proofs.Common.{Option, Some, None, is_some, refl, sym, ap, ◌∙◌, ⊎_elim, lt-ltb, eq-eqb, arith}
 use Rattle.std.specs.Bool.{OnFalse}
 use Rattle.std.specs.Prelude.{not, option_map, filter_map, option_and_then, nat_lt, ◌==◌, Contains, All}
 use Rattle.std.proofs.lemmas.Bool.{cases_Bool, false≢true, false_from_ne_true, and_parts, and_from, or_left, or_right}
@@ -40,10 +41,12 @@ before_from : (p q : Place) → IsBefore p q → is_before_place p q ≡ true
 before_from p q h =
     ⊎_elim
     (λ lt. or_left (nat_lt p.row q.row) ((p.row == q.row) && nat_lt p.off q.off) (lt-ltb p.row q.row lt))
-    (λ e. or_right (nat_lt p.row q.row) ((p.row == q.row) && nat_lt p.off q.off) (and_from (p.row == q.row) (nat_lt p.off q.off) (eq-eqb p.row q.row e.0) (lt-ltb p.off q.off e.1)))
+    (λ e. or_right (nat_lt p.row q.row) ((p.row == q.row) && nat_lt p.off q.off)
+    (and_from (p.row == q.row) (nat_lt p.off q.off) (eq-eqb p.row q.row e.0) (lt-ltb p.off q.off e.1)))
     h
 
-find_had : (xs : List (Place × Digest)) (k : Place) (v : Place × Digest) → find is_same_place held_key k xs ≡ Some v → has_place (map (λ x. x.0) xs) k.row k.off ≡ true
+find_had : (xs : List (Place × Digest)) (k : Place) (v : Place × Digest) → find is_same_place held_key k xs ≡ Some v
+    → has_place (map (λ x. x.0) xs) k.row k.off ≡ true
 find_had [] k v e = absurd (none-some v e)
 find_had (x ∷ xs) k v e =
     ⊎_elim
@@ -61,7 +64,8 @@ contained xs a q d c = at xs a c.0 c.1 c.2
   where
     is_found : (xs : List (Place × Digest)) (k : ℕ) → k < length xs → get_or xs k (q, d) ≡ (q, d) → is_some (look xs q.row q.off) ≡ true
     is_found [] k lt e = absurd (omega arith)
-    is_found (x ∷ xs) zero lt e = let t : is_at q.row q.off x.0 ≡ true = ap (λ (z : Place × Digest). is_at q.row q.off z.0) e ∙ is_at-same q.row q.off in rw t refl
+    is_found (x ∷ xs) zero lt e = let t : is_at q.row q.off x.0 ≡ true = ap (λ (z : Place × Digest). is_at q.row q.off z.0) e
+        ∙ is_at-same q.row q.off in rw t refl
     is_found (x ∷ xs) (suc k) lt e =
         let rest = is_found xs k (omega (arith, lt)) e in
         ⊎_elim (λ t. rw t refl) (λ t. rw t rest) (cases_Bool (is_at q.row q.off x.0))
@@ -73,21 +77,25 @@ contained xs a q d c = at xs a c.0 c.1 c.2
         rw t (ap (λ (z : Place × Digest). Some z.1) e)
     at (x ∷ xs) a (suc k) lt e =
         let w = some_from_test (look xs q.row q.off) (is_found xs k (omega (arith, lt)) e) in
-        let f : find is_same_place held_key q xs ≡ Some (q, w.0) = find_is q xs ∙ ap (λ (o : Option Digest). option_map (λ (y : Digest). (q, y)) o) w.1 in
+        let f : find is_same_place held_key q xs ≡ Some (q, w.0) =
+        find_is q xs ∙ ap (λ (o : Option Digest). option_map (λ (y : Digest). (q, y)) o) w.1 in
         let apart : is_same_place x.0 q ≡ false = place_order.apart x.0 q (a.0 q (q, w.0) f) in
-        let other : is_at q.row q.off x.0 ≡ false = false_from_ne_true _ (λ t. false≢true (sym apart ∙ (ap (λ p. is_same_place p q) (same_from_is_at q.row q.off x.0 t) ∙ is_at-same q.row q.off))) in
+        let other : is_at q.row q.off x.0 ≡ false = false_from_ne_true _
+        (λ t. false≢true (sym apart ∙ (ap (λ p. is_same_place p q) (same_from_is_at q.row q.off x.0 t) ∙ is_at-same q.row q.off))) in
         rw other (at xs a.1 k (omega (arith, lt)) e)
 
 -- ---- the list of changes
 
 all_had : (P : Place → Type 0) (xs : List Place) → ((r o : ℕ) → has_place xs r o ≡ true → P (place r o)) → All P xs
 all_had P [] h = All-nil P
-all_had P (x ∷ xs) h = All-cons P x xs (h x.row x.off (or_left (is_at x.row x.off x) (has_place xs x.row x.off) (is_at-same x.row x.off))) (all_had P xs (λ r o i. h r o (or_right (is_at r o x) (has_place xs r o) i)))
+all_had P (x ∷ xs) h = All-cons P x xs (h x.row x.off (or_left (is_at x.row x.off x) (has_place xs x.row x.off) (is_at-same x.row x.off)))
+    (all_had P xs (λ r o i. h r o (or_right (is_at r o x) (has_place xs r o) i)))
 
 left_parts : (m : Option Place) (d : Option Digest) (x : Place × Digest) → left_at m d ≡ Some x → (m ≡ Some x.0) × (d ≡ Some x.1)
 left_parts None d x e = absurd (none-some x e)
 left_parts (Some q) None x e = absurd (none-some x e)
-left_parts (Some q) (Some d) x e = let same = same_Some (q, d) x e in (ap (λ (y : Place × Digest). Some y.0) same, ap (λ (y : Place × Digest). Some y.1) same)
+left_parts (Some q) (Some d) x e = let same = same_Some (q, d) x e in
+    (ap (λ (y : Place × Digest). Some y.0) same, ap (λ (y : Place × Digest). Some y.1) same)
 
 not_from_false : (b : Bool) → b ≡ false → not b ≡ true
 not_from_false true e = absurd (false≢true (sym e))
@@ -145,10 +153,12 @@ module _ (H : List ℕ → Digest) (n : ℕ) (ts : List Place) (hashes : List Di
       (λ r o d e. absurd (none-some d e)) r o d e
 
   -- and where one goes, one is listed
-  has_left : (r o : ℕ) (q : Place) (d : Digest) → InForest n r o → is_some (cover ts r o) ≡ true → has_place ts r o ≡ false → left (place r o) ≡ Some (q, d) → is_some (look (changes_of H n ts hashes) q.row q.off) ≡ true
+  has_left : (r o : ℕ) (q : Place) (d : Digest) → InForest n r o → is_some (cover ts r o) ≡ true → has_place ts r o ≡ false
+      → left (place r o) ≡ Some (q, d) → is_some (look (changes_of H n ts hashes) q.row q.off) ≡ true
   unfolding changes_of
   has_left r o q d h c t e =
-      let here = filter_has test (places n) r o (places_have n r o h) (and_from (is_some (cover ts r o)) (not (has_place ts r o)) c (not_from_false (has_place ts r o) t)) in
+      let here = filter_has test (places n) r o (places_have n r o h)
+      (and_from (is_some (cover ts r o)) (not (has_place ts r o)) c (not_from_false (has_place ts r o) t)) in
       put_all_each (filter_map left (above_targets n ts)) [] tt q.row q.off (look_has left (above_targets n ts) r o q d here e)
 
   has_change : (q : Place) (d : Digest) → IsChange H n ts hashes q d → is_some (look (changes_of H n ts hashes) q.row q.off) ≡ true
@@ -165,7 +175,8 @@ module _ (H : List ℕ → Digest) (n : ℕ) (ts : List Place) (hashes : List Di
   pub changes_are : (pairs : List (Place × Digest)) → AreChanges H n ts hashes pairs → pairs ≡ changes_of H n ts hashes
   changes_are pairs are =
       let a = ascends pairs are.ascending in
-      let back : (r o : ℕ) (d : Digest) → look (changes_of H n ts hashes) r o ≡ Some d → look pairs r o ≡ Some d = λ r o d e. contained pairs a (place r o) d (are.all (place r o) d (listed r o d e)) in
+      let back : (r o : ℕ) (d : Digest) → look (changes_of H n ts hashes) r o ≡ Some d → look pairs r o ≡ Some d =
+      λ r o d e. contained pairs a (place r o) d (are.all (place r o) d (listed r o d e)) in
       same_look pairs (changes_of H n ts hashes) a table
       (λ r o. same_options (look pairs r o) (look (changes_of H n ts hashes) r o)
       (λ d e.
@@ -182,16 +193,20 @@ module _ (H : List ℕ → Digest) (n : ℕ) (ts : List Place) (hashes : List Di
       (put_all_in (λ x. is_within n x.0 ≡ true) (filter_map left (above_targets n ts)) []
       (passed IsAbove (λ x. is_within n x.0 ≡ true) left
       (λ p x a e. let change = is_change p x a e in
-      lt-ltb x.0.off (n / 2 ^ x.0.row) (goes_within n ts (n - change.place.row) change.place.row change.place.off x.0 refl change.within change.goes).1)
+      lt-ltb x.0.off (n / 2 ^ x.0.row) (goes_within n ts (n - change.place.row) change.place.row change.place.off x.0 refl change.within
+      change.goes).1)
       (above_targets n ts) all_above)
       (All-nil (λ (x : Place × Digest). is_within n x.0 ≡ true)))
 
   -- so by them as much is left of what is held
-  pub left_held : (pairs : List (Place × Digest)) → AreChanges H n ts hashes pairs → (ks : List Kept) (hs : List (Place × Digest)) → held_deleted n ts (pairs_within n pairs) (leaf_places (moved_leaves n ts ks)) hs ≡ held_without H n ts hashes ks hs
-  left_held pairs are ks hs = ap (λ ps. held_deleted n ts ps (leaf_places (moved_leaves n ts ks)) hs) (ap (pairs_within n) (changes_are pairs are) ∙ within_all)
+  pub left_held : (pairs : List (Place × Digest)) → AreChanges H n ts hashes pairs → (ks : List Kept) (hs : List (Place × Digest))
+      → held_deleted n ts (pairs_within n pairs) (leaf_places (moved_leaves n ts ks)) hs ≡ held_without H n ts hashes ks hs
+  left_held pairs are ks hs = ap (λ ps. held_deleted n ts ps (leaf_places (moved_leaves n ts ks)) hs)
+      (ap (pairs_within n) (changes_are pairs are) ∙ within_all)
 
   -- where they are not told, nothing is held
-  pub told_held : (tells : Bool) (pairs : List (Place × Digest)) → AreTold tells H n ts hashes pairs → (ks : List Kept) (hs : List (Place × Digest)) → OnFalse tells ((ks ≡ []) × (hs ≡ [])) →
+  pub told_held : (tells : Bool) (pairs : List (Place × Digest)) → AreTold tells H n ts hashes pairs → (ks : List Kept) (hs : List (Place × Digest))
+      → OnFalse tells ((ks ≡ []) × (hs ≡ [])) →
       held_deleted n ts (pairs_within n pairs) (leaf_places (moved_leaves n ts ks)) hs ≡ held_without H n ts hashes ks hs
   told_held true pairs are ks hs idle = left_held pairs are ks hs
   told_held false pairs none ks hs idle =
@@ -200,7 +215,8 @@ module _ (H : List ℕ → Digest) (n : ℕ) (ts : List Place) (hashes : List Di
 -- ---- of right hashes they are what the cache needs
 
 module _ (H : List ℕ → Digest) (es : List (Option Digest)) (ts : List Place) (numbers : List ℕ) (hashes : List Digest) (at : StandAt es ts numbers)
-    (right : (r o : ℕ) → InForest (length es) r o → is_needed (length es) ts (place r o) ≡ true → Some (hash_of H (length es) ts nothing_known hashes r o) ≡ digest_at H es r o) where
+    (right : (r o : ℕ) → InForest (length es) r o → is_needed (length es) ts (place r o) ≡ true
+    → Some (hash_of H (length es) ts nothing_known hashes r o) ≡ digest_at H es r o) where
   stays : (r o : ℕ) (q : Place) → InForest (length es) r o → moved (length es) ts r o ≡ Some q → is_gone ts r o ≡ false
   stays r o q h m = false_from_ne_true _ (λ g. none-some q (sym (moved-is_gone (length es) ts r o h g) ∙ m))
 
@@ -208,7 +224,8 @@ module _ (H : List ℕ → Digest) (es : List (Option Digest)) (ts : List Place)
   target_gone zero o t = t
   target_gone (suc r) o t = ap (λ b. b || (is_gone ts r (2 * o) && is_gone ts r (2 * o + 1))) t
 
-  pair_of : (x : Place × Digest) → IsChange H (length es) ts hashes x.0 x.1 → IsPairOf H (length es) ts (hash_of H (length es) ts nothing_known hashes) x
+  pair_of : (x : Place × Digest) → IsChange H (length es) ts hashes x.0 x.1
+      → IsPairOf H (length es) ts (hash_of H (length es) ts nothing_known hashes) x
   pair_of x c = record {
     row = c.place.row;
     off = c.place.off;
@@ -223,8 +240,10 @@ module _ (H : List ℕ → Digest) (es : List (Option Digest)) (ts : List Place)
   pairs_are : HasPairs H (length es) ts (hash_of H (length es) ts nothing_known hashes) (changes_of H (length es) ts hashes)
   unfolding changes_of
   pairs_are = record {
-    only = put_all_in (IsPairOf H (length es) ts (hash_of H (length es) ts nothing_known hashes)) (filter_map (left H (length es) ts hashes) (above_targets (length es) ts)) []
-        (passed (IsAbove H (length es) ts hashes) (IsPairOf H (length es) ts (hash_of H (length es) ts nothing_known hashes)) (left H (length es) ts hashes)
+    only = put_all_in (IsPairOf H (length es) ts (hash_of H (length es) ts nothing_known hashes))
+        (filter_map (left H (length es) ts hashes) (above_targets (length es) ts)) []
+        (passed (IsAbove H (length es) ts hashes) (IsPairOf H (length es) ts (hash_of H (length es) ts nothing_known hashes))
+        (left H (length es) ts hashes)
         (λ p x a e. pair_of x (is_change H (length es) ts hashes p x a e)) (above_targets (length es) ts) (all_above H (length es) ts hashes))
         (All-nil (IsPairOf H (length es) ts (hash_of H (length es) ts nothing_known hashes)));
     each = λ r o c q h e m.
@@ -232,7 +251,8 @@ module _ (H : List ℕ → Digest) (es : List (Option Digest)) (ts : List Place)
         let w = pair_right H es ts numbers at (hash_of H (length es) ts nothing_known hashes) right r o c h e gone in
         has_left H (length es) ts hashes r o q w.digest h (ap is_some e) (false_from_ne_true _ (λ t. false≢true (sym gone ∙ target_gone r o t)))
         (ap (λ x. left_at x (option_and_then (digest_without H (hash_of H (length es) ts nothing_known hashes)) (cover ts r o))) m
-        ∙ ap (λ (x : Option Digest). left_at (Some q) x) (ap (option_and_then (digest_without H (hash_of H (length es) ts nothing_known hashes))) e ∙ w.evaluation));
+        ∙ ap (λ (x : Option Digest). left_at (Some q) x) (ap (option_and_then (digest_without H (hash_of H (length es) ts nothing_known hashes))) e
+        ∙ w.evaluation));
   }
 
   pub changes_serve : ArePairs H (length es) ts (entries_without numbers es) (changes_of H (length es) ts hashes)

@@ -1,5 +1,6 @@
 -- What was judged of a message: what it claims, the check of its proof, and what is deleted.
-use Rattle.std.proofs.Common.{◌≡◌, ◌≢◌, ℕ, ◌+◌, ◌*◌, ◌≤◌, Bool, true, false, List, [], ◌∷◌, ◌++◌, map, length, Option, Some, None, Err, refl, sym, ap, ap₂, ◌∙◌, subst, arith}
+use Rattle.std.proofs.Common.{◌≡◌, ◌≢◌, ℕ, ◌+◌, ◌*◌, ◌≤◌, Bool, true, false, List, [], ◌∷◌, ◌++◌, map, length, Option, Some, None, Err, refl, sym, ap}
+use Rattle.std.proofs.Common.{ap₂, ◌∙◌, subst, arith}
 use Rattle.std.specs.Prelude.{filter, option_map}
 use Rattle.std.specs.Option.{option_or}
 use Rattle.std.proofs.lemmas.List.{length-map}
@@ -58,7 +59,8 @@ somes-map (x ∷ xs) = ap (λ ys. x ∷ ys) (somes-map xs)
 -- the targets are those of the message
 pub targets_are : (n : ℕ) (m : Message) (t : Targeted) → AreNamed n m t → t ≡ record { leaves = n; targets = targets n m }
 targets_are n m t a =
-    ap₂ (λ (k : ℕ) (ps : List Place). let x : Targeted = record { leaves = k; targets = ps } in x) a.leaves (sym (somes-map t.targets) ∙ ap somes (sym a.places))
+    ap₂ (λ (k : ℕ) (ps : List Place). let x : Targeted = record { leaves = k; targets = ps } in
+    x) a.leaves (sym (somes-map t.targets) ∙ ap somes (sym a.places))
 
 named_all : (n : ℕ) (m : Message) (t : Targeted) → AreNamed n m t → named n m ≡ map Some (targets n m)
 named_all n m t a = a.places ∙ ap (map Some) (sym (somes-map t.targets) ∙ ap somes (sym a.places))
@@ -112,7 +114,8 @@ module _ (H : List ℕ → Digest) (text : Leaf → List ℕ) (v : View) (ext : 
     other_count : (want got : ℕ) → IsOtherCount m t v.known want got → fault ≡ Some (Fault.HashCount want got)
     other_count want got o =
         let e = targets_are v.n m t judged in
-        let wanted : want ≡ length (asked v.n (targets v.n m) (known_to m.lean v.known)) = o.want_is ∙ ap (λ (x : Targeted). length (asked x.leaves x.targets (known_to m.lean v.known))) e in
+        let wanted : want ≡ length (asked v.n (targets v.n m) (known_to m.lean v.known)) =
+        o.want_is ∙ ap (λ (x : Targeted). length (asked x.leaves x.targets (known_to m.lean v.known))) e in
         count_told H text v (points_of ext) m judged.passes (λ same. o.differ (o.got_is ∙ (same ∙ sym wanted)))
         ∙ ap₂ (λ a b. Some (Fault.HashCount a b)) (sym wanted) (sym o.got_is)
 
@@ -145,7 +148,8 @@ module _ (H : List ℕ → Digest) (text : Leaf → List ℕ) (v : View) (ext : 
 
 -- ---- the check of the proof of a message that was read, over roots and held digests
 
-module _ (H : List ℕ → Digest) (text : Leaf → List ℕ) (f : Stump) (hs : List (Place × Digest)) (ext : List Outside) (m : Message) (t : Targeted) (leaves hashes : List Digest) where
+module _ (H : List ℕ → Digest) (text : Leaf → List ℕ) (f : Stump) (hs : List (Place × Digest)) (ext : List Outside) (m : Message) (t : Targeted)
+    (leaves hashes : List Digest) where
   abbrev v : View
   v = view_by f hs
 
@@ -164,7 +168,9 @@ module _ (H : List ℕ → Digest) (text : Leaf → List ℕ) (f : Stump) (hs : 
     same_targets = targets_are f.leaves m t c.named
 
     read_hashes : hashes ≡ hashes_over H v m
-    read_hashes = c.filled.hashes_are H ∙ ap (λ (x : Targeted). map (λ q. hash_of H x.leaves x.targets (known_to m.lean v.known) p.hashes q.row q.off) (need x.leaves x.targets)) same_targets
+    read_hashes = c.filled.hashes_are H ∙ ap
+        (λ (x : Targeted). map (λ q. hash_of H x.leaves x.targets (known_to m.lean v.known) p.hashes q.row q.off) (need x.leaves x.targets))
+        same_targets
 
     same_leaves : leaves ≡ leaves_of H text (points_of ext) full
     same_leaves = c.leaves_are
@@ -172,7 +178,8 @@ module _ (H : List ℕ → Digest) (text : Leaf → List ℕ) (f : Stump) (hs : 
     read_count : length t.targets ≡ length ext
     read_count =
         sym (length-map t.targets Some)
-        ∙ (ap length (sym c.named.places) ∙ (length-map (targets_of p.spends) (place_by m.naming f.leaves) ∙ (length-map p.spends (λ s. s.target) ∙ c.count)))
+        ∙ (ap length (sym c.named.places) ∙ (length-map (targets_of p.spends) (place_by m.naming f.leaves)
+        ∙ (length-map p.spends (λ s. s.target) ∙ c.count)))
 
     read_leaves : length leaves ≡ length t.targets
     read_leaves = ap length same_leaves ∙ (leaves-long H text ext full c.count ∙ sym read_count)
@@ -185,7 +192,8 @@ module _ (H : List ℕ → Digest) (text : Leaf → List ℕ) (f : Stump) (hs : 
     all_asked = ap length (filter-all (need f.leaves ts))
 
     -- a fault of the proof is that of the message
-    full_fault : (fault : ProofFault) → IsProofFault H f ts leaves hashes fault → proof_fault H text v (points_of ext) full ≡ Some (proof_refusal fault)
+    full_fault : (fault : ProofFault) → IsProofFault H f ts leaves hashes fault
+        → proof_fault H text v (points_of ext) full ≡ Some (proof_refusal fault)
     full_fault (Found.HashCount want got) (wanted, given, other) =
         let w : length (asked f.leaves ts nothing_known) ≡ want = all_asked ∙ sym wanted in
         count_told H text v (points_of ext) full c.named.passes (λ e. other (given ∙ (e ∙ w)))
@@ -194,16 +202,19 @@ module _ (H : List ℕ → Digest) (text : Leaf → List ℕ) (f : Stump) (hs : 
         empty_told H text v (points_of ext) full c.named.passes row (count ∙ sym all_asked) greatest
     full_fault (Found.RootDiffers row had computed) (count, never, greatest, was, is) =
         other_told H text v (points_of ext) full c.named.passes row (count ∙ sym all_asked) never
-        (subst (λ xs. IsGreatest f.leaves ts (λ row c. root_in f row ≢ Some (evaluation H f.leaves ts nothing_known xs hashes c)) row) same_leaves greatest)
+        (subst (λ xs. IsGreatest f.leaves ts (λ row c. root_in f row ≢ Some (evaluation H f.leaves ts nothing_known xs hashes c)) row) same_leaves
+        greatest)
 
-    read_fault : (fault : ProofFault) → IsProofFault H f t.targets leaves hashes fault → proof_fault H text v (points_of ext) m ≡ Some (proof_refusal fault)
+    read_fault : (fault : ProofFault) → IsProofFault H f t.targets leaves hashes fault
+        → proof_fault H text v (points_of ext) m ≡ Some (proof_refusal fault)
     read_fault fault is = serves ∙ full_fault fault (subst (λ (x : Targeted). IsProofFault H f x.targets leaves hashes fault) same_targets is)
 
     read_passes : IsAccepted H f.leaves (root_in f) t.targets nothing_known leaves hashes → proof_fault H text v (points_of ext) m ≡ None
     read_passes a =
         serves
         ∙ passes H text v (points_of ext) full
-        (subst (λ xs. IsAccepted H f.leaves (root_in f) ts nothing_known xs hashes) same_leaves (subst (λ (x : Targeted). IsAccepted H f.leaves (root_in f) x.targets nothing_known leaves hashes) same_targets a))
+        (subst (λ xs. IsAccepted H f.leaves (root_in f) ts nothing_known xs hashes) same_leaves
+        (subst (λ (x : Targeted). IsAccepted H f.leaves (root_in f) x.targets nothing_known leaves hashes) same_targets a))
         (named_all f.leaves m t c.named)
 
 -- ---- of whatever was handed in
@@ -217,15 +228,19 @@ alone x why e = ap (λ z. option_or z None) e
 -- nothing is wrong with a proof of nothing
 nothing_wrong : (H : List ℕ → Digest) (f : Stump) (fault : ProofFault) → IsProofFault H f [] [] [] fault → ⊥
 nothing_wrong H f (Found.HashCount want got) (wanted, given, other) = other (given ∙ sym (wanted ∙ ap length (need-none f.leaves)))
-nothing_wrong H f (Found.EmptyRoot row) (count, greatest) = none-some greatest.beneath (sym (cover-none row (root_off f.leaves row)) ∙ greatest.covered)
-nothing_wrong H f (Found.RootDiffers row had computed) (count, never, greatest, was, is) = none-some greatest.beneath (sym (cover-none row (root_off f.leaves row)) ∙ greatest.covered)
+nothing_wrong H f (Found.EmptyRoot row) (count, greatest) =
+    none-some greatest.beneath (sym (cover-none row (root_off f.leaves row)) ∙ greatest.covered)
+nothing_wrong H f (Found.RootDiffers row had computed) (count, never, greatest, was, is) =
+    none-some greatest.beneath (sym (cover-none row (root_off f.leaves row)) ∙ greatest.covered)
 
 -- the steps on the message pass, and this is left of the roots
-pub record IsTaken (H : List ℕ → Digest) (text : Leaf → List ℕ) (v : View) (f : Stump) (ext : List Outside) (handed : Handed) (g : Stump) : Type 0 where
+pub record IsTaken (H : List ℕ → Digest) (text : Leaf → List ℕ) (v : View) (f : Stump) (ext : List Outside) (handed : Handed) (g : Stump) : Type
+    0 where
   pub passes : first_of (steps_over H text v ext handed) ≡ None
   pub roots : g ≡ without H f (places_spent f.leaves handed) (hashes_spent H v handed)
 
-module _ (H : List ℕ → Digest) (text : Leaf → List ℕ) (f : Stump) (hs : List (Place × Digest)) (ext : List Outside) (found : List FoundOutput) (t : Targeted) (leaves hashes : List Digest) where
+module _ (H : List ℕ → Digest) (text : Leaf → List ℕ) (f : Stump) (hs : List (Place × Digest)) (ext : List Outside) (found : List FoundOutput)
+    (t : Targeted) (leaves hashes : List Digest) where
   abbrev view : View
   view = view_by f hs
 
@@ -243,8 +258,10 @@ module _ (H : List ℕ → Digest) (text : Leaf → List ℕ) (f : Stump) (hs : 
   claim_hashes (read m) c = read_hashes H text f hs ext m t leaves hashes c.claims
 
   -- what holds of the targets and the hashes of a claim holds of what is spent
-  pub claim_is : (handed : Handed) → IsClaimed handed → (X : List Place → List Digest → Type 0) → X t.targets hashes → X (places_spent f.leaves handed) (hashes_spent H view handed)
-  claim_is handed c X x = subst (λ ys. X (places_spent f.leaves handed) ys) (claim_hashes handed c) (subst (λ (y : Targeted). X y.targets hashes) (claim_targets handed c) x)
+  pub claim_is : (handed : Handed) → IsClaimed handed → (X : List Place → List Digest → Type 0) → X t.targets hashes
+      → X (places_spent f.leaves handed) (hashes_spent H view handed)
+  claim_is handed c X x = subst (λ ys. X (places_spent f.leaves handed) ys) (claim_hashes handed c)
+      (subst (λ (y : Targeted). X y.targets hashes) (claim_targets handed c) x)
 
   pub claim_leaves : (handed : Handed) → IsClaimed handed → length leaves ≡ length t.targets
   claim_leaves nothing c = ap length c.claims.1 ∙ sym (ap (λ (x : Targeted). length x.targets) c.claims.0)
@@ -257,16 +274,20 @@ module _ (H : List ℕ → Digest) (text : Leaf → List ℕ) (f : Stump) (hs : 
   claim_few (read m) c = let e = read_count H text f hs ext m t leaves hashes c.claims in omega (arith, e)
 
   -- a fault of the proof is the first step that fails
-  pub claim_refused : (handed : Handed) → IsClaimed handed → (fault : ProofFault) → IsProofFault H f t.targets leaves hashes fault → first_of (steps_over H text view ext handed) ≡ Some (Why.Proof (proof_refusal fault))
+  pub claim_refused : (handed : Handed) → IsClaimed handed → (fault : ProofFault) → IsProofFault H f t.targets leaves hashes fault
+      → first_of (steps_over H text view ext handed) ≡ Some (Why.Proof (proof_refusal fault))
   claim_refused nothing c fault is =
       absurd (nothing_wrong H f fault
-      (subst (λ xs. IsProofFault H f [] [] xs fault) c.claims.2 (subst (λ xs. IsProofFault H f [] xs hashes fault) c.claims.1 (subst (λ (x : Targeted). IsProofFault H f x.targets leaves hashes fault) c.claims.0 is))))
+      (subst (λ xs. IsProofFault H f [] [] xs fault) c.claims.2 (subst (λ xs. IsProofFault H f [] xs hashes fault) c.claims.1
+      (subst (λ (x : Targeted). IsProofFault H f x.targets leaves hashes fault) c.claims.0 is))))
   claim_refused (unread why) c fault is = absurd c.claims
   claim_refused (read m) c fault is =
       first-append (message_steps ext (read m)) (view_step H text view ext (read m)) c.passes
-      ∙ alone (view_step H text view ext (read m)) (Why.Proof (proof_refusal fault)) (ap (option_map Why.Proof) (read_fault H text f hs ext m t leaves hashes c.claims fault is))
+      ∙ alone (view_step H text view ext (read m)) (Why.Proof (proof_refusal fault))
+      (ap (option_map Why.Proof) (read_fault H text f hs ext m t leaves hashes c.claims fault is))
 
-  claim_passes : (handed : Handed) → IsClaimed handed → IsAccepted H f.leaves (root_in f) t.targets nothing_known leaves hashes → first_of (steps_over H text view ext handed) ≡ None
+  claim_passes : (handed : Handed) → IsClaimed handed → IsAccepted H f.leaves (root_in f) t.targets nothing_known leaves hashes
+      → first_of (steps_over H text view ext handed) ≡ None
   claim_passes nothing c a = first-append (message_steps ext nothing) (view_step H text view ext nothing) c.passes
   claim_passes (unread why) c a = absurd c.claims
   claim_passes (read m) c a =
@@ -274,26 +295,33 @@ module _ (H : List ℕ → Digest) (text : Leaf → List ℕ) (f : Stump) (hs : 
       ∙ ap (λ z. option_or z None) (ap (option_map Why.Proof) (read_passes H text f hs ext m t leaves hashes c.claims a))
 
   -- an accepted proof deletes what was handed in
-  pub claim_taken : (handed : Handed) → IsClaimed handed → (tells : Bool) (pairs : List (Place × Digest)) (g : Stump) → IsStump f → IsStump g → IsDeleted tells H f t.targets leaves hashes pairs g → IsTaken H text view f ext handed g
+  pub claim_taken : (handed : Handed) → IsClaimed handed → (tells : Bool) (pairs : List (Place × Digest)) (g : Stump) → IsStump f → IsStump g
+      → IsDeleted tells H f t.targets leaves hashes pairs g → IsTaken H text view f ext handed g
   claim_taken handed c tells pairs g s u d = record {
     passes = claim_passes handed c d.accepted;
-    roots = is_without H f (places_spent f.leaves handed) (hashes_spent H view handed) g s u (claim_is handed c (λ xs ys. AreRootsAfter H f xs ys g) d.roots);
+    roots = is_without H f (places_spent f.leaves handed) (hashes_spent H view handed) g s u
+        (claim_is handed c (λ xs ys. AreRootsAfter H f xs ys g) d.roots);
   }
 
   -- a step for each leaf, and two a row
-  pub claim_steps : (handed : Handed) → IsClaimed handed → (start before after : ℕ) → before ≤ start + length ext → after ≤ before + 2 * (length t.targets * rows t.leaves) →
+  pub claim_steps : (handed : Handed) → IsClaimed handed → (start before after : ℕ) → before ≤ start + length ext
+      → after ≤ before + 2 * (length t.targets * rows t.leaves) →
       after ≤ start + length ext + 2 * (length ext * rows f.leaves)
   claim_steps handed c start before after le more =
       let n : t.leaves ≡ f.leaves = ap (λ (x : Targeted). x.leaves) (claim_targets handed c) in
       let same : length t.targets * rows t.leaves ≡ length t.targets * rows f.leaves = ap (λ k. length t.targets * rows k) n in
-      let less : length t.targets * rows f.leaves ≤ length ext * rows f.leaves = mul-le (length t.targets) (rows f.leaves) (length ext) (rows f.leaves) (claim_few handed c) (let z : rows f.leaves ≤ rows f.leaves = omega arith in z) in
+      let less : length t.targets * rows f.leaves ≤ length ext * rows f.leaves =
+      mul-le (length t.targets) (rows f.leaves) (length ext) (rows f.leaves) (claim_few handed c) (let z : rows f.leaves ≤ rows f.leaves =
+      omega arith in z) in
       omega (arith, le, more, same, less)
 
 -- ---- what claims are refused for
 
 -- or that on its proof
-proof_first : (H : List ℕ → Digest) (text : Leaf → List ℕ) (v : View) (ext : List Outside) (bytes : Option (List ℕ)) (m : Message) (fault : RuleFault) → IsMessageRead ext bytes (Some m) →
-    IsFirst (option_map Why.Proof (proof_fault H text v (points_of ext) m)) fault → IsFirst (first_of (steps_over H text v ext (handed_in bytes))) fault
+proof_first : (H : List ℕ → Digest) (text : Leaf → List ℕ) (v : View) (ext : List Outside) (bytes : Option (List ℕ)) (m : Message) (fault : RuleFault)
+    → IsMessageRead ext bytes (Some m) →
+    IsFirst (option_map Why.Proof (proof_fault H text v (points_of ext) m)) fault
+    → IsFirst (first_of (steps_over H text v ext (handed_in bytes))) fault
 proof_first H text v ext bytes m fault judged e =
     first-behind (message_steps ext (handed_in bytes)) (view_step H text v ext (handed_in bytes) ∷ []) fault judged.passes
     (only (view_step H text v ext (handed_in bytes)) fault (subst (λ h. IsFirst (view_step H text v ext h) fault) (sym judged.is) e))
@@ -302,9 +330,12 @@ proof_first H text v ext bytes m fault judged e =
     only x (Refused why) e = ap (λ z. option_or z None) e
     only x NoMemory e = tt
 
-pub proof_errs : {T : Type 0} (H : List ℕ → Digest) (text : Leaf → List ℕ) (v : View) (ext ext' : List Outside) (bytes : Option (List ℕ)) (message : Option Message) (m : Message) (result : Result T RuleFault) →
-    IsMessageRead ext bytes message → message ≡ Some m → ext' ≡ ext → IfErr result (λ fault. IsFirst (option_map Why.Proof (proof_fault H text v (points_of ext') m)) fault) →
+pub proof_errs : {T : Type 0} (H : List ℕ → Digest) (text : Leaf → List ℕ) (v : View) (ext ext' : List Outside) (bytes : Option (List ℕ))
+    (message : Option Message) (m : Message) (result : Result T RuleFault) →
+    IsMessageRead ext bytes message → message ≡ Some m → ext' ≡ ext
+    → IfErr result (λ fault. IsFirst (option_map Why.Proof (proof_fault H text v (points_of ext') m)) fault) →
     IfErr result (λ fault. IsFirst (first_of (steps_over H text v ext (handed_in bytes))) fault)
 proof_errs H text v ext ext' bytes message m (Ok x) judged is same e = tt
 proof_errs H text v ext ext' bytes message m (Err fault) judged is same e =
-    proof_first H text v ext bytes m fault (subst (λ x. IsMessageRead ext bytes x) is judged) (subst (λ x. IsFirst (option_map Why.Proof (proof_fault H text v (points_of x) m)) fault) same e)
+    proof_first H text v ext bytes m fault (subst (λ x. IsMessageRead ext bytes x) is judged)
+    (subst (λ x. IsFirst (option_map Why.Proof (proof_fault H text v (points_of x) m)) fault) same e)

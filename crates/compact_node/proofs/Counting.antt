@@ -1,5 +1,6 @@
 -- What a verdict tells of the levels, and how many older ones there are.
-use Rattle.std.proofs.Common.{◌≡◌, ℕ, zero, suc, ◌+◌, ◌-◌, ◌≤◌, Bool, true, false, List, [], ◌∷◌, length, drop, Option, Some, None, refl, ap, ◌∙◌, subst, sym, arith}
+use Rattle.std.proofs.Common.{◌≡◌, ℕ, zero, suc, ◌+◌, ◌-◌, ◌≤◌, Bool, true, false, List, [], ◌∷◌, length, drop, Option, Some, None, refl, ap, ◌∙◌}
+use Rattle.std.proofs.Common.{subst, sym, arith}
 use Rattle.std.specs.Prelude.{nat_le, Result, Ok, Err, IfOk, OnOk}
 use Rattle.std.proofs.lemmas.Bool.{leb-true, leb-false}
 use Rattle.std.proofs.lemmas.List.{length-take}
@@ -25,12 +26,14 @@ module _ (rules : Rules) (scripts : List (List ℕ)) where
   back-kept (suc k) l [] h = absurd (omega (arith, h))
   back-kept (suc k) l (m ∷ ls) h = let e = back-kept k m ls (omega (arith, h)) in omega (arith, e)
 
-  back-drops : (k : ℕ) (l : LevelState) (ls : List LevelState) → k ≤ length ls → let s = back_from rules scripts k l ls in s.newest ∷ s.older ≡ drop k (l ∷ ls)
+  back-drops : (k : ℕ) (l : LevelState) (ls : List LevelState) → k ≤ length ls → let s = back_from rules scripts k l ls in
+      s.newest ∷ s.older ≡ drop k (l ∷ ls)
   back-drops zero l ls h = refl
   back-drops (suc k) l [] h = absurd (omega (arith, h))
   back-drops (suc k) l (m ∷ ls) h = back-drops k m ls (omega (arith, h))
 
-  back-blocks : (k : ℕ) (l : LevelState) (ls : List LevelState) → k ≤ length ls → AreOlder rules l.chain ls → (back_from rules scripts k l ls).newest.chain.blocks + k ≡ l.chain.blocks
+  back-blocks : (k : ℕ) (l : LevelState) (ls : List LevelState) → k ≤ length ls → AreOlder rules l.chain ls
+      → (back_from rules scripts k l ls).newest.chain.blocks + k ≡ l.chain.blocks
   back-blocks zero l ls h are = omega arith
   back-blocks (suc k) l [] h are = absurd (omega (arith, h))
   back-blocks (suc k) l (m ∷ ls) h are = let e = back-blocks k m ls (omega (arith, h)) are.3 in omega (arith, e, are.0)
@@ -43,17 +46,20 @@ module _ (H : List ℕ → Digest) (text : Leaf → List ℕ) where
   next_kept s (BlockCame (Some b) handed) = by (refusal_on H text s b handed)
     where
       by : (x : Option Refusal) →
-          length (node_by x (node_with H text s b handed) s).older ≡ kept_after (Some (verdict_by s.newest.chain b (length (new_records b s.newest.chain.blocks)) x)) (length s.older)
+          length (node_by x (node_with H text s b handed) s).older
+          ≡ kept_after (Some (verdict_by s.newest.chain b (length (new_records b s.newest.chain.blocks)) x)) (length s.older)
       by None = length-take 100 (s.newest ∷ s.older)
       by (Some why) = refl
   next_kept s (RollbackCame k) = by_test (nat_le k (length s.older)) refl
     where
-      by_test : (t : Bool) → nat_le k (length s.older) ≡ t → length (next_node H text s (RollbackCame k)).older ≡ kept_after (Some (verdict_on H text s (RollbackCame k))) (length s.older)
+      by_test : (t : Bool) → nat_le k (length s.older) ≡ t
+          → length (next_node H text s (RollbackCame k)).older ≡ kept_after (Some (verdict_on H text s (RollbackCame k))) (length s.older)
       by_test true e = rw e (back-kept s.rules s.scripts k s.newest s.older (leb-true k (length s.older) e))
       by_test false e = rw e refl
   next_kept s StrayCame = refl
 
-  pub kept_throughout : (s : NodeState) (events : List ChainEvent) → length (node_after H text s events).older ≡ kept_by (verdicts_on H text s events) (length s.older)
+  pub kept_throughout : (s : NodeState) (events : List ChainEvent)
+      → length (node_after H text s events).older ≡ kept_by (verdicts_on H text s events) (length s.older)
   kept_throughout s [] = refl
   kept_throughout s (e ∷ es) = kept_throughout (next_node H text s e) es ∙ ap (kept_by (verdicts_on H text (next_node H text s e) es)) (next_kept s e)
 
@@ -61,7 +67,8 @@ module _ (H : List ℕ → Digest) (text : Leaf → List ℕ) where
   levels_told s (BlockCame None handed) is = (refl, refl)
   levels_told s (BlockCame (Some b) handed) is = by (refusal_on H text s b handed)
     where
-      by : (x : Option Refusal) → LevelsTold s (verdict_by s.newest.chain b (length (new_records b s.newest.chain.blocks)) x) (node_by x (node_with H text s b handed) s)
+      by : (x : Option Refusal) → LevelsTold s (verdict_by s.newest.chain b (length (new_records b s.newest.chain.blocks)) x)
+          (node_by x (node_with H text s b handed) s)
       by None = (refl, refl, refl)
       by (Some why) = (refl, refl)
   levels_told s (RollbackCame k) is = by_test (nat_le k (length s.older)) refl
@@ -69,12 +76,21 @@ module _ (H : List ℕ → Digest) (text : Leaf → List ℕ) where
       by_test : (t : Bool) → nat_le k (length s.older) ≡ t → LevelsTold s (verdict_on H text s (RollbackCame k)) (next_node H text s (RollbackCame k))
       by_test true e =
           let few = leb-true k (length s.older) e in
-          rw e (few, back-drops s.rules s.scripts k s.newest s.older few, back-blocks s.rules s.scripts k s.newest s.older few is.older, refl, refl, refl)
+          rw e (
+            few,
+            back-drops s.rules s.scripts k s.newest s.older few,
+            back-blocks s.rules s.scripts k s.newest s.older few is.older,
+            refl,
+            refl,
+            refl,
+          )
       by_test false e = let many = leb-false k (length s.older) e in rw e (refl, many, refl)
   levels_told s StrayCame is = refl
 
 -- what holds of the verdict on each event and of what is kept then holds of what a step answers and leaves. The equation only names the event
-pub stepped : {E : Type 0} (H : List ℕ → Digest) (text : Leaf → List ℕ) (P : Verdict → NodeState → Type 0) (s s' : NodeState) (event : Event) (e : ChainEvent) (result : Result Verdict E) → event_in (event_of event) ≡ e →
-    ((x : ChainEvent) → P (verdict_on H text s x) (next_node H text s x)) → IfOk result (λ v. v ≡ verdict_on H text s e) → OnOk result (s' ≡ next_node H text s e) → IfOk result (λ v. P v s')
+pub stepped : {E : Type 0} (H : List ℕ → Digest) (text : Leaf → List ℕ) (P : Verdict → NodeState → Type 0) (s s' : NodeState) (event : Event)
+    (e : ChainEvent) (result : Result Verdict E) → event_in (event_of event) ≡ e →
+    ((x : ChainEvent) → P (verdict_on H text s x) (next_node H text s x)) → IfOk result (λ v. v ≡ verdict_on H text s e)
+    → OnOk result (s' ≡ next_node H text s e) → IfOk result (λ v. P v s')
 stepped H text P s s' event e (Ok v) same p said next = subst (λ x. P x s') (sym said) (subst (P (verdict_on H text s e)) (sym next) (p e))
 stepped H text P s s' event e (Err fault) same p said next = tt

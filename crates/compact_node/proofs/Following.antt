@@ -14,9 +14,11 @@ use Rattle.compact_node.specs.Throughout.{node_after}
 use Rattle.compact_node.specs.Following.{SaysAsProving}
 use Rattle.compact_node.proofs.Throughout.{fresh_is_full}
 
-pub fresh_follows_proving : (H : List ℕ → Digest) (text : Leaf → List ℕ) (net : Net) (limits : Limits) (scripts : List (List ℕ)) → limits.leaves < 2 ^ 40 → limits.bytes ≤ 2 ^ 48 →
+pub fresh_follows_proving : (H : List ℕ → Digest) (text : Leaf → List ℕ) (net : Net) (limits : Limits) (scripts : List (List ℕ))
+    → limits.leaves < 2 ^ 40 → limits.bytes ≤ 2 ^ 48 →
     let rules : Rules = record { net = net; limits = limits } in
-    (watch : Option (List (List ℕ))) → Serves watch scripts → (events : List ChainEvent) → SaysAsProving H text watch rules (fresh_node net limits scripts) events
+    (watch : Option (List (List ℕ))) → Serves watch scripts → (events : List ChainEvent)
+    → SaysAsProving H text watch rules (fresh_node net limits scripts) events
 fresh_follows_proving H text net limits scripts few short watch serves events =
     let rules : Rules = record { net = net; limits = limits } in
     let s = fresh_node net limits scripts in

@@ -1,5 +1,6 @@
 -- The roots, the lists and the mark while a block adds its outputs.
-use Rattle.std.proofs.Common.{◌≡◌, ℕ, zero, suc, ◌+◌, ◌*◌, ◌<◌, ◌≤◌, ◌^◌, Bool, true, false, cond, List, [], ◌∷◌, ◌++◌, map, length, take, drop, Option, Some, None, is_some, refl, sym, ap, ap₂, ◌∙◌, arith}
+use Rattle.std.proofs.Common.{◌≡◌, ℕ, zero, suc, ◌+◌, ◌*◌, ◌<◌, ◌≤◌, ◌^◌, Bool, true, false, cond, List, [], ◌∷◌, ◌++◌, map, length, take, drop}
+use Rattle.std.proofs.Common.{Option, Some, None, is_some, refl, sym, ap, ap₂, ◌∙◌, arith}
 use Rattle.std.specs.Prelude.{slice_get, count_by, count_ones}
 use Rattle.std.proofs.lemmas.List.{length-map, take_all}
 use Rattle.std.proofs.lemmas.List.Sums.{sum_by-append}
@@ -26,7 +27,8 @@ use Rattle.compact_node.proofs.Taking.{IsAppending, appending_begins, appended_o
 
 -- ---- lists whose head is taken off
 
-dropped : {X : Type 0} (xs : List X) (i : ℕ) (x : X) (ys : List X) → x ∷ ys ≡ drop i xs → (slice_get xs i ≡ Some x) × (ys ≡ drop (i + 1) xs) × (i < length xs)
+dropped : {X : Type 0} (xs : List X) (i : ℕ) (x : X) (ys : List X) → x ∷ ys ≡ drop i xs → (slice_get xs i ≡ Some x) × (ys ≡ drop (i + 1) xs)
+    × (i < length xs)
 dropped [] zero x ys e = absurd (let z = ap length e in omega (arith, z))
 dropped [] (suc i) x ys e = absurd (let z = ap length e in omega (arith, z))
 dropped (z ∷ xs) zero x ys e = (ap Some (sym (head_of e)), tail_of e, omega arith)
@@ -36,7 +38,8 @@ dropped (z ∷ xs) zero x ys e = (ap Some (sym (head_of e)), tail_of e, omega ar
 
     tail_of : x ∷ ys ≡ z ∷ xs → ys ≡ xs
     tail_of f = cc
-dropped (z ∷ xs) (suc i) x ys e = let w = dropped xs i x ys e in (w.0, w.1 ∙ ap (λ k. drop k (z ∷ xs)) (let n : suc (i + 1) ≡ suc i + 1 = omega arith in n), omega (arith, w.2))
+dropped (z ∷ xs) (suc i) x ys e = let w = dropped xs i x ys e in
+    (w.0, w.1 ∙ ap (λ k. drop k (z ∷ xs)) (let n : suc (i + 1) ≡ suc i + 1 = omega arith in n), omega (arith, w.2))
 
 pub empty : {X : Type 0} (xs : List X) → length xs ≡ 0 → xs ≡ []
 empty [] e = refl
@@ -66,11 +69,15 @@ count_one None h = absurd (let z : false ≡ true = h in cc)
 -- ---- one output more
 
 module _ (H : List ℕ → Digest) (text : Leaf → List ℕ) (scripts : List (List ℕ)) where
-  kept_more : (f : Stump) (xs : List Leaf) (x : Leaf) (ks : List Kept) → kept_with_all H text scripts f (xs ++ x ∷ []) ks ≡ kept_with H text scripts (with_leaves H f (map (λ leaf. H (text leaf)) xs)) x (kept_with_all H text scripts f xs ks)
+  kept_more : (f : Stump) (xs : List Leaf) (x : Leaf) (ks : List Kept)
+      → kept_with_all H text scripts f (xs ++ x ∷ []) ks ≡ kept_with H text scripts (with_leaves H f (map (λ leaf. H (text leaf)) xs)) x
+      (kept_with_all H text scripts f xs ks)
   kept_more f [] x ks = refl
   kept_more f (y ∷ ys) x ks = kept_more (with_leaf H f (H (text y))) ys x (kept_with H text scripts f y ks)
 
-  held_more : (f : Stump) (xs : List Leaf) (x : Leaf) (hs : List (Place × Digest)) → held_with_all H text scripts f (xs ++ x ∷ []) hs ≡ held_with H text scripts (with_leaves H f (map (λ leaf. H (text leaf)) xs)) x (held_with_all H text scripts f xs hs)
+  held_more : (f : Stump) (xs : List Leaf) (x : Leaf) (hs : List (Place × Digest))
+      → held_with_all H text scripts f (xs ++ x ∷ []) hs ≡ held_with H text scripts (with_leaves H f (map (λ leaf. H (text leaf)) xs)) x
+      (held_with_all H text scripts f xs hs)
   held_more f [] x hs = refl
   held_more f (y ∷ ys) x hs = held_more (with_leaf H f (H (text y))) ys x (held_with H text scripts f y hs)
 
@@ -86,7 +93,9 @@ goes_on m m' m'' p p' p'' a b = record {
 
 -- ---- after i outputs: left are those that come, where they are watched
 
-pub record IsGrowing (H : List ℕ → Digest) (text : Leaf → List ℕ) (scripts : List (List ℕ)) (f : Stump) (p : Parted) (m : Mark) (start : ℕ) (new : List Leaf) (i : ℕ) (left : List (Option Leaf)) (roots : Stump) (now : Parted) (watch : List (List ℕ)) (mark : Mark) (steps : ℕ) : Type 0 where
+pub record IsGrowing (H : List ℕ → Digest) (text : Leaf → List ℕ) (scripts : List (List ℕ)) (f : Stump) (p : Parted) (m : Mark) (start : ℕ)
+    (new : List Leaf) (i : ℕ) (left : List (Option Leaf)) (roots : Stump) (now : Parted) (watch : List (List ℕ)) (mark : Mark) (steps : ℕ) : Type
+    0 where
   pub appending : IsAppending H text f start new i roots steps
   pub within : i ≤ length new
   pub rest : left ≡ drop i (map (watched_leaf scripts) new)
@@ -98,8 +107,10 @@ pub record IsGrowing (H : List ℕ → Digest) (text : Leaf → List ℕ) (scrip
   pub adds : mark.adds ≡ length left
   pub watched : mark.watched ≡ count_by is_some left
 
-module _ (H : List ℕ → Digest) (text : Leaf → List ℕ) (scripts : List (List ℕ)) (f : Stump) (p : Parted) (m : Mark) (start : ℕ) (new : List Leaf) where
-  pub growing_begins : (left : List (Option Leaf)) → Fits m p → left ≡ map (watched_leaf scripts) new → m.adds ≡ length new → m.watched ≡ count_by is_some left → m.leaves ≡ f.leaves →
+module _ (H : List ℕ → Digest) (text : Leaf → List ℕ) (scripts : List (List ℕ)) (f : Stump) (p : Parted) (m : Mark) (start : ℕ)
+    (new : List Leaf) where
+  pub growing_begins : (left : List (Option Leaf)) → Fits m p → left ≡ map (watched_leaf scripts) new → m.adds ≡ length new
+      → m.watched ≡ count_by is_some left → m.leaves ≡ f.leaves →
       IsGrowing H text scripts f p m start new 0 left f p scripts m start
   growing_begins left fits are adds watched leaves = record {
     appending = appending_begins H text f start new;
@@ -114,9 +125,11 @@ module _ (H : List ℕ → Digest) (text : Leaf → List ℕ) (scripts : List (L
     watched = watched;
   }
 
-  module _ (i : ℕ) (left : List (Option Leaf)) (roots : Stump) (now : Parted) (watch : List (List ℕ)) (mark : Mark) (steps : ℕ) (g : IsGrowing H text scripts f p m start new i left roots now watch mark steps) where
+  module _ (i : ℕ) (left : List (Option Leaf)) (roots : Stump) (now : Parted) (watch : List (List ℕ)) (mark : Mark) (steps : ℕ)
+      (g : IsGrowing H text scripts f p m start new i left roots now watch mark steps) where
     module _ (x : Option Leaf) (later : List (Option Leaf)) (head : left ≡ x ∷ later) where
-      next : (slice_get (map (watched_leaf scripts) new) i ≡ Some x) × (later ≡ drop (i + 1) (map (watched_leaf scripts) new)) × (i < length (map (watched_leaf scripts) new))
+      next : (slice_get (map (watched_leaf scripts) new) i ≡ Some x) × (later ≡ drop (i + 1) (map (watched_leaf scripts) new))
+          × (i < length (map (watched_leaf scripts) new))
       next = dropped (map (watched_leaf scripts) new) i x later (sym head ∙ g.rest)
 
       pub growing_within : i < length new
@@ -132,14 +145,17 @@ module _ (H : List ℕ → Digest) (text : Leaf → List ℕ) (scripts : List (L
       growing_few few = omega (arith, few, g.appending.counted, growing_within)
 
       -- what the addition makes
-      pub grown_once : (leaf : Leaf) (d : Digest) (roots' : Stump) (now' : Parted) (watch' : List (List ℕ)) (mark' : Mark) (after_leaf after : ℕ) → slice_get new i ≡ Some leaf → d ≡ H (text leaf) →
+      pub grown_once : (leaf : Leaf) (d : Digest) (roots' : Stump) (now' : Parted) (watch' : List (List ℕ)) (mark' : Mark) (after_leaf after : ℕ)
+          → slice_get new i ≡ Some leaf → d ≡ H (text leaf) →
           roots' ≡ with_leaf H roots d → after_leaf ≡ steps + 1 → after + count_ones roots'.leaves ≤ after_leaf + 1 + count_ones roots.leaves →
           now'.kept ≡ leaves_more (is_empty_of (joins_of H roots d)) roots.leaves (length (joins_of H roots d)) x d now.kept →
           now'.held ≡ added_by (joins_of H roots d) d roots.leaves (is_some x) now.held →
-          watch' ≡ watch → GoesOn mark now mark' now' → mark'.leaves ≡ mark.leaves + 1 → mark'.adds + 1 ≡ mark.adds → mark'.watched + count_by is_some (x ∷ []) ≡ mark.watched →
+          watch' ≡ watch → GoesOn mark now mark' now' → mark'.leaves ≡ mark.leaves + 1 → mark'.adds + 1 ≡ mark.adds
+          → mark'.watched + count_by is_some (x ∷ []) ≡ mark.watched →
           IsGrowing H text scripts f p m start new (i + 1) later roots' now' watch' mark' after
       grown_once leaf d roots' now' watch' mark' after_leaf after got digest added e le kept held same on leaves adds watched =
-          let w : x ≡ watched_leaf scripts leaf = same_Some x (watched_leaf scripts leaf) (sym next.0 ∙ got-map (watched_leaf scripts) new i leaf got) in
+          let w : x ≡ watched_leaf scripts leaf = same_Some x (watched_leaf scripts leaf)
+          (sym next.0 ∙ got-map (watched_leaf scripts) new i leaf got) in
           let front = take_one new i leaf got in
           let digests = with_leaves H f (map (λ (l : Leaf). H (text l)) (take i new)) in
           record {
@@ -148,12 +164,14 @@ module _ (H : List ℕ → Digest) (text : Leaf → List ℕ) (scripts : List (L
             rest = next.1;
             kept = kept
                 ∙ (ap (λ (y : Option Leaf). leaves_more (is_empty_of (joins_of H roots d)) roots.leaves (length (joins_of H roots d)) y d now.kept) w
-                ∙ (ap (λ (c : Digest). leaves_more (is_empty_of (joins_of H roots c)) roots.leaves (length (joins_of H roots c)) (watched_leaf scripts leaf) c now.kept) digest
+                ∙ (ap (λ (c : Digest). leaves_more (is_empty_of (joins_of H roots c)) roots.leaves (length (joins_of H roots c))
+                (watched_leaf scripts leaf) c now.kept) digest
                 ∙ (ap₂ (λ (h : Stump) (ks : List Kept). kept_with H text scripts h leaf ks) g.appending.are g.kept
                 ∙ (sym (kept_more H text scripts f (take i new) leaf p.kept)
                 ∙ ap (λ xs. kept_with_all H text scripts f xs p.kept) (sym front)))));
             held = held
-                ∙ (ap (λ (b : Bool). added_by (joins_of H roots d) d roots.leaves b now.held) (ap is_some w ∙ watched_is leaf (is_watched scripts (Some leaf)))
+                ∙ (ap (λ (b : Bool). added_by (joins_of H roots d) d roots.leaves b now.held)
+                (ap is_some w ∙ watched_is leaf (is_watched scripts (Some leaf)))
                 ∙ (ap (λ (c : Digest). added_by (joins_of H roots c) c roots.leaves (is_watched scripts (Some leaf)) now.held) digest
                 ∙ (ap₂ (λ (h : Stump) (hs : List (Place × Digest)). held_with H text scripts h leaf hs) g.appending.are g.held
                 ∙ (sym (held_more H text scripts f (take i new) leaf p.held)
@@ -168,7 +186,8 @@ module _ (H : List ℕ → Digest) (text : Leaf → List ℕ) (scripts : List (L
     -- and when none is left
     module _ (none : left ≡ []) where
       all : take i new ≡ new
-      all = take_all i new (let h = none_dropped (map (watched_leaf scripts) new) i (sym none ∙ g.rest) in omega (arith, h, length-map new (watched_leaf scripts)))
+      all = take_all i new (let h = none_dropped (map (watched_leaf scripts) new) i (sym none ∙ g.rest) in
+          omega (arith, h, length-map new (watched_leaf scripts)))
 
       pub grown_roots : roots ≡ with_leaves H f (map (λ leaf. H (text leaf)) new)
       grown_roots = g.appending.are ∙ ap (λ xs. with_leaves H f (map (λ leaf. H (text leaf)) xs)) all
@@ -180,4 +199,5 @@ module _ (H : List ℕ → Digest) (text : Leaf → List ℕ) (scripts : List (L
       grown_held = g.held ∙ ap (λ xs. held_with_all H text scripts f xs p.held) all
 
       pub grown_steps : f.leaves < 2 ^ 40 → steps ≤ start + 2 * length new + 40
-      grown_steps few = let h = none_dropped (map (watched_leaf scripts) new) i (sym none ∙ g.rest) in omega (arith, g.appending.few, ones-le 40 f.leaves few, g.within)
+      grown_steps few = let h = none_dropped (map (watched_leaf scripts) new) i (sym none ∙ g.rest) in
+          omega (arith, g.appending.few, ones-le 40 f.leaves few, g.within)

@@ -1,5 +1,6 @@
 -- A node stays one.
-use Rattle.std.proofs.Common.{◌≡◌, ℕ, zero, suc, ◌+◌, ◌<◌, ◌≤◌, ◌^◌, Bool, true, false, cond, List, [], ◌∷◌, ◌++◌, map, length, Option, Some, None, is_some, refl, ap, ◌∙◌, subst, ⊎_elim, arith}
+use Rattle.std.proofs.Common.{◌≡◌, ℕ, zero, suc, ◌+◌, ◌<◌, ◌≤◌, ◌^◌, Bool, true, false, cond, List, [], ◌∷◌, ◌++◌, map, length, Option, Some, None}
+use Rattle.std.proofs.Common.{is_some, refl, ap, ◌∙◌, subst, ⊎_elim, arith}
 use Rattle.std.specs.Prelude.{nat_le, nat_lt, take}
 use Rattle.std.proofs.lemmas.Bool.{cases_Bool, and_parts, ltb-true, leb-true}
 use Rattle.std.proofs.lemmas.List.{length-map}
@@ -30,7 +31,8 @@ use Rattle.node_rules.specs.Reading.{Handed}
 use Rattle.node_rules.specs.Judging.{Rules, Evidence, compact, refusal}
 use Rattle.node_rules.specs.Machine.{ChainEvent, BlockCame, RollbackCame, StrayCame}
 use Rattle.compact_node.specs.After.{without, held_without, changes_of, with_leaf, with_leaves, kept_with, held_with, kept_with_all, held_with_all}
-use Rattle.compact_node.specs.Node.{NodeState, IsNode, LevelState, IsLevel, AreOlder, back_from, gone_back, level_with, view_over, refusal_on, places_spent, hashes_spent, roots_spent, kept_spent, held_spent, roots_after, node_with, node_by, next_node}
+use Rattle.compact_node.specs.Node.{NodeState, IsNode, LevelState, IsLevel, AreOlder, back_from, gone_back, level_with, view_over, refusal_on}
+use Rattle.compact_node.specs.Node.{places_spent, hashes_spent, roots_spent, kept_spent, held_spent, roots_after, node_with, node_by, next_node}
 use Rattle.compact_node.proofs.Additions.{with_leaf-leaves, with_leaf-adds, with_leaf-stump, with_leaves-leaves, with_leaves-stump}
 use Rattle.compact_node.proofs.Changes.{within_all}
 use Rattle.compact_node.proofs.Deletions.{without-leaves, without-slot, without-stump}
@@ -44,11 +46,14 @@ pub spent-stump : (H : List ℕ → Digest) (l : LevelState) (handed : Handed) �
 spent-stump H l handed s = without-stump H l.roots (places_spent l.roots.leaves handed) (hashes_spent H (view_over l) handed) s
 
 -- whatever was spent, the lists are those of the roots
-without_of_roots : (H : List ℕ → Digest) (f : Stump) (ts : List Place) (hashes : List Digest) (ks : List Kept) (hs : List (Place × Digest)) → IsStump f → AreOfRoots f ks hs →
+without_of_roots : (H : List ℕ → Digest) (f : Stump) (ts : List Place) (hashes : List Digest) (ks : List Kept) (hs : List (Place × Digest))
+    → IsStump f → AreOfRoots f ks hs →
     AreOfRoots (without H f ts hashes) (moved_leaves f.leaves ts ks) (held_without H f.leaves ts hashes ks hs)
 without_of_roots H f ts hashes ks hs s a =
-    let after : AreRootsAfter H f ts hashes (without H f ts hashes) = record { leaves = without-leaves H f ts hashes; roots = λ row slot. without-slot H f ts hashes s row slot } in
-    subst (λ pairs. AreOfRoots (without H f ts hashes) (moved_leaves f.leaves ts ks) (held_deleted f.leaves ts pairs (leaf_places (moved_leaves f.leaves ts ks)) hs)) (within_all H f.leaves ts hashes)
+    let after : AreRootsAfter H f ts hashes (without H f ts hashes) =
+    record { leaves = without-leaves H f ts hashes; roots = λ row slot. without-slot H f ts hashes s row slot } in
+    subst (λ pairs. AreOfRoots (without H f ts hashes) (moved_leaves f.leaves ts ks)
+    (held_deleted f.leaves ts pairs (leaf_places (moved_leaves f.leaves ts ks)) hs)) (within_all H f.leaves ts hashes)
     (deleted_of_roots H f (without H f ts hashes) ts hashes after (changes_of H f.leaves ts hashes) ks hs a)
 
 -- ---- and with what is added
@@ -64,18 +69,22 @@ module _ (H : List ℕ → Digest) (text : Leaf → List ℕ) (scripts : List (L
       let d = H (text leaf) in
       let n : (with_leaf H f d).leaves ≡ f.leaves + 1 = with_leaf-leaves H f d ∙ (let e : suc f.leaves ≡ f.leaves + 1 = omega arith in e) in
       let adds = with_leaf-adds H f d s few in
-      let added : IsAdded H f d (with_leaf H f d) = record { leaves = n; roots = adds; stands = λ es stands. stands_added H es d f (with_leaf H f d) stands (with_leaf-leaves H f d) adds } in
+      let added : IsAdded H f d (with_leaf H f d) =
+      record { leaves = n; roots = adds; stands = λ es stands. stands_added H es d f (with_leaf H f d) stands (with_leaf-leaves H f d) adds } in
       let watched = cond (is_watched scripts (Some leaf)) (Some leaf) None in
-      subst (λ b. AreOfRoots (with_leaf H f d) (leaves_more (is_empty_of (joins_of H f d)) f.leaves (length (joins_of H f d)) watched d ks) (added_by (joins_of H f d) d f.leaves b hs)) (watched_is leaf (is_watched scripts (Some leaf)))
+      subst (λ b. AreOfRoots (with_leaf H f d) (leaves_more (is_empty_of (joins_of H f d)) f.leaves (length (joins_of H f d)) watched d ks)
+      (added_by (joins_of H f d) d f.leaves b hs)) (watched_is leaf (is_watched scripts (Some leaf)))
       (added_of_roots H f (with_leaf H f d) d watched ks hs added a)
 
-  with_all_of_roots : (new : List Leaf) (f : Stump) (ks : List Kept) (hs : List (Place × Digest)) → IsStump f → f.leaves + length new < 2 ^ 40 → AreOfRoots f ks hs →
+  with_all_of_roots : (new : List Leaf) (f : Stump) (ks : List Kept) (hs : List (Place × Digest)) → IsStump f → f.leaves + length new < 2 ^ 40
+      → AreOfRoots f ks hs →
       AreOfRoots (with_leaves H f (map (λ leaf. H (text leaf)) new)) (kept_with_all H text scripts f new ks) (held_with_all H text scripts f new hs)
   with_all_of_roots [] f ks hs s few a = a
   with_all_of_roots (leaf ∷ new) f ks hs s few a =
       let d = H (text leaf) in
       let more : suc f.leaves < 2 ^ 40 = omega (arith, few) in
-      with_all_of_roots new (with_leaf H f d) (kept_with H text scripts f leaf ks) (held_with H text scripts f leaf hs) (with_leaf-stump H f d s more) (omega (arith, few, with_leaf-leaves H f d))
+      with_all_of_roots new (with_leaf H f d) (kept_with H text scripts f leaf ks) (held_with H text scripts f leaf hs) (with_leaf-stump H f d s more)
+      (omega (arith, few, with_leaf-leaves H f d))
       (with_of_roots f leaf ks hs s more a)
 
 -- ---- room
@@ -84,13 +93,16 @@ module _ (H : List ℕ → Digest) (text : Leaf → List ℕ) (scripts : List (L
 pub room_before : (s : NodeState) (b : Block) → first_of (block_steps s.rules.net s.rules.limits s.newest.chain b) ≡ None →
     (s.newest.chain.blocks < 2 ^ 31) × (s.newest.chain.leaves + length (new_records b s.newest.chain.blocks) ≤ s.rules.limits.leaves)
 room_before s b passed =
-    let sixth : unless (has_room s.rules.limits s.newest.chain (length (new_records b s.newest.chain.blocks))) Why.Full ≡ None = each_passes (block_steps s.rules.net s.rules.limits s.newest.chain b) 7 passed in
-    let both = and_parts (nat_lt s.newest.chain.blocks (2 ^ 31)) (nat_le (s.newest.chain.leaves + length (new_records b s.newest.chain.blocks)) s.rules.limits.leaves) (unless-passed _ _ sixth) in
+    let sixth : unless (has_room s.rules.limits s.newest.chain (length (new_records b s.newest.chain.blocks))) Why.Full ≡ None =
+    each_passes (block_steps s.rules.net s.rules.limits s.newest.chain b) 7 passed in
+    let both = and_parts (nat_lt s.newest.chain.blocks (2 ^ 31))
+    (nat_le (s.newest.chain.leaves + length (new_records b s.newest.chain.blocks)) s.rules.limits.leaves) (unless-passed _ _ sixth) in
     (ltb-true _ _ both.0, leb-true _ _ both.1)
 
 pub room : (s : NodeState) (b : Block) (e : Evidence) → refusal s.rules s.newest.chain b e ≡ None →
     (s.newest.chain.blocks < 2 ^ 31) × (s.newest.chain.leaves + length (new_records b s.newest.chain.blocks) ≤ s.rules.limits.leaves)
-room s b e h = room_before s b (append_passes (block_steps s.rules.net s.rules.limits s.newest.chain b) (e.steps ++ money_steps (spends_of s.rules.net s.newest.chain.blocks b) e.found) h).0
+room s b e h = room_before s b (append_passes (block_steps s.rules.net s.rules.limits s.newest.chain b)
+    (e.steps ++ money_steps (spends_of s.rules.net s.newest.chain.blocks b) e.found) h).0
 
 -- ---- the older levels
 
@@ -108,7 +120,8 @@ length-take_le (suc k) (x ∷ xs) = let h = length-take_le k xs in omega arith
 pub back_is_node : (k : ℕ) (s : NodeState) → IsNode s → IsNode (gone_back k s)
 back_is_node k s is = from k s.newest s.older is
   where
-    from : (k : ℕ) (l : LevelState) (ls : List LevelState) → IsNode (record { rules = s.rules; scripts = s.scripts; newest = l; older = ls }) → IsNode (back_from s.rules s.scripts k l ls)
+    from : (k : ℕ) (l : LevelState) (ls : List LevelState) → IsNode (record { rules = s.rules; scripts = s.scripts; newest = l; older = ls })
+        → IsNode (back_from s.rules s.scripts k l ls)
     from zero l ls i = i
     from (suc k) l [] i = i
     from (suc k) l (m ∷ ls) i = from k m ls (record {
@@ -124,7 +137,8 @@ back_is_node k s is = from k s.newest s.older is
 pub back-more : (k : ℕ) (s : NodeState) → gone_back 1 (gone_back k s) ≡ gone_back (k + 1) s
 back-more k s = from k s.newest s.older ∙ ap (λ n. back_from s.rules s.scripts n s.newest s.older) (let e : suc k ≡ k + 1 = omega arith in e)
   where
-    from : (k : ℕ) (l : LevelState) (ls : List LevelState) → gone_back 1 (back_from s.rules s.scripts k l ls) ≡ back_from s.rules s.scripts (suc k) l ls
+    from : (k : ℕ) (l : LevelState) (ls : List LevelState)
+        → gone_back 1 (back_from s.rules s.scripts k l ls) ≡ back_from s.rules s.scripts (suc k) l ls
     from zero l [] = refl
     from zero l (m ∷ ls) = refl
     from (suc k) l [] = refl
@@ -132,7 +146,8 @@ back-more k s = from k s.newest s.older ∙ ap (λ n. back_from s.rules s.script
 
 -- ---- a block
 
-module _ (H : List ℕ → Digest) (text : Leaf → List ℕ) (s : NodeState) (is : IsNode s) (b : Block) (handed : Handed) (passes : refusal_on H text s b handed ≡ None) where
+module _ (H : List ℕ → Digest) (text : Leaf → List ℕ) (s : NodeState) (is : IsNode s) (b : Block) (handed : Handed)
+    (passes : refusal_on H text s b handed ≡ None) where
   abbrev new : List Leaf
   new = new_records b s.newest.chain.blocks
 
@@ -154,8 +169,10 @@ module _ (H : List ℕ → Digest) (text : Leaf → List ℕ) (s : NodeState) (i
   level-with : IsLevel s.rules (level_with H text s.scripts s.newest b handed)
   level-with = record {
     stump = with_leaves-stump H (roots_spent H s.newest handed) digests (spent-stump H s.newest handed is.newest.stump) (omega (arith, few, long));
-    lists = with_all_of_roots H text s.scripts new (roots_spent H s.newest handed) (kept_spent s.newest handed) (held_spent H s.newest handed) (spent-stump H s.newest handed is.newest.stump) few
-        (without_of_roots H s.newest.roots (places_spent s.newest.roots.leaves handed) (hashes_spent H (view_over s.newest) handed) s.newest.kept s.newest.held is.newest.stump is.newest.lists);
+    lists = with_all_of_roots H text s.scripts new (roots_spent H s.newest handed) (kept_spent s.newest handed) (held_spent H s.newest handed)
+        (spent-stump H s.newest handed is.newest.stump) few
+        (without_of_roots H s.newest.roots (places_spent s.newest.roots.leaves handed) (hashes_spent H (view_over s.newest) handed) s.newest.kept
+        s.newest.held is.newest.stump is.newest.lists);
     counted = after-leaves;
     within = (room s b evidence passes).1;
     bare = λ (none : suc s.newest.chain.blocks ≡ 0). absurd (omega (arith, none));
@@ -165,7 +182,8 @@ module _ (H : List ℕ → Digest) (text : Leaf → List ℕ) (s : NodeState) (i
   node-with = record {
     low = omega (arith, (room s b evidence passes).0);
     newest = level-with;
-    older = older-taken s.rules 100 (level_with H text s.scripts s.newest b handed).chain (s.newest ∷ s.older) (refl, omega arith, is.newest, is.older);
+    older = older-taken s.rules 100 (level_with H text s.scripts s.newest b handed).chain (s.newest ∷ s.older)
+        (refl, omega arith, is.newest, is.older);
     kept = length-take_le 100 (s.newest ∷ s.older);
     few = is.few;
     short = is.short;

@@ -1,5 +1,6 @@
 -- Levels that were stored: each is one of a node, and marks give back the older ones.
-use Rattle.std.proofs.Common.{◌≡◌, ℕ, zero, suc, ◌+◌, ◌-◌, ◌/◌, ◌^◌, ◌<◌, ◌≤◌, true, List, [], ◌∷◌, map, length, get_or, take, drop, drop-cons, Option, Some, None, is_some, refl, sym, ap, ap₂, ◌∙◌, subst, All, arith}
+use Rattle.std.proofs.Common.{◌≡◌, ℕ, zero, suc, ◌+◌, ◌-◌, ◌/◌, ◌^◌, ◌<◌, ◌≤◌, true, List, [], ◌∷◌, map, length, get_or, take, drop, drop-cons}
+use Rattle.std.proofs.Common.{Option, Some, None, is_some, refl, sym, ap, ap₂, ◌∙◌, subst, All, arith}
 use Rattle.std.specs.Prelude.{option_map}
 use Rattle.std.specs.List.{AllByRecursion}
 use Rattle.std.proofs.lemmas.Bool.{false≢true}
@@ -55,7 +56,8 @@ some_of : (x : Option Cover) → is_some x ≡ true → (c : Cover) × (x ≡ So
 some_of None e = absurd (false≢true e)
 some_of (Some c) e = (c, refl)
 
-module _ (H : List ℕ → Digest) (f : Stump) (ts : List Place) (leaves hashes : List Digest) (a : IsAccepted H f.leaves (root_in f) ts nothing_known leaves hashes) where
+module _ (H : List ℕ → Digest) (f : Stump) (ts : List Place) (leaves hashes : List Digest)
+    (a : IsAccepted H f.leaves (root_in f) ts nothing_known leaves hashes) where
   -- the slot of a target evaluates to its root, so it has one
   rooted : (p : Place) → has_place ts p.row p.off ≡ true → IsRooted f p
   rooted p h row slot =
@@ -65,13 +67,16 @@ module _ (H : List ℕ → Digest) (f : Stump) (ts : List Place) (leaves hashes 
       let beneath = some_of (cover ts row (root_off f.leaves row)) top in
       ap is_some (a.agrees row beneath.0 slot.slot beneath.1)
 
-numbers_below : (scripts : List (List ℕ)) (n : ℕ) (ks : List Kept) → AllByRecursion (IsKept scripts n) (map entry_of ks) → All (λ (k : Kept). k.number < n) ks
+numbers_below : (scripts : List (List ℕ)) (n : ℕ) (ks : List Kept) → AllByRecursion (IsKept scripts n) (map entry_of ks)
+    → All (λ (k : Kept). k.number < n) ks
 numbers_below scripts n [] a = All-nil (λ (k : Kept). k.number < n)
 numbers_below scripts n (k ∷ ks) a = All-cons (λ (j : Kept). j.number < n) k ks a.0.below (numbers_below scripts n ks a.1)
 
-each_place : (P : Place → Type 0) (ks : List Kept) → ((p : Place) → has_place (leaf_places ks) p.row p.off ≡ true → P p) → All (λ (k : Kept). P k.place) ks
+each_place : (P : Place → Type 0) (ks : List Kept) → ((p : Place) → has_place (leaf_places ks) p.row p.off ≡ true → P p)
+    → All (λ (k : Kept). P k.place) ks
 each_place P [] f = All-nil (λ (k : Kept). P k.place)
-each_place P (k ∷ ks) f = All-cons (λ (j : Kept). P j.place) k ks (f k.place (has_head k.place (leaf_places ks))) (each_place P ks (λ p h. f p (has_more k.place (leaf_places ks) p.row p.off h)))
+each_place P (k ∷ ks) f = All-cons (λ (j : Kept). P j.place) k ks (f k.place (has_head k.place (leaf_places ks)))
+    (each_place P ks (λ p h. f p (has_more k.place (leaf_places ks) p.row p.off h)))
 
 abbrev paired : Place → Digest → Place × Digest
 paired p d = (p, d)
@@ -92,12 +97,14 @@ module _ (H : List ℕ → Digest) (scripts : List (List ℕ)) (c : CachedLevel)
       record {
         numbers = numbers_below scripts c.roots.leaves c.kept is.kept.each;
         shape = subst (HasShape c.roots.leaves) (sym same) is.proved.shape;
-        rooted = each_place (IsRooted c.roots) c.kept (λ p h. rooted H c.roots (places_of (map entry_of c.kept)) _ _ is.proved p (subst (λ ps. has_place ps p.row p.off ≡ true) same h));
+        rooted = each_place (IsRooted c.roots) c.kept
+            (λ p h. rooted H c.roots (places_of (map entry_of c.kept)) _ _ is.proved p (subst (λ ps. has_place ps p.row p.off ≡ true) same h));
         held = subst (All (IsHeldIn c.roots.leaves)) (sym filled.held) (told_within c.roots.leaves (level_tells H (level_in c)));
       }
 
   -- so it is one of a node
-  level_is : (rules : Rules) (most blocks bound : ℕ) → bound ≤ rules.limits.leaves → LevelFits most (level_in c) → IsNext blocks bound (level_in c) → IsLevel rules (level_at blocks c)
+  level_is : (rules : Rules) (most blocks bound : ℕ) → bound ≤ rules.limits.leaves → LevelFits most (level_in c) → IsNext blocks bound (level_in c)
+      → IsLevel rules (level_at blocks c)
   level_is rules most blocks bound low fits next = record {
     stump = fits.roots;
     lists = lists_of_roots;
@@ -152,7 +159,8 @@ take_few (suc k) [] few = refl
 take_few (suc k) (x ∷ xs) few = ap (λ ys. x ∷ ys) (take_few k xs (omega (arith, few)))
 
 -- as many marks as levels
-length-past : (blocks : ℕ) (c : CachedLevel) (cs : List CachedLevel) (room : Parted) (past : List PastState) → AreBehind blocks c cs room past → length past ≡ length cs
+length-past : (blocks : ℕ) (c : CachedLevel) (cs : List CachedLevel) (room : Parted) (past : List PastState) → AreBehind blocks c cs room past
+    → length past ≡ length cs
 length-past blocks c cs room past are = sym (length-behind past c.kept c.held) ∙ (ap length are.levels ∙ length-levels (blocks - 1) cs)
 
 -- behind the level at an index the marks give back all further ones
@@ -163,7 +171,8 @@ pub record IsMarking (all : List CachedLevel) (blocks i : ℕ) (room : Parted) (
   pub behind : AreBehind (blocks - i) level older room past
 
 -- the last one
-pub marking_begins : (all : List CachedLevel) (blocks i : ℕ) (room : Parted) (past : List PastState) → i + 1 ≡ length all → past ≡ [] → IsMarking all blocks i room past
+pub marking_begins : (all : List CachedLevel) (blocks i : ℕ) (room : Parted) (past : List PastState) → i + 1 ≡ length all → past ≡ []
+    → IsMarking all blocks i room past
 marking_begins [] blocks i room past last none = absurd (omega (arith, last))
 marking_begins (c ∷ cs) blocks i room past last none =
     let within : i < length (c ∷ cs) = omega (arith, last) in
@@ -172,7 +181,10 @@ marking_begins (c ∷ cs) blocks i room past last none =
       level = get_or (c ∷ cs) i c;
       older = [];
       whole = drop-cons (c ∷ cs) i c within ∙ ap (λ ls. get_or (c ∷ cs) i c ∷ ls) rest;
-      behind = record { levels = ap (λ xs. levels_behind xs (get_or (c ∷ cs) i c).kept (get_or (c ∷ cs) i c).held) none; fit = λ p has. subst (λ xs. MarksFit xs p) (sym none) tt };
+      behind = record {
+        levels = ap (λ xs. levels_behind xs (get_or (c ∷ cs) i c).kept (get_or (c ∷ cs) i c).held) none;
+        fit = λ p has. subst (λ xs. MarksFit xs p) (sym none) tt;
+      };
     }
 
 module _ (all : List CachedLevel) (blocks i : ℕ) (room : Parted) (past : List PastState) (is : IsMarking all blocks i room past) where
@@ -204,14 +216,17 @@ module _ (all : List CachedLevel) (blocks i : ℕ) (room : Parted) (past : List 
         let same : is.level ≡ level = cc in
         let others : is.older ≡ drop (suc i) all = cc in
         let count : blocks - i ≡ blocks - j - 1 = omega (arith, by.before) in
-        let behind : AreBehind (blocks - j - 1) level is.older room past = subst (λ l. AreBehind (blocks - j - 1) l is.older room past) same (subst (λ n. AreBehind n is.level is.older room past) count is.behind) in
+        let behind : AreBehind (blocks - j - 1) level is.older room past =
+        subst (λ l. AreBehind (blocks - j - 1) l is.older room past) same
+        (subst (λ n. AreBehind n is.level is.older room past) count is.behind) in
         let marked : IsPastOf newer level (blocks - j - 1) more x = subst (λ n. IsPastOf newer level n more x) count by.past_is in
         let marks : length past ≡ length is.older = length-past (blocks - j - 1) level is.older room past behind in
         let short : suc (length past) ≤ 100 = omega (arith, few, within, marks, ap length others, length-drop (suc i) all, by.before) in
         let all_taken : next ≡ x ∷ past = by.taken ∙ take_few 100 (x ∷ past) short in
         let made : level_of x (kept_back x.mark newer.kept) (held_back x.mark newer.held) ≡ level_at (blocks - j - 1) level =
         ap₂ (λ (ks : List Kept) (hs : List (Place × Digest)). level_of x ks hs) marked.kept marked.held
-        ∙ ap₂ (λ (h : Chain) (f : Stump). let l : LevelState = record { chain = h; roots = f; kept = level.kept; held = level.held } in l) marked.chain marked.roots in
+        ∙ ap₂ (λ (h : Chain) (f : Stump). let l : LevelState = record { chain = h; roots = f; kept = level.kept; held = level.held } in
+        l) marked.chain marked.roots in
         let rest : levels_behind past (kept_back x.mark newer.kept) (held_back x.mark newer.held) ≡ levels_at (blocks - j - 1 - 1) is.older =
         ap₂ (λ (ks : List Kept) (hs : List (Place × Digest)). levels_behind past ks hs) marked.kept marked.held ∙ behind.levels in
         let start : j < length all = omega (arith, within, by.before) in
@@ -220,7 +235,8 @@ module _ (all : List CachedLevel) (blocks i : ℕ) (room : Parted) (past : List 
           older = level ∷ is.older;
           whole =
               drop-cons all j newer start
-              ∙ ap₂ (λ (l : CachedLevel) (ls : List CachedLevel). l ∷ ls) (sym by.newer_is) (ap (λ k. drop k all) (sym by.before) ∙ (here ∙ ap (λ ls. level ∷ ls) (sym others)));
+              ∙ ap₂ (λ (l : CachedLevel) (ls : List CachedLevel). l ∷ ls) (sym by.newer_is)
+              (ap (λ k. drop k all) (sym by.before) ∙ (here ∙ ap (λ ls. level ∷ ls) (sym others)));
           behind = record {
             levels = ap (λ xs. levels_behind xs newer.kept newer.held) all_taken ∙ ap₂ (λ (l : LevelState) (ls : List LevelState). l ∷ ls) made rest;
             fit = λ p has. subst (λ xs. MarksFit xs p) (sym all_taken) (
@@ -238,7 +254,8 @@ module _ (all : List CachedLevel) (blocks i : ℕ) (room : Parted) (past : List 
 -- ---- the node of a state
 
 -- what was made of the levels of a state
-pub record IsMade (s : CachedState) (first : CachedLevel) (p : Parted) (past : List PastState) (chain : Chain) (roots : Stump) (scripts : List (List ℕ)) : Type 0 where
+pub record IsMade (s : CachedState) (first : CachedLevel) (p : Parted) (past : List PastState) (chain : Chain) (roots : Stump)
+    (scripts : List (List ℕ)) : Type 0 where
   pub room : Parted
   pub marked : AreMarked s.levels s.blocks room past
   pub first_is : first ≡ get_or s.levels 0 first
@@ -248,24 +265,35 @@ pub record IsMade (s : CachedState) (first : CachedLevel) (p : Parted) (past : L
   pub watch : scripts ≡ s.scripts
 
 -- from what the calls give of a state, whose scripts were taken out
-pub made_of : (s t : CachedState) (inner first : CachedLevel) (levels : List CachedLevel) (room p : Parted) (past behind : List PastState) (chain : Chain) (roots : Stump) (scripts : List (List ℕ)) →
-    t ≡ record { net = s.net; blocks = s.blocks; scripts = []; levels = s.levels } → levels ≡ t.levels → AreMarked levels t.blocks room past → behind ≡ past → first ≡ get_or t.levels 0 first → inner ≡ first →
-    (p.kept ≡ inner.kept) × (p.held ≡ inner.held) → room.kept_room ≤ p.kept_room → room.held_room ≤ p.held_room → chain ≡ (level_at t.blocks inner).chain → roots ≡ inner.roots → scripts ≡ s.scripts →
+pub made_of : (s t : CachedState) (inner first : CachedLevel) (levels : List CachedLevel) (room p : Parted) (past behind : List PastState)
+    (chain : Chain) (roots : Stump) (scripts : List (List ℕ)) →
+    t ≡ record { net = s.net; blocks = s.blocks; scripts = []; levels = s.levels } → levels ≡ t.levels → AreMarked levels t.blocks room past
+    → behind ≡ past → first ≡ get_or t.levels 0 first → inner ≡ first →
+    (p.kept ≡ inner.kept) × (p.held ≡ inner.held) → room.kept_room ≤ p.kept_room → room.held_room ≤ p.held_room
+    → chain ≡ (level_at t.blocks inner).chain → roots ≡ inner.roots → scripts ≡ s.scripts →
     IsMade s first p behind chain roots scripts
 made_of s t inner first levels room p past behind chain roots scripts left are marked same at opened lists kept held chain_is roots_are watch =
     let blocks : t.blocks ≡ s.blocks = ap (λ (x : CachedState). x.blocks) left in
     let whole : levels ≡ s.levels = are ∙ ap (λ (x : CachedState). x.levels) left in
     record {
       room = room;
-      marked = subst (λ xs. AreMarked s.levels s.blocks room xs) (sym same) (subst (λ n. AreMarked s.levels n room past) blocks (subst (λ ls. AreMarked ls t.blocks room past) whole marked));
+      marked = subst (λ xs. AreMarked s.levels s.blocks room xs) (sym same)
+          (subst (λ n. AreMarked s.levels n room past) blocks (subst (λ ls. AreMarked ls t.blocks room past) whole marked));
       first_is = at ∙ ap (λ (x : CachedState). get_or x.levels 0 first) left;
-      lists = record { kept = lists.0 ∙ ap (λ (l : CachedLevel). l.kept) opened; held = lists.1 ∙ ap (λ (l : CachedLevel). l.held) opened; kept_room = kept; held_room = held };
+      lists = record {
+        kept = lists.0 ∙ ap (λ (l : CachedLevel). l.kept) opened;
+        held = lists.1 ∙ ap (λ (l : CachedLevel). l.held) opened;
+        kept_room =
+            kept;
+        held_room = held;
+      };
       chain_is = chain_is ∙ ap₂ (λ (n : ℕ) (l : CachedLevel). (level_at n l).chain) blocks opened;
       roots_are = roots_are ∙ ap (λ (l : CachedLevel). l.roots) opened;
       watch = watch;
     }
 
-module _ (rules : Rules) (s : CachedState) (newest : CachedLevel) (p : Parted) (past : List PastState) (chain : Chain) (roots : Stump) (scripts : List (List ℕ)) (made : IsMade s newest p past chain roots scripts) where
+module _ (rules : Rules) (s : CachedState) (newest : CachedLevel) (p : Parted) (past : List PastState) (chain : Chain) (roots : Stump)
+    (scripts : List (List ℕ)) (made : IsMade s newest p past chain roots scripts) where
   abbrev older : List CachedLevel
   older = made.marked.older
 
@@ -284,18 +312,22 @@ module _ (rules : Rules) (s : CachedState) (newest : CachedLevel) (p : Parted) (
 
   node_is : node_of rules scripts chain roots p past ≡ node s.scripts
   node_is =
-      let with = λ (l : LevelState) (ls : List LevelState). let n : NodeState = record { rules = rules; scripts = scripts; newest = l; older = ls } in n in
-      let level = λ (h : Chain) (f : Stump) (ks : List Kept) (hs : List (Place × Digest)). let l : LevelState = record { chain = h; roots = f; kept = ks; held = hs } in l in
+      let with = λ (l : LevelState) (ls : List LevelState). let n : NodeState = record { rules = rules; scripts = scripts; newest = l; older = ls } in
+      n in
+      let level = λ (h : Chain) (f : Stump) (ks : List Kept) (hs : List (Place × Digest)). let l : LevelState =
+      record { chain = h; roots = f; kept = ks; held = hs } in l in
       let first : level chain roots p.kept p.held ≡ level_at s.blocks newest =
       ap₂ (λ (h : Chain) (f : Stump). level h f p.kept p.held) made.chain_is made.roots_are
-      ∙ ap₂ (λ (ks : List Kept) (hs : List (Place × Digest)). level (level_at s.blocks newest).chain newest.roots ks hs) made.lists.kept made.lists.held in
+      ∙ ap₂ (λ (ks : List Kept) (hs : List (Place × Digest)). level (level_at s.blocks newest).chain newest.roots ks hs) made.lists.kept
+      made.lists.held in
       let others : levels_behind past p.kept p.held ≡ levels_at (s.blocks - 1) older =
       ap₂ (λ (ks : List Kept) (hs : List (Place × Digest)). levels_behind past ks hs) made.lists.kept made.lists.held ∙ behind.levels in
       ap₂ with first others ∙ ap node made.watch
 
   pub made_same : rules.net ≡ s.net → cached_state (node_of rules scripts chain roots p past) ≡ s
   made_same net =
-      let state = λ (n : Net) (cs : List CachedLevel). let v : CachedState = record { net = n; blocks = s.blocks; scripts = s.scripts; levels = cs } in v in
+      let state = λ (n : Net) (cs : List CachedLevel). let v : CachedState =
+      record { net = n; blocks = s.blocks; scripts = s.scripts; levels = cs } in v in
       ap cached_state node_is ∙ ap₂ state net (ap (λ cs. newest ∷ cs) (cached_levels (s.blocks - 1) older) ∙ sym whole)
 
   module _ (H : List ℕ → Digest) (is : IsState H rules.limits.leaves (state_in s)) (filled : AllByRecursion (IsFilled H) s.levels) where

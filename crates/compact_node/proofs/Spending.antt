@@ -1,5 +1,6 @@
 -- What a right message spends, and the roots and lists without it and with what is added.
-use Rattle.std.proofs.Common.{◌≡◌, ℕ, zero, suc, ◌+◌, ◌*◌, ◌<◌, ◌^◌, Bool, true, false, cond, List, [], ◌∷◌, ◌++◌, map, length, Option, Some, None, is_some, refl, sym, ap, ◌∙◌, subst, arith, append_assoc, append-nil, length-set}
+use Rattle.std.proofs.Common.{◌≡◌, ℕ, zero, suc, ◌+◌, ◌*◌, ◌<◌, ◌^◌, Bool, true, false, cond, List, [], ◌∷◌, ◌++◌, map, length, Option, Some, None}
+use Rattle.std.proofs.Common.{is_some, refl, sym, ap, ◌∙◌, subst, arith, append_assoc, append-nil, length-set}
 use Rattle.std.specs.Prelude.{◌&&◌, not, option_map}
 use Rattle.std.proofs.Math.Path.{fun_ext}
 use Rattle.std.proofs.lemmas.Bool.{false≢true}
@@ -58,12 +59,14 @@ ends_false false b c e = refl
 
 pub needed-none : (n row off : ℕ) → is_needed n [] (place row off) ≡ false
 needed-none n row off =
-    ends_false (not (is_root n row off)) (not (is_some (cover [] row off))) (is_some (cover [] row (sibling_off off))) (ap is_some (cover-none row (sibling_off off)))
+    ends_false (not (is_root n row off)) (not (is_some (cover [] row off))) (is_some (cover [] row (sibling_off off)))
+    (ap is_some (cover-none row (sibling_off off)))
 
 -- ---- the hashes of all needed places are those of the forest
 
 abbrev AreRight : (List ℕ → Digest) → List (Option Digest) → List Place → List Digest → Type 0
-AreRight H es ts hashes = (r o : ℕ) → InForest (length es) r o → is_needed (length es) ts (place r o) ≡ true → Some (hash_of H (length es) ts nothing_known hashes r o) ≡ digest_at H es r o
+AreRight H es ts hashes = (r o : ℕ) → InForest (length es) r o → is_needed (length es) ts (place r o) ≡ true
+    → Some (hash_of H (length es) ts nothing_known hashes r o) ≡ digest_at H es r o
 
 -- what is spent: entries that stand at these places, by such hashes
 pub record IsSpending (H : List ℕ → Digest) (es : List (Option Digest)) (ts : List Place) (numbers : List ℕ) (hashes : List Digest) : Type 0 where
@@ -84,15 +87,19 @@ module _ (H : List ℕ → Digest) (text : Leaf → List ℕ) (scripts : List (L
   abbrev hashes_by : ℕ → (ℕ → ℕ → Option Digest) → Message → List Digest
   hashes_by n known m = hashes_over H (record { n = n; roots = λ row. None; known = known }) m
 
-  message_right : (points : List Outside) (m : Message) → is_right H text us (known_at H text scripts us) (points_of points) m ≡ true → AreRight H es (targets (length us) m) (hashes_by (length us) (known_at H text scripts us) m)
+  message_right : (points : List Outside) (m : Message) → is_right H text us (known_at H text scripts us) (points_of points) m ≡ true
+      → AreRight H es (targets (length us) m) (hashes_by (length us) (known_at H text scripts us) m)
   message_right points m h r o within needed =
       let ts = targets (length us) m in
       let known = known_to m.lean (known_at H text scripts us) in
       let shown = ((right_is_tested H text us (known_at H text scripts us) (points_of points) m).0 h).0.shown in
-      let shown' : map Some m.proof.hashes ≡ map (λ p. digest_at H es p.row p.off) (asked (length es) ts known) = subst (λ k. map Some m.proof.hashes ≡ map (λ p. digest_at H es p.row p.off) (asked k ts known)) (sym count) shown in
+      let shown' : map Some m.proof.hashes ≡ map (λ p. digest_at H es p.row p.off) (asked (length es) ts known) =
+      subst (λ k. map Some m.proof.hashes ≡ map (λ p. digest_at H es p.row p.off) (asked k ts known)) (sym count) shown in
       let here = hash_right H es ts known m.proof.hashes (knowledge H text scripts us m.lean) shown' r o within needed in
-      let all : hashes_by (length us) (known_at H text scripts us) m ≡ map (λ (p : Place). hash_of H (length es) ts known m.proof.hashes p.row p.off) (need (length es) ts) = ap (λ k. map (λ (p : Place). hash_of H k ts known m.proof.hashes p.row p.off) (need k ts)) (sym count) in
-      ap Some (sym (hash_of_all H (length es) ts (λ r o. hash_of H (length es) ts known m.proof.hashes r o) (hashes_by (length us) (known_at H text scripts us) m) all r o within needed)) ∙ here
+      let all : hashes_by (length us) (known_at H text scripts us) m ≡ map (λ (p : Place). hash_of H (length es) ts known m.proof.hashes p.row p.off)
+      (need (length es) ts) = ap (λ k. map (λ (p : Place). hash_of H k ts known m.proof.hashes p.row p.off) (need k ts)) (sym count) in
+      ap Some (sym (hash_of_all H (length es) ts (λ r o. hash_of H (length es) ts known m.proof.hashes r o)
+      (hashes_by (length us) (known_at H text scripts us) m) all r o within needed)) ∙ here
 
   module _ (l : LevelState) (stands : StandsFor H es l.roots) (cache : IsCacheOf H text scripts us l.kept l.held) (ext : List Outside) where
     pub as_long : l.roots.leaves ≡ length us
@@ -101,16 +108,19 @@ module _ (H : List ℕ → Digest) (text : Leaf → List ℕ) (scripts : List (L
     pub knows : look l.held ≡ known_at H text scripts us
     knows = fun_ext (λ row. fun_ext (λ off. known_is H text scripts us l.kept l.held cache row off))
 
-    spending : (handed : Handed) → is_right_message H text scripts us ext handed ≡ true → IsSpending H es (places_spent l.roots.leaves handed) (entries_shown H text us handed) (hashes_spent H (view_over l) handed)
+    spending : (handed : Handed) → is_right_message H text scripts us ext handed ≡ true
+        → IsSpending H es (places_spent l.roots.leaves handed) (entries_shown H text us handed) (hashes_spent H (view_over l) handed)
     spending nothing h = record { at = tt; right = λ r o within needed. absurd (false≢true (sym (needed-none (length es) r o) ∙ needed)) }
     spending (unread why) h = record { at = tt; right = λ r o within needed. absurd (false≢true (sym (needed-none (length es) r o) ∙ needed)) }
     spending (read m) h =
-        let base : IsSpending H es (targets (length us) m) (entries_shown H text us (read m)) (hashes_by (length us) (known_at H text scripts us) m) = record {
+        let base : IsSpending H es (targets (length us) m) (entries_shown H text us (read m)) (hashes_by (length us) (known_at H text scripts us) m) =
+        record {
           at = right_stands H text us scripts (points_of ext) m h;
           right = message_right ext m h;
         } in
         subst (λ k. IsSpending H es (targets l.roots.leaves m) (entries_shown H text us (read m)) (hashes_by l.roots.leaves k m)) (sym knows)
-        (subst (λ n. IsSpending H es (targets n m) (entries_shown H text us (read m)) (hashes_by n (known_at H text scripts us) m)) (sym as_long) base)
+        (subst (λ n. IsSpending H es (targets n m) (entries_shown H text us (read m)) (hashes_by n (known_at H text scripts us) m)) (sym as_long)
+        base)
 
     module _ (stump : IsStump l.roots) (handed : Handed) (right : is_right_message H text scripts us ext handed ≡ true) where
       abbrev ts : List Place
@@ -128,7 +138,8 @@ module _ (H : List ℕ → Digest) (text : Leaf → List ℕ) (scripts : List (L
       pub roots_left : StandsFor H (entries H text (spent numbers us)) (roots_spent H l handed)
       roots_left =
           let f = l.roots in
-          let after = λ (n : ℕ) (old : Option Digest) (row : ℕ). root_after H (hash_of H n ts nothing_known hashes) old (cover ts row (root_off n row)) in
+          let after = λ (n : ℕ) (old : Option Digest) (row : ℕ). root_after H (hash_of H n ts nothing_known hashes) old
+          (cover ts row (root_off n row)) in
           let base : StandsFor H (entries_without numbers es) (roots_spent H l handed) = record {
             leaves = without-leaves H f ts hashes ∙ (stands.leaves ∙ sym (length-without numbers es));
             roots = λ row slot.
@@ -136,14 +147,16 @@ module _ (H : List ℕ → Digest) (text : Leaf → List ℕ) (scripts : List (L
                 without-slot H f ts hashes stump row slot'
                 ∙ (ap (λ x. after f.leaves x row) (stands.roots row slot')
                 ∙ (ap (λ n. after n (root H es row) row) stands.leaves
-                ∙ sym (roots_after es ts numbers is.at H (hash_of H (length es) ts nothing_known hashes) is.right row (ap (λ n. is_slot n row) (sym stands.leaves) ∙ slot'))));
+                ∙ sym (roots_after es ts numbers is.at H (hash_of H (length es) ts nothing_known hashes) is.right row
+                (ap (λ n. is_slot n row) (sym stands.leaves) ∙ slot'))));
           } in
           subst (λ xs. StandsFor H xs (roots_spent H l handed)) (sym (entries-spent H text numbers us)) base
 
       pub lists_left : IsCacheOf H text scripts (spent numbers us) (kept_spent l handed) (held_spent H l handed)
       lists_left =
           let pairs : ArePairs H (length us) ts (entries_without numbers es) (changes_of H (length us) ts hashes) =
-          subst (λ n. ArePairs H n ts (entries_without numbers es) (changes_of H n ts hashes)) count (changes_serve H es ts numbers hashes is.at is.right) in
+          subst (λ n. ArePairs H n ts (entries_without numbers es) (changes_of H n ts hashes)) count
+          (changes_serve H es ts numbers hashes is.at is.right) in
           subst (λ n. IsCacheOf H text scripts (spent numbers us) (moved_leaves n ts l.kept) (held_without H n ts hashes l.kept l.held)) (sym as_long)
           (left_cache H text scripts us ts numbers (changes_of H (length us) ts hashes) l.kept l.held is.at pairs cache)
 
@@ -165,26 +178,36 @@ module _ (H : List ℕ → Digest) (text : Leaf → List ℕ) (scripts : List (L
     pub roots : StandsFor H (entries H text us) f
     pub cache : IsCacheOf H text scripts us ks hs
 
-  with_one : (us : History) (f : Stump) (leaf : Leaf) (ks : List Kept) (hs : List (Place × Digest)) → IsStump f → suc f.leaves < 2 ^ 40 → StandFor us f ks hs →
+  with_one : (us : History) (f : Stump) (leaf : Leaf) (ks : List Kept) (hs : List (Place × Digest)) → IsStump f → suc f.leaves < 2 ^ 40
+      → StandFor us f ks hs →
       StandFor (us ++ Some leaf ∷ []) (with_leaf H f (H (text leaf))) (kept_with H text scripts f leaf ks) (held_with H text scripts f leaf hs)
   with_one us f leaf ks hs s few a =
       let d = H (text leaf) in
       let js = joins_of H f d in
       let n : length us ≡ f.leaves = sym (a.roots.leaves ∙ same_count H text us) in
-      let more : entries H text us ++ Some d ∷ [] ≡ entries H text (us ++ Some leaf ∷ []) = sym (map-append (option_map (λ r. H (text r))) us (Some leaf ∷ [])) in
+      let more : entries H text us ++ Some d ∷ [] ≡ entries H text (us ++ Some leaf ∷ []) =
+      sym (map-append (option_map (λ r. H (text r))) us (Some leaf ∷ [])) in
       record {
-        roots = subst (λ xs. StandsFor H xs (with_leaf H f d)) more (stands_added H (entries H text us) d f (with_leaf H f d) a.roots (with_leaf-leaves H f d) (with_leaf-adds H f d s few));
-        cache = added_stands_by H text scripts us leaf f js f.leaves d (cond (is_watched scripts (Some leaf)) (Some leaf) None) ks (kept_with H text scripts f leaf ks) hs (held_with H text scripts f leaf hs) n a.roots refl
-            refl (joins_end H f d) (joins_slots H f d js f.leaves refl refl) refl a.cache refl (ap (λ b. added_by js d f.leaves b hs) (sym (watched_is leaf (is_watched scripts (Some leaf)))));
+        roots = subst (λ xs. StandsFor H xs (with_leaf H f d)) more
+            (stands_added H (entries H text us) d f (with_leaf H f d) a.roots (with_leaf-leaves H f d) (with_leaf-adds H f d s few));
+        cache = added_stands_by H text scripts us leaf f js f.leaves d (cond (is_watched scripts (Some leaf)) (Some leaf) None) ks
+            (kept_with H text scripts f leaf ks) hs (held_with H text scripts f leaf hs) n a.roots refl
+            refl (joins_end H f d) (joins_slots H f d js f.leaves refl refl) refl a.cache refl
+            (ap (λ b. added_by js d f.leaves b hs) (sym (watched_is leaf (is_watched scripts (Some leaf)))));
       }
 
-  pub with_all : (new : List Leaf) (us : History) (f : Stump) (ks : List Kept) (hs : List (Place × Digest)) → IsStump f → f.leaves + length new < 2 ^ 40 → StandFor us f ks hs →
-      StandFor (added new us) (with_leaves H f (map (λ leaf. H (text leaf)) new)) (kept_with_all H text scripts f new ks) (held_with_all H text scripts f new hs)
+  pub with_all : (new : List Leaf) (us : History) (f : Stump) (ks : List Kept) (hs : List (Place × Digest)) → IsStump f
+      → f.leaves + length new < 2 ^ 40 → StandFor us f ks hs →
+      StandFor (added new us) (with_leaves H f (map (λ leaf. H (text leaf)) new)) (kept_with_all H text scripts f new ks)
+      (held_with_all H text scripts f new hs)
   with_all [] us f ks hs s few a = rw append-nil a
   with_all (leaf ∷ new) us f ks hs s few a =
       let d = H (text leaf) in
       let more : suc f.leaves < 2 ^ 40 = omega (arith, few) in
-      subst (λ xs. StandFor xs (with_leaves H (with_leaf H f d) (map (λ leaf. H (text leaf)) new)) (kept_with_all H text scripts (with_leaf H f d) new (kept_with H text scripts f leaf ks)) (held_with_all H text scripts (with_leaf H f d) new (held_with H text scripts f leaf hs)))
+      subst (λ xs. StandFor xs (with_leaves H (with_leaf H f d) (map (λ leaf. H (text leaf)) new))
+      (kept_with_all H text scripts (with_leaf H f d) new (kept_with H text scripts f leaf ks))
+      (held_with_all H text scripts (with_leaf H f d) new (held_with H text scripts f leaf hs)))
       (append_assoc us (Some leaf ∷ []) (map Some new))
-      (with_all new (us ++ Some leaf ∷ []) (with_leaf H f d) (kept_with H text scripts f leaf ks) (held_with H text scripts f leaf hs) (with_leaf-stump H f d s more) (omega (arith, few, with_leaf-leaves H f d))
+      (with_all new (us ++ Some leaf ∷ []) (with_leaf H f d) (kept_with H text scripts f leaf ks) (held_with H text scripts f leaf hs)
+      (with_leaf-stump H f d s more) (omega (arith, few, with_leaf-leaves H f d))
       (with_one us f leaf ks hs s more a))

@@ -20,15 +20,19 @@ module _ (H : List ℕ → Digest) (text : Leaf → List ℕ) where
   none_held f [] = refl
   none_held f (leaf ∷ leaves) =
       let g = with_leaf H f (H (text leaf)) in
-      ap (held_with_all H text [] g leaves) (sym (none_added (joins_of H f (H (text leaf))) (H (text leaf)) f.leaves None [] refl refl)) ∙ none_held g leaves
+      ap (held_with_all H text [] g leaves) (sym (none_added (joins_of H f (H (text leaf))) (H (text leaf)) f.leaves None [] refl refl))
+      ∙ none_held g leaves
 
   module _ (scripts : List (List ℕ)) (f : Stump) (new : List Leaf) (n : ℕ) (ts : List Place) (ks ks' : List Kept) (hs hs' : List (Place × Digest))
       (unwatched : scripts ≡ []) (kept : ks ≡ []) (held : hs ≡ []) where
     pub unwatched_kept : ks' ≡ ks → ks' ≡ kept_with_all H text scripts f new (moved_leaves n ts ks)
     unwatched_kept same =
-        same ∙ (kept ∙ (sym (none_kept f new) ∙ ap₂ (λ (xs : List (List ℕ)) (ys : List Kept). kept_with_all H text xs f new (moved_leaves n ts ys)) (sym unwatched) (sym kept)))
+        same ∙ (kept ∙ (sym (none_kept f new) ∙ ap₂ (λ (xs : List (List ℕ)) (ys : List Kept). kept_with_all H text xs f new (moved_leaves n ts ys))
+        (sym unwatched) (sym kept)))
 
-    pub unwatched_held : (pairs : List (Place × Digest)) → hs' ≡ hs → hs' ≡ held_with_all H text scripts f new (held_deleted n ts pairs (leaf_places (moved_leaves n ts ks)) hs)
+    pub unwatched_held : (pairs : List (Place × Digest)) → hs' ≡ hs
+        → hs' ≡ held_with_all H text scripts f new (held_deleted n ts pairs (leaf_places (moved_leaves n ts ks)) hs)
     unwatched_held pairs same =
         same ∙ (held ∙ (sym (none_held f new)
-        ∙ ap₂ (λ (xs : List (List ℕ)) (ys : List (Place × Digest)). held_with_all H text xs f new ys) (sym unwatched) (sym held ∙ none_deleted n ts pairs ks hs kept held)))
+        ∙ ap₂ (λ (xs : List (List ℕ)) (ys : List (Place × Digest)). held_with_all H text xs f new ys) (sym unwatched)
+        (sym held ∙ none_deleted n ts pairs ks hs kept held)))

@@ -49,7 +49,8 @@ UnlessNoMemory P (Err NoMemory) = Unit {0}
 
 -- a node that stands for what a node holds that holds every output stores what that one stores
 abbrev pub StandingIsWritten : Type 0
-StandingIsWritten = (H : List ℕ → Digest) (t : State) (s : NodeState) → IsNode s → Stands H leaf_text t s → stored_state s ≡ state_of H s.rules.net s.scripts t
+StandingIsWritten = (H : List ℕ → Digest) (t : State) (s : NodeState) → IsNode s → Stands H leaf_text t s
+    → stored_state s ≡ state_of H s.rules.net s.scripts t
 
 -- what is read from a text of what that one stores, in either version, stands for it, in the same network, with the same scripts
 pub record IsBack (H : List ℕ → Digest) (net : Net) (scripts : List (List ℕ)) (t : State) (s : NodeState) : Type 0 where
@@ -58,10 +59,12 @@ pub record IsBack (H : List ℕ → Digest) (net : Net) (scripts : List (List �
   pub stands : Stands H leaf_text t s
 
 abbrev pub WrittenComesBack : Type 0
-WrittenComesBack = (H : List ℕ → Digest) (net : Net) (scripts : List (List ℕ)) (t : State) (text : List ℕ) (s : NodeState) → ((x : List ℕ) → IsDigest (H x)) → AreWatched scripts →
+WrittenComesBack = (H : List ℕ → Digest) (net : Net) (scripts : List (List ℕ)) (t : State) (text : List ℕ) (s : NodeState)
+    → ((x : List ℕ) → IsDigest (H x)) → AreWatched scripts →
     IsNode s → IsHistory s.rules.limits.leaves t → IsTextOf (state_of H net scripts t) text → IsReadAs H text s → IsBack H net scripts t s
 
 -- two nodes that stand for the same are the same, so a run that was stopped goes on as if it had not been
 abbrev pub OneNodeStands : Type 0
-OneNodeStands = (H : List ℕ → Digest) (text : Leaf → List ℕ) (t : State) (r s : NodeState) → IsNode r → IsNode s → r.rules ≡ s.rules → r.scripts ≡ s.scripts →
+OneNodeStands = (H : List ℕ → Digest) (text : Leaf → List ℕ) (t : State) (r s : NodeState) → IsNode r → IsNode s → r.rules ≡ s.rules
+    → r.scripts ≡ s.scripts →
     Stands H text t r → Stands H text t s → r ≡ s

@@ -1,5 +1,6 @@
 //! The roots and the cache behind a block.
-ghost use Rattle.std.specs.Prelude.{◌≡◌, ℕ, suc, ◌+◌, ◌-◌, ◌*◌, ◌<◌, ◌≤◌, ◌^◌, List, [], ◌∷◌, ◌++◌, true, length, map, get_or, count_by, count_ones, Some, is_some, if◌then◌else◌, IfOk, OnOk, OnErr};
+ghost use Rattle.std.specs.Prelude.{◌≡◌, ℕ, suc, ◌+◌, ◌-◌, ◌*◌, ◌<◌, ◌≤◌, ◌^◌, List, [], ◌∷◌, ◌++◌, true, length, map, get_or, count_by, count_ones};
+ghost use Rattle.std.specs.Prelude.{Some, is_some, if◌then◌else◌, IfOk, OnOk, OnErr};
 ghost use Rattle.std.specs.Bool.{OnTrue, OnFalse};
 ghost use Rattle.leaf_record.specs.Leaf.{Leaf, leaf_text};
 ghost use Rattle.forest_roots.specs.Joined.{joins_of};
@@ -100,8 +101,10 @@ fn add<D: Digester, L: Ledger>(
     requires count { mark.old.leaves ≡ roots.old.leaves }
     requires few { roots.old.leaves + 1 < 2 ^ 40 }
     ensures roots { roots.new ≡ with_leaf D.digest_of roots.old digest }
-    ensures kept { cache.new.parts.kept ≡ leaves_more (is_empty_of (joins_of D.digest_of roots.old digest)) roots.old.leaves (length (joins_of D.digest_of roots.old digest)) leaf digest cache.old.parts.kept }
-    ensures held { cache.new.parts.held ≡ added_by (joins_of D.digest_of roots.old digest) digest roots.old.leaves (is_some leaf) cache.old.parts.held }
+    ensures kept { cache.new.parts.kept ≡ leaves_more (is_empty_of (joins_of D.digest_of roots.old digest)) roots.old.leaves
+        (length (joins_of D.digest_of roots.old digest)) leaf digest cache.old.parts.kept }
+    ensures held { cache.new.parts.held
+        ≡ added_by (joins_of D.digest_of roots.old digest) digest roots.old.leaves (is_some leaf) cache.old.parts.held }
     ensures watch { cache.new.watch ≡ cache.old.watch }
     ensures on { GoesOn mark.old cache.old.parts mark.new cache.new.parts }
     ensures leaves { mark.new.leaves ≡ mark.old.leaves + 1 }
@@ -150,8 +153,7 @@ fn append<D: Digester, L: Ledger>(
     }
 }
 
-// A mark for the block. The cache is of the targets' forest. Where 2^32 or more entries would be kept, the node says that there
-// is no memory.
+// A mark for the block. The cache is of the targets' forest.
 fn begin_block<D>(
     alloc: Global,
     cache: &mut Cache<D>,
@@ -173,7 +175,6 @@ fn begin_block<D>(
     match begin(alloc, cache, targets, adds, watched) {
         Ok(mark) => Ok(mark),
         Err(BeginFault::Elsewhere) => unreachable!(),
-        Err(BeginFault::TooMany) => Err(NoMemory),
         Err(BeginFault::NoMemory) => Err(NoMemory),
     }
 }
@@ -194,9 +195,11 @@ fn grow_watched<D: Digester, L: Ledger>(
     requires forest { IsOfForest roots.old.leaves cache.old.parts }
     requires few { roots.old.leaves + length spends.now.new < 2 ^ 40 }
     ensures roots { OnOk result (roots.new ≡ with_leaves D.digest_of roots.old (map (λ leaf. D.digest_of (leaf_text leaf)) spends.now.new)) }
-    ensures kept { OnOk result (cache.new.parts.kept ≡ kept_with_all D.digest_of leaf_text cache.old.watch roots.old spends.now.new (moved_leaves targets.now.leaves targets.now.targets cache.old.parts.kept)) }
+    ensures kept { OnOk result (cache.new.parts.kept ≡ kept_with_all D.digest_of leaf_text cache.old.watch roots.old spends.now.new
+        (moved_leaves targets.now.leaves targets.now.targets cache.old.parts.kept)) }
     ensures held { OnOk result (cache.new.parts.held ≡ held_with_all D.digest_of leaf_text cache.old.watch roots.old spends.now.new
-        (held_deleted targets.now.leaves targets.now.targets (pairs_within targets.now.leaves changes.now) (leaf_places (moved_leaves targets.now.leaves targets.now.targets cache.old.parts.kept)) cache.old.parts.held)) }
+        (held_deleted targets.now.leaves targets.now.targets (pairs_within targets.now.leaves changes.now)
+        (leaf_places (moved_leaves targets.now.leaves targets.now.targets cache.old.parts.kept)) cache.old.parts.held)) }
     ensures fits { IfOk result (λ mark. Fits mark cache.new.parts) }
     ensures kept_back { IfOk result (λ mark. kept_back mark cache.new.parts.kept ≡ cache.old.parts.kept) }
     ensures held_back { IfOk result (λ mark. held_back mark cache.new.parts.held ≡ cache.old.parts.held) }
@@ -216,8 +219,8 @@ fn grow_watched<D: Digester, L: Ledger>(
 }
 
 /// The roots, from which the targets are gone, and the cache behind a block: the targets go, with these changes, and the new
-/// records come. The mark gives the cache back. All memory is taken before the first change; where there is none, the cache keeps
-/// and holds what it did.
+/// records come. The mark gives the cache back. All memory is taken before the first change; where there is none, the cache keeps and holds what it
+/// did.
 pub(crate) fn grow<D: Digester, L: Ledger>(
     alloc: Global,
     cache: &mut Cache<D>,
@@ -233,9 +236,11 @@ pub(crate) fn grow<D: Digester, L: Ledger>(
     requires forest { IsOfForest roots.old.leaves cache.old.parts }
     requires few { roots.old.leaves + length spends.now.new < 2 ^ 40 }
     ensures roots { OnOk result (roots.new ≡ with_leaves D.digest_of roots.old (map (λ leaf. D.digest_of (leaf_text leaf)) spends.now.new)) }
-    ensures kept { OnOk result (cache.new.parts.kept ≡ kept_with_all D.digest_of leaf_text cache.old.watch roots.old spends.now.new (moved_leaves targets.now.leaves targets.now.targets cache.old.parts.kept)) }
+    ensures kept { OnOk result (cache.new.parts.kept ≡ kept_with_all D.digest_of leaf_text cache.old.watch roots.old spends.now.new
+        (moved_leaves targets.now.leaves targets.now.targets cache.old.parts.kept)) }
     ensures held { OnOk result (cache.new.parts.held ≡ held_with_all D.digest_of leaf_text cache.old.watch roots.old spends.now.new
-        (held_deleted targets.now.leaves targets.now.targets (pairs_within targets.now.leaves changes.now) (leaf_places (moved_leaves targets.now.leaves targets.now.targets cache.old.parts.kept)) cache.old.parts.held)) }
+        (held_deleted targets.now.leaves targets.now.targets (pairs_within targets.now.leaves changes.now)
+        (leaf_places (moved_leaves targets.now.leaves targets.now.targets cache.old.parts.kept)) cache.old.parts.held)) }
     ensures fits { IfOk result (λ mark. Fits mark cache.new.parts) }
     ensures kept_back { IfOk result (λ mark. kept_back mark cache.new.parts.kept ≡ cache.old.parts.kept) }
     ensures held_back { IfOk result (λ mark. held_back mark cache.new.parts.held ≡ cache.old.parts.held) }

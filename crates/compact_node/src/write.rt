@@ -73,8 +73,12 @@ fn write_levels<W: Sink, D: Digester>(
 ) -> Result<(), SinkFault>
     requires newest { HasShape roots.now.leaves (leaf_places parts.old.kept) }
     requires older { AllCanBeWritten older.now parts.old.kept }
-    ensures whole { OnOk result (Appends (W.held sink.old) (W.held sink.new) (kept_text (record { tip = tip; roots = roots.now; kept = parts.old.kept; held = parts.old.held }) ++ behind_written older.now parts.old.kept parts.old.held)) }
-    ensures part { AppendsPart (W.held sink.old) (W.held sink.new) (kept_text (record { tip = tip; roots = roots.now; kept = parts.old.kept; held = parts.old.held }) ++ behind_written older.now parts.old.kept parts.old.held) }
+    ensures whole { OnOk result (Appends (W.held sink.old) (W.held sink.new)
+        (kept_text (record { tip = tip; roots = roots.now; kept = parts.old.kept; held = parts.old.held })
+        ++ behind_written older.now parts.old.kept parts.old.held)) }
+    ensures part { AppendsPart (W.held sink.old) (W.held sink.new)
+        (kept_text (record { tip = tip; roots = roots.now; kept = parts.old.kept; held = parts.old.held })
+        ++ behind_written older.now parts.old.kept parts.old.held) }
     ensures later { W.faults sink.old ≤ W.faults sink.new }
     ensures cause { IsErrOf result SinkFault.Failed → Rose (W.faults sink.old) (W.faults sink.new) }
 {
@@ -85,8 +89,10 @@ fn write_levels<W: Sink, D: Digester>(
 impl<D: Digester> Node<D> {
     // Writes what stands before the levels.
     fn write_head<W: Sink>(&self, sink: &mut W) -> Result<(), SinkFault>
-        ensures whole { OnOk result (Appends (W.held sink.old) (W.held sink.new) (front_text self.now.rules.net self.now.newest.chain.blocks self.now.scripts (suc (length self.now.older)))) }
-        ensures part { AppendsPart (W.held sink.old) (W.held sink.new) (front_text self.now.rules.net self.now.newest.chain.blocks self.now.scripts (suc (length self.now.older))) }
+        ensures whole { OnOk result (Appends (W.held sink.old) (W.held sink.new)
+            (front_text self.now.rules.net self.now.newest.chain.blocks self.now.scripts (suc (length self.now.older)))) }
+        ensures part { AppendsPart (W.held sink.old) (W.held sink.new)
+            (front_text self.now.rules.net self.now.newest.chain.blocks self.now.scripts (suc (length self.now.older))) }
         ensures later { W.faults sink.old ≤ W.faults sink.new }
         ensures cause { IsErrOf result SinkFault.Failed → Rose (W.faults sink.old) (W.faults sink.new) }
     {

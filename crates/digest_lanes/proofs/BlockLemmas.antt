@@ -1,7 +1,9 @@
 -- Parts of a text that goes on, and of the bytes behind its last whole block.
-use Rattle.std.proofs.Common.{◌≡◌, ℕ, ◌+◌, ◌-◌, ◌*◌, ◌/◌, ◌%◌, ◌<◌, ◌≤◌, ◌∷◌, List, ◌++◌, length, take, drop, replicate, slice_set, arith, refl, sym, ap, ◌∙◌, length-append, length-drop, add-one}
+use Rattle.std.proofs.Common.{◌≡◌, ℕ, ◌+◌, ◌-◌, ◌*◌, ◌/◌, ◌%◌, ◌<◌, ◌≤◌, ◌∷◌, List, ◌++◌, length, take, drop, replicate, slice_set, arith, refl, sym}
+use Rattle.std.proofs.Common.{ap, ◌∙◌, length-append, length-drop, add-one}
 use Rattle.std.proofs.Math.Seq.{drop-append-add, set-append_seam, take-append-add}
-use Rattle.std.proofs.lemmas.List.{append_assoc, drop-append-le, drop-replicate, length-replicate, length-take-le, take-append-drop, take-append-le, take-replicate}
+use Rattle.std.proofs.lemmas.List.{append_assoc, drop-append-le, drop-replicate, length-replicate, length-take-le, take-append-drop, take-append-le}
+use Rattle.std.proofs.lemmas.List.{take-replicate}
 use Rattle.std.proofs.lemmas.Slice.{take-put_mid}
 use borrow.Rule.Slice.PartMut.{put_mid}
 
@@ -34,11 +36,14 @@ pub tail_is : (rest zeros copied written bytes : List ℕ) (size e n k z v d : �
 tail_is rest zeros copied written bytes size e n k z v d all same ends at sum fits =
     let used = length rest in
     let more = size - used - 1 in
-    let left : drop used (replicate size d) ≡ d ∷ replicate more d = drop-replicate used size d ∙ ap (λ (m : ℕ). replicate m d) one_more ∙ rw add-one refl in
-    let marked : slice_set (copied ++ drop used zeros) used v ≡ rest ++ v ∷ replicate more d = rw (same, all, left) (set-append_seam rest d (replicate more d) v) in
+    let left : drop used (replicate size d) ≡ d ∷ replicate more d = drop-replicate used size d ∙ ap (λ (m : ℕ). replicate m d) one_more
+    ∙ rw add-one refl in
+    let marked : slice_set (copied ++ drop used zeros) used v ≡ rest ++ v ∷ replicate more d =
+    rw (same, all, left) (set-append_seam rest d (replicate more d) v) in
     let zeroed : take (z + 1) (v ∷ replicate more d) ≡ v ∷ replicate z d = rw (add-one, take-replicate z more d (omega arith)) refl in
     let front : take n (rest ++ v ∷ replicate more d) ≡ rest ++ v ∷ replicate z d =
-    ap (λ (m : ℕ). take m (rest ++ v ∷ replicate more d)) (sym at) ∙ take-append-add rest (v ∷ replicate more d) (z + 1) ∙ ap (λ (x : List ℕ). rest ++ x) zeroed in
+    ap (λ (m : ℕ). take m (rest ++ v ∷ replicate more d)) (sym at) ∙ take-append-add rest (v ∷ replicate more d) (z + 1)
+    ∙ ap (λ (x : List ℕ). rest ++ x) zeroed in
     let long : n ≤ length (rest ++ v ∷ replicate more d) = omega (arith, length-append rest (v ∷ replicate more d), filled) in
     rw (marked, ends, take-put_mid n k (rest ++ v ∷ replicate more d) bytes e (omega arith) long, front) (append_assoc rest (v ∷ replicate z d) bytes)
   where

@@ -42,7 +42,8 @@ shifts_rotate k low high =
     let right : k % 32 ≡ k = omega arith in
     let left : (32 - k) % 32 ≡ 32 - k = omega arith in
     eight_lanes (Rotates k) (λ a0 a1 a2 a3 a4 a5 a6 a7.
-    below_eight _ (rw (right, left) refl) (rw (right, left) refl) (rw (right, left) refl) (rw (right, left) refl) (rw (right, left) refl) (rw (right, left) refl) (rw (right, left) refl) (rw (right, left) refl))
+    below_eight _ (rw (right, left) refl) (rw (right, left) refl) (rw (right, left) refl) (rw (right, left) refl) (rw (right, left) refl)
+    (rw (right, left) refl) (rw (right, left) refl) (rw (right, left) refl))
 
 -- a word added to each lane
 abbrev Adds : ℕ → List ℕ → Type 0

@@ -1,5 +1,6 @@
 -- Texts that go on behind whole blocks.
-use Rattle.std.proofs.Common.{◌≡◌, ℕ, zero, suc, ◌+◌, ◌*◌, ◌-◌, ◌/◌, ◌%◌, ◌^◌, ◌≤◌, List, ◌++◌, length, replicate, take, drop, arith, refl, sym, ap, ◌∙◌, length-append, add-one, add-zero}
+use Rattle.std.proofs.Common.{◌≡◌, ℕ, zero, suc, ◌+◌, ◌*◌, ◌-◌, ◌/◌, ◌%◌, ◌^◌, ◌≤◌, List, ◌++◌, length, replicate, take, drop, arith, refl, sym, ap}
+use Rattle.std.proofs.Common.{◌∙◌, length-append, add-one, add-zero}
 use Rattle.std.proofs.Math.Seq.{drop-append-add}
 use Rattle.std.proofs.lemmas.List.{append_assoc, length-replicate}
 use Rattle.sha2.specs.Sha512.{compress, digest_bytes, hash_after, initial_hash_512_256, padded_message, padding, sha512_256}
@@ -31,7 +32,8 @@ digest_behind s before t blocks (whole, taken, state) long =
     rw (taken, length-append before t) (append_assoc before t (padding (length before + length t))) in
     let all : length (padded_message (before ++ t)) / 128 ≡ a + blocks =
     ap (λ (p : List ℕ). length p / 128) padded ∙ omega (arith, whole, long, length-append before (padded_behind s.taken t)) in
-    let hash : hash_after initial_hash_512_256 (padded_message (before ++ t)) (length (padded_message (before ++ t)) / 128) ≡ hash_after s.state (padded_behind s.taken t) blocks =
+    let hash : hash_after initial_hash_512_256 (padded_message (before ++ t)) (length (padded_message (before ++ t)) / 128)
+    ≡ hash_after s.state (padded_behind s.taken t) blocks =
     ap (hash_after initial_hash_512_256 (padded_message (before ++ t))) all
     ∙ ap (λ (p : List ℕ). hash_after initial_hash_512_256 p (a + blocks)) padded
     ∙ hash_after_behind initial_hash_512_256 before (padded_behind s.taken t) a blocks (omega arith)
@@ -39,7 +41,8 @@ digest_behind s before t blocks (whole, taken, state) long =
     ap (λ (h : List ℕ). take 32 (digest_bytes h 8)) (sym hash)
 
 -- the blocks that are made of a text of such a length
-pub blocks_made : (taken blocks : ℕ) (t : List ℕ) → taken % 128 ≡ 0 → 1 ≤ blocks → HasLength (block_lengths 128 16 blocks) t → length (padded_behind taken t) ≡ 128 * blocks
+pub blocks_made : (taken blocks : ℕ) (t : List ℕ) → taken % 128 ≡ 0 → 1 ≤ blocks → HasLength (block_lengths 128 16 blocks) t
+    → length (padded_behind taken t) ≡ 128 * blocks
 unfolding padded_behind
 blocks_made taken blocks t whole some (low, high) =
     let z = (239 - (taken + length t) % 128) % 128 in

@@ -1,5 +1,6 @@
 -- The padding of a text.
-use Rattle.std.proofs.Common.{◌≡◌, ℕ, ◌+◌, ◌-◌, ◌*◌, ◌/◌, ◌%◌, ◌^◌, ◌≤◌, ◌∷◌, List, ◌++◌, length, drop, replicate, arith, refl, ap, ◌∙◌, length-append, length-drop}
+use Rattle.std.proofs.Common.{◌≡◌, ℕ, ◌+◌, ◌-◌, ◌*◌, ◌/◌, ◌%◌, ◌^◌, ◌≤◌, ◌∷◌, List, ◌++◌, length, drop, replicate, arith, refl, ap, ◌∙◌}
+use Rattle.std.proofs.Common.{length-append, length-drop}
 use Rattle.std.proofs.lemmas.List.{length-replicate}
 use Rattle.std.specs.Int.{w64, to_be_bytes}
 use Rattle.sha2.specs.Sha256.{padded_message, padding}
@@ -7,7 +8,8 @@ use Rattle.digest_lanes.specs.Groups.{HasLength, block_lengths}
 
 -- what is left behind its last whole block fills a block as the whole text does
 pub tail_padding : (t rest : List ℕ) → rest ≡ drop (length t / 64 * 64) t
-    → rest ++ (0x80 ∷ replicate ((119 - length rest) % 64) 0 ++ to_be_bytes w64 (length t * 8 % 2 ^ 64)) ≡ drop (length t / 64 * 64) t ++ padding (length t)
+    → rest ++ (0x80 ∷ replicate ((119 - length rest) % 64) 0 ++ to_be_bytes w64 (length t * 8 % 2 ^ 64)) ≡ drop (length t / 64 * 64) t
+    ++ padding (length t)
 tail_padding t rest same =
     let used : length (drop (length t / 64 * 64) t) ≡ length t % 64 = omega (arith, length-drop (length t / 64 * 64) t) in
     rw (same, used) refl

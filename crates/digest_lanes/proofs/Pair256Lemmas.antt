@@ -1,5 +1,6 @@
 -- The two blocks of a text of two halves of 32 bytes.
-use Rattle.std.proofs.Common.{◌≡◌, ℕ, ◌<◌, ◌≤◌, ◌+◌, ◌-◌, ◌*◌, ◌/◌, ◌^◌, List, [], ◌∷◌, ◌++◌, length, take, drop, slice_index, arith, refl, sym, ap, ◌∙◌, length-append}
+use Rattle.std.proofs.Common.{◌≡◌, ℕ, ◌<◌, ◌≤◌, ◌+◌, ◌-◌, ◌*◌, ◌/◌, ◌^◌, List, [], ◌∷◌, ◌++◌, length, take, drop, slice_index, arith, refl, sym, ap}
+use Rattle.std.proofs.Common.{◌∙◌, length-append}
 use Rattle.std.proofs.lemmas.List.{get_or_append_left, get_or-append_right, take_all, take_at, drop_all, drop-append-le}
 use Rattle.std.proofs.lemmas.Nat.{from_be_bytes-to_be_bytes_4}
 use Rattle.std.specs.Prelude.{slice_index_or}
@@ -35,7 +36,8 @@ word_at-right l r n i k len at =
 
 -- the sixteen words of a block
 abbrev sixteen : List ℕ → List ℕ
-sixteen b = word_at b 0 ∷ word_at b 4 ∷ word_at b 8 ∷ word_at b 12 ∷ word_at b 16 ∷ word_at b 20 ∷ word_at b 24 ∷ word_at b 28 ∷ word_at b 32 ∷ word_at b 36 ∷ word_at b 40 ∷ word_at b 44 ∷ word_at b 48 ∷ word_at b 52 ∷ word_at b 56 ∷ word_at b 60 ∷ []
+sixteen b = word_at b 0 ∷ word_at b 4 ∷ word_at b 8 ∷ word_at b 12 ∷ word_at b 16 ∷ word_at b 20 ∷ word_at b 24 ∷ word_at b 28 ∷ word_at b 32
+    ∷ word_at b 36 ∷ word_at b 40 ∷ word_at b 44 ∷ word_at b 48 ∷ word_at b 52 ∷ word_at b 56 ∷ word_at b 60 ∷ []
 
 pub first_words_sixteen : (b : List ℕ) → sixteen b ≡ first_words b 16
 unfolding first_words
@@ -43,10 +45,12 @@ first_words_sixteen b = refl
 
 -- the words of the two halves
 pub pair_block : (l r : List ℕ) → length l ≡ 32 → length r ≡ 32
-    → word_at l 0 ∷ word_at l 4 ∷ word_at l 8 ∷ word_at l 12 ∷ word_at l 16 ∷ word_at l 20 ∷ word_at l 24 ∷ word_at l 28 ∷ word_at r 0 ∷ word_at r 4 ∷ word_at r 8 ∷ word_at r 12 ∷ word_at r 16 ∷ word_at r 20 ∷ word_at r 24 ∷ word_at r 28 ∷ []
+    → word_at l 0 ∷ word_at l 4 ∷ word_at l 8 ∷ word_at l 12 ∷ word_at l 16 ∷ word_at l 20 ∷ word_at l 24 ∷ word_at l 28 ∷ word_at r 0 ∷ word_at r 4
+    ∷ word_at r 8 ∷ word_at r 12 ∷ word_at r 16 ∷ word_at r 20 ∷ word_at r 24 ∷ word_at r 28 ∷ []
     ≡ first_words (l ++ r) 16
 pair_block l r ll lr =
-    let words : word_at l 0 ∷ word_at l 4 ∷ word_at l 8 ∷ word_at l 12 ∷ word_at l 16 ∷ word_at l 20 ∷ word_at l 24 ∷ word_at l 28 ∷ word_at r 0 ∷ word_at r 4 ∷ word_at r 8 ∷ word_at r 12 ∷ word_at r 16 ∷ word_at r 20 ∷ word_at r 24 ∷ word_at r 28 ∷ []
+    let words : word_at l 0 ∷ word_at l 4 ∷ word_at l 8 ∷ word_at l 12 ∷ word_at l 16 ∷ word_at l 20 ∷ word_at l 24 ∷ word_at l 28 ∷ word_at r 0
+    ∷ word_at r 4 ∷ word_at r 8 ∷ word_at r 12 ∷ word_at r 16 ∷ word_at r 20 ∷ word_at r 24 ∷ word_at r 28 ∷ []
     ≡ sixteen (l ++ r) =
     λ i. sym (word_at-left l r 0 (omega arith)) i
     ∷ sym (word_at-left l r 4 (omega arith)) i
@@ -94,7 +98,8 @@ pub digest_block : (h : List ℕ)
 unfolding digest_bytes
 digest_block h h0 h1 h2 h3 h4 h5 h6 h7 =
     let b = padded_message (digest_bytes h 8) in
-    let words : slice_index h 0 ∷ slice_index h 1 ∷ slice_index h 2 ∷ slice_index h 3 ∷ slice_index h 4 ∷ slice_index h 5 ∷ slice_index h 6 ∷ slice_index h 7
+    let words : slice_index h 0 ∷ slice_index h 1 ∷ slice_index h 2 ∷ slice_index h 3 ∷ slice_index h 4 ∷ slice_index h 5 ∷ slice_index h 6
+    ∷ slice_index h 7
     ∷ 0x80000000 ∷ 0 ∷ 0 ∷ 0 ∷ 0 ∷ 0 ∷ 0 ∷ 256 ∷ [] ≡ sixteen b =
     λ i. sym (from_be_bytes-to_be_bytes_4 (slice_index h 0) h0) i
     ∷ sym (from_be_bytes-to_be_bytes_4 (slice_index h 1) h1) i
@@ -126,8 +131,10 @@ sha256_of_digest h =
 
 -- the words of a hash value
 digest_words : (h : List ℕ)
-    → (((((((to_be_bytes w32 (slice_index h 0) ++ to_be_bytes w32 (slice_index h 1)) ++ to_be_bytes w32 (slice_index h 2)) ++ to_be_bytes w32 (slice_index h 3))
-    ++ to_be_bytes w32 (slice_index h 4)) ++ to_be_bytes w32 (slice_index h 5)) ++ to_be_bytes w32 (slice_index h 6)) ++ to_be_bytes w32 (slice_index h 7))
+    → (((((((to_be_bytes w32 (slice_index h 0) ++ to_be_bytes w32 (slice_index h 1)) ++ to_be_bytes w32 (slice_index h 2))
+    ++ to_be_bytes w32 (slice_index h 3))
+    ++ to_be_bytes w32 (slice_index h 4)) ++ to_be_bytes w32 (slice_index h 5)) ++ to_be_bytes w32 (slice_index h 6))
+    ++ to_be_bytes w32 (slice_index h 7))
     ≡ digest_bytes h 8
 unfolding digest_bytes
 digest_words h = refl

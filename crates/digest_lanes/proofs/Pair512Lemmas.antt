@@ -1,5 +1,6 @@
 -- The one block of a text of two halves of 32 bytes.
-use Rattle.std.proofs.Common.{◌≡◌, ℕ, ◌≤◌, ◌+◌, ◌-◌, ◌/◌, List, [], ◌∷◌, ◌++◌, length, take, slice_index, slice_index_or, arith, refl, sym, ap, ◌∙◌, length-append}
+use Rattle.std.proofs.Common.{◌≡◌, ℕ, ◌≤◌, ◌+◌, ◌-◌, ◌/◌, List, [], ◌∷◌, ◌++◌, length, take, slice_index, slice_index_or, arith, refl, sym, ap, ◌∙◌}
+use Rattle.std.proofs.Common.{length-append}
 use Rattle.std.proofs.lemmas.List.{get_or_append_left, get_or-append_right, take_all}
 use Rattle.std.specs.Int.{w64, to_be_bytes}
 use Rattle.digest_lanes.specs.Lanes.{lane}
@@ -112,7 +113,8 @@ sha512_256_of_pair l r ll lr =
 
 -- the leftmost four words of a hash value
 digest_front : (h : List ℕ)
-    → (((to_be_bytes w64 (slice_index h 0) ++ to_be_bytes w64 (slice_index h 1)) ++ to_be_bytes w64 (slice_index h 2)) ++ to_be_bytes w64 (slice_index h 3))
+    → (((to_be_bytes w64 (slice_index h 0) ++ to_be_bytes w64 (slice_index h 1)) ++ to_be_bytes w64 (slice_index h 2))
+    ++ to_be_bytes w64 (slice_index h 3))
     ≡ take 32 (digest_bytes h 8)
 unfolding digest_bytes
 digest_front h = refl

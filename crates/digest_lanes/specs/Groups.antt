@@ -23,8 +23,10 @@ NoneHas lengths texts from = (k : ℕ) → from ≤ k → k < length texts → �
 
 -- the indices of texts that have such a length
 abbrev pub AreOf : Lengths → List (Bor (List ℕ)) → List ℕ → Type 0
-AreOf lengths texts group = (k : ℕ) → k < length group → (slice_index group k < length texts) × HasLength lengths (text_at texts (slice_index group k))
+AreOf lengths texts group = (k : ℕ) → k < length group → (slice_index group k < length texts)
+    × HasLength lengths (text_at texts (slice_index group k))
 
 -- all of them from one index on up to another stand in the group
 abbrev pub HasAll : Lengths → List (Bor (List ℕ)) → ℕ → ℕ → List ℕ → Type 0
-HasAll lengths texts from end group = (i : ℕ) → from ≤ i → i < end → HasLength lengths (text_at texts i) → (k : ℕ) × ((k < length group) × (slice_index group k ≡ i))
+HasAll lengths texts from end group = (i : ℕ) → from ≤ i → i < end → HasLength lengths (text_at texts i)
+    → (k : ℕ) × ((k < length group) × (slice_index group k ≡ i))

@@ -40,7 +40,8 @@ fn digest_group<T: Copy + From<[u8; 32]>>(
     }
 }
 
-// Puts the digests of the texts of so many blocks at their indices, eight at a time; and from which index on the others stand, which are fewer than eight.
+// Puts the digests of the texts of so many blocks at their indices, eight at a time; and from which index on the others stand, which are fewer than
+// eight.
 fn digest_groups<T: Copy + From<[u8; 32]>>(texts: &[&[u8]], blocks: usize, out: &mut [T]) -> usize
     requires count { length out.old ≡ length texts.now }
     requires some { 1 ≤ blocks }

@@ -54,7 +54,8 @@ fn digest_group<T: Copy + From<[u8; 32]>>(
     }
 }
 
-// Puts the digests of the texts of so many blocks at their indices, four at a time; and from which index on the others stand, which are fewer than four.
+// Puts the digests of the texts of so many blocks at their indices, four at a time; and from which index on the others stand, which are fewer than
+// four.
 fn digest_groups<T: Copy + From<[u8; 32]>>(
     start: &Midstate,
     texts: &[&[u8]],
@@ -66,7 +67,8 @@ fn digest_groups<T: Copy + From<[u8; 32]>>(
     requires few { blocks ≤ 16 }
     ensures kept { (before : List ℕ) → IsMidstate start.now before
         → KeepsGiven (λ text v. T.from_gives (sha512_256 (before ++ text)) v) texts.now out.old out.new }
-    ensures made { (before : List ℕ) → IsMidstate start.now before → (i : ℕ) → i < result → HasLength (block_lengths 128 16 blocks) (text_at texts.now i)
+    ensures made { (before : List ℕ) → IsMidstate start.now before → (i : ℕ) → i < result
+        → HasLength (block_lengths 128 16 blocks) (text_at texts.now i)
         → IsGivenAt (λ text v. T.from_gives (sha512_256 (before ++ text)) v) texts.now out.new i }
 {
     let lengths = lengths_of(blocks);

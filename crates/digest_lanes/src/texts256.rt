@@ -39,7 +39,8 @@ fn load_eight(
     requires f { i + 4 ≤ length f.now }
     requires g { i + 4 ≤ length g.now }
     requires h { i + 4 ≤ length h.now }
-    ensures { (j : ℕ) → j < 8 → slice_index result j ≡ word_at (slice_index_or (a.now ∷ b.now ∷ c.now ∷ d.now ∷ e.now ∷ f.now ∷ g.now ∷ h.now ∷ []) j []) i }
+    ensures { (j : ℕ) → j < 8 → slice_index result j
+        ≡ word_at (slice_index_or (a.now ∷ b.now ∷ c.now ∷ d.now ∷ e.now ∷ f.now ∷ g.now ∷ h.now ∷ []) j []) i }
 {
     let first = load(a, i);
     let second = load(b, i);
@@ -72,7 +73,8 @@ fn block_words(
     requires f { length f.now ≡ 64 }
     requires g { length g.now ≡ 64 }
     requires h { length h.now ≡ 64 }
-    ensures { (j : ℕ) → j < 8 → lane j result ≡ first_words (slice_index_or (a.now ∷ b.now ∷ c.now ∷ d.now ∷ e.now ∷ f.now ∷ g.now ∷ h.now ∷ []) j []) 16 }
+    ensures { (j : ℕ) → j < 8 → lane j result ≡ first_words (slice_index_or (a.now ∷ b.now ∷ c.now ∷ d.now ∷ e.now ∷ f.now ∷ g.now ∷ h.now ∷ []) j [])
+        16 }
 {
     let w0 = load_eight(a, b, c, d, e, f, g, h, 0);
     let w1 = load_eight(a, b, c, d, e, f, g, h, 4);
@@ -115,7 +117,8 @@ fn hash_blocks(
     requires f { length f.now ≡ 64 * blocks }
     requires g { length g.now ≡ 64 * blocks }
     requires h { length h.now ≡ 64 * blocks }
-    ensures { (j : ℕ) → j < 8 → lane j result ≡ hash_after initial_hash_256 (slice_index_or (a.now ∷ b.now ∷ c.now ∷ d.now ∷ e.now ∷ f.now ∷ g.now ∷ h.now ∷ []) j []) blocks }
+    ensures { (j : ℕ) → j < 8 → lane j result
+        ≡ hash_after initial_hash_256 (slice_index_or (a.now ∷ b.now ∷ c.now ∷ d.now ∷ e.now ∷ f.now ∷ g.now ∷ h.now ∷ []) j []) blocks }
 {
     let mut state = initial_state();
     'each: for k in 0..blocks {

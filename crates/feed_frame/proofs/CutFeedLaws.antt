@@ -1,5 +1,6 @@
 -- Of the text of a list of events that is longer than may be read, the first events are read.
-use Rattle.std.proofs.Common.{◌≡◌, ◌⊎◌, ℕ, ◌+◌, ◌-◌, ◌<◌, ◌≤◌, ◌^◌, zero, suc, List, [], ◌∷◌, ◌++◌, length, take, Some, None, refl, sym, ap, subst, ◌∙◌, append_assoc, length-append, inl, inr, arith}
+use Rattle.std.proofs.Common.{◌≡◌, ◌⊎◌, ℕ, ◌+◌, ◌-◌, ◌<◌, ◌≤◌, ◌^◌, zero, suc, List, [], ◌∷◌, ◌++◌, length, take, Some, None, refl, sym, ap, subst}
+use Rattle.std.proofs.Common.{◌∙◌, append_assoc, length-append, inl, inr, arith}
 use Rattle.std.specs.Int.{w32, from_le_bytes, to_le_bytes}
 use Rattle.std.specs.List.{AllByRecursion}
 use Rattle.std.proofs.lemmas.Bool.{cases_lt}
@@ -36,7 +37,8 @@ module _ (net : Net) (limit : ℕ) where
   unfolding frames_from
   cut_before offset text is more =
       let none : limit - offset ≡ 0 = omega arith in
-      within-past limit offset (frames_from net offset zero) text (omega arith) ∙ ap (λ k. cut_off limit (frames_from net offset zero (take k text))) none
+      within-past limit offset (frames_from net offset zero) text (omega arith)
+      ∙ ap (λ k. cut_off limit (frames_from net offset zero (take k text))) none
 
   module _ (kind : Kind) (offset : ℕ) (body text : List ℕ) (fits : length_fault kind offset (length body) ≡ None) (small : length body < 2 ^ 32) where
     abbrev size : List ℕ
@@ -76,23 +78,27 @@ module _ (net : Net) (limit : ℕ) where
           let l = length-append others behind in
           let long = behind_long in
           within-append limit offset (offset + 1) read (suc b ∷ []) (others ++ behind) (omega arith) (omega (arith, some))
-          ∙ within-limit limit (offset + 1) (λ t. read (suc b ∷ t)) 3 offset 7 (magic_cut net offset b) (others ++ behind) (omega (arith, past)) (omega (arith, past, l, long, three)) (omega (arith, some))
+          ∙ within-limit limit (offset + 1) (λ t. read (suc b ∷ t)) 3 offset 7 (magic_cut net offset b) (others ++ behind) (omega (arith, past))
+          (omega (arith, past, l, long, three)) (omega (arith, some))
 
       cut_length : offset + 4 ≤ limit → limit < offset + 8 → read_to offset (front ++ behind) ≡ ended
       cut_length some past =
           let long = behind_long in
           within-append limit offset (offset + 4) read front behind (omega (arith, front_four)) some
-          ∙ within-limit limit (offset + 4) (λ t. read (front ++ t)) 4 offset 4 (front_cut net offset front tt front_four kind is) behind (omega (arith, past)) (omega (arith, past, long)) some
+          ∙ within-limit limit (offset + 4) (λ t. read (front ++ t)) 4 offset 4 (front_cut net offset front tt front_four kind is) behind
+          (omega (arith, past)) (omega (arith, past, long)) some
 
       cut_body : offset + 8 ≤ limit → limit < offset + (8 + length body) → read_to offset (front ++ behind) ≡ ended
       cut_body some past =
           let l = length-append body text in
           let same = again in
           within-append limit offset (offset + 4) read front behind (omega (arith, front_four)) (omega (arith, some))
-          ∙ within-append limit (offset + 4) (offset + 8) (λ t. read (front ++ t)) size (body ++ text) (let c : length size ≡ 4 = refl in omega (arith, c)) some
+          ∙ within-append limit (offset + 4) (offset + 8) (λ t. read (front ++ t)) size (body ++ text) (let c : length size ≡ 4 = refl in
+          omega (arith, c)) some
           ∙ within-same limit (offset + 8) (λ t. read (front ++ (size ++ t))) (frames_behind net head (offset + 8)) (body ++ text)
           (λ t. ap read (sym (append_assoc front size t)) ∙ front_good net offset front tt front_four kind is size refl fits_again t)
-          ∙ within-limit limit (offset + 8) (frames_behind net head (offset + 8)) head.length offset _ (body_cut net head (offset + 8) [] head.length (omega arith)) (body ++ text)
+          ∙ within-limit limit (offset + 8) (frames_behind net head (offset + 8)) head.length offset _
+          (body_cut net head (offset + 8) [] head.length (omega arith)) (body ++ text)
           (omega (arith, past, same)) (omega (arith, past, l)) some
 
       cut_front : offset < limit → limit < offset + (8 + length body) → read_to offset (front ++ behind) ≡ ended
@@ -106,7 +112,8 @@ module _ (net : Net) (limit : ℕ) where
                 ]
           ]
 
-    cut_in : (front : List ℕ) → BeginsFrame front → length front ≡ 4 → kind_at net front ≡ Some kind → offset < limit → limit < offset + (8 + length body) → read_to offset (front ++ behind) ≡ ended
+    cut_in : (front : List ℕ) → BeginsFrame front → length front ≡ 4 → kind_at net front ≡ Some kind → offset < limit
+        → limit < offset + (8 + length body) → read_to offset (front ++ behind) ≡ ended
     cut_in [] begin long is some past = absurd begin
     cut_in (zero ∷ others) begin long is some past = absurd begin
     cut_in (suc b ∷ others) begin long is some past = cut_front b others (omega (arith, long)) is some past
@@ -132,7 +139,8 @@ module _ (net : Net) (limit : ℕ) where
     whole = record { kind = kind; body = body; end = end }
 
     -- or behind it
-    frame_kept : offset + (8 + length body) ≤ limit → read_to offset (frame_text (magic_of net kind) body ++ text) ≡ with_frame whole (read_to end text)
+    frame_kept : offset + (8 + length body) ≤ limit → read_to offset (frame_text (magic_of net kind) body ++ text)
+        ≡ with_frame whole (read_to end text)
     frame_kept inside =
         let a = length-append (magic_of net kind) (size ++ body) in
         let b = length-append size body in
@@ -167,7 +175,8 @@ module _ (net : Net) (limit : ℕ) where
   unfolding events_over
   none-more events = record { front = []; later = events; split = refl; strays = []; one = inl refl; all = refl; ends = refl }
 
-  cut-more : (event : FeedEvent) (events : List FeedEvent) (at : ℕ) (read : Events) → IsCutOff events read → IsCutOff (event ∷ events) (led_by event at read)
+  cut-more : (event : FeedEvent) (events : List FeedEvent) (at : ℕ) (read : Events) → IsCutOff events read
+      → IsCutOff (event ∷ events) (led_by event at read)
   cut-more event events at read r = record {
     front = event ∷ r.front;
     later = r.later;
@@ -183,7 +192,8 @@ module _ (net : Net) (limit : ℕ) where
 
   -- of the events behind one that is whole, the first come
   abbrev Later : List FeedEvent → Type 0
-  Later events = (offset : ℕ) → offset ≤ limit → limit < offset + length (feed_text net events) → IsCutOff events (events_to offset (feed_text net events))
+  Later events = (offset : ℕ) → offset ≤ limit → limit < offset + length (feed_text net events)
+      → IsCutOff events (events_to offset (feed_text net events))
 
   block_step : (block : List ℕ) (events : List FeedEvent) → length block ≤ 4000000 → Later events → Later (BlockCame block None ∷ events)
   unfolding event_text events_over
@@ -193,7 +203,8 @@ module _ (net : Net) (limit : ℕ) where
       let small : length block < 2 ^ 32 = omega (arith, short) in
       let long = frame_long Block offset block text fits small in
       elim (cases_lt limit (offset + (8 + length block))) [
-        | inl lt ↦ subst (λ fs. IsCutOff (BlockCame block None ∷ events) (events_in None fs)) (sym (frame_cut Block offset block text fits small inside lt)) (none-more (BlockCame block None ∷ events))
+        | inl lt ↦ subst (λ fs. IsCutOff (BlockCame block None ∷ events) (events_in None fs))
+            (sym (frame_cut Block offset block text fits small inside lt)) (none-more (BlockCame block None ∷ events))
         | inr le ↦
             subst (λ fs. IsCutOff (BlockCame block None ∷ events) (events_in None fs)) (sym (frame_kept Block offset block text fits small le))
             (cut-more (BlockCame block None) events _ _ (later ((offset + 8) + length block) (omega (arith, le)) (omega (arith, past, long))))
@@ -208,16 +219,19 @@ module _ (net : Net) (limit : ℕ) where
       let small : length body < 2 ^ 32 = omega (arith, four) in
       let long = frame_long Rollback offset body text refl small in
       elim (cases_lt limit (offset + (8 + length body))) [
-        | inl lt ↦ subst (λ fs. IsCutOff (RollbackCame count ∷ events) (events_in None fs)) (sym (frame_cut Rollback offset body text refl small inside lt)) (none-more (RollbackCame count ∷ events))
+        | inl lt ↦ subst (λ fs. IsCutOff (RollbackCame count ∷ events) (events_in None fs))
+            (sym (frame_cut Rollback offset body text refl small inside lt)) (none-more (RollbackCame count ∷ events))
         | inr le ↦
             let end = (offset + 8) + length body in
             let r = later end (omega (arith, le)) (omega (arith, past, long)) in
             subst (IsCutOff (RollbackCame count ∷ events))
-            (sym (ap (events_in None) (frame_kept Rollback offset body text refl small le) ∙ ap (λ k. led_by (RollbackCame k) end (events_to end text)) (from_le_bytes-to_le_bytes_4 count few)))
+            (sym (ap (events_in None) (frame_kept Rollback offset body text refl small le)
+            ∙ ap (λ k. led_by (RollbackCame k) end (events_to end text)) (from_le_bytes-to_le_bytes_4 count few)))
             (cut-more (RollbackCame count) events _ _ r)
       ]
 
-  proved_step : (block message : List ℕ) (events : List FeedEvent) → length block ≤ 4000000 → length message ≤ 300000000 → Later events → Later (BlockCame block (Some message) ∷ events)
+  proved_step : (block message : List ℕ) (events : List FeedEvent) → length block ≤ 4000000 → length message ≤ 300000000 → Later events
+      → Later (BlockCame block (Some message) ∷ events)
   unfolding event_text events_over
   proved_step block message events short few later offset inside past =
       let all = BlockCame block (Some message) ∷ events in
@@ -229,22 +243,26 @@ module _ (net : Net) (limit : ℕ) where
       let proof_small : length message < 2 ^ 32 = omega (arith, few) in
       let fits = block_long at (length block) short in
       let small : length block < 2 ^ 32 = omega (arith, short) in
-      let grouped : events_to offset (feed_text net all) ≡ events_to offset (proof ++ (last ++ text)) = ap (events_to offset) (append_assoc proof last text) in
+      let grouped : events_to offset (feed_text net all) ≡ events_to offset (proof ++ (last ++ text)) =
+      ap (events_to offset) (append_assoc proof last text) in
       let whole_long : length (feed_text net all) ≡ length (proof ++ (last ++ text)) = ap (λ l. length l) (append_assoc proof last text) in
       let first_long = frame_long Proof offset message (last ++ text) proof_fits proof_small in
       let long = frame_long Block at block text fits small in
       let first : Frame = record { kind = Proof; body = message; end = at } in
       elim (cases_lt limit (offset + (8 + length message))) [
-        | inl lt ↦ subst (IsCutOff all) (sym (grouped ∙ ap (events_in None) (frame_cut Proof offset message (last ++ text) proof_fits proof_small inside lt))) (none-more all)
+        | inl lt ↦ subst (IsCutOff all) (sym (grouped
+            ∙ ap (events_in None) (frame_cut Proof offset message (last ++ text) proof_fits proof_small inside lt))) (none-more all)
         | inr le ↦
             let kept = grouped ∙ ap (events_in None) (frame_kept Proof offset message (last ++ text) proof_fits proof_small le) in
             elim (cases_lt limit (at + (8 + length block))) [
               | inl lt ↦
-                  subst (IsCutOff all) (sym (kept ∙ ap (λ fs. events_in None (with_frame first fs)) (frame_cut Block at block text fits small (omega (arith, le)) lt)))
+                  subst (IsCutOff all) (sym (kept ∙ ap (λ fs. events_in None (with_frame first fs))
+                  (frame_cut Block at block text fits small (omega (arith, le)) lt)))
                   (record { front = []; later = all; split = refl; strays = StrayCame ∷ []; one = inr refl; all = refl; ends = refl })
               | inr more ↦
                   subst (IsCutOff all) (sym (kept ∙ ap (λ fs. events_in None (with_frame first fs)) (frame_kept Block at block text fits small more)))
-                  (cut-more (BlockCame block (Some message)) events _ _ (later ((at + 8) + length block) (omega (arith, more)) (omega (arith, past, whole_long, first_long, long))))
+                  (cut-more (BlockCame block (Some message)) events _ _
+                  (later ((at + 8) + length block) (omega (arith, more)) (omega (arith, past, whole_long, first_long, long))))
             ]
       ]
 
@@ -255,7 +273,8 @@ module _ (net : Net) (limit : ℕ) where
   cut_from (RollbackCame count ∷ events) all = rollback_step count events all.0 (cut_from events all.1)
   cut_from (StrayCame ∷ events) all = absurd all.0
 
-  pub feed_cut : (events : List FeedEvent) → AllByRecursion HasFrames events → limit < length (feed_text net events) → HasFirstEvents net limit (feed_text net events) events
+  pub feed_cut : (events : List FeedEvent) → AllByRecursion HasFrames events → limit < length (feed_text net events)
+      → HasFirstEvents net limit (feed_text net events) events
   unfolding events_of
   feed_cut events all past =
       let r = cut_from events all 0 (omega arith) (omega (arith, past)) in

@@ -1,5 +1,6 @@
 -- What the events of a feed hold is bytes, where the feed is made of bytes.
-use Rattle.std.proofs.Common.{ℕ, zero, suc, ◌+◌, ◌-◌, nat_lt, Bool, true, false, cond, List, [], ◌∷◌, length, take, drop, Option, Some, None, Result, Ok, Err, arith, inl, inr}
+use Rattle.std.proofs.Common.{ℕ, zero, suc, ◌+◌, ◌-◌, nat_lt, Bool, true, false, cond, List, [], ◌∷◌, length, take, drop, Option, Some, None, Result}
+use Rattle.std.proofs.Common.{Ok, Err, arith, inl, inr}
 use Rattle.std.specs.List.{AllByRecursion}
 use Rattle.std.proofs.lemmas.Bool.{cases_lt}
 use Rattle.std.proofs.lemmas.List.{get_or-take, get_or_past, length-take}
@@ -13,7 +14,8 @@ use Rattle.feed_frame.specs.declared.head.Head.{Head}
 use Rattle.feed_frame.specs.declared.head.Kind.{Kind}
 use Rattle.feed_frame.specs.declared.head.Kind.TheVariants.{Block, Proof, Rollback}
 use Rattle.feed_frame.specs.Events.{Events, ends_at, strayed, event_at, events_over, events_of}
-use Rattle.feed_frame.specs.Frames.{Frame, Frames, head_at, frame_behind, frame_of, frame_at, led_by_frame, frames_from, frames_of, past_limit, within}
+use Rattle.feed_frame.specs.Frames.{Frame, Frames, head_at, frame_behind, frame_of, frame_at, led_by_frame, frames_from, frames_of, past_limit}
+use Rattle.feed_frame.specs.Frames.{within}
 
 pub IsBytes-take : (n : ℕ) (bytes : List ℕ) → IsBytes bytes → IsBytes (take n bytes)
 IsBytes-take n bytes h i =
@@ -41,7 +43,8 @@ body_bytes : (head : Head) (at : ℕ) (bytes : List ℕ) → IsBytes bytes → H
 unfolding HasBytesIf
 body_bytes head at bytes h = by (nat_lt (length bytes) head.length)
   where
-    by : (b : Bool) → HasBytesIf (cond b (Err (Cut head.offset (head.length - length bytes))) (Ok (record { kind = head.kind; body = take head.length bytes; end = at + head.length })))
+    by : (b : Bool) → HasBytesIf (cond b (Err (Cut head.offset (head.length - length bytes)))
+        (Ok (record { kind = head.kind; body = take head.length bytes; end = at + head.length })))
     by true = tt
     by false = IsBytes-take head.length bytes h
 
@@ -59,7 +62,8 @@ frames_bytes net [] offset past h = tt
 frames_bytes net (byte ∷ bytes) offset (suc past) h = frames_bytes net bytes (offset + 1) past (IsBytes-tail byte bytes h)
 frames_bytes net (zero ∷ bytes) offset zero h = frames_bytes net bytes (offset + 1) zero (IsBytes-tail zero bytes h)
 frames_bytes net (suc b ∷ bytes) offset zero h =
-    by (frame_at net offset (suc b ∷ bytes)) (frame_bytes net offset (suc b ∷ bytes) h) (λ end. frames_bytes net bytes (offset + 1) (end - (offset + 1)) (IsBytes-tail (suc b) bytes h))
+    by (frame_at net offset (suc b ∷ bytes)) (frame_bytes net offset (suc b ∷ bytes) h)
+    (λ end. frames_bytes net bytes (offset + 1) (end - (offset + 1)) (IsBytes-tail (suc b) bytes h))
   where
     by : (r : Result Frame FeedFault) → HasBytesIf r → ((end : ℕ) → HaveBytes (frames_from net (offset + 1) (end - (offset + 1)) bytes))
         → HaveBytes (led_by_frame r (λ end. frames_from net (offset + 1) (end - (offset + 1)) bytes))
@@ -70,7 +74,8 @@ frames_of_bytes : (net : Net) (limit : ℕ) (feed : List ℕ) → IsBytes feed �
 unfolding within
 frames_of_bytes net limit feed h = by (nat_lt (limit - 0) (length feed))
   where
-    by : (b : Bool) → HaveBytes (cond b (let read = frames_from net 0 0 (take (limit - 0) feed) in record { frames = read.frames; ending = past_limit limit read.ending }) (frames_from net 0 0 feed))
+    by : (b : Bool) → HaveBytes (cond b (let read = frames_from net 0 0 (take (limit - 0) feed) in
+        record { frames = read.frames; ending = past_limit limit read.ending }) (frames_from net 0 0 feed))
     by true = frames_bytes net (take (limit - 0) feed) 0 0 (IsBytes-take (limit - 0) feed h)
     by false = frames_bytes net feed 0 0 h
 
@@ -95,12 +100,14 @@ strayed_bytes None others h = h
 strayed_bytes (Some proof) others h = (tt, h)
 
 module _ (last : Option Frame → Events) (ends : (proof : Option Frame) → AreMadeOfBytes (last proof)) where
-  over_bytes : (frames : List Frame) (proof : Option Frame) → HasBytesIfThere proof → AllByRecursion HasBytes frames → AreMadeOfBytes (events_over last proof frames)
+  over_bytes : (frames : List Frame) (proof : Option Frame) → HasBytesIfThere proof → AllByRecursion HasBytes frames
+      → AreMadeOfBytes (events_over last proof frames)
   unfolding events_over
   over_bytes [] proof p h = ends proof
   over_bytes (frame ∷ frames) proof p h = by frame.kind proof p (over_bytes frames None tt h.1) (over_bytes frames (Some frame) h.0 h.1)
     where
-      by : (kind : Kind) (proof : Option Frame) → HasBytesIfThere proof → AreMadeOfBytes (events_over last None frames) → AreMadeOfBytes (events_over last (Some frame) frames)
+      by : (kind : Kind) (proof : Option Frame) → HasBytesIfThere proof → AreMadeOfBytes (events_over last None frames)
+          → AreMadeOfBytes (events_over last (Some frame) frames)
           → AreMadeOfBytes (event_at proof frame kind (λ q. events_over last q frames))
       by Block None p none some = (h.0, none)
       by Block (Some proof) p none some = ((h.0, p), none)
@@ -111,4 +118,5 @@ pub events_bytes : (net : Net) (limit : ℕ) (feed : List ℕ) → IsBytes feed 
 unfolding events_of
 events_bytes net limit feed h =
     let read = frames_of net limit feed in
-    over_bytes (λ p. strayed p (ends_at read.ending)) (λ p. strayed_bytes p (ends_at read.ending) tt) read.frames None tt (frames_of_bytes net limit feed h)
+    over_bytes (λ p. strayed p (ends_at read.ending)) (λ p. strayed_bytes p (ends_at read.ending) tt) read.frames None tt
+    (frames_of_bytes net limit feed h)

@@ -1,5 +1,6 @@
 -- The text of a list of events is read again.
-use Rattle.std.proofs.Common.{◌≡◌, ℕ, ◌+◌, ◌<◌, ◌≤◌, ◌^◌, zero, List, [], ◌∷◌, ◌++◌, length, Some, None, refl, sym, ap, subst, ◌∙◌, append_assoc, arith}
+use Rattle.std.proofs.Common.{◌≡◌, ℕ, ◌+◌, ◌<◌, ◌≤◌, ◌^◌, zero, List, [], ◌∷◌, ◌++◌, length, Some, None, refl, sym, ap, subst, ◌∙◌, append_assoc}
+use Rattle.std.proofs.Common.{arith}
 use Rattle.std.specs.Int.{w32, to_le_bytes}
 use Rattle.std.specs.List.{AllByRecursion}
 use Rattle.std.proofs.lemmas.Bool.{le-ltb}
@@ -19,7 +20,8 @@ pub record AreRead (events : List FeedEvent) (read : Events) : Type 0 where
   pub all : read.events ≡ events
   pub ends : read.ending ≡ None
 
-pub read-more : (event : FeedEvent) (events : List FeedEvent) (end : ℕ) (read : Events) → AreRead events read → AreRead (event ∷ events) (led_by event end read)
+pub read-more : (event : FeedEvent) (events : List FeedEvent) (end : ℕ) (read : Events) → AreRead events read
+    → AreRead (event ∷ events) (led_by event end read)
 read-more event events end read r = record { all = ap (λ es. event ∷ es) r.all; ends = r.ends }
 
 pub block_long : (offset size : ℕ) → size ≤ most_block → length_fault Block offset size ≡ None
@@ -36,17 +38,21 @@ module _ (net : Net) where
   end_of offset body = (offset + 8) + length body
 
   pub framed : (kind : Kind) (offset : ℕ) (body text : List ℕ) → length_fault kind offset (length body) ≡ None → length body < 2 ^ 32
-      → frames_from net offset zero (frame_text (magic_of net kind) body ++ text) ≡ with_frame (record { kind = kind; body = body; end = end_of offset body }) (frames_from net (end_of offset body) zero text)
+      → frames_from net offset zero (frame_text (magic_of net kind) body ++ text)
+      ≡ with_frame (record { kind = kind; body = body; end = end_of offset body }) (frames_from net (end_of offset body) zero text)
   framed kind offset body text none small = written_is_read net kind offset body text none small
 
   pub read_block : (offset : ℕ) (block text : List ℕ) → length block ≤ most_block
-      → read_from offset (event_text net (BlockCame block None) ++ text) ≡ led_by (BlockCame block None) (end_of offset block) (read_from (end_of offset block) text)
+      → read_from offset (event_text net (BlockCame block None) ++ text)
+      ≡ led_by (BlockCame block None) (end_of offset block) (read_from (end_of offset block) text)
   unfolding event_text events_over
-  read_block offset block text short = ap (events_in None) (framed Block offset block text (block_long offset (length block) short) (omega (arith, short)))
+  read_block offset block text short = ap (events_in None)
+      (framed Block offset block text (block_long offset (length block) short) (omega (arith, short)))
 
   pub read_proved : (offset : ℕ) (block message text : List ℕ) → length block ≤ most_block → length message ≤ most_proof
       → let at = end_of offset message in
-      read_from offset (event_text net (BlockCame block (Some message)) ++ text) ≡ led_by (BlockCame block (Some message)) (end_of at block) (read_from (end_of at block) text)
+      read_from offset (event_text net (BlockCame block (Some message)) ++ text)
+      ≡ led_by (BlockCame block (Some message)) (end_of at block) (read_from (end_of at block) text)
   unfolding event_text events_over
   read_proved offset block message text short few =
       let at = end_of offset message in
@@ -59,7 +65,8 @@ module _ (net : Net) where
 
   pub read_rollback : (offset count : ℕ) (text : List ℕ) → count < 2 ^ 32
       → let body = to_le_bytes w32 count in
-      read_from offset (event_text net (RollbackCame count) ++ text) ≡ led_by (RollbackCame count) (end_of offset body) (read_from (end_of offset body) text)
+      read_from offset (event_text net (RollbackCame count) ++ text)
+      ≡ led_by (RollbackCame count) (end_of offset body) (read_from (end_of offset body) text)
   unfolding event_text events_over
   read_rollback offset count text small =
       let body : List ℕ = to_le_bytes w32 count in
@@ -82,7 +89,8 @@ module _ (net : Net) where
       (read-more (RollbackCame count) events _ _ (read_again events (end_of offset (to_le_bytes w32 count)) all.1))
   read_again (StrayCame ∷ events) offset all = absurd all.0
 
-  pub feed_read : (limit : ℕ) (events : List FeedEvent) → AllByRecursion HasFrames events → length (feed_text net events) ≤ limit → HasEvents net limit (feed_text net events) events
+  pub feed_read : (limit : ℕ) (events : List FeedEvent) → AllByRecursion HasFrames events → length (feed_text net events) ≤ limit
+      → HasEvents net limit (feed_text net events) events
   unfolding events_of
   feed_read limit events all room =
       let text = feed_text net events in

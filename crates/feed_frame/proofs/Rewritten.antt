@@ -1,5 +1,6 @@
 -- The events of a feed are written anew, and read again.
-use Rattle.std.proofs.Common.{◌≡◌, ℕ, zero, suc, ◌+◌, ◌-◌, ◌<◌, ◌≤◌, ◌^◌, nat_lt, eqb, Bool, true, false, cond, List, [], ◌∷◌, ◌++◌, length, take, drop, Option, Some, None, Result, Ok, Err, refl, sym, ap, subst, ◌∙◌, append_assoc, arith, inl, inr, length-append}
+use Rattle.std.proofs.Common.{◌≡◌, ℕ, zero, suc, ◌+◌, ◌-◌, ◌<◌, ◌≤◌, ◌^◌, nat_lt, eqb, Bool, true, false, cond, List, [], ◌∷◌, ◌++◌, length, take}
+use Rattle.std.proofs.Common.{drop, Option, Some, None, Result, Ok, Err, refl, sym, ap, subst, ◌∙◌, append_assoc, arith, inl, inr, length-append}
 use Rattle.std.specs.Int.{w32, to_le_bytes, from_le_bytes}
 use Rattle.std.specs.List.{AllByRecursion}
 use Rattle.std.proofs.lemmas.Bool.{cases_lt, ltb-false, eqb-true}
@@ -13,7 +14,8 @@ use Rattle.feed_frame.specs.declared.fault.FeedFault.TheVariants.{Cut, TooLong, 
 use Rattle.feed_frame.specs.declared.head.Head.{Head}
 use Rattle.feed_frame.specs.declared.head.Kind.{Kind}
 use Rattle.feed_frame.specs.declared.head.Kind.TheVariants.{Block, Proof, Rollback}
-use Rattle.feed_frame.specs.Frames.{Frame, Frames, magic_of, kind_at, length_fault, unless_fault, head_of, head_at, frame_of, frame_at, led_by_frame, frames_from, frames_of, past_limit, within, most_block, most_proof}
+use Rattle.feed_frame.specs.Frames.{Frame, Frames, magic_of, kind_at, length_fault, unless_fault, head_of, head_at, frame_of, frame_at, led_by_frame}
+use Rattle.feed_frame.specs.Frames.{frames_from, frames_of, past_limit, within, most_block, most_proof}
 use Rattle.feed_frame.specs.Events.{Events, ends_at, strayed, event_at, events_in, events_of, events_over, led_by}
 use Rattle.feed_frame.specs.FeedText.{event_text, feed_text, HasEvents, MayFollowStray, CanBeAFeed, CanBeRewritten}
 use Rattle.feed_frame.specs.Written.{frame_text}
@@ -27,7 +29,8 @@ use Rattle.feed_frame.proofs.WrittenLaws.{four}
 module _ (net : Net) where
   first_framed : (kind : Kind) (offset : ℕ) (body text : List ℕ) → length_fault kind offset (length body) ≡ None → length body < 2 ^ 32
       → FirstIs kind (frames_from net offset zero (frame_text (magic_of net kind) body ++ text)).frames
-  first_framed kind offset body text fits small = subst (λ (f : Frames). FirstIs kind f.frames) (sym (framed net kind offset body text fits small)) refl
+  first_framed kind offset body text fits small =
+      subst (λ (f : Frames). FirstIs kind f.frames) (sym (framed net kind offset body text fits small)) refl
 
   -- a frame that is not that of a block
   record BeginsOtherwise (offset : ℕ) (text : List ℕ) : Type 0 where
@@ -35,7 +38,8 @@ module _ (net : Net) where
     other : IsOther kind
     first : FirstIs kind (frames_from net offset zero text).frames
 
-  begins_otherwise : (events : List FeedEvent) (offset : ℕ) → CanBeAFeed events → MayFollowStray events → BeginsOtherwise offset (feed_text net events)
+  begins_otherwise : (events : List FeedEvent) (offset : ℕ) → CanBeAFeed events → MayFollowStray events
+      → BeginsOtherwise offset (feed_text net events)
   unfolding frames_from event_text
   begins_otherwise [] offset can may = record { kind = Proof; other = tt; first = tt }
   begins_otherwise (BlockCame block None ∷ events) offset can may = absurd may
@@ -82,7 +86,8 @@ module _ (net : Net) where
       subst (AreRead (StrayCame ∷ events)) (sym (read_stray offset (feed_text net events) (begins_otherwise events at can.1 can.0)))
       (read-more StrayCame events _ _ (again events at can.1))
 
-  pub read_again_all : (limit : ℕ) (events : List FeedEvent) → CanBeAFeed events → length (feed_text net events) ≤ limit → HasEvents net limit (feed_text net events) events
+  pub read_again_all : (limit : ℕ) (events : List FeedEvent) → CanBeAFeed events → length (feed_text net events) ≤ limit
+      → HasEvents net limit (feed_text net events) events
   unfolding events_of
   read_again_all limit events can room =
       let text = feed_text net events in
@@ -134,7 +139,8 @@ head_fits net offset bytes = by (nat_lt (length bytes) 4)
 
     long : (kind : Kind) (b : Bool) → nat_lt (length bytes) 8 ≡ b
         → HeadFitsIf (length bytes) (cond b (let r : Result Head FeedFault = Err (Cut offset (8 - length bytes)) in r)
-        (let size = from_le_bytes w32 (take 4 (drop 4 bytes)) in unless_fault (length_fault kind offset size) (let h : Head = record { kind = kind; offset = offset; length = size } in h)))
+        (let size = from_le_bytes w32 (take 4 (drop 4 bytes)) in
+        unless_fault (length_fault kind offset size) (let h : Head = record { kind = kind; offset = offset; length = size } in h)))
     long kind true e = tt
     long kind false e = let size = from_le_bytes w32 (take 4 (drop 4 bytes)) in sized kind size (ltb-false _ _ e) (length_fault kind offset size) refl
 
@@ -194,7 +200,8 @@ frame_within net offset bytes h = by (head_at net offset bytes) (head_fits net o
         let body = take head.length (drop 8 bytes) in
         let size : length body ≡ head.length = omega (arith, length-take head.length (drop 8 bytes), ltb-false _ _ e) in
         record {
-          fits = fit_by head.kind head.offset body (IsBytes-take head.length (drop 8 bytes) (IsBytes-drop 8 bytes h)) (ap (length_fault head.kind head.offset) size ∙ f.fits);
+          fits = fit_by head.kind head.offset body (IsBytes-take head.length (drop 8 bytes) (IsBytes-drop 8 bytes h))
+              (ap (length_fault head.kind head.offset) size ∙ f.fits);
           end = omega (arith, size);
           room = omega (arith, size, f.room, ltb-false _ _ e, length-drop 8 bytes);
         }
@@ -207,13 +214,17 @@ record FramesFit (most : ℕ) (frames : List Frame) : Type 0 where
   all : AllByRecursion FrameFits frames
   size : size_of frames ≤ most
 
-frames_fit : (net : Net) (bytes : List ℕ) (offset past : ℕ) → IsBytes bytes → FramesFit (length bytes - past) (frames_from net offset past bytes).frames
+frames_fit : (net : Net) (bytes : List ℕ) (offset past : ℕ) → IsBytes bytes
+    → FramesFit (length bytes - past) (frames_from net offset past bytes).frames
 unfolding frames_from IsWithinIf
 frames_fit net [] offset past h = record { all = tt; size = omega arith }
-frames_fit net (byte ∷ bytes) offset (suc past) h = let f = frames_fit net bytes (offset + 1) past (IsBytes-tail byte bytes h) in record { all = f.all; size = omega (arith, f.size) }
-frames_fit net (zero ∷ bytes) offset zero h = let f = frames_fit net bytes (offset + 1) zero (IsBytes-tail zero bytes h) in record { all = f.all; size = omega (arith, f.size) }
+frames_fit net (byte ∷ bytes) offset (suc past) h = let f = frames_fit net bytes (offset + 1) past (IsBytes-tail byte bytes h) in
+    record { all = f.all; size = omega (arith, f.size) }
+frames_fit net (zero ∷ bytes) offset zero h = let f = frames_fit net bytes (offset + 1) zero (IsBytes-tail zero bytes h) in
+    record { all = f.all; size = omega (arith, f.size) }
 frames_fit net (suc b ∷ bytes) offset zero h =
-    by (frame_at net offset (suc b ∷ bytes)) (frame_within net offset (suc b ∷ bytes) h) (λ end. frames_fit net bytes (offset + 1) (end - (offset + 1)) (IsBytes-tail (suc b) bytes h))
+    by (frame_at net offset (suc b ∷ bytes)) (frame_within net offset (suc b ∷ bytes) h)
+    (λ end. frames_fit net bytes (offset + 1) (end - (offset + 1)) (IsBytes-tail (suc b) bytes h))
   where
     by : (r : Result Frame FeedFault) → IsWithinIf offset (length (suc b ∷ bytes)) r
         → ((end : ℕ) → FramesFit (length bytes - (end - (offset + 1))) (frames_from net (offset + 1) (end - (offset + 1)) bytes).frames)
@@ -221,16 +232,20 @@ frames_fit net (suc b ∷ bytes) offset zero h =
     by (Err fault) w later = record { all = tt; size = omega arith }
     by (Ok frame) w later = let f = later frame.end in record { all = (w.fits, f.all); size = omega (arith, f.size, w.end, w.room) }
 
-frames_of_fit : (net : Net) (limit : ℕ) (feed : List ℕ) → IsBytes feed → FramesFit (length feed) (frames_of net limit feed).frames × FramesFit limit (frames_of net limit feed).frames
+frames_of_fit : (net : Net) (limit : ℕ) (feed : List ℕ) → IsBytes feed → FramesFit (length feed) (frames_of net limit feed).frames
+    × FramesFit limit (frames_of net limit feed).frames
 unfolding within
 frames_of_fit net limit feed h = by (nat_lt (limit - 0) (length feed)) refl
   where
     by : (b : Bool) → nat_lt (limit - 0) (length feed) ≡ b
-        → let read : Frames = cond b (let read = frames_from net 0 0 (take (limit - 0) feed) in record { frames = read.frames; ending = past_limit limit read.ending }) (frames_from net 0 0 feed) in
+        → let read : Frames = cond b (let read = frames_from net 0 0 (take (limit - 0) feed) in
+        record { frames = read.frames; ending = past_limit limit read.ending }) (frames_from net 0 0 feed) in
         FramesFit (length feed) read.frames × FramesFit limit read.frames
     by true e =
-        let f = frames_fit net (take (limit - 0) feed) 0 0 (IsBytes-take (limit - 0) feed h) in
-        (record { all = f.all; size = omega (arith, f.size, length-take (limit - 0) feed) }, record { all = f.all; size = omega (arith, f.size, length-take (limit - 0) feed) })
+        let f = frames_fit net (take (limit - 0) feed) 0 0 (IsBytes-take (limit - 0) feed h) in (
+          record { all = f.all; size = omega (arith, f.size, length-take (limit - 0) feed) },
+          record { all = f.all; size = omega (arith, f.size, length-take (limit - 0) feed) },
+        )
     by false e =
         let f = frames_fit net feed 0 0 h in
         (record { all = f.all; size = omega (arith, f.size) }, record { all = f.all; size = omega (arith, f.size, ltb-false _ _ e) })
@@ -244,7 +259,8 @@ module _ (net : Net) where
       let sized : length size ≡ 4 = refl in
       omega (arith, length-append (magic_of net kind) (size ++ body), length-append size body, four net kind, sized)
 
-  text_more : (event : FeedEvent) (events : List FeedEvent) → length (feed_text net (event ∷ events)) ≡ length (event_text net event) + length (feed_text net events)
+  text_more : (event : FeedEvent) (events : List FeedEvent)
+      → length (feed_text net (event ∷ events)) ≡ length (event_text net event) + length (feed_text net events)
   text_more event events = length-append (event_text net event) (feed_text net events)
 
   record IsWritten (most : ℕ) (events : List FeedEvent) : Type 0 where
@@ -256,19 +272,27 @@ module _ (net : Net) where
     may : MayFollowStray events
     is : IsWritten most events
 
-  block_written : (body : List ℕ) (most : ℕ) (events : List FeedEvent) → length body ≤ most_block → IsWritten most events → IsWritten ((8 + length body) + most) (BlockCame body None ∷ events)
+  block_written : (body : List ℕ) (most : ℕ) (events : List FeedEvent) → length body ≤ most_block → IsWritten most events
+      → IsWritten ((8 + length body) + most) (BlockCame body None ∷ events)
   unfolding event_text
   block_written body most events short w =
       record { can = ((short, tt), w.can); size = omega (arith, w.size, text_more (BlockCame body None) events, frame_size Block body) }
 
-  proved_written : (body message : List ℕ) (most : ℕ) (events : List FeedEvent) → length body ≤ most_block → length message ≤ most_proof → IsWritten most events
+  proved_written : (body message : List ℕ) (most : ℕ) (events : List FeedEvent) → length body ≤ most_block → length message ≤ most_proof
+      → IsWritten most events
       → IsWrittenBehind ((8 + length message) + ((8 + length body) + most)) (BlockCame body (Some message) ∷ events)
   unfolding event_text
   proved_written body message most events short few w =
       let proof = frame_text (magic_of net Proof) message in
       let last = frame_text (magic_of net Block) body in
       let both : length (event_text net (BlockCame body (Some message))) ≡ length proof + length last = length-append proof last in
-      record { may = tt; is = record { can = ((short, few), w.can); size = omega (arith, w.size, both, text_more (BlockCame body (Some message)) events, frame_size Block body, frame_size Proof message) } }
+      record {
+        may = tt;
+        is = record {
+          can = ((short, few), w.can);
+          size = omega (arith, w.size, both, text_more (BlockCame body (Some message)) events, frame_size Block body, frame_size Proof message);
+        };
+      }
 
   rollback_written : (body : List ℕ) (most : ℕ) (events : List FeedEvent) → from_le_bytes w32 body < 2 ^ 32 → length body ≡ 4 → IsWritten most events
       → IsWritten ((8 + length body) + most) (RollbackCame (from_le_bytes w32 body) ∷ events)
@@ -279,7 +303,8 @@ module _ (net : Net) where
       let sized : length again ≡ 4 = refl in
       record { can = (few, w.can); size = omega (arith, w.size, text_more (RollbackCame count) events, frame_size Rollback again, sized, four) }
 
-  stray_written : (most more : ℕ) (events : List FeedEvent) → 8 ≤ more → IsWrittenBehind most events → IsWrittenBehind (more + most) (StrayCame ∷ events)
+  stray_written : (most more : ℕ) (events : List FeedEvent) → 8 ≤ more → IsWrittenBehind most events
+      → IsWrittenBehind (more + most) (StrayCame ∷ events)
   unfolding event_text
   stray_written most more events room w =
       let b = w.is in
@@ -293,11 +318,14 @@ module _ (net : Net) where
   IsProof None = Unit {0}
   IsProof (Some proof) = length proof.body ≤ most_proof
 
-  strayed_written : (proof : Option Frame) (most : ℕ) (others : Events) → MayFollowStray others.events → IsWritten most others.events → AreWritten most proof (strayed proof others).events
+  strayed_written : (proof : Option Frame) (most : ℕ) (others : Events) → MayFollowStray others.events → IsWritten most others.events
+      → AreWritten most proof (strayed proof others).events
   strayed_written None most others may w = w
-  strayed_written (Some proof) most others may w = stray_written most (8 + length proof.body) others.events (omega arith) (record { may = may; is = w })
+  strayed_written (Some proof) most others may w =
+      stray_written most (8 + length proof.body) others.events (omega arith) (record { may = may; is = w })
 
-  event_written : (kind : Kind) (frame : Frame) (proof : Option Frame) (others : Option Frame → Events) (most : ℕ) → IsFit kind frame.body → IsProof proof → IsWritten most (others None).events
+  event_written : (kind : Kind) (frame : Frame) (proof : Option Frame) (others : Option Frame → Events) (most : ℕ) → IsFit kind frame.body
+      → IsProof proof → IsWritten most (others None).events
       → (length frame.body ≤ most_proof → IsWrittenBehind ((8 + length frame.body) + most) (others (Some frame)).events)
       → AreWritten ((8 + length frame.body) + most) proof (event_at proof frame kind others).events
   event_written Block frame None others most fit p none some = block_written frame.body most (others None).events fit none
@@ -307,14 +335,16 @@ module _ (net : Net) where
       stray_written ((8 + length frame.body) + most) (8 + length proof.body) (others (Some frame)).events (omega arith) (some fit)
   event_written Rollback frame None others most fit p none some = rollback_written frame.body most (others None).events fit.0 fit.1 none
   event_written Rollback frame (Some proof) others most fit p none some =
-      stray_written ((8 + length frame.body) + most) (8 + length proof.body) _ (omega arith) (record { may = tt; is = rollback_written frame.body most (others None).events fit.0 fit.1 none })
+      stray_written ((8 + length frame.body) + most) (8 + length proof.body) _ (omega arith)
+      (record { may = tt; is = rollback_written frame.body most (others None).events fit.0 fit.1 none })
 
   over_written : (ending : Option FeedFault) (frames : List Frame) (proof : Option Frame) → IsProof proof → AllByRecursion FrameFits frames
       → AreWritten (size_of frames) proof (events_over (λ p. strayed p (ends_at ending)) proof frames).events
   unfolding events_over
   over_written ending [] proof p all = strayed_written proof 0 (ends_at ending) tt (record { can = tt; size = omega arith })
   over_written ending (frame ∷ frames) proof p all =
-      event_written frame.kind frame proof (λ q. events_over (λ p. strayed p (ends_at ending)) q frames) (size_of frames) all.0 p (over_written ending frames None tt all.1)
+      event_written frame.kind frame proof (λ q. events_over (λ p. strayed p (ends_at ending)) q frames) (size_of frames) all.0 p
+      (over_written ending frames None tt all.1)
       (λ q. over_written ending frames (Some frame) q all.1)
 
   pub rewritten : (limit : ℕ) (feed : List ℕ) → IsBytes feed → CanBeRewritten net limit feed

@@ -1,5 +1,6 @@
 -- A feed with the messages upgraded is followed as the feed is.
-use Rattle.std.proofs.Common.{◌≡◌, ℕ, suc, ◌+◌, ◌≤◌, ◌^◌, List, [], ◌∷◌, ◌++◌, map, length, Option, Some, None, refl, sym, ap, ap₂, subst, ◌∙◌, arith, length-append}
+use Rattle.std.proofs.Common.{◌≡◌, ℕ, suc, ◌+◌, ◌≤◌, ◌^◌, List, [], ◌∷◌, ◌++◌, map, length, Option, Some, None, refl, sym, ap, ap₂, subst, ◌∙◌, arith}
+use Rattle.std.proofs.Common.{length-append}
 use Rattle.std.specs.Int.{w32, to_le_bytes}
 use Rattle.std.specs.List.{AllByRecursion}
 use Rattle.uo_base.specs.declared.event.Net.{Net}
@@ -33,12 +34,15 @@ few_enough : (s : NodeState) → IsNode s → s.newest.roots.leaves ≤ 2 ^ 40
 few_enough s is = let l = is.newest in omega (arith, l.counted, l.within, is.few)
 
 -- by the count of the chain, which is that of the roots
-message_alike : (s : NodeState) (message : List ℕ) → IsNode s → IsBytes message → AreAlike s.newest.roots.leaves (message_in message) (message_in (upgraded s.newest.chain.leaves message))
+message_alike : (s : NodeState) (message : List ℕ) → IsNode s → IsBytes message
+    → AreAlike s.newest.roots.leaves (message_in message) (message_in (upgraded s.newest.chain.leaves message))
 message_alike s message is bytes =
     let l = is.newest in
-    subst (λ n. AreAlike s.newest.roots.leaves (message_in message) (message_in (upgraded n message))) l.counted (upgraded_alike s.newest.roots.leaves message (few_enough s is) bytes)
+    subst (λ n. AreAlike s.newest.roots.leaves (message_in message) (message_in (upgraded n message))) l.counted
+    (upgraded_alike s.newest.roots.leaves message (few_enough s is) bytes)
 
-pub taken_alike : (H : List ℕ → Digest) (text : Leaf → List ℕ) (s : NodeState) (b : Option Block) (message : List ℕ) → IsNode s → IsBytes message → IsTakenAlike H text s b message
+pub taken_alike : (H : List ℕ → Digest) (text : Leaf → List ℕ) (s : NodeState) (b : Option Block) (message : List ℕ) → IsNode s → IsBytes message
+    → IsTakenAlike H text s b message
 taken_alike H text s b message is bytes =
     let alike = message_alike s message is bytes in
     record { said = sym (same_said H text s b (message_in message) _ alike); kept = sym (same_kept H text s b (message_in message) _ alike) }
@@ -67,7 +71,8 @@ module _ (H : List ℕ → Digest) (text : Leaf → List ℕ) where
       let next = next_node H text s (event_in event) in
       let later = map event_in (upgraded_events H text next events) in
       ap₂ (λ v vs. v ∷ vs) (event_said s event is bytes.0)
-      (ap (λ (t : NodeState). verdicts_on H text t later) (event_kept s event is bytes.0) ∙ all_said next events (next_is_node H text s (event_in event) is) bytes.1)
+      (ap (λ (t : NodeState). verdicts_on H text t later) (event_kept s event is bytes.0)
+      ∙ all_said next events (next_is_node H text s (event_in event) is) bytes.1)
 
   all_kept : (s : NodeState) (events : List FeedEvent) → IsNode s → AllByRecursion IsMadeOfBytes events
       → node_after H text s (map event_in (upgraded_events H text s events)) ≡ node_after H text s (map event_in events)
@@ -75,7 +80,8 @@ module _ (H : List ℕ → Digest) (text : Leaf → List ℕ) where
   all_kept s (event ∷ events) is bytes =
       let next = next_node H text s (event_in event) in
       let later = map event_in (upgraded_events H text next events) in
-      ap (λ (t : NodeState). node_after H text t later) (event_kept s event is bytes.0) ∙ all_kept next events (next_is_node H text s (event_in event) is) bytes.1
+      ap (λ (t : NodeState). node_after H text t later) (event_kept s event is bytes.0)
+      ∙ all_kept next events (next_is_node H text s (event_in event) is) bytes.1
 
   all_there : (s : NodeState) (events : List FeedEvent) → length (upgraded_events H text s events) ≡ length events
   all_there s [] = refl
@@ -90,12 +96,17 @@ module _ (H : List ℕ → Digest) (text : Leaf → List ℕ) where
   still_follows s (RollbackCame count ∷ events) may = tt
   still_follows s (StrayCame ∷ events) may = tt
 
-  still_a_feed : (s : NodeState) (events : List FeedEvent) → AllByRecursion IsMadeOfBytes events → CanBeAFeed events → CanBeAFeed (upgraded_events H text s events)
+  still_a_feed : (s : NodeState) (events : List FeedEvent) → AllByRecursion IsMadeOfBytes events → CanBeAFeed events
+      → CanBeAFeed (upgraded_events H text s events)
   still_a_feed s [] bytes can = tt
-  still_a_feed s (BlockCame block None ∷ events) bytes can = (can.0, still_a_feed (next_node H text s (event_in (BlockCame block None))) events bytes.1 can.1)
-  still_a_feed s (BlockCame block (Some message) ∷ events) bytes can =
-      ((can.0.0, omega (arith, can.0.1, upgraded_long s.newest.chain.leaves message bytes.0.1)), still_a_feed (next_node H text s (event_in (BlockCame block (Some message)))) events bytes.1 can.1)
-  still_a_feed s (RollbackCame count ∷ events) bytes can = (can.0, still_a_feed (next_node H text s (event_in (RollbackCame count))) events bytes.1 can.1)
+  still_a_feed s (BlockCame block None ∷ events) bytes can =
+      (can.0, still_a_feed (next_node H text s (event_in (BlockCame block None))) events bytes.1 can.1)
+  still_a_feed s (BlockCame block (Some message) ∷ events) bytes can = (
+    (can.0.0, omega (arith, can.0.1, upgraded_long s.newest.chain.leaves message bytes.0.1)),
+    still_a_feed (next_node H text s (event_in (BlockCame block (Some message)))) events bytes.1 can.1,
+  )
+  still_a_feed s (RollbackCame count ∷ events) bytes can =
+      (can.0, still_a_feed (next_node H text s (event_in (RollbackCame count))) events bytes.1 can.1)
   still_a_feed s (StrayCame ∷ events) bytes can =
       let next = next_node H text s (event_in StrayCame) in
       (still_follows next events can.0, still_a_feed next events bytes.1 can.1)
@@ -123,7 +134,8 @@ module _ (H : List ℕ → Digest) (text : Leaf → List ℕ) where
     event_long n (RollbackCame count) bytes = refl
     event_long n StrayCame bytes = refl
 
-    all_long : (s : NodeState) (events : List FeedEvent) → AllByRecursion IsMadeOfBytes events → length (feed_text net (upgraded_events H text s events)) ≡ length (feed_text net events)
+    all_long : (s : NodeState) (events : List FeedEvent) → AllByRecursion IsMadeOfBytes events
+        → length (feed_text net (upgraded_events H text s events)) ≡ length (feed_text net events)
     all_long s [] bytes = refl
     all_long s (event ∷ events) bytes =
         let later = upgraded_events H text (next_node H text s (event_in event)) events in
@@ -143,7 +155,8 @@ module _ (H : List ℕ → Digest) (text : Leaf → List ℕ) where
         let again = rewritten net limit feed bytes in
         let long = all_long s events all in
         record {
-          read = read_again_all net limit (upgraded_events H text s events) (still_a_feed s events all again.events) (omega (arith, long, again.within));
+          read = read_again_all net limit (upgraded_events H text s events) (still_a_feed s events all again.events)
+              (omega (arith, long, again.within));
           no_longer = omega (arith, long, again.no_longer);
           as_many = all_there s events;
           said = all_said s events is all;

@@ -15,7 +15,8 @@ use Rattle.node_rules.specs.Reading.{Handed}
 use Rattle.node_rules.specs.Judging.{Evidence, compact, refusal}
 use Rattle.node_rules.specs.Machine.{BlockCame}
 use Rattle.compact_node.specs.After.{without, with_leaves, held_without, kept_with_all, held_with_all}
-use Rattle.compact_node.specs.Node.{LevelState, NodeState, view_over, verdict_on, next_node, refusal_on, places_spent, hashes_over, hashes_spent, with_level, node_by, node_with}
+use Rattle.compact_node.specs.Node.{LevelState, NodeState, view_over, verdict_on, next_node, refusal_on, places_spent, hashes_over, hashes_spent}
+use Rattle.compact_node.specs.Node.{with_level, node_by, node_with}
 use Rattle.message_upgrade.proofs.Alike.{IsAlike, AreAlike, lifted, same_compact, same_verdict}
 
 same_targets : (n : ℕ) (m k : Message) → IsAlike n m k → targets n m ≡ targets n k
@@ -24,7 +25,8 @@ same_targets n m k alike = ap somes alike.places
 module _ (H : List ℕ → Digest) (text : Leaf → List ℕ) where
   same_hashes : (v : View) (m k : Message) → IsAlike v.n m k → hashes_over H v m ≡ hashes_over H v k
   same_hashes v m k alike =
-      let of = λ (ts : List Place) (lean : Bool) (hashes : List Digest). map (λ p. hash_of H v.n ts (known_to lean v.known) hashes p.row p.off) (need v.n ts) in
+      let of = λ (ts : List Place) (lean : Bool) (hashes : List Digest). map (λ p. hash_of H v.n ts (known_to lean v.known) hashes p.row p.off)
+      (need v.n ts) in
       ap (λ (x : List Place). of x m.lean m.proof.hashes) (same_targets v.n m k alike)
       ∙ ap (λ (x : Bool). of (targets v.n k) x m.proof.hashes) alike.lean
       ∙ ap (λ (x : List Digest). of (targets v.n k) k.lean x) alike.hashes
@@ -52,11 +54,13 @@ module _ (H : List ℕ → Digest) (text : Leaf → List ℕ) where
         ap (λ (x : List Place). node_of x (hashes_spent H v handed)) (lifted n (places_spent n) (same_targets n) handed other alike)
         ∙ ap (λ (x : List Digest). node_of (places_spent n other) x) (lifted n (hashes_spent H v) (same_hashes v) handed other alike)
 
-    same_next : (handed other : Handed) → AreAlike s.newest.roots.leaves handed other → next_node H text s (BlockCame (Some b) handed) ≡ next_node H text s (BlockCame (Some b) other)
+    same_next : (handed other : Handed) → AreAlike s.newest.roots.leaves handed other
+        → next_node H text s (BlockCame (Some b) handed) ≡ next_node H text s (BlockCame (Some b) other)
     same_next handed other alike =
         let ext = external b s.newest.chain.blocks in
         let v = view_over s.newest in
-        ap (λ (x : Evidence). node_by (refusal s.rules s.newest.chain b x) (node_with H text s b handed) s) (lifted v.n (compact H text v ext) (same_compact H text v ext) handed other alike)
+        ap (λ (x : Evidence). node_by (refusal s.rules s.newest.chain b x) (node_with H text s b handed) s)
+        (lifted v.n (compact H text v ext) (same_compact H text v ext) handed other alike)
         ∙ ap (λ (x : NodeState). node_by (refusal_on H text s b other) x s) (same_node handed other alike)
 
   pub same_said : (s : NodeState) (b : Option Block) (handed other : Handed) → AreAlike s.newest.roots.leaves handed other

@@ -16,14 +16,17 @@ use Rattle.compact_node.specs.Throughout.{verdicts_on, node_after}
 use Rattle.message_upgrade.specs.Upgrade.{upgraded}
 use Rattle.feed_upgrade.specs.Upgraded.{upgraded_events}
 
--- Of a block with a message and with that message upgraded a node says the same, with the details, and keeps the same then, also where the
--- message is forged.
+-- Of a block with a message and with that message upgraded a node says the same, with the details, and keeps the same then, also where the message is
+-- forged.
 pub record IsTakenAlike (H : List ℕ → Digest) (text : Leaf → List ℕ) (s : NodeState) (b : Option Block) (message : List ℕ) : Type 0 where
-  pub said : verdict_on H text s (Chain.BlockCame b (message_in (upgraded s.newest.chain.leaves message))) ≡ verdict_on H text s (Chain.BlockCame b (message_in message))
-  pub kept : next_node H text s (Chain.BlockCame b (message_in (upgraded s.newest.chain.leaves message))) ≡ next_node H text s (Chain.BlockCame b (message_in message))
+  pub said : verdict_on H text s (Chain.BlockCame b (message_in (upgraded s.newest.chain.leaves message)))
+      ≡ verdict_on H text s (Chain.BlockCame b (message_in message))
+  pub kept : next_node H text s (Chain.BlockCame b (message_in (upgraded s.newest.chain.leaves message)))
+      ≡ next_node H text s (Chain.BlockCame b (message_in message))
 
 abbrev pub UpgradedIsTakenAlike : Type 0
-UpgradedIsTakenAlike = (H : List ℕ → Digest) (text : Leaf → List ℕ) (s : NodeState) (b : Option Block) (message : List ℕ) → IsNode s → IsBytes message → IsTakenAlike H text s b message
+UpgradedIsTakenAlike = (H : List ℕ → Digest) (text : Leaf → List ℕ) (s : NodeState) (b : Option Block) (message : List ℕ) → IsNode s → IsBytes message
+    → IsTakenAlike H text s b message
 
 -- The events of a feed with the messages upgraded: their text is read as these events, it has no more bytes than the feed, and a node says of
 -- each what it says of the event of the feed, and keeps the same then.
@@ -33,8 +36,11 @@ pub record IsFollowedAlike (H : List ℕ → Digest) (text : Leaf → List ℕ) 
       HasEvents net limit (feed_text net events) events
   pub no_longer : length (feed_text net (upgraded_events H text s (events_of net limit feed).events)) ≤ length feed
   pub as_many : length (upgraded_events H text s (events_of net limit feed).events) ≡ length (events_of net limit feed).events
-  pub said : verdicts_on H text s (map event_in (upgraded_events H text s (events_of net limit feed).events)) ≡ verdicts_on H text s (map event_in (events_of net limit feed).events)
-  pub kept : node_after H text s (map event_in (upgraded_events H text s (events_of net limit feed).events)) ≡ node_after H text s (map event_in (events_of net limit feed).events)
+  pub said : verdicts_on H text s (map event_in (upgraded_events H text s (events_of net limit feed).events))
+      ≡ verdicts_on H text s (map event_in (events_of net limit feed).events)
+  pub kept : node_after H text s (map event_in (upgraded_events H text s (events_of net limit feed).events))
+      ≡ node_after H text s (map event_in (events_of net limit feed).events)
 
 abbrev pub UpgradedIsFollowedAlike : Type 0
-UpgradedIsFollowedAlike = (H : List ℕ → Digest) (text : Leaf → List ℕ) (s : NodeState) (net : Net) (limit : ℕ) (feed : List ℕ) → IsNode s → IsBytes feed → IsFollowedAlike H text s net limit feed
+UpgradedIsFollowedAlike = (H : List ℕ → Digest) (text : Leaf → List ℕ) (s : NodeState) (net : Net) (limit : ℕ) (feed : List ℕ) → IsNode s
+    → IsBytes feed → IsFollowedAlike H text s net limit feed

@@ -10,7 +10,8 @@ use Rattle.message_upgrade.specs.Upgrade.{is_old, upgraded_event}
 -- each by the count of entries before it, of a node that follows the events
 abbrev pub upgraded_events : (List ℕ → Digest) → (Leaf → List ℕ) → NodeState → List FeedEvent → List FeedEvent
 upgraded_events H text s [] = []
-upgraded_events H text s (event ∷ events) = upgraded_event s.newest.chain.leaves event ∷ upgraded_events H text (next_node H text s (event_in event)) events
+upgraded_events H text s (event ∷ events) =
+    upgraded_event s.newest.chain.leaves event ∷ upgraded_events H text (next_node H text s (event_in event)) events
 
 -- how many messages of version 1 stand beside the block of an event: one or none
 abbrev pub old_in : Option (List ℕ) → ℕ

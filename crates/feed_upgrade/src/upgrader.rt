@@ -165,7 +165,8 @@ fn push_proved(
     requires short { HasFrames (BlockCame block.now (option_copied message)) }
     ensures one { IfOk result (λ old. old ≤ 1) }
     ensures old { IfOk result (λ old. old ≡ old_in (option_copied message.entry)) }
-    ensures sent { OnOk result (sent.new.bytes.items ≡ sent.old.bytes.items ++ event_text net (upgraded_event n (BlockCame block.now (option_copied message.entry)))) }
+    ensures sent { OnOk result (sent.new.bytes.items ≡ sent.old.bytes.items
+        ++ event_text net (upgraded_event n (BlockCame block.now (option_copied message.entry)))) }
 {
     let old = push_message(alloc, n, message, sent)?;
     sent.push_block(net, block)?;
@@ -183,7 +184,8 @@ fn push_message(
     requires short { HasProofFrame (option_copied message) }
     ensures one { IfOk result (λ old. old ≤ 1) }
     ensures old { IfOk result (λ old. old ≡ old_in (option_copied message.entry)) }
-    ensures sent { OnOk result (sent.new.bytes.items ≡ sent.old.bytes.items ++ proof_frame_text (option_map (upgraded n) (option_copied message.entry))) }
+    ensures sent { OnOk result (sent.new.bytes.items ≡ sent.old.bytes.items
+        ++ proof_frame_text (option_map (upgraded n) (option_copied message.entry))) }
 {
     match message {
         Some(message) => push_frame(alloc, n, message, sent),

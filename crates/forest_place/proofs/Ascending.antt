@@ -1,5 +1,6 @@
 -- The order of places.
-use Rattle.std.proofs.Common.{◌≡◌, ℕ, zero, suc, ◌/◌, ◌^◌, Bool, true, List, [], ◌∷◌, ◌++◌, filter, refl, sym, ◌∙◌, subst, ap₂, ⊎_elim, inl, inr, arith}
+use Rattle.std.proofs.Common.{◌≡◌, ℕ, zero, suc, ◌/◌, ◌^◌, Bool, true, List, [], ◌∷◌, ◌++◌, filter, refl, sym, ◌∙◌, subst, ap₂, ⊎_elim, inl, inr}
+use Rattle.std.proofs.Common.{arith}
 use Rattle.std.proofs.lemmas.Bool.{cases_Bool, false≢true, or_cases, or_left, or_right, false_from_ne_true}
 use Rattle.std.proofs.lemmas.List.Folds.{list_any-append}
 use Rattle.forest_place.specs.declared.place.Place.{Place}
@@ -13,7 +14,8 @@ pub distinct_from_ascending : (ps : List Place) → IsAscending ps → IsDistinc
 distinct_from_ascending [] h = tt
 distinct_from_ascending (p ∷ ps) h = (false_from_ne_true _ (λ again. before_itself p (h.0 p again)), distinct_from_ascending ps h.1)
 
-pub ascending-append : (ps qs : List Place) → IsAscending ps → IsAscending qs → ((p q : Place) → has_place ps p.row p.off ≡ true → has_place qs q.row q.off ≡ true → IsBefore p q) → IsAscending (ps ++ qs)
+pub ascending-append : (ps qs : List Place) → IsAscending ps → IsAscending qs
+    → ((p q : Place) → has_place ps p.row p.off ≡ true → has_place qs q.row q.off ≡ true → IsBefore p q) → IsAscending (ps ++ qs)
 ascending-append [] qs h k f = k
 ascending-append (p ∷ ps) qs h k f = (
   (λ q i. ⊎_elim (h.0 q) (f p q (or_left (is_at p.row p.off p) (has_place ps p.row p.off) (is_at-same p.row p.off)))
@@ -51,7 +53,8 @@ before_both p q h k =
     h
 
 -- behind equal first places, a place of the one list is in the other
-behind_first : (p q : Place) (ps qs : List Place) → p ≡ q → IsAscending (p ∷ ps) → ((r o : ℕ) → has_place (p ∷ ps) r o ≡ true → has_place (q ∷ qs) r o ≡ true) → (r o : ℕ) → has_place ps r o ≡ true → has_place qs r o ≡ true
+behind_first : (p q : Place) (ps qs : List Place) → p ≡ q → IsAscending (p ∷ ps)
+    → ((r o : ℕ) → has_place (p ∷ ps) r o ≡ true → has_place (q ∷ qs) r o ≡ true) → (r o : ℕ) → has_place ps r o ≡ true → has_place qs r o ≡ true
 behind_first p q ps qs e a f r o i =
     ⊎_elim
     (λ at. absurd (before_itself p (subst (IsBefore p) (sym (same_from_is_at r o q at) ∙ sym e) (a.0 (place r o) i))))
@@ -62,10 +65,13 @@ pub places_ascending : (n : ℕ) → IsAscending (places n)
 places_ascending n = rows_ascending n n 0
 
 -- two ascending lists with the same places are one
-pub same_ascending : (ps qs : List Place) → IsAscending ps → IsAscending qs → ((r o : ℕ) → has_place ps r o ≡ true → has_place qs r o ≡ true) → ((r o : ℕ) → has_place qs r o ≡ true → has_place ps r o ≡ true) → ps ≡ qs
+pub same_ascending : (ps qs : List Place) → IsAscending ps → IsAscending qs → ((r o : ℕ) → has_place ps r o ≡ true → has_place qs r o ≡ true)
+    → ((r o : ℕ) → has_place qs r o ≡ true → has_place ps r o ≡ true) → ps ≡ qs
 same_ascending [] [] a b f g = refl
-same_ascending [] (q ∷ qs) a b f g = absurd (false≢true (g q.row q.off (or_left (is_at q.row q.off q) (has_place qs q.row q.off) (is_at-same q.row q.off))))
-same_ascending (p ∷ ps) [] a b f g = absurd (false≢true (f p.row p.off (or_left (is_at p.row p.off p) (has_place ps p.row p.off) (is_at-same p.row p.off))))
+same_ascending [] (q ∷ qs) a b f g = absurd
+    (false≢true (g q.row q.off (or_left (is_at q.row q.off q) (has_place qs q.row q.off) (is_at-same q.row q.off))))
+same_ascending (p ∷ ps) [] a b f g = absurd
+    (false≢true (f p.row p.off (or_left (is_at p.row p.off p) (has_place ps p.row p.off) (is_at-same p.row p.off))))
 same_ascending (p ∷ ps) (q ∷ qs) a b f g =
     let here : p ≡ q =
     ⊎_elim
@@ -73,6 +79,8 @@ same_ascending (p ∷ ps) (q ∷ qs) a b f g =
     (λ later. ⊎_elim
     (λ same. same_from_is_at q.row q.off p same)
     (λ later'. absurd (before_both p q (a.0 q later') (b.0 p later)))
-    (or_cases (is_at q.row q.off p) (has_place ps q.row q.off) (g q.row q.off (or_left (is_at q.row q.off q) (has_place qs q.row q.off) (is_at-same q.row q.off)))))
-    (or_cases (is_at p.row p.off q) (has_place qs p.row p.off) (f p.row p.off (or_left (is_at p.row p.off p) (has_place ps p.row p.off) (is_at-same p.row p.off)))) in
+    (or_cases (is_at q.row q.off p) (has_place ps q.row q.off)
+    (g q.row q.off (or_left (is_at q.row q.off q) (has_place qs q.row q.off) (is_at-same q.row q.off)))))
+    (or_cases (is_at p.row p.off q) (has_place qs p.row p.off)
+    (f p.row p.off (or_left (is_at p.row p.off p) (has_place ps p.row p.off) (is_at-same p.row p.off)))) in
     ap₂ (λ x xs. x ∷ xs) here (same_ascending ps qs a.1 b.1 (behind_first p q ps qs here a f) (behind_first q p qs ps (sym here) b g))

@@ -1,5 +1,6 @@
 -- Lists of places that are short, since each of their places is made of one of a list.
-use Rattle.std.proofs.Common.{◌≡◌, ℕ, zero, suc, ◌+◌, ◌*◌, ◌<◌, ◌≤◌, Bool, true, false, List, [], ◌∷◌, ◌++◌, length, refl, sym, ap, ◌∙◌, subst, ap₂, ⊎_elim, arith}
+use Rattle.std.proofs.Common.{◌≡◌, ℕ, zero, suc, ◌+◌, ◌*◌, ◌<◌, ◌≤◌, Bool, true, false, List, [], ◌∷◌, ◌++◌, length, refl, sym, ap, ◌∙◌, subst, ap₂}
+use Rattle.std.proofs.Common.{⊎_elim, arith}
 use Rattle.std.specs.List.{AllByRecursion, IsDistinct}
 use Rattle.std.specs.Cmp.{IsEquivalence}
 use Rattle.std.proofs.lemmas.Bool.{cases_eq, false≢true, or_left, or_right, or_cases, or_parts}
@@ -24,7 +25,8 @@ spots = record {
 }
   where
     flip : (p q : Place) → is_at p.row p.off q ≡ true → is_at q.row q.off p ≡ true
-    flip p q e = let same : q ≡ p = same_from_is_at p.row p.off q e in subst (λ (x : Place). is_at x.row x.off p ≡ true) (sym same) (is_at-same p.row p.off)
+    flip p q e = let same : q ≡ p = same_from_is_at p.row p.off q e in
+        subst (λ (x : Place). is_at x.row x.off p ≡ true) (sym same) (is_at-same p.row p.off)
 
 others : (p : Place) (ps : List Place) → has_place ps p.row p.off ≡ false → AllByRecursion (λ q. same_spot p q ≡ false) ps
 unfolding same_spot
@@ -63,11 +65,14 @@ module _ (f : ℕ → Place → Place) where
   made_have zero t k lt = absurd (omega (arith, lt))
   made_have (suc b) t k lt =
       ⊎_elim
-      (λ (e : k ≡ b). subst (λ x. has_place (f b t ∷ made_of f b t) (f x t).row (f x t).off ≡ true) (sym e) (or_left (is_at (f b t).row (f b t).off (f b t)) (has_place (made_of f b t) (f b t).row (f b t).off) (is_at-same (f b t).row (f b t).off)))
-      (λ (ne : k ≡ b → ⊥). or_right (is_at (f k t).row (f k t).off (f b t)) (has_place (made_of f b t) (f k t).row (f k t).off) (made_have b t k (omega (arith, lt, ne))))
+      (λ (e : k ≡ b). subst (λ x. has_place (f b t ∷ made_of f b t) (f x t).row (f x t).off ≡ true) (sym e)
+      (or_left (is_at (f b t).row (f b t).off (f b t)) (has_place (made_of f b t) (f b t).row (f b t).off) (is_at-same (f b t).row (f b t).off)))
+      (λ (ne : k ≡ b → ⊥). or_right (is_at (f k t).row (f k t).off (f b t)) (has_place (made_of f b t) (f k t).row (f k t).off)
+      (made_have b t k (omega (arith, lt, ne))))
       (cases_eq k b)
 
-  all_made_have : (b : ℕ) (ts : List Place) (q : Place) (k : ℕ) → has_place ts q.row q.off ≡ true → k < b → has_place (all_made_of f b ts) (f k q).row (f k q).off ≡ true
+  all_made_have : (b : ℕ) (ts : List Place) (q : Place) (k : ℕ) → has_place ts q.row q.off ≡ true → k < b
+      → has_place (all_made_of f b ts) (f k q).row (f k q).off ≡ true
   unfolding all_made_of
   all_made_have b [] q k h lt = absurd (false≢true h)
   all_made_have b (t ∷ ts) q k h lt =
@@ -75,13 +80,16 @@ module _ (f : ℕ → Place → Place) where
       ⊎_elim
       (λ here.
       let same : t ≡ q = same_from_is_at q.row q.off t here in
-      or_left (has_place (made_of f b t) (f k q).row (f k q).off) (has_place (all_made_of f b ts) (f k q).row (f k q).off) (subst (λ (x : Place). has_place (made_of f b t) (f k x).row (f k x).off ≡ true) same (made_have b t k lt)))
-      (λ there. or_right (has_place (made_of f b t) (f k q).row (f k q).off) (has_place (all_made_of f b ts) (f k q).row (f k q).off) (all_made_have b ts q k there lt))
+      or_left (has_place (made_of f b t) (f k q).row (f k q).off) (has_place (all_made_of f b ts) (f k q).row (f k q).off)
+      (subst (λ (x : Place). has_place (made_of f b t) (f k x).row (f k x).off ≡ true) same (made_have b t k lt)))
+      (λ there. or_right (has_place (made_of f b t) (f k q).row (f k q).off) (has_place (all_made_of f b ts) (f k q).row (f k q).off)
+      (all_made_have b ts q k there lt))
       (or_cases (is_at q.row q.off t) (has_place ts q.row q.off) h)
 
   -- different places, each of which is made of one of a list by a number below b, are at most b for each of the list
   pub few_made : (b : ℕ) (ts ps : List Place) → HasNoRepeat ps →
-      ((q : Place) → has_place ps q.row q.off ≡ true → (t : Place) × (k : ℕ) × (has_place ts t.row t.off ≡ true) × (k < b) × (f k t ≡ q)) → length ps ≤ length ts * b
+      ((q : Place) → has_place ps q.row q.off ≡ true → (t : Place) × (k : ℕ) × (has_place ts t.row t.off ≡ true) × (k < b) × (f k t ≡ q))
+      → length ps ≤ length ts * b
   unfolding same_spot
   few_made b ts ps distinct made =
       let few = length-le_from_is_member spots ps (all_made_of f b ts) (no_repeat ps distinct) member in

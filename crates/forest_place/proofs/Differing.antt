@@ -33,7 +33,8 @@ differs n row off few h =
     (λ ne. omega (arith, ne))
     (cases_eq (bit_xor n (off * 2 ^ row % 2 ^ 64)) 0)
 
-module _ (n row off h : ℕ) (within : InForest n row off) (least : 2 ^ h ≤ bit_xor n (off * 2 ^ row)) (most : bit_xor n (off * 2 ^ row) < 2 * 2 ^ h) where
+module _ (n row off h : ℕ) (within : InForest n row off) (least : 2 ^ h ≤ bit_xor n (off * 2 ^ row))
+    (most : bit_xor n (off * 2 ^ row) < 2 * 2 ^ h) where
   abbrev a : ℕ
   a = off * 2 ^ row
 
@@ -54,8 +55,10 @@ module _ (n row off h : ℕ) (within : InForest n row off) (least : 2 ^ h ≤ bi
       let k = row - suc h in
       let up : h + suc k ≡ row = omega arith in
       let halves : n / 2 ^ h / 2 ≡ a / 2 ^ h / 2 = omega (arith, last_but_one.0, last_but_one.1) in
-      let same : n / 2 ^ h / 2 ^ suc k ≡ a / 2 ^ h / 2 ^ suc k = half_pow (n / 2 ^ h) k ∙ (ap (λ x. x / 2 ^ k) halves ∙ sym (half_pow (a / 2 ^ h) k)) in
-      let there : n / 2 ^ row ≡ a / 2 ^ row = ap (λ x. n / 2 ^ x) (sym up) ∙ (sym (shr-shr n h (suc k)) ∙ (same ∙ (shr-shr a h (suc k) ∙ ap (λ x. a / 2 ^ x) up))) in
+      let same : n / 2 ^ h / 2 ^ suc k ≡ a / 2 ^ h / 2 ^ suc k =
+      half_pow (n / 2 ^ h) k ∙ (ap (λ x. x / 2 ^ k) halves ∙ sym (half_pow (a / 2 ^ h) k)) in
+      let there : n / 2 ^ row ≡ a / 2 ^ row = ap (λ x. n / 2 ^ x) (sym up)
+      ∙ (sym (shr-shr n h (suc k)) ∙ (same ∙ (shr-shr a h (suc k) ∙ ap (λ x. a / 2 ^ x) up))) in
       absurd (omega (arith, within, there, shl-shr off row)))
       (λ le. le)
       (cases_lt h row)
@@ -63,10 +66,12 @@ module _ (n row off h : ℕ) (within : InForest n row off) (least : 2 ^ h ≤ bi
   slot_from_highest : IsSlotOf n row off h
   slot_from_highest =
       let up : row + (h - row) ≡ h = omega (arith, reaches) in
-      let here : off / 2 ^ (h - row) ≡ a / 2 ^ h = ap (λ x. x / 2 ^ (h - row)) (sym (shl-shr off row)) ∙ (shr-shr a row (h - row) ∙ ap (λ x. a / 2 ^ x) up) in
+      let here : off / 2 ^ (h - row) ≡ a / 2 ^ h = ap (λ x. x / 2 ^ (h - row)) (sym (shl-shr off row))
+      ∙ (shr-shr a row (h - row) ∙ ap (λ x. a / 2 ^ x) up) in
       record { slot = eq-eqb _ _ last_but_one.0; up = reaches; beneath = here ∙ last_but_one.1 }
 
-pub slot_from_log : (n row off h : ℕ) → n < 2 ^ 40 → InForest n row off → 2 ^ h ≤ bit_xor n (off * 2 ^ row % 2 ^ 64) → bit_xor n (off * 2 ^ row % 2 ^ 64) < 2 * 2 ^ h → IsSlotOf n row off h
+pub slot_from_log : (n row off h : ℕ) → n < 2 ^ 40 → InForest n row off → 2 ^ h ≤ bit_xor n (off * 2 ^ row % 2 ^ 64)
+    → bit_xor n (off * 2 ^ row % 2 ^ 64) < 2 * 2 ^ h → IsSlotOf n row off h
 slot_from_log n row off h few within least most =
     let e = first_is n row off few within in
     slot_from_highest n row off h within (subst (λ x. 2 ^ h ≤ bit_xor n x) e least) (subst (λ x. bit_xor n x < 2 * 2 ^ h) e most)

@@ -1,5 +1,6 @@
 -- Lists of places: what is in one.
-use Rattle.std.proofs.Common.{◌≡◌, ℕ, zero, suc, ◌+◌, ◌/◌, ◌^◌, ◌<◌, ◌≤◌, Bool, true, false, List, [], ◌∷◌, filter, refl, sym, ap, ◌∙◌, subst, ap₂, ⊎_elim, arith, eq-eqb}
+use Rattle.std.proofs.Common.{◌≡◌, ℕ, zero, suc, ◌+◌, ◌/◌, ◌^◌, ◌<◌, ◌≤◌, Bool, true, false, List, [], ◌∷◌, filter, refl, sym, ap, ◌∙◌, subst, ap₂}
+use Rattle.std.proofs.Common.{⊎_elim, arith, eq-eqb}
 use Rattle.std.specs.Prelude.{◌==◌}
 use Rattle.std.proofs.lemmas.Bool.{cases_Bool, and_from, and_parts, false≢true, eqb-true, or_cases, or_left, or_right, cases_eq}
 use Rattle.std.proofs.lemmas.List.Folds.{list_any-append}
@@ -40,7 +41,8 @@ filter_has p (x ∷ xs) r o h k =
     (cases_Bool (p x)))
     (or_cases (is_at r o x) (has_place xs r o) h)
 
-pub filter_had : (p : Place → Bool) (xs : List Place) (r o : ℕ) → has_place (filter p xs) r o ≡ true → (has_place xs r o ≡ true) × (p (place r o) ≡ true)
+pub filter_had : (p : Place → Bool) (xs : List Place) (r o : ℕ) → has_place (filter p xs) r o ≡ true → (has_place xs r o ≡ true)
+    × (p (place r o) ≡ true)
 filter_had p [] r o h = absurd (false≢true h)
 filter_had p (x ∷ xs) r o h =
     ⊎_elim
@@ -56,15 +58,18 @@ pub row_has : (row k m o : ℕ) → k ≤ o → o < k + m → has_place (row_pla
 row_has row k zero o h i = absurd (omega arith)
 row_has row k (suc m) o h i =
     ⊎_elim
-    (λ e. or_left (is_at row o (place row k)) (has_place (row_places row (suc k) m) row o) (subst (λ x. is_at row x (place row k) ≡ true) e (is_at-same row k)))
-    (λ ne. or_right (is_at row o (place row k)) (has_place (row_places row (suc k) m) row o) (row_has row (suc k) m o (omega (arith, ne)) (omega arith)))
+    (λ e. or_left (is_at row o (place row k)) (has_place (row_places row (suc k) m) row o)
+    (subst (λ x. is_at row x (place row k) ≡ true) e (is_at-same row k)))
+    (λ ne. or_right (is_at row o (place row k)) (has_place (row_places row (suc k) m) row o)
+    (row_has row (suc k) m o (omega (arith, ne)) (omega arith)))
     (cases_eq k o)
 
 pub row_had : (row k m r o : ℕ) → has_place (row_places row k m) r o ≡ true → (row ≡ r) × (k ≤ o) × (o < k + m)
 row_had row k zero r o h = absurd (false≢true h)
 row_had row k (suc m) r o h =
     ⊎_elim
-    (λ here. let e = and_parts (row == r) (k == o) here in let a : row ≡ r = eqb-true _ _ e.0 in let b : k ≡ o = eqb-true _ _ e.1 in (a, omega arith, omega arith))
+    (λ here. let e = and_parts (row == r) (k == o) here in let a : row ≡ r = eqb-true _ _ e.0 in let b : k ≡ o = eqb-true _ _ e.1 in
+    (a, omega arith, omega arith))
     (λ there. let e = row_had row (suc k) m r o there in (e.0, omega (arith, e.1), omega (arith, e.2)))
     (or_cases (is_at r o (place row k)) (has_place (row_places row (suc k) m) r o) h)
 
@@ -74,7 +79,9 @@ rows_have n zero row r o h a b = absurd (omega arith)
 rows_have n (suc k) row r o h a b =
     list_any-append (is_at r o) (row_places row 0 (n / 2 ^ row)) (places_from n k (suc row)) ∙
     ⊎_elim
-    (λ e. or_left (has_place (row_places row 0 (n / 2 ^ row)) r o) _ (subst (λ x. has_place (row_places row 0 (n / 2 ^ row)) x o ≡ true) e (row_has row 0 (n / 2 ^ row) o (omega arith) (let q : o < n / 2 ^ row = subst (λ x. InForest n x o) (sym e) h in omega arith))))
+    (λ e. or_left (has_place (row_places row 0 (n / 2 ^ row)) r o) _
+    (subst (λ x. has_place (row_places row 0 (n / 2 ^ row)) x o ≡ true) e
+    (row_has row 0 (n / 2 ^ row) o (omega arith) (let q : o < n / 2 ^ row = subst (λ x. InForest n x o) (sym e) h in omega arith))))
     (λ ne. or_right (has_place (row_places row 0 (n / 2 ^ row)) r o) _ (rows_have n k (suc row) r o h (omega (arith, ne)) (omega arith)))
     (cases_eq row r)
 
@@ -84,7 +91,8 @@ rows_had n (suc k) row r o h =
     ⊎_elim
     (λ here. let e = row_had row 0 (n / 2 ^ row) r o here in (subst (λ x. InForest n x o) e.0 (omega (arith, e.2)), omega (arith, e.0)))
     (λ there. let e = rows_had n k (suc row) r o there in (e.0, omega (arith, e.1)))
-    (or_cases (has_place (row_places row 0 (n / 2 ^ row)) r o) (has_place (places_from n k (suc row)) r o) (sym (list_any-append (is_at r o) (row_places row 0 (n / 2 ^ row)) (places_from n k (suc row))) ∙ h))
+    (or_cases (has_place (row_places row 0 (n / 2 ^ row)) r o) (has_place (places_from n k (suc row)) r o)
+    (sym (list_any-append (is_at r o) (row_places row 0 (n / 2 ^ row)) (places_from n k (suc row))) ∙ h))
 
 -- the places of the forest
 pub places_have : (n r o : ℕ) → InForest n r o → has_place (places n) r o ≡ true

@@ -14,7 +14,8 @@ use Rattle.forest_place.proofs.Positions.{rows_least, one_position, position_sma
 use Rattle.forest_place.proofs.Numbered.{found_with, some_with, none_with}
 
 -- a place has its number alone
-pub one_number : (by : Naming) (n : ℕ) (p q : Place) → n ≤ 2 ^ 40 → InForest n p.row p.off → InForest n q.row q.off → number_by by n p ≡ number_by by n q → p ≡ q
+pub one_number : (by : Naming) (n : ℕ) (p q : Place) → n ≤ 2 ^ 40 → InForest n p.row p.off → InForest n q.row q.off
+    → number_by by n p ≡ number_by by n q → p ≡ q
 one_number Position n p q few h k e = one_position n p q h k e
 one_number FixedPosition n p q few h k e = one_fixed_position p q (places_low n p.row p.off few h) (places_low n q.row q.off few k) e
 
@@ -27,7 +28,9 @@ pub place_by-some : (by : Naming) (n number : ℕ) (p : Place) → place_by by n
 place_by-some by n number p e = some_with (number_by by n) n number p e
 
 -- what tells the place tells it all
-pub place_by-is : (by : Naming) (n number : ℕ) (x : Option Place) → n ≤ 2 ^ 40 → MatchOption x ((q : Place) → InForest n q.row q.off → number_by by n q ≡ number → ⊥) (λ p. InForest n p.row p.off × (number_by by n p ≡ number)) → x ≡ place_by by n number
+pub place_by-is : (by : Naming) (n number : ℕ) (x : Option Place) → n ≤ 2 ^ 40
+    → MatchOption x ((q : Place) → InForest n q.row q.off → number_by by n q ≡ number → ⊥) (λ p. InForest n p.row p.off × (number_by by n p ≡ number))
+    → x ≡ place_by by n number
 place_by-is by n number None few h = sym (none_with (number_by by n) n number h)
 place_by-is by n number (Some p) few h = sym (ap (place_by by n) (sym h.1) ∙ place_by-number by n p few h.0)
 
@@ -56,7 +59,8 @@ pub naming_of-some : (version : ℕ) (by : Naming) → naming_of version ≡ Som
 naming_of-some version by e = by_first (cases_Bool (1 == version))
   where
     by_second : ((2 == version) ≡ true) ⊎ ((2 == version) ≡ false) → (1 == version) ≡ false → version ≡ version_of by
-    by_second (inl two) one = let same : FixedPosition ≡ by = same_Some FixedPosition by (rw (one, two) at e) in sym (eqb-true 2 version two) ∙ ap version_of same
+    by_second (inl two) one = let same : FixedPosition ≡ by = same_Some FixedPosition by (rw (one, two) at e) in
+        sym (eqb-true 2 version two) ∙ ap version_of same
     by_second (inr two) one = absurd (none-some by (rw (one, two) at e))
 
     by_first : ((1 == version) ≡ true) ⊎ ((1 == version) ≡ false) → version ≡ version_of by

@@ -31,7 +31,8 @@ find_none t (q ∷ ps) r o e h k =
     (cases_Bool (t q))
 
 -- the place of the forest that has a number, where no other has it
-pub found_with : (number_of : Place → ℕ) (n : ℕ) (p : Place) → ((q : Place) → InForest n q.row q.off → number_of q ≡ number_of p → q ≡ p) → InForest n p.row p.off → find (λ q. number_of q == number_of p) (places n) ≡ Some p
+pub found_with : (number_of : Place → ℕ) (n : ℕ) (p : Place) → ((q : Place) → InForest n q.row q.off → number_of q ≡ number_of p → q ≡ p)
+    → InForest n p.row p.off → find (λ q. number_of q == number_of p) (places n) ≡ Some p
 found_with number_of n p alone h = by_found (find (λ q. number_of q == number_of p) (places n)) refl
   where
     by_found : (x : Option Place) → find (λ q. number_of q == number_of p) (places n) ≡ x → x ≡ Some p
@@ -40,13 +41,15 @@ found_with number_of n p alone h = by_found (find (λ q. number_of q == number_o
         let w = find_had (λ q. number_of q == number_of p) (places n) q e in
         ap Some (alone q (places_had n q.row q.off w.0) (eqb-true _ _ w.1))
 
-pub some_with : (number_of : Place → ℕ) (n number : ℕ) (p : Place) → find (λ q. number_of q == number) (places n) ≡ Some p → InForest n p.row p.off × (number_of p ≡ number)
+pub some_with : (number_of : Place → ℕ) (n number : ℕ) (p : Place) → find (λ q. number_of q == number) (places n) ≡ Some p → InForest n p.row p.off
+    × (number_of p ≡ number)
 some_with number_of n number p e =
     let w = find_had (λ q. number_of q == number) (places n) p e in
     (places_had n p.row p.off w.0, eqb-true _ _ w.1)
 
 -- and none where none has it
-pub none_with : (number_of : Place → ℕ) (n number : ℕ) → ((q : Place) → InForest n q.row q.off → number_of q ≡ number → ⊥) → find (λ q. number_of q == number) (places n) ≡ None
+pub none_with : (number_of : Place → ℕ) (n number : ℕ) → ((q : Place) → InForest n q.row q.off → number_of q ≡ number → ⊥)
+    → find (λ q. number_of q == number) (places n) ≡ None
 none_with number_of n number h = by_found (find (λ q. number_of q == number) (places n)) refl
   where
     by_found : (x : Option Place) → find (λ q. number_of q == number) (places n) ≡ x → x ≡ None

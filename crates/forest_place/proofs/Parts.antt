@@ -83,7 +83,9 @@ pub half_pow : (o k : ℕ) → o / 2 ^ suc k ≡ o / 2 / 2 ^ k
 half_pow o k = subst (λ j. o / 2 ^ j ≡ o / 2 / 2 ^ k) (one-add k) (sym (shr-shr o 1 k))
 
 pub InForest-beneath : (n k r o : ℕ) → InForest n (r + k) (o / 2 ^ k) → InForest n r o
-InForest-beneath n zero r o h = let e : r + 0 ≡ r = omega arith in let f : o / 1 ≡ o = omega arith in subst (λ x. InForest n r x) f (subst (λ x. InForest n x (o / 1)) e h)
+InForest-beneath n zero r o h = let e : r + 0 ≡ r = omega arith in let f : o / 1 ≡ o = omega arith in
+    subst (λ x. InForest n r x) f (subst (λ x. InForest n x (o / 1)) e h)
 InForest-beneath n (suc k) r o h =
     let e : r + suc k ≡ suc r + k = omega arith in
-    InForest-down n r o (InForest-beneath n k (suc r) (o / 2) (subst (λ x. InForest n (suc r + k) x) (half_pow o k) (subst (λ x. InForest n x (o / 2 ^ suc k)) e h)))
+    InForest-down n r o (InForest-beneath n k (suc r) (o / 2)
+    (subst (λ x. InForest n (suc r + k) x) (half_pow o k) (subst (λ x. InForest n x (o / 2 ^ suc k)) e h)))

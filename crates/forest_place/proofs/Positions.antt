@@ -1,5 +1,6 @@
 -- Places and positions.
-use Rattle.std.proofs.Common.{◌≡◌, ℕ, zero, suc, ◌+◌, ◌-◌, ◌*◌, ◌/◌, ◌%◌, ◌^◌, ◌<◌, ◌≤◌, true, sym, ap, ap₂, ◌∙◌, subst, ⊎_elim, inl, inr, arith, pow-suc, bit_or, mod-eq_of_lt}
+use Rattle.std.proofs.Common.{◌≡◌, ℕ, zero, suc, ◌+◌, ◌-◌, ◌*◌, ◌/◌, ◌%◌, ◌^◌, ◌<◌, ◌≤◌, true, sym, ap, ap₂, ◌∙◌, subst, ⊎_elim, inl, inr, arith}
+use Rattle.std.proofs.Common.{pow-suc, bit_or, mod-eq_of_lt}
 use Rattle.std.specs.Prelude.{◌⊎◌, ◌↔◌, nat_lt}
 use Rattle.std.proofs.Math.Nat.{le_of_mul-le-mul_right}
 use Rattle.std.proofs.Math.Pow.{pow_mono}
@@ -62,7 +63,8 @@ mul_one_more a b = omega arith
 pub within_top : (top n r o : ℕ) → n ≤ 2 ^ top → InForest n r o → (r ≤ top) × (o < 2 ^ (top - r))
 within_top top n r o room h =
     let m = (in_forest_iff n r o).0 h in
-    let le : r ≤ top = ⊎_elim (λ lt. let q : 2 ^ top < 2 ^ r = pow_below top r lt in absurd (omega (arith, m, room, q, mul_one_more o (2 ^ r)))) (λ ge. ge) (cases_lt top r) in
+    let le : r ≤ top = ⊎_elim (λ lt. let q : 2 ^ top < 2 ^ r = pow_below top r lt in absurd (omega (arith, m, room, q, mul_one_more o (2 ^ r))))
+    (λ ge. ge) (cases_lt top r) in
     let e : top - r + r ≡ top = omega arith in
     let split : 2 ^ top ≡ 2 ^ (top - r) * 2 ^ r = ap (λ x. 2 ^ x) (sym e) ∙ pow-add 2 (top - r) r in
     let all : (o + 1) * 2 ^ r ≤ 2 ^ (top - r) * 2 ^ r = omega (arith, m, room, split) in
@@ -114,7 +116,8 @@ parent-position top r o lt inside =
     let half_of : p / 2 ≡ 2 ^ top - 2 ^ (top - r) + o / 2 = omega (arith, s.all, s.from, s.low) in
     let small : p / 2 < 2 ^ top = omega (arith, half_of, s.low, s.some) in
     let one : 1 * 2 ^ top ≡ 2 ^ top = omega arith in
-    or_comm (p / 2) (2 ^ top) ∙ ap (λ x. bit_or x (p / 2)) (sym one) ∙ or_shifted 1 top (p / 2) small ∙ (let z : 1 * 2 ^ top + p / 2 ≡ row_start top (r + 1) + o / 2 = omega (arith, half_of, s.all, s.low, c) in z)
+    or_comm (p / 2) (2 ^ top) ∙ ap (λ x. bit_or x (p / 2)) (sym one) ∙ or_shifted 1 top (p / 2) small
+    ∙ (let z : 1 * 2 ^ top + p / 2 ≡ row_start top (r + 1) + o / 2 = omega (arith, half_of, s.all, s.low, c) in z)
 
 -- a place within so many rows above row 0
 abbrev pub IsWithin : ℕ → Place → Type 0
@@ -131,7 +134,8 @@ rises_within top p q w v b =
     (λ e. subst (λ x. row_start top p.row + p.off < row_start top x + q.off) e.0 (omega (arith, e.1)))
     b
 
-pub position_rises : (n : ℕ) (p q : Place) → InForest n p.row p.off → InForest n q.row q.off → IsBefore p q → position n p.row p.off < position n q.row q.off
+pub position_rises : (n : ℕ) (p q : Place) → InForest n p.row p.off → InForest n q.row q.off → IsBefore p q
+    → position n p.row p.off < position n q.row q.off
 position_rises n p q h k b = rises_within (rows n) p q (within_rows n p.row p.off h) (within_rows n q.row q.off k) b
 
 pub place_order : (p q : Place) → IsBefore p q ⊎ ((p ≡ q) ⊎ IsBefore q p)
@@ -154,7 +158,8 @@ order_within top p q w v = (
       (place_order p q),
 )
 
-pub position_order : (n : ℕ) (p q : Place) → InForest n p.row p.off → InForest n q.row q.off → IsBefore p q ↔ (position n p.row p.off < position n q.row q.off)
+pub position_order : (n : ℕ) (p q : Place) → InForest n p.row p.off → InForest n q.row q.off → IsBefore p q
+    ↔ (position n p.row p.off < position n q.row q.off)
 position_order n p q h k = order_within (rows n) p q (within_rows n p.row p.off h) (within_rows n q.row q.off k)
 
 -- a place has its position alone
@@ -179,7 +184,8 @@ shifted top few =
 pub shifted_start : (top r : ℕ) → top ≤ 40 → r ≤ top → 2 * 2 ^ top % 2 ^ 64 - 2 * 2 ^ top % 2 ^ 64 / 2 ^ r ≡ row_start top r
 shifted_start top r few h =
     let e : top + 1 - r + r ≡ top + 1 = omega arith in
-    let c : 2 ^ (top + 1) / 2 ^ r ≡ 2 ^ (top + 1 - r) = ap (λ x. x / 2 ^ r) (ap (λ x. 2 ^ x) (sym e) ∙ pow-add 2 (top + 1 - r) r) ∙ shl-shr (2 ^ (top + 1 - r)) r in
+    let c : 2 ^ (top + 1) / 2 ^ r ≡ 2 ^ (top + 1 - r) = ap (λ x. x / 2 ^ r) (ap (λ x. 2 ^ x) (sym e) ∙ pow-add 2 (top + 1 - r) r)
+    ∙ shl-shr (2 ^ (top + 1 - r)) r in
     ap (λ x. x - x / 2 ^ r) (shifted top few) ∙ ap (λ x. 2 ^ (top + 1) - x) c
 
 -- no position is at or past the end
@@ -201,7 +207,8 @@ pub record IsFromEnd (top p j : ℕ) : Type 0 where
 pub row_from_end : (top r o j : ℕ) → r ≤ top → o < 2 ^ (top - r) → IsFromEnd top (row_start top r + o) j → r ≡ top - j
 row_from_end top r o j le lt f =
     let s = spans top r le in
-    let e = same_log (2 ^ (top + 1) - 1 - (row_start top r + o)) (top - r) j (omega (arith, s.all, s.from, s.low, lt)) (omega (arith, s.all, s.from, s.low, lt)) f.least f.most in
+    let e = same_log (2 ^ (top + 1) - 1 - (row_start top r + o)) (top - r) j (omega (arith, s.all, s.from, s.low, lt))
+    (omega (arith, s.all, s.from, s.low, lt)) f.least f.most in
     omega (arith, e, le)
 
 pub row_in_range : (top p j : ℕ) → IsFromEnd top p j → (j ≤ top) × (row_start top (top - j) ≤ p)

@@ -62,7 +62,8 @@ slot_below n row off h k lt s t =
     let there : off / 2 ^ (h - row) / 2 ^ suc j ≡ n / 2 ^ k - 1 = shr-shr off (h - row) (suc j) ∙ (ap (λ x. off / 2 ^ x) a ∙ t.beneath) in
     let above : n / 2 ^ h / 2 ^ suc j ≡ n / 2 ^ k = shr-shr n h (suc j) ∙ ap (λ x. n / 2 ^ x) b in
     let halves : off / 2 ^ (h - row) / 2 ≡ n / 2 ^ h / 2 = omega (arith, here, odd) in
-    let same : off / 2 ^ (h - row) / 2 ^ suc j ≡ n / 2 ^ h / 2 ^ suc j = half_pow (off / 2 ^ (h - row)) j ∙ (ap (λ x. x / 2 ^ j) halves ∙ sym (half_pow (n / 2 ^ h) j)) in
+    let same : off / 2 ^ (h - row) / 2 ^ suc j ≡ n / 2 ^ h / 2 ^ suc j =
+    half_pow (off / 2 ^ (h - row)) j ∙ (ap (λ x. x / 2 ^ j) halves ∙ sym (half_pow (n / 2 ^ h) j)) in
     omega (arith, same, there, above, top_odd)
 
 -- one slot has it

@@ -23,7 +23,8 @@ PlacesAscend = (n : ℕ) → IsAscending (places n)
 
 -- positions have the order of places
 abbrev pub PositionsAscend : Type 0
-PositionsAscend = (n : ℕ) (p q : Place) → InForest n p.row p.off → InForest n q.row q.off → IsBefore p q ↔ (position n p.row p.off < position n q.row q.off)
+PositionsAscend = (n : ℕ) (p q : Place) → InForest n p.row p.off → InForest n q.row q.off → IsBefore p q
+    ↔ (position n p.row p.off < position n q.row q.off)
 
 -- each place of a forest over up to 2^40 entries has a fixed position
 abbrev pub PlacesAreLow : Type 0
@@ -31,7 +32,8 @@ PlacesAreLow = (n row off : ℕ) → n ≤ 2 ^ 40 → InForest n row off → IsL
 
 -- fixed positions have the order of places
 abbrev pub FixedPositionsAscend : Type 0
-FixedPositionsAscend = (p q : Place) → IsLow p.row p.off → IsLow q.row q.off → IsBefore p q ↔ (fixed_position p.row p.off < fixed_position q.row q.off)
+FixedPositionsAscend = (p q : Place) → IsLow p.row p.off → IsLow q.row q.off → IsBefore p q
+    ↔ (fixed_position p.row p.off < fixed_position q.row q.off)
 
 -- and so that of positions
 abbrev pub FixedPositionsKeepOrder : Type 0

@@ -1,5 +1,6 @@
 //! Laws on places and positions, which hold over any number of entries. There is no code here.
-ghost use Rattle.forest_place.specs.Laws.{PlacesAreBeneathRoots, PlacesHaveOneSlot, PlacesAreListed, PlacesAscend, PositionsAscend, PlacesAreLow, FixedPositionsAscend, FixedPositionsKeepOrder};
+ghost use Rattle.forest_place.specs.Laws.{PlacesAreBeneathRoots, PlacesHaveOneSlot, PlacesAreListed, PlacesAscend, PositionsAscend, PlacesAreLow};
+ghost use Rattle.forest_place.specs.Laws.{FixedPositionsAscend, FixedPositionsKeepOrder};
 
 /// The forest has the roots of its slots and the places beneath them, each beneath one root, and no other place.
 pub fn places_are_beneath_roots()

@@ -2,7 +2,8 @@
 ghost use Rattle.std.specs.Prelude.{◌≡◌, ◌≢◌, ℕ, ◌+◌, ◌-◌, ◌/◌, ◌^◌, ◌<◌, ◌≤◌, MatchOption, bit_or};
 ghost use Rattle.forest_place.specs.declared.place.Place.{Place as Placed};
 ghost use Rattle.forest_place.specs.Forest.{InForest};
-ghost use Rattle.forest_place.specs.Position.{rows as rows_of, row_start as start_of, position as position_of, IsLow, fixed_position as fixed_position_of};
+ghost use Rattle.forest_place.specs.Position.{rows as rows_of, row_start as start_of, position as position_of, IsLow};
+ghost use Rattle.forest_place.specs.Position.{fixed_position as fixed_position_of};
 ghost use Rattle.forest_place.specs.declared.naming.Naming.TheVariants.{Position, FixedPosition};
 ghost use Rattle.forest_place.specs.Named.{place_by};
 
@@ -71,8 +72,8 @@ pub fn place_of(position: u64, n: u64) -> Option<Place>
     place_among(position, rows(n), n)
 }
 
-/// The fixed position of a place, which is the same in each forest that has the place: the rows are numbered as those of the forest
-/// over 2^40 entries.
+/// The fixed position of a place, which is the same in each forest that has the place: the rows are numbered as those of the forest over 2^40
+/// entries.
 pub fn fixed_position(place: Place) -> u64
     requires row { place.row < 41 }
     requires off { place.off < 2 ^ (40 - place.row) }

@@ -1,5 +1,6 @@
 -- What an addition does to roots.
-use Rattle.std.proofs.Common.{ne_eqb, ◌≡◌, ℕ, zero, suc, ◌+◌, ◌/◌, ◌%◌, ◌^◌, ◌<◌, ◌≤◌, Bool, true, false, List, [], ◌∷◌, ◌++◌, map, length, get_or, set, cond, is_some, Option, Some, None, refl, sym, ap, ap₂, ◌∙◌, subst, ⊎_elim, arith, length-set}
+use Rattle.std.proofs.Common.{ne_eqb, ◌≡◌, ℕ, zero, suc, ◌+◌, ◌/◌, ◌%◌, ◌^◌, ◌<◌, ◌≤◌, Bool, true, false, List, [], ◌∷◌, ◌++◌, map, length, get_or}
+use Rattle.std.proofs.Common.{set, cond, is_some, Option, Some, None, refl, sym, ap, ap₂, ◌∙◌, subst, ⊎_elim, arith, length-set}
 use Rattle.std.specs.Prelude.{count_by, count_ones}
 use Rattle.std.specs.List.{range_with_len, sum_by}
 use Rattle.std.proofs.lemmas.List.Sums.{sum_by-cons}
@@ -24,7 +25,8 @@ slots_more n row all odd =
     subst (λ x. all_slots n x ≡ true) e (and_from (all_slots n row) (is_slot n row) all (eq-eqb _ _ odd))
 
 -- an addition to roots, of which the rows below one were joined and emptied
-pub record IsJoining (H : List ℕ → Digest) (n : ℕ) (old : List (Option Digest)) (d : Digest) (start row : ℕ) (now : List (Option Digest)) (carried : Digest) (joins : List Join) (steps : ℕ) : Type 0 where
+pub record IsJoining (H : List ℕ → Digest) (n : ℕ) (old : List (Option Digest)) (d : Digest) (start row : ℕ) (now : List (Option Digest))
+    (carried : Digest) (joins : List Join) (steps : ℕ) : Type 0 where
   pub small : row < 40
   pub forty : length now ≡ 40
   pub slots : all_slots n row ≡ true
@@ -35,7 +37,8 @@ pub record IsJoining (H : List ℕ → Digest) (n : ℕ) (old : List (Option Dig
   pub counted : steps ≡ start + count_by (λ k. is_some (get_or old k None)) (range_with_len 0 row)
 
 -- before the first row
-pub joining_begins : (H : List ℕ → Digest) (n : ℕ) (old : List (Option Digest)) (d : Digest) (start : ℕ) → length old ≡ 40 → IsJoining H n old d start 0 old d [] start
+pub joining_begins : (H : List ℕ → Digest) (n : ℕ) (old : List (Option Digest)) (d : Digest) (start : ℕ) → length old ≡ 40
+    → IsJoining H n old d start 0 old d [] start
 joining_begins H n old d start forty = record {
   small = omega arith;
   forty = forty;
@@ -48,10 +51,12 @@ joining_begins H n old d start forty = record {
 }
 
 -- one row more
-pub joined_once : (H : List ℕ → Digest) (n : ℕ) (old : List (Option Digest)) (d : Digest) (start row : ℕ) (now : List (Option Digest)) (carried : Digest) (joins : List Join) (steps : ℕ) →
+pub joined_once : (H : List ℕ → Digest) (n : ℕ) (old : List (Option Digest)) (d : Digest) (start row : ℕ) (now : List (Option Digest))
+    (carried : Digest) (joins : List Join) (steps : ℕ) →
     IsJoining H n old d start row now carried joins steps → suc n < 2 ^ 40 → n / 2 ^ row % 2 ≡ 1 →
     (carried' : Digest) (joins' : List Join) (steps' : ℕ) → carried' ≡ join_root H (get_or now row None) carried →
-    joins' ≡ joins ++ (record { row = row; left = get_or now row None; result = carried' }) ∷ [] → steps' ≡ steps + cond (is_some (get_or now row None)) 1 0 →
+    joins' ≡ joins ++ (record { row = row; left = get_or now row None; result = carried' }) ∷ []
+    → steps' ≡ steps + cond (is_some (get_or now row None)) 1 0 →
     IsJoining H n old d start (row + 1) (set now row None) carried' joins' steps'
 joined_once H n old d start row now carried joins steps j few odd carried' joins' steps' ec ej es =
     let all = slots_more n row j.slots odd in
@@ -63,7 +68,8 @@ joined_once H n old d start row now carried joins steps j few odd carried' joins
       forty = length-set now row None ∙ j.forty;
       slots = all;
       cleared = λ k lt. ⊎_elim
-          (λ same. let inside : row < length now = omega (arith, j.small, j.forty) in subst (λ x. get_or (set now row None) x None ≡ None) (sym same) (get_or-set_same now row None None inside))
+          (λ same. let inside : row < length now = omega (arith, j.small, j.forty) in
+          subst (λ x. get_or (set now row None) x None ≡ None) (sym same) (get_or-set_same now row None None inside))
           (λ ne. get_or-set_other now row k None None ne ∙ j.cleared k (omega (arith, ne)))
           (cases_eq k row);
       kept = λ k le. get_or-set_other now row k None None (λ e. omega (arith, e)) ∙ j.kept k (omega arith);
@@ -77,10 +83,12 @@ joined_once H n old d start row now carried joins steps j few odd carried' joins
     count_more p a k =
         let g : ℕ → ℕ = λ x. cond (p x) 1 0 in
         let e = sum_by-map-range_with_len_more g (λ x. x) 0 k k (omega arith) in
-        let f : sum_by g (range_with_len 0 (k + 1)) ≡ sum_by g (range_with_len 0 k) + g k = sym (ap (sum_by g) (map-id (range_with_len 0 (k + 1)))) ∙ (e ∙ ap (λ xs. sum_by g xs + g k) (map-id (range_with_len 0 k))) in
+        let f : sum_by g (range_with_len 0 (k + 1)) ≡ sum_by g (range_with_len 0 k) + g k = sym (ap (sum_by g) (map-id (range_with_len 0 (k + 1))))
+        ∙ (e ∙ ap (λ xs. sum_by g xs + g k) (map-id (range_with_len 0 k))) in
         omega (arith, f)
 
-module _ (H : List ℕ → Digest) (n : ℕ) (old : List (Option Digest)) (d : Digest) (start row : ℕ) (now : List (Option Digest)) (c : Digest) (joins : List Join) (steps : ℕ) (j : IsJoining H n old d start row now c joins steps) (free : is_slot n row ≡ false) where
+module _ (H : List ℕ → Digest) (n : ℕ) (old : List (Option Digest)) (d : Digest) (start row : ℕ) (now : List (Option Digest)) (c : Digest)
+    (joins : List Join) (steps : ℕ) (j : IsJoining H n old d start row now c joins steps) (free : is_slot n row ≡ false) where
   abbrev new : ℕ → Option Digest
   new r = get_or (set now row (Some c)) r None
 
@@ -136,18 +144,22 @@ module _ (H : List ℕ → Digest) (n : ℕ) (old : List (Option Digest)) (d : D
       not_all r lt = false_from_ne_true _ (λ all. false≢true (sym free ∙ slot_below n row r lt all))
 
   pub joins_are : joins ≡ joins_of H (record { leaves = n; rows = old }) d
-  joins_are = j.listed ∙ ap (λ k. map (join_at H (record { leaves = n; rows = old }) d) (range_with_len 0 k)) (sym (joined_slots_are n row j.slots free))
+  joins_are = j.listed ∙ ap (λ k. map (join_at H (record { leaves = n; rows = old }) d) (range_with_len 0 k))
+      (sym (joined_slots_are n row j.slots free))
 
   pub steps_are : steps ≡ start + addition_steps (record { leaves = n; rows = old })
-  steps_are = j.counted ∙ ap (λ k. start + count_by (λ r. is_some (get_or old r None)) (range_with_len 0 k)) (sym (joined_slots_are n row j.slots free))
+  steps_are = j.counted ∙ ap (λ k. start + count_by (λ r. is_some (get_or old r None)) (range_with_len 0 k))
+      (sym (joined_slots_are n row j.slots free))
 
 -- what is carried depends on the roots of the joined slots alone
-carried_digest-same : (H : List ℕ → Digest) (f g : ℕ → Option Digest) (d : Digest) (row : ℕ) → ((r : ℕ) → r < row → f r ≡ g r) → carried_digest H f d row ≡ carried_digest H g d row
+carried_digest-same : (H : List ℕ → Digest) (f g : ℕ → Option Digest) (d : Digest) (row : ℕ) → ((r : ℕ) → r < row → f r ≡ g r)
+    → carried_digest H f d row ≡ carried_digest H g d row
 carried_digest-same H f g d zero h = refl
 carried_digest-same H f g d (suc row) h = ap₂ (join_root H) (h row (omega arith)) (carried_digest-same H f g d row (λ r lt. h r (omega arith)))
 
 -- roots that stand for entries stand for them and one more, after an addition
-pub stands_added : (H : List ℕ → Digest) (es : List (Option Digest)) (d : Digest) (f g : Stump) → StandsFor H es f → g.leaves ≡ suc f.leaves → IsAddition H f.leaves d (root_in f) (root_in g) → StandsFor H (es ++ Some d ∷ []) g
+pub stands_added : (H : List ℕ → Digest) (es : List (Option Digest)) (d : Digest) (f g : Stump) → StandsFor H es f → g.leaves ≡ suc f.leaves
+    → IsAddition H f.leaves d (root_in f) (root_in g) → StandsFor H (es ++ Some d ∷ []) g
 stands_added H es d f g was more a = record {
   leaves = more ∙ (ap suc was.leaves ∙ sym (same_length es d));
   roots = λ r slot. at_row r (all_slots f.leaves r) refl (is_slot f.leaves r) refl (ap (λ n. is_slot n r) (sym more) ∙ slot);
@@ -156,10 +168,12 @@ stands_added H es d f g was more a = record {
     law : IsAddition H f.leaves d (root H es) (root H (es ++ Some d ∷ []))
     law = subst (λ n. IsAddition H n d (root H es) (root H (es ++ Some d ∷ []))) (sym was.leaves) (appended es d H)
 
-    at_row : (r : ℕ) (all : Bool) → all_slots f.leaves r ≡ all → (slot : Bool) → is_slot f.leaves r ≡ slot → is_slot (suc f.leaves) r ≡ true → root_in g r ≡ root H (es ++ Some d ∷ []) r
+    at_row : (r : ℕ) (all : Bool) → all_slots f.leaves r ≡ all → (slot : Bool) → is_slot f.leaves r ≡ slot → is_slot (suc f.leaves) r ≡ true
+        → root_in g r ≡ root H (es ++ Some d ∷ []) r
     at_row r true all true slot after = absurd (false≢true (sym (a.below r (and_from (all_slots f.leaves r) (is_slot f.leaves r) all slot)) ∙ after))
     at_row r true all false free after =
-        (a.first_free r all free).1 ∙ (ap Some (carried_digest-same H (root_in f) (root H es) d r (λ k lt. was.roots k (slot_below f.leaves k r lt all))) ∙ sym (law.first_free r all free).1)
+        (a.first_free r all free).1 ∙ (ap Some (carried_digest-same H (root_in f) (root H es) d r
+        (λ k lt. was.roots k (slot_below f.leaves k r lt all))) ∙ sym (law.first_free r all free).1)
     at_row r false some slot s after =
         let was_slot : is_slot f.leaves r ≡ true = sym (a.above r some).0 ∙ after in
         (a.above r some).1 was_slot ∙ (was.roots r was_slot ∙ sym ((law.above r some).1 was_slot))
@@ -177,7 +191,8 @@ pub record EndsIn (H : List ℕ → Digest) (f : Stump) (d : Digest) (start : �
 steps_of_joins : (H : List ℕ → Digest) (f : Stump) (d : Digest) → addition_steps f ≡ count_by (λ (join : Join). is_some join.left) (joins_of H f d)
 steps_of_joins H f d = of_rows (range_with_len 0 (joined_slots f.leaves))
   where
-    of_rows : (rows : List ℕ) → count_by (λ row. is_some (root_in f row)) rows ≡ count_by (λ (join : Join). is_some join.left) (map (join_at H f d) rows)
+    of_rows : (rows : List ℕ) → count_by (λ row. is_some (root_in f row)) rows
+        ≡ count_by (λ (join : Join). is_some join.left) (map (join_at H f d) rows)
     of_rows [] = refl
     of_rows (r ∷ rs) =
         sum_by-cons (λ row. cond (is_some (root_in f row)) 1 0) r rs
@@ -185,8 +200,10 @@ steps_of_joins H f d = of_rows (range_with_len 0 (joined_slots f.leaves))
         ∙ sym (sum_by-cons (λ (join : Join). cond (is_some join.left) 1 0) (join_at H f d r) (map (join_at H f d) rs)))
 
 -- once the first free row was written
-pub addition_ends : (H : List ℕ → Digest) (f : Stump) (n : ℕ) (old : List (Option Digest)) (d : Digest) (start row count : ℕ) (now : List (Option Digest)) (c : Digest) (joins : List Join) (steps : ℕ) →
-    IsJoining H n old d start row now c joins steps → record { leaves = n; rows = old } ≡ f → IsStump (record { leaves = n; rows = old }) → f.leaves + 1 < 2 ^ 40 → count ≡ n → (count / 2 ^ row % 2 ≡ 1 → ⊥) →
+pub addition_ends : (H : List ℕ → Digest) (f : Stump) (n : ℕ) (old : List (Option Digest)) (d : Digest) (start row count : ℕ)
+    (now : List (Option Digest)) (c : Digest) (joins : List Join) (steps : ℕ) →
+    IsJoining H n old d start row now c joins steps → record { leaves = n; rows = old } ≡ f → IsStump (record { leaves = n; rows = old })
+    → f.leaves + 1 < 2 ^ 40 → count ≡ n → (count / 2 ^ row % 2 ≡ 1 → ⊥) →
     EndsIn H f d start (record { leaves = count + 1; rows = set now row (Some c) }) joins steps
 addition_ends H f n old d start row count now c joins steps j view was few same free =
     let one_more : suc n ≡ count + 1 = omega (arith, same) in
@@ -202,7 +219,8 @@ addition_ends H f n old d start row count now c joins steps j view was few same 
       roots = record { leaves = omega arith; roots = shape; stands = λ es stands. stands_added H es d before (g (suc n)) stands refl shape };
       joins_are = joins_are H n old d start row now c joins steps j here;
       steps_are = counted;
-      steps_listed = counted ∙ ap (λ k. start + k) (steps_of_joins H before d ∙ ap (count_by (λ (join : Join). is_some join.left)) (sym (joins_are H n old d start row now c joins steps j here)));
+      steps_listed = counted ∙ ap (λ k. start + k) (steps_of_joins H before d
+          ∙ ap (count_by (λ (join : Join). is_some join.left)) (sym (joins_are H n old d start row now c joins steps j here)));
       few = omega (arith, counted, steps_few before);
     } in
     subst (λ x. EndsIn H f d start (g x) joins steps) one_more (subst (λ x. EndsIn H x d start (g (suc n)) joins steps) view whole)

@@ -1,5 +1,6 @@
 //! The roots of a forest.
-ghost use Rattle.std.specs.Prelude.{◌≡◌, ℕ, ◌+◌, ◌^◌, ◌<◌, ◌≤◌, List, [], ◌∷◌, ◌++◌, count_by, count_ones, is_some, IsTrue, Some, Option, MatchOption};
+ghost use Rattle.std.specs.Prelude.{◌≡◌, ℕ, ◌+◌, ◌^◌, ◌<◌, ◌≤◌, List, [], ◌∷◌, ◌++◌, count_by, count_ones, is_some, IsTrue, Some, Option};
+ghost use Rattle.std.specs.Prelude.{MatchOption};
 ghost use Rattle.forest_place.specs.Forest.{is_slot};
 
 use crate::inner::join_root;

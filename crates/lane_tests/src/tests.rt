@@ -1,6 +1,8 @@
 //! Each text alone and beside others.
 ghost use Rattle.std.specs.Prelude.{◌≤◌};
 
+mod batches;
+
 use crate::length_of;
 use digest_lanes::{Front, double_pairs_of_eight, pairs_of_four, sha256d_each};
 use sha2::{Digest, Sha256, Sha512_256};

@@ -1,5 +1,6 @@
 -- The newest live output of an outpoint, and sums over what is live.
-use Rattle.std.proofs.Common.{◌≡◌, ◌≢◌, ℕ, zero, suc, ◌+◌, true, List, [], ◌∷◌, ◌++◌, map, set, length, Option, Some, None, refl, sym, ap, ◌∙◌, subst, ap₂, ⊎_elim, arith, sum_by}
+use Rattle.std.proofs.Common.{◌≡◌, ◌≢◌, ℕ, zero, suc, ◌+◌, true, List, [], ◌∷◌, ◌++◌, map, set, length, Option, Some, None, refl, sym, ap, ◌∙◌, subst}
+use Rattle.std.proofs.Common.{ap₂, ⊎_elim, arith, sum_by}
 use Rattle.std.specs.Prelude.{◌==◌, slice_get, bytes_eq, if◌then◌else◌}
 use Rattle.std.specs.List.{AllByRecursion}
 use Rattle.std.specs.Cmp.Lexicographic.{same_text}
@@ -19,7 +20,8 @@ same_point-true p q h =
     ap₂ (λ (x : List ℕ) (y : ℕ). let r : Outpoint = record { txid = record { 0 = x }; index = y } in r) (same_text _ _ (sym k.0)) (eqb-true _ _ k.1)
 
 pub same_point-same : (p : Outpoint) → same_point p p ≡ true
-same_point-same p = and_from (bytes_eq p.txid.0 p.txid.0) (p.index == p.index) ((bytes_eq-Decides p.txid.0 p.txid.0).1 refl) (eq-eqb p.index p.index refl)
+same_point-same p = and_from (bytes_eq p.txid.0 p.txid.0) (p.index == p.index) ((bytes_eq-Decides p.txid.0 p.txid.0).1 refl)
+    (eq-eqb p.index p.index refl)
 
 -- ---- the newest
 
@@ -35,7 +37,9 @@ pub newest_is : (p : Outpoint) (us : History) (e : Entry) → newest p us ≡ So
 newest_is p [] e h = absurd (none-some e h)
 newest_is p (u ∷ us) e h = by_case u (newest p us) refl (newest_is p us) h
   where
-    by_case : (u : Option Leaf) (n : Option Entry) → newest p us ≡ n → ((e : Entry) → newest p us ≡ Some e → (slice_get us e.number ≡ Some (Some e.leaf)) × (e.leaf.point ≡ p)) → newer p u n ≡ Some e → (slice_get (u ∷ us) e.number ≡ Some (Some e.leaf)) × (e.leaf.point ≡ p)
+    by_case : (u : Option Leaf) (n : Option Entry) → newest p us ≡ n
+        → ((e : Entry) → newest p us ≡ Some e → (slice_get us e.number ≡ Some (Some e.leaf)) × (e.leaf.point ≡ p)) → newer p u n ≡ Some e
+        → (slice_get (u ∷ us) e.number ≡ Some (Some e.leaf)) × (e.leaf.point ≡ p)
     by_case u (Some f) q rest h =
         let s : later f ≡ e = same_Some _ e h in
         let w = rest f q in
@@ -61,12 +65,16 @@ newest-append p (u ∷ us) vs = ap (newer p u) (newest-append p us vs) ∙ by_ca
   where
     by_case : (y : Option Entry) → newer p u (shifted (length us) (newest p us) y) ≡ shifted (suc (length us)) (newer p u (newest p us)) y
     by_case None = refl
-    by_case (Some e) = ap (λ n. Some (record { number = n; leaf = e.leaf })) (let z : suc (length us + e.number) ≡ suc (length us) + e.number = omega arith in z)
+    by_case (Some e) = ap (λ n. Some (record { number = n; leaf = e.leaf })) (let z : suc (length us + e.number) ≡ suc (length us) + e.number =
+        omega arith in z)
 
 -- and of a list with one more
-pub newest-pushed : (p : Outpoint) (us : History) (r : Leaf) → newest p (us ++ Some r ∷ []) ≡ (if same_point r.point p then Some (record { number = length us; leaf = r }) else newest p us)
+pub newest-pushed : (p : Outpoint) (us : History) (r : Leaf)
+    → newest p (us ++ Some r ∷ []) ≡ (if same_point r.point p then Some (record { number = length us; leaf = r }) else newest p us)
 unfolding shifted
-newest-pushed p us r = newest-append p us (Some r ∷ []) ∙ ⊎_elim (λ t. rw t (ap (λ n. Some (record { number = n; leaf = r })) (let z : length us + 0 ≡ length us = omega arith in z))) (λ t. rw t refl) (cases_Bool (same_point r.point p))
+newest-pushed p us r = newest-append p us (Some r ∷ []) ∙ ⊎_elim
+    (λ t. rw t (ap (λ n. Some (record { number = n; leaf = r })) (let z : length us + 0 ≡ length us = omega arith in z))) (λ t. rw t refl)
+    (cases_Bool (same_point r.point p))
 
 -- ---- what is live
 

@@ -37,7 +37,10 @@ impl Model for Record {
 
     ghost Value = { Leaf };
 
-    ghost view = { λ r. record { point = record { txid = r.txid; index = r.index }; rest = record { block = r.block; height = r.height; coinbase = r.coinbase; amount = r.amount; script = r.script.items } } };
+    ghost view = { λ r. record {
+      point = record { txid = r.txid; index = r.index };
+      rest = record { block = r.block; height = r.height; coinbase = r.coinbase; amount = r.amount; script = r.script.items };
+    } };
 
     ghost invariant = { λ r. (r.height < 2 ^ 31) × (length r.script.items ≤ longest_script) };
 }
@@ -69,7 +72,10 @@ impl<'a> Model for RecordView<'a> {
 
     ghost Value = { Leaf };
 
-    ghost view = { λ r. record { point = record { txid = r.txid; index = r.index }; rest = record { block = r.block; height = r.height; coinbase = r.coinbase; amount = r.amount; script = r.script.now } } };
+    ghost view = { λ r. record {
+      point = record { txid = r.txid; index = r.index };
+      rest = record { block = r.block; height = r.height; coinbase = r.coinbase; amount = r.amount; script = r.script.now };
+    } };
 
     ghost invariant = { λ r. (r.height < 2 ^ 31) × (length r.script.now ≤ longest_script) };
 }

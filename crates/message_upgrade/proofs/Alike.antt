@@ -1,5 +1,6 @@
 -- Messages that name the same places, and say the same besides, are judged alike.
-use Rattle.std.proofs.Common.{◌≡◌, ℕ, Bool, false, cond, not, ◌&&◌, ◌||◌, List, [], ◌∷◌, ◌++◌, map, length, Option, Some, None, is_none, refl, sym, ap, ◌∙◌}
+use Rattle.std.proofs.Common.{◌≡◌, ℕ, Bool, false, cond, not, ◌&&◌, ◌||◌, List, [], ◌∷◌, ◌++◌, map, length, Option, Some, None, is_none, refl, sym}
+use Rattle.std.proofs.Common.{ap, ◌∙◌}
 use Rattle.std.specs.Prelude.{◌==◌, option_map}
 use Rattle.std.proofs.lemmas.List.{length-map}
 use Rattle.uo_digest.specs.declared.digest.Digest.{Digest}
@@ -44,7 +45,8 @@ AreAlike n (unread why) other = other ≡ unread why
 AreAlike n (read m) other = (k : Message) × (other ≡ read k) × IsAlike n m k
 
 -- what is the same of messages that are alike is so of what is handed in
-pub lifted : {X : Type 0} (n : ℕ) (f : Handed → X) → ((m k : Message) → IsAlike n m k → f (read m) ≡ f (read k)) → (handed other : Handed) → AreAlike n handed other → f handed ≡ f other
+pub lifted : {X : Type 0} (n : ℕ) (f : Handed → X) → ((m k : Message) → IsAlike n m k → f (read m) ≡ f (read k)) → (handed other : Handed)
+    → AreAlike n handed other → f handed ≡ f other
 lifted n f same nothing other e = ap f (sym e)
 lifted n f same (unread why) other e = ap f (sym e)
 lifted n f same (read m) other (k, e, alike) = same m k alike ∙ ap f (sym e)
@@ -94,7 +96,8 @@ module _ (H : List ℕ → Digest) (text : Leaf → List ℕ) where
       → verdict_over H text rules chain v b handed ≡ verdict_over H text rules chain v b other
   same_verdict rules chain v b handed other alike =
       let ext = external b chain.blocks in
-      ap (λ (e : Evidence). verdict_by chain b (length (new_records b chain.blocks)) (refusal rules chain b e)) (lifted v.n (compact H text v ext) (same_compact v ext) handed other alike)
+      ap (λ (e : Evidence). verdict_by chain b (length (new_records b chain.blocks)) (refusal rules chain b e))
+      (lifted v.n (compact H text v ext) (same_compact v ext) handed other alike)
 
   -- ---- by the whole history
 
@@ -107,66 +110,86 @@ module _ (H : List ℕ → Digest) (text : Leaf → List ℕ) where
         && (all_stand H text us named (claimed points rests)
         && same_digests hashes (map (λ p. digest_at H es p.row p.off) (asked n (somes named) (known_to lean known))))
 
-    same_right : (known : ℕ → ℕ → Option Digest) (points : List Outpoint) (m k : Message) → IsAlike (length us) m k → is_right H text us known points m ≡ is_right H text us known points k
+    same_right : (known : ℕ → ℕ → Option Digest) (points : List Outpoint) (m k : Message) → IsAlike (length us) m k
+        → is_right H text us known points m ≡ is_right H text us known points k
     same_right known points m k alike =
         ap (λ (x : ℕ). right_of known points x (named (length us) m) m.lean (rests_of m.proof.spends) m.proof.hashes) (count m k alike)
-        ∙ ap (λ (x : List (Option Place)). right_of known points (length k.proof.spends) x m.lean (rests_of m.proof.spends) m.proof.hashes) alike.places
+        ∙ ap (λ (x : List (Option Place)). right_of known points (length k.proof.spends) x m.lean (rests_of m.proof.spends) m.proof.hashes)
+        alike.places
         ∙ ap (λ (x : Bool). right_of known points (length k.proof.spends) (named (length us) k) x (rests_of m.proof.spends) m.proof.hashes) alike.lean
         ∙ ap (λ (x : List Rest). right_of known points (length k.proof.spends) (named (length us) k) k.lean x m.proof.hashes) alike.rests
-        ∙ ap (λ (x : List Digest). right_of known points (length k.proof.spends) (named (length us) k) k.lean (rests_of k.proof.spends) x) alike.hashes
+        ∙ ap (λ (x : List Digest). right_of known points (length k.proof.spends) (named (length us) k) k.lean (rests_of k.proof.spends) x)
+        alike.hashes
 
     same_shown : (m k : Message) → IsAlike (length us) m k → entries_shown H text us (read m) ≡ entries_shown H text us (read k)
     same_shown m k alike = ap (λ (x : List (Option Place)). somes (map (entry_number_at (entries H text us)) (somes x))) alike.places
 
     abbrev full_of : List Outside → Option ProofRefusal → Bool → ℕ → List Rest → List ℕ → Evidence
-    full_of ext fault right got rests numbers = record { steps = steps_of ext got ++ (wrong_unless right fault ∷ []); found = map found_of rests; numbers = numbers }
+    full_of ext fault right got rests numbers =
+        record { steps = steps_of ext got ++ (wrong_unless right fault ∷ []); found = map found_of rests; numbers = numbers }
 
-    same_full : (scripts : List (List ℕ)) (ext : List Outside) (m k : Message) → IsAlike (length us) m k → full H text scripts us ext (read m) ≡ full H text scripts us ext (read k)
+    same_full : (scripts : List (List ℕ)) (ext : List Outside) (m k : Message) → IsAlike (length us) m k
+        → full H text scripts us ext (read m) ≡ full H text scripts us ext (read k)
     same_full scripts ext m k alike =
         let known = known_at H text scripts us in
         let v = view_of H text scripts us in
         let points = points_of ext in
-        ap (λ (x : Option ProofRefusal). full_of ext x (is_right H text us known points m) (length m.proof.spends) (rests_of m.proof.spends) (entries_shown H text us (read m))) (same_fault v points m k alike)
-        ∙ ap (λ (x : Bool). full_of ext (proof_fault H text v points k) x (length m.proof.spends) (rests_of m.proof.spends) (entries_shown H text us (read m))) (same_right known points m k alike)
-        ∙ ap (λ (x : ℕ). full_of ext (proof_fault H text v points k) (is_right H text us known points k) x (rests_of m.proof.spends) (entries_shown H text us (read m))) (count m k alike)
-        ∙ ap (λ (x : List Rest). full_of ext (proof_fault H text v points k) (is_right H text us known points k) (length k.proof.spends) x (entries_shown H text us (read m))) alike.rests
-        ∙ ap (λ (x : List ℕ). full_of ext (proof_fault H text v points k) (is_right H text us known points k) (length k.proof.spends) (rests_of k.proof.spends) x) (same_shown m k alike)
+        ap (λ (x : Option ProofRefusal). full_of ext x (is_right H text us known points m) (length m.proof.spends) (rests_of m.proof.spends)
+        (entries_shown H text us (read m))) (same_fault v points m k alike)
+        ∙ ap (λ (x : Bool). full_of ext (proof_fault H text v points k) x (length m.proof.spends) (rests_of m.proof.spends)
+        (entries_shown H text us (read m))) (same_right known points m k alike)
+        ∙ ap (λ (x : ℕ). full_of ext (proof_fault H text v points k) (is_right H text us known points k) x (rests_of m.proof.spends)
+        (entries_shown H text us (read m))) (count m k alike)
+        ∙ ap (λ (x : List Rest). full_of ext (proof_fault H text v points k) (is_right H text us known points k) (length k.proof.spends) x
+        (entries_shown H text us (read m))) alike.rests
+        ∙ ap (λ (x : List ℕ). full_of ext (proof_fault H text v points k) (is_right H text us known points k) (length k.proof.spends)
+        (rests_of k.proof.spends) x) (same_shown m k alike)
 
     abbrev forged_of : Rules → Chain → Block → List Outside → ℕ → Option ProofRefusal → Bool → Bool
-    forged_of rules chain b ext got fault right = is_none (first_of (block_steps rules.net rules.limits chain b ++ steps_of ext got)) && (is_none fault && not right)
+    forged_of rules chain b ext got fault right = is_none (first_of (block_steps rules.net rules.limits chain b ++ steps_of ext got))
+        && (is_none fault && not right)
 
     -- forgery is judged alike
-    pub same_forged : (scripts : List (List ℕ)) (rules : Rules) (chain : Chain) (b : Block) (handed other : Handed) → AreAlike (length us) handed other
+    pub same_forged : (scripts : List (List ℕ)) (rules : Rules) (chain : Chain) (b : Block) (handed other : Handed)
+        → AreAlike (length us) handed other
         → is_forged H text scripts rules chain us b handed ≡ is_forged H text scripts rules chain us b other
     same_forged scripts rules chain b handed other alike = lifted (length us) (is_forged H text scripts rules chain us b) of handed other alike
       where
-        of : (m k : Message) → IsAlike (length us) m k → is_forged H text scripts rules chain us b (read m) ≡ is_forged H text scripts rules chain us b (read k)
+        of : (m k : Message) → IsAlike (length us) m k
+            → is_forged H text scripts rules chain us b (read m) ≡ is_forged H text scripts rules chain us b (read k)
         of m k alike =
             let ext = external b chain.blocks in
             let known = known_at H text scripts us in
             let v = view_of H text scripts us in
             let points = points_of ext in
             ap (λ (x : ℕ). forged_of rules chain b ext x (proof_fault H text v points m) (is_right H text us known points m)) (count m k alike)
-            ∙ ap (λ (x : Option ProofRefusal). forged_of rules chain b ext (length k.proof.spends) x (is_right H text us known points m)) (same_fault v points m k alike)
-            ∙ ap (λ (x : Bool). forged_of rules chain b ext (length k.proof.spends) (proof_fault H text v points k) x) (same_right known points m k alike)
+            ∙ ap (λ (x : Option ProofRefusal). forged_of rules chain b ext (length k.proof.spends) x (is_right H text us known points m))
+            (same_fault v points m k alike)
+            ∙ ap (λ (x : Bool). forged_of rules chain b ext (length k.proof.spends) (proof_fault H text v points k) x)
+            (same_right known points m k alike)
 
   -- ---- the machines
 
   module _ (scripts : List (List ℕ)) (rules : Rules) where
-    pub same_full_judge : (l : Level) (b : Block) (handed other : Handed) → AreAlike (length l.history) handed other → full_judge H text scripts rules l b handed ≡ full_judge H text scripts rules l b other
+    pub same_full_judge : (l : Level) (b : Block) (handed other : Handed) → AreAlike (length l.history) handed other
+        → full_judge H text scripts rules l b handed ≡ full_judge H text scripts rules l b other
     same_full_judge l b handed other alike =
         let us = l.history in
         let ext = external b l.blocks in
         ap (λ (x : Bool). cond x None (Some (full H text scripts us ext handed))) (same_forged us scripts rules (chain_of l) b handed other alike)
-        ∙ ap (λ (x : Evidence). cond (is_forged H text scripts rules (chain_of l) us b other) None (Some x)) (lifted (length us) (full H text scripts us ext) (same_full us scripts ext) handed other alike)
+        ∙ ap (λ (x : Evidence). cond (is_forged H text scripts rules (chain_of l) us b other) None (Some x))
+        (lifted (length us) (full H text scripts us ext) (same_full us scripts ext) handed other alike)
 
-    pub same_view_judge : (l : Level) (b : Block) (handed other : Handed) → AreAlike (length l.history) handed other → view_judge H text scripts l b handed ≡ view_judge H text scripts l b other
+    pub same_view_judge : (l : Level) (b : Block) (handed other : Handed) → AreAlike (length l.history) handed other
+        → view_judge H text scripts l b handed ≡ view_judge H text scripts l b other
     same_view_judge l b handed other alike =
         let us = l.history in
         let ext = external b l.blocks in
         let v = view_of H text scripts us in
-        ap (λ (x : Evidence). Some (record { steps = x.steps; found = x.found; numbers = entries_shown H text us handed })) (lifted (length us) (compact H text v ext) (same_compact v ext) handed other alike)
-        ∙ ap (λ (x : List ℕ). Some (record (compact H text v ext other) { numbers = x })) (lifted (length us) (entries_shown H text us) (same_shown us) handed other alike)
+        ap (λ (x : Evidence). Some (record { steps = x.steps; found = x.found; numbers = entries_shown H text us handed }))
+        (lifted (length us) (compact H text v ext) (same_compact v ext) handed other alike)
+        ∙ ap (λ (x : List ℕ). Some (record (compact H text v ext other) { numbers = x }))
+        (lifted (length us) (entries_shown H text us) (same_shown us) handed other alike)
 
     pub same_full_step : (s : State) (b : Option Block) (handed other : Handed) → AreAlike (length s.now.history) handed other
         → step rules (full_judge H text scripts rules) s (BlockCame b handed) ≡ step rules (full_judge H text scripts rules) s (BlockCame b other)

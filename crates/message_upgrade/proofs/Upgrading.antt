@@ -1,5 +1,6 @@
 -- An upgraded message is read as the message in version 2, which names the same places, and is as long.
-use Rattle.std.proofs.Common.{◌≡◌, ℕ, suc, ◌*◌, ◌-◌, ◌<◌, ◌≤◌, ◌^◌, List, [], ◌∷◌, ◌++◌, map, length, Option, Some, None, refl, sym, ap, ap₂, subst, ◌∙◌, arith, length-append}
+use Rattle.std.proofs.Common.{◌≡◌, ℕ, suc, ◌*◌, ◌-◌, ◌<◌, ◌≤◌, ◌^◌, List, [], ◌∷◌, ◌++◌, map, length, Option, Some, None, refl, sym, ap, ap₂, subst}
+use Rattle.std.proofs.Common.{◌∙◌, arith, length-append}
 use Rattle.std.specs.Int.{w64, to_le_bytes}
 use Rattle.std.specs.List.{flat_map, AllByRecursion}
 use Rattle.std.proofs.lemmas.List.{length-map}
@@ -32,7 +33,8 @@ same_place n number few = by (place_by Position n number) refl
         (λ q h same. let small = fixed_small q.row q.off (places_low n q.row q.off few h) in omega (arith, small, same))
     by (Some p) e = place_by-number FixedPosition n p few (place_by-some Position n number p e).0
 
-all_places : (n : ℕ) (spends : List Spend) → n ≤ 2 ^ 40 → map (place_by FixedPosition n) (targets_of (map (renamed n) spends)) ≡ map (place_by Position n) (targets_of spends)
+all_places : (n : ℕ) (spends : List Spend) → n ≤ 2 ^ 40 → map (place_by FixedPosition n) (targets_of (map (renamed n) spends))
+    ≡ map (place_by Position n) (targets_of spends)
 all_places n [] few = refl
 all_places n (s ∷ spends) few = ap₂ (λ (x : Option Place) (xs : List (Option Place)). x ∷ xs) (same_place n s.target few) (all_places n spends few)
 
@@ -80,13 +82,22 @@ same_count : (n : ℕ) (spends : List Spend) → length (targets_of (map (rename
 same_count n [] = refl
 same_count n (s ∷ spends) = ap suc (same_count n spends)
 
-targets_long : (n : ℕ) (spends : List Spend) → length (counted (to_le_bytes w64) (targets_of (map (renamed n) spends))) ≡ length (counted (to_le_bytes w64) (targets_of spends))
+targets_long : (n : ℕ) (spends : List Spend) → length (counted (to_le_bytes w64) (targets_of (map (renamed n) spends)))
+    ≡ length (counted (to_le_bytes w64) (targets_of spends))
 targets_long n spends =
     let new = targets_of (map (renamed n) spends) in
     let old = targets_of spends in
     let same = same_count n spends in
     let count : length (compact (length new)) ≡ length (compact (length old)) = ap (λ k. length (compact k)) same in
-    omega (arith, length-append (compact (length new)) (flat_map (to_le_bytes w64) new), length-append (compact (length old)) (flat_map (to_le_bytes w64) old), eight_each new, eight_each old, same, count)
+    omega (
+      arith,
+      length-append (compact (length new)) (flat_map (to_le_bytes w64) new),
+      length-append (compact (length old)) (flat_map (to_le_bytes w64) old),
+      eight_each new,
+      eight_each old,
+      same,
+      count,
+    )
 
 body_long : (n : ℕ) (p : BlockProof) → length (body_text (record { spends = map (renamed n) p.spends; hashes = p.hashes })) ≡ length (body_text p)
 unfolding body_text
@@ -97,7 +108,15 @@ body_long n p =
     let new_rests = flat_map rest_text (rests_of (map (renamed n) p.spends)) in
     let old_rests = flat_map rest_text (rests_of p.spends) in
     let rests : length new_rests ≡ length old_rests = ap (λ (rs : List Rest). length (flat_map rest_text rs)) (sym (same_rests n p.spends)) in
-    omega (arith, length-append (new ++ new_rests) hashes, length-append (old ++ old_rests) hashes, length-append new new_rests, length-append old old_rests, rests, targets_long n p.spends)
+    omega (
+      arith,
+      length-append (new ++ new_rests) hashes,
+      length-append (old ++ old_rests) hashes,
+      length-append new new_rests,
+      length-append old old_rests,
+      rests,
+      targets_long n p.spends,
+    )
 
 message_long : (n : ℕ) (m : Message) → length (message_text (in_version_2 n m)) ≡ length (message_text m)
 message_long n m = ap (λ k. suc (suc k)) (body_long n m.proof)
@@ -116,10 +135,14 @@ self_alike n (read m) other e = (m, e, record { lean = refl; places = refl; rest
 pub upgraded_alike : (n : ℕ) (bytes : List ℕ) → n ≤ 2 ^ 40 → IsBytes bytes → AreAlike n (message_in bytes) (message_in (upgraded n bytes))
 upgraded_alike n bytes few is_bytes = subst (λ h. AreAlike n h (message_in (upgraded n bytes))) refl (by (message_in bytes) refl)
   where
-    by_naming : (m : Message) → message_in bytes ≡ read m → (by : Naming) → m.naming ≡ by → AreAlike n (read m) (message_in (upgraded_by by n bytes m))
+    by_naming : (m : Message) → message_in bytes ≡ read m → (by : Naming) → m.naming ≡ by
+        → AreAlike n (read m) (message_in (upgraded_by by n bytes m))
     by_naming m e Position old =
-        let fits = (read_is_text bytes m is_bytes e).0 in
-        (in_version_2 n m, message_read (message_text (in_version_2 n m)) (in_version_2 n m) (upgraded_fits n m few fits) refl, upgraded_message n m few old)
+        let fits = (read_is_text bytes m is_bytes e).0 in (
+          in_version_2 n m,
+          message_read (message_text (in_version_2 n m)) (in_version_2 n m) (upgraded_fits n m few fits) refl,
+          upgraded_message n m few old,
+        )
     by_naming m e FixedPosition other = self_alike n (read m) (message_in bytes) e
 
     by_handed : (handed : Handed) → message_in bytes ≡ handed → AreAlike n handed (message_in (upgraded_as n bytes handed))

@@ -24,18 +24,22 @@ UpgradedIsAsLong = (n : ℕ) (message : List ℕ) → IsBytes message → length
 
 -- Over a view the verdict is the same, with its details.
 abbrev pub UpgradedIsJudgedByView : Type 0
-UpgradedIsJudgedByView = (H : List ℕ → Digest) (text : Leaf → List ℕ) (rules : Rules) (chain : Chain) (v : View) (b : Block) (message : List ℕ) → v.n ≤ 2 ^ 40 → IsBytes message →
+UpgradedIsJudgedByView = (H : List ℕ → Digest) (text : Leaf → List ℕ) (rules : Rules) (chain : Chain) (v : View) (b : Block) (message : List ℕ)
+    → v.n ≤ 2 ^ 40 → IsBytes message →
     verdict_over H text rules chain v b (message_in (upgraded v.n message)) ≡ verdict_over H text rules chain v b (message_in message)
 
 -- Over a history one is forged exactly where the other is.
 abbrev pub UpgradedIsForgedAlike : Type 0
-UpgradedIsForgedAlike = (H : List ℕ → Digest) (text : Leaf → List ℕ) (scripts : List (List ℕ)) (rules : Rules) (chain : Chain) (us : History) (b : Block) (message : List ℕ) →
+UpgradedIsForgedAlike = (H : List ℕ → Digest) (text : Leaf → List ℕ) (scripts : List (List ℕ)) (rules : Rules) (chain : Chain) (us : History)
+    (b : Block) (message : List ℕ) →
     length us ≤ 2 ^ 40 → IsBytes message →
-    is_forged H text scripts rules chain us b (message_in (upgraded (length us) message)) ≡ is_forged H text scripts rules chain us b (message_in message)
+    is_forged H text scripts rules chain us b (message_in (upgraded (length us) message))
+    ≡ is_forged H text scripts rules chain us b (message_in message)
 
 -- And a machine that judges by histories, or by the views of them, says the same of both, and is left in the same state.
 abbrev pub UpgradedIsJudgedAlike : Type 0
-UpgradedIsJudgedAlike = (H : List ℕ → Digest) (text : Leaf → List ℕ) (scripts : List (List ℕ)) (rules : Rules) (s : State) (b : Option Block) (message : List ℕ) →
+UpgradedIsJudgedAlike = (H : List ℕ → Digest) (text : Leaf → List ℕ) (scripts : List (List ℕ)) (rules : Rules) (s : State) (b : Option Block)
+    (message : List ℕ) →
     length s.now.history ≤ 2 ^ 40 → IsBytes message →
     let before = BlockCame b (message_in message) in
     let after = BlockCame b (message_in (upgraded (length s.now.history) message)) in

@@ -1,5 +1,6 @@
 //! What holds of upgraded messages. There is no code here.
-ghost use Rattle.message_upgrade.specs.Laws.{SamePlacesAreNamed, UpgradedIsAsLong, UpgradedIsJudgedByView, UpgradedIsForgedAlike, UpgradedIsJudgedAlike};
+ghost use Rattle.message_upgrade.specs.Laws.{SamePlacesAreNamed, UpgradedIsAsLong, UpgradedIsJudgedByView, UpgradedIsForgedAlike};
+ghost use Rattle.message_upgrade.specs.Laws.{UpgradedIsJudgedAlike};
 
 /// In version 2 a message is as long as in version 1.
 pub fn upgraded_is_as_long()

@@ -14,8 +14,8 @@ use uo_base::NoMemory;
 const NO_PLACE: u64 = u64::MAX;
 
 /// Appends the message that bytes are, in version 2: a target of version 1 becomes the fixed position of the place that it names in the
-/// forest over `n` entries, or the greatest number where it names none. What is no message of version 1 is appended as it is. The
-/// answer is whether it was one.
+/// forest over `n` entries, or the greatest number where it names none. What is no message of version 1 is appended as it is. The answer is whether
+/// it was one.
 #[tactic(auto, unfolding(crate::specs::Upgrade::upgraded))]
 pub fn upgrade(alloc: Global, n: u64, message: &[u8], out: &mut Vec<u8>) -> Result<bool, NoMemory>
     requires few { n < 2 ^ 40 }
@@ -69,7 +69,12 @@ fn write_renamed(
 fn push_renamed(n: u64, view: &MessageView<'_>, message: &mut Message) -> Result<(), NoMemory>
     requires few { n < 2 ^ 40 }
     requires none { message.old.proof.spends ≡ [] }
-    ensures { OnOk result (message.new ≡ record { naming = message.old.naming; lean = message.old.lean; proof = record { spends = map (renamed n) view.now.proof.spends; hashes = message.old.proof.hashes } }) }
+    ensures { OnOk result (message.new ≡ record {
+      naming = message.old.naming;
+      lean = message.old.lean;
+      proof =
+          record { spends = map (renamed n) view.now.proof.spends; hashes = message.old.proof.hashes };
+    }) }
 {
     for i in 0..view.spends() {
         message.push_spend(number(n, view.target(i)), &view.rest(i))?;
@@ -80,7 +85,12 @@ fn push_renamed(n: u64, view: &MessageView<'_>, message: &mut Message) -> Result
 // Appends the hashes of a message to one that has none.
 fn push_hashes(view: &MessageView<'_>, message: &mut Message) -> Result<(), NoMemory>
     requires none { message.old.proof.hashes ≡ [] }
-    ensures { OnOk result (message.new ≡ record { naming = message.old.naming; lean = message.old.lean; proof = record { spends = message.old.proof.spends; hashes = view.now.proof.hashes } }) }
+    ensures { OnOk result (message.new ≡ record {
+      naming = message.old.naming;
+      lean = message.old.lean;
+      proof =
+          record { spends = message.old.proof.spends; hashes = view.now.proof.hashes };
+    }) }
 {
     for i in 0..view.hash_count() {
         message.push_hash(view.hash(i))?;

@@ -1,6 +1,7 @@
 -- What `audit` writes of a feed is what an auditor says and shows, and that is what the node says that holds every output, up to the first forged
 -- event.
-use Rattle.std.proofs.Common.{◌≡◌, ℕ, suc, ◌+◌, ◌<◌, ◌^◌, Bool, true, false, cond, ◌||◌, List, [], ◌∷◌, ◌++◌, length, map, Option, Some, None, refl, sym, ap, ap₂, ◌∙◌, arith, append-nil, append_assoc}
+use Rattle.std.proofs.Common.{◌≡◌, ℕ, suc, ◌+◌, ◌<◌, ◌^◌, Bool, true, false, cond, ◌||◌, List, [], ◌∷◌, ◌++◌, length, map, Option, Some, None, refl}
+use Rattle.std.proofs.Common.{sym, ap, ap₂, ◌∙◌, arith, append-nil, append_assoc}
 use Rattle.std.specs.Prelude.{not, is_none}
 use Rattle.std.specs.List.{flat_map, list_any}
 use Rattle.std.proofs.lemmas.Bool.{false≢true}
@@ -34,7 +35,8 @@ use Rattle.audit_replay.proofs.Auditing.{judged_rules}
 use Rattle.audit_replay.proofs.Throughout.{fresh_is_full, supply_is_of_level}
 use Rattle.report_lines.specs.declared.line.Line.{Line}
 use Rattle.node_commands.specs.Answers.{bad_end, last_of, answer_with, served, served_feed}
-use Rattle.node_commands.specs.Auditor.{AuditorState, fresh_auditor, judged_of, refuses, next_auditor, clash_text, judged_text, audited_text, judged_line, supply_end, end_unless, audit_end, audit_machine, level_end, answer_unless, audit_answer}
+use Rattle.node_commands.specs.Auditor.{AuditorState, fresh_auditor, judged_of, refuses, next_auditor, clash_text, judged_text, audited_text}
+use Rattle.node_commands.specs.Auditor.{judged_line, supply_end, end_unless, audit_end, audit_machine, level_end, answer_unless, audit_answer}
 use Rattle.node_commands.specs.Follow.{line_of, rules_of}
 use Rattle.node_commands.specs.Machine.{is_refused}
 use Rattle.node_commands.specs.Runs.{Serves}
@@ -44,7 +46,8 @@ use Rattle.node_commands.proofs.ServeLemmas.{Serves-same, Serves-quiet}
 -- ---- one event
 
 -- what is printed of the auditor's answer is the line of the event
-pub audited-is : (H : List ℕ → Digest) (a : AuditorState) (event : FeedEvent) (line : AuditLine) → verdict_in line ≡ judged_on H leaf_text a.audit.bridge (event_in event)
+pub audited-is : (H : List ℕ → Digest) (a : AuditorState) (event : FeedEvent) (line : AuditLine)
+    → verdict_in line ≡ judged_on H leaf_text a.audit.bridge (event_in event)
     → ShowsClash H a.audit.bridge (event_in event) line → audited_text a.events line ≡ judged_line H a event
 unfolding judged_line judged_of
 audited-is H a event (Audited.Verdict verdict) says shows = ap (λ v. judged_text v a.events (clash_on H a.audit.bridge (event_in event))) says
@@ -108,7 +111,8 @@ module _ (H : List ℕ → Digest) where
 
     -- the lines of both, where it says this of the first
     abbrev lines_with : Option Verdict → List Verdict → Option TextClash → List ℕ
-    lines_with v later rest = flat_map line_of (verdict_before v later) ++ clash_text (a.events + length (verdict_before v later)) (shown_or v here rest)
+    lines_with v later rest = flat_map line_of (verdict_before v later)
+        ++ clash_text (a.events + length (verdict_before v later)) (shown_or v here rest)
 
     last-told : judged_of H a event ≡ None → IsTold a (event ∷ events)
     unfolding judged_of next_auditor judged_line
@@ -117,10 +121,13 @@ module _ (H : List ℕ → Digest) where
         let left : left_by m a (event ∷ events) ≡ next = left-more ∙ left-over events next stops in
         let later = verdicts_on H leaf_text next.audit (map event_in events) in
         let rest = shown_on H next.audit (map event_in events) in
-        let same : clash_text a.events here ≡ clash_text (a.events + 0) here = ap (λ k. clash_text k here) (let z : a.events ≡ a.events + 0 = omega arith in z) in
+        let same : clash_text a.events here ≡ clash_text (a.events + 0) here =
+        ap (λ k. clash_text k here) (let z : a.events ≡ a.events + 0 = omega arith in z) in
         record {
-          said = said-more ∙ ap₂ (λ v w. judged_text v a.events here ++ w) none (said-over events next stops) ∙ append-nil (clash_text a.events here) ∙ same ∙ ap (λ v. lines_with v later rest) (sym none);
-          audit = ap (λ (s : AuditorState). s.audit) left ∙ ap (λ v. ends_at v next.audit (audit_after H leaf_text next.audit (map event_in events))) (sym none);
+          said = said-more ∙ ap₂ (λ v w. judged_text v a.events here ++ w) none (said-over events next stops) ∙ append-nil (clash_text a.events here)
+              ∙ same ∙ ap (λ v. lines_with v later rest) (sym none);
+          audit = ap (λ (s : AuditorState). s.audit) left ∙ ap (λ v. ends_at v next.audit (audit_after H leaf_text next.audit (map event_in events)))
+              (sym none);
           counts = λ e. absurd (false≢true (sym e ∙ (ap (λ (s : AuditorState). s.audit.ended) left ∙ stops)));
           refusals = λ e. absurd (false≢true (sym e ∙ (ap (λ (s : AuditorState). s.audit.ended) left ∙ stops)));
         }
@@ -139,7 +146,8 @@ module _ (H : List ℕ → Digest) where
               said-more ∙ ap₂ (λ x w. judged_text x a.events here ++ w) some t.said
               ∙ sym (append_assoc line (flat_map line_of later) (clash_text ((a.events + 1) + length later) rest))
               ∙ ap (λ k. (line ++ flat_map line_of later) ++ clash_text k rest) count ∙ ap (λ x. lines_with x later rest) (sym some);
-          audit = ap (λ (s : AuditorState). s.audit) left-more ∙ t.audit ∙ ap (λ x. ends_at x next.audit (audit_after H leaf_text next.audit (map event_in events))) (sym some);
+          audit = ap (λ (s : AuditorState). s.audit) left-more ∙ t.audit
+              ∙ ap (λ x. ends_at x next.audit (audit_after H leaf_text next.audit (map event_in events))) (sym some);
           counts = λ e. ap (λ (s : AuditorState). s.events) left-more ∙ t.counts (ended e) ∙ events_count;
           refusals =
               λ e.
@@ -159,7 +167,8 @@ module _ (H : List ℕ → Digest) where
   }
   is-told (event ∷ events) a going = by (judged_of H a event) refl (is-told events (next_auditor H a event))
     where
-      by : (v : Option Verdict) → judged_of H a event ≡ v → ((next_auditor H a event).audit.ended ≡ false → IsTold (next_auditor H a event) events) → IsTold a (event ∷ events)
+      by : (v : Option Verdict) → judged_of H a event ≡ v → ((next_auditor H a event).audit.ended ≡ false → IsTold (next_auditor H a event) events)
+          → IsTold a (event ∷ events)
       by None none later = last-told a event events going none
       by (Some v) some later = more-told a event events going v some (later (ap is_none some))
 
@@ -176,7 +185,8 @@ module _ (H : List ℕ → Digest) where
 
   after-bridge : (es : List ChainEvent) (s : AuditState) → IsBridge H leaf_text s.bridge → IsBridge H leaf_text (audit_after H leaf_text s es).bridge
   after-bridge [] s is = is
-  after-bridge (e ∷ es) s is = by (judged_on H leaf_text s.bridge e) (after-bridge es (next_audit H leaf_text s e) (next_judged_is_bridge H leaf_text s.bridge e is))
+  after-bridge (e ∷ es) s is = by (judged_on H leaf_text s.bridge e)
+      (after-bridge es (next_audit H leaf_text s e) (next_judged_is_bridge H leaf_text s.bridge e is))
     where
       by : (v : Option Verdict) → IsBridge H leaf_text (audit_after H leaf_text (next_audit H leaf_text s e) es).bridge
           → IsBridge H leaf_text (ends_at v (next_audit H leaf_text s e) (audit_after H leaf_text (next_audit H leaf_text s e) es)).bridge
@@ -188,8 +198,10 @@ module _ (H : List ℕ → Digest) where
   shown-none [] s e = refl
   shown-none (x ∷ es) s e = by (judged_on H leaf_text s.bridge x) refl (shown-none es (next_audit H leaf_text s x)) e
     where
-      by : (v : Option Verdict) → judged_on H leaf_text s.bridge x ≡ v → ((audit_after H leaf_text (next_audit H leaf_text s x) es).ended ≡ false → shown_on H (next_audit H leaf_text s x) es ≡ None)
-          → (ends_at v (next_audit H leaf_text s x) (audit_after H leaf_text (next_audit H leaf_text s x) es)).ended ≡ false → shown_or v (clash_on H s.bridge x) (shown_on H (next_audit H leaf_text s x) es) ≡ None
+      by : (v : Option Verdict) → judged_on H leaf_text s.bridge x ≡ v
+          → ((audit_after H leaf_text (next_audit H leaf_text s x) es).ended ≡ false → shown_on H (next_audit H leaf_text s x) es ≡ None)
+          → (ends_at v (next_audit H leaf_text s x) (audit_after H leaf_text (next_audit H leaf_text s x) es)).ended ≡ false
+          → shown_or v (clash_on H s.bridge x) (shown_on H (next_audit H leaf_text s x) es) ≡ None
       by None none later e = absurd (false≢true (sym e ∙ ap is_none none))
       by (Some v) some later e = later e
 
@@ -248,27 +260,32 @@ module _ (H : List ℕ → Digest) where
 
     served_is : (b : Bool) → last.audit.ended ≡ b → served m fresh (events_of net limits.bytes feed)
         ≡ answer_with (flat_map line_of verdicts ++ clash_text (length verdicts) shows) []
-        (end_unless b (supply_end last.refused last.events (supply (history_of last.audit.bridge)) (issued last.audit.bridge.rules.net last.audit.bridge.chain.blocks) last.audit.bridge.chain)) (cond b None ending)
+        (end_unless b (supply_end last.refused last.events (supply (history_of last.audit.bridge))
+        (issued last.audit.bridge.rules.net last.audit.bridge.chain.blocks) last.audit.bridge.chain)) (cond b None ending)
     served_is b e =
         ap₂ (λ l w. answer_with l w (audit_end last) (wanted_end m last ending)) said (sent-none events fresh)
         ∙ ap (λ x. answer_with (flat_map line_of verdicts ++ clash_text (length verdicts) shows) []
-        (end_unless x (supply_end last.refused last.events (supply (history_of last.audit.bridge)) (issued last.audit.bridge.rules.net last.audit.bridge.chain.blocks) last.audit.bridge.chain)) (cond x None ending)) e
+        (end_unless x (supply_end last.refused last.events (supply (history_of last.audit.bridge))
+        (issued last.audit.bridge.rules.net last.audit.bridge.chain.blocks) last.audit.bridge.chain)) (cond x None ending)) e
 
     -- by what the auditor keeps then
     abbrev end_by : Bool → ℕ → AuditState → Answer
     end_by refused count s = supply_end refused count (supply (history_of s.bridge)) (issued s.bridge.rules.net s.bridge.chain.blocks) s.bridge.chain
 
-    end-is : last.audit.ended ≡ false → end_by last.refused last.events last.audit ≡ level_end (list_any is_refused verdicts) (length events) net state.now
+    end-is : last.audit.ended ≡ false → end_by last.refused last.events last.audit
+        ≡ level_end (list_any is_refused verdicts) (length events) net state.now
     end-is going =
         let is = after-bridge es fresh.audit (fresh_is_bridge H leaf_text net limits (Some scripts) few) in
         let value = supply_is_of_level H leaf_text state behind.bridge is throughout.stands in
         let rules_are = after-rules es fresh.audit in
         let count : 0 + length events ≡ length events = omega arith in
-        let issued_is : issued behind.bridge.rules.net behind.bridge.chain.blocks ≡ issued net state.now.blocks = value.1 ∙ ap (λ (r : Rules). issued r.net state.now.blocks) rules_are in
+        let issued_is : issued behind.bridge.rules.net behind.bridge.chain.blocks ≡ issued net state.now.blocks =
+        value.1 ∙ ap (λ (r : Rules). issued r.net state.now.blocks) rules_are in
         ap (λ r. end_by r last.events last.audit) (t.refusals going ∙ ap (list_any is_refused) throughout.said)
         ∙ ap (λ k. end_by (list_any is_refused verdicts) k last.audit) (t.counts going ∙ count)
         ∙ ap (end_by (list_any is_refused verdicts) (length events)) t.audit
-        ∙ ap (λ x. supply_end (list_any is_refused verdicts) (length events) x (issued behind.bridge.rules.net behind.bridge.chain.blocks) behind.bridge.chain) value.0
+        ∙ ap (λ x. supply_end (list_any is_refused verdicts) (length events) x (issued behind.bridge.rules.net behind.bridge.chain.blocks)
+        behind.bridge.chain) value.0
         ∙ ap₂ (λ x c. supply_end (list_any is_refused verdicts) (length events) (supply state.now.history) x c) issued_is throughout.stands.chain
 
     answer-is : (b : Bool) → not (never_stops rules (full_judge H leaf_text scripts rules) start es) ≡ b
@@ -292,13 +309,16 @@ module _ (H : List ℕ → Digest) where
     unfolding served_feed
     served-fresh = by-forged last.audit.ended refl
 
-  served-audit : (limits : Limits) (net : Net) (scripts : List (List ℕ)) → limits.leaves < 2 ^ 40 → (a : AuditorState) → a ≡ fresh_auditor net limits scripts
+  served-audit : (limits : Limits) (net : Net) (scripts : List (List ℕ)) → limits.leaves < 2 ^ 40 → (a : AuditorState)
+      → a ≡ fresh_auditor net limits scripts
       → (feed : List ℕ) → served_feed (audit_machine H) a net limits.bytes feed ≡ audit_answer H limits net scripts feed
-  served-audit limits net scripts few a e feed = ap (λ s. served_feed (audit_machine H) s net limits.bytes feed) e ∙ served-fresh limits net scripts few feed
+  served-audit limits net scripts few a e feed = ap (λ s. served_feed (audit_machine H) s net limits.bytes feed) e
+      ∙ served-fresh limits net scripts few feed
 
 -- ---- nothing is stored
 
-last-none : (refused : Bool) (count live issued : ℕ) (chain : Chain) (bad : Option (Status × Line)) → (last_of (supply_end refused count live issued chain) bad).out ≡ []
+last-none : (refused : Bool) (count live issued : ℕ) (chain : Chain) (bad : Option (Status × Line))
+    → (last_of (supply_end refused count live issued chain) bad).out ≡ []
 last-none refused count live issued chain None = refl
 last-none refused count live issued chain (Some (status, line)) = refl
 
@@ -306,16 +326,21 @@ unless-none : (forged : Bool) (usual : Answer) (lines clash : List ℕ) → usua
 unless-none true usual lines clash e = refl
 unless-none false usual lines clash e = e
 
-pub audit-stores : (H : List ℕ → Digest) (limits : Limits) (net : Net) (scripts : List (List ℕ)) (feed : List ℕ) → (audit_answer H limits net scripts feed).out ≡ []
+pub audit-stores : (H : List ℕ → Digest) (limits : Limits) (net : Net) (scripts : List (List ℕ)) (feed : List ℕ)
+    → (audit_answer H limits net scripts feed).out ≡ []
 unfolding audit_answer
 audit-stores H limits net scripts feed = unless-none _ _ _ _ (last-none _ _ _ _ _ (bad_end (events_of net limits.bytes feed).ending))
 
 -- what a call over the machine gave is what it gave of the node that holds every output
-pub audit-serves : (H : List ℕ → Digest) (limits : Limits) (net : Net) (scripts : List (List ℕ)) → limits.leaves < 2 ^ 40 → (a : AuditorState) → a ≡ fresh_auditor net limits scripts
+pub audit-serves : (H : List ℕ → Digest) (limits : Limits) (net : Net) (scripts : List (List ℕ)) → limits.leaves < 2 ^ 40 → (a : AuditorState)
+    → a ≡ fresh_auditor net limits scripts
     → {feed feed' report report' o o' : Option (List ℕ)} (out : Option (List ℕ)) (stopped : Bool) (status : Status)
-    → Serves (said_by (audit_machine H) a) (sent_by (audit_machine H) a) (served_feed (audit_machine H) a net limits.bytes) net limits.bytes feed feed' report report' o o' stopped status
-    → Serves (λ events. said_by (audit_machine H) (fresh_auditor net limits scripts) events) (λ events. []) (audit_answer H limits net scripts) net limits.bytes
+    → Serves (said_by (audit_machine H) a) (sent_by (audit_machine H) a) (served_feed (audit_machine H) a net limits.bytes) net limits.bytes feed
+    feed' report report' o o' stopped status
+    → Serves (λ events. said_by (audit_machine H) (fresh_auditor net limits scripts) events) (λ events. []) (audit_answer H limits net scripts) net
+    limits.bytes
     feed feed' report report' out out stopped status
 audit-serves H limits net scripts few a e {o = o} {o' = o'} out stopped status s =
     Serves-quiet (audit-stores H limits net scripts) o o' out stopped status
-    (Serves-same (λ events. ap (λ b. said_by (audit_machine H) b events) e) (λ events. sent-none H events a) (served-audit H limits net scripts few a e) stopped status s)
+    (Serves-same (λ events. ap (λ b. said_by (audit_machine H) b events) e) (λ events. sent-none H events a)
+    (served-audit H limits net scripts few a e) stopped status s)

@@ -1,5 +1,6 @@
 -- What `follow` writes of a feed is what its verdicts say, and these are those of a node that holds every output as long as no proof is forged.
-use Rattle.std.proofs.Common.{◌≡◌, ℕ, suc, ◌+◌, ◌<◌, ◌≤◌, ◌^◌, Bool, true, false, ◌||◌, List, [], ◌∷◌, ◌++◌, length, map, Option, refl, ap, subst, ◌∙◌, arith}
+use Rattle.std.proofs.Common.{◌≡◌, ℕ, suc, ◌+◌, ◌<◌, ◌≤◌, ◌^◌, Bool, true, false, ◌||◌, List, [], ◌∷◌, ◌++◌, length, map, Option, refl, ap, subst}
+use Rattle.std.proofs.Common.{◌∙◌, arith}
 use Rattle.std.specs.Prelude.{unwrap_or}
 use Rattle.std.specs.List.{flat_map, list_any}
 use Rattle.std.proofs.lemmas.List.{append_assoc, map-append}
@@ -21,7 +22,8 @@ use Rattle.compact_node.proofs.Storing.{standing_is_written}
 use Rattle.compact_node.proofs.Throughout.{compact_is_full_throughout, verdicts_on-append, told_after, node_throughout, fresh-stands, fresh-node}
 use Rattle.state_text.specs.Stored.{state_text}
 use Rattle.node_commands.specs.Answers.{bad_end, last_of, answer_with, served_feed}
-use Rattle.node_commands.specs.Follow.{line_of, follow_lines, answer_told, events_for, chain_events, follow_answer, full_text, full_answer, fresh_for, AreTrue, IsAsOfFull, PrintsAsFull}
+use Rattle.node_commands.specs.Follow.{line_of, follow_lines, answer_told, events_for, chain_events, follow_answer, full_text, full_answer, fresh_for}
+use Rattle.node_commands.specs.Follow.{AreTrue, IsAsOfFull, PrintsAsFull}
 use Rattle.node_commands.specs.Runs.{Serves}
 use Rattle.node_commands.proofs.ServeLemmas.{Serves-same}
 use Rattle.node_commands.specs.Machine.{Following, follower_of, event_line, told_of, next_follower, end_by, stored_end, follow_machine, is_refused}
@@ -29,7 +31,8 @@ use Rattle.node_commands.specs.Machine.{Following, follower_of, event_line, told
 -- ---- what is stored
 
 -- a node that some events led to, and that stands for a state, stores what a node stores that holds every output
-pub stores_full : (H : List ℕ → Digest) (node : NodeState) (es : List ChainEvent) (t : State) → IsNode node → Stands H leaf_text t (node_after H leaf_text node es)
+pub stores_full : (H : List ℕ → Digest) (node : NodeState) (es : List ChainEvent) (t : State) → IsNode node
+    → Stands H leaf_text t (node_after H leaf_text node es)
     → stored_text (node_after H leaf_text node es) ≡ full_text H node.scripts node.rules t
 stores_full H node es t is stands =
     let told = told_after H leaf_text node es in
@@ -53,14 +56,17 @@ module _ (H : List ℕ → Digest) where
   abbrev with : Following → List FeedEvent → (count : ℕ) → (refused : Bool) → Following
   with f events count refused = record { node = node_after H leaf_text f.node (map event_in events); events = count; refused = refused }
 
-  left-told : (events : List FeedEvent) (f : Following) → left_by (follow_machine H) f events ≡ with f events (f.events + length events) (f.refused || list_any is_refused (verdicts f events))
+  left-told : (events : List FeedEvent) (f : Following) → left_by (follow_machine H) f events
+      ≡ with f events (f.events + length events) (f.refused || list_any is_refused (verdicts f events))
   unfolding next_follower told_of
   left-told [] f =
       ap (λ k. with f [] k f.refused) (let z : f.events ≡ f.events + 0 = omega arith in z) ∙ ap (with f [] (f.events + 0)) (or_none f.refused)
   left-told (event ∷ events) f =
       let g = next_follower H f event in
-      left-told events g ∙ ap (λ k. with g events k (g.refused || list_any is_refused (verdicts g events))) (let z : (f.events + 1) + length events ≡ f.events + suc (length events) = omega arith in z)
-      ∙ ap (with g events (f.events + suc (length events))) (or_again f.refused (is_refused (told_of H f event)) (list_any is_refused (verdicts g events)))
+      left-told events g ∙ ap (λ k. with g events k (g.refused || list_any is_refused (verdicts g events)))
+      (let z : (f.events + 1) + length events ≡ f.events + suc (length events) = omega arith in z)
+      ∙ ap (with g events (f.events + suc (length events)))
+      (or_again f.refused (is_refused (told_of H f event)) (list_any is_refused (verdicts g events)))
 
   said-told : (events : List FeedEvent) (f : Following) → said_by (follow_machine H) f events ≡ flat_map line_of (verdicts f events)
   unfolding event_line told_of next_follower
@@ -71,7 +77,8 @@ module _ (H : List ℕ → Digest) where
   sent-none [] f = refl
   sent-none (event ∷ events) f = sent-none events (next_follower H f event)
 
-  served-node : (node : NodeState) (feed : List ℕ) → served_feed (follow_machine H) (follower_of node) node.rules.net node.rules.limits.bytes feed ≡ follow_answer H node feed
+  served-node : (node : NodeState) (feed : List ℕ) → served_feed (follow_machine H) (follower_of node) node.rules.net node.rules.limits.bytes feed
+      ≡ follow_answer H node feed
   unfolding served_feed follow_answer
   served-node node feed =
       let m = follow_machine H in
@@ -83,28 +90,35 @@ module _ (H : List ℕ → Digest) where
       ap (λ l. answer_with l (sent_by m f es) (m.at_end (left_by m f es)) events.ending) (said-told es f)
       ∙ ap (λ w. answer_with said w (m.at_end (left_by m f es)) events.ending) (sent-none es f)
       ∙ ap (λ s. answer_with said [] (m.at_end s) events.ending) (left-told es f)
-      ∙ ap (λ k. answer_with said [] (stored_end (list_any is_refused (verdicts f es)) k last) events.ending) (let z : 0 + length es ≡ length es = omega arith in z)
+      ∙ ap (λ k. answer_with said [] (stored_end (list_any is_refused (verdicts f es)) k last) events.ending) (let z : 0 + length es ≡ length es =
+      omega arith in z)
 
-  pub served-follow : (node : NodeState) (f : Following) (net : Net) (bytes : ℕ) → f ≡ follower_of node → net ≡ node.rules.net → bytes ≡ node.rules.limits.bytes
+  pub served-follow : (node : NodeState) (f : Following) (net : Net) (bytes : ℕ) → f ≡ follower_of node → net ≡ node.rules.net
+      → bytes ≡ node.rules.limits.bytes
       → (feed : List ℕ) → served_feed (follow_machine H) f net bytes feed ≡ follow_answer H node feed
   served-follow node f net bytes e n b feed =
       ap (λ s. served_feed (follow_machine H) s net bytes feed) e ∙ ap (λ k. served_feed (follow_machine H) (follower_of node) k bytes feed) n
       ∙ ap (λ k. served_feed (follow_machine H) (follower_of node) node.rules.net k feed) b ∙ served-node node feed
 
   -- what a call over the machine gave is what it gave of the node
-  pub follow-serves : (node : NodeState) (f : Following) (net : Net) (bytes : ℕ) → f ≡ follower_of node → net ≡ node.rules.net → bytes ≡ node.rules.limits.bytes
+  pub follow-serves : (node : NodeState) (f : Following) (net : Net) (bytes : ℕ) → f ≡ follower_of node → net ≡ node.rules.net
+      → bytes ≡ node.rules.limits.bytes
       → {feed feed' report report' out out' : Option (List ℕ)} (stopped : Bool) (status : Status)
-      → Serves (said_by (follow_machine H) f) (sent_by (follow_machine H) f) (served_feed (follow_machine H) f net bytes) net bytes feed feed' report report' out out' stopped status
+      → Serves (said_by (follow_machine H) f) (sent_by (follow_machine H) f) (served_feed (follow_machine H) f net bytes) net bytes feed feed' report
+      report' out out' stopped status
       → Serves (follow_lines H node) (λ events. []) (follow_answer H node) node.rules.net bytes feed feed' report report' out out' stopped status
   follow-serves node f net bytes e n b {feed} {feed'} {report} {report'} {out} {out'} stopped status s =
       let m = follow_machine H in
-      Serves-same (λ events. said-told events f ∙ ap (λ g. flat_map line_of (verdicts g events)) e) (λ events. sent-none events f) (λ text. served-follow node f node.rules.net bytes e refl b text)
-      stopped status (subst (λ k. Serves (said_by m f) (sent_by m f) (served_feed m f k bytes) k bytes feed feed' report report' out out' stopped status) n s)
+      Serves-same (λ events. said-told events f ∙ ap (λ g. flat_map line_of (verdicts g events)) e) (λ events. sent-none events f)
+      (λ text. served-follow node f node.rules.net bytes e refl b text)
+      stopped status (subst (λ k. Serves (said_by m f) (sent_by m f) (served_feed m f k bytes) k bytes feed feed' report report' out out' stopped
+      status) n s)
 
   -- ---- beside the node that holds every output
 
   module _ (t : State) (node : NodeState) (is : IsNode node) (stands : Stands H leaf_text t node) (feed : List ℕ) where
-    whole : AreTrue H node.scripts node.rules t (events_for node.rules feed).events → follow_answer H node feed ≡ full_answer H node.scripts node.rules t feed
+    whole : AreTrue H node.scripts node.rules t (events_for node.rules feed).events
+        → follow_answer H node feed ≡ full_answer H node.scripts node.rules t feed
     unfolding follow_answer full_answer
     whole honest =
         let events = events_for node.rules feed in
@@ -114,10 +128,12 @@ module _ (H : List ℕ → Digest) where
         let full = full_verdicts H leaf_text node.scripts node.rules t es in
         ap (λ v. answer_told v last.newest.chain (stored_text last) events) a.said
         ∙ ap (λ c. answer_told full c (stored_text last) events) a.stands.newest.chain
-        ∙ ap (λ w. answer_told full (chain_of (full_after H leaf_text node.scripts node.rules t es).now) w events) (stores_full H node es (full_after H leaf_text node.scripts node.rules t es) is a.stands)
+        ∙ ap (λ w. answer_told full (chain_of (full_after H leaf_text node.scripts node.rules t es).now) w events)
+        (stores_full H node es (full_after H leaf_text node.scripts node.rules t es) is a.stands)
 
     begins : (front later : List FeedEvent) → (events_for node.rules feed).events ≡ front ++ later → AreTrue H node.scripts node.rules t front
-        → (rest : List ℕ) × ((follow_answer H node feed).report ≡ flat_map line_of (full_verdicts H leaf_text node.scripts node.rules t (map event_in front)) ++ rest)
+        → (rest : List ℕ) × ((follow_answer H node feed).report
+        ≡ flat_map line_of (full_verdicts H leaf_text node.scripts node.rules t (map event_in front)) ++ rest)
     unfolding follow_answer
     begins front later split honest =
         let events = events_for node.rules feed in
@@ -130,7 +146,8 @@ module _ (H : List ℕ → Digest) where
           flat_map line_of others ++ last.report,
           ap (λ w. flat_map line_of (verdicts_on H leaf_text node (map event_in w)) ++ last.report) split
               ∙ ap (λ w. flat_map line_of (verdicts_on H leaf_text node w) ++ last.report) (map-append event_in front later)
-              ∙ ap (λ w. flat_map line_of w ++ last.report) (verdicts_on-append H leaf_text node (map event_in front) (map event_in later) ∙ ap (λ w. w ++ others) a.said)
+              ∙ ap (λ w. flat_map line_of w ++ last.report) (verdicts_on-append H leaf_text node (map event_in front) (map event_in later)
+              ∙ ap (λ w. w ++ others) a.said)
               ∙ ap (λ w. w ++ last.report) (flat_map-append line_of first others)
               ∙ append_assoc (flat_map line_of first) (flat_map line_of others) last.report,
         )
@@ -139,7 +156,9 @@ module _ (H : List ℕ → Digest) where
     as-of-full = record { whole = whole; front = begins }
 
   -- from the start
-  pub prints-as-full : (limits : Limits) (net : Net) → limits.leaves < 2 ^ 40 → limits.bytes ≤ 2 ^ 48 → (list : Option (List (List ℕ))) (feed : List ℕ) → PrintsAsFull H limits net list feed
+  pub prints-as-full : (limits : Limits) (net : Net) → limits.leaves < 2 ^ 40 → limits.bytes ≤ 2 ^ 48
+      → (list : Option (List (List ℕ))) (feed : List ℕ) → PrintsAsFull H limits net list feed
   prints-as-full limits net few short list feed =
       let scripts = unwrap_or list [] in
-      as-of-full start (fresh_for limits net list) (fresh-node H leaf_text net limits scripts few short) (fresh-stands H leaf_text net limits scripts) feed
+      as-of-full start (fresh_for limits net list) (fresh-node H leaf_text net limits scripts few short) (fresh-stands H leaf_text net limits scripts)
+      feed

@@ -1,5 +1,6 @@
 -- What `audit` answers beside the node that holds every output, and what it shows at the first forged event.
-use Rattle.std.proofs.Common.{◌≡◌, ℕ, suc, ◌<◌, ◌^◌, Bool, true, false, List, [], ◌∷◌, ◌++◌, length, map, Option, Some, None, refl, sym, ap, subst, ◌∙◌, arith}
+use Rattle.std.proofs.Common.{◌≡◌, ℕ, suc, ◌<◌, ◌^◌, Bool, true, false, List, [], ◌∷◌, ◌++◌, length, map, Option, Some, None, refl, sym, ap, subst}
+use Rattle.std.proofs.Common.{◌∙◌, arith}
 use Rattle.std.specs.Prelude.{not, ◌&&◌, is_some, nat_le, if◌then◌else◌}
 use Rattle.std.specs.List.{flat_map, list_any, AllByRecursion}
 use Rattle.std.proofs.lemmas.Bool.{false≢true}
@@ -32,7 +33,8 @@ use Rattle.node_rules.specs.Messages.{Message}
 use Rattle.node_rules.specs.Reading.{Handed, nothing, unread, read, message_in, handed_in}
 use Rattle.node_rules.specs.Fitting.{AreEventBytes, EventFits}
 use Rattle.node_rules.specs.Judging.{Rules, Evidence, refusal, full, is_forged}
-use Rattle.node_rules.specs.Machine.{ChainEvent, BlockCame, RollbackCame, StrayCame, State, Outcome, start, chain_of, full_judge, by_refusal, by_evidence, back, rolled_back, step, goes_on, verdict_before, never_stops, event_in}
+use Rattle.node_rules.specs.Machine.{ChainEvent, BlockCame, RollbackCame, StrayCame, State, Outcome, start, chain_of, full_judge, by_refusal}
+use Rattle.node_rules.specs.Machine.{by_evidence, back, rolled_back, step, goes_on, verdict_before, never_stops, event_in}
 use Rattle.node_rules.proofs.Fitting.{read_event_fits}
 use Rattle.node_rules.proofs.MessageLaws.{read_is_text}
 use Rattle.block_rules.specs.Blocks.{external}
@@ -50,14 +52,18 @@ use Rattle.feed_frame.proofs.FeedBytes.{IsMadeOfBytes, events_bytes}
 
 module _ (H : List ℕ → Digest) (scripts : List (List ℕ)) (rules : Rules) where
   -- it says something of each event before
-  pub all-told : (es : List ChainEvent) (t : State) → never_stops rules (full_judge H leaf_text scripts rules) t es ≡ true → length (full_verdicts H leaf_text scripts rules t es) ≡ length es
+  pub all-told : (es : List ChainEvent) (t : State) → never_stops rules (full_judge H leaf_text scripts rules) t es ≡ true
+      → length (full_verdicts H leaf_text scripts rules t es) ≡ length es
   all-told [] t honest = refl
-  all-told (e ∷ es) t honest = by (step rules (full_judge H leaf_text scripts rules) t e).verdict honest (all-told es (step rules (full_judge H leaf_text scripts rules) t e).state)
+  all-told (e ∷ es) t honest = by (step rules (full_judge H leaf_text scripts rules) t e).verdict honest
+      (all-told es (step rules (full_judge H leaf_text scripts rules) t e).state)
     where
-      by : (v : Option Verdict) → (is_some v && never_stops rules (full_judge H leaf_text scripts rules) (step rules (full_judge H leaf_text scripts rules) t e).state es) ≡ true
+      by : (v : Option Verdict) → (is_some v && never_stops rules (full_judge H leaf_text scripts rules)
+          (step rules (full_judge H leaf_text scripts rules) t e).state es) ≡ true
           → (never_stops rules (full_judge H leaf_text scripts rules) (step rules (full_judge H leaf_text scripts rules) t e).state es ≡ true
           → length (full_verdicts H leaf_text scripts rules (step rules (full_judge H leaf_text scripts rules) t e).state es) ≡ length es)
-          → length (verdict_before v (full_verdicts H leaf_text scripts rules (step rules (full_judge H leaf_text scripts rules) t e).state es)) ≡ length (e ∷ es)
+          → length (verdict_before v (full_verdicts H leaf_text scripts rules (step rules (full_judge H leaf_text scripts rules) t e).state es))
+          ≡ length (e ∷ es)
       by None honest later = absurd (false≢true honest)
       by (Some v) honest later = ap suc (later honest)
 
@@ -66,34 +72,48 @@ module _ (H : List ℕ → Digest) (scripts : List (List ℕ)) (rules : Rules) w
     pub said : full_verdicts H leaf_text scripts rules t (front ++ e ∷ later) ≡ full_verdicts H leaf_text scripts rules t front
     pub stops : never_stops rules (full_judge H leaf_text scripts rules) t (front ++ e ∷ later) ≡ false
 
-  pub stops-at : (front later : List ChainEvent) (e : ChainEvent) (t : State) → never_stops rules (full_judge H leaf_text scripts rules) t front ≡ true
+  pub stops-at : (front later : List ChainEvent) (e : ChainEvent) (t : State) → never_stops rules (full_judge H leaf_text scripts rules) t front
+      ≡ true
       → (step rules (full_judge H leaf_text scripts rules) (full_after H leaf_text scripts rules t front) e).verdict ≡ None → Stops t front later e
   stops-at [] later e t honest none = record {
-    said = ap (λ v. verdict_before v (full_verdicts H leaf_text scripts rules (step rules (full_judge H leaf_text scripts rules) t e).state later)) none;
-    stops = ap (λ v. is_some v && never_stops rules (full_judge H leaf_text scripts rules) (step rules (full_judge H leaf_text scripts rules) t e).state later) none;
+    said = ap (λ v. verdict_before v (full_verdicts H leaf_text scripts rules (step rules (full_judge H leaf_text scripts rules) t e).state later))
+        none;
+    stops = ap (λ v. is_some v && never_stops rules (full_judge H leaf_text scripts rules)
+        (step rules (full_judge H leaf_text scripts rules) t e).state later) none;
   }
   stops-at (f ∷ front) later e t honest none =
-      by (step rules (full_judge H leaf_text scripts rules) t f).verdict refl honest none (stops-at front later e (step rules (full_judge H leaf_text scripts rules) t f).state)
+      by (step rules (full_judge H leaf_text scripts rules) t f).verdict refl honest none
+      (stops-at front later e (step rules (full_judge H leaf_text scripts rules) t f).state)
     where
-      by : (v : Option Verdict) → (step rules (full_judge H leaf_text scripts rules) t f).verdict ≡ v → (is_some v && never_stops rules (full_judge H leaf_text scripts rules) (step rules (full_judge H leaf_text scripts rules) t f).state front) ≡ true
-          → (step rules (full_judge H leaf_text scripts rules) (goes_on v t (full_after H leaf_text scripts rules (step rules (full_judge H leaf_text scripts rules) t f).state front)) e).verdict ≡ None
-          → (never_stops rules (full_judge H leaf_text scripts rules) (step rules (full_judge H leaf_text scripts rules) t f).state front ≡ true → (step rules (full_judge H leaf_text scripts rules) (full_after H leaf_text scripts rules (step rules (full_judge H leaf_text scripts rules) t f).state front) e).verdict ≡ None → Stops (step rules (full_judge H leaf_text scripts rules) t f).state front later e)
+      by : (v : Option Verdict) → (step rules (full_judge H leaf_text scripts rules) t f).verdict ≡ v
+          → (is_some v && never_stops rules (full_judge H leaf_text scripts rules) (step rules (full_judge H leaf_text scripts rules) t f).state
+          front) ≡ true
+          → (step rules (full_judge H leaf_text scripts rules) (goes_on v t
+          (full_after H leaf_text scripts rules (step rules (full_judge H leaf_text scripts rules) t f).state front)) e).verdict ≡ None
+          → (never_stops rules (full_judge H leaf_text scripts rules) (step rules (full_judge H leaf_text scripts rules) t f).state front ≡ true
+          → (step rules (full_judge H leaf_text scripts rules) (full_after H leaf_text scripts rules
+          (step rules (full_judge H leaf_text scripts rules) t f).state front) e).verdict ≡ None
+          → Stops (step rules (full_judge H leaf_text scripts rules) t f).state front later e)
           → Stops t (f ∷ front) later e
       by None is honest none go = absurd (false≢true honest)
       by (Some v) is honest none go =
           let w = go honest none in
           record {
             said =
-                ap (λ x. verdict_before x (full_verdicts H leaf_text scripts rules (step rules (full_judge H leaf_text scripts rules) t f).state (front ++ e ∷ later))) is ∙ ap (λ l. v ∷ l) w.said
-                ∙ sym (ap (λ x. verdict_before x (full_verdicts H leaf_text scripts rules (step rules (full_judge H leaf_text scripts rules) t f).state front)) is);
-            stops = ap (λ x. is_some x && never_stops rules (full_judge H leaf_text scripts rules) (step rules (full_judge H leaf_text scripts rules) t f).state (front ++ e ∷ later)) is ∙ w.stops;
+                ap (λ x. verdict_before x (full_verdicts H leaf_text scripts rules (step rules (full_judge H leaf_text scripts rules) t f).state
+                (front ++ e ∷ later))) is ∙ ap (λ l. v ∷ l) w.said
+                ∙ sym (ap (λ x. verdict_before x (full_verdicts H leaf_text scripts rules
+                (step rules (full_judge H leaf_text scripts rules) t f).state front)) is);
+            stops = ap (λ x. is_some x && never_stops rules (full_judge H leaf_text scripts rules)
+                (step rules (full_judge H leaf_text scripts rules) t f).state (front ++ e ∷ later)) is ∙ w.stops;
           }
 
   -- it has no verdict on a forged one
   pub no-verdict : (t : State) (b : Block) (handed : Handed) → is_forged H leaf_text scripts rules (chain_of t.now) t.now.history b handed ≡ true
       → (step rules (full_judge H leaf_text scripts rules) t (BlockCame (Some b) handed)).verdict ≡ None
   no-verdict t b handed forged =
-      ap (λ (f : Bool). (by_evidence rules t b (if f then None else Some (full H leaf_text scripts t.now.history (external b t.now.blocks) handed))).verdict) forged
+      ap (λ (f : Bool). (by_evidence rules t b
+      (if f then None else Some (full H leaf_text scripts t.now.history (external b t.now.blocks) handed))).verdict) forged
 
 -- ---- an event on which it has no verdict is forged
 
@@ -109,7 +129,8 @@ module _ (H : List ℕ → Digest) (scripts : List (List ℕ)) (rules : Rules) w
   not_both false e = false≢true e
 
   -- there is a message beside it
-  with-message : (t : State) (b : Block) (handed : Handed) → is_forged H leaf_text scripts rules (chain_of t.now) t.now.history b handed ≡ true → IsForgedNow H scripts rules t (BlockCame (Some b) handed)
+  with-message : (t : State) (b : Block) (handed : Handed) → is_forged H leaf_text scripts rules (chain_of t.now) t.now.history b handed ≡ true
+      → IsForgedNow H scripts rules t (BlockCame (Some b) handed)
   with-message t b nothing e = absurd (not_both _ e)
   with-message t b (unread why) e = absurd (not_both _ e)
   with-message t b (read m) e = record { block = b; message = m; is = refl; forged = e }
@@ -118,19 +139,22 @@ module _ (H : List ℕ → Digest) (scripts : List (List ℕ)) (rules : Rules) w
   judged t b evidence None e = none-some _ (sym e)
   judged t b evidence (Some why) e = none-some _ (sym e)
 
-  forged-here : (t : State) (e : ChainEvent) → (step rules (full_judge H leaf_text scripts rules) t e).verdict ≡ None → IsForgedNow H scripts rules t e
+  forged-here : (t : State) (e : ChainEvent) → (step rules (full_judge H leaf_text scripts rules) t e).verdict ≡ None
+      → IsForgedNow H scripts rules t e
   forged-here t (BlockCame None handed) none = absurd (none-some _ (sym none))
   forged-here t (BlockCame (Some b) handed) none = by (is_forged H leaf_text scripts rules (chain_of t.now) t.now.history b handed) refl none
     where
       by : (f : Bool) → is_forged H leaf_text scripts rules (chain_of t.now) t.now.history b handed ≡ f
-          → (by_evidence rules t b (if f then None else Some (full H leaf_text scripts t.now.history (external b t.now.blocks) handed))).verdict ≡ None → IsForgedNow H scripts rules t (BlockCame (Some b) handed)
+          → (by_evidence rules t b (if f then None else Some (full H leaf_text scripts t.now.history (external b t.now.blocks) handed))).verdict
+          ≡ None → IsForgedNow H scripts rules t (BlockCame (Some b) handed)
       by true forged none = with-message t b handed forged
       by false honest none =
           let evidence = full H leaf_text scripts t.now.history (external b t.now.blocks) handed in
           absurd (judged t b evidence (refusal rules (chain_of t.now) b evidence) none)
   forged-here t (RollbackCame k) none = absurd (by (nat_le k (length t.older)) none)
     where
-      by : (f : Bool) → (if f then rolled_back k (back k t.now t.older) else (let o : Outcome = record { verdict = Some (TooDeep k (length t.older)); state = t } in o)).verdict ≡ None → ⊥
+      by : (f : Bool) → (if f then rolled_back k (back k t.now t.older) else
+          (let o : Outcome = record { verdict = Some (TooDeep k (length t.older)); state = t } in o)).verdict ≡ None → ⊥
       by true e = none-some _ (sym e)
       by false e = none-some _ (sym e)
   forged-here t StrayCame none = absurd (none-some _ (sym none))
@@ -144,17 +168,28 @@ module _ (H : List ℕ → Digest) (scripts : List (List ℕ)) (rules : Rules) w
     honest : never_stops rules (full_judge H leaf_text scripts rules) t (map event_in front) ≡ true
     now : IsForgedNow H scripts rules (full_after H leaf_text scripts rules t (map event_in front)) (event_in event)
 
-  first-forged : (events : List FeedEvent) (t : State) → never_stops rules (full_judge H leaf_text scripts rules) t (map event_in events) ≡ false → HasForgedFrom t events
+  first-forged : (events : List FeedEvent) (t : State) → never_stops rules (full_judge H leaf_text scripts rules) t (map event_in events) ≡ false
+      → HasForgedFrom t events
   first-forged [] t stops = absurd (false≢true (sym stops))
   first-forged (event ∷ events) t stops =
-      by (step rules (full_judge H leaf_text scripts rules) t (event_in event)).verdict refl stops (first-forged events (step rules (full_judge H leaf_text scripts rules) t (event_in event)).state)
+      by (step rules (full_judge H leaf_text scripts rules) t (event_in event)).verdict refl stops
+      (first-forged events (step rules (full_judge H leaf_text scripts rules) t (event_in event)).state)
     where
       by : (v : Option Verdict) → (step rules (full_judge H leaf_text scripts rules) t (event_in event)).verdict ≡ v
-          → (is_some v && never_stops rules (full_judge H leaf_text scripts rules) (step rules (full_judge H leaf_text scripts rules) t (event_in event)).state (map event_in events)) ≡ false
-          → (never_stops rules (full_judge H leaf_text scripts rules) (step rules (full_judge H leaf_text scripts rules) t (event_in event)).state (map event_in events) ≡ false
+          → (is_some v && never_stops rules (full_judge H leaf_text scripts rules)
+          (step rules (full_judge H leaf_text scripts rules) t (event_in event)).state (map event_in events)) ≡ false
+          → (never_stops rules (full_judge H leaf_text scripts rules) (step rules (full_judge H leaf_text scripts rules) t (event_in event)).state
+          (map event_in events) ≡ false
           → HasForgedFrom (step rules (full_judge H leaf_text scripts rules) t (event_in event)).state events)
           → HasForgedFrom t (event ∷ events)
-      by None none stops go = record { front = []; event = event; later = events; split = refl; honest = refl; now = forged-here t (event_in event) none }
+      by None none stops go = record {
+        front = [];
+        event = event;
+        later = events;
+        split = refl;
+        honest = refl;
+        now = forged-here t (event_in event) none;
+      }
       by (Some v) some stops go =
           let w = go stops in
           let rest = (step rules (full_judge H leaf_text scripts rules) t (event_in event)).state in
@@ -164,13 +199,15 @@ module _ (H : List ℕ → Digest) (scripts : List (List ℕ)) (rules : Rules) w
             later = w.later;
             split = ap (λ l. event ∷ l) w.split;
             honest = ap (λ x. is_some x && never_stops rules (full_judge H leaf_text scripts rules) rest (map event_in w.front)) some ∙ w.honest;
-            now = subst (λ x. IsForgedNow H scripts rules (goes_on x t (full_after H leaf_text scripts rules rest (map event_in w.front))) (event_in w.event)) (sym some) w.now;
+            now = subst (λ x. IsForgedNow H scripts rules (goes_on x t (full_after H leaf_text scripts rules rest (map event_in w.front)))
+                (event_in w.event)) (sym some) w.now;
           }
 
 -- ---- what a forged event of bytes is made of
 
 -- the event is one of a list of events
-pub one_of : (P : FeedEvent → Type 0) (front : List FeedEvent) (event : FeedEvent) (later : List FeedEvent) → AllByRecursion P (front ++ event ∷ later) → AllByRecursion P front × P event
+pub one_of : (P : FeedEvent → Type 0) (front : List FeedEvent) (event : FeedEvent) (later : List FeedEvent)
+    → AllByRecursion P (front ++ event ∷ later) → AllByRecursion P front × P event
 one_of P [] event later h = (tt, h.0)
 one_of P (f ∷ front) event later h = let w = one_of P front event later h.1 in ((h.0, w.0), w.1)
 
@@ -190,9 +227,11 @@ same_message x y h k e = cc
 same_read : (m n : Message) → read m ≡ read n → m ≡ n
 same_read m n e = cc
 
-pub message_fits : (event : FeedEvent) (b : Block) (m : Message) → IsMadeOfBytes event → event_in event ≡ BlockCame (Some b) (read m) → ProofFits m.proof
+pub message_fits : (event : FeedEvent) (b : Block) (m : Message) → IsMadeOfBytes event → event_in event ≡ BlockCame (Some b) (read m)
+    → ProofFits m.proof
 message_fits (Feed.BlockCame bytes None) b m h e = absurd (let z = same_message (block_in bytes) (Some b) (handed_in None) (read m) e in cc)
-message_fits (Feed.BlockCame bytes (Some message)) b m h e = (read_is_text message m h.1 (same_message (block_in bytes) (Some b) (message_in message) (read m) e)).0
+message_fits (Feed.BlockCame bytes (Some message)) b m h e =
+    (read_is_text message m h.1 (same_message (block_in bytes) (Some b) (message_in message) (read m) e)).0
 message_fits (Feed.RollbackCame count) b m h e = absurd cc
 message_fits Feed.StrayCame b m h e = absurd cc
 
@@ -201,7 +240,8 @@ message_fits Feed.StrayCame b m h e = absurd cc
 code-differs : (s : Status) → s ≡ Status.Clash → code_of s ≡ 4
 code-differs s e = ap code_of e
 
-last-other : (refused : Bool) (count live issued : ℕ) (chain : Chain) (fault : Option FeedFault) → (last_of (supply_end refused count live issued chain) (bad_end fault)).status ≡ Status.Clash → ⊥
+last-other : (refused : Bool) (count live issued : ℕ) (chain : Chain) (fault : Option FeedFault)
+    → (last_of (supply_end refused count live issued chain) (bad_end fault)).status ≡ Status.Clash → ⊥
 last-other true count live issued chain None e = absurd (omega (arith, code-differs _ e))
 last-other false count live issued chain None e = absurd (omega (arith, code-differs _ e))
 last-other refused count live issued chain (Some (Fault.Magic offset found)) e = absurd (omega (arith, code-differs _ e))
@@ -216,7 +256,8 @@ last-other false count live issued chain (Some Fault.NoMemory) e = absurd (omega
 
 -- ---- the answer
 
-module _ (H : List ℕ → Digest) (long : (x : List ℕ) → IsDigest (H x)) (limits : Limits) (net : Net) (scripts : List (List ℕ)) (few : limits.leaves < 2 ^ 40) (feed : List ℕ) where
+module _ (H : List ℕ → Digest) (long : (x : List ℕ) → IsDigest (H x)) (limits : Limits) (net : Net) (scripts : List (List ℕ))
+    (few : limits.leaves < 2 ^ 40) (feed : List ℕ) where
   abbrev events : List FeedEvent
   events = (events_of net limits.bytes feed).events
 
@@ -227,7 +268,8 @@ module _ (H : List ℕ → Digest) (long : (x : List ℕ) → IsDigest (H x)) (l
   rules = rules_of limits net
 
   abbrev whole_by : List Verdict → Answer
-  whole_by told = answer_with (flat_map line_of told) [] (level_end (list_any is_refused told) (length events) net (level_behind H limits net scripts events)) ending
+  whole_by told = answer_with (flat_map line_of told) []
+      (level_end (list_any is_refused told) (length events) net (level_behind H limits net scripts events)) ending
 
   abbrev goes : Bool
   goes = never_stops rules (full_judge H leaf_text scripts rules) start (map event_in events)
@@ -245,7 +287,8 @@ module _ (H : List ℕ → Digest) (long : (x : List ℕ) → IsDigest (H x)) (l
   honest-answer : goes ≡ true → audit_answer H limits net scripts feed ≡ whole_by told
   honest-answer honest = answer-is ∙ ap (λ b. answer_by b told (shown_on H (fresh_audit net limits scripts) (map event_in events))) honest
 
-  module _ (front later : List FeedEvent) (event : FeedEvent) (bytes : IsBytes feed) (split : events ≡ front ++ event ∷ later) (f : IsForgedBehind H limits net scripts front event) where
+  module _ (front later : List FeedEvent) (event : FeedEvent) (bytes : IsBytes feed) (split : events ≡ front ++ event ∷ later)
+      (f : IsForgedBehind H limits net scripts front event) where
     abbrev forging : ChainEvent
     forging = BlockCame (Some f.block) (read f.message)
 
@@ -258,11 +301,14 @@ module _ (H : List ℕ → Digest) (long : (x : List ℕ) → IsDigest (H x)) (l
     block_fits : BlockFits f.block
     block_fits = subst EventFits f.is (read_event_fits event (block_bytes event made.1))
 
-    shown : AreShown H (shown_on H (fresh_audit net limits scripts) (map event_in front ++ forging ∷ map event_in later)) scripts (level_behind H limits net scripts front) f.block f.message
-    shown = fresh_shows_forged H long net limits scripts few (map event_in front) (map event_in later) f.block f.message (all_fit front made.0) block_fits (message_fits event f.block f.message made.1 f.is) f.honest f.forged
+    shown : AreShown H (shown_on H (fresh_audit net limits scripts) (map event_in front ++ forging ∷ map event_in later)) scripts
+        (level_behind H limits net scripts front) f.block f.message
+    shown = fresh_shows_forged H long net limits scripts few (map event_in front) (map event_in later) f.block f.message (all_fit front made.0)
+        block_fits (message_fits event f.block f.message made.1 f.is) f.honest f.forged
 
     stopped : Stops H scripts rules start (map event_in front) (map event_in later) forging
-    stopped = stops-at H scripts rules (map event_in front) (map event_in later) forging start f.honest (no-verdict H scripts rules (full_after H leaf_text scripts rules start (map event_in front)) f.block (read f.message) f.forged)
+    stopped = stops-at H scripts rules (map event_in front) (map event_in later) forging start f.honest
+        (no-verdict H scripts rules (full_after H leaf_text scripts rules start (map event_in front)) f.block (read f.message) f.forged)
 
     abbrev before : List Verdict
     before = told_by H limits net scripts front
@@ -278,10 +324,15 @@ module _ (H : List ℕ → Digest) (long : (x : List ℕ) → IsDigest (H x)) (l
       clash = shown.clash;
       is = shown.is;
       answered =
-          answer-is ∙ ap (λ b. answer_by b told (shown_on H (fresh_audit net limits scripts) (map event_in events))) (ap (never_stops rules (full_judge H leaf_text scripts rules) start) split_in ∙ stopped.stops)
+          answer-is ∙ ap (λ b. answer_by b told (shown_on H (fresh_audit net limits scripts) (map event_in events)))
+          (ap (never_stops rules (full_judge H leaf_text scripts rules) start) split_in ∙ stopped.stops)
           ∙ ap (λ l. answer_by false l (shown_on H (fresh_audit net limits scripts) (map event_in events))) told_is
           ∙ ap (answer_by false before) (ap (shown_on H (fresh_audit net limits scripts)) split_in ∙ shown.shows)
-          ∙ ap (λ k. let a : Answer = record { status = Status.Clash; report = flat_map line_of before ++ clash_text k (Some shown.clash); out = [] } in a) count_is;
+          ∙ ap (λ k. let a : Answer = record {
+            status = Status.Clash;
+            report = flat_map line_of before ++ clash_text k (Some shown.clash);
+            out = [];
+          } in a) count_is;
     }
 
   forged-told : HasForged H limits net scripts events → goes ≡ false
@@ -289,15 +340,23 @@ module _ (H : List ℕ → Digest) (long : (x : List ℕ) → IsDigest (H x)) (l
       let front = map event_in f.front in
       let later = map event_in f.later in
       let forging = BlockCame (Some f.is.block) (read f.is.message) in
-      let stopped = stops-at H scripts rules front later forging start f.is.honest (no-verdict H scripts rules (full_after H leaf_text scripts rules start front) f.is.block (read f.is.message) f.is.forged) in
+      let stopped = stops-at H scripts rules front later forging start f.is.honest
+      (no-verdict H scripts rules (full_after H leaf_text scripts rules start front) f.is.block (read f.is.message) f.is.forged) in
       ap (λ l. never_stops rules (full_judge H leaf_text scripts rules) start (map event_in l)) f.split
-      ∙ ap (never_stops rules (full_judge H leaf_text scripts rules) start) (map-append event_in f.front (f.event ∷ f.later) ∙ ap (λ x. front ++ x ∷ later) f.is.is)
+      ∙ ap (never_stops rules (full_judge H leaf_text scripts rules) start)
+      (map-append event_in f.front (f.event ∷ f.later) ∙ ap (λ x. front ++ x ∷ later) f.is.is)
       ∙ stopped.stops
 
   forged-shown : goes ≡ false → HasForged H limits net scripts events
   forged-shown stops =
       let w = first-forged H scripts rules events start stops in
-      record { front = w.front; event = w.event; later = w.later; split = w.split; is = record { honest = w.honest; block = w.now.block; message = w.now.message; is = w.now.is; forged = w.now.forged } }
+      record {
+        front = w.front;
+        event = w.event;
+        later = w.later;
+        split = w.split;
+        is = record { honest = w.honest; block = w.now.block; message = w.now.message; is = w.now.is; forged = w.now.forged };
+      }
 
   status-told : (audit_answer H limits net scripts feed).status ≡ Status.Clash → HasForged H limits net scripts events
   status-told e = by goes refl

@@ -1,5 +1,6 @@
 -- What `order` answers to a feed, by the path among its blocks.
-use Rattle.std.proofs.Common.{◌≡◌, ◌≢◌, ℕ, ◌+◌, ◌-◌, ◌≤◌, Bool, List, [], length, reverse, Option, Some, None, Result, Ok, Err, refl, sym, ap, ◌∙◌, arith, inl, inr}
+use Rattle.std.proofs.Common.{◌≡◌, ◌≢◌, ℕ, ◌+◌, ◌-◌, ◌≤◌, Bool, List, [], length, reverse, Option, Some, None, Result, Ok, Err, refl, sym, ap, ◌∙◌}
+use Rattle.std.proofs.Common.{arith, inl, inr}
 use Rattle.std.proofs.lemmas.Bool.{cases_lt}
 use Rattle.std.proofs.lemmas.List.{reverse-reverse, length-reverse, get_or-reverse, get_or_past}
 use Rattle.hex.proofs.HexLemmas.{decode_sized-encode_lower}
@@ -34,23 +35,30 @@ use Rattle.node_commands.proofs.ServeLemmas.{Serves-same}
 -- ---- the machine
 
 -- its answer is this one
-served-order : (net : Net) (limit : ℕ) (tip : Digest) (s : OrderState) → s ≡ fresh_order net tip → (feed : List ℕ) → served_feed order_machine s net limit feed ≡ order_answer net limit tip feed
+served-order : (net : Net) (limit : ℕ) (tip : Digest) (s : OrderState) → s ≡ fresh_order net tip → (feed : List ℕ)
+    → served_feed order_machine s net limit feed ≡ order_answer net limit tip feed
 unfolding served_feed order_answer
 served-order net limit tip s e feed =
     let events = events_of net limit feed in
     let bodies = bodies_of events.events in
     let none : 0 + length bodies ≡ length bodies = omega arith in
     ap (λ t. served_feed order_machine t net limit feed) e
-    ∙ ap (λ l. answer_with l (sent_by order_machine (fresh_order net tip) events.events) (order_machine.at_end (left_by order_machine (fresh_order net tip) events.events)) events.ending) (said-is events.events (fresh_order net tip))
-    ∙ ap (λ l. answer_with [] l (order_machine.at_end (left_by order_machine (fresh_order net tip) events.events)) events.ending) (sent-is events.events (fresh_order net tip))
+    ∙ ap (λ l. answer_with l (sent_by order_machine (fresh_order net tip) events.events)
+    (order_machine.at_end (left_by order_machine (fresh_order net tip) events.events)) events.ending)
+    (said-is events.events (fresh_order net tip))
+    ∙ ap (λ l. answer_with [] l (order_machine.at_end (left_by order_machine (fresh_order net tip) events.events)) events.ending)
+    (sent-is events.events (fresh_order net tip))
     ∙ ap (λ t. answer_with [] [] (order_end t.net t.blocks (path_of t.arrivals t.tip)) events.ending) (left-is events.events (fresh_order net tip))
     ∙ ap (λ n. answer_with [] [] (order_end net n (path_of (arrivals_of bodies) tip)) events.ending) none
 
 -- so what a call over it gave is this
-pub order-serves : (net : Net) (limit : ℕ) (tip : Digest) (s : OrderState) → s ≡ fresh_order net tip → {feed feed' report report' out out' : Option (List ℕ)} (stopped : Bool) (status : Status)
-    → Serves (said_by order_machine s) (sent_by order_machine s) (served_feed order_machine s net limit) net limit feed feed' report report' out out' stopped status
+pub order-serves : (net : Net) (limit : ℕ) (tip : Digest) (s : OrderState) → s ≡ fresh_order net tip
+    → {feed feed' report report' out out' : Option (List ℕ)} (stopped : Bool) (status : Status)
+    → Serves (said_by order_machine s) (sent_by order_machine s) (served_feed order_machine s net limit) net limit feed feed' report report' out out'
+    stopped status
     → Serves (λ events. []) (λ events. []) (order_answer net limit tip) net limit feed feed' report report' out out' stopped status
-order-serves net limit tip s e stopped status r = Serves-same (λ events. said-is events s) (λ events. sent-is events s) (served-order net limit tip s e) stopped status r
+order-serves net limit tip s e stopped status r =
+    Serves-same (λ events. said-is events s) (λ events. sent-is events s) (served-order net limit tip s e) stopped status r
 
 -- ---- what is claimed
 
@@ -65,7 +73,8 @@ module _ (net : Net) (limit : ℕ) (tip : Digest) (feed : List ℕ) where
   different = arrivals_differ (bodies_of (events_of net limit feed).events)
 
   -- a feed that is read to its end is answered by what is told of the path
-  whole : (events_of net limit feed).ending ≡ None → (told : Result (List Arrival) PathFault) → IsToldOf arrivals tip told → order_answer net limit tip feed ≡ order_end net blocks told
+  whole : (events_of net limit feed).ending ≡ None → (told : Result (List Arrival) PathFault) → IsToldOf arrivals tip told
+      → order_answer net limit tip feed ≡ order_end net blocks told
   unfolding order_answer
   whole e told is =
       ap (λ x. answer_with [] [] (order_end net blocks (path_of arrivals tip)) x) e
@@ -78,12 +87,14 @@ module _ (net : Net) (limit : ℕ) (tip : Digest) (feed : List ℕ) where
   fault_end (Loop hash) n = refl
   fault_end NoMemory n = absurd (n refl)
 
-  path_end : (path : List Arrival) → order_end net blocks (Ok path) ≡ record { status = AllAccepted; report = whole_line (Line.Ordered (length path) (blocks - length path)); out = path_text net path }
+  path_end : (path : List Arrival) → order_end net blocks (Ok path)
+      ≡ record { status = AllAccepted; report = whole_line (Line.Ordered (length path) (blocks - length path)); out = path_text net path }
   unfolding order_end
   path_end path = refl
 
   counted : (path : List Arrival) → IsPath arrivals tip path → length path ≤ blocks
-  counted path is = let few = few_branch arrivals no_hash tip path different is in let all = arrivals_few (bodies_of (events_of net limit feed).events) in omega (arith, few, all)
+  counted path is = let few = few_branch arrivals no_hash tip path different is in
+      let all = arrivals_few (bodies_of (events_of net limit feed).events) in omega (arith, few, all)
 
   -- what is stored
   end_links : IsBytes feed → (told : Result (List Arrival) PathFault) → IsToldOf arrivals tip told → LinksUp net (order_end net blocks told).out
@@ -101,7 +112,8 @@ module _ (net : Net) (limit : ℕ) (tip : Digest) (feed : List ℕ) where
   links_up : IsBytes feed → LinksUp net (order_answer net limit tip feed).out
   unfolding order_answer
   links_up bytes =
-      last_links (order_end net blocks (path_of arrivals tip)) (end_links bytes (path_of arrivals tip) (path_is_told arrivals tip different).0) (bad_end (events_of net limit feed).ending)
+      last_links (order_end net blocks (path_of arrivals tip)) (end_links bytes (path_of arrivals tip) (path_is_told arrivals tip different).0)
+      (bad_end (events_of net limit feed).ending)
 
   pub orders-feed : OrdersFeed net limit tip feed
   orders-feed = record {
@@ -124,4 +136,5 @@ reverse_bytes xs h i =
 -- a printed hash names the hash
 pub printed-is-named : PrintedIsNamed
 printed-is-named hash len bytes =
-    ap hash_of_digits (decode_sized-encode_lower (reverse hash.0) 32 (length-reverse hash.0 ∙ len) (reverse_bytes hash.0 bytes)) ∙ ap (λ xs. let d : Digest = record { 0 = xs } in d) (reverse-reverse hash.0)
+    ap hash_of_digits (decode_sized-encode_lower (reverse hash.0) 32 (length-reverse hash.0 ∙ len) (reverse_bytes hash.0 bytes))
+    ∙ ap (λ xs. let d : Digest = record { 0 = xs } in d) (reverse-reverse hash.0)

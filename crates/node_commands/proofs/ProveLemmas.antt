@@ -1,5 +1,6 @@
 -- What `prove` writes of a feed is what a bridge says and passes on, and that is what the proving node says and passes on.
-use Rattle.std.proofs.Common.{◌≡◌, ℕ, suc, ◌+◌, ◌<◌, ◌^◌, Bool, true, false, cond, ◌||◌, List, [], ◌∷◌, ◌++◌, length, map, Option, Some, Result, Ok, Err, OnOk, refl, sym, ap, subst, ◌∙◌, arith}
+use Rattle.std.proofs.Common.{◌≡◌, ℕ, suc, ◌+◌, ◌<◌, ◌^◌, Bool, true, false, cond, ◌||◌, List, [], ◌∷◌, ◌++◌, length, map, Option, Some, Result, Ok}
+use Rattle.std.proofs.Common.{Err, OnOk, refl, sym, ap, subst, ◌∙◌, arith}
 use Rattle.std.specs.List.{flat_map, list_any, AllByRecursion}
 use Rattle.std.proofs.lemmas.List.{map-append}
 use Rattle.uo_base.specs.declared.event.Limits.{Limits}
@@ -25,7 +26,8 @@ use Rattle.node_commands.specs.Runs.{Serves}
 use Rattle.node_commands.specs.Follow.{line_of, rules_of}
 use Rattle.node_commands.specs.Machine.{follow_end, is_refused}
 use Rattle.node_commands.specs.Proving.{proving_text, proving_verdicts}
-use Rattle.node_commands.specs.Prover.{ProverState, fresh_prover, proved_of, next_prover, proved_line, beside, proved_frames, prove_machine, prove_answer, IsReached}
+use Rattle.node_commands.specs.Prover.{ProverState, fresh_prover, proved_of, next_prover, proved_line, beside, proved_frames, prove_machine}
+use Rattle.node_commands.specs.Prover.{prove_answer, IsReached}
 use Rattle.node_commands.proofs.FollowLemmas.{or_none, or_again}
 use Rattle.node_commands.proofs.ServeLemmas.{Serves-same}
 
@@ -34,16 +36,25 @@ module _ (H : List ℕ → Digest) where
   verdicts p events = verdicts_on H leaf_text p.bridge (map event_in events)
 
   abbrev with : ProverState → List FeedEvent → (count : ℕ) → (refused : Bool) → ProverState
-  with p events count refused = record { net = p.net; bridge = bridge_after H leaf_text p.bridge (map event_in events); events = count; refused = refused }
+  with p events count refused = record {
+    net = p.net;
+    bridge = bridge_after H leaf_text p.bridge (map event_in events);
+    events = count;
+    refused =
+        refused;
+  }
 
-  left-told : (events : List FeedEvent) (p : ProverState) → left_by (prove_machine H) p events ≡ with p events (p.events + length events) (p.refused || list_any is_refused (verdicts p events))
+  left-told : (events : List FeedEvent) (p : ProverState) → left_by (prove_machine H) p events
+      ≡ with p events (p.events + length events) (p.refused || list_any is_refused (verdicts p events))
   unfolding next_prover proved_of
   left-told [] p =
       ap (λ k. with p [] k p.refused) (let z : p.events ≡ p.events + 0 = omega arith in z) ∙ ap (with p [] (p.events + 0)) (or_none p.refused)
   left-told (event ∷ events) p =
       let q = next_prover H p event in
-      left-told events q ∙ ap (λ k. with q events k (q.refused || list_any is_refused (verdicts q events))) (let z : (p.events + 1) + length events ≡ p.events + suc (length events) = omega arith in z)
-      ∙ ap (with q events (p.events + suc (length events))) (or_again p.refused (is_refused (proved_of p event)) (list_any is_refused (verdicts q events)))
+      left-told events q ∙ ap (λ k. with q events k (q.refused || list_any is_refused (verdicts q events)))
+      (let z : (p.events + 1) + length events ≡ p.events + suc (length events) = omega arith in z)
+      ∙ ap (with q events (p.events + suc (length events)))
+      (or_again p.refused (is_refused (proved_of p event)) (list_any is_refused (verdicts q events)))
 
   said-told : (events : List FeedEvent) (p : ProverState) → said_by (prove_machine H) p events ≡ flat_map line_of (verdicts p events)
   unfolding proved_line proved_of next_prover
@@ -61,16 +72,20 @@ module _ (H : List ℕ → Digest) where
   frames-if true net written passed later e = ap (λ w. w ++ feed_text net later) e
   frames-if false net written passed later e = refl
 
-  sent-told : (events : List FeedEvent) (p : ProverState) → sent_by (prove_machine H) p events ≡ feed_text p.net (passed_by_bridge H leaf_text p.bridge events)
+  sent-told : (events : List FeedEvent) (p : ProverState)
+      → sent_by (prove_machine H) p events ≡ feed_text p.net (passed_by_bridge H leaf_text p.bridge events)
   unfolding next_prover proved_frames proved_of
   sent-told [] p = refl
   sent-told (event ∷ events) p =
       ap (λ w. proved_frames H p event ++ w) (sent-told events (next_prover H p event))
-      ∙ frames-if (is_made (Some (verdict_on p.bridge (event_in event)))) p.net (beside (message_on H p.bridge (event_in event)) event) (passed_by H p.bridge event)
-      (passed_by_bridge H leaf_text (next_bridge H leaf_text p.bridge (event_in event)) events) (ap (event_text p.net) (sym (passed-beside p.bridge event)))
+      ∙ frames-if (is_made (Some (verdict_on p.bridge (event_in event)))) p.net (beside (message_on H p.bridge (event_in event)) event)
+      (passed_by H p.bridge event)
+      (passed_by_bridge H leaf_text (next_bridge H leaf_text p.bridge (event_in event)) events)
+      (ap (event_text p.net) (sym (passed-beside p.bridge event)))
 
   module _ (limits : Limits) (net : Net) (watch : Option (List (List ℕ))) (few : limits.leaves < 2 ^ 40) where
-    served-fresh : (feed : List ℕ) → served_feed (prove_machine H) (fresh_prover net limits watch) net limits.bytes feed ≡ prove_answer H limits net watch feed
+    served-fresh : (feed : List ℕ) → served_feed (prove_machine H) (fresh_prover net limits watch) net limits.bytes feed
+        ≡ prove_answer H limits net watch feed
     unfolding served_feed prove_answer proving_text
     served-fresh feed =
         let m = prove_machine H in
@@ -92,30 +107,37 @@ module _ (H : List ℕ → Digest) where
         ∙ ap (λ v. answer_with (flat_map line_of told) text (follow_end (list_any is_refused v) (length es) bridge.chain) events.ending) t.said
         ∙ ap (λ c. answer_with (flat_map line_of told) text (follow_end (list_any is_refused told) (length es) c) events.ending) t.stands.chain
 
-    said-by : (events : List FeedEvent) → said_by (prove_machine H) (fresh_prover net limits watch) events ≡ flat_map line_of (proving_verdicts (rules_of limits net) events)
+    said-by : (events : List FeedEvent) → said_by (prove_machine H) (fresh_prover net limits watch) events
+        ≡ flat_map line_of (proving_verdicts (rules_of limits net) events)
     said-by events =
         let t = fresh_proves_throughout H leaf_text net limits watch few events in
         said-told events (fresh_prover net limits watch) ∙ ap (flat_map line_of) t.said
 
-    sent-by : (events : List FeedEvent) → sent_by (prove_machine H) (fresh_prover net limits watch) events ≡ proving_text H watch (rules_of limits net) events
+    sent-by : (events : List FeedEvent) → sent_by (prove_machine H) (fresh_prover net limits watch) events
+        ≡ proving_text H watch (rules_of limits net) events
     unfolding proving_text
     sent-by events =
         let t = fresh_proves_throughout H leaf_text net limits watch few events in
         sent-told events (fresh_prover net limits watch) ∙ ap (feed_text net) t.passed
 
     -- what a call over the machine gave is what it gave of the proving node
-    pub prove-serves : (p : ProverState) → p ≡ fresh_prover net limits watch → {feed feed' report report' out out' : Option (List ℕ)} (stopped : Bool) (status : Status)
-        → Serves (said_by (prove_machine H) p) (sent_by (prove_machine H) p) (served_feed (prove_machine H) p net limits.bytes) net limits.bytes feed feed' report report' out out' stopped status
-        → Serves (λ events. flat_map line_of (proving_verdicts (rules_of limits net) events)) (λ events. proving_text H watch (rules_of limits net) events) (prove_answer H limits net watch) net limits.bytes
+    pub prove-serves : (p : ProverState) → p ≡ fresh_prover net limits watch
+        → {feed feed' report report' out out' : Option (List ℕ)} (stopped : Bool) (status : Status)
+        → Serves (said_by (prove_machine H) p) (sent_by (prove_machine H) p) (served_feed (prove_machine H) p net limits.bytes) net limits.bytes feed
+        feed' report report' out out' stopped status
+        → Serves (λ events. flat_map line_of (proving_verdicts (rules_of limits net) events))
+        (λ events. proving_text H watch (rules_of limits net) events) (prove_answer H limits net watch) net limits.bytes
         feed feed' report report' out out' stopped status
     prove-serves p e {feed} {feed'} {report} {report'} {out} {out'} stopped status s =
         let m = prove_machine H in
         Serves-same said-by sent-by served-fresh stopped status
-        (subst (λ q. Serves (said_by m q) (sent_by m q) (served_feed m q net limits.bytes) net limits.bytes feed feed' report report' out out' stopped status) e s)
+        (subst (λ q. Serves (said_by m q) (sent_by m q) (served_feed m q net limits.bytes) net limits.bytes feed feed' report report' out out' stopped
+        status) e s)
 
   -- ---- what is passed on is no longer than its frames may be
 
-  after-more : (s : BridgeState) (es : List ChainEvent) (e : ChainEvent) → bridge_after H leaf_text s (es ++ e ∷ []) ≡ next_bridge H leaf_text (bridge_after H leaf_text s es) e
+  after-more : (s : BridgeState) (es : List ChainEvent) (e : ChainEvent)
+      → bridge_after H leaf_text s (es ++ e ∷ []) ≡ next_bridge H leaf_text (bridge_after H leaf_text s es) e
   after-more s [] e = refl
   after-more s (f ∷ es) e = after-more (next_bridge H leaf_text s f) es e
 
@@ -123,7 +145,8 @@ module _ (H : List ℕ → Digest) where
   all-more P [] e all p = (p, tt)
   all-more P (f ∷ es) e all p = (all.0, all-more P es e all.1 p)
 
-  pub reached-fresh : (net : Net) (limits : Limits) (watch : Option (List (List ℕ))) → limits.leaves < 2 ^ 40 → IsReached H (fresh_prover net limits watch)
+  pub reached-fresh : (net : Net) (limits : Limits) (watch : Option (List (List ℕ))) → limits.leaves < 2 ^ 40
+      → IsReached H (fresh_prover net limits watch)
   reached-fresh net limits watch few = record { limits = limits; few = few; watch = watch; events = []; bytes = tt; is = refl }
 
   pub reached-next : (p : ProverState) (event : FeedEvent) → AreEventBytes event → IsReached H p → IsReached H (next_prover H p event)
@@ -136,20 +159,27 @@ module _ (H : List ℕ → Digest) where
     bytes = all-more AreEventBytes r.events event r.bytes bytes;
     is =
         ap (λ s. next_bridge H leaf_text s (event_in event)) r.is
-        ∙ sym (ap (bridge_after H leaf_text (fresh_bridge p.net r.limits r.watch)) (map-append event_in r.events (event ∷ [])) ∙ after-more (fresh_bridge p.net r.limits r.watch) (map event_in r.events) (event_in event));
+        ∙ sym (ap (bridge_after H leaf_text (fresh_bridge p.net r.limits r.watch)) (map-append event_in r.events (event ∷ []))
+        ∙ after-more (fresh_bridge p.net r.limits r.watch) (map event_in r.events) (event_in event));
   }
 
   -- the last of them can be written
-  last-passed : (s : BridgeState) (es : List FeedEvent) (event : FeedEvent) → AllByRecursion CanBeWritten (passed_by_bridge H leaf_text s (es ++ event ∷ []))
-      → is_made (Some (verdict_on (bridge_after H leaf_text s (map event_in es)) (event_in event))) ≡ true → CanBeWritten (passed_by H (bridge_after H leaf_text s (map event_in es)) event)
+  last-passed : (s : BridgeState) (es : List FeedEvent) (event : FeedEvent)
+      → AllByRecursion CanBeWritten (passed_by_bridge H leaf_text s (es ++ event ∷ []))
+      → is_made (Some (verdict_on (bridge_after H leaf_text s (map event_in es)) (event_in event))) ≡ true
+      → CanBeWritten (passed_by H (bridge_after H leaf_text s (map event_in es)) event)
   last-passed s [] event all made = (rw made at all).0
   last-passed s (f ∷ es) event all made =
-      last-passed (next_bridge H leaf_text s (event_in f)) es event (behind (is_made (Some (verdict_on s (event_in f)))) (passed_by H s f) (passed_by_bridge H leaf_text (next_bridge H leaf_text s (event_in f)) (es ++ event ∷ [])) all) made where
-        behind : (b : Bool) (first : FeedEvent) (later : List FeedEvent) → AllByRecursion CanBeWritten (cond b (first ∷ later) later) → AllByRecursion CanBeWritten later
+      last-passed (next_bridge H leaf_text s (event_in f)) es event
+      (behind (is_made (Some (verdict_on s (event_in f)))) (passed_by H s f)
+      (passed_by_bridge H leaf_text (next_bridge H leaf_text s (event_in f)) (es ++ event ∷ [])) all) made where
+        behind : (b : Bool) (first : FeedEvent) (later : List FeedEvent) → AllByRecursion CanBeWritten (cond b (first ∷ later) later)
+            → AllByRecursion CanBeWritten later
         behind true first later h = h.1
         behind false first later h = h
 
-  pub passed-short : ((x : List ℕ) → length (H x).0 ≡ 32) → (p : ProverState) (event : FeedEvent) → AreEventBytes event → IsReached H p → is_made (Some (proved_of p event)) ≡ true
+  pub passed-short : ((x : List ℕ) → length (H x).0 ≡ 32) → (p : ProverState) (event : FeedEvent) → AreEventBytes event → IsReached H p
+      → is_made (Some (proved_of p event)) ≡ true
       → CanBeWritten (beside (message_on H p.bridge (event_in event)) event)
   unfolding proved_of
   passed-short long p event bytes r made =
@@ -158,7 +188,8 @@ module _ (H : List ℕ → Digest) where
       let t = fresh_proves_throughout H leaf_text p.net r.limits r.watch r.few es in
       let short = events_short H leaf_text long rules r.few r.watch es (all-more AreEventBytes r.events event r.bytes bytes) in
       let passed = subst (AllByRecursion CanBeWritten) (sym t.passed) short in
-      let there = last-passed (fresh_bridge p.net r.limits r.watch) r.events event passed (ap (λ s. is_made (Some (verdict_on s (event_in event)))) (sym r.is) ∙ made) in
+      let there = last-passed (fresh_bridge p.net r.limits r.watch) r.events event passed
+      (ap (λ s. is_made (Some (verdict_on s (event_in event)))) (sym r.is) ∙ made) in
       subst CanBeWritten (ap (λ s. passed_by H s event) (sym r.is) ∙ passed-beside p.bridge event) there
 
 -- ---- what a call gives where it succeeds

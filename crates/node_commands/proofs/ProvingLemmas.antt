@@ -1,5 +1,6 @@
 -- What a proving node writes is followed.
-use Rattle.std.proofs.Common.{◌≡◌, ◌⊎◌, inl, inr, ℕ, suc, ◌<◌, ◌≤◌, ◌^◌, Bool, false, cond, is_some, List, [], ◌∷◌, ◌++◌, length, map, Option, Some, None, refl, sym, ap, subst, ◌∙◌, arith}
+use Rattle.std.proofs.Common.{◌≡◌, ◌⊎◌, inl, inr, ℕ, suc, ◌<◌, ◌≤◌, ◌^◌, Bool, false, cond, is_some, List, [], ◌∷◌, ◌++◌, length, map, Option, Some}
+use Rattle.std.proofs.Common.{None, refl, sym, ap, subst, ◌∙◌, arith}
 use Rattle.std.specs.Prelude.{unwrap_or}
 use Rattle.std.specs.List.{flat_map, list_any, AllByRecursion}
 use Rattle.std.proofs.lemmas.Bool.{and_parts}
@@ -24,7 +25,8 @@ use Rattle.feed_run.specs.declared.status.Status.TheVariants.{InputLimit}
 use Rattle.node_rules.specs.Fitting.{AreEventBytes}
 use Rattle.node_rules.specs.Judging.{Rules}
 use Rattle.node_rules.specs.Laws.{Serves}
-use Rattle.node_rules.specs.Machine.{ChainEvent, BlockCame, RollbackCame, StrayCame, Outcome, State, start, chain_of, event_in, own_judge, full_judge, step, verdict_before, goes_on, verdicts, state_after, never_stops, is_made, proof_feed, kept_verdicts}
+use Rattle.node_rules.specs.Machine.{ChainEvent, BlockCame, RollbackCame, StrayCame, Outcome, State, start, chain_of, event_in, own_judge, full_judge}
+use Rattle.node_rules.specs.Machine.{step, verdict_before, goes_on, verdicts, state_after, never_stops, is_made, proof_feed, kept_verdicts}
 use Rattle.node_rules.specs.Proving.{passed_on, proved_events, IsShortMessage, CanBeWritten}
 use Rattle.node_rules.proofs.Proving.{events_again, events_short}
 use Rattle.compact_node.specs.Node.{NodeState, next_node}
@@ -38,7 +40,8 @@ use Rattle.node_commands.specs.Answers.{answer_with}
 use Rattle.node_commands.specs.Follow.{line_of, follow_answer, full_text, fresh_for, rules_of, AreTrue}
 use Rattle.report_lines.specs.Lines.{whole_line}
 use Rattle.node_commands.specs.Machine.{end_by, is_refused}
-use Rattle.node_commands.specs.Proving.{proving_text, proving_verdicts, proving_chain, proving_state, answer_made, IsFollowed, IsFollowedTo, IsWritten, FollowsProving}
+use Rattle.node_commands.specs.Proving.{proving_text, proving_verdicts, proving_chain, proving_state, answer_made, IsFollowed, IsFollowedTo}
+use Rattle.node_commands.specs.Proving.{IsWritten, FollowsProving}
 use Rattle.node_commands.proofs.FollowLemmas.{stores_full}
 
 -- ---- what can be written has frames
@@ -80,11 +83,13 @@ strays_said : (H : List ℕ → Digest) (s : NodeState) (strays : List FeedEvent
 strays_said H s strays (inl e) = inl (ap (λ es. verdicts_on H leaf_text s (map event_in es)) e)
 strays_said H s strays (inr e) = inr (ap (λ es. verdicts_on H leaf_text s (map event_in es)) e)
 
-strays_honest : (H : List ℕ → Digest) (scripts : List (List ℕ)) (rules : Rules) (strays : List FeedEvent) → (strays ≡ []) ⊎ (strays ≡ Feed.StrayCame ∷ []) → (t : State) → AreHonest H leaf_text scripts rules t (map event_in strays)
+strays_honest : (H : List ℕ → Digest) (scripts : List (List ℕ)) (rules : Rules) (strays : List FeedEvent)
+    → (strays ≡ []) ⊎ (strays ≡ Feed.StrayCame ∷ []) → (t : State) → AreHonest H leaf_text scripts rules t (map event_in strays)
 strays_honest H scripts rules strays (inl e) t = subst (λ es. AreHonest H leaf_text scripts rules t (map event_in es)) (sym e) refl
 strays_honest H scripts rules strays (inr e) t = subst (λ es. AreHonest H leaf_text scripts rules t (map event_in es)) (sym e) refl
 
-honest_to : (H : List ℕ → Digest) (scripts : List (List ℕ)) (rules : Rules) (front later : List ChainEvent) (strays : List FeedEvent) → (strays ≡ []) ⊎ (strays ≡ Feed.StrayCame ∷ []) → (t : State)
+honest_to : (H : List ℕ → Digest) (scripts : List (List ℕ)) (rules : Rules) (front later : List ChainEvent) (strays : List FeedEvent)
+    → (strays ≡ []) ⊎ (strays ≡ Feed.StrayCame ∷ []) → (t : State)
     → AreHonest H leaf_text scripts rules t (front ++ later) → AreHonest H leaf_text scripts rules t (front ++ map event_in strays)
 honest_to H scripts rules [] later strays one t h = strays_honest H scripts rules strays one t
 honest_to H scripts rules (e ∷ es) later strays one t h =
@@ -115,31 +120,37 @@ module _ (watch : Option (List (List ℕ))) (net : Net) (limits : Limits) (most 
   same_verdicts [] s = refl
   same_verdicts (e ∷ es) s =
       let o = step mine own_judge s e in
-      ap (λ (x : Outcome). verdict_before x.verdict (verdicts other own_judge x.state es)) (same_step s e) ∙ ap (verdict_before o.verdict) (same_verdicts es o.state)
+      ap (λ (x : Outcome). verdict_before x.verdict (verdicts other own_judge x.state es)) (same_step s e)
+      ∙ ap (verdict_before o.verdict) (same_verdicts es o.state)
 
   same_state : (events : List ChainEvent) (s : State) → state_after other own_judge s events ≡ state_after mine own_judge s events
   same_state [] s = refl
   same_state (e ∷ es) s =
       let o = step mine own_judge s e in
-      ap (λ (x : Outcome). goes_on x.verdict s (state_after other own_judge x.state es)) (same_step s e) ∙ ap (goes_on o.verdict s) (same_state es o.state)
+      ap (λ (x : Outcome). goes_on x.verdict s (state_after other own_judge x.state es)) (same_step s e)
+      ∙ ap (goes_on o.verdict s) (same_state es o.state)
 
-  same_proved : (H : List ℕ → Digest) (events : List FeedEvent) (s : State) → proved_events H leaf_text watch other s events ≡ proved_events H leaf_text watch mine s events
+  same_proved : (H : List ℕ → Digest) (events : List FeedEvent) (s : State)
+      → proved_events H leaf_text watch other s events ≡ proved_events H leaf_text watch mine s events
   same_proved H [] s = refl
   same_proved H (event ∷ events) s =
       let o = step mine own_judge s (event_in event) in
       let made = λ (x : Outcome) (later : List FeedEvent). cond (is_made x.verdict) (passed_on H leaf_text watch s.now event ∷ later) later in
-      ap (λ (x : Outcome). made x (proved_events H leaf_text watch other x.state events)) (same_step s (event_in event)) ∙ ap (made o) (same_proved H events o.state)
+      ap (λ (x : Outcome). made x (proved_events H leaf_text watch other x.state events)) (same_step s (event_in event))
+      ∙ ap (made o) (same_proved H events o.state)
 
 -- ---- the run
 
-module _ (H : List ℕ → Digest) (long : (x : List ℕ) → length (H x).0 ≡ 32) (limits : Limits) (net : Net) (few : limits.leaves < 2 ^ 40) (short : limits.bytes ≤ 2 ^ 48) (list : Option (List (List ℕ))) where
+module _ (H : List ℕ → Digest) (long : (x : List ℕ) → length (H x).0 ≡ 32) (limits : Limits) (net : Net) (few : limits.leaves < 2 ^ 40)
+    (short : limits.bytes ≤ 2 ^ 48) (list : Option (List (List ℕ))) where
   abbrev scripts : List (List ℕ)
   scripts = unwrap_or list []
 
   abbrev node : NodeState
   node = fresh_for limits net list
 
-  module _ (watch : Option (List (List ℕ))) (serves : Serves watch scripts) (events : List FeedEvent) (all : AllByRecursion AreEventBytes events) (feed : List ℕ) where
+  module _ (watch : Option (List (List ℕ))) (serves : Serves watch scripts) (events : List FeedEvent) (all : AllByRecursion AreEventBytes events)
+      (feed : List ℕ) where
     abbrev proved : List FeedEvent
     proved = proved_events H leaf_text watch (rules_of limits net) start events
 
@@ -152,7 +163,8 @@ module _ (H : List ℕ → Digest) (long : (x : List ℕ) → length (H x).0 ≡
     read : length feed ≤ limits.bytes → feed ≡ feed_text net proved → HasEvents net limits.bytes feed proved
     read room is =
         subst (λ f. HasEvents net limits.bytes f proved) (sym is)
-        (feed_read net limits.bytes proved (all_framed proved (events_short H leaf_text long (rules_of limits net) few watch events all)) (subst (λ f. length f ≤ limits.bytes) is room))
+        (feed_read net limits.bytes proved (all_framed proved (events_short H leaf_text long (rules_of limits net) few watch events all))
+        (subst (λ f. length f ≤ limits.bytes) is room))
 
     again : map event_in proved ≡ came
     again = events_again H leaf_text long (rules_of limits net) few watch events all
@@ -188,7 +200,8 @@ module _ (H : List ℕ → Digest) (long : (x : List ℕ) → length (H x).0 ≡
         let last = node_after H leaf_text node came in
         let text = full_text H scripts (rules_of limits net) then in
         record {
-          honest = subst (λ es. AreTrue H scripts (rules_of limits net) start es) (sym r.all) (subst (AreHonest H leaf_text scripts (rules_of limits net) start) (sym again) f.honest);
+          honest = subst (λ es. AreTrue H scripts (rules_of limits net) start es) (sym r.all)
+              (subst (AreHonest H leaf_text scripts (rules_of limits net) start) (sym again) f.honest);
           answer =
               ap (λ es. answer_to (map event_in es) (length es) ending) r.all ∙ ap (answer_to (map event_in proved) (length proved)) r.ends
               ∙ ap (λ es. answer_to es (length proved) None) again
@@ -204,7 +217,8 @@ module _ (H : List ℕ → Digest) (long : (x : List ℕ) → length (H x).0 ≡
       read_to : HasFirstEvents net limits.bytes feed proved
       read_to =
           subst (λ f. HasFirstEvents net limits.bytes f proved) (sym is)
-          (feed_cut net limits.bytes proved (all_framed proved (events_short H leaf_text long (rules_of limits net) few watch events all)) (subst (λ f. limits.bytes < length f) is past))
+          (feed_cut net limits.bytes proved (all_framed proved (events_short H leaf_text long (rules_of limits net) few watch events all))
+          (subst (λ f. limits.bytes < length f) is past))
 
       followed_to : IsFollowedTo H node (rules_of limits net) events feed
       unfolding follow_answer
@@ -220,21 +234,24 @@ module _ (H : List ℕ → Digest) (long : (x : List ℕ) → length (H x).0 ≡
           record {
             honest = subst (λ es. AreTrue H scripts (rules_of limits net) start es) (sym r.all)
                 (subst (AreHonest H leaf_text scripts (rules_of limits net) start) (sym (map-append event_in r.front r.strays))
-                (honest_to H scripts (rules_of limits net) front later r.strays r.one start (subst (AreHonest H leaf_text scripts (rules_of limits net) start) halves f.honest)));
+                (honest_to H scripts (rules_of limits net) front later r.strays r.one start
+                (subst (AreHonest H leaf_text scripts (rules_of limits net) start) halves f.honest)));
             front = verdicts_on H leaf_text node front;
             later = verdicts_on H leaf_text then later;
             split = sym f.said ∙ ap (verdicts_on H leaf_text node) halves ∙ verdicts_on-append H leaf_text node front later;
             strays = verdicts_on H leaf_text then strays;
             one = strays_said H then r.strays r.one;
             answer =
-                ap (λ es. answer_to (map event_in es) (length es) ending) r.all ∙ ap (answer_to (map event_in (r.front ++ r.strays)) (length (r.front ++ r.strays))) r.ends
+                ap (λ es. answer_to (map event_in es) (length es) ending) r.all
+                ∙ ap (answer_to (map event_in (r.front ++ r.strays)) (length (r.front ++ r.strays))) r.ends
                 ∙ ap (λ es. answer_to es (length (r.front ++ r.strays)) (Some (Limit limits.bytes))) (map-append event_in r.front r.strays)
                 ∙ ap (answer_to_limit limits.bytes) (verdicts_on-append H leaf_text node front strays);
           }
 
   -- ---- whatever the proving node may read
 
-  module _ (proving : Limits) (watch : Option (List (List ℕ))) (events : List FeedEvent) (feed : List ℕ) (w : IsWritten H node proving watch events feed) where
+  module _ (proving : Limits) (watch : Option (List (List ℕ))) (events : List FeedEvent) (feed : List ℕ)
+      (w : IsWritten H node proving watch events feed) where
     abbrev mixed : Limits
     mixed = record { leaves = limits.leaves; bytes = proving.bytes }
 
@@ -243,7 +260,8 @@ module _ (H : List ℕ → Digest) (long : (x : List ℕ) → length (H x).0 ≡
 
     text_is : feed ≡ feed_text net (proved_events H leaf_text watch (rules_of limits net) start events)
     unfolding proving_text
-    text_is = w.text ∙ ap (λ l. feed_text net (proved_events H leaf_text watch (rules_of l net) start events)) (sym same_limits) ∙ ap (feed_text net) (same_proved watch net limits proving.bytes H events start)
+    text_is = w.text ∙ ap (λ l. feed_text net (proved_events H leaf_text watch (rules_of l net) start events)) (sym same_limits)
+        ∙ ap (feed_text net) (same_proved watch net limits proving.bytes H events start)
 
     abbrev kept_by : Limits → List Verdict
     kept_by l = kept_verdicts (proving_verdicts (rules_of l net) events)
@@ -252,7 +270,8 @@ module _ (H : List ℕ → Digest) (long : (x : List ℕ) → length (H x).0 ≡
     kept_is = ap kept_verdicts (sym (same_verdicts watch net limits proving.bytes (map event_in events) start)) ∙ ap kept_by same_limits
 
     state_is : proving_state (rules_of limits net) events ≡ proving_state (rules_of proving net) events
-    state_is = sym (same_state watch net limits proving.bytes (map event_in events) start) ∙ ap (λ l. proving_state (rules_of l net) events) same_limits
+    state_is = sym (same_state watch net limits proving.bytes (map event_in events) start)
+        ∙ ap (λ l. proving_state (rules_of l net) events) same_limits
 
     abbrev made_by : State → Answer
     made_by t = answer_made (kept_by proving) (chain_of t.now) (full_text H scripts (rules_of limits net) t)
@@ -260,12 +279,28 @@ module _ (H : List ℕ → Digest) (long : (x : List ℕ) → length (H x).0 ≡
     whole : length feed ≤ limits.bytes → IsFollowed H node (rules_of proving net) events feed
     whole room =
         let f = followed watch w.serves events w.bytes feed room text_is in
-        record { honest = f.honest; answer = f.answer ∙ ap (λ vs. answer_made vs (proving_chain (rules_of limits net) events) (full_text H scripts (rules_of limits net) (proving_state (rules_of limits net) events))) kept_is ∙ ap made_by state_is }
+        record {
+          honest = f.honest;
+          answer = f.answer ∙ ap (λ vs. answer_made vs (proving_chain (rules_of limits net) events)
+              (full_text H scripts (rules_of limits net) (proving_state (rules_of limits net) events))) kept_is ∙ ap made_by state_is;
+        }
 
     cut : limits.bytes < length feed → IsFollowedTo H node (rules_of proving net) events feed
     cut past =
         let f = followed_to watch w.serves events w.bytes feed past text_is in
-        record { honest = f.honest; front = f.front; later = f.later; split = sym kept_is ∙ f.split; strays = f.strays; one = f.one; answer = f.answer }
+        record {
+          honest = f.honest;
+          front = f.front;
+          later = f.later;
+          split = sym kept_is ∙ f.split;
+          strays = f.strays;
+          one = f.one;
+          answer =
+              f.answer;
+        }
 
   pub follows-proving : (feed : List ℕ) → FollowsProving H node feed
-  follows-proving feed = record { whole = λ proving watch events w room. whole proving watch events feed w room; cut = λ proving watch events w past. cut proving watch events feed w past }
+  follows-proving feed = record {
+    whole = λ proving watch events w room. whole proving watch events feed w room;
+    cut = λ proving watch events w past. cut proving watch events feed w past;
+  }

@@ -1,5 +1,7 @@
 -- From what a call over a feed gave to what a command did, and to what the run did.
-use Rattle.std.proofs.Common.{rules, ◌≡◌, ◌⊎◌, inl, inr, ℕ, ◌<◌, ◌≤◌, ◌^◌, Bool, true, false, List, [], ◌++◌, length, Option, Some, None, Result, Ok, Err, IfOk, OnOk, IsErrOf, IsErr, is_err, is_some, Bor, refl, sym, ap, subst, ◌∙◌, ◌-◌, take, arith, append-nil, if◌then◌else◌}
+use Rattle.std.proofs.Common.{rules, ◌≡◌, ◌⊎◌, inl, inr, ℕ, ◌<◌, ◌≤◌, ◌^◌, Bool, true, false, List, [], ◌++◌, length, Option, Some, None, Result, Ok}
+use Rattle.std.proofs.Common.{Err, IfOk, OnOk, IsErrOf, IsErr, is_err, is_some, Bor, refl, sym, ap, subst, ◌∙◌, ◌-◌, take, arith, append-nil}
+use Rattle.std.proofs.Common.{if◌then◌else◌}
 use Rattle.std.specs.Prelude.{IfSome, IsTrue, option_copied}
 use Rattle.std.specs.Bool.{OnFalse}
 use Rattle.std.specs.Io.KnownBytes.{Appends}
@@ -15,7 +17,8 @@ use Rattle.uo_digest.specs.declared.digest.Digest.{Digest}
 use Rattle.bridge_prover.specs.Watched.{scripts_of}
 use Rattle.command_words.specs.declared.words.WordFault.{WordFault}
 use Rattle.command_words.specs.Options.{Settings}
-use Rattle.command_words.specs.Words.{Asked, Task, Following, Proving, Auditing, Generating, UpgradingFeed, UpgradingState, Ordering, Ticketing, Checking, Rechecking, Relaying, net_for, command_of}
+use Rattle.command_words.specs.Words.{Asked, Task, Following, Proving, Auditing, Generating, UpgradingFeed, UpgradingState, Ordering, Ticketing}
+use Rattle.command_words.specs.Words.{Checking, Rechecking, Relaying, net_for, command_of}
 use Rattle.feed_frame.specs.Events.{events_of, events_over, settled_in, settled_of}
 use Rattle.feed_frame.specs.Frames.{frames_from, past_limit, within}
 use Rattle.feed_frame.specs.Streamed.{KeepsUp}
@@ -52,7 +55,8 @@ use Rattle.node_commands.proofs.WatchLemmas.{IfOk-any}
 
 module _ (m : Meaning) (limit : ℕ) where
   -- it was stopped before it began
-  pub ran-unbegun : (feed prior watch report out : Option (List ℕ)) (r : Result Status Stop) → IsErr r → Ran m limit feed feed prior watch report report out out (is_err r) (status_in r)
+  pub ran-unbegun : (feed prior watch report out : Option (List ℕ)) (r : Result Status Stop) → IsErr r
+      → Ran m limit feed feed prior watch report report out out (is_err r) (status_in r)
   ran-unbegun feed prior watch report out (Ok status) is = absurd (false≢true is)
   ran-unbegun feed prior watch report out (Err stop) is = record {
     inputs = record { feed = told_text feed; prior = told_text prior; watch = told_text watch; begun = None };
@@ -63,8 +67,10 @@ module _ (m : Meaning) (limit : ℕ) where
 
   module _ (prior watch : Option (List ℕ)) (state list : List ℕ) (on_prior : Tells prior state) (on_watch : Tells watch list) where
     -- an input can not be used
-    pub ran-refusing : (bad : BadInput) → m.Begins state list (Err bad) → (feed report report' out : Option (List ℕ)) (r : Result Status Stop) → IfOk r (λ status. status ≡ bad.status)
-        → OnOk r (Appends report report' (whole_line bad.line)) → AppendsPart report report' (whole_line bad.line) → Ran m limit feed feed prior watch report report' out out (is_err r) (status_in r)
+    pub ran-refusing : (bad : BadInput) → m.Begins state list (Err bad) → (feed report report' out : Option (List ℕ)) (r : Result Status Stop)
+        → IfOk r (λ status. status ≡ bad.status)
+        → OnOk r (Appends report report' (whole_line bad.line)) → AppendsPart report report' (whole_line bad.line)
+        → Ran m limit feed feed prior watch report report' out out (is_err r) (status_in r)
     ran-refusing bad begins feed report report' out (Ok status) p q part = record {
       inputs = record { feed = told_text feed; prior = state; watch = list; begun = Some (Err bad) };
       told = record { on_feed = Tells-told_text feed; on_prior = on_prior; on_watch = on_watch };
@@ -79,7 +85,8 @@ module _ (m : Meaning) (limit : ℕ) where
     }
 
     -- it began
-    pub ran-begun : (begun : m.Begun) → m.Begins state list (Ok begun) → {feed feed' report report' out out' : Option (List ℕ)} (stopped : Bool) (status : Status)
+    pub ran-begun : (begun : m.Begun) → m.Begins state list (Ok begun)
+        → {feed feed' report report' out out' : Option (List ℕ)} (stopped : Bool) (status : Status)
         → Serves (m.lines begun) (m.frames begun) (m.answer begun) (m.net begun) limit feed feed' report report' out out' stopped status
         → Ran m limit feed feed' prior watch report report' out out' stopped status
     ran-begun begun begins stopped status s = record {
@@ -96,9 +103,11 @@ settled-none : (net : Net) (limit : ℕ) → settled_of net limit [] ≡ []
 unfolding settled_of within frames_from events_over
 settled-none net limit =
     let none = le-ltb (limit - 0) 0 (omega arith) in
-    ap (λ b. settled_in None (if b then (let read = frames_from net 0 0 (take (limit - 0) []) in record { frames = read.frames; ending = past_limit limit read.ending }) else frames_from net 0 0 []).frames) none
+    ap (λ b. settled_in None (if b then (let read = frames_from net 0 0 (take (limit - 0) []) in
+    record { frames = read.frames; ending = past_limit limit read.ending }) else frames_from net 0 0 []).frames) none
 
-untaken : (lines : List FeedEvent → List ℕ) → lines [] ≡ [] → (net : Net) (limit : ℕ) (feed report report' : Option (List ℕ)) {text : List ℕ} → AppendsPart report report' text
+untaken : (lines : List FeedEvent → List ℕ) → lines [] ≡ [] → (net : Net) (limit : ℕ) (feed report report' : Option (List ℕ)) {text : List ℕ}
+    → AppendsPart report report' text
     → KeepsUp lines net limit feed feed report report'
 untaken lines silent net limit feed report report' part = record {
   taken = [];
@@ -112,7 +121,8 @@ untaken lines silent net limit feed report report' part = record {
 }
 
 module _ (m : Meaning) {limit : ℕ} (begun : m.Begun) (feed : Option (List ℕ)) (silent : m.lines begun [] ≡ []) (quiet : m.frames begun [] ≡ []) where
-  pub serves-once : (r : Result Status Stop) (report report' out out' : Option (List ℕ)) → IfOk r (λ status. status ≡ (m.answer begun (told_text feed)).status)
+  pub serves-once : (r : Result Status Stop) (report report' out out' : Option (List ℕ))
+      → IfOk r (λ status. status ≡ (m.answer begun (told_text feed)).status)
       → OnOk r (Appends report report' (m.answer begun (told_text feed)).report) → OnOk r (Appends out out' (m.answer begun (told_text feed)).out)
       → AppendsPart report report' (m.answer begun (told_text feed)).report → AppendsPart out out' (m.answer begun (told_text feed)).out
       → Appends report report' [] ⊎ Appends out out' (m.answer begun (told_text feed)).out → (IsErrOf r Stop.ReadFault → ⊥)
@@ -138,19 +148,23 @@ module _ (m : Meaning) {limit : ℕ} (begun : m.Begun) (feed : Option (List ℕ)
     };
   }
     where
-      first : Appends report report' [] ⊎ Appends out out' (m.answer begun (told_text feed)).out → AppendsPart report report' (m.lines begun []) ⊎ Appends out out' (m.answer begun (told_text feed)).out
+      first : Appends report report' [] ⊎ Appends out out' (m.answer begun (told_text feed)).out → AppendsPart report report' (m.lines begun [])
+          ⊎ Appends out out' (m.answer begun (told_text feed)).out
       first (inl none) = inl (record { done = []; rest = m.lines begun []; split = refl; grew = none })
       first (inr all) = inr all
 
 -- ---- of the words
 
-module _ (H : List ℕ → Digest) (limits : Limits) (words : List (List ℕ)) (limit : ℕ) (feed feed' prior watch report report' out out' : Option (List ℕ)) (stopped : Bool) (status : Status) where
-  pub ran-words : (asked : Result Asked WordFault) → asked ≡ command_of words → Ran (meaning_by H limits asked) limit feed feed' prior watch report report' out out' stopped status
+module _ (H : List ℕ → Digest) (limits : Limits) (words : List (List ℕ)) (limit : ℕ)
+    (feed feed' prior watch report report' out out' : Option (List ℕ)) (stopped : Bool) (status : Status) where
+  pub ran-words : (asked : Result Asked WordFault) → asked ≡ command_of words
+      → Ran (meaning_by H limits asked) limit feed feed' prior watch report report' out out' stopped status
       → Ran (meaning_of H limits words) limit feed feed' prior watch report report' out out' stopped status
   ran-words asked is r = subst (λ a. Ran (meaning_by H limits a) limit feed feed' prior watch report report' out out' stopped status) is r
 
   -- with a watch list, or with none
-  pub ran-named : (asked : Result Asked WordFault) → asked ≡ command_of words → (by : Bool → Meaning) (named listed : Bool) → meaning_by H limits asked ≡ by listed → named ≡ listed
+  pub ran-named : (asked : Result Asked WordFault) → asked ≡ command_of words → (by : Bool → Meaning) (named listed : Bool)
+      → meaning_by H limits asked ≡ by listed → named ≡ listed
       → Ran (by named) limit feed feed' prior watch report report' out out' stopped status
       → Ran (meaning_of H limits words) limit feed feed' prior watch report report' out out' stopped status
   ran-named asked is by named listed means same r =
@@ -159,26 +173,32 @@ module _ (H : List ℕ → Digest) (limits : Limits) (words : List (List ℕ)) (
       (subst (λ b. Ran (by b) limit feed feed' prior watch report report' out out' stopped status) same r))
 
   -- and so of two inputs that may be named
-  pub ran-beside : (asked : Result Asked WordFault) → asked ≡ command_of words → (by : Bool → Bool → Meaning) (named listed named' listed' : Bool) → meaning_by H limits asked ≡ by named' listed' → named ≡ named' → listed ≡ listed'
+  pub ran-beside : (asked : Result Asked WordFault) → asked ≡ command_of words → (by : Bool → Bool → Meaning) (named listed named' listed' : Bool)
+      → meaning_by H limits asked ≡ by named' listed' → named ≡ named' → listed ≡ listed'
       → Ran (by named listed) limit feed feed' prior watch report report' out out' stopped status
       → Ran (meaning_of H limits words) limit feed feed' prior watch report report' out out' stopped status
   ran-beside asked is by named listed named' listed' means first second r =
-      ran-named asked is (λ b. by b listed') named named' means first (subst (λ b. Ran (by named b) limit feed feed' prior watch report report' out out' stopped status) second r)
+      ran-named asked is (λ b. by b listed') named named' means first
+      (subst (λ b. Ran (by named b) limit feed feed' prior watch report report' out out' stopped status) second r)
 
-  pub ran-afresh : (s : Settings) (net : Net) (named : Bool) → Ok (record { task = Following; given = s }) ≡ command_of words → is_some s.from ≡ false → net ≡ net_for s.net → named ≡ is_some s.watch
+  pub ran-afresh : (s : Settings) (net : Net) (named : Bool) → Ok (record { task = Following; given = s }) ≡ command_of words → is_some s.from ≡ false
+      → net ≡ net_for s.net → named ≡ is_some s.watch
       → Ran (following_afresh H limits net named) limit feed feed' prior watch report report' out out' stopped status
       → Ran (meaning_of H limits words) limit feed feed' prior watch report report' out out' stopped status
   ran-afresh s net named is fresh net_is same r =
       ran-words (Ok (record { task = Following; given = s })) is
-      (subst (λ b. Ran (following_from b H limits (net_for s.net) (is_some s.watch)) limit feed feed' prior watch report report' out out' stopped status) (sym fresh)
+      (subst (λ b. Ran (following_from b H limits (net_for s.net) (is_some s.watch)) limit feed feed' prior watch report report' out out' stopped
+      status) (sym fresh)
       (subst (λ k. Ran (following_afresh H limits k (is_some s.watch)) limit feed feed' prior watch report report' out out' stopped status) net_is
       (subst (λ b. Ran (following_afresh H limits net b) limit feed feed' prior watch report report' out out' stopped status) same r)))
 
-  pub ran-on : (s : Settings) → Ok (record { task = Following; given = s }) ≡ command_of words → is_some s.from ≡ true → Ran (following_on H limits) limit feed feed' prior watch report report' out out' stopped status
+  pub ran-on : (s : Settings) → Ok (record { task = Following; given = s }) ≡ command_of words → is_some s.from ≡ true
+      → Ran (following_on H limits) limit feed feed' prior watch report report' out out' stopped status
       → Ran (meaning_of H limits words) limit feed feed' prior watch report report' out out' stopped status
   ran-on s is resumed r =
       ran-words (Ok (record { task = Following; given = s })) is
-      (subst (λ b. Ran (following_from b H limits (net_for s.net) (is_some s.watch)) limit feed feed' prior watch report report' out out' stopped status) (sym resumed) r)
+      (subst (λ b. Ran (following_from b H limits (net_for s.net) (is_some s.watch)) limit feed feed' prior watch report report' out out' stopped
+      status) (sym resumed) r)
 
 -- whether a borrowed value is there
 pub copied_some : {T : Type 0} (x : Option (Bor T)) → is_some x ≡ is_some (option_copied x)
@@ -186,7 +206,8 @@ copied_some None = refl
 copied_some (Some x) = refl
 
 -- the ports that `follow` uses from the start
-module _ (H : List ℕ → Digest) (limits : Limits) (words : List (List ℕ)) (s : Settings) (is : Ok (record { task = Following; given = s }) ≡ command_of words) (fresh : is_some s.from ≡ false) (named : Bool)
+module _ (H : List ℕ → Digest) (limits : Limits) (words : List (List ℕ)) (s : Settings)
+    (is : Ok (record { task = Following; given = s }) ≡ command_of words) (fresh : is_some s.from ≡ false) (named : Bool)
     (same : named ≡ is_some s.watch) where
   abbrev used : Uses
   used = record { feed = true; prior = false; watch = named; out = true; steps = true }
@@ -200,7 +221,8 @@ module _ (H : List ℕ → Digest) (limits : Limits) (words : List (List ℕ)) (
   watch-afresh P stays = subst (λ (u : Uses). OnFalse u.watch P) uses-afresh stays
 
   pub read-afresh : (a a' p p' w w' : ℕ) → Rose a a' ⊎ UsedRose named w w'
-      → UsedRose (meaning_of H limits words).uses.feed a a' ⊎ UsedRose (meaning_of H limits words).uses.prior p p' ⊎ UsedRose (meaning_of H limits words).uses.watch w w'
+      → UsedRose (meaning_of H limits words).uses.feed a a' ⊎ UsedRose (meaning_of H limits words).uses.prior p p'
+      ⊎ UsedRose (meaning_of H limits words).uses.watch w w'
   read-afresh a a' p p' w w' rose = subst (λ (u : Uses). UsedRose u.feed a a' ⊎ UsedRose u.prior p p' ⊎ UsedRose u.watch w w') uses-afresh (by rose)
     where
       by : Rose a a' ⊎ UsedRose named w w' → UsedRose true a a' ⊎ UsedRose false p p' ⊎ UsedRose named w w'
@@ -213,34 +235,42 @@ module _ (H : List ℕ → Digest) (limits : Limits) (words : List (List ℕ)) (
 pub not_stopped : (status stop : Status) → is_stop status ≡ false → is_stop stop ≡ true → status ≡ stop → ⊥
 not_stopped status stop goes stops e = false≢true (sym goes ∙ ap is_stop e ∙ stops)
 
-module _ (H : List ℕ → Digest) (long : (x : List ℕ) → length (H x).0 ≡ 32) (limits : Limits) (few : limits.leaves < 2 ^ 40) (short : limits.bytes ≤ 2 ^ 48) where
+module _ (H : List ℕ → Digest) (long : (x : List ℕ) → length (H x).0 ≡ 32) (limits : Limits) (few : limits.leaves < 2 ^ 40)
+    (short : limits.bytes ≤ 2 ^ 48) where
   -- what is claimed of each command's answer holds
   follow-claims : (resumed : Bool) (net : Net) (named : Bool) (inputs : Inputs (following_from resumed H limits net named).Begun)
-      → IfSome inputs.begun ((following_from resumed H limits net named).Begins inputs.prior inputs.watch) → (following_from resumed H limits net named).Claims inputs
+      → IfSome inputs.begun ((following_from resumed H limits net named).Begins inputs.prior inputs.watch)
+      → (following_from resumed H limits net named).Claims inputs
   follow-claims true net named inputs begins = resumes-as-full H long limits few inputs.prior inputs.feed inputs.begun begins
   follow-claims false net named inputs begins =
-      IfOk-any _ (λ list. (prints-as-full H limits net few short list inputs.feed, follows-proving H long limits net few short list inputs.feed)) (list_in named limits.bytes inputs.watch)
+      IfOk-any _ (λ list. (prints-as-full H limits net few short list inputs.feed, follows-proving H long limits net few short list inputs.feed))
+      (list_in named limits.bytes inputs.watch)
 
   -- and so a state is upgraded, where there is one
   state-claims : (prior : List ℕ) (begun : Option Start) → IfSome begun (IsStart H limits prior) → IfSome begun (UpgradesState H limits prior)
   state-claims prior None begins = tt
   state-claims prior (Some start) begins = states_are_upgraded H limits prior start few begins
 
-  task-claims : (task : Task) (s : Settings) (inputs : Inputs (meaning_for H limits task s).Begun) → IfSome inputs.begun ((meaning_for H limits task s).Begins inputs.prior inputs.watch)
+  task-claims : (task : Task) (s : Settings) (inputs : Inputs (meaning_for H limits task s).Begun)
+      → IfSome inputs.begun ((meaning_for H limits task s).Begins inputs.prior inputs.watch)
       → (meaning_for H limits task s).Claims inputs
   task-claims Following s inputs begins = follow-claims (is_some s.from) (net_for s.net) (is_some s.watch) inputs begins
   task-claims Proving s inputs begins = tt
-  task-claims Auditing s inputs begins = IfOk-any _ (λ scripts. audits-feed H long limits (net_for s.net) (scripts_of scripts) few inputs.feed) (list_in (is_some s.watch) limits.bytes inputs.watch)
+  task-claims Auditing s inputs begins = IfOk-any _ (λ scripts. audits-feed H long limits (net_for s.net) (scripts_of scripts) few inputs.feed)
+      (list_in (is_some s.watch) limits.bytes inputs.watch)
   task-claims (Generating number blocks) s inputs begins = tt
-  task-claims UpgradingFeed s inputs begins = IfOk-any _ (λ list. follows-upgraded-afresh H limits (net_for s.net) few short list inputs.feed) (list_in (is_some s.watch) limits.bytes inputs.watch)
+  task-claims UpgradingFeed s inputs begins = IfOk-any _ (λ list. follows-upgraded-afresh H limits (net_for s.net) few short list inputs.feed)
+      (list_in (is_some s.watch) limits.bytes inputs.watch)
   task-claims UpgradingState s inputs begins = state-claims inputs.prior inputs.begun begins
   task-claims (Ordering tip) s inputs begins = orders-feed (net_for s.net) limits.bytes (hash_named tip) inputs.feed
   task-claims (Ticketing number) s inputs begins = ticket-claims H long limits few inputs.prior number inputs.begun begins
   task-claims Checking s inputs begins = check-claims H long limits few inputs.prior inputs.feed inputs.begun begins
-  task-claims Rechecking s inputs begins = recheck-claims H long limits few (net_for s.net) inputs.feed (recheck_start (is_some s.watch) limits.bytes inputs.prior inputs.watch)
+  task-claims Rechecking s inputs begins =
+      recheck-claims H long limits few (net_for s.net) inputs.feed (recheck_start (is_some s.watch) limits.bytes inputs.prior inputs.watch)
   task-claims (Relaying followers) s inputs begins = relays-on-branches H long limits few short (net_for s.net) inputs.feed inputs.begun
 
-  claims : (asked : Result Asked WordFault) (inputs : Inputs (meaning_by H limits asked).Begun) → IfSome inputs.begun ((meaning_by H limits asked).Begins inputs.prior inputs.watch)
+  claims : (asked : Result Asked WordFault) (inputs : Inputs (meaning_by H limits asked).Begun)
+      → IfSome inputs.begun ((meaning_by H limits asked).Begins inputs.prior inputs.watch)
       → (meaning_by H limits asked).Claims inputs
   claims (Ok asked) inputs begins = task-claims asked.task asked.given inputs begins
   claims (Err fault) inputs begins = tt
@@ -249,15 +279,24 @@ module _ (H : List ℕ → Digest) (long : (x : List ℕ) → length (H x).0 ≡
     abbrev m : Meaning
     m = meaning_by H limits asked
 
-    finishes : (inputs : Inputs m.Begun) (begun : Option (Result m.Begun BadInput)) (stopped : Bool) → is_stop status ≡ stopped → IfSome begun (m.Begins inputs.prior inputs.watch)
-        → GivesBy m limits.bytes begun inputs.feed feed feed' report report' out out' stopped status → m.AreGood inputs.feed inputs.prior inputs.watch → m.Ends status
+    finishes : (inputs : Inputs m.Begun) (begun : Option (Result m.Begun BadInput)) (stopped : Bool) → is_stop status ≡ stopped
+        → IfSome begun (m.Begins inputs.prior inputs.watch)
+        → GivesBy m limits.bytes begun inputs.feed feed feed' report report' out out' stopped status → m.AreGood inputs.feed inputs.prior inputs.watch
+        → m.Ends status
     finishes inputs begun true stops begins gives good = stops-by H limits asked status stops
     finishes inputs None false goes begins gives good = absurd gives
-    finishes inputs (Some (Err bad)) false goes begins gives good = subst m.Ends (sym gives.answered) (ends-by H limits few inputs.prior inputs.watch inputs.feed asked (Err bad) begins good)
-    finishes inputs (Some (Ok begun)) false goes begins gives good = subst m.Ends (sym gives.answered) (ends-by H limits few inputs.prior inputs.watch inputs.feed asked (Ok begun) begins good)
+    finishes inputs (Some (Err bad)) false goes begins gives good =
+        subst m.Ends (sym gives.answered) (ends-by H limits few inputs.prior inputs.watch inputs.feed asked (Err bad) begins good)
+    finishes inputs (Some (Ok begun)) false goes begins gives good =
+        subst m.Ends (sym gives.answered) (ends-by H limits few inputs.prior inputs.watch inputs.feed asked (Ok begun) begins good)
 
     pub did-by : (stopped : Bool) → is_stop status ≡ stopped → Ran m limits.bytes feed feed' prior watch report report' out out' stopped status
         → Did m limits.bytes feed feed' prior watch report report' out out' status
     did-by stopped is r =
         let same = subst (λ b. Ran m limits.bytes feed feed' prior watch report report' out out' b status) (sym is) r in
-        record { ran = same; claims = claims asked same.inputs same.begins; complete = finishes same.inputs same.inputs.begun (is_stop status) refl same.begins same.gives }
+        record {
+          ran = same;
+          claims = claims asked same.inputs same.begins;
+          complete =
+              finishes same.inputs same.inputs.begun (is_stop status) refl same.begins same.gives;
+        }

@@ -1,5 +1,6 @@
 -- What `recheck` answers: at the first forged event what an auditor shows, and else what it says of the ticket.
-use Rattle.std.proofs.Common.{◌≡◌, ◌⊎◌, inl, inr, ℕ, suc, ◌+◌, ◌<◌, ◌≤◌, ◌^◌, Bool, true, false, cond, List, [], ◌∷◌, ◌++◌, length, map, Option, Some, None, Result, Ok, Err, IfOk, OnOk, IsErrOf, is_err, refl, sym, ap, ap₂, ◌∙◌, subst, arith, append-nil}
+use Rattle.std.proofs.Common.{◌≡◌, ◌⊎◌, inl, inr, ℕ, suc, ◌+◌, ◌<◌, ◌≤◌, ◌^◌, Bool, true, false, cond, List, [], ◌∷◌, ◌++◌, length, map, Option, Some}
+use Rattle.std.proofs.Common.{None, Result, Ok, Err, IfOk, OnOk, IsErrOf, is_err, refl, sym, ap, ap₂, ◌∙◌, subst, arith, append-nil}
 use Rattle.std.specs.Prelude.{not, is_none, nat_lt, if◌then◌else◌}
 use Rattle.std.specs.List.{AllByRecursion}
 use Rattle.std.proofs.lemmas.Bool.{false≢true, lt-ltb, le-ltb}
@@ -62,7 +63,9 @@ use Rattle.node_commands.specs.Auditor.{clash_text, end_unless}
 use Rattle.node_commands.specs.Follow.{rules_of}
 use Rattle.node_commands.specs.Forging.{level_behind, AreTrueTo, IsForgedBehind}
 use Rattle.node_commands.specs.Meaning.{IsEnd}
-use Rattle.node_commands.specs.Rechecking.{RecheckerState, next_rechecker, machine_ending, silent_end, shown_text, shown_of, shown_line, recheck_end, recheck_machine, Rechecked, with_list, recheck_start, long_prior, rechecker_of, recheck_answer, RechecksOver, ShowsAlone, RechecksFeed, RechecksAsBegun}
+use Rattle.node_commands.specs.Rechecking.{RecheckerState, next_rechecker, machine_ending, silent_end, shown_text, shown_of, shown_line, recheck_end}
+use Rattle.node_commands.specs.Rechecking.{recheck_machine, Rechecked, with_list, recheck_start, long_prior, rechecker_of, recheck_answer}
+use Rattle.node_commands.specs.Rechecking.{RechecksOver, ShowsAlone, RechecksFeed, RechecksAsBegun}
 use Rattle.node_commands.specs.Runs.{Serves, status_in}
 use Rattle.node_commands.specs.Tickets.{told_as}
 use Rattle.report_lines.specs.declared.line.Line.{Line}
@@ -75,7 +78,8 @@ use Rattle.node_commands.proofs.ForgingLemmas.{all-told, Stops, stops-at, no-ver
 -- ---- one event
 
 -- what is printed of the auditor's answer is the line of the event
-pub shown-is : (H : List ℕ → Digest) (r : RecheckerState) (event : FeedEvent) (line : AuditLine) → verdict_in line ≡ judged_on H leaf_text r.audit.bridge (event_in event)
+pub shown-is : (H : List ℕ → Digest) (r : RecheckerState) (event : FeedEvent) (line : AuditLine)
+    → verdict_in line ≡ judged_on H leaf_text r.audit.bridge (event_in event)
     → ShowsClash H r.audit.bridge (event_in event) line → shown_of r.events line ≡ shown_line H r event
 unfolding shown_line
 shown-is H r event (Audited.Verdict verdict) says shows = ap (λ v. shown_text v r.events (clash_on H r.audit.bridge (event_in event))) says
@@ -146,10 +150,13 @@ module _ (H : List ℕ → Digest) where
         let left : left_by m r (event ∷ events) ≡ next = left-more ∙ left-over events next stops in
         let later = verdicts_on H leaf_text next.audit (map event_in events) in
         let rest = shown_on H next.audit (map event_in events) in
-        let same : clash_text r.events here ≡ clash_text (r.events + 0) here = ap (λ k. clash_text k here) (let z : r.events ≡ r.events + 0 = omega arith in z) in
+        let same : clash_text r.events here ≡ clash_text (r.events + 0) here =
+        ap (λ k. clash_text k here) (let z : r.events ≡ r.events + 0 = omega arith in z) in
         record {
-          said = said-more ∙ ap₂ (λ v w. shown_text v r.events here ++ w) none (said-over events next stops) ∙ append-nil (clash_text r.events here) ∙ same ∙ ap (λ v. lines_with v later rest) (sym none);
-          audit = ap (λ (s : RecheckerState). s.audit) left ∙ ap (λ v. ends_at v next.audit (audit_after H leaf_text next.audit (map event_in events))) (sym none);
+          said = said-more ∙ ap₂ (λ v w. shown_text v r.events here ++ w) none (said-over events next stops) ∙ append-nil (clash_text r.events here)
+              ∙ same ∙ ap (λ v. lines_with v later rest) (sym none);
+          audit = ap (λ (s : RecheckerState). s.audit) left
+              ∙ ap (λ v. ends_at v next.audit (audit_after H leaf_text next.audit (map event_in events))) (sym none);
           ticket = ap (λ (s : RecheckerState). s.ticket) left;
         }
 
@@ -160,8 +167,10 @@ module _ (H : List ℕ → Digest) where
         let rest = shown_on H next.audit (map event_in events) in
         let count : (r.events + 1) + length later ≡ r.events + suc (length later) = omega arith in
         record {
-          said = said-more ∙ ap₂ (λ x w. shown_text x r.events here ++ w) some t.said ∙ ap (λ k. clash_text k rest) count ∙ ap (λ x. lines_with x later rest) (sym some);
-          audit = ap (λ (s : RecheckerState). s.audit) left-more ∙ t.audit ∙ ap (λ x. ends_at x next.audit (audit_after H leaf_text next.audit (map event_in events))) (sym some);
+          said = said-more ∙ ap₂ (λ x w. shown_text x r.events here ++ w) some t.said ∙ ap (λ k. clash_text k rest) count
+              ∙ ap (λ x. lines_with x later rest) (sym some);
+          audit = ap (λ (s : RecheckerState). s.audit) left-more ∙ t.audit
+              ∙ ap (λ x. ends_at x next.audit (audit_after H leaf_text next.audit (map event_in events))) (sym some);
           ticket = ap (λ (s : RecheckerState). s.ticket) left-more ∙ t.ticket;
         }
 
@@ -170,16 +179,20 @@ module _ (H : List ℕ → Digest) where
   is-told [] r going = record { said = refl; audit = refl; ticket = refl }
   is-told (event ∷ events) r going = by (judged_on H leaf_text r.audit.bridge (event_in event)) refl (is-told events (next_rechecker H r event))
     where
-      by : (v : Option Verdict) → judged_on H leaf_text r.audit.bridge (event_in event) ≡ v → ((next_rechecker H r event).audit.ended ≡ false → IsTold (next_rechecker H r event) events) → IsTold r (event ∷ events)
+      by : (v : Option Verdict) → judged_on H leaf_text r.audit.bridge (event_in event) ≡ v
+          → ((next_rechecker H r event).audit.ended ≡ false → IsTold (next_rechecker H r event) events) → IsTold r (event ∷ events)
       by None none later = last-told r event events going none
       by (Some v) some later = more-told r event events going v some (later (ap is_none some))
 
   -- what an auditor keeps is such
-  after-audit : (es : List ChainEvent) (s : AuditState) → AllByRecursion EventFits es → IsAudit H leaf_text s.bridge → IsAudit H leaf_text (audit_after H leaf_text s es).bridge
+  after-audit : (es : List ChainEvent) (s : AuditState) → AllByRecursion EventFits es → IsAudit H leaf_text s.bridge
+      → IsAudit H leaf_text (audit_after H leaf_text s es).bridge
   after-audit [] s fit is = is
-  after-audit (e ∷ es) s fit is = by (judged_on H leaf_text s.bridge e) (next_is_audit H leaf_text s.bridge e is fit.0) (after-audit es (next_audit H leaf_text s e) fit.1 (next_is_audit H leaf_text s.bridge e is fit.0))
+  after-audit (e ∷ es) s fit is = by (judged_on H leaf_text s.bridge e) (next_is_audit H leaf_text s.bridge e is fit.0)
+      (after-audit es (next_audit H leaf_text s e) fit.1 (next_is_audit H leaf_text s.bridge e is fit.0))
     where
-      by : (v : Option Verdict) → IsAudit H leaf_text (next_audit H leaf_text s e).bridge → IsAudit H leaf_text (audit_after H leaf_text (next_audit H leaf_text s e) es).bridge
+      by : (v : Option Verdict) → IsAudit H leaf_text (next_audit H leaf_text s e).bridge
+          → IsAudit H leaf_text (audit_after H leaf_text (next_audit H leaf_text s e) es).bridge
           → IsAudit H leaf_text (ends_at v (next_audit H leaf_text s e) (audit_after H leaf_text (next_audit H leaf_text s e) es)).bridge
       by None next later = next
       by (Some v) next later = later
@@ -190,7 +203,8 @@ wanted_none : (b : Bool) (ending : Option FeedFault) → ending ≡ None → con
 wanted_none true ending e = refl
 wanted_none false ending e = e
 
-module _ (H : List ℕ → Digest) (long : (x : List ℕ) → IsDigest (H x)) (limits : Limits) (few : limits.leaves < 2 ^ 40) (net : Net) (begun : Rechecked) (feed : List ℕ) where
+module _ (H : List ℕ → Digest) (long : (x : List ℕ) → IsDigest (H x)) (limits : Limits) (few : limits.leaves < 2 ^ 40) (net : Net) (begun : Rechecked)
+    (feed : List ℕ) where
   abbrev scripts : List (List ℕ)
   scripts = scripts_of begun.list
 
@@ -235,11 +249,15 @@ module _ (H : List ℕ → Digest) (long : (x : List ℕ) → IsDigest (H x)) (l
   unfolding recheck_end
   end-is = ap₂ (λ (a : AuditState) (k : List ℕ). end_unless a.ended (told_as (recheck_of H a.bridge k))) t.audit t.ticket
 
-  answer-is : recheck_answer H limits net begun feed ≡ answer_with (clash_text (length (verdicts_on H leaf_text fresh.audit es)) shows) [] (end_with behind.ended behind.bridge) (cond behind.ended None ending)
+  answer-is : recheck_answer H limits net begun feed ≡ answer_with (clash_text (length (verdicts_on H leaf_text fresh.audit es)) shows) []
+      (end_with behind.ended behind.bridge) (cond behind.ended None ending)
   unfolding served_feed
   answer-is =
-      ap₂ (λ l w. answer_with l w (recheck_end H last) (wanted_end (recheck_machine H) last ending)) (t.said ∙ ap (λ k. clash_text k shows) (let z : 0 + length (verdicts_on H leaf_text fresh.audit es) ≡ length (verdicts_on H leaf_text fresh.audit es) = omega arith in z)) (sent-none H events fresh)
-      ∙ ap₂ (λ a b. answer_with (clash_text (length (verdicts_on H leaf_text fresh.audit es)) shows) [] a (cond b None ending)) end-is (ap (λ (s : AuditState). s.ended) t.audit)
+      ap₂ (λ l w. answer_with l w (recheck_end H last) (wanted_end (recheck_machine H) last ending))
+      (t.said ∙ ap (λ k. clash_text k shows) (let z : 0 + length (verdicts_on H leaf_text fresh.audit es)
+      ≡ length (verdicts_on H leaf_text fresh.audit es) = omega arith in z)) (sent-none H events fresh)
+      ∙ ap₂ (λ a b. answer_with (clash_text (length (verdicts_on H leaf_text fresh.audit es)) shows) [] a (cond b None ending)) end-is
+      (ap (λ (s : AuditState). s.ended) t.audit)
 
   -- ---- no event is forged
 
@@ -250,7 +268,8 @@ module _ (H : List ℕ → Digest) (long : (x : List ℕ) → IsDigest (H x)) (l
     answered : recheck_answer H limits net begun feed ≡ told_as (recheck_of H behind.bridge begun.ticket)
     answered =
         answer-is
-        ∙ ap₂ (λ x b. answer_with (clash_text (length (verdicts_on H leaf_text fresh.audit es)) x) [] (end_with b behind.bridge) (cond b None ending)) (shown-none H es fresh.audit goes-on) goes-on
+        ∙ ap₂ (λ x b. answer_with (clash_text (length (verdicts_on H leaf_text fresh.audit es)) x) [] (end_with b behind.bridge) (cond b None ending))
+        (shown-none H es fresh.audit goes-on) goes-on
         ∙ ap (answer_with [] [] (told_as (recheck_of H behind.bridge begun.ticket))) whole
 
     fits : AllByRecursion EventFits es
@@ -272,13 +291,15 @@ module _ (H : List ℕ → Digest) (long : (x : List ℕ) → IsDigest (H x)) (l
         rechecked_by H behind.bridge k,
         answered ∙ ap (λ r. told_as (said_of (rechecked_by H behind.bridge) r)) e,
         subst (λ (h : History). IsRechecked H h state.now.tip k (rechecked_by H behind.bridge k)) history_is
-            (subst (λ (d : Digest). IsRechecked H (history_of behind.bridge) d k (rechecked_by H behind.bridge k)) tip_is (rechecked_is_right H long behind.bridge k audit (ticket_fits begun.ticket k ticket_bytes e))),
+            (subst (λ (d : Digest). IsRechecked H (history_of behind.bridge) d k (rechecked_by H behind.bridge k)) tip_is
+            (rechecked_is_right H long behind.bridge k audit (ticket_fits begun.ticket k ticket_bytes e))),
       );
     }
 
   -- ---- the first that is forged
 
-  module _ (front later : List FeedEvent) (event : FeedEvent) (bytes : IsBytes feed) (split : events ≡ front ++ event ∷ later) (f : IsForgedBehind H limits net scripts front event) where
+  module _ (front later : List FeedEvent) (event : FeedEvent) (bytes : IsBytes feed) (split : events ≡ front ++ event ∷ later)
+      (f : IsForgedBehind H limits net scripts front event) where
     abbrev forging : ChainEvent
     forging = BlockCame (Some f.block) (read f.message)
 
@@ -291,11 +312,14 @@ module _ (H : List ℕ → Digest) (long : (x : List ℕ) → IsDigest (H x)) (l
     block_fits : BlockFits f.block
     block_fits = subst EventFits f.is (read_event_fits event (block_bytes event made.1))
 
-    shown_there : AreShown H (shown_on H (fresh_audit net limits scripts) (map event_in front ++ forging ∷ map event_in later)) scripts (level_behind H limits net scripts front) f.block f.message
-    shown_there = fresh_shows_forged H long net limits scripts few (map event_in front) (map event_in later) f.block f.message (all_fit front made.0) block_fits (message_fits event f.block f.message made.1 f.is) f.honest f.forged
+    shown_there : AreShown H (shown_on H (fresh_audit net limits scripts) (map event_in front ++ forging ∷ map event_in later)) scripts
+        (level_behind H limits net scripts front) f.block f.message
+    shown_there = fresh_shows_forged H long net limits scripts few (map event_in front) (map event_in later) f.block f.message (all_fit front made.0)
+        block_fits (message_fits event f.block f.message made.1 f.is) f.honest f.forged
 
     stopped : Stops H scripts rules start (map event_in front) (map event_in later) forging
-    stopped = stops-at H scripts rules (map event_in front) (map event_in later) forging start f.honest (no-verdict H scripts rules (full_after H leaf_text scripts rules start (map event_in front)) f.block (read f.message) f.forged)
+    stopped = stops-at H scripts rules (map event_in front) (map event_in later) forging start f.honest
+        (no-verdict H scripts rules (full_after H leaf_text scripts rules start (map event_in front)) f.block (read f.message) f.forged)
 
     ended-is : behind.ended ≡ true
     ended-is = throughout.ended ∙ ap not (ap (never_stops rules (full_judge H leaf_text scripts rules) start) split_in ∙ stopped.stops)
@@ -305,13 +329,15 @@ module _ (H : List ℕ → Digest) (long : (x : List ℕ) → IsDigest (H x)) (l
         ap length (throughout.said ∙ (ap (λ x. full_verdicts H leaf_text scripts rules start x) split_in ∙ stopped.said))
         ∙ (all-told H scripts rules (map event_in front) start f.honest ∙ length-map front event_in)
 
-    shows-alone : ShowsAlone H (level_behind H limits net scripts front) (length front) f.block f.message scripts (recheck_answer H limits net begun feed)
+    shows-alone : ShowsAlone H (level_behind H limits net scripts front) (length front) f.block f.message scripts
+        (recheck_answer H limits net begun feed)
     shows-alone = record {
       clash = shown_there.clash;
       is = shown_there.is;
       answered =
           answer-is
-          ∙ ap (λ b. answer_with (clash_text (length (verdicts_on H leaf_text fresh.audit es)) shows) [] (end_with b behind.bridge) (cond b None ending)) ended-is
+          ∙ ap (λ b. answer_with (clash_text (length (verdicts_on H leaf_text fresh.audit es)) shows) [] (end_with b behind.bridge)
+          (cond b None ending)) ended-is
           ∙ ap (λ l. let a : Answer = record { status = Statuses.Clash; report = l; out = [] } in a)
           (append-nil (clash_text (length (verdicts_on H leaf_text fresh.audit es)) shows)
           ∙ ap₂ clash_text count_is (ap (shown_on H (fresh_audit net limits scripts)) split_in ∙ shown_there.shows));
@@ -320,16 +346,19 @@ module _ (H : List ℕ → Digest) (long : (x : List ℕ) → IsDigest (H x)) (l
   rechecks-feed : RechecksFeed H limits net begun feed
   rechecks-feed = record { honest = rechecks-over; forged = shows-alone }
 
-pub recheck-claims : (H : List ℕ → Digest) → ((x : List ℕ) → IsDigest (H x)) → (limits : Limits) → limits.leaves < 2 ^ 40 → (net : Net) (feed : List ℕ) (begun : Result Rechecked BadInput) → RechecksAsBegun H limits net feed begun
+pub recheck-claims : (H : List ℕ → Digest) → ((x : List ℕ) → IsDigest (H x)) → (limits : Limits) → limits.leaves < 2 ^ 40
+    → (net : Net) (feed : List ℕ) (begun : Result Rechecked BadInput) → RechecksAsBegun H limits net feed begun
 recheck-claims H long limits few net feed (Ok begun) = rechecks-feed H long limits few net begun feed
 recheck-claims H long limits few net feed (Err bad) = tt
 
 -- ---- how it ends
 
-pub recheck-good : (named : Bool) (limit : ℕ) (prior watch : List ℕ) → length prior ≤ limit → (list : Option (List (List ℕ))) → list_in named limit watch ≡ Ok list → recheck_start named limit prior watch ≡ Ok (record { ticket = prior; list = list })
+pub recheck-good : (named : Bool) (limit : ℕ) (prior watch : List ℕ) → length prior ≤ limit → (list : Option (List (List ℕ)))
+    → list_in named limit watch ≡ Ok list → recheck_start named limit prior watch ≡ Ok (record { ticket = prior; list = list })
 unfolding recheck_start
 recheck-good named limit prior watch short list usable =
-    ap (λ (b : Bool). if b then Err (long_prior limit) else with_list prior (list_in named limit watch)) (le-ltb limit (length prior) short) ∙ ap (with_list prior) usable
+    ap (λ (b : Bool). if b then Err (long_prior limit) else with_list prior (list_in named limit watch)) (le-ltb limit (length prior) short)
+    ∙ ap (with_list prior) usable
 
 told-ends : (c : Checked) → IsEnd (told_as c).status ⊎ ((told_as c).status ≡ Statuses.Clash)
 told-ends Said.Form = inl (inr (inl refl))
@@ -343,13 +372,15 @@ end-ends : (forged : Bool) (c : Checked) → IsEnd (end_unless forged (told_as c
 end-ends true c = inr refl
 end-ends false c = told-ends c
 
-pub recheck-ends : (H : List ℕ → Digest) (limits : Limits) (net : Net) (begun : Rechecked) (feed : List ℕ) → (events_of net limits.bytes feed).ending ≡ None
+pub recheck-ends : (H : List ℕ → Digest) (limits : Limits) (net : Net) (begun : Rechecked) (feed : List ℕ)
+    → (events_of net limits.bytes feed).ending ≡ None
     → IsEnd (recheck_answer H limits net begun feed).status ⊎ ((recheck_answer H limits net begun feed).status ≡ Statuses.Clash)
 unfolding served_feed recheck_end
 recheck-ends H limits net begun feed whole =
     let events = events_of net limits.bytes feed in
     let last = left_by (recheck_machine H) (rechecker_of limits net begun) events.events in
-    subst (λ (x : Option FeedFault). IsEnd (last_of (recheck_end H last) (bad_end x)).status ⊎ ((last_of (recheck_end H last) (bad_end x)).status ≡ Statuses.Clash)) (sym (wanted_none last.audit.ended events.ending whole))
+    subst (λ (x : Option FeedFault). IsEnd (last_of (recheck_end H last) (bad_end x)).status
+    ⊎ ((last_of (recheck_end H last) (bad_end x)).status ≡ Statuses.Clash)) (sym (wanted_none last.audit.ended events.ending whole))
     (end-ends last.audit.ended (recheck_of H last.audit.bridge last.ticket))
 
 -- ---- what is said at the end
@@ -362,15 +393,18 @@ pub over-said : (H : List ℕ → Digest) (r : RecheckerState) (text : List ℕ)
 unfolding recheck_end
 over-said H r text e = sym (ap (λ b. text ++ (end_unless b (told_as (recheck_of H r.audit.bridge r.ticket))).report) e ∙ append-nil text)
 
-going-end : (H : List ℕ → Digest) (r : RecheckerState) (c : Checked) → r.audit.ended ≡ false → c ≡ recheck_of H r.audit.bridge r.ticket → told_as c ≡ recheck_end H r
+going-end : (H : List ℕ → Digest) (r : RecheckerState) (c : Checked) → r.audit.ended ≡ false → c ≡ recheck_of H r.audit.bridge r.ticket
+    → told_as c ≡ recheck_end H r
 unfolding recheck_end
 going-end H r c e is = ap told_as is ∙ sym (ap (λ b. end_unless b (told_as (recheck_of H r.audit.bridge r.ticket))) e)
 
-pub going-status : (H : List ℕ → Digest) (r : RecheckerState) (c : Checked) {E : Type 0} (x : Result Status E) → r.audit.ended ≡ false → c ≡ recheck_of H r.audit.bridge r.ticket → IfOk x (λ status. status ≡ (told_as c).status)
+pub going-status : (H : List ℕ → Digest) (r : RecheckerState) (c : Checked) {E : Type 0} (x : Result Status E) → r.audit.ended ≡ false
+    → c ≡ recheck_of H r.audit.bridge r.ticket → IfOk x (λ status. status ≡ (told_as c).status)
     → IfOk x (λ status. status ≡ (recheck_end H r).status)
 going-status H r c x e is p = subst (λ (a : Answer). IfOk x (λ status. status ≡ a.status)) (going-end H r c e is) p
 
-pub going-said : (H : List ℕ → Digest) (r : RecheckerState) (c : Checked) {T E : Type 0} (x : Result T E) (old new : List ℕ) → r.audit.ended ≡ false → c ≡ recheck_of H r.audit.bridge r.ticket → OnOk x (new ≡ old ++ (told_as c).report)
+pub going-said : (H : List ℕ → Digest) (r : RecheckerState) (c : Checked) {T E : Type 0} (x : Result T E) (old new : List ℕ) → r.audit.ended ≡ false
+    → c ≡ recheck_of H r.audit.bridge r.ticket → OnOk x (new ≡ old ++ (told_as c).report)
     → OnOk x (new ≡ old ++ (recheck_end H r).report)
 going-said H r c x old new e is p = subst (λ (a : Answer). OnOk x (new ≡ old ++ a.report)) (going-end H r c e is) p
 
@@ -404,50 +438,73 @@ last-quiet : (a : Answer) (bad : Option (Status × Line)) → a.out ≡ [] → (
 last-quiet a None e = e
 last-quiet a (Some (status, line)) e = refl
 
-stores : (H : List ℕ → Digest) (r : RecheckerState) (net : Net) (limit : ℕ) (text : List ℕ) → (served_feed (recheck_machine H) r net limit text).out ≡ []
+stores : (H : List ℕ → Digest) (r : RecheckerState) (net : Net) (limit : ℕ) (text : List ℕ)
+    → (served_feed (recheck_machine H) r net limit text).out ≡ []
 unfolding served_feed
 stores H r net limit text =
     let events = events_of net limit text in
     let last = left_by (recheck_machine H) r events.events in
-    ap₂ (λ w o. w ++ o) (sent-none H events.events r) (last-quiet (recheck_end H last) (bad_end (wanted_end (recheck_machine H) last events.ending)) (end-quiet H last))
+    ap₂ (λ w o. w ++ o) (sent-none H events.events r)
+    (last-quiet (recheck_end H last) (bad_end (wanted_end (recheck_machine H) last events.ending)) (end-quiet H last))
 
-pub serves-quietly : (H : List ℕ → Digest) (r : RecheckerState) (net : Net) (limit : ℕ) {feed feed' report report' o o' : Option (List ℕ)} (out : Option (List ℕ)) (stopped : Bool) (status : Status)
-    → Serves (said_by (recheck_machine H) r) (sent_by (recheck_machine H) r) (served_feed (recheck_machine H) r net limit) net limit feed feed' report report' o o' stopped status
-    → Serves (said_by (recheck_machine H) r) (λ events. []) (served_feed (recheck_machine H) r net limit) net limit feed feed' report report' out out stopped status
+pub serves-quietly : (H : List ℕ → Digest) (r : RecheckerState) (net : Net) (limit : ℕ) {feed feed' report report' o o' : Option (List ℕ)}
+    (out : Option (List ℕ)) (stopped : Bool) (status : Status)
+    → Serves (said_by (recheck_machine H) r) (sent_by (recheck_machine H) r) (served_feed (recheck_machine H) r net limit) net limit feed feed' report
+    report' o o' stopped status
+    → Serves (said_by (recheck_machine H) r) (λ events. []) (served_feed (recheck_machine H) r net limit) net limit feed feed' report report' out out
+    stopped status
 serves-quietly H r net limit {o = o} {o' = o'} out stopped status s =
-    Serves-quiet (stores H r net limit) o o' out stopped status (Serves-same (λ events. refl) (λ events. sent-none H events r) (λ text. refl) stopped status s)
+    Serves-quiet (stores H r net limit) o o' out stopped status
+    (Serves-same (λ events. refl) (λ events. sent-none H events r) (λ text. refl) stopped status s)
 
 -- the handler of the events alone takes them as the machine does
-pub takes-all : (H : List ℕ → Digest) (start : RecheckerState) (net : Net) (limit : ℕ) (state : RecheckerState) (feed report report' out out' : Option (List ℕ)) (ending : Option FeedFault)
-    → TakesAll (machine_ending H silent_end) start net limit state feed report report' out out' ending → TakesAll (recheck_machine H) start net limit state feed report report' out out' ending
-takes-all H start net limit state feed report report' out out' ending t = record { text = t.text; told = t.told; ends = t.ends; reached = t.reached; reported = t.reported; sent = t.sent }
+pub takes-all : (H : List ℕ → Digest) (start : RecheckerState) (net : Net) (limit : ℕ) (state : RecheckerState)
+    (feed report report' out out' : Option (List ℕ)) (ending : Option FeedFault)
+    → TakesAll (machine_ending H silent_end) start net limit state feed report report' out out' ending
+    → TakesAll (recheck_machine H) start net limit state feed report report' out out' ending
+takes-all H start net limit state feed report report' out out' ending t =
+    record { text = t.text; told = t.told; ends = t.ends; reached = t.reached; reported = t.reported; sent = t.sent }
 
 -- ---- what it begins with
 
-pub start-long : (named : Bool) (limit : ℕ) (prior watch : List ℕ) (bad : BadInput) → bad ≡ long_prior limit → limit < length prior → Err bad ≡ recheck_start named limit prior watch
+pub start-long : (named : Bool) (limit : ℕ) (prior watch : List ℕ) (bad : BadInput) → bad ≡ long_prior limit → limit < length prior
+    → Err bad ≡ recheck_start named limit prior watch
 unfolding recheck_start
 start-long named limit prior watch bad is long =
-    ap (λ b. Err b) is ∙ sym (ap (λ (b : Bool). if b then Err (long_prior limit) else with_list prior (list_in named limit watch)) (lt-ltb limit (length prior) long))
+    ap (λ b. Err b) is ∙ sym (ap (λ (b : Bool). if b then Err (long_prior limit) else with_list prior (list_in named limit watch))
+    (lt-ltb limit (length prior) long))
 
-pub start-read : (named : Bool) (limit : ℕ) (prior watch : List ℕ) (list : Result (Option (List (List ℕ))) BadInput) → length prior ≤ limit → list ≡ list_in named limit watch → with_list prior list ≡ recheck_start named limit prior watch
+pub start-read : (named : Bool) (limit : ℕ) (prior watch : List ℕ) (list : Result (Option (List (List ℕ))) BadInput) → length prior ≤ limit
+    → list ≡ list_in named limit watch → with_list prior list ≡ recheck_start named limit prior watch
 unfolding recheck_start
 start-read named limit prior watch list short is =
-    ap (with_list prior) is ∙ sym (ap (λ (b : Bool). if b then Err (long_prior limit) else with_list prior (list_in named limit watch)) (le-ltb limit (length prior) short))
+    ap (with_list prior) is ∙ sym (ap (λ (b : Bool). if b then Err (long_prior limit) else with_list prior (list_in named limit watch))
+    (le-ltb limit (length prior) short))
 
 -- by the rechecker that it begins with
-pub serves-begun : (H : List ℕ → Digest) (r begun : RecheckerState) (net : Net) (limit : ℕ) {feed feed' report report' out : Option (List ℕ)} (stopped : Bool) (status : Status) → r ≡ begun
-    → Serves (said_by (recheck_machine H) r) (λ events. []) (served_feed (recheck_machine H) r net limit) net limit feed feed' report report' out out stopped status
-    → Serves (said_by (recheck_machine H) begun) (λ events. []) (served_feed (recheck_machine H) begun net limit) net limit feed feed' report report' out out stopped status
+pub serves-begun : (H : List ℕ → Digest) (r begun : RecheckerState) (net : Net) (limit : ℕ) {feed feed' report report' out : Option (List ℕ)}
+    (stopped : Bool) (status : Status) → r ≡ begun
+    → Serves (said_by (recheck_machine H) r) (λ events. []) (served_feed (recheck_machine H) r net limit) net limit feed feed' report report' out out
+    stopped status
+    → Serves (said_by (recheck_machine H) begun) (λ events. []) (served_feed (recheck_machine H) begun net limit) net limit feed feed' report report'
+    out out stopped status
 serves-begun H r begun net limit {feed = feed} {feed' = feed'} {report = report} {report' = report'} {out = out} stopped status e s =
-    subst (λ (x : RecheckerState). Serves (said_by (recheck_machine H) x) (λ events. []) (served_feed (recheck_machine H) x net limit) net limit feed feed' report report' out out stopped status) e s
+    subst (λ (x : RecheckerState). Serves (said_by (recheck_machine H) x) (λ events. []) (served_feed (recheck_machine H) x net limit) net limit feed
+    feed' report report' out out stopped status) e s
 
 -- all events were taken, and then the last line or a part of it was written
-pub serves-judged : (H : List ℕ → Digest) (start : RecheckerState) (net : Net) (limit : ℕ) (feed feed' report report' report'' o o' : Option (List ℕ)) (state : RecheckerState) (ending : Option FeedFault)
-    → TakesAll (machine_ending H silent_end) start net limit state feed report report' o o' ending → (is : Answer) → is ≡ last_of (recheck_end H state) (bad_end ending) → is.out ≡ [] → (out : Option (List ℕ))
-    → (r : Result Status Stop) → IfOk r (λ status. status ≡ is.status) → OnOk r (Appends report' report'' is.report) → AppendsPart report' report'' is.report → (IsErrOf r Stop.ReadFault → ⊥)
+pub serves-judged : (H : List ℕ → Digest) (start : RecheckerState) (net : Net) (limit : ℕ) (feed feed' report report' report'' o o' : Option (List ℕ))
+    (state : RecheckerState) (ending : Option FeedFault)
+    → TakesAll (machine_ending H silent_end) start net limit state feed report report' o o' ending → (is : Answer)
+    → is ≡ last_of (recheck_end H state) (bad_end ending) → is.out ≡ [] → (out : Option (List ℕ))
+    → (r : Result Status Stop) → IfOk r (λ status. status ≡ is.status) → OnOk r (Appends report' report'' is.report)
+    → AppendsPart report' report'' is.report → (IsErrOf r Stop.ReadFault → ⊥)
     → KeepsUp (said_by (recheck_machine H) start) net limit feed feed' report report'
-    → Serves (said_by (recheck_machine H) start) (λ events. []) (served_feed (recheck_machine H) start net limit) net limit feed feed' report report'' out out (is_err r) (status_in r)
+    → Serves (said_by (recheck_machine H) start) (λ events. []) (served_feed (recheck_machine H) start net limit) net limit feed feed' report report''
+    out out (is_err r) (status_in r)
 serves-judged H start net limit feed feed' report report' report'' o o' state ending t is e quiet out r p q part never kept =
     let none : Appends o' o' is.out = subst (Appends o' o') (sym quiet) (Appends-nil o') in
     serves-quietly H start net limit out (is_err r) (status_in r)
-    (serves-last (recheck_machine H) start net limit feed feed' report report' report'' o o' o' state ending (takes-all H start net limit state feed report report' o o' ending t) is e r p q (OnOk-any r none) part (AppendsPart-none o' is.out) (inr none) never kept)
+    (serves-last (recheck_machine H) start net limit feed feed' report report' report'' o o' o' state ending
+    (takes-all H start net limit state feed report report' o o' ending t) is e r p q (OnOk-any r none) part (AppendsPart-none o' is.out)
+    (inr none) never kept)

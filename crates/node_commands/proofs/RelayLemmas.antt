@@ -1,5 +1,7 @@
 -- What `relay` writes of a feed is what comes of the acts of its script.
-use Rattle.std.proofs.Common.{◌≡◌, ℕ, zero, suc, ◌+◌, ◌<◌, ◌≤◌, ◌^◌, Bool, true, false, cond, ◌||◌, List, [], ◌∷◌, ◌++◌, length, Option, Some, None, Result, Ok, Err, IfOk, OnOk, IsErr, IsErrOf, IsErrAnd, is_err, inr, refl, sym, ap, ap₂, subst, ◌∙◌, arith, append_assoc, append-nil}
+use Rattle.std.proofs.Common.{◌≡◌, ℕ, zero, suc, ◌+◌, ◌<◌, ◌≤◌, ◌^◌, Bool, true, false, cond, ◌||◌, List, [], ◌∷◌, ◌++◌, length, Option, Some, None}
+use Rattle.std.proofs.Common.{Result, Ok, Err, IfOk, OnOk, IsErr, IsErrOf, IsErrAnd, is_err, inr, refl, sym, ap, ap₂, subst, ◌∙◌, arith, append_assoc}
+use Rattle.std.proofs.Common.{append-nil}
 use Rattle.std.specs.Prelude.{is_none, option_map, drop, slice_get, IfSome}
 use Rattle.std.specs.List.{AllByRecursion, flat_map, list_any}
 use Rattle.std.specs.Io.KnownBytes.{Appends}
@@ -39,9 +41,12 @@ use Rattle.report_lines.specs.declared.line.Line as Lines
 use Rattle.report_lines.specs.declared.line.Line.TheVariants as Line
 use Rattle.report_lines.specs.Lines.{whole_line}
 use Rattle.node_commands.specs.Answers.{bad_end, last_of, answer_with}
-use Rattle.node_commands.specs.Relayer.{outcome_line, outcome_lines, is_undone, acts_of, script_acts, outcomes_of, world_behind, node_lines, relay_end, relay_answer, RelayState, fresh_relay, turn_of, behind_bridge, own_act, acted, relayed, next_relay, turn_lines, relay_last, relay_machine, relayed_feed, IsLineTaken, IsPlayed, node_line}
+use Rattle.node_commands.specs.Relayer.{outcome_line, outcome_lines, is_undone, acts_of, script_acts, outcomes_of, world_behind, node_lines}
+use Rattle.node_commands.specs.Relayer.{relay_end, relay_answer, RelayState, fresh_relay, turn_of, behind_bridge, own_act, acted, relayed, next_relay}
+use Rattle.node_commands.specs.Relayer.{turn_lines, relay_last, relay_machine, relayed_feed, IsLineTaken, IsPlayed, node_line}
 use Rattle.node_commands.specs.declared.bad_input.BadInput.{BadInput}
-use Rattle.node_commands.specs.Relaying.{RelayStart, RelaysOnBranches, prior_text, IsPriorOf, script_by, script_of, script_start, lists_for, relay_start}
+use Rattle.node_commands.specs.Relaying.{RelayStart, RelaysOnBranches, prior_text, IsPriorOf, script_by, script_of, script_start, lists_for}
+use Rattle.node_commands.specs.Relaying.{relay_start}
 use Rattle.node_commands.specs.Runs.{Serves, status_in}
 use Rattle.node_commands.proofs.ForgingLemmas.{block_bytes}
 use Rattle.node_commands.proofs.FollowLemmas.{or_none, or_again}
@@ -62,12 +67,14 @@ module _ (H : List ℕ → Digest) where
   behind-append (None ∷ xs) ys w = behind-append xs ys w
   behind-append (Some act ∷ xs) ys w = behind-append xs ys (next_world H leaf_text w act)
 
-  outcomes-append : (xs ys : List (Option WorldAct)) (w : WorldState) → outcomes_of H w (xs ++ ys) ≡ outcomes_of H w xs ++ outcomes_of H (world_behind H w xs) ys
+  outcomes-append : (xs ys : List (Option WorldAct)) (w : WorldState)
+      → outcomes_of H w (xs ++ ys) ≡ outcomes_of H w xs ++ outcomes_of H (world_behind H w xs) ys
   outcomes-append [] ys w = refl
   outcomes-append (None ∷ xs) ys w = ap (λ os. None ∷ os) (outcomes-append xs ys w)
   outcomes-append (Some act ∷ xs) ys w = ap (λ os. Some (outcome_on w act) ∷ os) (outcomes-append xs ys (next_world H leaf_text w act))
 
-  relayed-append : (xs ys : List (Option WorldAct)) (r : RelayState) (mid left : List ScriptLine) → relayed H r (xs ++ ys) left ≡ relayed H (relayed H r xs mid) ys left
+  relayed-append : (xs ys : List (Option WorldAct)) (r : RelayState) (mid left : List ScriptLine)
+      → relayed H r (xs ++ ys) left ≡ relayed H (relayed H r xs mid) ys left
   relayed-append xs ys r mid left =
       let made : WorldState → Bool → RelayState = λ w b. record { world = w; script = left; lines = r.lines; refused = b } in
       ap₂ (λ w os. made w (r.refused || list_any is_undone os)) (behind-append xs ys r.world) (outcomes-append xs ys r.world)
@@ -76,7 +83,8 @@ module _ (H : List ℕ → Digest) where
       ∙ sym (or_again r.refused (list_any is_undone (outcomes_of H r.world xs)) (list_any is_undone (outcomes_of H (world_behind H r.world xs) ys))))
 
   -- one act first
-  relayed-one : (r : RelayState) (act : WorldAct) (acts : List (Option WorldAct)) (left : List ScriptLine) → relayed H r (Some act ∷ acts) left ≡ relayed H (acted H r act) acts left
+  relayed-one : (r : RelayState) (act : WorldAct) (acts : List (Option WorldAct)) (left : List ScriptLine)
+      → relayed H r (Some act ∷ acts) left ≡ relayed H (acted H r act) acts left
   relayed-one r act acts left =
       let w = next_world H leaf_text r.world act in
       let made : Bool → RelayState = λ b. record { world = world_behind H w acts; script = left; lines = r.lines; refused = b } in
@@ -87,7 +95,8 @@ module _ (H : List ℕ → Digest) where
   relayed-none r = ap (λ b. let t : RelayState = record r { refused = b } in t) (sym (or_none r.refused))
 
 -- an event makes the acts up to the next bridge
-acts-turn : (whole : Bool) (script : List ScriptLine) (event : FeedEvent) (events : List FeedEvent) → acts_of whole script (event ∷ events) ≡ turn_of event script ++ acts_of whole (behind_bridge script) events
+acts-turn : (whole : Bool) (script : List ScriptLine) (event : FeedEvent) (events : List FeedEvent)
+    → acts_of whole script (event ∷ events) ≡ turn_of event script ++ acts_of whole (behind_bridge script) events
 acts-turn whole [] event events = refl
 acts-turn whole (Script.Bridge ∷ script) event events = refl
 acts-turn whole (Script.Ask f ∷ script) event events = ap (λ l. Some (FollowerAsked f) ∷ l) (acts-turn whole script event events)
@@ -101,7 +110,8 @@ module _ (H : List ℕ → Digest) (whole : Bool) where
   abbrev left : RelayState → List FeedEvent → List (Option WorldAct)
   left r events = acts_of whole (left_by (relay_machine H) r events).script []
 
-  left-told : (events : List FeedEvent) (r : RelayState) → relayed H (left_by (relay_machine H) r events) (left r events) [] ≡ relayed H r (acts_of whole r.script events) []
+  left-told : (events : List FeedEvent) (r : RelayState) → relayed H (left_by (relay_machine H) r events) (left r events) []
+      ≡ relayed H r (acts_of whole r.script events) []
   unfolding next_relay
   left-told [] r = refl
   left-told (event ∷ events) r =
@@ -110,14 +120,16 @@ module _ (H : List ℕ → Digest) (whole : Bool) where
       ∙ ap (λ acts. relayed H r acts []) (sym (acts-turn whole r.script event events)))
 
   said-told : (events : List FeedEvent) (r : RelayState) →
-      said_by (relay_machine H) r events ++ outcome_lines (outcomes_of H (left_by (relay_machine H) r events).world (left r events)) ≡ outcome_lines (outcomes_of H r.world (acts_of whole r.script events))
+      said_by (relay_machine H) r events ++ outcome_lines (outcomes_of H (left_by (relay_machine H) r events).world (left r events))
+      ≡ outcome_lines (outcomes_of H r.world (acts_of whole r.script events))
   unfolding next_relay turn_lines
   said-told [] r = refl
   said-told (event ∷ events) r =
       let s = next_relay H r event in
       let turn = turn_of event r.script in
       let rest = acts_of whole (behind_bridge r.script) events in
-      append_assoc (turn_lines H r event) (said_by (relay_machine H) s events) (outcome_lines (outcomes_of H (left_by (relay_machine H) s events).world (left s events)))
+      append_assoc (turn_lines H r event) (said_by (relay_machine H) s events)
+      (outcome_lines (outcomes_of H (left_by (relay_machine H) s events).world (left s events)))
       ∙ (ap (λ l. turn_lines H r event ++ l) (said-told events s)
       ∙ (sym (lines-append (outcomes_of H r.world turn) (outcomes_of H (world_behind H r.world turn) rest))
       ∙ (ap outcome_lines (sym (outcomes-append H turn rest r.world))
@@ -132,7 +144,8 @@ last-out at_end none None = none
 last-out at_end none (Some (status, line)) = refl
 
 module _ (H : List ℕ → Digest) (limits : Limits) (net : Net) (lists : List (List (List ℕ))) (script : List ScriptLine) where
-  relayed-is : (feed : List ℕ) → relayed_feed H (fresh_relay limits net lists script) net limits.bytes feed ≡ relay_answer H limits net lists script feed
+  relayed-is : (feed : List ℕ) → relayed_feed H (fresh_relay limits net lists script) net limits.bytes feed
+      ≡ relay_answer H limits net lists script feed
   unfolding relayed_feed relay_last relay_answer
   relayed-is feed =
       let events = events_of net limits.bytes feed in
@@ -150,18 +163,24 @@ module _ (H : List ℕ → Digest) (limits : Limits) (net : Net) (lists : List (
       let all = relayed H r (acts_of whole script events.events) [] in
       ap (λ l. let a : Answer = record { status = (end s).status; report = l; out = [] } in a) (sym (append_assoc said later (end s).report))
       ∙ (ap₂ made (left-told H whole events.events r) (said-told H whole events.events r)
-      ∙ ap (λ o. let a : Answer = record { status = (end all).status; report = lines ++ (end all).report; out = o } in a) (sym (last-out (relay_end all.refused all.lines all.world) refl bad)))
+      ∙ ap (λ o. let a : Answer = record { status = (end all).status; report = lines ++ (end all).report; out = o } in
+      a) (sym (last-out (relay_end all.refused all.lines all.world) refl bad)))
 
   -- so what a call over it gave is this
-  pub relay-serves : (r : RelayState) → r ≡ fresh_relay limits net lists script → {feed feed' report report' out out' : Option (List ℕ)} (stopped : Bool) (status : Status)
-      → Serves (said_by (relay_machine H) r) (λ events. []) (relayed_feed H r net limits.bytes) net limits.bytes feed feed' report report' out out' stopped status
-      → Serves (said_by (relay_machine H) (fresh_relay limits net lists script)) (λ events. []) (relay_answer H limits net lists script) net limits.bytes feed feed' report report' out out' stopped status
+  pub relay-serves : (r : RelayState) → r ≡ fresh_relay limits net lists script
+      → {feed feed' report report' out out' : Option (List ℕ)} (stopped : Bool) (status : Status)
+      → Serves (said_by (relay_machine H) r) (λ events. []) (relayed_feed H r net limits.bytes) net limits.bytes feed feed' report report' out out'
+      stopped status
+      → Serves (said_by (relay_machine H) (fresh_relay limits net lists script)) (λ events. []) (relay_answer H limits net lists script) net
+      limits.bytes feed feed' report report' out out' stopped status
   relay-serves r e stopped status s =
-      Serves-same (λ events. ap (λ t. said_by (relay_machine H) t events) e) (λ events. refl) (λ text. ap (λ t. relayed_feed H t net limits.bytes text) e ∙ relayed-is text) stopped status s
+      Serves-same (λ events. ap (λ t. said_by (relay_machine H) t events) e) (λ events. refl)
+      (λ text. ap (λ t. relayed_feed H t net limits.bytes text) e ∙ relayed-is text) stopped status s
 
 -- ---- where the followers are
 
-acts_bytes : (whole : Bool) (script : List ScriptLine) (events : List FeedEvent) → AllByRecursion IsMadeOfBytes events → AllByRecursion AreActBytes (somes (acts_of whole script events))
+acts_bytes : (whole : Bool) (script : List ScriptLine) (events : List FeedEvent) → AllByRecursion IsMadeOfBytes events
+    → AllByRecursion AreActBytes (somes (acts_of whole script events))
 acts_bytes whole [] events h = tt
 acts_bytes true (Script.Bridge ∷ script) [] h = acts_bytes true script [] h
 acts_bytes false (Script.Bridge ∷ script) [] h = tt
@@ -170,7 +189,8 @@ acts_bytes whole (Script.Ask f ∷ script) events h = (tt, acts_bytes whole scri
 acts_bytes whole (Script.Serve j ∷ script) events h = (tt, acts_bytes whole script events h)
 acts_bytes whole (Script.Deliver f j ∷ script) events h = (tt, acts_bytes whole script events h)
 
-module _ (H : List ℕ → Digest) (long : (x : List ℕ) → length (H x).0 ≡ 32) (limits : Limits) (few : limits.leaves < 2 ^ 40) (short : limits.bytes ≤ 2 ^ 48) (net : Net) (feed : List ℕ) where
+module _ (H : List ℕ → Digest) (long : (x : List ℕ) → length (H x).0 ≡ 32) (limits : Limits) (few : limits.leaves < 2 ^ 40)
+    (short : limits.bytes ≤ 2 ^ 48) (net : Net) (feed : List ℕ) where
   on-branches : (start : RelayStart) → RelaysOnBranches H limits net start feed
   on-branches start = record {
     on_branches = λ bytes.
@@ -178,10 +198,17 @@ module _ (H : List ℕ → Digest) (long : (x : List ℕ) → length (H x).0 ≡
         let acts = script_acts net limits.bytes start.script feed in
         let events = events_of net limits.bytes feed in
         followers_are_on_branches H leaf_text long begun (somes acts) (world_behind H (begun_world begun) acts)
-        (record { leaves = few; bytes = short; all = acts_bytes (is_none events.ending) start.script events.events (events_bytes net limits.bytes feed bytes); is = refl });
+        (record {
+          leaves = few;
+          bytes = short;
+          all =
+              acts_bytes (is_none events.ending) start.script events.events (events_bytes net limits.bytes feed bytes);
+          is = refl;
+        });
   }
 
-  pub relays-on-branches : (begun : Option (Result RelayStart BadInput)) → IfSome begun (λ b. IfOk b (λ start. RelaysOnBranches H limits net start feed))
+  pub relays-on-branches : (begun : Option (Result RelayStart BadInput))
+      → IfSome begun (λ b. IfOk b (λ start. RelaysOnBranches H limits net start feed))
   relays-on-branches None = tt
   relays-on-branches (Some (Ok start)) = on-branches start
   relays-on-branches (Some (Err bad)) = tt
@@ -200,52 +227,67 @@ module _ (H : List ℕ → Digest) (r : RelayState) (net : Net) (limit : ℕ) wh
   relayed-ends text = record { answered = refl; reported = refl; sent = sym (ap (λ l. l ++ []) (sent-none H (events_of net limit text).events r)) }
 
   pub relayed-quiet : {feed feed' report report' : Option (List ℕ)} (o o' out : Option (List ℕ)) (stopped : Bool) (status : Status)
-      → Serves (said_by (relay_machine H) r) (sent_by (relay_machine H) r) (relayed_feed H r net limit) net limit feed feed' report report' o o' stopped status
+      → Serves (said_by (relay_machine H) r) (sent_by (relay_machine H) r) (relayed_feed H r net limit) net limit feed feed' report report' o o'
+      stopped status
       → Serves (said_by (relay_machine H) r) (λ events. []) (relayed_feed H r net limit) net limit feed feed' report report' out out stopped status
   unfolding relayed_feed
   relayed-quiet o o' out stopped status s =
-      Serves-quiet (λ text. refl) o o' out stopped status (Serves-same (λ events. refl) (λ events. sent-none H events r) (λ text. refl) stopped status s)
+      Serves-quiet (λ text. refl) o o' out stopped status
+      (Serves-same (λ events. refl) (λ events. sent-none H events r) (λ text. refl) stopped status s)
 
 -- what was written of a feed, and what comes last
 
-pub script-stopped : (H : List ℕ → Digest) (r : RelayState) (net : Net) (limit : ℕ) {feed feed' report report' o o' : Option (List ℕ)} (res : Result Status Stop) (stop : Stop) → IsErr res → IsErrAnd res (λ e. e ≡ stop)
+pub script-stopped : (H : List ℕ → Digest) (r : RelayState) (net : Net) (limit : ℕ) {feed feed' report report' o o' : Option (List ℕ)}
+    (res : Result Status Stop) (stop : Stop) → IsErr res → IsErrAnd res (λ e. e ≡ stop)
     → WritesInOrder (said_by (relay_machine H) r) (sent_by (relay_machine H) r) net limit feed report report' o o'
     → (stop ≡ Stop.ReadFault → WritesTaken (said_by (relay_machine H) r) (sent_by (relay_machine H) r) net limit feed feed' report report' o o')
     → (stop ≡ Stop.WriteFault → KeepsUp (said_by (relay_machine H) r) net limit feed feed' report report')
-    → (out : Option (List ℕ)) → Serves (said_by (relay_machine H) r) (λ events. []) (relayed_feed H r net limit) net limit feed feed' report report' out out (is_err res) (status_in res)
+    → (out : Option (List ℕ)) → Serves (said_by (relay_machine H) r) (λ events. []) (relayed_feed H r net limit) net limit feed feed' report report'
+    out out (is_err res) (status_in res)
 script-stopped H r net limit {feed} {feed'} {report} {report'} {o} {o'} res stop is h w taken at_once out =
     relayed-quiet H r net limit o o' out (is_err res) (status_in res)
-    (ends-stopped (relay_machine H) r net limit (relayed_feed H r net limit) (last_relayed H r net limit) (relayed-ends H r net limit) feed feed' report report' o o' res stop is h w taken at_once)
+    (ends-stopped (relay_machine H) r net limit (relayed_feed H r net limit) (last_relayed H r net limit) (relayed-ends H r net limit) feed feed'
+    report report' o o' res stop is h w taken at_once)
 
 abbrev last_at : (List ℕ → Digest) → RelayState → Option FeedFault → Answer
 last_at H state ending = let last = relay_last H state ending in record { status = last.status; report = last.report; out = [] }
 
-last-is : (H : List ℕ → Digest) (r : RelayState) (net : Net) (limit : ℕ) (feed report report' o o' : Option (List ℕ)) (state : RelayState) (ending : Option FeedFault)
+last-is : (H : List ℕ → Digest) (r : RelayState) (net : Net) (limit : ℕ) (feed report report' o o' : Option (List ℕ)) (state : RelayState)
+    (ending : Option FeedFault)
     (t : TakesAll (relay_machine H) r net limit state feed report report' o o' ending) → last_at H state ending ≡ last_relayed H r net limit t.text
 unfolding last_relayed
 last-is H r net limit feed report report' o o' state ending t = ap₂ (last_at H) t.reached t.ends
 
-pub script-last : (H : List ℕ → Digest) (r : RelayState) (net : Net) (limit : ℕ) {feed feed' report report' report'' o o' : Option (List ℕ)} (state : RelayState) (ending : Option FeedFault)
+pub script-last : (H : List ℕ → Digest) (r : RelayState) (net : Net) (limit : ℕ) {feed feed' report report' report'' o o' : Option (List ℕ)}
+    (state : RelayState) (ending : Option FeedFault)
     → TakesAll (relay_machine H) r net limit state feed report report' o o' ending → (res : Result Status Stop)
-    → IfOk res (λ status. status ≡ (relay_last H state ending).status) → OnOk res (Appends report' report'' (relay_last H state ending).report) → AppendsPart report' report'' (relay_last H state ending).report
+    → IfOk res (λ status. status ≡ (relay_last H state ending).status) → OnOk res (Appends report' report'' (relay_last H state ending).report)
+    → AppendsPart report' report'' (relay_last H state ending).report
     → (IsErrOf res Stop.ReadFault → ⊥) → KeepsUp (said_by (relay_machine H) r) net limit feed feed' report report'
-    → (out : Option (List ℕ)) → Serves (said_by (relay_machine H) r) (λ events. []) (relayed_feed H r net limit) net limit feed feed' report report'' out out (is_err res) (status_in res)
+    → (out : Option (List ℕ)) → Serves (said_by (relay_machine H) r) (λ events. []) (relayed_feed H r net limit) net limit feed feed' report report''
+    out out (is_err res) (status_in res)
 script-last H r net limit {feed} {feed'} {report} {report'} {report''} {o} {o'} state ending t res p q part never kept out =
     relayed-quiet H r net limit o o' out (is_err res) (status_in res)
-    (ends-last (relay_machine H) r net limit (relayed_feed H r net limit) (last_relayed H r net limit) feed feed' report report' report'' o o' o' state ending t (relayed-ends H r net limit t.text)
-    (last_at H state ending) (last-is H r net limit feed report report' o o' state ending t) res p q (OnOk-any res (Appends-nil o')) part (AppendsPart-none o' []) (inr (Appends-nil o')) never kept)
+    (ends-last (relay_machine H) r net limit (relayed_feed H r net limit) (last_relayed H r net limit) feed feed' report report' report'' o o' o'
+    state ending t (relayed-ends H r net limit t.text)
+    (last_at H state ending) (last-is H r net limit feed report report' o o' state ending t) res p q (OnOk-any res (Appends-nil o')) part
+    (AppendsPart-none o' []) (inr (Appends-nil o')) never kept)
 
 -- ---- where a run begins
 
-pub relay-begins : (followers : ℕ) (list : Result (Option (List (List ℕ))) BadInput) (text : Result (List ℕ) BadInput) (watch : Option (List (List ℕ))) (bytes : List ℕ) (script : Result (List ScriptLine) ScriptFault)
-    → Ok watch ≡ list → Ok bytes ≡ text → script ≡ script_in bytes → script_start (lists_for followers (scripts_of watch)) (script_by script) ≡ relay_start followers list (script_of text)
+pub relay-begins : (followers : ℕ) (list : Result (Option (List (List ℕ))) BadInput) (text : Result (List ℕ) BadInput)
+    (watch : Option (List (List ℕ))) (bytes : List ℕ) (script : Result (List ScriptLine) ScriptFault)
+    → Ok watch ≡ list → Ok bytes ≡ text → script ≡ script_in bytes → script_start (lists_for followers (scripts_of watch)) (script_by script)
+    ≡ relay_start followers list (script_of text)
 relay-begins followers list text watch bytes script a b s =
     ap (λ x. script_start (lists_for followers (scripts_of watch)) (script_by x)) s ∙ ap₂ (λ x y. relay_start followers x (script_of y)) a b
 
-pub fresh-is : (limits : Limits) (net : Net) (r : RelayState) (w : WorldState) (lists lists' : List (List (List ℕ))) (script : List ScriptLine) → r ≡ record { world = w; script = script; lines = length script; refused = false }
+pub fresh-is : (limits : Limits) (net : Net) (r : RelayState) (w : WorldState) (lists lists' : List (List (List ℕ))) (script : List ScriptLine)
+    → r ≡ record { world = w; script = script; lines = length script; refused = false }
     → w ≡ fresh_world net limits lists → lists ≡ lists' → r ≡ fresh_relay limits net lists' script
 fresh-is limits net r w lists lists' script is begun same =
-    is ∙ (ap (λ v. let s : RelayState = record { world = v; script = script; lines = length script; refused = false } in s) begun ∙ ap (λ l. fresh_relay limits net l script) same)
+    is ∙ (ap (λ v. let s : RelayState = record { world = v; script = script; lines = length script; refused = false } in s) begun
+    ∙ ap (λ l. fresh_relay limits net l script) same)
 
 pub ok-then : {T E X : Type 0} (r : Result T E) (x y z : X) → OnOk r (x ≡ y) → y ≡ z → OnOk r (x ≡ z)
 ok-then (Ok t) x y z a b = a ∙ b
@@ -255,31 +297,40 @@ ok-then (Err e) x y z a b = tt
 
 pub prior-none : (named : Bool) (limit : ℕ) (left : Option (List ℕ)) → named ≡ false → IsPriorOf named limit left (Ok [])
 unfolding prior_text
-prior-none named limit left e = record { text = told_text left; told = Tells-told_text left; is = sym (ap (λ b. prior_text b limit (told_text left)) e) }
+prior-none named limit left e = record {
+  text = told_text left;
+  told = Tells-told_text left;
+  is = sym (ap (λ b. prior_text b limit (told_text left)) e);
+}
 
-pub prior-long : (named : Bool) (limit : ℕ) (left : Option (List ℕ)) → named ≡ true → IsLonger left limit → IsPriorOf named limit left (Err (record { status = InputLimit; line = Line.LimitPrior limit }))
+pub prior-long : (named : Bool) (limit : ℕ) (left : Option (List ℕ)) → named ≡ true → IsLonger left limit
+    → IsPriorOf named limit left (Err (record { status = InputLimit; line = Line.LimitPrior limit }))
 unfolding prior_text
 prior-long named limit left e l =
     let long = lt-ltb limit (length l.text) l.longer in
     record {
       text = l.text;
       told = l.told_text;
-      is = sym (ap (λ b. prior_text b limit l.text) e ∙ ap (λ b. cond b (Err (record { status = InputLimit; line = Line.LimitPrior limit })) (Ok l.text)) long);
+      is = sym (ap (λ b. prior_text b limit l.text) e
+          ∙ ap (λ b. cond b (Err (record { status = InputLimit; line = Line.LimitPrior limit })) (Ok l.text)) long);
     }
 
-pub prior-read : (named : Bool) (limit : ℕ) (left : Option (List ℕ)) (text : List ℕ) → named ≡ true → Tells left text → length text ≤ limit → IsPriorOf named limit left (Ok text)
+pub prior-read : (named : Bool) (limit : ℕ) (left : Option (List ℕ)) (text : List ℕ) → named ≡ true → Tells left text → length text ≤ limit
+    → IsPriorOf named limit left (Ok text)
 unfolding prior_text
 prior-read named limit left text e told short =
     let fits = le-ltb limit (length text) short in
     record {
       text = text;
       told = told;
-      is = sym (ap (λ b. prior_text b limit text) e ∙ ap (λ b. cond b (Err (record { status = InputLimit; line = Line.LimitPrior limit })) (Ok text)) fits);
+      is = sym (ap (λ b. prior_text b limit text) e ∙ ap (λ b. cond b (Err (record { status = InputLimit; line = Line.LimitPrior limit })) (Ok text))
+          fits);
     }
 
 -- ---- a line of a script
 
-pub line-taken : (r : RelayState) (line : Option ScriptLine) (left : List ScriptLine) → IsTaken r.script line left → IsLineTaken r line (record r { script = left })
+pub line-taken : (r : RelayState) (line : Option ScriptLine) (left : List ScriptLine) → IsTaken r.script line left
+    → IsLineTaken r line (record r { script = left })
 line-taken r None left t = (t.0, ap (λ s. let u : RelayState = record r { script = s } in u) (t.1 ∙ sym t.0))
 line-taken r (Some line) left t = (t, refl)
 
@@ -300,7 +351,8 @@ own-turn event (Script.Ask f) script act e = (ap (λ x. x ∷ turn_of event scri
 own-turn event (Script.Serve j) script act e = (ap (λ x. x ∷ turn_of event script) e, refl)
 own-turn event (Script.Deliver f j) script act e = (ap (λ x. x ∷ turn_of event script) e, refl)
 
-own-rest : (whole : Bool) (line : ScriptLine) (script : List ScriptLine) (act : WorldAct) → own_act line ≡ Some act → acts_of whole (line ∷ script) [] ≡ Some act ∷ acts_of whole script []
+own-rest : (whole : Bool) (line : ScriptLine) (script : List ScriptLine) (act : WorldAct) → own_act line ≡ Some act
+    → acts_of whole (line ∷ script) [] ≡ Some act ∷ acts_of whole script []
 own-rest whole Script.Bridge script act e = cc
 own-rest whole (Script.Ask f) script act e = ap (λ x. x ∷ acts_of whole script []) e
 own-rest whole (Script.Serve j) script act e = ap (λ x. x ∷ acts_of whole script []) e
@@ -325,7 +377,8 @@ module _ (H : List ℕ → Digest) where
 
   module _ (event : FeedEvent) where
     turn-own : (r : RelayState) (line : ScriptLine) (script : List ScriptLine) (act : WorldAct) → r.script ≡ line ∷ script → own_act line ≡ Some act
-        → (next_relay H (acted H (at r script) act) event ≡ next_relay H r event) × (act_text r act ++ turn_lines H (acted H (at r script) act) event ≡ turn_lines H r event)
+        → (next_relay H (acted H (at r script) act) event ≡ next_relay H r event)
+        × (act_text r act ++ turn_lines H (acted H (at r script) act) event ≡ turn_lines H r event)
     unfolding next_relay turn_lines
     turn-own r line script act e own =
         let t = own-turn event line script act own in
@@ -339,7 +392,8 @@ module _ (H : List ℕ → Digest) where
         → (acted H (at r script) (BridgeTook event) ≡ next_relay H r event) × (act_text r (BridgeTook event) ≡ turn_lines H r event)
     unfolding next_relay turn_lines
     turn-bridge r script e = (
-      sym (ap (λ s. relayed H r (turn_of event s) (behind_bridge s)) e ∙ (relayed-one H r (BridgeTook event) [] script ∙ relayed-none H (acted H (at r script) (BridgeTook event)))),
+      sym (ap (λ s. relayed H r (turn_of event s) (behind_bridge s)) e
+          ∙ (relayed-one H r (BridgeTook event) [] script ∙ relayed-none H (acted H (at r script) (BridgeTook event)))),
       sym (ap (λ s. outcome_lines (outcomes_of H r.world (turn_of event s))) e ∙ append-nil (act_text r (BridgeTook event))),
     )
 
@@ -359,7 +413,8 @@ module _ (H : List ℕ → Digest) where
     turning-first r said = record { next = refl; lines = refl }
 
     module _ (first r : RelayState) (said0 said : List ℕ) (turning : IsTurning first r said0 said) (line : Option ScriptLine) (r1 : RelayState) where
-      pub turning-own : (l : ScriptLine) (act : WorldAct) → line ≡ Some l → IsLineTaken r line r1 → own_act l ≡ Some act → (r2 : RelayState) (said2 : List ℕ) → r2 ≡ acted H r1 act → said2 ≡ said ++ act_text r1 act
+      pub turning-own : (l : ScriptLine) (act : WorldAct) → line ≡ Some l → IsLineTaken r line r1 → own_act l ≡ Some act
+          → (r2 : RelayState) (said2 : List ℕ) → r2 ≡ acted H r1 act → said2 ≡ said ++ act_text r1 act
           → IsTurning first r2 said0 said2
       turning-own l act e taken own r2 said2 next lines =
           let k = subst (λ x. IsLineTaken r x r1) e taken in
@@ -370,10 +425,12 @@ module _ (H : List ℕ → Digest) where
             next = ap (λ s. next_relay H s event) same ∙ (t.0 ∙ turning.next);
             lines =
                 ap₂ (λ l s. l ++ turn_lines H s event) (lines ∙ ap (λ l. said ++ l) text) same
-                ∙ (append_assoc said (act_text r act) (turn_lines H (acted H (at r r1.script) act) event) ∙ (ap (λ l. said ++ l) t.1 ∙ turning.lines));
+                ∙ (append_assoc said (act_text r act) (turn_lines H (acted H (at r r1.script) act) event)
+                ∙ (ap (λ l. said ++ l) t.1 ∙ turning.lines));
           }
 
-      pub turning-bridge : (l : ScriptLine) → line ≡ Some l → IsLineTaken r line r1 → own_act l ≡ None → (acted H r1 (BridgeTook event) ≡ next_relay H first event) × (said ++ act_text r1 (BridgeTook event) ≡ said0 ++ turn_lines H first event)
+      pub turning-bridge : (l : ScriptLine) → line ≡ Some l → IsLineTaken r line r1 → own_act l ≡ None
+          → (acted H r1 (BridgeTook event) ≡ next_relay H first event) × (said ++ act_text r1 (BridgeTook event) ≡ said0 ++ turn_lines H first event)
       turning-bridge l e taken none =
           let k = subst (λ x. IsLineTaken r x r1) e taken in
           let t = turn-bridge r r1.script (k.0 ∙ ap (λ x. x ∷ r1.script) (is-bridge l none)) in (
@@ -413,7 +470,8 @@ module _ (H : List ℕ → Digest) where
     )
 
     module _ (first r : RelayState) (said0 said : List ℕ) (playing : IsPlaying first r said0 said) (line : Option ScriptLine) (r1 : RelayState) where
-      pub playing-own : (l : ScriptLine) (act : WorldAct) → line ≡ Some l → IsLineTaken r line r1 → own_act l ≡ Some act → (r2 : RelayState) (said2 : List ℕ) → r2 ≡ acted H r1 act → said2 ≡ said ++ act_text r1 act
+      pub playing-own : (l : ScriptLine) (act : WorldAct) → line ≡ Some l → IsLineTaken r line r1 → own_act l ≡ Some act
+          → (r2 : RelayState) (said2 : List ℕ) → r2 ≡ acted H r1 act → said2 ≡ said ++ act_text r1 act
           → IsPlaying first r2 said0 said2
       playing-own l act e taken own r2 said2 next lines =
           let k = subst (λ x. IsLineTaken r x r1) e taken in
@@ -425,10 +483,12 @@ module _ (H : List ℕ → Digest) where
             left = ap rest_left same ∙ (sym (ap (λ a. relayed H r a []) acts ∙ relayed-one H r act (rest_of script) []) ∙ playing.left);
             lines =
                 ap₂ (λ l s. l ++ rest_lines s) (lines ∙ ap (λ l. said ++ l) text) same
-                ∙ (append_assoc said (act_text r act) (rest_lines (acted H (at r script) act)) ∙ (ap (λ l. said ++ l) (sym (ap (λ a. outcome_lines (outcomes_of H r.world a)) acts)) ∙ playing.lines));
+                ∙ (append_assoc said (act_text r act) (rest_lines (acted H (at r script) act))
+                ∙ (ap (λ l. said ++ l) (sym (ap (λ a. outcome_lines (outcomes_of H r.world a)) acts)) ∙ playing.lines));
           }
 
-      pub playing-bridge : (l : ScriptLine) → line ≡ Some l → IsLineTaken r line r1 → own_act l ≡ None → whole ≡ true → (said2 : List ℕ) → said2 ≡ said ++ whole_line Line.NoEvent → IsPlaying first r1 said0 said2
+      pub playing-bridge : (l : ScriptLine) → line ≡ Some l → IsLineTaken r line r1 → own_act l ≡ None → whole ≡ true → (said2 : List ℕ)
+          → said2 ≡ said ++ whole_line Line.NoEvent → IsPlaying first r1 said0 said2
       playing-bridge l e taken none is_whole said2 lines =
           let k = subst (λ x. IsLineTaken r x r1) e taken in
           let script = r1.script in
@@ -438,7 +498,8 @@ module _ (H : List ℕ → Digest) where
             left = ap rest_left k.1 ∙ (sym (ap (λ a. relayed H r a []) acts) ∙ playing.left);
             lines =
                 ap₂ (λ l s. l ++ rest_lines s) lines k.1
-                ∙ (append_assoc said (whole_line Line.NoEvent) (rest_lines (at r script)) ∙ (ap (λ l. said ++ l) (sym (ap (λ a. outcome_lines (outcomes_of H r.world a)) acts)) ∙ playing.lines));
+                ∙ (append_assoc said (whole_line Line.NoEvent) (rest_lines (at r script))
+                ∙ (ap (λ l. said ++ l) (sym (ap (λ a. outcome_lines (outcomes_of H r.world a)) acts)) ∙ playing.lines));
           }
 
       played : rest_of r.script ≡ [] → at r1 [] ≡ at r [] → IsPlayed H whole first r1 said0 said
@@ -454,10 +515,12 @@ module _ (H : List ℕ → Digest) where
           let k = subst (λ x. IsLineTaken r x r1) e taken in
           played (ap rest_of k.0) (ap (λ s. at s []) k.1)
 
-      pub playing-stops : (l : ScriptLine) → line ≡ Some l → IsLineTaken r line r1 → own_act l ≡ None → whole ≡ false → IsPlayed H whole first r1 said0 said
+      pub playing-stops : (l : ScriptLine) → line ≡ Some l → IsLineTaken r line r1 → own_act l ≡ None → whole ≡ false
+          → IsPlayed H whole first r1 said0 said
       playing-stops l e taken none is_part =
           let k = subst (λ x. IsLineTaken r x r1) e taken in
-          played (ap rest_of (k.0 ∙ ap (λ x. x ∷ r1.script) (is-bridge l none)) ∙ ap (λ b. cond b (None ∷ rest_of r1.script) []) is_part) (ap (λ s. at s []) k.1)
+          played (ap rest_of (k.0 ∙ ap (λ x. x ∷ r1.script) (is-bridge l none)) ∙ ap (λ b. cond b (None ∷ rest_of r1.script) []) is_part)
+          (ap (λ s. at s []) k.1)
 
 -- ---- the lines of followers
 
@@ -472,17 +535,21 @@ drop_past [] (suc i) le = refl
 drop_past (x ∷ xs) zero le = absurd (omega (arith, le))
 drop_past (x ∷ xs) (suc i) le = drop_past xs i (omega (arith, le))
 
-nodes-more : (xs : List FollowerState) (i : ℕ) (line : Lines.Line) → option_map (node_line i) (slice_get xs i) ≡ Some line → node_lines i (drop i xs) ≡ whole_line line ++ node_lines (i + 1) (drop (i + 1) xs)
+nodes-more : (xs : List FollowerState) (i : ℕ) (line : Lines.Line) → option_map (node_line i) (slice_get xs i) ≡ Some line
+    → node_lines i (drop i xs) ≡ whole_line line ++ node_lines (i + 1) (drop (i + 1) xs)
 nodes-more xs i line e = by (slice_get xs i) refl e
   where
-    by : (y : Option FollowerState) → slice_get xs i ≡ y → option_map (node_line i) y ≡ Some line → node_lines i (drop i xs) ≡ whole_line line ++ node_lines (i + 1) (drop (i + 1) xs)
+    by : (y : Option FollowerState) → slice_get xs i ≡ y → option_map (node_line i) y ≡ Some line
+        → node_lines i (drop i xs) ≡ whole_line line ++ node_lines (i + 1) (drop (i + 1) xs)
     by None at e = cc
     by (Some x) at e =
         let one : suc i ≡ i + 1 = omega arith in
         ap (node_lines i) (drop_at xs i x at)
-        ∙ (ap (λ l. whole_line l ++ node_lines (i + 1) (drop (suc i) xs)) (same-some (node_line i x) line e) ∙ ap (λ k. whole_line line ++ node_lines (i + 1) (drop k xs)) one)
+        ∙ (ap (λ l. whole_line l ++ node_lines (i + 1) (drop (suc i) xs)) (same-some (node_line i x) line e)
+        ∙ ap (λ k. whole_line line ++ node_lines (i + 1) (drop k xs)) one)
 
-pub nodes-next : (xs : List FollowerState) (i : ℕ) (line : Lines.Line) (said said' all : List ℕ) → option_map (node_line i) (slice_get xs i) ≡ Some line → said ++ node_lines i (drop i xs) ≡ all → said' ≡ said ++ whole_line line
+pub nodes-next : (xs : List FollowerState) (i : ℕ) (line : Lines.Line) (said said' all : List ℕ)
+    → option_map (node_line i) (slice_get xs i) ≡ Some line → said ++ node_lines i (drop i xs) ≡ all → said' ≡ said ++ whole_line line
     → said' ++ node_lines (i + 1) (drop (i + 1) xs) ≡ all
 nodes-next xs i line said said' all told before more =
     ap (λ l. l ++ node_lines (i + 1) (drop (i + 1) xs)) more
@@ -493,7 +560,8 @@ nodes-end xs i said all past before = sym (append-nil said) ∙ (ap (λ l. said 
 
 -- ---- what comes last
 
-module _ (H : List ℕ → Digest) (r r' : RelayState) (ending : Option FeedFault) (said said' : List ℕ) (played : IsPlayed H (is_none ending) r r' said said') where
+module _ (H : List ℕ → Digest) (r r' : RelayState) (ending : Option FeedFault) (said said' : List ℕ)
+    (played : IsPlayed H (is_none ending) r r' said said') where
   abbrev rest_said : List ℕ
   rest_said = outcome_lines (outcomes_of H r.world (acts_of (is_none ending) r.script []))
 
@@ -503,14 +571,17 @@ module _ (H : List ℕ → Digest) (r r' : RelayState) (ending : Option FeedFaul
   abbrev ended_at : RelayState
   ended_at = relayed H r (acts_of (is_none ending) r.script []) []
 
-  pub finish-bad : (status : Status) (line : Lines.Line) → bad_end ending ≡ Some (status, line) → (status ≡ (relay_last H r ending).status) × (said' ++ whole_line line ≡ said ++ (relay_last H r ending).report)
+  pub finish-bad : (status : Status) (line : Lines.Line) → bad_end ending ≡ Some (status, line) → (status ≡ (relay_last H r ending).status)
+      × (said' ++ whole_line line ≡ said ++ (relay_last H r ending).report)
   unfolding relay_last
   finish-bad status line e = (
     ap (λ b. (last_of (end_at ended_at) b).status) (sym e),
-    ap (λ l. l ++ whole_line line) played.lines ∙ (append_assoc said rest_said (whole_line line) ∙ ap (λ b. said ++ (rest_said ++ (last_of (end_at ended_at) b).report)) (sym e)),
+    ap (λ l. l ++ whole_line line) played.lines
+        ∙ (append_assoc said rest_said (whole_line line) ∙ ap (λ b. said ++ (rest_said ++ (last_of (end_at ended_at) b).report)) (sym e)),
   )
 
-  pub finish-end : bad_end ending ≡ None → (status_of r'.refused ≡ (relay_last H r ending).status) × (said' ++ (end_at r').report ≡ said ++ (relay_last H r ending).report)
+  pub finish-end : bad_end ending ≡ None → (status_of r'.refused ≡ (relay_last H r ending).status)
+      × (said' ++ (end_at r').report ≡ said ++ (relay_last H r ending).report)
   unfolding relay_last
   finish-end e = (
     sym (ap (λ (s : RelayState). status_of s.refused) played.left) ∙ ap (λ b. (last_of (end_at ended_at) b).status) (sym e),

@@ -1,5 +1,6 @@
 -- From what was written of a feed to what a call within a run gave.
-use Rattle.std.proofs.Common.{◌≡◌, ◌⊎◌, inl, inr, ℕ, Bool, true, false, List, [], ◌++◌, Option, Some, None, Result, Ok, Err, IfOk, OnOk, IsErrOf, IsErr, IsErrAnd, is_err, refl, sym, ap, subst, ◌∙◌, append-nil, append_assoc}
+use Rattle.std.proofs.Common.{◌≡◌, ◌⊎◌, inl, inr, ℕ, Bool, true, false, List, [], ◌++◌, Option, Some, None, Result, Ok, Err, IfOk, OnOk, IsErrOf}
+use Rattle.std.proofs.Common.{IsErr, IsErrAnd, is_err, refl, sym, ap, subst, ◌∙◌, append-nil, append_assoc}
 use Rattle.std.specs.Io.KnownBytes.{Appends}
 use Rattle.std.proofs.KnownBytes.{Appends-nil, Appends-trans}
 use Rattle.std.proofs.lemmas.Bool.{false≢true}
@@ -20,7 +21,8 @@ use Rattle.node_commands.specs.Answers.{said, bad_end, last_of, served_feed}
 use Rattle.node_commands.specs.Runs.{Serves, stop_status, status_in}
 
 -- what comes last
-pub last-line : (at_end : Answer) (ending : Option FeedFault) (status : Status) (line : Line) → bad_end ending ≡ Some (status, line) → said status line ≡ last_of at_end (bad_end ending)
+pub last-line : (at_end : Answer) (ending : Option FeedFault) (status : Status) (line : Line) → bad_end ending ≡ Some (status, line)
+    → said status line ≡ last_of at_end (bad_end ending)
 last-line at_end ending status line e = ap (last_of at_end) (sym e)
 
 pub last-end : (at_end : Answer) (ending : Option FeedFault) → bad_end ending ≡ None → at_end ≡ last_of at_end (bad_end ending)
@@ -50,7 +52,8 @@ pub record Ends {S : Type 0} (m : Machine S) (start : S) (net : Net) (limit : �
 
 -- ---- a fault or want of memory stopped the loop over the events
 
-module _ {S : Type 0} (m : Machine S) (start : S) (net : Net) (limit : ℕ) (answer last : List ℕ → Answer) (ends : (text : List ℕ) → Ends m start net limit answer last text)
+module _ {S : Type 0} (m : Machine S) (start : S) (net : Net) (limit : ℕ) (answer last : List ℕ → Answer) (ends : (text : List ℕ)
+    → Ends m start net limit answer last text)
     (feed feed' report report' out out' : Option (List ℕ)) where
   stopped-at : (stop : Stop) → WritesInOrder (said_by m start) (sent_by m start) net limit feed report report' out out'
       → (stop ≡ Stop.ReadFault → WritesTaken (said_by m start) (sent_by m start) net limit feed feed' report report' out out')
@@ -75,16 +78,19 @@ module _ {S : Type 0} (m : Machine S) (start : S) (net : Net) (limit : ℕ) (ans
       }
 
   -- and an exit by `?` hands that on
-  pub ends-stopped : (r : Result Status Stop) (stop : Stop) → IsErr r → IsErrAnd r (λ e. e ≡ stop) → WritesInOrder (said_by m start) (sent_by m start) net limit feed report report' out out'
+  pub ends-stopped : (r : Result Status Stop) (stop : Stop) → IsErr r → IsErrAnd r (λ e. e ≡ stop)
+      → WritesInOrder (said_by m start) (sent_by m start) net limit feed report report' out out'
       → (stop ≡ Stop.ReadFault → WritesTaken (said_by m start) (sent_by m start) net limit feed feed' report report' out out')
       → (stop ≡ Stop.WriteFault → KeepsUp (said_by m start) net limit feed feed' report report')
       → Serves (said_by m start) (sent_by m start) answer net limit feed feed' report report' out out' (is_err r) (status_in r)
   ends-stopped (Ok status) stop is h w taken at_once = absurd (false≢true is)
   ends-stopped (Err e) stop is h w taken at_once =
-      subst (λ s. Serves (said_by m start) (sent_by m start) answer net limit feed feed' report report' out out' true (stop_status s)) (sym h) (stopped-at stop w taken at_once)
+      subst (λ s. Serves (said_by m start) (sent_by m start) answer net limit feed feed' report report' out out' true (stop_status s)) (sym h)
+      (stopped-at stop w taken at_once)
 
 -- more is printed
-kept-more : (lines : List FeedEvent → List ℕ) (net : Net) (limit : ℕ) (feed feed' report report' report'' : Option (List ℕ)) {text : List ℕ} → KeepsUp lines net limit feed feed' report report' → AppendsPart report' report'' text
+kept-more : (lines : List FeedEvent → List ℕ) (net : Net) (limit : ℕ) (feed feed' report report' report'' : Option (List ℕ)) {text : List ℕ}
+    → KeepsUp lines net limit feed feed' report report' → AppendsPart report' report'' text
     → KeepsUp lines net limit feed feed' report report''
 kept-more lines net limit feed feed' report report' report'' k part = record {
   taken = k.taken;
@@ -94,13 +100,16 @@ kept-more lines net limit feed feed' report report' report'' k part = record {
   few = k.few;
   settled = k.settled;
   begun = k.begun ++ part.done;
-  reported = subst (Appends report report'') (append_assoc (lines k.told) k.begun part.done) (Appends-trans report report' report'' _ _ k.reported part.grew);
+  reported = subst (Appends report report'') (append_assoc (lines k.told) k.begun part.done)
+      (Appends-trans report report' report'' _ _ k.reported part.grew);
 }
 
 -- ---- all events were written, and the feed ended so
 
-module _ {S : Type 0} (m : Machine S) (start : S) (net : Net) (limit : ℕ) (answer last : List ℕ → Answer) (feed feed' report report' report'' out out' out'' : Option (List ℕ)) (state : S)
-    (ending : Option FeedFault) (t : TakesAll m start net limit state feed report report' out out' ending) (ends : Ends m start net limit answer last t.text) (is : Answer) (e : is ≡ last t.text) where
+module _ {S : Type 0} (m : Machine S) (start : S) (net : Net) (limit : ℕ) (answer last : List ℕ → Answer)
+    (feed feed' report report' report'' out out' out'' : Option (List ℕ)) (state : S)
+    (ending : Option FeedFault) (t : TakesAll m start net limit state feed report report' out out' ending)
+    (ends : Ends m start net limit answer last t.text) (is : Answer) (e : is ≡ last t.text) where
   reported_is : (answer t.text).report ≡ said_by m start (events_of net limit t.text).events ++ is.report
   reported_is = ends.reported ∙ ap (λ (a : Answer). said_by m start (events_of net limit t.text).events ++ a.report) (sym e)
 
@@ -108,13 +117,17 @@ module _ {S : Type 0} (m : Machine S) (start : S) (net : Net) (limit : ℕ) (ans
   sent_is = ends.sent ∙ ap (λ (a : Answer). sent_by m start (events_of net limit t.text).events ++ a.out) (sym e)
 
   -- nothing more was printed, or all was stored
-  said-then : Appends report' report'' [] ⊎ Appends out' out'' is.out → AppendsPart report report'' (said_by m start (events_of net limit t.text).events) ⊎ Appends out out'' (answer t.text).out
-  said-then (inl none) = inl (AppendsPart-whole report report'' _ (subst (Appends report report'') (append-nil _) (Appends-trans report report' report'' _ _ t.reported none)))
+  said-then : Appends report' report'' [] ⊎ Appends out' out'' is.out
+      → AppendsPart report report'' (said_by m start (events_of net limit t.text).events) ⊎ Appends out out'' (answer t.text).out
+  said-then (inl none) = inl (AppendsPart-whole report report'' _
+      (subst (Appends report report'') (append-nil _) (Appends-trans report report' report'' _ _ t.reported none)))
   said-then (inr all) = inr (subst (Appends out out'') (sym sent_is) (Appends-trans out out' out'' _ _ t.sent all))
 
   -- and what comes last, or a part of it
-  pub ends-last : (r : Result Status Stop) → IfOk r (λ status. status ≡ is.status) → OnOk r (Appends report' report'' is.report) → OnOk r (Appends out' out'' is.out)
-      → AppendsPart report' report'' is.report → AppendsPart out' out'' is.out → Appends report' report'' [] ⊎ Appends out' out'' is.out → (IsErrOf r Stop.ReadFault → ⊥)
+  pub ends-last : (r : Result Status Stop) → IfOk r (λ status. status ≡ is.status) → OnOk r (Appends report' report'' is.report)
+      → OnOk r (Appends out' out'' is.out)
+      → AppendsPart report' report'' is.report → AppendsPart out' out'' is.out → Appends report' report'' [] ⊎ Appends out' out'' is.out
+      → (IsErrOf r Stop.ReadFault → ⊥)
       → KeepsUp (said_by m start) net limit feed feed' report report'
       → Serves (said_by m start) (sent_by m start) answer net limit feed feed' report report'' out out'' (is_err r) (status_in r)
   ends-last (Ok status) p q s part_said part_sent order never kept = record {
@@ -130,8 +143,10 @@ module _ {S : Type 0} (m : Machine S) (start : S) (net : Net) (limit : ℕ) (ans
     text = t.text;
     told = t.told;
     gives = record {
-      reported = AppendsPart-after report report' report'' _ is.report [] _ t.reported part_said (reported_is ∙ ap (λ w. said_by m start (events_of net limit t.text).events ++ w) (sym (append-nil _)));
-      sent = AppendsPart-after out out' out'' _ is.out [] _ t.sent part_sent (sent_is ∙ ap (λ w. sent_by m start (events_of net limit t.text).events ++ w) (sym (append-nil _)));
+      reported = AppendsPart-after report report' report'' _ is.report [] _ t.reported part_said
+          (reported_is ∙ ap (λ w. said_by m start (events_of net limit t.text).events ++ w) (sym (append-nil _)));
+      sent = AppendsPart-after out out' out'' _ is.out [] _ t.sent part_sent
+          (sent_is ∙ ap (λ w. sent_by m start (events_of net limit t.text).events ++ w) (sym (append-nil _)));
       begun = (events_of net limit t.text).events;
       later = [];
       split = sym (append-nil _);
@@ -156,34 +171,46 @@ module _ {S : Type 0} (m : Machine S) (start : S) (net : Net) (limit : ℕ) wher
   served-ends text = record { answered = refl; reported = refl; sent = refl }
 
   module _ (feed feed' report report' out out' : Option (List ℕ)) where
-    pub serves-stopped : (r : Result Status Stop) (stop : Stop) → IsErr r → IsErrAnd r (λ e. e ≡ stop) → WritesInOrder (said_by m start) (sent_by m start) net limit feed report report' out out'
+    pub serves-stopped : (r : Result Status Stop) (stop : Stop) → IsErr r → IsErrAnd r (λ e. e ≡ stop)
+        → WritesInOrder (said_by m start) (sent_by m start) net limit feed report report' out out'
         → (stop ≡ Stop.ReadFault → WritesTaken (said_by m start) (sent_by m start) net limit feed feed' report report' out out')
         → (stop ≡ Stop.WriteFault → KeepsUp (said_by m start) net limit feed feed' report report')
-        → Serves (said_by m start) (sent_by m start) (served_feed m start net limit) net limit feed feed' report report' out out' (is_err r) (status_in r)
-    serves-stopped r stop is h w taken at_once = ends-stopped m start net limit (served_feed m start net limit) last_served served-ends feed feed' report report' out out' r stop is h w taken at_once
+        → Serves (said_by m start) (sent_by m start) (served_feed m start net limit) net limit feed feed' report report' out out' (is_err r)
+        (status_in r)
+    serves-stopped r stop is h w taken at_once = ends-stopped m start net limit (served_feed m start net limit) last_served served-ends feed feed'
+        report report' out out' r stop is h w taken at_once
 
   module _ (feed feed' report report' report'' out out' out'' : Option (List ℕ)) (state : S) (ending : Option FeedFault)
-      (t : TakesAll m start net limit state feed report report' out out' ending) (is : Answer) (e : is ≡ last_of (m.at_end state) (bad_end ending)) where
+      (t : TakesAll m start net limit state feed report report' out out' ending) (is : Answer)
+      (e : is ≡ last_of (m.at_end state) (bad_end ending)) where
     same : is ≡ last_served t.text
     unfolding last_served
     same =
         e ∙ ap (λ e. last_of (m.at_end state) (bad_end e)) t.ends
         ∙ ap (λ s. last_of (m.at_end s) (bad_end (wanted_end m s (events_of net limit t.text).ending))) t.reached
 
-    pub serves-last : (r : Result Status Stop) → IfOk r (λ status. status ≡ is.status) → OnOk r (Appends report' report'' is.report) → OnOk r (Appends out' out'' is.out)
-        → AppendsPart report' report'' is.report → AppendsPart out' out'' is.out → Appends report' report'' [] ⊎ Appends out' out'' is.out → (IsErrOf r Stop.ReadFault → ⊥)
+    pub serves-last : (r : Result Status Stop) → IfOk r (λ status. status ≡ is.status) → OnOk r (Appends report' report'' is.report)
+        → OnOk r (Appends out' out'' is.out)
+        → AppendsPart report' report'' is.report → AppendsPart out' out'' is.out → Appends report' report'' [] ⊎ Appends out' out'' is.out
+        → (IsErrOf r Stop.ReadFault → ⊥)
         → KeepsUp (said_by m start) net limit feed feed' report report'
-        → Serves (said_by m start) (sent_by m start) (served_feed m start net limit) net limit feed feed' report report'' out out'' (is_err r) (status_in r)
+        → Serves (said_by m start) (sent_by m start) (served_feed m start net limit) net limit feed feed' report report'' out out'' (is_err r)
+        (status_in r)
     serves-last =
-        ends-last m start net limit (served_feed m start net limit) last_served feed feed' report report' report'' out out' out'' state ending t (served-ends t.text) is same
+        ends-last m start net limit (served_feed m start net limit) last_served feed feed' report report' report'' out out' out'' state ending t
+        (served-ends t.text) is same
 
 -- ---- by other names of what is printed and stored
 
 said-same : (lines lines' : List FeedEvent → List ℕ) (answer answer' : List ℕ → Answer) (report report' out out' : Option (List ℕ))
-    → ((events : List FeedEvent) → lines events ≡ lines' events) → ((text : List ℕ) → answer text ≡ answer' text) → (begun : List FeedEvent) (text : List ℕ)
-    → AppendsPart report report' (lines begun) ⊎ Appends out out' (answer text).out → AppendsPart report report' (lines' begun) ⊎ Appends out out' (answer' text).out
-said-same lines lines' answer answer' report report' out out' same_lines same_answer begun text (inl part) = inl (subst (AppendsPart report report') (same_lines begun) part)
-said-same lines lines' answer answer' report report' out out' same_lines same_answer begun text (inr all) = inr (subst (λ (a : Answer). Appends out out' a.out) (same_answer text) all)
+    → ((events : List FeedEvent) → lines events ≡ lines' events) → ((text : List ℕ) → answer text ≡ answer' text)
+    → (begun : List FeedEvent) (text : List ℕ)
+    → AppendsPart report report' (lines begun) ⊎ Appends out out' (answer text).out → AppendsPart report report' (lines' begun)
+    ⊎ Appends out out' (answer' text).out
+said-same lines lines' answer answer' report report' out out' same_lines same_answer begun text (inl part) =
+    inl (subst (AppendsPart report report') (same_lines begun) part)
+said-same lines lines' answer answer' report report' out out' same_lines same_answer begun text (inr all) =
+    inr (subst (λ (a : Answer). Appends out out' a.out) (same_answer text) all)
 
 taken-same : (lines frames lines' frames' : List FeedEvent → List ℕ) (net : Net) (limit : ℕ) (feed feed' report report' out out' : Option (List ℕ))
     → ((events : List FeedEvent) → lines events ≡ lines' events) → ((events : List FeedEvent) → frames events ≡ frames' events)
@@ -196,7 +223,8 @@ taken-same lines frames lines' frames' net limit feed feed' report report' out o
   sent = subst (Appends out out') (same_frames _) w.sent;
 }
 
-kept-same : (lines lines' : List FeedEvent → List ℕ) (net : Net) (limit : ℕ) (feed feed' report report' : Option (List ℕ)) → ((events : List FeedEvent) → lines events ≡ lines' events)
+kept-same : (lines lines' : List FeedEvent → List ℕ) (net : Net) (limit : ℕ) (feed feed' report report' : Option (List ℕ))
+    → ((events : List FeedEvent) → lines events ≡ lines' events)
     → KeepsUp lines net limit feed feed' report report' → KeepsUp lines' net limit feed feed' report report'
 kept-same lines lines' net limit feed feed' report report' same_lines k = record {
   taken = k.taken;
@@ -209,8 +237,10 @@ kept-same lines lines' net limit feed feed' report report' same_lines k = record
   reported = subst (λ l. Appends report report' (l ++ k.begun)) (same_lines k.told) k.reported;
 }
 
-module _ {lines frames lines' frames' : List FeedEvent → List ℕ} {answer answer' : List ℕ → Answer} {net : Net} {limit : ℕ} {feed feed' report report' out out' : Option (List ℕ)}
-    (same_lines : (events : List FeedEvent) → lines events ≡ lines' events) (same_frames : (events : List FeedEvent) → frames events ≡ frames' events) (same_answer : (text : List ℕ) → answer text ≡ answer' text) where
+module _ {lines frames lines' frames' : List FeedEvent → List ℕ} {answer answer' : List ℕ → Answer} {net : Net} {limit : ℕ}
+    {feed feed' report report' out out' : Option (List ℕ)}
+    (same_lines : (events : List FeedEvent) → lines events ≡ lines' events) (same_frames : (events : List FeedEvent) → frames events ≡ frames' events)
+    (same_answer : (text : List ℕ) → answer text ≡ answer' text) where
   pub Serves-same : (stopped : Bool) (status : Status) → Serves lines frames answer net limit feed feed' report report' out out' stopped status
       → Serves lines' frames' answer' net limit feed feed' report report' out out' stopped status
   Serves-same true status s = record {
@@ -222,7 +252,10 @@ module _ {lines frames lines' frames' : List FeedEvent → List ℕ} {answer ans
       begun = s.gives.begun;
       later = s.gives.later;
       split = s.gives.split;
-      stored = record { more = s.gives.stored.more; grew = subst (λ w. Appends out out' (w ++ s.gives.stored.more)) (same_frames s.gives.begun) s.gives.stored.grew };
+      stored = record {
+        more = s.gives.stored.more;
+        grew = subst (λ w. Appends out out' (w ++ s.gives.stored.more)) (same_frames s.gives.begun) s.gives.stored.grew;
+      };
       said = said-same lines lines' answer answer' report report' out out' same_lines same_answer s.gives.begun s.text s.gives.said;
       taken = λ f. taken-same lines frames lines' frames' net limit feed feed' report report' out out' same_lines same_frames (s.gives.taken f);
       at_once = λ f. kept-same lines lines' net limit feed feed' report report' same_lines (s.gives.at_once f);
@@ -245,10 +278,13 @@ said-quiet P text none o o' out (inl part) = inl part
 said-quiet P text none o o' out (inr all) = inr (subst (Appends out out) (sym none) (Appends-nil out))
 
 taken-quiet : (lines : List FeedEvent → List ℕ) (net : Net) (limit : ℕ) (feed feed' report report' o o' out : Option (List ℕ))
-    → WritesTaken lines (λ events. []) net limit feed feed' report report' o o' → WritesTaken lines (λ events. []) net limit feed feed' report report' out out
-taken-quiet lines net limit feed feed' report report' o o' out w = record { taken = w.taken; lost = w.lost; further = w.further; reported = w.reported; sent = Appends-nil out }
+    → WritesTaken lines (λ events. []) net limit feed feed' report report' o o'
+    → WritesTaken lines (λ events. []) net limit feed feed' report report' out out
+taken-quiet lines net limit feed feed' report report' o o' out w =
+    record { taken = w.taken; lost = w.lost; further = w.further; reported = w.reported; sent = Appends-nil out }
 
-module _ {lines : List FeedEvent → List ℕ} {answer : List ℕ → Answer} {net : Net} {limit : ℕ} {feed feed' report report' : Option (List ℕ)} (none : (text : List ℕ) → (answer text).out ≡ []) (o o' out : Option (List ℕ)) where
+module _ {lines : List FeedEvent → List ℕ} {answer : List ℕ → Answer} {net : Net} {limit : ℕ} {feed feed' report report' : Option (List ℕ)}
+    (none : (text : List ℕ) → (answer text).out ≡ []) (o o' out : Option (List ℕ)) where
   pub Serves-quiet : (stopped : Bool) (status : Status) → Serves lines (λ events. []) answer net limit feed feed' report report' o o' stopped status
       → Serves lines (λ events. []) answer net limit feed feed' report report' out out stopped status
   Serves-quiet true status s = record {

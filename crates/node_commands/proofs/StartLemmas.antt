@@ -1,5 +1,6 @@
 -- A run that goes on from a prior state.
-use Rattle.std.proofs.Common.{◌≡◌, inl, inr, ℕ, ◌<◌, ◌≤◌, ◌^◌, List, [], ◌∷◌, length, map, Option, Some, None, Result, Ok, Err, IfOk, refl, sym, ap₂, subst, arith}
+use Rattle.std.proofs.Common.{◌≡◌, inl, inr, ℕ, ◌<◌, ◌≤◌, ◌^◌, List, [], ◌∷◌, length, map, Option, Some, None, Result, Ok, Err, IfOk, refl, sym, ap₂}
+use Rattle.std.proofs.Common.{subst, arith}
 use Rattle.std.specs.Prelude.{IfSome}
 use Rattle.std.specs.List.{AllByRecursion}
 use Rattle.uo_base.specs.declared.event.Limits.{Limits}
@@ -44,7 +45,8 @@ events_fit : (events : List FeedEvent) → AllByRecursion AreEventBytes events �
 events_fit [] all = tt
 events_fit (event ∷ events) all = (fits_too (event_in event) (read_event_fits event all.0), events_fit events all.1)
 
-module _ (H : List ℕ → Digest) (long : (x : List ℕ) → length (H x).0 ≡ 32) (limits : Limits) (few : limits.leaves < 2 ^ 40) (net : Net) (scripts : List (List ℕ)) (watched : AreWatched scripts)
+module _ (H : List ℕ → Digest) (long : (x : List ℕ) → length (H x).0 ≡ 32) (limits : Limits) (few : limits.leaves < 2 ^ 40) (net : Net)
+    (scripts : List (List ℕ)) (watched : AreWatched scripts)
     (before : List FeedEvent) (bytes : AllByRecursion AreEventBytes before) where
   abbrev rules : Rules
   rules = rules_of limits net
@@ -71,7 +73,8 @@ module _ (H : List ℕ → Digest) (long : (x : List ℕ) → length (H x).0 ≡
   module _ (text : List ℕ) (is : IsTextOf (state_of H net scripts reached) text) where
     pub back_at : (node : NodeState) → IsNodeOf H limits text node → IsBackAt node
     back_at node n =
-        let b = written_comes_back H net scripts reached text node long watched n.is (subst (λ m. IsHistory m.leaves reached) (sym n.limits_are) reached_history) is n.reads in
+        let b = written_comes_back H net scripts reached text node long watched n.is
+        (subst (λ m. IsHistory m.leaves reached) (sym n.limits_are) reached_history) is n.reads in
         record { is = n.is; rules_are = same_rules node.rules b.net_is n.limits_are; scripts_are = b.scripts_are; stands = b.stands }
 
     -- and nothing else is
@@ -89,14 +92,16 @@ module _ (H : List ℕ → Digest) (long : (x : List ℕ) → length (H x).0 ≡
     no_bad bad short (inr (inl o)) = not_other bad o
     no_bad bad short (inr (inr n)) = not_none bad n
 
-    pub answers : (feed : List ℕ) (begun : Start) → length text ≤ limits.bytes → IsStart H limits text begun → IsAsOfFull H scripts rules reached feed (start_answer H begun feed)
+    pub answers : (feed : List ℕ) (begun : Start) → length text ≤ limits.bytes → IsStart H limits text begun
+        → IsAsOfFull H scripts rules reached feed (start_answer H begun feed)
     answers feed (Ok node) short s =
         let b = back_at node s in
         subst (λ w. IsAsOfFull H w rules reached feed (follow_answer H node feed)) b.scripts_are
         (subst (λ r. IsAsOfFull H node.scripts r reached feed (follow_answer H node feed)) b.rules_are (as-of-full H reached node b.is b.stands feed))
     answers feed (Err bad) short s = absurd (no_bad bad short s)
 
-pub resumes-as-full : (H : List ℕ → Digest) → ((x : List ℕ) → length (H x).0 ≡ 32) → (limits : Limits) → limits.leaves < 2 ^ 40 → (prior feed : List ℕ) (begun : Option Start) → IfSome begun (IsStart H limits prior)
+pub resumes-as-full : (H : List ℕ → Digest) → ((x : List ℕ) → length (H x).0 ≡ 32) → (limits : Limits) → limits.leaves < 2 ^ 40
+    → (prior feed : List ℕ) (begun : Option Start) → IfSome begun (IsStart H limits prior)
     → ResumesAsFull H limits prior feed begun
 resumes-as-full H long limits few prior feed None m = λ net scripts before watched bytes honest is short. tt
 resumes-as-full H long limits few prior feed (Some begun) m =
@@ -104,10 +109,12 @@ resumes-as-full H long limits few prior feed (Some begun) m =
 
 -- ---- what is read
 
-pub starts-long : (H : List ℕ → Digest) (limits : Limits) (left : Option (List ℕ)) → IsLonger left limits.bytes → IsStartOf H limits left (Err (record { status = InputLimit; line = LimitPrior limits.bytes }))
+pub starts-long : (H : List ℕ → Digest) (limits : Limits) (left : Option (List ℕ)) → IsLonger left limits.bytes
+    → IsStartOf H limits left (Err (record { status = InputLimit; line = LimitPrior limits.bytes }))
 starts-long H limits left l = record { text = l.text; told = l.told_text; is = inl (record { long = l.longer; is = refl }) }
 
-pub starts-read : (H : List ℕ → Digest) (limits : Limits) (left : Option (List ℕ)) (text : List ℕ) → Tells left text → {E : Type 0} (r : Result Start E) → IfOk r (IsStart H limits text) → IfOk r (IsStartOf H limits left)
+pub starts-read : (H : List ℕ → Digest) (limits : Limits) (left : Option (List ℕ)) (text : List ℕ) → Tells left text
+    → {E : Type 0} (r : Result Start E) → IfOk r (IsStart H limits text) → IfOk r (IsStartOf H limits left)
 starts-read H limits left text told (Ok begun) is = record { text = text; told = told; is = is }
 starts-read H limits left text told (Err stop) is = tt
 

@@ -1,5 +1,6 @@
 -- A run that is stopped and goes on is one run.
-use Rattle.std.proofs.Common.{◌≡◌, ℕ, ◌<◌, ◌^◌, Bool, true, List, [], ◌∷◌, ◌++◌, length, map, Option, Some, None, is_some, option_map, refl, sym, ap, ap₂, subst, ◌∙◌, ◌⊎◌, inl, inr}
+use Rattle.std.proofs.Common.{◌≡◌, ℕ, ◌<◌, ◌^◌, Bool, true, List, [], ◌∷◌, ◌++◌, length, map, Option, Some, None, is_some, option_map, refl, sym, ap}
+use Rattle.std.proofs.Common.{ap₂, subst, ◌∙◌, ◌⊎◌, inl, inr}
 use Rattle.std.specs.List.{flat_map, AllByRecursion}
 use Rattle.std.proofs.lemmas.Bool.{and_parts, false≢true}
 use Rattle.std.proofs.lemmas.List.{map-append}
@@ -36,7 +37,8 @@ use Rattle.node_commands.specs.Stopping.{StandsBehind, IsParted, PiecesAreParted
 use Rattle.node_commands.proofs.FollowLemmas.{stores_full}
 use Rattle.node_commands.proofs.StartLemmas.{back_at}
 
-node-append : (H : List ℕ → Digest) (s : NodeState) (es fs : List ChainEvent) → node_after H leaf_text s (es ++ fs) ≡ node_after H leaf_text (node_after H leaf_text s es) fs
+node-append : (H : List ℕ → Digest) (s : NodeState) (es fs : List ChainEvent)
+    → node_after H leaf_text s (es ++ fs) ≡ node_after H leaf_text (node_after H leaf_text s es) fs
 node-append H s [] fs = refl
 node-append H s (e ∷ es) fs = node-append H (next_node H leaf_text s e) es fs
 
@@ -47,32 +49,40 @@ all-append P (e ∷ es) fs a b = (a.0, all-append P es fs a.1 b)
 -- ---- a node that holds every output, over events behind others
 
 module _ (H : List ℕ → Digest) (scripts : List (List ℕ)) (rules : Rules) where
-  goes-past : (v : Option Verdict) (t x y : State) (fs : List ChainEvent) → is_some v ≡ true → x ≡ full_after H leaf_text scripts rules y fs → goes_on v t x ≡ full_after H leaf_text scripts rules (goes_on v t y) fs
+  goes-past : (v : Option Verdict) (t x y : State) (fs : List ChainEvent) → is_some v ≡ true → x ≡ full_after H leaf_text scripts rules y fs
+      → goes_on v t x ≡ full_after H leaf_text scripts rules (goes_on v t y) fs
   goes-past None t x y fs e k = absurd cc
   goes-past (Some v) t x y fs e k = k
 
   full-append : (t : State) (es fs : List ChainEvent) → AreHonest H leaf_text scripts rules t (es ++ fs)
-      → (full_after H leaf_text scripts rules t (es ++ fs) ≡ full_after H leaf_text scripts rules (full_after H leaf_text scripts rules t es) fs) × AreHonest H leaf_text scripts rules (full_after H leaf_text scripts rules t es) fs
+      → (full_after H leaf_text scripts rules t (es ++ fs) ≡ full_after H leaf_text scripts rules (full_after H leaf_text scripts rules t es) fs)
+      × AreHonest H leaf_text scripts rules (full_after H leaf_text scripts rules t es) fs
   full-append t [] fs h = (refl, h)
   full-append t (e ∷ es) fs h =
       let o = step rules (full_judge H leaf_text scripts rules) t e in
       let parts = and_parts (is_some o.verdict) (never_stops rules (full_judge H leaf_text scripts rules) o.state (es ++ fs)) h in
-      let more = full-append o.state es fs parts.1 in
-      (goes-past o.verdict t _ (full_after H leaf_text scripts rules o.state es) fs parts.0 more.0, honest_past (full_after H leaf_text scripts rules o.state es) o.verdict parts.0 more.1)
+      let more = full-append o.state es fs parts.1 in (
+        goes-past o.verdict t _ (full_after H leaf_text scripts rules o.state es) fs parts.0 more.0,
+        honest_past (full_after H leaf_text scripts rules o.state es) o.verdict parts.0 more.1,
+      )
     where
-      honest_past : (x : State) (v : Option Verdict) → is_some v ≡ true → AreHonest H leaf_text scripts rules x fs → AreHonest H leaf_text scripts rules (goes_on v t x) fs
+      honest_past : (x : State) (v : Option Verdict) → is_some v ≡ true → AreHonest H leaf_text scripts rules x fs
+          → AreHonest H leaf_text scripts rules (goes_on v t x) fs
       honest_past x None e k = absurd cc
       honest_past x (Some v) e k = k
 
 -- ---- the law
 
 -- what a feed that was read to its end stores
-ends-stored : (refused : Bool) (count : ℕ) (node : NodeState) (ending : Option FeedFault) → ending ≡ None → (last_of (end_by refused count node.newest.chain (stored_text node)) (bad_end ending)).out ≡ stored_text node
+ends-stored : (refused : Bool) (count : ℕ) (node : NodeState) (ending : Option FeedFault) → ending ≡ None
+    → (last_of (end_by refused count node.newest.chain (stored_text node)) (bad_end ending)).out ≡ stored_text node
 ends-stored refused count node ending e = ap (λ x. (last_of (end_by refused count node.newest.chain (stored_text node)) (bad_end x)).out) e
 
 -- what is stored is told by what is kept, and whether the feed ended well
-same-stored : (r r' : Bool) (n n' : ℕ) (s s' : NodeState) (ending ending' : Option FeedFault) → s ≡ s' → is_some (bad_end ending) ≡ is_some (bad_end ending')
-    → (last_of (end_by r n s.newest.chain (stored_text s)) (bad_end ending)).out ≡ (last_of (end_by r' n' s'.newest.chain (stored_text s')) (bad_end ending')).out
+same-stored : (r r' : Bool) (n n' : ℕ) (s s' : NodeState) (ending ending' : Option FeedFault) → s ≡ s'
+    → is_some (bad_end ending) ≡ is_some (bad_end ending')
+    → (last_of (end_by r n s.newest.chain (stored_text s)) (bad_end ending)).out
+    ≡ (last_of (end_by r' n' s'.newest.chain (stored_text s')) (bad_end ending')).out
 same-stored r r' n n' s s' ending ending' e f =
     ap (λ x. (last_of (end_by r n x.newest.chain (stored_text x)) (bad_end ending)).out) e ∙ by (bad_end ending) (bad_end ending') f
   where
@@ -108,7 +118,8 @@ pieces_are_parted = λ rules front back room ends settled.
       back_ends = ap (λ e. is_some (bad_end e)) parted.ending ∙ bad-further (length front) (events_for rules back).ending;
     }
 
-module _ (H : List ℕ → Digest) (long : (x : List ℕ) → length (H x).0 ≡ 32) (limits : Limits) (few : limits.leaves < 2 ^ 40) (net : Net) (scripts : List (List ℕ)) (watched : AreWatched scripts)
+module _ (H : List ℕ → Digest) (long : (x : List ℕ) → length (H x).0 ≡ 32) (limits : Limits) (few : limits.leaves < 2 ^ 40) (net : Net)
+    (scripts : List (List ℕ)) (watched : AreWatched scripts)
     (before : List FeedEvent) (node again : NodeState) (whole front back : List ℕ) (begun : StandsBehind H limits net scripts before node) where
   abbrev rules : Rules
   rules = rules_of limits net
@@ -125,7 +136,8 @@ module _ (H : List ℕ → Digest) (long : (x : List ℕ) → length (H x).0 ≡
   abbrev far : State
   far = full_after H leaf_text scripts rules start (map event_in (before ++ events))
 
-  module _ (parted : IsParted rules whole front back) (bytes : AllByRecursion AreEventBytes events) (honest : AreTrue H scripts rules start (before ++ events)) where
+  module _ (parted : IsParted rules whole front back) (bytes : AllByRecursion AreEventBytes events)
+      (honest : AreTrue H scripts rules start (before ++ events)) where
     both : AreHonest H leaf_text scripts rules start (map event_in before ++ es)
     both = subst (AreHonest H leaf_text scripts rules start) (map-append event_in before events) honest
 
@@ -134,10 +146,12 @@ module _ (H : List ℕ → Digest) (long : (x : List ℕ) → length (H x).0 ≡
     stands =
         let f = full-append H scripts rules start (map event_in before) es both in
         let near = full_after H leaf_text scripts rules start (map event_in before) in
-        let Agrees = λ (w : List (List ℕ)) (r : Rules). AreHonest H leaf_text w r near es → Stands H leaf_text (full_after H leaf_text w r near es) then in
+        let Agrees = λ (w : List (List ℕ)) (r : Rules). AreHonest H leaf_text w r near es
+        → Stands H leaf_text (full_after H leaf_text w r near es) then in
         let one : Agrees node.scripts node.rules = λ h. (compact_is_full_throughout H leaf_text near node es begun.is begun.stands h).stands in
         let two = subst (λ r. Agrees scripts r) begun.rules_are (subst (λ w. Agrees w node.rules) begun.scripts_are one) in
-        subst (λ t. Stands H leaf_text t then) (sym f.0 ∙ ap (full_after H leaf_text scripts rules start) (sym (map-append event_in before events))) (two f.1)
+        subst (λ t. Stands H leaf_text t then) (sym f.0 ∙ ap (full_after H leaf_text scripts rules start) (sym (map-append event_in before events)))
+        (two f.1)
 
     told : (then.rules ≡ rules) × (then.scripts ≡ scripts)
     told = let t = told_after H leaf_text node es in (t.0 ∙ begun.rules_are, t.1 ∙ begun.scripts_are)
@@ -150,7 +164,8 @@ module _ (H : List ℕ → Digest) (long : (x : List ℕ) → length (H x).0 ≡
     unfolding follow_answer
     stored =
         let last = λ (r : Rules). node_after H leaf_text node (chain_events (events_for r front)) in
-        ends-stored _ _ (last node.rules) (events_for node.rules front).ending (ap (λ r. (events_for r front).ending) begun.rules_are ∙ parted.front_ends)
+        ends-stored _ _ (last node.rules) (events_for node.rules front).ending
+        (ap (λ r. (events_for r front).ending) begun.rules_are ∙ parted.front_ends)
         ∙ ap (λ r. stored_text (last r)) begun.rules_are
         ∙ stores_full H node es far begun.is stands ∙ ap₂ (λ w r. full_text H w r far) begun.scripts_are begun.rules_are
 
@@ -163,12 +178,15 @@ module _ (H : List ℕ → Digest) (long : (x : List ℕ) → length (H x).0 ≡
 
     module _ (prior : List ℕ) (left_by : IsLeftBy H node front prior) (read : IsNodeOf H limits prior again) where
       is_text : IsTextOf (state_of H net scripts far) prior
-      is_text = text_left (state_of H net scripts far) (stored_state (left_on H node front)) (follow_answer H node front).out prior stored kept left_by
+      is_text = text_left (state_of H net scripts far) (stored_state (left_on H node front)) (follow_answer H node front).out prior stored kept
+          left_by
 
       again_is : again ≡ then
       again_is =
-          let b = back_at H long limits few net scripts watched (before ++ events) (all-append AreEventBytes before events begun.bytes bytes) prior is_text again read in
-          one_node_stands H leaf_text far again then b.is (node_throughout H leaf_text node es begun.is) (b.rules_are ∙ sym told.0) (b.scripts_are ∙ sym told.1) b.stands stands
+          let b = back_at H long limits few net scripts watched (before ++ events) (all-append AreEventBytes before events begun.bytes bytes) prior
+          is_text again read in
+          one_node_stands H leaf_text far again then b.is (node_throughout H leaf_text node es begun.is) (b.rules_are ∙ sym told.0)
+          (b.scripts_are ∙ sym told.1) b.stands stands
 
       again_stands : StandsBehind H limits net scripts (before ++ events) again
       again_stands = record {
@@ -206,8 +224,10 @@ module _ (H : List ℕ → Digest) (long : (x : List ℕ) → length (H x).0 ≡
       same_stored : (follow_answer H node whole).out ≡ (follow_answer H again back).out
       unfolding follow_answer
       same_stored =
-          same-stored _ _ _ _ (left_on H node whole) (left_on H again back) (events_for node.rules whole).ending (events_for again.rules back).ending left
-          (ap (λ x. is_some (bad_end x.ending)) (over whole) ∙ parted.back_ends ∙ ap (λ r. is_some (bad_end (events_for r back).ending)) (sym again_stands.rules_are))
+          same-stored _ _ _ _ (left_on H node whole) (left_on H again back) (events_for node.rules whole).ending (events_for again.rules back).ending
+          left
+          (ap (λ x. is_some (bad_end x.ending)) (over whole) ∙ parted.back_ends
+          ∙ ap (λ r. is_some (bad_end (events_for r back).ending)) (sym again_stands.rules_are))
 
 pub resumed_is_whole : ResumedIsWhole
 resumed_is_whole = λ H long limits few net scripts watched before node again whole front back prior begun parted bytes honest left_by read. (

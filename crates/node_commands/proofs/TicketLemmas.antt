@@ -1,5 +1,6 @@
 -- What `ticket`, `check` and `recheck` give, and what it means.
-use Rattle.std.proofs.Common.{◌≡◌, ◌⊎◌, inl, inr, ℕ, ◌<◌, ◌≤◌, ◌^◌, Bool, true, false, List, [], ◌∷◌, ◌++◌, length, map, Option, Some, None, Result, Ok, Err, IfOk, OnOk, IsErrOf, is_err, refl, sym, ap, subst, ◌∙◌, arith, append-nil, cond}
+use Rattle.std.proofs.Common.{◌≡◌, ◌⊎◌, inl, inr, ℕ, ◌<◌, ◌≤◌, ◌^◌, Bool, true, false, List, [], ◌∷◌, ◌++◌, length, map, Option, Some, None, Result}
+use Rattle.std.proofs.Common.{Ok, Err, IfOk, OnOk, IsErrOf, is_err, refl, sym, ap, subst, ◌∙◌, arith, append-nil, cond}
 use Rattle.std.specs.Prelude.{◌↔◌, IfSome, nat_lt, if◌then◌else◌}
 use Rattle.std.specs.Io.KnownBytes.{Appends}
 use Rattle.std.proofs.KnownBytes.{Appends-nil}
@@ -47,7 +48,8 @@ use Rattle.node_commands.proofs.StartLemmas.{back_at, no_bad}
 
 -- ---- of a feed port that is read whole, by a command that tells no event and stores nothing
 
-module _ (net : Net) (limit : ℕ) (answer : List ℕ → Answer) (quiet : (text : List ℕ) → (answer text).out ≡ []) (feed feed' report report' out : Option (List ℕ)) (lost : LosesFront feed feed') where
+module _ (net : Net) (limit : ℕ) (answer : List ℕ → Answer) (quiet : (text : List ℕ) → (answer text).out ≡ [])
+    (feed feed' report report' out : Option (List ℕ)) (lost : LosesFront feed feed') where
   abbrev none : List FeedEvent → List ℕ
   none events = []
 
@@ -67,8 +69,10 @@ module _ (net : Net) (limit : ℕ) (answer : List ℕ → Answer) (quiet : (text
   }
 
   -- it was read, and the answer or a part of it was given
-  pub serves-text : (text : List ℕ) → Tells feed text → (r : Result Status Stop) → IfOk r (λ status. status ≡ (answer text).status) → OnOk r (Appends report report' (answer text).report)
-      → AppendsPart report report' (answer text).report → (IsErrOf r Stop.ReadFault → ⊥) → Serves none none answer net limit feed feed' report report' out out (is_err r) (status_in r)
+  pub serves-text : (text : List ℕ) → Tells feed text → (r : Result Status Stop) → IfOk r (λ status. status ≡ (answer text).status)
+      → OnOk r (Appends report report' (answer text).report)
+      → AppendsPart report report' (answer text).report → (IsErrOf r Stop.ReadFault → ⊥)
+      → Serves none none answer net limit feed feed' report report' out out (is_err r) (status_in r)
   serves-text text told (Ok status) p q part never = record {
     text = text;
     told = told;
@@ -91,14 +95,18 @@ module _ (net : Net) (limit : ℕ) (answer : List ℕ → Answer) (quiet : (text
   }
 
   -- by another name of the answer
-  pub serves-as : (text : List ℕ) → Tells feed text → (is : Answer) → is ≡ answer text → (r : Result Status Stop) → IfOk r (λ status. status ≡ is.status) → OnOk r (Appends report report' is.report)
-      → AppendsPart report report' is.report → (IsErrOf r Stop.ReadFault → ⊥) → Serves none none answer net limit feed feed' report report' out out (is_err r) (status_in r)
+  pub serves-as : (text : List ℕ) → Tells feed text → (is : Answer) → is ≡ answer text → (r : Result Status Stop)
+      → IfOk r (λ status. status ≡ is.status) → OnOk r (Appends report report' is.report)
+      → AppendsPart report report' is.report → (IsErrOf r Stop.ReadFault → ⊥)
+      → Serves none none answer net limit feed feed' report report' out out (is_err r) (status_in r)
   serves-as text told is same r p q part never =
-      serves-text text told r (subst (λ (a : Answer). IfOk r (λ status. status ≡ a.status)) same p) (subst (λ (a : Answer). OnOk r (Appends report report' a.report)) same q)
+      serves-text text told r (subst (λ (a : Answer). IfOk r (λ status. status ≡ a.status)) same p)
+      (subst (λ (a : Answer). OnOk r (Appends report report' a.report)) same q)
       (subst (λ (a : Answer). AppendsPart report report' a.report) same part) never
 
   -- it was not read
-  pub serves-unread : (stop : Stop) → (stop ≡ Stop.WriteFault → ⊥) → Serves none none answer net limit feed feed' report report out out true (status_in (Err stop))
+  pub serves-unread : (stop : Stop) → (stop ≡ Stop.WriteFault → ⊥)
+      → Serves none none answer net limit feed feed' report report out out true (status_in (Err stop))
   serves-unread stop never = record {
     text = told_text feed;
     told = Tells-told_text feed;
@@ -117,11 +125,13 @@ module _ (net : Net) (limit : ℕ) (answer : List ℕ → Answer) (quiet : (text
 
 -- ---- what `check` answers
 
-pub check-read : (H : List ℕ → Digest) (limit : ℕ) (node : NodeState) (text : List ℕ) → length text ≤ limit → told_as (check_of H node text) ≡ check_answer H limit node text
+pub check-read : (H : List ℕ → Digest) (limit : ℕ) (node : NodeState) (text : List ℕ) → length text ≤ limit
+    → told_as (check_of H node text) ≡ check_answer H limit node text
 unfolding check_answer
 check-read H limit node text short = let t : nat_lt limit (length text) ≡ false = le-ltb limit (length text) short in rw t refl
 
-pub check-long : (H : List ℕ → Digest) (limit : ℕ) (node : NodeState) (text : List ℕ) → limit < length text → said Statuses.InputLimit (LimitFeed limit) ≡ check_answer H limit node text
+pub check-long : (H : List ℕ → Digest) (limit : ℕ) (node : NodeState) (text : List ℕ) → limit < length text
+    → said Statuses.InputLimit (LimitFeed limit) ≡ check_answer H limit node text
 unfolding check_answer
 check-long H limit node text long = let t : nat_lt limit (length text) ≡ true = lt-ltb limit (length text) long in rw t refl
 
@@ -153,7 +163,8 @@ check-told H node (Ok k) = told-ends (verdict_over H node k) k
 check-told H node (Err Fault.NotATicket) = inr (inl refl)
 check-told H node (Err (Fault.Version v)) = inr (inl refl)
 
-pub check-ends : (H : List ℕ → Digest) (limit : ℕ) (node : NodeState) (text : List ℕ) → length text ≤ limit → IsEnd (check_answer H limit node text).status
+pub check-ends : (H : List ℕ → Digest) (limit : ℕ) (node : NodeState) (text : List ℕ) → length text ≤ limit
+    → IsEnd (check_answer H limit node text).status
 check-ends H limit node text short = subst (λ (a : Answer). IsEnd a.status) (check-read H limit node text short) (check-told H node (ticket_in text))
 
 pub ticket-ends : (number : ℕ) (k : Option Ticket) → IsEnd (ticketed number k).status
@@ -166,8 +177,10 @@ module _ (H : List ℕ → Digest) (long : (x : List ℕ) → length (H x).0 ≡
   pub ticket-is-right : (number : ℕ) (begun : Start) → IsStart H limits prior begun → TicketIsRight H limits number prior begun
   ticket-is-right number (Ok node) start = λ level k at e.
       let b = back_at H long limits few at.net at.scripts at.watched at.before at.bytes prior at.text node start in
-      subst (λ (l : Level). TicketRight H l.history l.tip k) (sym at.newest) (kept_tickets_are_right H (reached_by H limits at.net at.scripts at.before) node number k b.is b.stands e)
-  ticket-is-right number (Err bad) start = λ level at. no_bad H long limits few at.net at.scripts at.watched at.before at.bytes prior at.text bad at.short start
+      subst (λ (l : Level). TicketRight H l.history l.tip k) (sym at.newest)
+      (kept_tickets_are_right H (reached_by H limits at.net at.scripts at.before) node number k b.is b.stands e)
+  ticket-is-right number (Err bad) start =
+      λ level at. no_bad H long limits few at.net at.scripts at.watched at.before at.bytes prior at.text bad at.short start
 
   pub checks-text : (text : List ℕ) (begun : Start) → IsStart H limits prior begun → ChecksText H limits prior text begun
   checks-text text (Ok node) start = λ k read. record {
@@ -178,7 +191,8 @@ module _ (H : List ℕ → Digest) (long : (x : List ℕ) → length (H x).0 ≡
         subst (λ (l : Level). (checked_by H node k ≡ live_of k) ↔ TicketRight H l.history l.tip k) (sym at.newest)
         (live_is_right H reached node k b.stands (λ a. subst (λ (l : Level). TicketRight H l.history l.tip k) at.newest (honest a)));
   }
-  checks-text text (Err bad) start = λ level at. no_bad H long limits few at.net at.scripts at.watched at.before at.bytes prior at.text bad at.short start
+  checks-text text (Err bad) start = λ level at. no_bad H long limits few at.net at.scripts at.watched at.before at.bytes prior at.text bad at.short
+      start
 
   pub ticket-claims : (number : ℕ) (begun : Option Start) → IfSome begun (IsStart H limits prior) → IfSome begun (TicketIsRight H limits number prior)
   ticket-claims number None begins = tt

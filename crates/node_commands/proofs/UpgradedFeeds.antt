@@ -1,5 +1,6 @@
 -- What `upgrade feed` stores, and that it is followed as the feed is.
-use Rattle.std.proofs.Common.{◌≡◌, ℕ, suc, ◌+◌, ◌<◌, ◌≤◌, ◌^◌, Bool, List, [], ◌∷◌, ◌++◌, length, map, Option, Some, None, refl, sym, ap, subst, ◌∙◌, arith, append-nil}
+use Rattle.std.proofs.Common.{◌≡◌, ℕ, suc, ◌+◌, ◌<◌, ◌≤◌, ◌^◌, Bool, List, [], ◌∷◌, ◌++◌, length, map, Option, Some, None, refl, sym, ap, subst, ◌∙◌}
+use Rattle.std.proofs.Common.{arith, append-nil}
 use Rattle.std.specs.List.{flat_map, list_any}
 use Rattle.uo_base.specs.declared.event.Limits.{Limits}
 use Rattle.uo_base.specs.declared.event.Net.{Net}
@@ -35,7 +36,13 @@ module _ (H : List ℕ → Digest) where
   -- ---- the machine, by its events
 
   abbrev with : Upgrading → List FeedEvent → (count messages : ℕ) → Upgrading
-  with u events count messages = record { net = u.net; node = node_after H leaf_text u.node (map event_in events); events = count; messages = messages }
+  with u events count messages = record {
+    net = u.net;
+    node = node_after H leaf_text u.node (map event_in events);
+    events = count;
+    messages =
+        messages;
+  }
 
   left-upgraded : (events : List FeedEvent) (u : Upgrading)
       → left_by (upgrade_machine H) u events ≡ with u events (u.events + length events) (u.messages + old_messages events)
@@ -46,7 +53,8 @@ module _ (H : List ℕ → Digest) where
   left-upgraded (event ∷ events) u =
       let v = next_upgrader H u event in
       left-upgraded events v
-      ∙ ap (λ k. with v events k (v.messages + old_messages events)) (let z : (u.events + 1) + length events ≡ u.events + suc (length events) = omega arith in z)
+      ∙ ap (λ k. with v events k (v.messages + old_messages events)) (let z : (u.events + 1) + length events ≡ u.events + suc (length events) =
+      omega arith in z)
       ∙ ap (with v events (u.events + suc (length events)))
       (let z : (u.messages + old_beside event) + old_messages events ≡ u.messages + (old_beside event + old_messages events) = omega arith in z)
 
@@ -54,12 +62,14 @@ module _ (H : List ℕ → Digest) where
   said-none [] u = refl
   said-none (event ∷ events) u = said-none events (next_upgrader H u event)
 
-  sent-upgraded : (events : List FeedEvent) (u : Upgrading) → sent_by (upgrade_machine H) u events ≡ feed_text u.net (upgraded_events H leaf_text u.node events)
+  sent-upgraded : (events : List FeedEvent) (u : Upgrading)
+      → sent_by (upgrade_machine H) u events ≡ feed_text u.net (upgraded_events H leaf_text u.node events)
   unfolding upgraded_frames next_upgrader
   sent-upgraded [] u = refl
   sent-upgraded (event ∷ events) u = ap (λ l. upgraded_frames u event ++ l) (sent-upgraded events (next_upgrader H u event))
 
-  served-node : (node : NodeState) (feed : List ℕ) → served_feed (upgrade_machine H) (upgrader_of node) node.rules.net node.rules.limits.bytes feed ≡ upgrade_feed_answer H node feed
+  served-node : (node : NodeState) (feed : List ℕ) → served_feed (upgrade_machine H) (upgrader_of node) node.rules.net node.rules.limits.bytes feed
+      ≡ upgrade_feed_answer H node feed
   unfolding served_feed upgrade_feed_answer
   served-node node feed =
       let m = upgrade_machine H in
@@ -74,15 +84,21 @@ module _ (H : List ℕ → Digest) where
       ∙ ap (λ k. answer_with [] frames (upgrade_end (length es) k) events.ending) (let z : 0 + old_messages es ≡ old_messages es = omega arith in z)
 
   -- what a call over the machine gave is what it gave of the node
-  pub upgrade-serves : (node : NodeState) (u : Upgrading) (net : Net) (bytes : ℕ) → u ≡ upgrader_of node → node.rules.net ≡ net → node.rules.limits.bytes ≡ bytes
+  pub upgrade-serves : (node : NodeState) (u : Upgrading) (net : Net) (bytes : ℕ) → u ≡ upgrader_of node → node.rules.net ≡ net
+      → node.rules.limits.bytes ≡ bytes
       → {feed feed' report report' out out' : Option (List ℕ)} (stopped : Bool) (status : Status)
-      → Serves (said_by (upgrade_machine H) u) (sent_by (upgrade_machine H) u) (served_feed (upgrade_machine H) u net bytes) net bytes feed feed' report report' out out' stopped status
-      → Serves (λ events. []) (upgraded_text H node) (upgrade_feed_answer H node) node.rules.net bytes feed feed' report report' out out' stopped status
+      → Serves (said_by (upgrade_machine H) u) (sent_by (upgrade_machine H) u) (served_feed (upgrade_machine H) u net bytes) net bytes feed feed'
+      report report' out out' stopped status
+      → Serves (λ events. []) (upgraded_text H node) (upgrade_feed_answer H node) node.rules.net bytes feed feed' report report' out out' stopped
+      status
   upgrade-serves node u net bytes e n b {feed} {feed'} {report} {report'} {out} {out'} stopped status s =
       let m = upgrade_machine H in
-      Serves-same (λ events. said-none events u) (λ events. sent-upgraded events u ∙ ap (λ (v : Upgrading). feed_text v.net (upgraded_events H leaf_text v.node events)) e)
-      (λ text. ap (λ v. served_feed m v node.rules.net bytes text) e ∙ ap (λ k. served_feed m (upgrader_of node) node.rules.net k text) (sym b) ∙ served-node node text)
-      stopped status (subst (λ k. Serves (said_by m u) (sent_by m u) (served_feed m u k bytes) k bytes feed feed' report report' out out' stopped status) (sym n) s)
+      Serves-same (λ events. said-none events u)
+      (λ events. sent-upgraded events u ∙ ap (λ (v : Upgrading). feed_text v.net (upgraded_events H leaf_text v.node events)) e)
+      (λ text. ap (λ v. served_feed m v node.rules.net bytes text) e ∙ ap (λ k. served_feed m (upgrader_of node) node.rules.net k text) (sym b)
+      ∙ served-node node text)
+      stopped status (subst (λ k. Serves (said_by m u) (sent_by m u) (served_feed m u k bytes) k bytes feed feed' report report' out out' stopped
+      status) (sym n) s)
 
   -- ---- what is stored is followed
 
@@ -102,13 +118,15 @@ module _ (H : List ℕ → Digest) where
 
     stored_is : upgraded_feed H node feed ≡ frames
     unfolding upgrade_feed_answer
-    stored_is = ap (λ w. frames ++ w) (nothing-behind (upgrade_end (length came.events) (old_messages came.events)) refl (bad_end came.ending)) ∙ append-nil frames
+    stored_is = ap (λ w. frames ++ w) (nothing-behind (upgrade_end (length came.events) (old_messages came.events)) refl (bad_end came.ending))
+        ∙ append-nil frames
 
     alike : IsFollowedAlike H leaf_text node node.rules.net node.rules.limits.bytes feed
     alike = followed_alike H leaf_text node.rules.net node node.rules.limits.bytes feed is bytes
 
     abbrev answer_to : List Verdict → NodeState → (count : ℕ) → Option FeedFault → Answer
-    answer_to vs last count ending = answer_with (flat_map line_of vs) [] (end_by (list_any is_refused vs) count last.newest.chain (stored_text last)) ending
+    answer_to vs last count ending = answer_with (flat_map line_of vs) [] (end_by (list_any is_refused vs) count last.newest.chain (stored_text last))
+        ending
 
     abbrev answer_of : List FeedEvent → Option FeedFault → Answer
     answer_of events ending =
@@ -144,9 +162,11 @@ module _ (H : List ℕ → Digest) where
   follows-upgraded node feed is = record { whole = whole node is feed; ends = ends node is feed; lines = lines node is feed }
 
   -- from the start
-  pub follows-upgraded-afresh : (limits : Limits) (net : Net) → limits.leaves < 2 ^ 40 → limits.bytes ≤ 2 ^ 48 → (list : Option (List (List ℕ))) (feed : List ℕ)
+  pub follows-upgraded-afresh : (limits : Limits) (net : Net) → limits.leaves < 2 ^ 40 → limits.bytes ≤ 2 ^ 48
+      → (list : Option (List (List ℕ))) (feed : List ℕ)
       → FollowsUpgraded H (fresh_for limits net list) feed
-  follows-upgraded-afresh limits net few short list feed = follows-upgraded (fresh_for limits net list) feed (fresh-node H leaf_text net limits _ few short)
+  follows-upgraded-afresh limits net few short list feed =
+      follows-upgraded (fresh_for limits net list) feed (fresh-node H leaf_text net limits _ few short)
 
 pub upgraded_feeds_are_followed : UpgradedFeedsAreFollowed
 upgraded_feeds_are_followed H node feed is = follows-upgraded H node feed is

@@ -15,17 +15,20 @@ pub list-none : (named : Bool) (limit : ℕ) (left : Option (List ℕ)) → name
 unfolding list_in
 list-none named limit left e = record { text = told_text left; told = Tells-told_text left; is = sym (ap (λ b. list_in b limit (told_text left)) e) }
 
-pub list-long : (named : Bool) (limit : ℕ) (left : Option (List ℕ)) → named ≡ true → IsLonger left limit → IsListOf named limit left (Err (record { status = InputLimit; line = LimitWatch limit }))
+pub list-long : (named : Bool) (limit : ℕ) (left : Option (List ℕ)) → named ≡ true → IsLonger left limit
+    → IsListOf named limit left (Err (record { status = InputLimit; line = LimitWatch limit }))
 unfolding list_in
 list-long named limit left e l =
     let long = lt-ltb limit (length l.text) l.longer in
     record {
       text = l.text;
       told = l.told_text;
-      is = sym (ap (λ b. list_in b limit l.text) e ∙ ap (λ b. if b then Err (record { status = InputLimit; line = LimitWatch limit }) else scripts_in l.text) long);
+      is = sym (ap (λ b. list_in b limit l.text) e
+          ∙ ap (λ b. if b then Err (record { status = InputLimit; line = LimitWatch limit }) else scripts_in l.text) long);
     }
 
-pub list-read : (named : Bool) (limit : ℕ) (left : Option (List ℕ)) (text : List ℕ) (list : Result (Option (List (List ℕ))) BadInput) → named ≡ true → Tells left text → length text ≤ limit
+pub list-read : (named : Bool) (limit : ℕ) (left : Option (List ℕ)) (text : List ℕ) (list : Result (Option (List (List ℕ))) BadInput) → named ≡ true
+    → Tells left text → length text ≤ limit
     → list ≡ scripts_in text → IsListOf named limit left list
 unfolding list_in
 list-read named limit left text list e told short is =
@@ -33,10 +36,12 @@ list-read named limit left text list e told short is =
     record {
       text = text;
       told = told;
-      is = is ∙ sym (ap (λ b. list_in b limit text) e ∙ ap (λ b. if b then Err (record { status = InputLimit; line = LimitWatch limit }) else scripts_in text) fits);
+      is = is ∙ sym (ap (λ b. list_in b limit text) e
+          ∙ ap (λ b. if b then Err (record { status = InputLimit; line = LimitWatch limit }) else scripts_in text) fits);
     }
 
-pub lists-read : {E : Type 0} (named : Bool) (limit : ℕ) (left : Option (List ℕ)) (text : List ℕ) → named ≡ true → Tells left text → length text ≤ limit
+pub lists-read : {E : Type 0} (named : Bool) (limit : ℕ) (left : Option (List ℕ)) (text : List ℕ) → named ≡ true → Tells left text
+    → length text ≤ limit
     → (r : Result (Result (Option (List (List ℕ))) BadInput) E) → IfOk r (λ list. list ≡ scripts_in text) → IfOk r (IsListOf named limit left)
 lists-read named limit left text e told short (Ok list) is = list-read named limit left text list e told short is
 lists-read named limit left text e told short (Err fault) is = tt

@@ -6,7 +6,8 @@ use Rattle.uo_base.specs.declared.event.Net.TheVariants.{Main}
 use Rattle.uo_digest.specs.declared.digest.Digest.{Digest}
 use Rattle.command_words.specs.declared.words.WordFault.{WordFault}
 use Rattle.command_words.specs.Options.{Settings}
-use Rattle.command_words.specs.Words.{Asked, Task, Following, Proving, Auditing, Generating, UpgradingFeed, UpgradingState, Ordering, Ticketing, Checking, Rechecking, Relaying, net_for, command_of}
+use Rattle.command_words.specs.Words.{Asked, Task, Following, Proving, Auditing, Generating, UpgradingFeed, UpgradingState, Ordering, Ticketing}
+use Rattle.command_words.specs.Words.{Checking, Rechecking, Relaying, net_for, command_of}
 use Rattle.feed_run.specs.declared.status.Status.TheVariants.{Words}
 use Rattle.report_lines.specs.declared.line.Line.TheVariants as Line
 use Rattle.node_commands.specs.declared.bad_input.BadInput.{BadInput}

@@ -86,4 +86,5 @@ fresh_for limits net list = fresh_node net limits (unwrap_or list [])
 
 -- what it answers is that of a node that holds every output
 abbrev pub PrintsAsFull : (List ℕ → Digest) → Limits → Net → Option (List (List ℕ)) → (feed : List ℕ) → Type 0
-PrintsAsFull H limits net list feed = IsAsOfFull H (unwrap_or list []) (rules_of limits net) start feed (follow_answer H (fresh_for limits net list) feed)
+PrintsAsFull H limits net list feed = IsAsOfFull H (unwrap_or list []) (rules_of limits net) start feed
+    (follow_answer H (fresh_for limits net list) feed)

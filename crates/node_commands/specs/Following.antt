@@ -12,7 +12,8 @@ use Rattle.node_commands.specs.Starting.{Start, IsStart, IsGoodBehind, ResumesAs
 use Rattle.node_commands.specs.Watching.{list_in, IsGood}
 
 -- a node is told the events of the feed, and its state is stored at the end
-abbrev pub following : (List ℕ → Digest) → Uses → (Begins : (prior watch : List ℕ) → Start → Type 0) → (Claims : Inputs NodeState → Type 0) → (AreGood : (feed prior watch : List ℕ) → Type 0) → Meaning
+abbrev pub following : (List ℕ → Digest) → Uses → (Begins : (prior watch : List ℕ) → Start → Type 0) → (Claims : Inputs NodeState → Type 0)
+    → (AreGood : (feed prior watch : List ℕ) → Type 0) → Meaning
 following H uses begins claims good = record {
   uses = uses;
   Begun = NodeState;
@@ -31,13 +32,14 @@ abbrev pub fresh_start : Limits → Net → Result (Option (List (List ℕ))) Ba
 fresh_start limits net (Ok list) = Ok (fresh_for limits net list)
 fresh_start limits net (Err bad) = Err bad
 
--- From the start. What is answered is that of a node that holds every output, and over what a proving node wrote, with messages in full or lean ones for
--- the list, it has the lines of that node's accepted blocks and made rollbacks.
+-- From the start. What is answered is that of a node that holds every output, and over what a proving node wrote, with messages in full or lean ones
+-- for the list, it has the lines of that node's accepted blocks and made rollbacks.
 abbrev pub following_afresh : (List ℕ → Digest) → Limits → Net → (named : Bool) → Meaning
 following_afresh H limits net named =
     following H (record { feed = true; prior = false; watch = named; out = true; steps = true })
     (λ prior watch begun. begun ≡ fresh_start limits net (list_in named limits.bytes watch))
-    (λ inputs. IfOk (list_in named limits.bytes inputs.watch) (λ list. PrintsAsFull H limits net list inputs.feed × FollowsProving H (fresh_for limits net list) inputs.feed))
+    (λ inputs. IfOk (list_in named limits.bytes inputs.watch) (λ list. PrintsAsFull H limits net list inputs.feed
+    × FollowsProving H (fresh_for limits net list) inputs.feed))
     (λ feed prior watch. IsGood named net limits watch feed)
 
 -- from a prior state, with the network and the watch list of that state

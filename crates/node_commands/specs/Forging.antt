@@ -40,7 +40,8 @@ abbrev pub AreTrueTo : (List ℕ → Digest) → Limits → Net → (scripts : L
 AreTrueTo H limits net scripts events = AreHonest H leaf_text scripts (rules_of limits net) start (map event_in events)
 
 -- behind events none of which is forged comes a block with a message that is: its roots accept the message, and it is not right
-pub record IsForgedBehind (H : List ℕ → Digest) (limits : Limits) (net : Net) (scripts : List (List ℕ)) (front : List FeedEvent) (event : FeedEvent) : Type 0 where
+pub record IsForgedBehind (H : List ℕ → Digest) (limits : Limits) (net : Net) (scripts : List (List ℕ)) (front : List FeedEvent)
+    (event : FeedEvent) : Type 0 where
   pub honest : AreTrueTo H limits net scripts front
   pub block : Block
   pub message : Message
@@ -59,9 +60,10 @@ pub record HasForged (H : List ℕ → Digest) (limits : Limits) (net : Net) (sc
 
 -- ---- `audit` beside it
 
--- the lines of the events before, and those of two different texts with one digest: one is that of a node of the forest, and the proof in
--- the message digests the other
-pub record ShowsTexts (H : List ℕ → Digest) (limits : Limits) (net : Net) (scripts : List (List ℕ)) (front : List FeedEvent) (block : Block) (message : Message) (answer : Answer) : Type 0 where
+-- the lines of the events before, and those of two different texts with one digest: one is that of a node of the forest, and the proof in the message
+-- digests the other
+pub record ShowsTexts (H : List ℕ → Digest) (limits : Limits) (net : Net) (scripts : List (List ℕ)) (front : List FeedEvent) (block : Block)
+    (message : Message) (answer : Answer) : Type 0 where
   pub clash : TextClash
   pub is :
       let level = level_behind H limits net scripts front in
@@ -79,7 +81,10 @@ pub record AuditsFeed (H : List ℕ → Digest) (limits : Limits) (net : Net) (s
       let events = events_of net limits.bytes feed in
       let told = told_by H limits net scripts events.events in
       AreTrueTo H limits net scripts events.events → audit_answer H limits net scripts feed
-      ≡ answer_with (flat_map line_of told) [] (level_end (list_any is_refused told) (length events.events) net (level_behind H limits net scripts events.events)) events.ending
+      ≡ answer_with (flat_map line_of told) []
+      (level_end (list_any is_refused told) (length events.events) net (level_behind H limits net scripts events.events)) events.ending
   pub forged : (front later : List FeedEvent) (event : FeedEvent) → IsBytes feed → (events_of net limits.bytes feed).events ≡ front ++ event ∷ later
-      → (f : IsForgedBehind H limits net scripts front event) → ShowsTexts H limits net scripts front f.block f.message (audit_answer H limits net scripts feed)
-  pub exactly : ((audit_answer H limits net scripts feed).status ≡ Status.Clash) ↔ HasForged H limits net scripts (events_of net limits.bytes feed).events
+      → (f : IsForgedBehind H limits net scripts front event)
+      → ShowsTexts H limits net scripts front f.block f.message (audit_answer H limits net scripts feed)
+  pub exactly : ((audit_answer H limits net scripts feed).status ≡ Status.Clash)
+      ↔ HasForged H limits net scripts (events_of net limits.bytes feed).events

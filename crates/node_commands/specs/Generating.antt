@@ -18,7 +18,11 @@ generated_line number blocks net = Generated blocks (rollbacks_in blocks) (lengt
 
 -- it stores the feed of the number, and then prints its line
 unfoldable pub gen_answer : (number blocks : ℕ) → Net → Answer
-gen_answer number blocks net = record { status = AllAccepted; report = whole_line (generated_line number blocks net); out = generated number blocks net }
+gen_answer number blocks net = record {
+  status = AllAccepted;
+  report = whole_line (generated_line number blocks net);
+  out = generated number blocks net;
+}
 
 -- it reads nothing, and tells no event
 abbrev pub generating : (number blocks : ℕ) → Net → Meaning

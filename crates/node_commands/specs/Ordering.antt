@@ -52,14 +52,20 @@ fault_line (Missing hash) = Line.Missing hash
 fault_line (Loop hash) = Line.Loop hash
 fault_line NoMemory = Line.NoTip
 
--- Of a feed that is read to its end the frames of the path are stored, if there is one, which are no more than the feed's blocks; else the cause is told
--- why there is none. One of these two is. Over what is stored no block is refused for its link before another is refused.
+-- Of a feed that is read to its end the frames of the path are stored, if there is one, which are no more than the feed's blocks; else the cause is
+-- told why there is none. One of these two is. Over what is stored no block is refused for its link before another is refused.
 pub record OrdersFeed (net : Net) (limit : ℕ) (tip : Digest) (feed : List ℕ) : Type 0 where
   pub path : (path : List Arrival) → (events_of net limit feed).ending ≡ None →
       let bodies = bodies_of (events_of net limit feed).events in
       IsPath (arrivals_of bodies) tip path
-      → order_answer net limit tip feed ≡ record { status = AllAccepted; report = whole_line (Line.Ordered (length path) (length bodies - length path)); out = path_text net path }
-  pub counted : (path : List Arrival) → let bodies = bodies_of (events_of net limit feed).events in IsPath (arrivals_of bodies) tip path → length path ≤ length bodies
+      → order_answer net limit tip feed ≡ record {
+        status = AllAccepted;
+        report =
+            whole_line (Line.Ordered (length path) (length bodies - length path));
+        out = path_text net path;
+      }
+  pub counted : (path : List Arrival) → let bodies = bodies_of (events_of net limit feed).events in
+      IsPath (arrivals_of bodies) tip path → length path ≤ length bodies
   pub cause : (fault : PathFault) → (events_of net limit feed).ending ≡ None → fault ≢ NoMemory →
       IsCause (arrivals_of (bodies_of (events_of net limit feed).events)) tip fault → order_answer net limit tip feed ≡ refused_by (fault_line fault)
   pub either : let arrivals = arrivals_of (bodies_of (events_of net limit feed).events) in IsToldOf arrivals tip (path_of arrivals tip)

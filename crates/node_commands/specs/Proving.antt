@@ -45,13 +45,18 @@ proving_state rules events = state_after rules own_judge start (map event_in eve
 
 -- a line for each of these verdicts, none of which refuses anything, and the last one; and the state
 abbrev pub answer_made : List Verdict → Chain → (stored : List ℕ) → Answer
-answer_made made chain stored = record { status = AllAccepted; report = flat_map line_of made ++ whole_line (end_line (length made) chain); out = stored }
+answer_made made chain stored = record {
+  status = AllAccepted;
+  report = flat_map line_of made ++ whole_line (end_line (length made) chain);
+  out = stored;
+}
 
 -- no proof in the feed is forged, and `follow` answers the lines of the blocks that the proving node accepted and of the rollbacks that it made,
 -- and stores what that node holds, with the scripts of its own list
 pub record IsFollowed (H : List ℕ → Digest) (node : NodeState) (rules : Rules) (events : List FeedEvent) (feed : List ℕ) : Type 0 where
   pub honest : AreTrue H node.scripts node.rules start (events_for node.rules feed).events
-  pub answer : follow_answer H node feed ≡ answer_made (kept_verdicts (proving_verdicts rules events)) (proving_chain rules events) (full_text H node.scripts node.rules (proving_state rules events))
+  pub answer : follow_answer H node feed ≡ answer_made (kept_verdicts (proving_verdicts rules events)) (proving_chain rules events)
+      (full_text H node.scripts node.rules (proving_state rules events))
 
 -- the same where the feed goes on past the limit: these are the first of the lines, with a `stray` behind them where the limit stands between a
 -- proof and the end of its block, and the line of the limit
@@ -62,11 +67,17 @@ pub record IsFollowedTo (H : List ℕ → Digest) (node : NodeState) (rules : Ru
   pub split : kept_verdicts (proving_verdicts rules events) ≡ front ++ later
   pub strays : List Verdict
   pub one : (strays ≡ []) ⊎ (strays ≡ Stray ∷ [])
-  pub answer : follow_answer H node feed ≡ record { status = InputLimit; report = flat_map line_of (front ++ strays) ++ whole_line (Line.LimitFeed node.rules.limits.bytes); out = [] }
+  pub answer : follow_answer H node feed ≡ record {
+    status = InputLimit;
+    report =
+        flat_map line_of (front ++ strays) ++ whole_line (Line.LimitFeed node.rules.limits.bytes);
+    out = [];
+  }
 
 -- a proving node with the same network and leaf limit, whatever it may read, writes this feed of some events, with messages that serve the
 -- node: in full, or lean ones for the list of the node
-pub record IsWritten (H : List ℕ → Digest) (node : NodeState) (proving : Limits) (watch : Option (List (List ℕ))) (events : List FeedEvent) (feed : List ℕ) : Type 0 where
+pub record IsWritten (H : List ℕ → Digest) (node : NodeState) (proving : Limits) (watch : Option (List (List ℕ))) (events : List FeedEvent)
+    (feed : List ℕ) : Type 0 where
   pub leaves : proving.leaves ≡ node.rules.limits.leaves
   pub serves : Serves watch node.scripts
   pub bytes : AllByRecursion AreEventBytes events

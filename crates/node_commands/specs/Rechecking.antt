@@ -1,5 +1,6 @@
 -- What `recheck` answers to a ticket and a feed, and what it means.
-use Rattle.std.specs.Prelude.{◌≡◌, ◌⊎◌, ◌≤◌, ◌<◌, ℕ, ◌+◌, nat_lt, Bool, true, false, List, [], ◌∷◌, ◌++◌, length, map, Some, None, Result, Ok, Err, if◌then◌else◌}
+use Rattle.std.specs.Prelude.{◌≡◌, ◌⊎◌, ◌≤◌, ◌<◌, ℕ, ◌+◌, nat_lt, Bool, true, false, List, [], ◌∷◌, ◌++◌, length, map, Some, None, Result, Ok, Err}
+use Rattle.std.specs.Prelude.{if◌then◌else◌}
 use Rattle.std.specs.declared.option.Option.{Option}
 use Rattle.std.specs.Global.{Vec}
 use Rattle.uo_base.specs.declared.event.Limits.{Limits}
@@ -131,7 +132,8 @@ pub record RechecksOver (H : List ℕ → Digest) (level : Level) (ticket : List
   pub is : (k : Ticket) → ticket_in ticket ≡ Ok k → (checked : Checked) × (answer ≡ told_as checked) × IsRechecked H level.history level.tip k checked
 
 -- two different texts with one digest: one is that of a node of the forest, and the proof in the message digests the other
-pub record ShowsAlone (H : List ℕ → Digest) (level : Level) (events : ℕ) (block : Block) (message : Message) (scripts : List (List ℕ)) (answer : Answer) : Type 0 where
+pub record ShowsAlone (H : List ℕ → Digest) (level : Level) (events : ℕ) (block : Block) (message : Message) (scripts : List (List ℕ))
+    (answer : Answer) : Type 0 where
   pub clash : TextClash
   pub is : IsClash H level.history (known_at H leaf_text scripts level.history) (points_of (external block level.blocks)) message clash
   pub answered : answer ≡ record { status = Status.Clash; report = clash_lines events clash.first clash.second clash.digest; out = [] }

@@ -108,7 +108,8 @@ relay_answer H limits net lists script feed =
     let acts = script_acts net limits.bytes script feed in
     let first = fresh_world net limits lists in
     let outcomes = outcomes_of H first acts in
-    answer_with (outcome_lines outcomes) [] (relay_end (list_any is_undone outcomes) (length script) (world_behind H first acts)) (events_of net limits.bytes feed).ending
+    answer_with (outcome_lines outcomes) [] (relay_end (list_any is_undone outcomes) (length script) (world_behind H first acts))
+    (events_of net limits.bytes feed).ending
 
 -- ---- a run of it
 

@@ -1,5 +1,6 @@
 -- What `relay` means.
-use Rattle.std.specs.Prelude.{◌≡◌, ℕ, ◌-◌, nat_lt, Bool, true, false, List, [], ◌∷◌, length, replicate, None, Result, Ok, Err, IfOk, IfSome, if◌then◌else◌}
+use Rattle.std.specs.Prelude.{◌≡◌, ℕ, ◌-◌, nat_lt, Bool, true, false, List, [], ◌∷◌, length, replicate, None, Result, Ok, Err, IfOk, IfSome}
+use Rattle.std.specs.Prelude.{if◌then◌else◌}
 use Rattle.std.specs.declared.option.Option.{Option}
 use Rattle.uo_base.specs.declared.event.Limits.{Limits}
 use Rattle.uo_base.specs.declared.event.Net.{Net}
@@ -88,7 +89,8 @@ abbrev pub relaying : (List ℕ → Digest) → Limits → (followers : ℕ) →
 relaying H limits followers net scripted listed = record {
   uses = record { feed = true; prior = scripted; watch = listed; out = false; steps = true };
   Begun = RelayStart;
-  Begins = λ prior watch begun. begun ≡ relay_start followers (list_in listed limits.bytes watch) (script_of (prior_text scripted limits.bytes prior));
+  Begins = λ prior watch begun. begun ≡ relay_start followers (list_in listed limits.bytes watch)
+      (script_of (prior_text scripted limits.bytes prior));
   net = λ start. net;
   lines = λ start events. said_by (relay_machine H) (fresh_relay limits net start.lists start.script) events;
   frames = λ start events. [];

@@ -32,8 +32,8 @@ pub record IsGiven (answer : Answer) (report report' out out' : Option (List ℕ
   pub sent : Appends out out' answer.out
 
 -- A fault or want of memory stopped a run within its answer to these events of a feed, so a part of it was written. Of the events whose lines were
--- begun all is stored that they store; and the report has nothing else, or all that is to be stored is. Where the feed failed, the lines of all events
--- are there whose frames were wholly taken from it, and what they store; and where a sink failed those of all but the last two.
+-- begun all is stored that they store; and the report has nothing else, or all that is to be stored is. Where the feed failed, the lines of all
+-- events are there whose frames were wholly taken from it, and what they store; and where a sink failed those of all but the last two.
 pub record IsStopped (lines frames : List FeedEvent → List ℕ) (answer : Answer) (events : List FeedEvent) (net : Net) (limit : ℕ)
     (feed feed' report report' out out' : Option (List ℕ)) (status : Status) : Type 0 where
   pub reported : AppendsPart report report' answer.report
@@ -46,12 +46,15 @@ pub record IsStopped (lines frames : List FeedEvent → List ℕ) (answer : Answ
   pub taken : status ≡ Status.ReadFault → WritesTaken lines frames net limit feed feed' report report' out out'
   pub at_once : status ≡ Status.WriteFault → KeepsUp lines net limit feed feed' report report'
 
-abbrev pub Gives : (lines frames : List FeedEvent → List ℕ) → Answer → List FeedEvent → Net → (limit : ℕ) → (feed feed' report report' out out' : Option (List ℕ)) → (stopped : Bool) → Status → Type 0
-Gives lines frames answer events net limit feed feed' report report' out out' true status = IsStopped lines frames answer events net limit feed feed' report report' out out' status
+abbrev pub Gives : (lines frames : List FeedEvent → List ℕ) → Answer → List FeedEvent → Net → (limit : ℕ)
+    → (feed feed' report report' out out' : Option (List ℕ)) → (stopped : Bool) → Status → Type 0
+Gives lines frames answer events net limit feed feed' report report' out out' true status =
+    IsStopped lines frames answer events net limit feed feed' report report' out out' status
 Gives lines frames answer events net limit feed feed' report report' out out' false status = IsGiven answer report report' out out' status
 
 -- there is a text of the feed, which is the told one; to it the answer was given, or the run was stopped within it
-pub record Serves (lines frames : List FeedEvent → List ℕ) (answer : List ℕ → Answer) (net : Net) (limit : ℕ) (feed feed' report report' out out' : Option (List ℕ)) (stopped : Bool) (status : Status) : Type 0 where
+pub record Serves (lines frames : List FeedEvent → List ℕ) (answer : List ℕ → Answer) (net : Net) (limit : ℕ)
+    (feed feed' report report' out out' : Option (List ℕ)) (stopped : Bool) (status : Status) : Type 0 where
   pub text : List ℕ
   pub told : Tells feed text
   pub gives : Gives lines frames (answer text) (events_of net limit text).events net limit feed feed' report report' out out' stopped status
@@ -71,13 +74,16 @@ pub record IsRefusing (bad : BadInput) (feed feed' report report' out out' : Opt
   pub sent : Appends out out' []
 
 -- what a run gave by what it began with
-abbrev pub GivesBy : (m : Meaning) → (limit : ℕ) → Option (Result m.Begun BadInput) → (text : List ℕ) → (feed feed' report report' out out' : Option (List ℕ)) → (stopped : Bool) → Status → Type 0
+abbrev pub GivesBy : (m : Meaning) → (limit : ℕ) → Option (Result m.Begun BadInput) → (text : List ℕ)
+    → (feed feed' report report' out out' : Option (List ℕ)) → (stopped : Bool) → Status → Type 0
 GivesBy m limit None text feed feed' report report' out out' true status = IsUnbegun feed feed' report report' out out'
 GivesBy m limit None text feed feed' report report' out out' false status = ⊥
 GivesBy m limit (Some (Err bad)) text feed feed' report report' out out' true status = IsRefusing bad feed feed' report report' out out'
-GivesBy m limit (Some (Err bad)) text feed feed' report report' out out' false status = IsGiven (said bad.status bad.line) report report' out out' status
+GivesBy m limit (Some (Err bad)) text feed feed' report report' out out' false status =
+    IsGiven (said bad.status bad.line) report report' out out' status
 GivesBy m limit (Some (Ok begun)) text feed feed' report report' out out' stopped status =
-    Gives (m.lines begun) (m.frames begun) (m.answer begun text) (events_of (m.net begun) limit text).events (m.net begun) limit feed feed' report report' out out' stopped status
+    Gives (m.lines begun) (m.frames begun) (m.answer begun text) (events_of (m.net begun) limit text).events (m.net begun) limit feed feed' report
+    report' out out' stopped status
 
 -- the inputs are these, where their sources tell them
 pub record Agrees {Begun : Type 0} (feed prior watch : Option (List ℕ)) (inputs : Inputs Begun) : Type 0 where
@@ -86,7 +92,8 @@ pub record Agrees {Begun : Type 0} (feed prior watch : Option (List ℕ)) (input
   pub on_watch : Tells watch inputs.watch
 
 -- There are inputs, which are the told ones where they are told. By what the run began with it gave its whole answer, or was stopped within it.
-pub record Ran (m : Meaning) (limit : ℕ) (feed feed' prior watch report report' out out' : Option (List ℕ)) (stopped : Bool) (status : Status) : Type 0 where
+pub record Ran (m : Meaning) (limit : ℕ) (feed feed' prior watch report report' out out' : Option (List ℕ)) (stopped : Bool) (status : Status) : Type
+    0 where
   pub inputs : Inputs m.Begun
   pub told : Agrees feed prior watch inputs
   pub begins : IfSome inputs.begun (m.Begins inputs.prior inputs.watch)

@@ -94,4 +94,5 @@ ResumesAsFull H limits prior feed begun =
     let rules = rules_of limits net in
     AreTrue H scripts rules start before →
     let s = full_after H leaf_text scripts rules start (map event_in before) in
-    IsTextOf (state_of H net scripts s) prior → length prior ≤ limits.bytes → IfSome begun (λ b. IsAsOfFull H scripts rules s feed (start_answer H b feed))
+    IsTextOf (state_of H net scripts s) prior → length prior ≤ limits.bytes
+    → IfSome begun (λ b. IsAsOfFull H scripts rules s feed (start_answer H b feed))

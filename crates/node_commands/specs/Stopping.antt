@@ -22,7 +22,8 @@ use Rattle.node_commands.specs.Starting.{IsNodeOf}
 
 -- a node with these rules and scripts, that stands for what a node that holds every output comes to from its start by these events, none of them
 -- forged
-pub record StandsBehind (H : List ℕ → Digest) (limits : Limits) (net : Net) (scripts : List (List ℕ)) (before : List FeedEvent) (node : NodeState) : Type 0 where
+pub record StandsBehind (H : List ℕ → Digest) (limits : Limits) (net : Net) (scripts : List (List ℕ)) (before : List FeedEvent)
+    (node : NodeState) : Type 0 where
   pub bytes : AllByRecursion AreEventBytes before
   pub honest : AreTrue H scripts (rules_of limits net) start before
   pub is : IsNode node
@@ -49,8 +50,7 @@ lines_on H node feed = flat_map line_of (verdicts_on H leaf_text node (chain_eve
 abbrev pub left_on : (List ℕ → Digest) → NodeState → List ℕ → NodeState
 left_on H node feed = node_after H leaf_text node (chain_events (events_for node.rules feed))
 
--- over the whole feed a node says what it says over the front, and then what this one says over the back; both then keep the same, and store the
--- same
+-- over the whole feed a node says what it says over the front, and then what this one says over the back; both then keep the same, and store the same
 pub record GoesOn (H : List ℕ → Digest) (node again : NodeState) (whole front back : List ℕ) : Type 0 where
   pub lines : lines_on H node whole ≡ lines_on H node front ++ lines_on H again back
   pub left : left_on H node whole ≡ left_on H again back
@@ -63,13 +63,16 @@ IsLeftBy H node front prior = (prior ≡ (follow_answer H node front).out) ⊎ (
 -- Where a run over the front is done and no proof in it is forged, a node that is read of what it left, in either version, goes on from there; and it
 -- stands for what a node that holds every output comes to by all events so far, so it may be stopped again.
 abbrev pub ResumedIsWhole : Type 0
-ResumedIsWhole = (H : List ℕ → Digest) → ((x : List ℕ) → length (H x).0 ≡ 32) → (limits : Limits) → limits.leaves < 2 ^ 40 → (net : Net) (scripts : List (List ℕ)) → AreWatched scripts →
+ResumedIsWhole = (H : List ℕ → Digest) → ((x : List ℕ) → length (H x).0 ≡ 32) → (limits : Limits) → limits.leaves < 2 ^ 40
+    → (net : Net) (scripts : List (List ℕ)) → AreWatched scripts →
     (before : List FeedEvent) (node again : NodeState) (whole front back prior : List ℕ) → StandsBehind H limits net scripts before node →
     let rules = rules_of limits net in
     let events = (events_for rules front).events in
-    IsParted rules whole front back → AllByRecursion AreEventBytes events → AreTrue H scripts rules start (before ++ events) → IsLeftBy H node front prior → IsNodeOf H limits prior again →
+    IsParted rules whole front back → AllByRecursion AreEventBytes events → AreTrue H scripts rules start (before ++ events)
+    → IsLeftBy H node front prior → IsNodeOf H limits prior again →
     GoesOn H node again whole front back × StandsBehind H limits net scripts (before ++ events) again
 
 -- a node with no block stands behind no event
 abbrev pub FreshBegins : Type 0
-FreshBegins = (H : List ℕ → Digest) (limits : Limits) → limits.leaves < 2 ^ 40 → limits.bytes ≤ 2 ^ 48 → (net : Net) (scripts : List (List ℕ)) → StandsBehind H limits net scripts [] (fresh_node net limits scripts)
+FreshBegins = (H : List ℕ → Digest) (limits : Limits) → limits.leaves < 2 ^ 40 → limits.bytes ≤ 2 ^ 48 → (net : Net) (scripts : List (List ℕ))
+    → StandsBehind H limits net scripts [] (fresh_node net limits scripts)

@@ -26,10 +26,12 @@ upgrade_answer (Err bad) = said bad.status bad.line
 
 -- what was read is of no state but this one: so of each state, in either version, the text of version 2 is stored
 abbrev pub UpgradesState : (List ℕ → Digest) → Limits → (prior : List ℕ) → Start → Type 0
-UpgradesState H limits prior begun = (s : StateValue) → IsState H limits.leaves s → IsTextOf s prior → length prior ≤ limits.bytes → upgrade_answer begun ≡ upgraded (length s.levels) (state_text s)
+UpgradesState H limits prior begun = (s : StateValue) → IsState H limits.leaves s → IsTextOf s prior → length prior ≤ limits.bytes
+    → upgrade_answer begun ≡ upgraded (length s.levels) (state_text s)
 
 abbrev pub StatesAreUpgraded : Type 0
-StatesAreUpgraded = (H : List ℕ → Digest) (limits : Limits) (prior : List ℕ) (begun : Start) → limits.leaves < 2 ^ 40 → IsStart H limits prior begun → UpgradesState H limits prior begun
+StatesAreUpgraded = (H : List ℕ → Digest) (limits : Limits) (prior : List ℕ) (begun : Start) → limits.leaves < 2 ^ 40 → IsStart H limits prior begun
+    → UpgradesState H limits prior begun
 
 -- it reads no feed, but digests what it reads of the state
 abbrev pub upgrading_state : (List ℕ → Digest) → Limits → Meaning

@@ -21,7 +21,8 @@ scripts_in text = unless_bad (first_bad 1 (lines_of text)) (listed (lines_of tex
 -- the list that is named, which may have no more bytes than the limit; none where none is named
 unfoldable pub list_in : (named : Bool) → (limit : ℕ) → List ℕ → Result (Option (List (List ℕ))) BadInput
 list_in false limit text = Ok None
-list_in true limit text = if nat_lt limit (length text) then Err (record { status = Status.InputLimit; line = Line.LimitWatch limit }) else scripts_in text
+list_in true limit text = if nat_lt limit (length text) then Err (record { status = Status.InputLimit; line = Line.LimitWatch limit }) else scripts_in
+    text
 
 -- this was made of the list that is told
 pub record IsListOf (named : Bool) (limit : ℕ) (left : Option (List ℕ)) (list : Result (Option (List (List ℕ))) BadInput) : Type 0 where

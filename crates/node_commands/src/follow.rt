@@ -34,7 +34,8 @@ pub fn follow<D: Digester, F: Source, O: Sink, R: Sink, L: Ledger>(
     requires bytes { bytes ≤ 2 ^ 48 }
     requires told { bytes ≡ node.rules.limits.bytes }
     ensures served { Serves (follow_lines D.digest_of node) (λ events. []) (follow_answer D.digest_of node) node.rules.net bytes
-        (F.left feed.old) (F.left feed.new) (R.held report.old) (R.held report.new) (O.held out.old) (O.held out.new) (is_err result) (status_in result) }
+        (F.left feed.old) (F.left feed.new) (R.held report.old) (R.held report.new) (O.held out.old) (O.held out.new) (is_err result)
+        (status_in result) }
     ensures goes_on { IfOk result (λ status. is_stop status ≡ false) }
     ensures read { IsErrOf result Stop.ReadFault → Rose (F.faults feed.old) (F.faults feed.new) }
     ensures write { IsErrOf result Stop.WriteFault → Rose (O.faults out.old) (O.faults out.new) ⊎ Rose (R.faults report.old) (R.faults report.new) }
@@ -58,11 +59,13 @@ pub fn follow_afresh<D: Digester, F: Source, W: Source, O: Sink, R: Sink, L: Led
 ) -> Result<Status, Stop>
     requires leaves { limits.leaves < 2 ^ 40 }
     requires bytes { limits.bytes ≤ 2 ^ 48 }
-    ensures ran { (prior : Option (List ℕ)) → Ran (following_afresh D.digest_of limits net named) limits.bytes (F.left feed.old) (F.left feed.new) prior (W.left list.old)
+    ensures ran { (prior : Option (List ℕ)) → Ran (following_afresh D.digest_of limits net named) limits.bytes (F.left feed.old) (F.left feed.new)
+        prior (W.left list.old)
         (R.held report.old) (R.held report.new) (O.held out.old) (O.held out.new) (is_err result) (status_in result) }
     ensures goes_on { IfOk result (λ status. is_stop status ≡ false) }
     ensures stays { OnFalse named (list.new ≡ list.old) }
-    ensures read { IsErrOf result Stop.ReadFault → Rose (F.faults feed.old) (F.faults feed.new) ⊎ UsedRose named (W.faults list.old) (W.faults list.new) }
+    ensures read { IsErrOf result Stop.ReadFault → Rose (F.faults feed.old) (F.faults feed.new)
+        ⊎ UsedRose named (W.faults list.old) (W.faults list.new) }
     ensures write { IsErrOf result Stop.WriteFault → Rose (O.faults out.old) (O.faults out.new) ⊎ Rose (R.faults report.old) (R.faults report.new) }
 {
     match read_list(alloc, named, limits.bytes, list)? {
@@ -86,7 +89,8 @@ pub fn follow_on<D: Digester, F: Source, P: Source, O: Sink, R: Sink, L: Ledger>
 ) -> Result<Status, Stop>
     requires leaves { limits.leaves < 2 ^ 40 }
     requires bytes { limits.bytes ≤ 2 ^ 48 }
-    ensures ran { (watch : Option (List ℕ)) → Ran (following_on D.digest_of limits) limits.bytes (F.left feed.old) (F.left feed.new) (P.left prior.old) watch
+    ensures ran { (watch : Option (List ℕ)) → Ran (following_on D.digest_of limits) limits.bytes (F.left feed.old) (F.left feed.new)
+        (P.left prior.old) watch
         (R.held report.old) (R.held report.new) (O.held out.old) (O.held out.new) (is_err result) (status_in result) }
     ensures goes_on { IfOk result (λ status. is_stop status ≡ false) }
     ensures read { IsErrOf result Stop.ReadFault → Rose (F.faults feed.old) (F.faults feed.new) ⊎ Rose (P.faults prior.old) (P.faults prior.new) }

@@ -13,8 +13,8 @@ use std::sync::ledger::Ledger;
 use uo_base::{Net, Sink, Source};
 use uo_digest::{Digest, Steps};
 
-/// Reads a feed to its end, and then stores the frames of the blocks on the path from one that begins a chain to the tip, whose hash is named as it is
-/// printed, and prints how many there are. All blocks of the feed are held in memory until then.
+/// Reads a feed to its end, and then stores the frames of the blocks on the path from one that begins a chain to the tip, whose hash is named as it
+/// is printed, and prints how many there are. All blocks of the feed are held in memory until then.
 pub fn order<F: Source, O: Sink, R: Sink, L: Ledger>(
     alloc: Global,
     net: Net,
@@ -26,7 +26,8 @@ pub fn order<F: Source, O: Sink, R: Sink, L: Ledger>(
     steps: &mut Steps<L>,
 ) -> Result<Status, Stop>
     requires { bytes ≤ 2 ^ 48 }
-    ensures ran { (prior watch : Option (List ℕ)) → Ran (ordering bytes net (hash_named tip.now)) bytes (F.left feed.old) (F.left feed.new) prior watch
+    ensures ran { (prior watch : Option (List ℕ))
+        → Ran (ordering bytes net (hash_named tip.now)) bytes (F.left feed.old) (F.left feed.new) prior watch
         (R.held report.old) (R.held report.new) (O.held out.old) (O.held out.new) (is_err result) (status_in result) }
     ensures goes_on { IfOk result (λ status. is_stop status ≡ false) }
     ensures read { IsErrOf result Stop.ReadFault → Rose (F.faults feed.old) (F.faults feed.new) }

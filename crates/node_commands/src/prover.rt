@@ -83,13 +83,15 @@ impl<D: Digester> Prover<D> {
         requires counted { self.old.events < 2 ^ 63 }
         requires bytes { AreEventBytes (event_of event) }
         ensures verdict { IfOk result (λ p. p.verdict ≡ proved_of self.old (event_of event.entry)) }
-        ensures message { IfOk result (λ p. option_map (λ bytes. bytes.items) p.message ≡ message_on D.digest_of self.old.bridge (event_in (event_of event.entry))) }
+        ensures message { IfOk result (λ p. option_map (λ bytes. bytes.items) p.message
+            ≡ message_on D.digest_of self.old.bridge (event_in (event_of event.entry))) }
         ensures next { OnOk result (self.new ≡ next_prover D.digest_of self.old (event_of event.entry)) }
         ensures counted { OnOk result (self.new.events ≡ self.old.events + 1) }
         ensures net { self.new.net ≡ self.old.net }
 
         // What it passes on is no longer than its frames may be.
-        ensures fits { IfOk result (λ p. is_made (Some p.verdict) ≡ true → CanBeWritten (beside (option_map (λ bytes. bytes.items) p.message) (event_of event.entry))) }
+        ensures fits { IfOk result (λ p. is_made (Some p.verdict) ≡ true
+            → CanBeWritten (beside (option_map (λ bytes. bytes.items) p.message) (event_of event.entry))) }
     {
         let proved = self.bridge.step(event, steps)?;
         self.refused |= is_refused(&proved.verdict);
@@ -148,8 +150,10 @@ fn check_block(block: &[u8])
 
 // Appends the frames of an event that was accepted or made.
 fn push_made(net: Net, event: Event<'_>, proved: &Proved, sent: &mut Piece) -> Result<(), NoMemory>
-    requires { is_made (Some proved.now.verdict) ≡ true → CanBeWritten (beside (option_map (λ bytes. bytes.items) proved.now.message) (event_of event)) }
-    ensures { OnOk result (sent.new.bytes.items ≡ sent.old.bytes.items ++ made_frames net proved.now.verdict (option_map (λ bytes. bytes.items) proved.now.message) (event_of event.entry)) }
+    requires { is_made (Some proved.now.verdict) ≡ true
+        → CanBeWritten (beside (option_map (λ bytes. bytes.items) proved.now.message) (event_of event)) }
+    ensures { OnOk result (sent.new.bytes.items ≡ sent.old.bytes.items
+        ++ made_frames net proved.now.verdict (option_map (λ bytes. bytes.items) proved.now.message) (event_of event.entry)) }
 {
     if is_made(&proved.verdict) {
         push_event(net, event, proved, sent)
@@ -161,7 +165,8 @@ fn push_made(net: Net, event: Event<'_>, proved: &Proved, sent: &mut Piece) -> R
 // Appends the frames of an event, with the message of the bridge.
 fn push_event(net: Net, event: Event<'_>, proved: &Proved, sent: &mut Piece) -> Result<(), NoMemory>
     requires { CanBeWritten (beside (option_map (λ bytes. bytes.items) proved.now.message) (event_of event)) }
-    ensures { OnOk result (sent.new.bytes.items ≡ sent.old.bytes.items ++ event_text net (beside (option_map (λ bytes. bytes.items) proved.now.message) (event_of event.entry))) }
+    ensures { OnOk result (sent.new.bytes.items ≡ sent.old.bytes.items
+        ++ event_text net (beside (option_map (λ bytes. bytes.items) proved.now.message) (event_of event.entry))) }
 {
     match event {
         Event::Block { block, .. } => push_proved(net, block, proved, sent),
@@ -173,7 +178,8 @@ fn push_event(net: Net, event: Event<'_>, proved: &Proved, sent: &mut Piece) -> 
 // Appends the frame of a block, behind that of its message.
 fn push_proved(net: Net, block: &[u8], proved: &Proved, sent: &mut Piece) -> Result<(), NoMemory>
     requires { CanBeWritten (BlockCame block.now (option_map (λ bytes. bytes.items) proved.now.message)) }
-    ensures { OnOk result (sent.new.bytes.items ≡ sent.old.bytes.items ++ event_text net (BlockCame block.now (option_map (λ bytes. bytes.items) proved.now.message))) }
+    ensures { OnOk result (sent.new.bytes.items ≡ sent.old.bytes.items
+        ++ event_text net (BlockCame block.now (option_map (λ bytes. bytes.items) proved.now.message))) }
 {
     push_message(proved, sent)?;
     sent.push_block(net, block)

@@ -2,7 +2,8 @@
 ghost use Rattle.std.specs.Prelude.{◌≡◌, ◌<◌, ◌^◌, ◌+◌, ◌++◌, false, IfOk, OnOk};
 ghost use Rattle.uo_base.specs.FeedEvent.{event_of};
 ghost use Rattle.node_rules.specs.Fitting.{IsShort};
-ghost use Rattle.node_commands.specs.Rechecking.{RecheckerState, fresh_rechecker, machine_ending, next_rechecker, recheck_end, shown_line, shown_of, silent_end};
+ghost use Rattle.node_commands.specs.Rechecking.{RecheckerState, fresh_rechecker, machine_ending, next_rechecker, recheck_end, shown_line, shown_of};
+ghost use Rattle.node_commands.specs.Rechecking.{silent_end};
 
 use crate::telling::push_checked;
 use audit_replay::{Audit, AuditLine};

@@ -50,7 +50,8 @@ pub fn relay<D: Digester, F: Source, P: Source, W: Source, R: Sink, L: Ledger>(
     ensures prior_stays { OnFalse scripted (prior.new ≡ prior.old) }
     ensures list_stays { OnFalse listed (list.new ≡ list.old) }
     ensures read { IsErrOf result Stop.ReadFault
-        → Rose (F.faults feed.old) (F.faults feed.new) ⊎ UsedRose scripted (P.faults prior.old) (P.faults prior.new) ⊎ UsedRose listed (W.faults list.old) (W.faults list.new) }
+        → Rose (F.faults feed.old) (F.faults feed.new) ⊎ UsedRose scripted (P.faults prior.old) (P.faults prior.new)
+        ⊎ UsedRose listed (W.faults list.old) (W.faults list.new) }
     ensures write { IsErrOf result Stop.WriteFault → Rose (R.faults report.old) (R.faults report.new) }
 {
     let watch = match read_list(alloc, listed, limits.bytes, list)? {
@@ -82,7 +83,8 @@ fn serve_script<D: Digester, F: Source, R: Sink, L: Ledger>(
     steps: &mut Steps<L>,
 ) -> Result<Status, Stop>
     requires { bytes ≤ 2 ^ 48 }
-    ensures served { (out : Option (List ℕ)) → Serves (said_by (relay_machine D.digest_of) relayer.old) (λ events. []) (relayed_feed D.digest_of relayer.old net bytes) net bytes
+    ensures served { (out : Option (List ℕ))
+        → Serves (said_by (relay_machine D.digest_of) relayer.old) (λ events. []) (relayed_feed D.digest_of relayer.old net bytes) net bytes
         (F.left feed.old) (F.left feed.new) (R.held report.old) (R.held report.new) out out (is_err result) (status_in result) }
     ensures goes_on { IfOk result (λ status. is_stop status ≡ false) }
     ensures read { IsErrOf result Stop.ReadFault → Rose (F.faults feed.old) (F.faults feed.new) }

@@ -6,7 +6,8 @@ ghost use Rattle.node_rules.specs.Fitting.{IsShort};
 ghost use Rattle.relay_core.specs.Acts.{IsShortAct, act_of};
 ghost use Rattle.relay_core.specs.World.{outcome_on};
 ghost use Rattle.report_lines.specs.Lines.{whole_line};
-ghost use Rattle.node_commands.specs.Relayer.{RelayState, is_undone, node_line, node_lines, outcome_line, own_act, relay_end, relay_last, relay_machine, reply_kind};
+ghost use Rattle.node_commands.specs.Relayer.{RelayState, is_undone, node_line, node_lines, outcome_line, own_act, relay_end, relay_last};
+ghost use Rattle.node_commands.specs.Relayer.{relay_machine, reply_kind};
 
 use crate::ending::{end_line, is_refused, status_of, tip_of};
 use crate::serve::bad_end;
@@ -95,7 +96,8 @@ impl<'s, D: Digester> Relayer<'s, D> {
     ) -> Result<(), NoMemory>
         requires short { IsShortAct (act_of act) }
         ensures next { OnOk result (self.new ≡ acted D.digest_of self.old (act_of act.entry)) }
-        ensures said { OnOk result (said.new.items ≡ said.old.items ++ whole_line (outcome_line (Some (outcome_on self.old.world (act_of act.entry))))) }
+        ensures said { OnOk result (said.new.items ≡ said.old.items
+            ++ whole_line (outcome_line (Some (outcome_on self.old.world (act_of act.entry))))) }
     {
         let outcome = self.world.step(act, steps)?;
         self.refused |= is_undone(&outcome);

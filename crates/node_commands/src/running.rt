@@ -64,21 +64,20 @@ pub fn run<D: Digester, F: Source, P: Source, W: Source, O: Sink, R: Sink, L: Le
     // `order` stores the frames of the one path from a block that begins a chain to the tip, among the first blocks of each hash of the feed, and
     // prints how many there are and how many other blocks came; or it prints why there is no path. Over what it stores neither `follow` nor `prove`
     // refuses a block for its link before it has refused another.
-    // `recheck` audits the feed, prints no line of an event, and then judges the ticket by all outputs that are live behind it: it is live exactly where
-    // it is right, and where the roots accept it and it is not right, two different texts with one digest are printed, the first of the forest. At the
-    // first forged event it prints what `audit` shows, and nothing of the ticket.
-    // `relay` does what its script says in a world of one bridge and its followers, in which the first follower has the watch list that is named, and prints
-    // what comes of each act, by the rules of the relay: a bridge takes the next event of the feed, or none behind the last. Behind them it prints the
-    // newest serial of each follower, and its chain, and the chain of the bridge. Each follower is on the branch of its newest serial then.
-    // `ticket` stores the ticket of the entry with this number that the prior state keeps on its newest level, and prints how many bytes it has, or that
-    // none is kept. Where the state is that of a node that holds every output, after any events of which no proof is forged, the ticket is right there.
-    // `check` prints that the output of the ticket in the feed is live exactly where the roots of the prior state's newest level accept it, and else the
-    // first reason why not. Where the state is that of such a node, and the ticket is not accepted without being right, it does so exactly where it is right.
-    // Where the words are accepted, the watch list or prior state that they name can be used, the feed has no bad frame, and none has more
-    // bytes than may be read, the status is 0 or 1, or 4 of `audit`, or that of a failed port or of want of memory (`complete`).
-    // Where a fault or want of memory stops the run, what an event stores is stored before its line is begun, and all that is to be stored before
-    // anything is printed behind the lines of the events; and where the feed fails, the lines of all events that were wholly taken are there, and where
-    // a sink fails those of all but the last two.
+    // `recheck` audits the feed, prints no line of an event, and then judges the ticket by all outputs that are live behind it: it is live exactly
+    // where it is right, and where the roots accept it and it is not right, two different texts with one digest are printed, the first of the forest.
+    // At the first forged event it prints what `audit` shows, and nothing of the ticket. `relay` does what its script says in a world of one bridge
+    // and its followers, in which the first follower has the watch list that is named, and prints what comes of each act, by the rules of the relay:
+    // a bridge takes the next event of the feed, or none behind the last. Behind them it prints the newest serial of each follower, and its chain,
+    // and the chain of the bridge. Each follower is on the branch of its newest serial then. `ticket` stores the ticket of the entry with this number
+    // that the prior state keeps on its newest level, and prints how many bytes it has, or that none is kept. Where the state is that of a node that
+    // holds every output, after any events of which no proof is forged, the ticket is right there. `check` prints that the output of the ticket in
+    // the feed is live exactly where the roots of the prior state's newest level accept it, and else the first reason why not. Where the state is
+    // that of such a node, and the ticket is not accepted without being right, it does so exactly where it is right. Where the words are accepted,
+    // the watch list or prior state that they name can be used, the feed has no bad frame, and none has more bytes than may be read, the status is 0
+    // or 1, or 4 of `audit`, or that of a failed port or of want of memory (`complete`). Where a fault or want of memory stops the run, what an event
+    // stores is stored before its line is begun, and all that is to be stored before anything is printed behind the lines of the events; and where
+    // the feed fails, the lines of all events that were wholly taken are there, and where a sink fails those of all but the last two.
     ensures did { Did (meaning_of D.digest_of limits (map string_bytes words.now)) limits.bytes
         (F.left feed.old) (F.left feed.new) (P.left prior.old) (W.left watch.old)
         (R.held report.old) (R.held report.new) (O.held out.old) (O.held out.new) result }

@@ -31,7 +31,8 @@ pub fn serve<C: EventHandler, F: Source, O: Sink, R: Sink, L: Ledger>(
     requires fresh { C.machine.count (C.state command.old) ≡ 0 }
     ensures served { Serves (said_by C.machine (C.state command.old)) (sent_by C.machine (C.state command.old))
         (served_feed C.machine (C.state command.old) net bytes) net bytes
-        (F.left feed.old) (F.left feed.new) (R.held report.old) (R.held report.new) (O.held out.old) (O.held out.new) (is_err result) (status_in result) }
+        (F.left feed.old) (F.left feed.new) (R.held report.old) (R.held report.new) (O.held out.old) (O.held out.new) (is_err result)
+        (status_in result) }
     ensures goes_on { IfOk result (λ status. is_stop status ≡ false) }
     ensures read { IsErrOf result Stop.ReadFault → Rose (F.faults feed.old) (F.faults feed.new) }
     ensures write { IsErrOf result Stop.WriteFault → Rose (O.faults out.old) (O.faults out.new) ⊎ Rose (R.faults report.old) (R.faults report.new) }
@@ -56,7 +57,8 @@ fn finish<C: EventHandler, O: Sink, R: Sink>(
     ensures sent { OnOk result (Appends (O.held out.old) (O.held out.new) (C.machine.at_end (C.state command.now)).out) }
     ensures part_said { AppendsPart (R.held report.old) (R.held report.new) (C.machine.at_end (C.state command.now)).report }
     ensures part_sent { AppendsPart (O.held out.old) (O.held out.new) (C.machine.at_end (C.state command.now)).out }
-    ensures order { Appends (R.held report.old) (R.held report.new) [] ⊎ Appends (O.held out.old) (O.held out.new) (C.machine.at_end (C.state command.now)).out }
+    ensures order { Appends (R.held report.old) (R.held report.new) []
+        ⊎ Appends (O.held out.old) (O.held out.new) (C.machine.at_end (C.state command.now)).out }
     ensures read { IsErrOf result Stop.ReadFault → ⊥ }
     ensures write { IsErrOf result Stop.WriteFault → Rose (O.faults out.old) (O.faults out.new) ⊎ Rose (R.faults report.old) (R.faults report.new) }
     ensures later_out { O.faults out.old ≤ O.faults out.new }

@@ -33,11 +33,13 @@ pub fn upgrade_feed<D: Digester, F: Source, W: Source, O: Sink, R: Sink, L: Ledg
 ) -> Result<Status, Stop>
     requires leaves { limits.leaves < 2 ^ 40 }
     requires bytes { limits.bytes ≤ 2 ^ 48 }
-    ensures ran { (prior : Option (List ℕ)) → Ran (upgrading_feed D.digest_of limits net named) limits.bytes (F.left feed.old) (F.left feed.new) prior (W.left list.old)
+    ensures ran { (prior : Option (List ℕ)) → Ran (upgrading_feed D.digest_of limits net named) limits.bytes (F.left feed.old) (F.left feed.new) prior
+        (W.left list.old)
         (R.held report.old) (R.held report.new) (O.held out.old) (O.held out.new) (is_err result) (status_in result) }
     ensures goes_on { IfOk result (λ status. is_stop status ≡ false) }
     ensures stays { OnFalse named (list.new ≡ list.old) }
-    ensures read { IsErrOf result Stop.ReadFault → Rose (F.faults feed.old) (F.faults feed.new) ⊎ UsedRose named (W.faults list.old) (W.faults list.new) }
+    ensures read { IsErrOf result Stop.ReadFault → Rose (F.faults feed.old) (F.faults feed.new)
+        ⊎ UsedRose named (W.faults list.old) (W.faults list.new) }
     ensures write { IsErrOf result Stop.WriteFault → Rose (O.faults out.old) (O.faults out.new) ⊎ Rose (R.faults report.old) (R.faults report.new) }
 {
     match read_list(alloc, named, limits.bytes, list)? {

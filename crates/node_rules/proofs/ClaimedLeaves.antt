@@ -13,7 +13,8 @@ use Rattle.node_rules.specs.Accepting.{leaves_of}
 pub got-map : {X Y : Type 0} (f : X → Y) (xs : List X) (i : ℕ) (x : X) → slice_get xs i ≡ Some x → slice_get (map f xs) i ≡ Some (f x)
 got-map f xs i x got = slice_get-map f xs i ∙ ap (option_map f) got
 
-pub claim_at : (ext : List Outside) (rests : List Rest) (i : ℕ) (at : Outside) (rest : Rest) → slice_get ext i ≡ Some at → slice_get rests i ≡ Some rest → slice_get (claimed (points_of ext) rests) i ≡ Some (record { point = point_of at; rest = rest })
+pub claim_at : (ext : List Outside) (rests : List Rest) (i : ℕ) (at : Outside) (rest : Rest) → slice_get ext i ≡ Some at
+    → slice_get rests i ≡ Some rest → slice_get (claimed (points_of ext) rests) i ≡ Some (record { point = point_of at; rest = rest })
 claim_at [] rests i at rest e f = absurd (none-some at e)
 claim_at (x ∷ ext) [] i at rest e f = absurd (none-some rest f)
 claim_at (x ∷ ext) (r ∷ rests) zero at rest e f =
@@ -27,17 +28,23 @@ claims-long (x ∷ ext) [] e = absurd (omega (arith, e))
 claims-long (x ∷ ext) (r ∷ rests) e = ap suc (claims-long ext rests (omega (arith, e)))
 
 -- the digest of the next one
-pub claim_next : (H : List ℕ → Digest) (text : Leaf → List ℕ) (ext : List Outside) (m : Message) (i : ℕ) (d : Outside) (rest : Rest) (leaf : Leaf) (digest : Digest) → i < length ext → slice_get (rests_of m.proof.spends) i ≡ Some rest →
-    leaf ≡ record { point = point_of (get_or ext i d); rest = rest } → digest ≡ H (text leaf) → slice_get (leaves_of H text (points_of ext) m) i ≡ Some digest
+pub claim_next : (H : List ℕ → Digest) (text : Leaf → List ℕ) (ext : List Outside) (m : Message) (i : ℕ) (d : Outside) (rest : Rest) (leaf : Leaf)
+    (digest : Digest) → i < length ext → slice_get (rests_of m.proof.spends) i ≡ Some rest →
+    leaf ≡ record { point = point_of (get_or ext i d); rest = rest } → digest ≡ H (text leaf)
+    → slice_get (leaves_of H text (points_of ext) m) i ≡ Some digest
 claim_next H text ext m i d rest leaf digest lt got is e =
-    got-map (λ (leaf : Leaf). H (text leaf)) (claimed (points_of ext) (rests_of m.proof.spends)) i _ (claim_at ext (rests_of m.proof.spends) i (get_or ext i d) rest (slice_get-get_or ext i d lt) got)
+    got-map (λ (leaf : Leaf). H (text leaf)) (claimed (points_of ext) (rests_of m.proof.spends)) i _
+    (claim_at ext (rests_of m.proof.spends) i (get_or ext i d) rest (slice_get-get_or ext i d lt) got)
     ∙ ap (λ (x : Leaf). Some (H (text x))) (sym is) ∙ ap Some (sym e)
 
-pub leaves-long : (H : List ℕ → Digest) (text : Leaf → List ℕ) (ext : List Outside) (m : Message) → length m.proof.spends ≡ length ext → length (leaves_of H text (points_of ext) m) ≡ length ext
+pub leaves-long : (H : List ℕ → Digest) (text : Leaf → List ℕ) (ext : List Outside) (m : Message) → length m.proof.spends ≡ length ext
+    → length (leaves_of H text (points_of ext) m) ≡ length ext
 leaves-long H text ext m e =
-    length-map (claimed (points_of ext) (rests_of m.proof.spends)) (λ leaf. H (text leaf)) ∙ claims-long ext (rests_of m.proof.spends) (length-map m.proof.spends (λ s. s.rest) ∙ e)
+    length-map (claimed (points_of ext) (rests_of m.proof.spends)) (λ leaf. H (text leaf))
+    ∙ claims-long ext (rests_of m.proof.spends) (length-map m.proof.spends (λ s. s.rest) ∙ e)
 
 -- all of them
-pub claims_all : (H : List ℕ → Digest) (text : Leaf → List ℕ) (ext : List Outside) (m : Message) (i : ℕ) (leaves : List Digest) → length m.proof.spends ≡ length ext → leaves ≡ take i (leaves_of H text (points_of ext) m) → length ext ≤ i →
+pub claims_all : (H : List ℕ → Digest) (text : Leaf → List ℕ) (ext : List Outside) (m : Message) (i : ℕ) (leaves : List Digest)
+    → length m.proof.spends ≡ length ext → leaves ≡ take i (leaves_of H text (points_of ext) m) → length ext ≤ i →
     leaves ≡ leaves_of H text (points_of ext) m
 claims_all H text ext m i leaves e is le = is ∙ take_all i (leaves_of H text (points_of ext) m) (omega (arith, leaves-long H text ext m e, le))

@@ -22,9 +22,11 @@ use Rattle.node_rules.specs.Judging.{message_steps, found_by}
 use Rattle.node_rules.proofs.Sizes.{few_are_spent}
 
 -- a block that passes by itself spends few outputs from outside
-pub external_few : (net : Net) (limits : Limits) (chain : Chain) (b : Block) (s : BlockSpends) → BlockFits b → IsShaped net limits chain b s → length s.external < 2 ^ 32
+pub external_few : (net : Net) (limits : Limits) (chain : Chain) (b : Block) (s : BlockSpends) → BlockFits b → IsShaped net limits chain b s
+    → length s.external < 2 ^ 32
 external_few net limits chain b s fits shaped =
-    let light = leb-true _ _ (unless-passed (nat_le (weight_of b) 4000000) (Why.Weight (weight_of b)) (each_passes (block_steps net limits chain b) 3 shaped.passes)) in
+    let light = leb-true _ _ (unless-passed (nat_le (weight_of b) 4000000) (Why.Weight (weight_of b))
+    (each_passes (block_steps net limits chain b) 3 shaped.passes)) in
     let few = few_are_spent b chain.blocks fits light in
     let is : length s.external ≡ length (external b chain.blocks) = ap (λ (x : BlockSpends). length x.external) shaped.spends in
     omega (arith, few, is)
@@ -36,12 +38,15 @@ found_long (at ∷ ext) nothing e = absurd (none-some _ (sym e))
 found_long [] (unread why) e = absurd (none-some _ (sym e))
 found_long (at ∷ ext) (unread why) e = absurd (none-some _ (sym e))
 found_long ext (read m) e =
-    length-map (rests_of m.proof.spends) found_of ∙ (length-map m.proof.spends (λ (s : Spend). s.rest) ∙ by_case (length m.proof.spends == length ext) refl (passed ext e))
+    length-map (rests_of m.proof.spends) found_of
+    ∙ (length-map m.proof.spends (λ (s : Spend). s.rest) ∙ by_case (length m.proof.spends == length ext) refl (passed ext e))
   where
-    passed : (ext : List Outside) → first_of (message_steps ext (read m)) ≡ None → unless (length m.proof.spends == length ext) (Why.Spends (length m.proof.spends) (length ext)) ≡ None
+    passed : (ext : List Outside) → first_of (message_steps ext (read m)) ≡ None
+        → unless (length m.proof.spends == length ext) (Why.Spends (length m.proof.spends) (length ext)) ≡ None
     passed [] e = (option_or-none _ _ e).0
     passed (at ∷ ext) e = (option_or-none _ _ e).0
 
-    by_case : (b : Bool) → (length m.proof.spends == length ext) ≡ b → unless (length m.proof.spends == length ext) (Why.Spends (length m.proof.spends) (length ext)) ≡ None → length m.proof.spends ≡ length ext
+    by_case : (b : Bool) → (length m.proof.spends == length ext) ≡ b
+        → unless (length m.proof.spends == length ext) (Why.Spends (length m.proof.spends) (length ext)) ≡ None → length m.proof.spends ≡ length ext
     by_case true e p = eqb-true _ _ e
     by_case false e p = absurd (none-some _ (sym (rw e at p)))

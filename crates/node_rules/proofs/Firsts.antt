@@ -12,7 +12,8 @@ pub first-in : (xs ys : List (Option Refusal)) (fault : RuleFault) → IsFirst (
 first-in xs ys (Refused why) e = first_of-append xs ys ∙ ap (λ z. option_or z (first_of ys)) e
 first-in xs ys NoMemory e = tt
 
-pub first-behind : (xs ys : List (Option Refusal)) (fault : RuleFault) → first_of xs ≡ None → IsFirst (first_of ys) fault → IsFirst (first_of (xs ++ ys)) fault
+pub first-behind : (xs ys : List (Option Refusal)) (fault : RuleFault) → first_of xs ≡ None → IsFirst (first_of ys) fault
+    → IsFirst (first_of (xs ++ ys)) fault
 first-behind xs ys (Refused why) none e = first_of-append xs ys ∙ (ap (λ z. option_or z (first_of ys)) none ∙ e)
 first-behind xs ys NoMemory none e = tt
 

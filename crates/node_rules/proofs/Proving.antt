@@ -1,5 +1,6 @@
 -- What the proving node passes on is read again, and has frames.
-use Rattle.std.proofs.Common.{◌≡◌, ℕ, ◌+◌, ◌*◌, ◌<◌, ◌≤◌, ◌^◌, Bool, true, false, cond, List, [], ◌∷◌, map, length, Option, Some, None, refl, ap, ap₂, arith}
+use Rattle.std.proofs.Common.{◌≡◌, ℕ, ◌+◌, ◌*◌, ◌<◌, ◌≤◌, ◌^◌, Bool, true, false, cond, List, [], ◌∷◌, map, length, Option, Some, None, refl, ap, ap₂}
+use Rattle.std.proofs.Common.{arith}
 use Rattle.std.specs.Prelude.{nat_le}
 use Rattle.std.specs.List.{AllByRecursion}
 use Rattle.std.proofs.lemmas.Bool.{leb-true, false≢true}
@@ -19,7 +20,8 @@ use Rattle.node_rules.specs.Fitting.{AreEventBytes, StateFits}
 use Rattle.node_rules.specs.Messages.{Message}
 use Rattle.node_rules.specs.Reading.{read, message_in, handed_in}
 use Rattle.node_rules.specs.Judging.{Rules, own, refusal, message_of, written}
-use Rattle.node_rules.specs.Machine.{ChainEvent, Level, State, start, chain_of, event_in, own_judge, by_refusal, step, is_made, with_message, proof_feed}
+use Rattle.node_rules.specs.Machine.{ChainEvent, Level, State, start, chain_of, event_in, own_judge, by_refusal, step, is_made, with_message}
+use Rattle.node_rules.specs.Machine.{proof_feed}
 use Rattle.node_rules.specs.Machine as Chain
 use Rattle.node_rules.specs.Proving.{written_text, text_beside, passed_on, proved_events, IsShortMessage, CanBeWritten}
 use Rattle.node_rules.proofs.Fitting.{passes, read_event_fits, step_fits, start_fits}
@@ -46,7 +48,8 @@ block_short bytes b is light =
 
 -- ---- one event
 
-module _ (H : List ℕ → Digest) (text : Leaf → List ℕ) (long : (x : List ℕ) → IsDigest (H x)) (rules : Rules) (few : rules.limits.leaves < 2 ^ 40) where
+module _ (H : List ℕ → Digest) (text : Leaf → List ℕ) (long : (x : List ℕ) → IsDigest (H x)) (rules : Rules)
+    (few : rules.limits.leaves < 2 ^ 40) where
   -- the state fits, and has few levels
   record IsSmall (s : State) : Type 0 where
     fits : StateFits rules s
@@ -64,11 +67,13 @@ module _ (H : List ℕ → Digest) (text : Leaf → List ℕ) (long : (x : List 
 
     -- a block that was made has bytes, and is accepted
     module _ (bytes : List ℕ) (is : IsBytes bytes) (message : Option (List ℕ)) where
-      by_block : (P : Option Block → Type 0) → ((b : Block) → IsBlockText bytes b → refusal rules (chain_of s.now) b (own s.now.history (external b s.now.blocks)) ≡ None → P (Some b))
+      by_block : (P : Option Block → Type 0) → ((b : Block) → IsBlockText bytes b
+          → refusal rules (chain_of s.now) b (own s.now.history (external b s.now.blocks)) ≡ None → P (Some b))
           → IsMade (event_in (BlockCame bytes message)) → P (block_in bytes)
       by_block P h made = by (block_in bytes) refl made
         where
-          by_case : (b : Block) → block_in bytes ≡ Some b → (x : Option Refusal) → refusal rules (chain_of s.now) b (own s.now.history (external b s.now.blocks)) ≡ x
+          by_case : (b : Block) → block_in bytes ≡ Some b → (x : Option Refusal)
+              → refusal rules (chain_of s.now) b (own s.now.history (external b s.now.blocks)) ≡ x
               → is_made (by_refusal s b (own s.now.history (external b s.now.blocks)) x).verdict ≡ true → P (Some b)
           by_case b e None q made = h b (block_in-fits bytes b is e) q
           by_case b e (Some why) q made = absurd (false≢true made)
@@ -77,22 +82,26 @@ module _ (H : List ℕ → Digest) (text : Leaf → List ℕ) (long : (x : List 
           by None e made = absurd (false≢true made)
           by (Some b) e made = by_case b e (refusal rules (chain_of s.now) b (own s.now.history (external b s.now.blocks))) refl made
 
-    event_again : (watch : Option (List (List ℕ))) (event : FeedEvent) → AreEventBytes event → IsMade (event_in event) → event_in (passed_on H text watch s.now event) ≡ with_message H text watch s.now (event_in event)
+    event_again : (watch : Option (List (List ℕ))) (event : FeedEvent) → AreEventBytes event → IsMade (event_in event)
+        → event_in (passed_on H text watch s.now event) ≡ with_message H text watch s.now (event_in event)
     event_again watch (BlockCame bytes message) is made =
-        by_block bytes is message (λ x. Chain.BlockCame x (handed_in (text_beside H text watch s.now x)) ≡ with_message H text watch s.now (Chain.BlockCame x (handed_in message)))
+        by_block bytes is message (λ x. Chain.BlockCame x (handed_in (text_beside H text watch s.now x))
+        ≡ with_message H text watch s.now (Chain.BlockCame x (handed_in message)))
         (λ b t q.
         let us = s.now.history in
         let ext = external b s.now.blocks in
         let m = message_of H text watch us ext in
         let l = small.fits.0 in
         let low = l.within in
-        let again = message_read (message_text m) m (written_fits H text long us l.records (omega (arith, low, few)) watch rules (chain_of s.now) b t.fits q) refl in
+        let again = message_read (message_text m) m
+        (written_fits H text long us l.records (omega (arith, low, few)) watch rules (chain_of s.now) b t.fits q) refl in
         ap (Chain.BlockCame (Some b)) (handed_again ext m again))
         made
     event_again watch (RollbackCame count) is made = refl
     event_again watch StrayCame is made = refl
 
-    event_short : (watch : Option (List (List ℕ))) (event : FeedEvent) → AreEventBytes event → IsMade (event_in event) → CanBeWritten (passed_on H text watch s.now event)
+    event_short : (watch : Option (List (List ℕ))) (event : FeedEvent) → AreEventBytes event → IsMade (event_in event)
+        → CanBeWritten (passed_on H text watch s.now event)
     event_short watch (BlockCame bytes message) is made =
         by_block bytes is message (λ x. CanBeWritten (BlockCame bytes (text_beside H text watch s.now x)))
         (λ b t q.
@@ -101,7 +110,8 @@ module _ (H : List ℕ → Digest) (text : Leaf → List ℕ) (long : (x : List 
         let l = small.fits.0 in
         let low = l.within in (
           block_short bytes b t (passes rules (chain_of s.now) b (own us ext) q).light,
-          written_few ext (message_of H text watch us ext) (written_short H text long us l.records (omega (arith, low, few)) watch rules (chain_of s.now) b t.fits q),
+          written_few ext (message_of H text watch us ext)
+              (written_short H text long us l.records (omega (arith, low, few)) watch rules (chain_of s.now) b t.fits q),
         ))
         made
     event_short watch (RollbackCame count) is made = by_test (nat_le count (length s.older)) refl
@@ -113,35 +123,46 @@ module _ (H : List ℕ → Digest) (text : Leaf → List ℕ) (long : (x : List 
 
   -- ---- all events
 
-  again_from : (watch : Option (List (List ℕ))) (s : State) (events : List FeedEvent) → IsSmall s → AllByRecursion AreEventBytes events → map event_in (proved_events H text watch rules s events) ≡ proof_feed H text watch rules s (map event_in events)
+  again_from : (watch : Option (List (List ℕ))) (s : State) (events : List FeedEvent) → IsSmall s → AllByRecursion AreEventBytes events
+      → map event_in (proved_events H text watch rules s events) ≡ proof_feed H text watch rules s (map event_in events)
   again_from watch s [] small all = refl
   again_from watch s (event ∷ events) small all =
       let o = step rules own_judge s (event_in event) in
       by (is_made o.verdict) refl (again_from watch o.state events (next_small s event all.0 small) all.1)
     where
       by : (t : Bool) → is_made (step rules own_judge s (event_in event)).verdict ≡ t
-          → map event_in (proved_events H text watch rules (step rules own_judge s (event_in event)).state events) ≡ proof_feed H text watch rules (step rules own_judge s (event_in event)).state (map event_in events)
-          → map event_in (cond t (passed_on H text watch s.now event ∷ proved_events H text watch rules (step rules own_judge s (event_in event)).state events) (proved_events H text watch rules (step rules own_judge s (event_in event)).state events))
-          ≡ cond t (with_message H text watch s.now (event_in event) ∷ proof_feed H text watch rules (step rules own_judge s (event_in event)).state (map event_in events)) (proof_feed H text watch rules (step rules own_judge s (event_in event)).state (map event_in events))
+          → map event_in (proved_events H text watch rules (step rules own_judge s (event_in event)).state events)
+          ≡ proof_feed H text watch rules (step rules own_judge s (event_in event)).state (map event_in events)
+          → map event_in (cond t (passed_on H text watch s.now event ∷ proved_events H text watch rules
+          (step rules own_judge s (event_in event)).state events)
+          (proved_events H text watch rules (step rules own_judge s (event_in event)).state events))
+          ≡ cond t (with_message H text watch s.now (event_in event) ∷ proof_feed H text watch rules (step rules own_judge s (event_in event)).state
+          (map event_in events)) (proof_feed H text watch rules (step rules own_judge s (event_in event)).state (map event_in events))
       by true e later = ap₂ (λ x xs. x ∷ xs) (event_again s small watch event all.0 e) later
       by false e later = later
 
-  short_from : (watch : Option (List (List ℕ))) (s : State) (events : List FeedEvent) → IsSmall s → AllByRecursion AreEventBytes events → AllByRecursion CanBeWritten (proved_events H text watch rules s events)
+  short_from : (watch : Option (List (List ℕ))) (s : State) (events : List FeedEvent) → IsSmall s → AllByRecursion AreEventBytes events
+      → AllByRecursion CanBeWritten (proved_events H text watch rules s events)
   short_from watch s [] small all = tt
   short_from watch s (event ∷ events) small all =
       let o = step rules own_judge s (event_in event) in
       by (is_made o.verdict) refl (short_from watch o.state events (next_small s event all.0 small) all.1)
     where
-      by : (t : Bool) → is_made (step rules own_judge s (event_in event)).verdict ≡ t → AllByRecursion CanBeWritten (proved_events H text watch rules (step rules own_judge s (event_in event)).state events)
-          → AllByRecursion CanBeWritten (cond t (passed_on H text watch s.now event ∷ proved_events H text watch rules (step rules own_judge s (event_in event)).state events) (proved_events H text watch rules (step rules own_judge s (event_in event)).state events))
+      by : (t : Bool) → is_made (step rules own_judge s (event_in event)).verdict ≡ t
+          → AllByRecursion CanBeWritten (proved_events H text watch rules (step rules own_judge s (event_in event)).state events)
+          → AllByRecursion CanBeWritten (cond t (passed_on H text watch s.now event ∷ proved_events H text watch rules
+          (step rules own_judge s (event_in event)).state events)
+          (proved_events H text watch rules (step rules own_judge s (event_in event)).state events))
       by true e later = (event_short s small watch event all.0 e, later)
       by false e later = later
 
   start_small : IsSmall start
   start_small = record { fits = start_fits rules; levels = omega arith }
 
-  pub events_again : (watch : Option (List (List ℕ))) (events : List FeedEvent) → AllByRecursion AreEventBytes events → map event_in (proved_events H text watch rules start events) ≡ proof_feed H text watch rules start (map event_in events)
+  pub events_again : (watch : Option (List (List ℕ))) (events : List FeedEvent) → AllByRecursion AreEventBytes events
+      → map event_in (proved_events H text watch rules start events) ≡ proof_feed H text watch rules start (map event_in events)
   events_again watch events all = again_from watch start events start_small all
 
-  pub events_short : (watch : Option (List (List ℕ))) (events : List FeedEvent) → AllByRecursion AreEventBytes events → AllByRecursion CanBeWritten (proved_events H text watch rules start events)
+  pub events_short : (watch : Option (List (List ℕ))) (events : List FeedEvent) → AllByRecursion AreEventBytes events
+      → AllByRecursion CanBeWritten (proved_events H text watch rules start events)
   events_short watch events all = short_from watch start events start_small all

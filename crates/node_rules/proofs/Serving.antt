@@ -1,5 +1,6 @@
 -- The hashes of all needed places serve as those of a message in full.
-use Rattle.std.proofs.Common.{◌≡◌, ℕ, zero, suc, ◌+◌, ◌*◌, Bool, true, false, List, [], ◌∷◌, map, length, filter, Option, Some, None, refl, sym, ap, ◌∙◌, subst, ap₂, ⊎_elim, eq-eqb}
+use Rattle.std.proofs.Common.{◌≡◌, ℕ, zero, suc, ◌+◌, ◌*◌, Bool, true, false, List, [], ◌∷◌, map, length, filter, Option, Some, None, refl, sym, ap}
+use Rattle.std.proofs.Common.{◌∙◌, subst, ap₂, ⊎_elim, eq-eqb}
 use Rattle.std.specs.Prelude.{◌==◌, is_none, if◌then◌else◌}
 use Rattle.std.specs.Option.{option_or}
 use Rattle.std.proofs.lemmas.Bool.{cases_Bool}
@@ -34,14 +35,17 @@ asked_all n ts = keeps (need n ts)
 
 -- ---- the evaluation of a cover asks for the hashes of needed places alone
 
-module _ (H : List ℕ → Digest) (n : ℕ) (ts : List Place) (f g : ℕ → ℕ → Digest) (same : (r o : ℕ) → InForest n r o → is_needed n ts (place r o) ≡ true → f r o ≡ g r o) where
-  needed_left : (r o : ℕ) → InForest n (suc r) o → cover ts r (2 * o) ≡ None → (d : Cover) → cover ts r (2 * o + 1) ≡ Some d → f r (2 * o) ≡ g r (2 * o)
+module _ (H : List ℕ → Digest) (n : ℕ) (ts : List Place) (f g : ℕ → ℕ → Digest) (same : (r o : ℕ) → InForest n r o → is_needed n ts (place r o) ≡ true
+    → f r o ≡ g r o) where
+  needed_left : (r o : ℕ) → InForest n (suc r) o → cover ts r (2 * o) ≡ None → (d : Cover) → cover ts r (2 * o + 1) ≡ Some d
+      → f r (2 * o) ≡ g r (2 * o)
   needed_left r o h none d e =
       let low = not_root-left n r o h in
       let beside_it : cover ts r (sibling_off (2 * o)) ≡ Some d = ap (cover ts r) (sibling_off-left o) ∙ e in
       same r (2 * o) (InForest-left n r o h) (rw (low, none, beside_it) refl)
 
-  needed_right : (r o : ℕ) → InForest n (suc r) o → cover ts r (2 * o + 1) ≡ None → (d : Cover) → cover ts r (2 * o) ≡ Some d → f r (2 * o + 1) ≡ g r (2 * o + 1)
+  needed_right : (r o : ℕ) → InForest n (suc r) o → cover ts r (2 * o + 1) ≡ None → (d : Cover) → cover ts r (2 * o) ≡ Some d
+      → f r (2 * o + 1) ≡ g r (2 * o + 1)
   needed_right r o h none d e =
       let low = not_root-right n r o h in
       let beside_it : cover ts r (sibling_off (2 * o + 1)) ≡ Some d = ap (cover ts r) (sibling_off-right o) ∙ e in
@@ -61,14 +65,17 @@ module _ (H : List ℕ → Digest) (n : ℕ) (ts : List Place) (f g : ℕ → �
   -- those of a covered place are
   pub same_cover : (r o : ℕ) (c : Cover) → InForest n r o → cover ts r o ≡ Some c → AreSame c
   same_cover zero o c h e =
-      ⊎_elim (λ (it : has_place ts zero o ≡ true). subst AreSame (same_Some _ c (rw it at e)) tt) (λ (other : has_place ts zero o ≡ false). absurd (none-some c (rw other at e))) (cases_Bool (has_place ts zero o))
+      ⊎_elim (λ (it : has_place ts zero o ≡ true). subst AreSame (same_Some _ c (rw it at e)) tt)
+      (λ (other : has_place ts zero o ≡ false). absurd (none-some c (rw other at e))) (cases_Bool (has_place ts zero o))
   same_cover (suc r) o c h e =
       ⊎_elim
       (λ (it : has_place ts (suc r) o ≡ true). subst AreSame (same_Some _ c (rw it at e)) tt)
-      (λ (other : has_place ts (suc r) o ≡ false). by_halves (cover ts r (2 * o)) (cover ts r (2 * o + 1)) refl refl (rw other at e) (λ d. same_cover r (2 * o) d (InForest-left n r o h)) (λ d. same_cover r (2 * o + 1) d (InForest-right n r o h)))
+      (λ (other : has_place ts (suc r) o ≡ false). by_halves (cover ts r (2 * o)) (cover ts r (2 * o + 1)) refl refl (rw other at e)
+      (λ d. same_cover r (2 * o) d (InForest-left n r o h)) (λ d. same_cover r (2 * o + 1) d (InForest-right n r o h)))
       (cases_Bool (has_place ts (suc r) o))
     where
-      by_halves : (x y : Option Cover) → cover ts r (2 * o) ≡ x → cover ts r (2 * o + 1) ≡ y → cover_of_halves r o x y ≡ Some c → ((d : Cover) → cover ts r (2 * o) ≡ Some d → AreSame d) → ((d : Cover) → cover ts r (2 * o + 1) ≡ Some d → AreSame d) → AreSame c
+      by_halves : (x y : Option Cover) → cover ts r (2 * o) ≡ x → cover ts r (2 * o + 1) ≡ y → cover_of_halves r o x y ≡ Some c
+          → ((d : Cover) → cover ts r (2 * o) ≡ Some d → AreSame d) → ((d : Cover) → cover ts r (2 * o + 1) ≡ Some d → AreSame d) → AreSame c
       by_halves None None a b e left right = absurd (none-some c e)
       by_halves (Some x) None a b e left right = subst AreSame (same_Some _ c e) (left x a, needed_right r o h b x a)
       by_halves None (Some y) a b e left right = subst AreSame (same_Some _ c e) (needed_left r o h a y b, right y b)
@@ -77,24 +84,29 @@ module _ (H : List ℕ → Digest) (n : ℕ) (ts : List Place) (f g : ℕ → �
 -- ---- a message beside the hashes of all needed places
 
 -- the hash of a needed place, in the list of all of them
-pub hash_of_all : (H : List ℕ → Digest) (n : ℕ) (ts : List Place) (k : ℕ → ℕ → Digest) (hashes : List Digest) → hashes ≡ map (λ (p : Place). k p.row p.off) (need n ts) →
+pub hash_of_all : (H : List ℕ → Digest) (n : ℕ) (ts : List Place) (k : ℕ → ℕ → Digest) (hashes : List Digest)
+    → hashes ≡ map (λ (p : Place). k p.row p.off) (need n ts) →
     (r o : ℕ) → InForest n r o → is_needed n ts (place r o) ≡ true → k r o ≡ hash_of H n ts nothing_known hashes r o
 hash_of_all H n ts k hashes is r o h needed =
     sym (ap (λ (ps : List Place). beside (H []) ps hashes r o) (asked_all n ts)
     ∙ beside_at (λ (d : Digest). d) (λ (p : Place). k p.row p.off) (H []) (need n ts) hashes r o (map-id hashes ∙ is) (need_has n ts r o h needed))
 
-pub same_evaluation : (H : List ℕ → Digest) (n : ℕ) (m : Message) (known : ℕ → ℕ → Option Digest) (hashes leaves : List Digest) (row off : ℕ) (c : Cover) →
+pub same_evaluation : (H : List ℕ → Digest) (n : ℕ) (m : Message) (known : ℕ → ℕ → Option Digest) (hashes leaves : List Digest) (row off : ℕ)
+    (c : Cover) →
     AreHashes m (record { leaves = n; targets = targets n m }) known hashes → InForest n row off → cover (targets n m) row off ≡ Some c →
     evaluation H n (targets n m) (known_to m.lean known) leaves m.proof.hashes c ≡ evaluation H n (targets n m) nothing_known leaves hashes c
 same_evaluation H n m known hashes leaves row off c are h e =
     let ts = targets n m in
     let f = hash_of H n ts (known_to m.lean known) m.proof.hashes in
     let g = hash_of H n ts nothing_known hashes in
-    same_value H n ts f g (hash_of_all H n ts f hashes (are.hashes_are H)) (beside (H []) ts leaves) c (same_cover H n ts f g (hash_of_all H n ts f hashes (are.hashes_are H)) row off c h e)
+    same_value H n ts f g (hash_of_all H n ts f hashes (are.hashes_are H)) (beside (H []) ts leaves) c
+    (same_cover H n ts f g (hash_of_all H n ts f hashes (are.hashes_are H)) row off c h e)
 
 -- ---- the fault
 
-first_slot-same : (f g : ℕ → Cover → Option ProofRefusal) (n : ℕ) (ts : List Place) (k : ℕ) → ((row : ℕ) (c : Cover) → is_slot n row ≡ true → cover ts row (root_off n row) ≡ Some c → f row c ≡ g row c) → first_slot f n ts k ≡ first_slot g n ts k
+first_slot-same : (f g : ℕ → Cover → Option ProofRefusal) (n : ℕ) (ts : List Place) (k : ℕ)
+    → ((row : ℕ) (c : Cover) → is_slot n row ≡ true → cover ts row (root_off n row) ≡ Some c → f row c ≡ g row c)
+    → first_slot f n ts k ≡ first_slot g n ts k
 first_slot-same f g n ts zero e = refl
 first_slot-same f g n ts (suc row) e = ap₂ option_or (here (is_slot n row) refl) (first_slot-same f g n ts row e)
   where
@@ -102,7 +114,8 @@ first_slot-same f g n ts (suc row) e = ap₂ option_or (here (is_slot n row) ref
     at s None q = refl
     at s (Some c) q = e row c s q
 
-    here : (b : Bool) → is_slot n row ≡ b → (if b then at_cover f row (cover ts row (root_off n row)) else None) ≡ (if b then at_cover g row (cover ts row (root_off n row)) else None)
+    here : (b : Bool) → is_slot n row ≡ b → (if b then at_cover f row (cover ts row (root_off n row)) else None)
+        ≡ (if b then at_cover g row (cover ts row (root_off n row)) else None)
     here true s = at s (cover ts row (root_off n row)) refl
     here false s = refl
 
@@ -123,7 +136,9 @@ same_fault H text v points m hashes are =
     (λ row c. root_differs (v.roots row) (evaluation H v.n ts (known_to m.lean v.known) leaves m.proof.hashes c) row)
     (λ row c. root_differs (v.roots row) (evaluation H v.n ts nothing_known leaves hashes c) row)
     v.n ts v.n
-    (λ row c slot e. ap (λ (d : Digest). root_differs (v.roots row) d row) (same_evaluation H v.n m v.known hashes leaves row (root_off v.n row) c are (InForest-root v.n row (root_off v.n row) (is_root-root_off v.n row slot)) e)) in
+    (λ row c slot e. ap (λ (d : Digest). root_differs (v.roots row) d row)
+    (same_evaluation H v.n m v.known hashes leaves row (root_off v.n row) c are
+    (InForest-root v.n row (root_off v.n row) (is_root-root_off v.n row slot)) e)) in
     ap₂ (λ (x y : Option ProofRefusal). first_of (shape ∷ x ∷ empties ∷ y ∷ []))
     (ap (λ b. unless b (HashCount wanted (length m.proof.hashes))) passes ∙ sym (ap (λ b. unless b (HashCount all (length hashes))) passes_all))
     roots

@@ -10,7 +10,8 @@ use Rattle.block_codec.specs.Block.{Block}
 use Rattle.block_rules.specs.declared.refusal.Refusal.{Refusal}
 use Rattle.block_rules.specs.Blocks.{new_records}
 use Rattle.node_rules.specs.Judging.{Rules, Evidence, refusal}
-use Rattle.node_rules.specs.Machine.{ChainEvent, BlockCame, RollbackCame, StrayCame, Level, State, Judge, chain_of, by_refusal, by_evidence, back, step, start}
+use Rattle.node_rules.specs.Machine.{ChainEvent, BlockCame, RollbackCame, StrayCame, Level, State, Judge, chain_of, by_refusal, by_evidence, back}
+use Rattle.node_rules.specs.Machine.{step, start}
 use Rattle.node_rules.specs.Laws.{IsWithin, IsWithinLimits}
 use Rattle.node_rules.proofs.Fitting.{passes, length_spent}
 

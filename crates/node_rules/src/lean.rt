@@ -90,8 +90,7 @@ fn asked_count(known: &[Option<Digest>]) -> u64
     known.iter().filter(|digest| digest.is_none()).count() as u64
 }
 
-/// The hash of a needed place, where the message's hashes before `next` are used: the known one, or the next. And which is
-/// the next then.
+/// The hash of a needed place, where the message's hashes before `next` are used: the known one, or the next. And which is the next then.
 fn next_hash(message: &MessageView<'_>, known: Option<Digest>, next: u64) -> (Digest, u64)
     requires some { known ≡ None → next < length message.now.proof.hashes }
     requires few { length message.now.proof.hashes < 2 ^ 64 }
@@ -140,7 +139,8 @@ fn given_hashes(
     message: &MessageView<'_>,
     targets: &Targets,
 ) -> Result<Vec<Digest>, RuleFault>
-    ensures { (k : ℕ → ℕ → Option Digested) → ((row off : ℕ) → known_to message.now.lean k row off ≡ None) → HashesJudged message.now targets.now k result }
+    ensures { (k : ℕ → ℕ → Option Digested) → ((row off : ℕ) → known_to message.now.lean k row off ≡ None)
+        → HashesJudged message.now targets.now k result }
 {
     let want = targets.needed().len() as u64;
     let got = message.hash_count();

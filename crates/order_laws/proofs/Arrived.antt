@@ -1,5 +1,6 @@
 -- What is known of the blocks that arrived.
-use Rattle.std.proofs.Common.{◌≡◌, ℕ, ◌≤◌, nat_lt, Bool, true, false, List, [], ◌∷◌, ◌++◌, length, take, drop, Some, None, refl, sym, ap, ◌∙◌, arith, if◌then◌else◌, append_assoc}
+use Rattle.std.proofs.Common.{◌≡◌, ℕ, ◌≤◌, nat_lt, Bool, true, false, List, [], ◌∷◌, ◌++◌, length, take, drop, Some, None, refl, sym, ap, ◌∙◌, arith}
+use Rattle.std.proofs.Common.{if◌then◌else◌, append_assoc}
 use Rattle.std.specs.Prelude.{All, Contains, fold}
 use Rattle.std.specs.Int.{w32, to_le_bytes}
 use Rattle.std.specs.List.{AllByRecursion}
@@ -52,12 +53,14 @@ one_read arrivals body all is = by (nat_lt (length body) 80) (has_arrived arriva
     by false true = all
     by false false = push_read arrivals (arrival_in body) all (record { is = refl; body = is })
 
-all_read : (bodies : List (List ℕ)) (arrivals : List Arrival) → AllByRecursion IsRead arrivals → AllByRecursion IsBody bodies → AllByRecursion IsRead (fold with_body arrivals bodies)
+all_read : (bodies : List (List ℕ)) (arrivals : List Arrival) → AllByRecursion IsRead arrivals → AllByRecursion IsBody bodies
+    → AllByRecursion IsRead (fold with_body arrivals bodies)
 all_read [] arrivals all are = all
 all_read (body ∷ bodies) arrivals all are = all_read bodies (with_body arrivals body) (one_read arrivals body all are.0) are.1
 
 -- the blocks of a path are such
-pub path_read : (events : List FeedEvent) (path : List Arrival) → AllByRecursion IsMadeOfBytes events → CanBeAFeed events → All (Contains (arrivals_of (bodies_of events))) path
+pub path_read : (events : List FeedEvent) (path : List Arrival) → AllByRecursion IsMadeOfBytes events → CanBeAFeed events
+    → All (Contains (arrivals_of (bodies_of events))) path
     → AllByRecursion IsRead path
 path_read events path b s there = by path (recursion_from_All (Contains (arrivals_of (bodies_of events))) path there)
   where
@@ -95,6 +98,7 @@ pub block_is : (a : Arrival) (b : Block) → IsRead a → block_in a.body ≡ So
 block_is a b r e =
     let t = block_in-fits a.body b r.body.0 e in
     record {
-      hash = ap (λ xs. let d : Digest = record { 0 = sha256 (sha256 xs) } in d) (sym (header_front a.body b t)) ∙ sym (ap (λ (x : Arrival). x.hash) r.is);
+      hash = ap (λ xs. let d : Digest = record { 0 = sha256 (sha256 xs) } in d) (sym (header_front a.body b t))
+          ∙ sym (ap (λ (x : Arrival). x.hash) r.is);
       prev = digest_is b.header.prev (take 32 (drop 4 a.body)) (sym (prev_there a.body b t)) ∙ sym (ap (λ (x : Arrival). x.prev) r.is);
     }

@@ -47,7 +47,15 @@ read_as net limit path are = by (cases_lt limit (length (feed_text net (map bloc
     by : (limit < length (feed_text net (map block_event path))) ⊎ (length (feed_text net (map block_event path)) ≤ limit) → IsReadAs net limit path
     by (inl past) =
         let cut = feed_cut net limit (map block_event path) (frames_are path are) past in
-        record { events = cut.front; behind = cut.later; strays = cut.strays; all = ap (λ t. (events_of net limit t).events) (same_text net path) ∙ cut.all; split = cut.split; rest = cut.one }
+        record {
+          events = cut.front;
+          behind = cut.later;
+          strays = cut.strays;
+          all = ap (λ t. (events_of net limit t).events) (same_text net path)
+              ∙ cut.all;
+          split = cut.split;
+          rest = cut.one;
+        }
     by (inr short) =
         let whole = feed_read net limit (map block_event path) (frames_are path are) short in
         record {
@@ -69,12 +77,14 @@ links_of net path linked are = record {
   proved = λ limits.
       let r = read_as net limits.bytes path are in
       let rules : Rules = record { net = net; limits = limits } in
-      subst (λ es. IsOther (first_refusal (verdicts rules own_judge start (map event_in es)))) (sym r.all) (links_proved rules path start r.events r.strays linked are r.behind r.split r.rest);
+      subst (λ es. IsOther (first_refusal (verdicts rules own_judge start (map event_in es)))) (sym r.all)
+      (links_proved rules path start r.events r.strays linked are r.behind r.split r.rest);
 }
 
 pub linked_up : OrderedLinksUp
 linked_up net limit feed tip path bytes p =
-    links_of net path p.linked (path_read (events_of net limit feed).events path (events_bytes net limit feed bytes) (rewritten net limit feed bytes).events p.arrived)
+    links_of net path p.linked (path_read (events_of net limit feed).events path (events_bytes net limit feed bytes)
+    (rewritten net limit feed bytes).events p.arrived)
 
 -- and over nothing
 pub none_links : (net : Net) → LinksUp net []

@@ -44,19 +44,24 @@ module _ (H : List ℕ → Digest) (text : Leaf → List ℕ) where
   rest_followed s strays (inl none) = subst (λ xs. IsOther (first_refusal (verdicts_on H text s (map event_in xs)))) (sym none) none_first
   rest_followed s strays (inr one) = subst (λ xs. IsOther (first_refusal (verdicts_on H text s (map event_in xs)))) (sym one) none_first
 
-  pub links_followed : (path : List Arrival) (s : NodeState) (events strays : List FeedEvent) → AreLinked s.newest.chain.tip path → AllByRecursion IsRead path
-      → (behind : List FeedEvent) → map block_event path ≡ events ++ behind → IsRest strays → IsOther (first_refusal (verdicts_on H text s (map event_in (events ++ strays))))
+  pub links_followed : (path : List Arrival) (s : NodeState) (events strays : List FeedEvent) → AreLinked s.newest.chain.tip path
+      → AllByRecursion IsRead path
+      → (behind : List FeedEvent) → map block_event path ≡ events ++ behind → IsRest strays
+      → IsOther (first_refusal (verdicts_on H text s (map event_in (events ++ strays))))
   links_followed path s [] strays linked are behind e rest = rest_followed s strays rest
   links_followed [] s (event ∷ events) strays linked are behind e rest = absurd cc
   links_followed (a ∷ path) s (event ∷ events) strays linked are behind e rest =
       let first : event ≡ block_event a = cc in
       let others : map block_event path ≡ events ++ behind = cc in
       subst (λ x. IsOther (first_refusal (verdicts_on H text s (event_in x ∷ map event_in (events ++ strays))))) (sym first)
-      (by_block (block_in a.body) (λ b g. block_is a b are.0 g) (λ t tip. links_followed path t events strays (subst (λ h. AreLinked h path) (sym tip) linked.1) are.1 behind others rest))
+      (by_block (block_in a.body) (λ b g. block_is a b are.0 g)
+      (λ t tip. links_followed path t events strays (subst (λ h. AreLinked h path) (sym tip) linked.1) are.1 behind others rest))
     where
-      told : (b : Block) → IsOfBlock a b → ((t : NodeState) → t.newest.chain.tip ≡ a.hash → IsOther (first_refusal (verdicts_on H text t (map event_in (events ++ strays)))))
+      told : (b : Block) → IsOfBlock a b → ((t : NodeState) → t.newest.chain.tip ≡ a.hash
+          → IsOther (first_refusal (verdicts_on H text t (map event_in (events ++ strays)))))
           → (why : Option Refusal) → IsOther why
-          → IsOther (first_refusal (verdict_by s.newest.chain b (length (new_records b s.newest.chain.blocks)) why ∷ verdicts_on H text (node_by why (node_with H text s b nothing) s) (map event_in (events ++ strays))))
+          → IsOther (first_refusal (verdict_by s.newest.chain b (length (new_records b s.newest.chain.blocks)) why
+          ∷ verdicts_on H text (node_by why (node_with H text s b nothing) s) (map event_in (events ++ strays))))
       told b is more None other = more (node_with H text s b nothing) is.hash
       told b is more (Some why) other = other
 
@@ -69,27 +74,34 @@ module _ (H : List ℕ → Digest) (text : Leaf → List ℕ) where
           let chain = s.newest.chain in
           let same = same_hash b.header.prev chain.tip (of.prev ∙ linked.0) in
           told b of more (refusal_on H text s b nothing)
-          (all_other s.rules chain b (compact H text (view_over s.newest) (external b chain.blocks) nothing) same (compact_other H text (view_over s.newest) (external b chain.blocks)))
+          (all_other s.rules chain b (compact H text (view_over s.newest) (external b chain.blocks) nothing) same
+          (compact_other H text (view_over s.newest) (external b chain.blocks)))
 
 -- ---- a proving node
 
-rest_proved : (rules : Rules) (s : State) (strays : List FeedEvent) → IsRest strays → IsOther (first_refusal (verdicts rules own_judge s (map event_in strays)))
+rest_proved : (rules : Rules) (s : State) (strays : List FeedEvent) → IsRest strays
+    → IsOther (first_refusal (verdicts rules own_judge s (map event_in strays)))
 rest_proved rules s strays (inl none) = subst (λ xs. IsOther (first_refusal (verdicts rules own_judge s (map event_in xs)))) (sym none) none_first
 rest_proved rules s strays (inr one) = subst (λ xs. IsOther (first_refusal (verdicts rules own_judge s (map event_in xs)))) (sym one) none_first
 
-pub links_proved : (rules : Rules) (path : List Arrival) (s : State) (events strays : List FeedEvent) → AreLinked s.now.tip path → AllByRecursion IsRead path
-    → (behind : List FeedEvent) → map block_event path ≡ events ++ behind → IsRest strays → IsOther (first_refusal (verdicts rules own_judge s (map event_in (events ++ strays))))
+pub links_proved : (rules : Rules) (path : List Arrival) (s : State) (events strays : List FeedEvent) → AreLinked s.now.tip path
+    → AllByRecursion IsRead path
+    → (behind : List FeedEvent) → map block_event path ≡ events ++ behind → IsRest strays
+    → IsOther (first_refusal (verdicts rules own_judge s (map event_in (events ++ strays))))
 links_proved rules path s [] strays linked are behind e rest = rest_proved rules s strays rest
 links_proved rules [] s (event ∷ events) strays linked are behind e rest = absurd cc
 links_proved rules (a ∷ path) s (event ∷ events) strays linked are behind e rest =
     let first : event ≡ block_event a = cc in
     let others : map block_event path ≡ events ++ behind = cc in
     subst (λ x. IsOther (first_refusal (verdicts rules own_judge s (event_in x ∷ map event_in (events ++ strays))))) (sym first)
-    (by_block (block_in a.body) (λ b g. block_is a b are.0 g) (λ t tip. links_proved rules path t events strays (subst (λ h. AreLinked h path) (sym tip) linked.1) are.1 behind others rest))
+    (by_block (block_in a.body) (λ b g. block_is a b are.0 g)
+    (λ t tip. links_proved rules path t events strays (subst (λ h. AreLinked h path) (sym tip) linked.1) are.1 behind others rest))
   where
-    told : (b : Block) → IsOfBlock a b → ((t : State) → t.now.tip ≡ a.hash → IsOther (first_refusal (verdicts rules own_judge t (map event_in (events ++ strays)))))
+    told : (b : Block) → IsOfBlock a b → ((t : State) → t.now.tip ≡ a.hash
+        → IsOther (first_refusal (verdicts rules own_judge t (map event_in (events ++ strays)))))
         → (why : Option Refusal) → IsOther why
-        → let o = by_refusal s b (own s.now.history (external b s.now.blocks)) why in IsOther (first_refusal (verdict_before o.verdict (verdicts rules own_judge o.state (map event_in (events ++ strays)))))
+        → let o = by_refusal s b (own s.now.history (external b s.now.blocks)) why in
+        IsOther (first_refusal (verdict_before o.verdict (verdicts rules own_judge o.state (map event_in (events ++ strays)))))
     told b is more None other = more _ is.hash
     told b is more (Some why) other = other
 
@@ -101,4 +113,5 @@ links_proved rules (a ∷ path) s (event ∷ events) strays linked are behind e 
         let of = is b refl in
         let evidence = own s.now.history (external b s.now.blocks) in
         let same = same_hash b.header.prev s.now.tip (of.prev ∙ linked.0) in
-        told b of more (refusal rules (chain_of s.now) b evidence) (all_other rules (chain_of s.now) b evidence same (own_other s.now.history (external b s.now.blocks)))
+        told b of more (refusal rules (chain_of s.now) b evidence)
+        (all_other rules (chain_of s.now) b evidence same (own_other s.now.history (external b s.now.blocks)))

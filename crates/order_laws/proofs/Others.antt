@@ -65,13 +65,15 @@ merkle_other root (Repeated level place) = λ e. absurd cc
 
 double_other : (seen : List Outpoint) (ats : List Placed) → IsOther (double seen ats)
 double_other seen [] = none_other
-double_other seen (at ∷ ats) = or_other _ (double (at.point ∷ seen) ats) (unless_other _ (Why.Double at.tx at.input) (λ e. absurd cc)) (double_other (at.point ∷ seen) ats)
+double_other seen (at ∷ ats) = or_other _ (double (at.point ∷ seen) ats) (unless_other _ (Why.Double at.tx at.input) (λ e. absurd cc))
+    (double_other (at.point ∷ seen) ats)
 
 witness_other : (b : Bool) (x : Option Refusal) → IsOther x → IsOther (if b then None else x)
 witness_other true x p = none_other
 witness_other false x p = p
 
-block_other : (net : Net) (limits : Limits) (chain : Chain) (b : Block) → is_same b.header.prev chain.tip ≡ true → AllByRecursion IsOther (block_steps net limits chain b)
+block_other : (net : Net) (limits : Limits) (chain : Chain) (b : Block) → is_same b.header.prev chain.tip ≡ true
+    → AllByRecursion IsOther (block_steps net limits chain b)
 block_other net limits chain b same = (
   λ e. linked (is_same b.header.prev chain.tip) same e,
   (
@@ -106,7 +108,8 @@ block_other net limits chain b same = (
 
 money_other : (s : BlockSpends) (found : List Found) → AllByRecursion IsOther (money_steps s found)
 money_other s found = (
-  from_other 1 (immature s.height) (paid_by s.bills found) (λ t paid. from_other 0 (unripe s.height t) paid.inputs (λ i f. unless_other _ (Why.Immature t i) (λ e. absurd cc))),
+  from_other 1 (immature s.height) (paid_by s.bills found)
+      (λ t paid. from_other 0 (unripe s.height t) paid.inputs (λ i f. unless_other _ (Why.Immature t i) (λ e. absurd cc))),
   (
     from_other 1 overspend (paid_by s.bills found) (λ t paid. unless_other _ (Why.Overspend t) (λ e. absurd cc)),
     (
@@ -119,14 +122,16 @@ money_other s found = (
 -- ---- all steps
 
 -- a block that names the tip is refused for another reason, by this evidence
-pub all_other : (rules : Rules) (chain : Chain) (b : Block) (evidence : Evidence) → is_same b.header.prev chain.tip ≡ true → AllByRecursion IsOther evidence.steps → IsOther (refusal rules chain b evidence)
+pub all_other : (rules : Rules) (chain : Chain) (b : Block) (evidence : Evidence) → is_same b.header.prev chain.tip ≡ true
+    → AllByRecursion IsOther evidence.steps → IsOther (refusal rules chain b evidence)
 all_other rules chain b evidence same others =
     first_other (checks rules chain b evidence)
     (both_other (block_steps rules.net rules.limits chain b) _ (block_other rules.net rules.limits chain b same)
     (both_other evidence.steps _ others (money_other (spends_of rules.net chain.blocks b) evidence.found)))
 
 -- without a message by a view
-pub compact_other : (H : List ℕ → Digest) (text : Leaf → List ℕ) (v : View) (ext : List Outside) → AllByRecursion IsOther (compact H text v ext nothing).steps
+pub compact_other : (H : List ℕ → Digest) (text : Leaf → List ℕ) (v : View) (ext : List Outside)
+    → AllByRecursion IsOther (compact H text v ext nothing).steps
 compact_other H text v ext = (unless_other _ Why.NoProof (λ e. absurd cc), (none_other, (none_other, (none_other, tt))))
 
 -- and by the history

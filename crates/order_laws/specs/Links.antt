@@ -31,9 +31,11 @@ first_refusal (Stray ∷ later) = first_refusal later
 -- before it has refused another.
 pub record LinksUp (net : Net) (feed : List ℕ) : Type 0 where
   pub followed : (H : List ℕ → Digest) (limits : Limits) (scripts : List (List ℕ))
-      → first_refusal (verdicts_on H leaf_text (fresh_node net limits scripts) (map event_in (events_of net limits.bytes feed).events)) ≢ Some Why.Link
+      → first_refusal (verdicts_on H leaf_text (fresh_node net limits scripts) (map event_in (events_of net limits.bytes feed).events)) ≢ Some
+      Why.Link
   pub proved : (limits : Limits)
-      → first_refusal (verdicts (record { net = net; limits = limits }) own_judge start (map event_in (events_of net limits.bytes feed).events)) ≢ Some Why.Link
+      → first_refusal (verdicts (record { net = net; limits = limits }) own_judge start (map event_in (events_of net limits.bytes feed).events)) ≢
+      Some Why.Link
 
 -- So it is over the frames of a path among the blocks of a feed, which is made of bytes.
 abbrev pub OrderedLinksUp : Type 0

@@ -1,5 +1,6 @@
 -- The frames of blocks, one number after the other.
-use Rattle.std.proofs.Common.{◌≡◌, ℕ, ◌+◌, ◌<◌, ◌≤◌, List, [], ◌∷◌, ◌++◌, Option, Some, None, length, get_or, take, drop, map, refl, sym, ap, ap₂, ◌∙◌, subst, arith, append-nil}
+use Rattle.std.proofs.Common.{◌≡◌, ℕ, ◌+◌, ◌<◌, ◌≤◌, List, [], ◌∷◌, ◌++◌, Option, Some, None, length, get_or, take, drop, map, refl, sym, ap, ap₂}
+use Rattle.std.proofs.Common.{◌∙◌, subst, arith, append-nil}
 use Rattle.std.specs.Prelude.{slice_get, All}
 use Rattle.std.specs.List.{flat_map}
 use Rattle.std.proofs.lemmas.List.{take_more, drop_more, take-append-drop, length-map}
@@ -22,19 +23,23 @@ module _ (net : Net) (arrivals : List Arrival) (numbers : List ℕ) (i : ℕ) (i
   number = get_or numbers i 0
 
   -- one more is written
-  pub one_more : numbered_text net arrivals (take (i + 1) numbers) ≡ numbered_text net arrivals (take i numbers) ++ frame_of net (slice_get arrivals (get_or numbers i 0))
+  pub one_more : numbered_text net arrivals (take (i + 1) numbers) ≡ numbered_text net arrivals (take i numbers)
+      ++ frame_of net (slice_get arrivals (get_or numbers i 0))
   one_more =
-      ap (λ ks. flat_map at ks) (take_more numbers i 0 in') ∙ flat_map-append at (take i numbers) (number ∷ []) ∙ ap (λ l. numbered_text net arrivals (take i numbers) ++ l) (append-nil (at number))
+      ap (λ ks. flat_map at ks) (take_more numbers i 0 in') ∙ flat_map-append at (take i numbers) (number ∷ [])
+      ∙ ap (λ l. numbered_text net arrivals (take i numbers) ++ l) (append-nil (at number))
 
   -- what stands before it, it, and what comes behind
   pub all_parts : numbered_text net arrivals numbers
-      ≡ numbered_text net arrivals (take i numbers) ++ (frame_of net (slice_get arrivals (get_or numbers i 0)) ++ numbered_text net arrivals (drop (i + 1) numbers))
+      ≡ numbered_text net arrivals (take i numbers)
+      ++ (frame_of net (slice_get arrivals (get_or numbers i 0)) ++ numbered_text net arrivals (drop (i + 1) numbers))
   all_parts =
       ap (λ ks. flat_map at ks) (sym (take-append-drop i numbers)) ∙ flat_map-append at (take i numbers) (drop i numbers)
       ∙ ap (λ ks. numbered_text net arrivals (take i numbers) ++ flat_map at ks) (drop_more numbers i 0 in')
 
 -- the bytes of the block of a number are those of its frame
-pub frame_is : (net : Net) (arrivals : List Arrival) (number : ℕ) (body : List ℕ) → number < length arrivals → ((one : Arrival) → slice_get arrivals number ≡ Some one → body ≡ one.body)
+pub frame_is : (net : Net) (arrivals : List Arrival) (number : ℕ) (body : List ℕ) → number < length arrivals
+    → ((one : Arrival) → slice_get arrivals number ≡ Some one → body ≡ one.body)
     → frame_text (block_magic net) body ≡ frame_of net (slice_get arrivals number)
 frame_is net arrivals number body lt same = by (slice_get arrivals number) refl
   where
@@ -47,7 +52,8 @@ frame_is net arrivals number body lt same = by (slice_get arrivals number) refl
     by (Some one) e = ap (λ b. frame_text (block_magic net) b) (same one e) ∙ sym (ap (λ o. frame_of net o) e)
 
 -- and few enough
-pub frame_short : (arrivals : List Arrival) (number : ℕ) (body : List ℕ) → AreShort arrivals → number < length arrivals → ((one : Arrival) → slice_get arrivals number ≡ Some one → body ≡ one.body) → length body ≤ most_block
+pub frame_short : (arrivals : List Arrival) (number : ℕ) (body : List ℕ) → AreShort arrivals → number < length arrivals
+    → ((one : Arrival) → slice_get arrivals number ≡ Some one → body ≡ one.body) → length body ≤ most_block
 frame_short [] number body short lt same = absurd (omega (arith, lt))
 frame_short (a ∷ arrivals) number body short lt same =
     let one = get_or (a ∷ arrivals) number a in
@@ -56,7 +62,8 @@ frame_short (a ∷ arrivals) number body short lt same =
 
 -- ---- the numbers of a path
 
-pub numbers_within : (arrivals : List Arrival) (numbers : List ℕ) (path : List Arrival) → AreNumbers arrivals numbers path → All (λ number. number < length arrivals) numbers
+pub numbers_within : (arrivals : List Arrival) (numbers : List ℕ) (path : List Arrival) → AreNumbers arrivals numbers path
+    → All (λ number. number < length arrivals) numbers
 numbers_within arrivals [] path e = All-nil (λ number. number < length arrivals)
 numbers_within arrivals (n ∷ numbers) [] e = absurd cc
 numbers_within arrivals (n ∷ numbers) (a ∷ path) e =
@@ -64,7 +71,8 @@ numbers_within arrivals (n ∷ numbers) (a ∷ path) e =
     let others : map (slice_get arrivals) numbers ≡ map Some path = cc in
     All-cons (λ number. number < length arrivals) n numbers (slice_get_within arrivals n a first) (numbers_within arrivals numbers path others)
 
-pub numbers_text : (net : Net) (arrivals : List Arrival) (numbers : List ℕ) (path : List Arrival) → AreNumbers arrivals numbers path → numbered_text net arrivals numbers ≡ path_text net path
+pub numbers_text : (net : Net) (arrivals : List Arrival) (numbers : List ℕ) (path : List Arrival) → AreNumbers arrivals numbers path
+    → numbered_text net arrivals numbers ≡ path_text net path
 numbers_text net arrivals [] [] e = refl
 numbers_text net arrivals [] (a ∷ path) e = absurd cc
 numbers_text net arrivals (n ∷ numbers) [] e = absurd cc

@@ -44,7 +44,11 @@ refused_by line = record { status = SomeRefused; report = whole_line line; out =
 
 -- the path is stored, and its length and how many other blocks came are printed; or why there is none
 unfoldable pub order_end : Net → (blocks : ℕ) → Result (List Arrival) PathFault → Answer
-order_end net blocks (Ok path) = record { status = AllAccepted; report = whole_line (Line.Ordered (length path) (blocks - length path)); out = path_text net path }
+order_end net blocks (Ok path) = record {
+  status = AllAccepted;
+  report = whole_line (Line.Ordered (length path) (blocks - length path));
+  out = path_text net path;
+}
 order_end net blocks (Err NoTip) = refused_by Line.NoTip
 order_end net blocks (Err (Missing hash)) = refused_by (Line.Missing hash)
 order_end net blocks (Err (Loop hash)) = refused_by (Line.Loop hash)

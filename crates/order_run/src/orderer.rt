@@ -58,7 +58,13 @@ impl Orderer {
     fn take_block(&mut self, body: &[u8]) -> Result<(), NoMemory>
         requires short { length body.now ≤ 4000000 }
         requires counted { self.old.blocks < 2 ^ 63 }
-        ensures { OnOk result (self.new ≡ record { net = self.old.net; tip = self.old.tip; arrivals = with_body self.old.arrivals body.now; blocks = self.old.blocks + 1 }) }
+        ensures { OnOk result (self.new ≡ record {
+          net = self.old.net;
+          tip = self.old.tip;
+          arrivals = with_body self.old.arrivals body.now;
+          blocks =
+              self.old.blocks + 1;
+        }) }
     {
         add_body(&mut self.arrivals, body)?;
         self.blocks += 1;
@@ -74,7 +80,8 @@ impl Orderer {
     ) -> Result<Status, Stop>
         requires { All (λ number. number < length self.now.arrivals) numbers.now }
         ensures status { IfOk result (λ status. status ≡ Status.AllAccepted) }
-        ensures said { OnOk result (said.new.items ≡ said.old.items ++ whole_line (Line.Ordered (length numbers.now) (self.now.blocks - length numbers.now))) }
+        ensures said { OnOk result (said.new.items ≡ said.old.items
+            ++ whole_line (Line.Ordered (length numbers.now) (self.now.blocks - length numbers.now))) }
         ensures sent { OnOk result (Appends (O.held out.old) (O.held out.new) (numbered_text self.now.net self.now.arrivals numbers.now)) }
         ensures part { AppendsPart (O.held out.old) (O.held out.new) (numbered_text self.now.net self.now.arrivals numbers.now) }
         ensures read { IsErrOf result Stop.ReadFault → ⊥ }

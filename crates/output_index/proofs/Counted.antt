@@ -14,7 +14,8 @@ count-few k [] = omega arith
 count-few k (None ∷ xs) = let r = count-few (suc k) xs in omega (arith, r)
 count-few k (Some e ∷ xs) = let r = count-few (suc k) xs in omega (arith, r)
 
-cleared-from : (k n : ℕ) (e : Entry) (xs : List (Option Entry)) → slice_get xs n ≡ Some (Some e) → length (entries_from k (set xs n None)) + 1 ≡ length (entries_from k xs)
+cleared-from : (k n : ℕ) (e : Entry) (xs : List (Option Entry)) → slice_get xs n ≡ Some (Some e)
+    → length (entries_from k (set xs n None)) + 1 ≡ length (entries_from k xs)
 cleared-from k n e [] at = absurd (none-some (Some e) at)
 cleared-from k zero e (None ∷ xs) at = absurd (none-some e (same_Some None (Some e) at))
 cleared-from k zero e (Some d ∷ xs) at = omega arith
@@ -22,10 +23,12 @@ cleared-from k (suc n) e (None ∷ xs) at = cleared-from (suc k) n e xs at
 cleared-from k (suc n) e (Some d ∷ xs) at = let r = cleared-from (suc k) n e xs at in omega (arith, r)
 
 -- one fewer, where one is taken out
-pub count-cleared : (n : ℕ) (xs : List (Option Entry)) → IsSome (entry_at n (entries_from 0 xs)) → length (entries_from 0 (set xs n None)) + 1 ≡ length (entries_from 0 xs)
+pub count-cleared : (n : ℕ) (xs : List (Option Entry)) → IsSome (entry_at n (entries_from 0 xs))
+    → length (entries_from 0 (set xs n None)) + 1 ≡ length (entries_from 0 xs)
 count-cleared n xs h = by_case (entry_at n (entries_from 0 xs)) refl h
   where
-    by_case : (x : Option Entry) → entry_at n (entries_from 0 xs) ≡ x → IsSome x → length (entries_from 0 (set xs n None)) + 1 ≡ length (entries_from 0 xs)
+    by_case : (x : Option Entry) → entry_at n (entries_from 0 xs) ≡ x → IsSome x
+        → length (entries_from 0 (set xs n None)) + 1 ≡ length (entries_from 0 xs)
     by_case None q s = absurd (false≢true s)
     by_case (Some e) q s = cleared-from 0 n e xs (stands-at n e xs q)
 

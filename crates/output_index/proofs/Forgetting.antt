@@ -1,5 +1,6 @@
 -- Entries that are forgotten one after the other, and what is known of them before.
-use Rattle.std.proofs.Common.{◌≡◌, ◌≢◌, ℕ, zero, suc, ◌+◌, ◌<◌, ◌≤◌, true, false, List, [], ◌∷◌, ◌++◌, length, take, drop, get_or, Option, Some, None, refl, sym, ap, ◌∙◌, subst, ⊎_elim, arith}
+use Rattle.std.proofs.Common.{◌≡◌, ◌≢◌, ℕ, zero, suc, ◌+◌, ◌<◌, ◌≤◌, true, false, List, [], ◌∷◌, ◌++◌, length, take, drop, get_or, Option, Some, None}
+use Rattle.std.proofs.Common.{refl, sym, ap, ◌∙◌, subst, ⊎_elim, arith}
 use Rattle.std.specs.Prelude.{AllPairs, option_map, is_some, nat_eq}
 use Rattle.std.specs.List.{AllZip}
 use Rattle.std.specs.Option.{option_eq}
@@ -10,7 +11,8 @@ use Rattle.output_index.specs.declared.entry.Entry.{Entry}
 use Rattle.output_index.specs.declared.leaving.Leaving.{Leaving}
 use Rattle.output_index.specs.Held.{Held, without, without_all}
 use Rattle.output_index.specs.Marks.{mark_of}
-use Rattle.output_index.specs.Chains.{held_in, entry_at, removed, mark_in, mark_at, held_mark, IsLast, Below, Any, AreLinked, IsChained, Links, chain_at, TellsOther}
+use Rattle.output_index.specs.Chains.{held_in, entry_at, removed, mark_in, mark_at, held_mark, IsLast, Below, Any, AreLinked, IsChained, Links}
+use Rattle.output_index.specs.Chains.{chain_at, TellsOther}
 use Rattle.output_index.specs.Leaving.{IsOldest, IsAlone, IsLeaving}
 use Rattle.output_index.proofs.Chaining.{chained-newest, mark-from}
 use Rattle.output_index.proofs.HeldLaws.{leaf-without_other, leaf-without_same}
@@ -18,7 +20,8 @@ use Rattle.output_index.proofs.Holding.{leaf_at-in}
 
 -- ---- one more of them
 
-pub without_all-more : (ns : List ℕ) (i : ℕ) (hs : List Held) → i < length ns → without_all (drop i ns) hs ≡ without_all (drop (i + 1) ns) (without (get_or ns i 0) hs)
+pub without_all-more : (ns : List ℕ) (i : ℕ) (hs : List Held) → i < length ns
+    → without_all (drop i ns) hs ≡ without_all (drop (i + 1) ns) (without (get_or ns i 0) hs)
 without_all-more ns i hs lt = ap (λ ms. without_all ms hs) (drop_more ns i 0 lt)
 
 pub other_later : (ns : List ℕ) (i k : ℕ) → AllPairs (λ a b. a ≢ b) ns → i + 1 ≤ k → k < length ns → get_or ns k 0 ≢ get_or ns i 0
@@ -44,7 +47,8 @@ mark-without_other n q hs o = ap (option_map (λ leaf. mark_of leaf.point)) (lea
 -- ---- the only one of its mark
 
 -- an entry that tells no older one is the oldest
-pub oldest_from : (n : ℕ) (e : Entry) (es : List (ℕ × Entry)) → AreLinked es → entry_at n es ≡ Some e → is_some e.older ≡ false → IsOldest (held_in es) n (mark_in e)
+pub oldest_from : (n : ℕ) (e : Entry) (es : List (ℕ × Entry)) → AreLinked es → entry_at n es ≡ Some e → is_some e.older ≡ false
+    → IsOldest (held_in es) n (mark_in e)
 oldest_from n e es linked at none = by_case e.older (linked n e at) none
   where
     by_case : (r : Option ℕ) → IsLast (mark_at es) (mark_in e) (Below n) r → is_some r ≡ false → IsOldest (held_in es) n (mark_in e)
@@ -57,7 +61,8 @@ equal_some None n h = absurd (false≢true h)
 equal_some (Some t) n h = ap Some (eqb-true t n h)
 
 -- the oldest is the only one, where it is the newest too
-pub alone_from : (n m : ℕ) (es : List (ℕ × Entry)) (chains : Links) → IsChained es chains → IsOldest (held_in es) n m → chain_at chains m ≡ Some n → IsAlone (held_in es) n m
+pub alone_from : (n m : ℕ) (es : List (ℕ × Entry)) (chains : Links) → IsChained es chains → IsOldest (held_in es) n m → chain_at chains m ≡ Some n
+    → IsAlone (held_in es) n m
 alone_from n m es chains h oldest top j q =
     let l : IsLast (mark_at es) m Any (Some n) = subst (λ r. IsLast (mark_at es) m Any r) top (h.newest m) in
     let most : j ≤ n = ⊎_elim (λ b. absurd (l.2 j tt b (sym (mark-in j es) ∙ q))) (λ b. b) (cases_lt n j) in
@@ -68,7 +73,8 @@ alone_from n m es chains h oldest top j q =
 alone-without : (n m q : ℕ) (hs : List Held) → IsAlone hs n m → IsAlone (without q hs) n m
 alone-without n m q hs h j is =
     ⊎_elim
-    (λ s. absurd (none-some m (sym (ap (option_map (λ leaf. mark_of leaf.point)) (leaf-without_same q hs)) ∙ subst (λ k. held_mark (without q hs) k ≡ Some m) s is)))
+    (λ s. absurd (none-some m (sym (ap (option_map (λ leaf. mark_of leaf.point)) (leaf-without_same q hs))
+    ∙ subst (λ k. held_mark (without q hs) k ≡ Some m) s is)))
     (λ o. h j (sym (mark-without_other q j hs o) ∙ is))
     (cases_eq j q)
 
@@ -79,14 +85,16 @@ leaving-without n q leaving hs o h = record {
 }
 
 -- the only one tells no older one, and is told of its mark
-alone-older : (n : ℕ) (e : Entry) (es : List (ℕ × Entry)) → AreLinked es → entry_at n es ≡ Some e → IsAlone (held_in es) n (mark_in e) → e.older ≡ None
+alone-older : (n : ℕ) (e : Entry) (es : List (ℕ × Entry)) → AreLinked es → entry_at n es ≡ Some e → IsAlone (held_in es) n (mark_in e)
+    → e.older ≡ None
 alone-older n e es linked at alone = by_case e.older (linked n e at)
   where
     by_case : (r : Option ℕ) → IsLast (mark_at es) (mark_in e) (Below n) r → r ≡ None
     by_case None l = refl
     by_case (Some i) l = absurd (let same : i ≡ n = alone i (mark-in i es ∙ l.1) in omega (arith, same, l.0))
 
-alone-newest : (n m : ℕ) (es : List (ℕ × Entry)) (chains : Links) → IsChained es chains → mark_at es n ≡ Some m → IsAlone (held_in es) n m → chain_at chains m ≡ Some n
+alone-newest : (n m : ℕ) (es : List (ℕ × Entry)) (chains : Links) → IsChained es chains → mark_at es n ≡ Some m → IsAlone (held_in es) n m
+    → chain_at chains m ≡ Some n
 alone-newest n m es chains h is alone = by_case (chain_at chains m) (h.newest m)
   where
     by_case : (r : Option ℕ) → IsLast (mark_at es) m Any r → r ≡ Some n
@@ -98,7 +106,8 @@ tells_none n None h = refl
 tells_none n (Some t) h = absurd (h.1 (sym (same_Some n t h.0)))
 
 -- so it is taken out with its mark, and all others hang together as they did
-pub chained-alone : (n m : ℕ) (es : List (ℕ × Entry)) (old new : Links) (r : Option ℕ) → mark_at es n ≡ Some m → IsAlone (held_in es) n m → TellsOther n (chain_at old m) r → (r ≡ None → chain_at new m ≡ None) →
+pub chained-alone : (n m : ℕ) (es : List (ℕ × Entry)) (old new : Links) (r : Option ℕ) → mark_at es n ≡ Some m → IsAlone (held_in es) n m
+    → TellsOther n (chain_at old m) r → (r ≡ None → chain_at new m ≡ None) →
     ((k : ℕ) → k ≢ m → chain_at new k ≡ chain_at old k) → IsChained es old → IsChained (removed n es) new
 chained-alone n m es old new r mark alone other gone others h = by_entry (mark-from n m es mark)
   where
@@ -107,7 +116,8 @@ chained-alone n m es old new r mark alone other gone others h = by_entry (mark-f
         let top : chain_at old m ≡ Some n = alone-newest n m es old h mark alone in
         let none : r ≡ None = tells_none n r (subst (λ t. TellsOther n t r) top other) in
         let older : e.older ≡ None = alone-older n e es h.older at (subst (IsAlone (held_in es) n) (sym is) alone) in
-        chained-newest n e es old new at (subst (λ k. chain_at old k ≡ Some n) (sym is) top) (subst (λ k. chain_at new k ≡ None) (sym is) (gone none) ∙ sym older) (λ k o. others k (λ s. o (s ∙ sym is))) h
+        chained-newest n e es old new at (subst (λ k. chain_at old k ≡ Some n) (sym is) top)
+        (subst (λ k. chain_at new k ≡ None) (sym is) (gone none) ∙ sym older) (λ k o. others k (λ s. o (s ∙ sym is))) h
 
 -- ---- what is known of entries, one after the other
 
@@ -118,7 +128,8 @@ module _ {A B : Type 0} (R : A → B → Type 0) where
   zip-push (w ∷ xs) [] x y h r = absurd h
   zip-push (w ∷ xs) (z ∷ ys) x y h r = (h.0, zip-push xs ys x y h.1 r)
 
-  pub zip-more : (xs : List A) (ys : List B) (i : ℕ) (d : A) (y : B) → i < length xs → AllZip R (take i xs) ys → R (get_or xs i d) y → AllZip R (take (i + 1) xs) (ys ++ y ∷ [])
+  pub zip-more : (xs : List A) (ys : List B) (i : ℕ) (d : A) (y : B) → i < length xs → AllZip R (take i xs) ys → R (get_or xs i d) y
+      → AllZip R (take (i + 1) xs) (ys ++ y ∷ [])
   zip-more xs ys i d y lt h r = subst (λ l. AllZip R l (ys ++ y ∷ [])) (sym (take_more xs i d lt)) (zip-push (take i xs) ys (get_or xs i d) y h r)
 
   pub zip-at : (xs : List A) (ys : List B) (i : ℕ) (d : A) (e : B) → AllZip R xs ys → i < length xs → R (get_or xs i d) (get_or ys i e)

@@ -1,12 +1,14 @@
 -- Entries that stand each at its number.
-use Rattle.std.proofs.Common.{◌≡◌, ◌≢◌, ℕ, zero, suc, ◌+◌, ◌<◌, ◌≤◌, List, [], ◌∷◌, ◌++◌, Option, Some, None, set, get_or, take, length, refl, sym, ap, ◌∙◌, subst, ap₂, arith}
+use Rattle.std.proofs.Common.{◌≡◌, ◌≢◌, ℕ, zero, suc, ◌+◌, ◌<◌, ◌≤◌, List, [], ◌∷◌, ◌++◌, Option, Some, None, set, get_or, take, length, refl, sym}
+use Rattle.std.proofs.Common.{ap, ◌∙◌, subst, ap₂, arith}
 use Rattle.std.proofs.lemmas.Bool.{false≢true}
 use Rattle.std.proofs.lemmas.Option.{none-some, same_Some, slice_get_within, slice_get_read, slice_get_past}
 use Rattle.std.specs.Prelude.{slice_get, IsSome}
 use Rattle.std.specs.List.{AllByRecursion}
 use Rattle.output_index.specs.declared.entry.Entry.{Entry}
 use Rattle.output_index.specs.Chains.{entry_at, changed, removed, entries_from}
-use Rattle.output_index.proofs.Entries.{at-here, at-there, none_at, below_others, changed-here, changed-there, removed-here, removed-there, removed-none}
+use Rattle.output_index.proofs.Entries.{at-here, at-there, none_at, below_others, changed-here, changed-there, removed-here, removed-there}
+use Rattle.output_index.proofs.Entries.{removed-none}
 
 -- what stands there, if anything does
 abbrev pub standing : Option (Option Entry) → Option Entry
@@ -25,7 +27,8 @@ apart k (y ∷ es) h = ((λ s. absurd (let l = h.0 in omega (arith, l, s))), apa
 
 at-from : (k n : ℕ) (xs : List (Option Entry)) → entry_at (k + n) (entries_from k xs) ≡ standing (slice_get xs n)
 at-from k n [] = refl
-at-from k zero (None ∷ xs) = ap (λ j. entry_at j (entries_from (suc k) xs)) (omega arith) ∙ none_at k (entries_from (suc k) xs) (below_others k (entries_from (suc k) xs) (from-above k (suc k) xs (omega arith)))
+at-from k zero (None ∷ xs) = ap (λ j. entry_at j (entries_from (suc k) xs)) (omega arith)
+    ∙ none_at k (entries_from (suc k) xs) (below_others k (entries_from (suc k) xs) (from-above k (suc k) xs (omega arith)))
 at-from k zero (Some e ∷ xs) = ap (λ j. entry_at j ((k, e) ∷ entries_from (suc k) xs)) (omega arith) ∙ at-here k e (entries_from (suc k) xs)
 at-from k (suc n) (None ∷ xs) = ap (λ j. entry_at j (entries_from (suc k) xs)) (omega arith) ∙ at-from (suc k) n xs
 at-from k (suc n) (Some e ∷ xs) =
@@ -66,7 +69,8 @@ changed_none n f [] h = refl
 changed_none n f (x ∷ es) h = ap (λ y. y ∷ changed n f es) (changed-there n f x h.0) ∙ ap (λ ys. x ∷ ys) (changed_none n f es h.1)
 
 -- another entry at a place
-set-from : (k n : ℕ) (f : Entry → Entry) (e : Entry) (xs : List (Option Entry)) → slice_get xs n ≡ Some (Some e) → entries_from k (set xs n (Some (f e))) ≡ changed (k + n) f (entries_from k xs)
+set-from : (k n : ℕ) (f : Entry → Entry) (e : Entry) (xs : List (Option Entry)) → slice_get xs n ≡ Some (Some e)
+    → entries_from k (set xs n (Some (f e))) ≡ changed (k + n) f (entries_from k xs)
 set-from k n f e [] at = absurd (none-some (Some e) at)
 set-from k zero f e (None ∷ xs) at = absurd (none-some e (same_Some None (Some e) at))
 set-from k zero f e (Some d ∷ xs) at =
@@ -81,8 +85,10 @@ set-from k (suc n) f e (Some d ∷ xs) at =
     (sym (changed-there (k + suc n) f (k, d) (λ s. absurd (omega (arith, s)))))
     (set-from (suc k) n f e xs at ∙ ap (λ j. changed j f (entries_from (suc k) xs)) (omega arith))
 
-pub set-there : (n : ℕ) (f : Entry → Entry) (e : Entry) (xs : List (Option Entry)) → IsSome (entry_at n (entries_from 0 xs)) → Some e ≡ get_or xs n (Some e) → entries_from 0 (set xs n (Some (f e))) ≡ changed n f (entries_from 0 xs)
-set-there n f e xs h r = set-from 0 n f e xs (slice_get_read xs (length xs) n (Some e) refl (stands-within n xs h) r) ∙ ap (λ j. changed j f (entries_from 0 xs)) (omega arith)
+pub set-there : (n : ℕ) (f : Entry → Entry) (e : Entry) (xs : List (Option Entry)) → IsSome (entry_at n (entries_from 0 xs))
+    → Some e ≡ get_or xs n (Some e) → entries_from 0 (set xs n (Some (f e))) ≡ changed n f (entries_from 0 xs)
+set-there n f e xs h r = set-from 0 n f e xs (slice_get_read xs (length xs) n (Some e) refl (stands-within n xs h) r)
+    ∙ ap (λ j. changed j f (entries_from 0 xs)) (omega arith)
 
 -- nothing there any more
 cleared-from : (k n : ℕ) (xs : List (Option Entry)) → entries_from k (set xs n None) ≡ removed (k + n) (entries_from k xs)
@@ -109,13 +115,16 @@ nothing-below k n [] l h = refl
 nothing-below k n (None ∷ xs) l h = nothing-below (suc k) n xs (omega (arith, l)) h
 nothing-below k n (Some d ∷ xs) l h = absurd (let b = h.0 in omega (arith, l, b))
 
-front-from : (k n : ℕ) (xs : List (Option Entry)) → AllByRecursion (λ x. x.0 < k + n) (entries_from k xs) → entries_from k (take n xs) ≡ entries_from k xs
+front-from : (k n : ℕ) (xs : List (Option Entry)) → AllByRecursion (λ x. x.0 < k + n) (entries_from k xs)
+    → entries_from k (take n xs) ≡ entries_from k xs
 front-from k zero xs h = nothing-below k (k + zero) xs (omega arith) h
 front-from k (suc n) [] h = refl
 front-from k (suc n) (None ∷ xs) h = front-from (suc k) n xs (subst (λ j. AllByRecursion (λ x. x.0 < j) (entries_from (suc k) xs)) (omega arith) h)
-front-from k (suc n) (Some d ∷ xs) h = ap (λ es. (k, d) ∷ es) (front-from (suc k) n xs (subst (λ j. AllByRecursion (λ x. x.0 < j) (entries_from (suc k) xs)) (omega arith) h.1))
+front-from k (suc n) (Some d ∷ xs) h = ap (λ es. (k, d) ∷ es)
+    (front-from (suc k) n xs (subst (λ j. AllByRecursion (λ x. x.0 < j) (entries_from (suc k) xs)) (omega arith) h.1))
 
-pub front-there : (n : ℕ) (xs : List (Option Entry)) → AllByRecursion (λ x. x.0 < n) (entries_from 0 xs) → entries_from 0 (take n xs) ≡ entries_from 0 xs
+pub front-there : (n : ℕ) (xs : List (Option Entry)) → AllByRecursion (λ x. x.0 < n) (entries_from 0 xs)
+    → entries_from 0 (take n xs) ≡ entries_from 0 xs
 front-there n xs h = front-from 0 n xs (subst (λ j. AllByRecursion (λ x. x.0 < j) (entries_from 0 xs)) (omega arith) h)
 
 pub none-behind : (k : ℕ) (xs : List (Option Entry)) → entries_from k (xs ++ None ∷ []) ≡ entries_from k xs

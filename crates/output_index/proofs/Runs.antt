@@ -1,5 +1,6 @@
 -- Entries that are forgotten a few at a time.
-use Rattle.std.proofs.Common.{◌≡◌, ◌≢◌, ℕ, zero, suc, ◌+◌, ◌-◌, ◌<◌, ◌≤◌, true, List, [], ◌∷◌, ◌++◌, length, take, drop, get_or, refl, sym, ap, ◌∙◌, arith}
+use Rattle.std.proofs.Common.{◌≡◌, ◌≢◌, ℕ, zero, suc, ◌+◌, ◌-◌, ◌<◌, ◌≤◌, true, List, [], ◌∷◌, ◌++◌, length, take, drop, get_or, refl, sym, ap, ◌∙◌}
+use Rattle.std.proofs.Common.{arith}
 use Rattle.std.specs.Prelude.{All, AllPairs}
 use Rattle.std.proofs.lemmas.List.{take-append-drop, get_or-take, get_or-drop, length-drop}
 use Rattle.output_index.specs.Held.{Held, is_spent, without, without_all}
@@ -26,10 +27,12 @@ without_all-parts k ns hs = sym (without_all-append (take k ns) (drop k ns) hs) 
 
 spent-others : (ns : List ℕ) (q : ℕ) (hs : List Held) → ((i : ℕ) → i < length ns → q ≢ get_or ns i 0) → is_spent q (without_all ns hs) ≡ is_spent q hs
 spent-others [] q hs other = refl
-spent-others (n ∷ ns) q hs other = spent-others ns q (without n hs) (λ i l. other (suc i) (omega (arith, l))) ∙ spent-without_other n q hs (other 0 (omega arith))
+spent-others (n ∷ ns) q hs other = spent-others ns q (without n hs) (λ i l. other (suc i) (omega (arith, l)))
+    ∙ spent-without_other n q hs (other 0 (omega arith))
 
 -- what is behind the front is spent still
-pub spent-behind : (k : ℕ) (ns : List ℕ) (hs : List Held) → k ≤ length ns → AllPairs (λ i j. i ≢ j) ns → All (λ i. is_spent i hs ≡ true) ns → All (λ i. is_spent i (without_all (take k ns) hs) ≡ true) (drop k ns)
+pub spent-behind : (k : ℕ) (ns : List ℕ) (hs : List Held) → k ≤ length ns → AllPairs (λ i j. i ≢ j) ns → All (λ i. is_spent i hs ≡ true) ns
+    → All (λ i. is_spent i (without_all (take k ns) hs) ≡ true) (drop k ns)
 spent-behind k ns hs few apart spent j d l =
     let len : length (drop k ns) ≡ length ns - k = length-drop k ns in
     let within : k + j < length ns = omega (arith, l, len, few) in
@@ -51,7 +54,8 @@ apart-behind k ns apart i j d l b e =
     apart (k + i) (k + j) d (omega (arith, l)) (omega (arith, b, len)) (sym (get_or-drop k ns i d) ∙ (e ∙ get_or-drop k ns j d))
 
 -- the same of the front
-pub spent-front : (k : ℕ) (ns : List ℕ) (hs : List Held) → k ≤ length ns → All (λ i. is_spent i hs ≡ true) ns → All (λ i. is_spent i hs ≡ true) (take k ns)
+pub spent-front : (k : ℕ) (ns : List ℕ) (hs : List Held) → k ≤ length ns → All (λ i. is_spent i hs ≡ true) ns
+    → All (λ i. is_spent i hs ≡ true) (take k ns)
 spent-front k ns hs few spent j d l =
     let t : length (take k ns) ≤ k = take_few k ns in
     let below : j < k = omega (arith, l, t) in

@@ -1,5 +1,6 @@
 -- The newest entries of marks, which lie in many maps.
-use Rattle.std.proofs.Common.{◌≡◌, ◌≢◌, ℕ, zero, suc, ◌<◌, List, [], ◌∷◌, ◌++◌, Option, Some, None, set, get_or, length, refl, sym, ap, ◌∙◌, subst, ⊎_elim}
+use Rattle.std.proofs.Common.{◌≡◌, ◌≢◌, ℕ, zero, suc, ◌<◌, List, [], ◌∷◌, ◌++◌, Option, Some, None, set, get_or, length, refl, sym, ap, ◌∙◌, subst}
+use Rattle.std.proofs.Common.{⊎_elim}
 use Rattle.std.specs.Prelude.{slice_get, IsSome, option_map}
 use Rattle.std.specs.BTreeMap as tree
 use Rattle.std.specs.BTreeMap.{BTreeMap}
@@ -26,7 +27,8 @@ at-maps maps m = ap (λ s. found_in s m) (get-map (shard_of m) maps) ∙ by_case
     by_case None = refl
     by_case (Some one) = refl
 
-pub at-map : (maps : List (BTreeMap ℕ ℕ)) (one : BTreeMap ℕ ℕ) (i m : ℕ) → shard_of m ≡ i → i < length maps → one ≡ get_or maps i one → shard_at (shards_in maps) m ≡ tree.get nat_cmp one m
+pub at-map : (maps : List (BTreeMap ℕ ℕ)) (one : BTreeMap ℕ ℕ) (i m : ℕ) → shard_of m ≡ i → i < length maps → one ≡ get_or maps i one
+    → shard_at (shards_in maps) m ≡ tree.get nat_cmp one m
 at-map maps one i m s l h = at-maps maps m ∙ ap (λ x. in_map x m) (ap (slice_get maps) s ∙ slice_get_read maps (length maps) i one refl l h)
 
 -- a mark that is found has its map
@@ -38,11 +40,13 @@ map-within maps m h = by_case (slice_get maps (shard_of m)) refl (subst IsSome (
     by_case (Some one) q h = slice_get_within maps (shard_of m) one q
 
 -- another map in the place of one
-pub at-set : (maps : List (BTreeMap ℕ ℕ)) (one : BTreeMap ℕ ℕ) (i m : ℕ) → shard_of m ≡ i → i < length maps → shard_at (shards_in (set maps i one)) m ≡ tree.get nat_cmp one m
+pub at-set : (maps : List (BTreeMap ℕ ℕ)) (one : BTreeMap ℕ ℕ) (i m : ℕ) → shard_of m ≡ i → i < length maps
+    → shard_at (shards_in (set maps i one)) m ≡ tree.get nat_cmp one m
 at-set maps one i m s l = at-maps (set maps i one) m ∙ ap (λ x. in_map x m) (ap (slice_get (set maps i one)) s ∙ get-set_same i one maps l)
 
 -- which differs from it at one mark alone
-pub others-set : (maps : List (BTreeMap ℕ ℕ)) (old new : BTreeMap ℕ ℕ) (i mark : ℕ) → shard_of mark ≡ i → i < length maps → old ≡ get_or maps i old → ((m : ℕ) → m ≢ mark → tree.get nat_cmp new m ≡ tree.get nat_cmp old m) →
+pub others-set : (maps : List (BTreeMap ℕ ℕ)) (old new : BTreeMap ℕ ℕ) (i mark : ℕ) → shard_of mark ≡ i → i < length maps → old ≡ get_or maps i old
+    → ((m : ℕ) → m ≢ mark → tree.get nat_cmp new m ≡ tree.get nat_cmp old m) →
     (m : ℕ) → m ≢ mark → shard_at (shards_in (set maps i new)) m ≡ shard_at (shards_in maps) m
 others-set maps old new i mark s l h others m o =
     ⊎_elim
@@ -51,7 +55,8 @@ others-set maps old new i mark s l h others m o =
     (cases_eq (shard_of m) i)
 
 -- all maps are empty
-pub none-in : (maps : List (BTreeMap ℕ ℕ)) (one : BTreeMap ℕ ℕ) → ((m : ℕ) → tree.get nat_cmp one m ≡ None) → ((m : ℕ) → shard_at (shards_in maps) m ≡ None) → (m : ℕ) → shard_at (shards_in (maps ++ one ∷ [])) m ≡ None
+pub none-in : (maps : List (BTreeMap ℕ ℕ)) (one : BTreeMap ℕ ℕ) → ((m : ℕ) → tree.get nat_cmp one m ≡ None)
+    → ((m : ℕ) → shard_at (shards_in maps) m ≡ None) → (m : ℕ) → shard_at (shards_in (maps ++ one ∷ [])) m ≡ None
 none-in maps one empty h m = at-maps (maps ++ one ∷ []) m ∙ by_place (shard_of m) maps (sym (at-maps maps m) ∙ h m)
   where
     by_place : (i : ℕ) (maps : List (BTreeMap ℕ ℕ)) → in_map (slice_get maps i) m ≡ None → in_map (slice_get (maps ++ one ∷ []) i) m ≡ None

@@ -1,5 +1,6 @@
 -- Marks that lie a few to a bucket, and in which bucket a mark is sought.
-use Rattle.std.specs.Prelude.{◌≡◌, ◌≢◌, ℕ, suc, ◌%◌, ◌^◌, ◌≤◌, ◌==◌, nat_lt, Bool, List, [], ◌∷◌, length, take, slice_get, Option, Some, None, IfSome, if◌then◌else◌}
+use Rattle.std.specs.Prelude.{◌≡◌, ◌≢◌, ℕ, suc, ◌%◌, ◌^◌, ◌≤◌, ◌==◌, nat_lt, Bool, List, [], ◌∷◌, length, take, slice_get, Option, Some, None, IfSome}
+use Rattle.std.specs.Prelude.{if◌then◌else◌}
 use Rattle.std.specs.List.{AllByRecursion}
 use Rattle.output_index.specs.declared.bucket.Newest.{Newest}
 
@@ -65,7 +66,8 @@ HasNoRoom bits buckets m = IfSome (slice_get buckets (bucket_of bits (length buc
 
 -- the bucket of this number has no mark that is sought elsewhere
 abbrev pub HasOwn : ℕ → List (List Newest) → ℕ → Type 0
-HasOwn bits buckets number = IfSome (slice_get buckets number) (λ cells. AllByRecursion (λ cell. bucket_of bits (length buckets) cell.mark ≡ number) cells)
+HasOwn bits buckets number = IfSome (slice_get buckets number)
+    (λ cells. AllByRecursion (λ cell. bucket_of bits (length buckets) cell.mark ≡ number) cells)
 
 -- from as many buckets as the bits tell apart up to twice as many, or none
 pub record IsTable (table : Table) : Type 0 where

@@ -174,7 +174,8 @@ fn place_of(cells: &[Newest], mark: u64) -> Option<usize>
 // The first cell whose mark is not sought in the bucket of this number.
 fn place_of_strange(cells: &[Newest], bits: u32, count: u64, number: u64) -> Option<usize>
     requires { bits < 62 }
-    ensures { MatchOption result (AllByRecursion (λ cell. bucket_of bits count cell.mark ≡ number) cells.now) (IsStrange cells.now bits count number) }
+    ensures { MatchOption result (AllByRecursion (λ cell. bucket_of bits count cell.mark ≡ number) cells.now)
+        (IsStrange cells.now bits count number) }
 {
     for at in 0..cells.len() {
         if bucket_of(bits, count, cells[at].mark) != number {

@@ -1,5 +1,6 @@
 //! The entries by their numbers.
-ghost use Rattle.std.specs.Prelude.{◌≡◌, ◌<◌, ◌≤◌, ◌+◌, ◌^◌, ◌++◌, [], ◌∷◌, length, true, Some, None, IfOk, OnOk, OnErr, IsSome, option_map, vec_len, vec_capacity};
+ghost use Rattle.std.specs.Prelude.{◌≡◌, ◌<◌, ◌≤◌, ◌+◌, ◌^◌, ◌++◌, [], ◌∷◌, length, true, Some, None, IfOk, OnOk, OnErr, IsSome, option_map, vec_len};
+ghost use Rattle.std.specs.Prelude.{vec_capacity};
 ghost use Rattle.std.specs.List.{AllByRecursion};
 ghost use Rattle.output_index.specs.Chains.{entry_at, lives_in, changed, removed, set_live, set_older, entries_from};
 
@@ -129,8 +130,8 @@ impl Entries {
     }
 }
 
-/// A spare cell, or a new one where none is spare, with this output, live. There is room for it among the spare ones, and for the cells of as
-/// many entries as are held.
+/// A spare cell, or a new one where none is spare, with this output, live. There is room for it among the spare ones, and for the cells of as many
+/// entries as are held.
 fn cell(
     spare: &mut Vec<Slot>,
     held: usize,

@@ -31,7 +31,10 @@ impl Model for StoredRecord {
 
     ghost Value = { Leaf };
 
-    ghost view = { λ r. record { point = record { txid = r.txid; index = r.index }; rest = record { block = r.block; height = r.height; coinbase = r.coinbase; amount = r.amount; script = script_text r.script } } };
+    ghost view = { λ r. record {
+      point = record { txid = r.txid; index = r.index };
+      rest = record { block = r.block; height = r.height; coinbase = r.coinbase; amount = r.amount; script = script_text r.script };
+    } };
 
     ghost invariant = { λ r. (r.height < 2 ^ 31) × (length (script_text r.script) ≤ longest_script) };
 }

@@ -1,5 +1,6 @@
 -- A climb over all places above one.
-use Rattle.std.proofs.Common.{◌≡◌, ℕ, suc, ◌+◌, ◌-◌, ◌/◌, ◌^◌, ◌<◌, ◌≤◌, true, false, List, sym, ap, ap₂, ◌∙◌, subst, ⊎_elim, inl, arith, eq-eqb, eqb-true}
+use Rattle.std.proofs.Common.{◌≡◌, ℕ, suc, ◌+◌, ◌-◌, ◌/◌, ◌^◌, ◌<◌, ◌≤◌, true, false, List, sym, ap, ap₂, ◌∙◌, subst, ⊎_elim, inl, arith, eq-eqb}
+use Rattle.std.proofs.Common.{eqb-true}
 use Rattle.std.specs.Prelude.{◌==◌, nat_lt}
 use Rattle.std.proofs.lemmas.Bool.{cases_lt, cases_eq, and_from, and_parts, true≢false, false_from_ne_true, lt-ltb, ltb-true}
 use Rattle.std.proofs.lemmas.Nat.{shr-shr}
@@ -16,7 +17,8 @@ use Rattle.proof_shape.specs.Found.{HasOneAbove, HasNoneAbove, IsPast}
 pub nothing_above : (n r o k : ℕ) → is_root n r o ≡ true → InForest n (r + suc k) (o / 2 ^ suc k) → ⊥
 nothing_above n r o k top h =
     let e : r + suc k ≡ suc r + k = omega arith in
-    let up : InForest n (suc r) (o / 2) = InForest-beneath n k (suc r) (o / 2) (subst (λ x. InForest n (suc r + k) x) (half_pow o k) (subst (λ x. InForest n x (o / 2 ^ suc k)) e h)) in
+    let up : InForest n (suc r) (o / 2) = InForest-beneath n k (suc r) (o / 2)
+    (subst (λ x. InForest n (suc r + k) x) (half_pow o k) (subst (λ x. InForest n x (o / 2 ^ suc k)) e h)) in
     true≢false (sym top ∙ not_root-down n r o up)
 
 -- the place above p at which a climb from p has arrived, where no place up to it has a position of the list
@@ -37,7 +39,8 @@ climb_begins n xs p h = record {
   clear = λ q i a le. let w = above_parts q p a in absurd (omega (arith, w.0));
 }
 
-module _ (n : ℕ) (xs : List ℕ) (p a b : Place) (c : IsClimbing n xs p a) (other : is_root n a.row a.off ≡ false) (row : b.row ≡ a.row + 1) (off : b.off ≡ a.off / 2) where
+module _ (n : ℕ) (xs : List ℕ) (p a b : Place) (c : IsClimbing n xs p a) (other : is_root n a.row a.off ≡ false) (row : b.row ≡ a.row + 1)
+    (off : b.off ≡ a.off / 2) where
   next_within : InForest n b.row b.off
   next_within =
       let e : suc a.row ≡ b.row = omega (arith, row) in
@@ -79,7 +82,8 @@ module _ (n : ℕ) (xs : List ℕ) (p a b : Place) (c : IsClimbing n xs p a) (ot
 
   -- positions rise on the way up
   pub climb_passes : IsPast xs (position n b.row b.off) → HasNoneAbove n xs p
-  climb_passes past q i ab = ⊎_elim (λ gt. false_from_ne_true _ (λ h. beyond (past (position n q.row q.off) h) (higher gt))) (λ le. c.clear q i ab le) (cases_lt a.row q.row)
+  climb_passes past q i ab = ⊎_elim (λ gt. false_from_ne_true _ (λ h. beyond (past (position n q.row q.off) h) (higher gt))) (λ le. c.clear q i ab le)
+      (cases_lt a.row q.row)
     where
       same_off : q.row ≡ b.row → q.off ≡ b.off
       same_off same = sym (above_parts q p ab).1 ∙ (ap (λ k. p.off / 2 ^ (k - p.row)) same ∙ sym next_off)
@@ -88,7 +92,8 @@ module _ (n : ℕ) (xs : List ℕ) (p a b : Place) (c : IsClimbing n xs p a) (ot
       higher gt =
           ⊎_elim
           (λ same. let e : position n b.row b.off ≡ position n q.row q.off = ap₂ (position n) (sym same) (sym (same_off same)) in omega (arith, e))
-          (λ differ. let lt : b.row < q.row = omega (arith, row, gt, differ) in let up = position_rises n b q next_within i (inl lt) in omega (arith, up))
+          (λ differ. let lt : b.row < q.row = omega (arith, row, gt, differ) in let up = position_rises n b q next_within i (inl lt) in
+          omega (arith, up))
           (cases_eq q.row b.row)
 
       beyond : position n q.row q.off < position n b.row b.off → position n b.row b.off ≤ position n q.row q.off → ⊥
@@ -103,7 +108,9 @@ climb_ends n xs p a c top q i ab =
     let k = q.row - a.row - 1 in
     let high : a.row + suc k ≡ q.row = omega (arith, gt) in
     let split : a.row - p.row + suc k ≡ q.row - p.row = omega (arith, gt, up) in
-    let at : a.off / 2 ^ suc k ≡ q.off = ap (λ x. x / 2 ^ suc k) c.above ∙ (shr-shr p.off (a.row - p.row) (suc k) ∙ (ap (λ j. p.off / 2 ^ j) split ∙ w.1)) in
-    absurd (nothing_above n a.row a.off k top (subst (λ x. InForest n x (a.off / 2 ^ suc k)) (sym high) (subst (λ x. InForest n q.row x) (sym at) i))))
+    let at : a.off / 2 ^ suc k ≡ q.off = ap (λ x. x / 2 ^ suc k) c.above
+    ∙ (shr-shr p.off (a.row - p.row) (suc k) ∙ (ap (λ j. p.off / 2 ^ j) split ∙ w.1)) in
+    absurd (nothing_above n a.row a.off k top
+    (subst (λ x. InForest n x (a.off / 2 ^ suc k)) (sym high) (subst (λ x. InForest n q.row x) (sym at) i))))
     (λ le. c.clear q i ab le)
     (cases_lt a.row q.row)

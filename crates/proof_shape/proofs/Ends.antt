@@ -1,5 +1,6 @@
 -- An ascending list and a part of it, from their ends.
-use Rattle.std.proofs.Common.{◌≡◌, ℕ, zero, suc, ◌+◌, ◌-◌, ◌<◌, ◌≤◌, true, false, List, length, get_or, refl, sym, ap, ◌∙◌, subst, ⊎_elim, arith, eq-eqb}
+use Rattle.std.proofs.Common.{◌≡◌, ℕ, zero, suc, ◌+◌, ◌-◌, ◌<◌, ◌≤◌, true, false, List, length, get_or, refl, sym, ap, ◌∙◌, subst, ⊎_elim, arith}
+use Rattle.std.proofs.Common.{eq-eqb}
 use Rattle.std.specs.Prelude.{◌==◌}
 use Rattle.std.proofs.lemmas.Bool.{cases_lt, cases_eq, false_from_ne_true}
 use Rattle.std.proofs.lemmas.List.Folds.{list_any_at}
@@ -18,7 +19,8 @@ pub alike_begins : (xs ys : List ℕ) → EndAlike xs ys (length xs) (length ys)
 alike_begins xs ys = record { low = omega arith; even = omega arith; alike = λ d lt. absurd (omega (arith, lt)) }
 
 -- one number more before the ends
-pub alike_more : (xs ys : List ℕ) (i j : ℕ) → EndAlike xs ys i j → 0 < i → 0 < j → get_or xs (i - 1) 0 ≡ get_or ys (j - 1) 0 → EndAlike xs ys (i - 1) (j - 1)
+pub alike_more : (xs ys : List ℕ) (i j : ℕ) → EndAlike xs ys i j → 0 < i → 0 < j → get_or xs (i - 1) 0 ≡ get_or ys (j - 1) 0
+    → EndAlike xs ys (i - 1) (j - 1)
 alike_more xs ys i j h some some' e =
     let low = h.low in
     let even = h.even in
@@ -41,7 +43,8 @@ module _ (xs ys : List ℕ) (i j : ℕ) (h : EndAlike xs ys i j) where
       ap (λ m. get_or xs m 0) (sym at) ∙ h.alike (k - i) (omega (arith, at, lt))
 
   pub end_has : (k : ℕ) → i ≤ k → k < length xs → has_number ys (get_or xs k 0) ≡ true
-  end_has k le lt = list_any_at (λ y. y == get_or xs k 0) ys (j + (k - i)) 0 (let even = h.even in omega (arith, even, le, lt)) (eq-eqb _ _ (sym (alike_at k le lt)))
+  end_has k le lt = list_any_at (λ y. y == get_or xs k 0) ys (j + (k - i)) 0 (let even = h.even in
+      omega (arith, even, le, lt)) (eq-eqb _ _ (sym (alike_at k le lt)))
 
   -- where all of the first list is in the like ends
   pub all_alike : i ≡ 0 → HasAll ys xs

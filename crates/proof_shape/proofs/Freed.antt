@@ -1,5 +1,6 @@
 -- Where a sweep puts each target anew, the targets have shape.
-use Rattle.std.proofs.Common.{◌≡◌, ℕ, zero, suc, ◌+◌, ◌-◌, ◌/◌, ◌^◌, ◌<◌, ◌≤◌, true, false, List, [], ◌∷◌, ◌++◌, length, get_or, refl, sym, ap, ◌∙◌, subst, ⊎_elim, inl, inr, arith, eqb-true, ap₂}
+use Rattle.std.proofs.Common.{◌≡◌, ℕ, zero, suc, ◌+◌, ◌-◌, ◌/◌, ◌^◌, ◌<◌, ◌≤◌, true, false, List, [], ◌∷◌, ◌++◌, length, get_or, refl, sym, ap, ◌∙◌}
+use Rattle.std.proofs.Common.{subst, ⊎_elim, inl, inr, arith, eqb-true, ap₂}
 use Rattle.std.specs.Prelude.{◌⊎◌, ◌==◌, nat_lt}
 use Rattle.std.specs.List.Sorted.{IsNonDecreasing, IsPermutation}
 use Rattle.std.proofs.lemmas.Bool.{cases_lt, cases_Bool, and_parts, ltb-true, false_from_ne_true}
@@ -21,7 +22,8 @@ use Rattle.proof_shape.proofs.Shapes.{shape_from_sorted}
 pub free_begins : (n : ℕ) (xs : List ℕ) → AreFree n xs [] 0
 free_begins n xs = record { rising = λ a b lt h. absurd (omega (arith, h)); clear = λ m c lt h other e. absurd (omega (arith, lt)) }
 
-module _ (n : ℕ) (xs : List ℕ) (cs : List Place) (k j : ℕ) (s : IsSweep n xs cs k j) (places : ArePositions n xs) (sorted : IsNonDecreasing xs) (f : AreFree n xs cs j) where
+module _ (n : ℕ) (xs : List ℕ) (cs : List Place) (k j : ℕ) (s : IsSweep n xs cs k j) (places : ArePositions n xs) (sorted : IsNonDecreasing xs)
+    (f : AreFree n xs cs j) where
   -- a number before index j is the position of a place of the list
   told : (m : ℕ) → m < j → (a : ℕ) × (a < length cs) × (pos n (place_in cs a) ≡ get_or xs m 0)
   told m lt =
@@ -31,7 +33,8 @@ module _ (n : ℕ) (xs : List ℕ) (cs : List Place) (k j : ℕ) (s : IsSweep n 
       (w.0, w.1, ap (pos n) w.2 ∙ q.2)
 
   -- a place at the end that is not before any
-  free_more : (p : Place) → InForest n p.row p.off → ((a : ℕ) → a < length cs → pos n (place_in cs a) ≤ pos n p) → (m : ℕ) (c : Place) → m < j → has (cs ++ p ∷ []) c ≡ true → is_top n c ≡ false → pos n (up c) ≡ get_or xs m 0 → ⊥
+  free_more : (p : Place) → InForest n p.row p.off → ((a : ℕ) → a < length cs → pos n (place_in cs a) ≤ pos n p) → (m : ℕ) (c : Place) → m < j
+      → has (cs ++ p ∷ []) c ≡ true → is_top n c ≡ false → pos n (up c) ≡ get_or xs m 0 → ⊥
   free_more p inside high m c lt h other e =
       ⊎_elim
       (λ old. f.clear m c lt old other e)
@@ -62,7 +65,8 @@ module _ (n : ℕ) (xs : List ℕ) (cs : List Place) (k j : ℕ) (s : IsSweep n 
           }))
           (h.below other)
 
-  module _ (p : Place) (c : NumberNext n cs k xs j) (lj : j < length xs) (inside : InForest n p.row p.off) (is : pos n p ≡ get_or xs j 0) (new : 0 < length cs → place_in cs (length cs - 1) ≡ p → ⊥) where
+  module _ (p : Place) (c : NumberNext n cs k xs j) (lj : j < length xs) (inside : InForest n p.row p.off) (is : pos n p ≡ get_or xs j 0)
+      (new : 0 < length cs → place_in cs (length cs - 1) ≡ p → ⊥) where
     high : (a : ℕ) → a < length cs → pos n (place_in cs a) ≤ pos n p
     high a la = let z = s.tops j a (omega arith) lj la in omega (arith, z, is)
 
@@ -82,8 +86,10 @@ module _ (n : ℕ) (xs : List ℕ) (cs : List Place) (k j : ℕ) (s : IsSweep n 
         let lk : k < length cs = omega (arith, ge, la) in
         let w = c.least lk in
         ⊎_elim
-        (λ lt. let z = ups_rise n (place_in cs k) (place_in cs a) (in_list k lk) (in_list a la) w.0 other (s.rises k a lt la) in omega (arith, z, w.2, e, is))
-        (λ le. let same : a ≡ k = omega (arith, ge, le) in let at : pos n (up (place_in cs a)) ≡ pos n (up (place_in cs k)) = ap (λ x. pos n (up (place_in cs x))) same in omega (arith, at, w.2, e, is))
+        (λ lt. let z = ups_rise n (place_in cs k) (place_in cs a) (in_list k lk) (in_list a la) w.0 other (s.rises k a lt la) in
+        omega (arith, z, w.2, e, is))
+        (λ le. let same : a ≡ k = omega (arith, ge, le) in let at : pos n (up (place_in cs a)) ≡ pos n (up (place_in cs k)) =
+        ap (λ x. pos n (up (place_in cs x))) same in omega (arith, at, w.2, e, is))
         (cases_lt k a))
         (cases_lt a k)
 
@@ -117,7 +123,8 @@ module _ (n : ℕ) (xs : List ℕ) (cs : List Place) (k j : ℕ) (s : IsSweep n 
           (cases_lt m j);
     }
 
-  pub free_numbered : (new : List Place) (p : Place) → NumberNext n cs k xs j → j < length xs → InForest n p.row p.off → pos n p ≡ get_or xs j 0 → IsAdded cs p new → AreFree n xs new (j + 1)
+  pub free_numbered : (new : List Place) (p : Place) → NumberNext n cs k xs j → j < length xs → InForest n p.row p.off → pos n p ≡ get_or xs j 0
+      → IsAdded cs p new → AreFree n xs new (j + 1)
   free_numbered new p c lj inside is h = subst (λ l. AreFree n xs l (j + 1)) (sym h.1) (free_added p c lj inside is h.0)
 
 module _ (n : ℕ) (xs : List ℕ) (cs : List Place) (s : IsSwept n xs cs) where
@@ -125,7 +132,8 @@ module _ (n : ℕ) (xs : List ℕ) (cs : List Place) (s : IsSwept n xs cs) where
   lower k r o i = false_from_ne_true _ (λ top. nothing_above n r o k top i)
 
   -- a place of the list right beneath one that stands above a place of it
-  right_beneath : (k r o : ℕ) → has_place cs r o ≡ true → InForest n (r + suc k) (o / 2 ^ suc k) → (c : Place) × (has cs c ≡ true) × (is_top n c ≡ false) × (up c ≡ place (r + suc k) (o / 2 ^ suc k))
+  right_beneath : (k r o : ℕ) → has_place cs r o ≡ true → InForest n (r + suc k) (o / 2 ^ suc k) → (c : Place) × (has cs c ≡ true)
+      × (is_top n c ≡ false) × (up c ≡ place (r + suc k) (o / 2 ^ suc k))
   right_beneath zero r o h i =
       let e : suc r ≡ r + suc zero = omega arith in
       let half : o / 2 ≡ o / 2 ^ suc zero = refl in
@@ -134,11 +142,14 @@ module _ (n : ℕ) (xs : List ℕ) (cs : List Place) (s : IsSwept n xs cs) where
       let e : suc r + suc l ≡ r + suc (suc l) = omega arith in
       let half : o / 2 ^ suc (suc l) ≡ o / 2 / 2 ^ suc l = half_pow o (suc l) in
       let w = place_where cs r o h in
-      let there : has_place cs (suc r) (o / 2) ≡ true = subst (λ (p : Place). has cs (up p) ≡ true) w.2 (s.closed w.0 w.1 (ap (is_top n) w.2 ∙ lower (suc l) r o i)) in
-      let z = right_beneath l (suc r) (o / 2) there (subst (λ x. InForest n (suc r + suc l) x) half (subst (λ x. InForest n x (o / 2 ^ suc (suc l))) (sym e) i)) in
+      let there : has_place cs (suc r) (o / 2) ≡ true =
+      subst (λ (p : Place). has cs (up p) ≡ true) w.2 (s.closed w.0 w.1 (ap (is_top n) w.2 ∙ lower (suc l) r o i)) in
+      let z = right_beneath l (suc r) (o / 2) there
+      (subst (λ x. InForest n (suc r + suc l) x) half (subst (λ x. InForest n x (o / 2 ^ suc (suc l))) (sym e) i)) in
       (z.0, z.1, z.2, z.3 ∙ ap₂ place e (sym half))
 
-pub shape_from_free : (n : ℕ) (ps : List Place) (ys : List ℕ) (cs : List Place) → AreWithin n ps → IsPermutation (positions_of n ps) ys → IsSwept n ys cs → AreFree n ys cs (length ys) → HasShape n ps
+pub shape_from_free : (n : ℕ) (ps : List Place) (ys : List ℕ) (cs : List Place) → AreWithin n ps → IsPermutation (positions_of n ps) ys
+    → IsSwept n ys cs → AreFree n ys cs (length ys) → HasShape n ps
 shape_from_free n ps ys cs within perm s f =
     shape_from_sorted n ps ys within perm
     (λ k lt. f.rising k (k + 1) (omega arith) lt)
@@ -152,5 +163,6 @@ shape_from_free n ps ys cs within perm s f =
     let row : r + suc k ≡ q.row = omega (arith, lt) in
     let rise : q.row - r ≡ suc k = omega (arith, lt) in
     let off : o / 2 ^ suc k ≡ q.off = ap (λ x. o / 2 ^ x) (sym rise) ∙ eqb-true _ _ w.1 in
-    let c = right_beneath n ys cs s k r o covered (subst (λ x. InForest n x (o / 2 ^ suc k)) (sym row) (subst (λ x. InForest n q.row x) (sym off) i)) in
+    let c = right_beneath n ys cs s k r o covered
+    (subst (λ x. InForest n x (o / 2 ^ suc k)) (sym row) (subst (λ x. InForest n q.row x) (sym off) i)) in
     f.clear m.0 c.0 m.1 c.1 c.2 (ap (pos n) (c.3 ∙ ap₂ place row off) ∙ sym m.2)))

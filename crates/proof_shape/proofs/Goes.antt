@@ -10,7 +10,8 @@ use Rattle.proof_shape.specs.Laws.{WhatStaysGoes, EntryGoes}
 pub stays_goes : (t : Targeted) (p : Place) (q : Option Place) → q ≡ moved t.leaves t.targets p.row p.off → WhatStaysGoes t p q
 stays_goes t p q is es numbers row part tree n at s e =
     let same : moved (length es) t.targets p.row p.off ≡ q = ap (λ k. moved k t.targets p.row p.off) n ∙ sym is in
-    subst (GoesTo (entries_without numbers es) (content (entries_without numbers es) row part)) same (part_goes es t.targets numbers at p.row p.off row part tree s e)
+    subst (GoesTo (entries_without numbers es) (content (entries_without numbers es) row part)) same
+    (part_goes es t.targets numbers at p.row p.off row part tree s e)
 
 pub entry_stays : (t : Targeted) (p : Place) (q : Option Place) → q ≡ moved t.leaves t.targets p.row p.off → EntryGoes t p q
 entry_stays t p q is es numbers i d n at live found =

@@ -1,7 +1,9 @@
 -- What is gone, by what is covered and by what is needed.
-use Rattle.std.proofs.Common.{◌≡◌, ℕ, zero, suc, ◌+◌, ◌-◌, ◌*◌, ◌/◌, ◌%◌, ◌^◌, ◌<◌, ◌≤◌, length, get_or, [], Bool, true, false, not, ◌&&◌, ◌||◌, List, ◌∷◌, Option, Some, None, is_some, refl, sym, ap, ◌∙◌, subst, ap₂, ⊎_elim, inl, inr, arith, eq-eqb, eqb-true}
+use Rattle.std.proofs.Common.{◌≡◌, ℕ, zero, suc, ◌+◌, ◌-◌, ◌*◌, ◌/◌, ◌%◌, ◌^◌, ◌<◌, ◌≤◌, length, get_or, [], Bool, true, false, not, ◌&&◌, ◌||◌, List}
+use Rattle.std.proofs.Common.{◌∷◌, Option, Some, None, is_some, refl, sym, ap, ◌∙◌, subst, ap₂, ⊎_elim, inl, inr, arith, eq-eqb, eqb-true}
 use Rattle.std.specs.Prelude.{◌⊎◌, ◌==◌, nat_lt}
-use Rattle.std.proofs.lemmas.Bool.{cases_Bool, cases_eq, cases_lt, false≢true, false_from_ne_true, or_cases, or_left, or_right, or_from, and_from, and_parts, lt-ltb, ltb-true}
+use Rattle.std.proofs.lemmas.Bool.{cases_Bool, cases_eq, cases_lt, false≢true, false_from_ne_true, or_cases, or_left, or_right, or_from, and_from}
+use Rattle.std.proofs.lemmas.Bool.{and_parts, lt-ltb, ltb-true}
 use Rattle.std.proofs.lemmas.List.Folds.{list_any_at}
 use Rattle.std.proofs.Math.Bool.{or-false, and-true}
 use Rattle.std.proofs.lemmas.Option.{none-some}
@@ -29,10 +31,12 @@ use Rattle.proof_shape.proofs.Climbing.{nothing_above}
 use Rattle.proof_shape.proofs.Parents.{ups, cover_above, above_covered}
 
 -- a target stands at or beneath what is covered
-pub target_beneath : (ts : List Place) (r o : ℕ) → is_some (cover ts r o) ≡ true → (q : Place) × (k : ℕ) × (has_place ts q.row q.off ≡ true) × (q.row + k ≡ r) × (q.off / 2 ^ k ≡ o)
+pub target_beneath : (ts : List Place) (r o : ℕ) → is_some (cover ts r o) ≡ true → (q : Place) × (k : ℕ) × (has_place ts q.row q.off ≡ true)
+    × (q.row + k ≡ r) × (q.off / 2 ^ k ≡ o)
 target_beneath ts zero o c = by_target (cases_Bool (has_place ts zero o))
   where
-    by_target : (has_place ts zero o ≡ true) ⊎ (has_place ts zero o ≡ false) → (q : Place) × (k : ℕ) × (has_place ts q.row q.off ≡ true) × (q.row + k ≡ 0) × (q.off / 2 ^ k ≡ o)
+    by_target : (has_place ts zero o ≡ true) ⊎ (has_place ts zero o ≡ false) → (q : Place) × (k : ℕ) × (has_place ts q.row q.off ≡ true)
+        × (q.row + k ≡ 0) × (q.off / 2 ^ k ≡ o)
     by_target (inl it) = (place 0 o, 0, it, refl, (let z : o / 1 ≡ o = omega arith in z))
     by_target (inr e) = absurd (false≢true (rw e at c))
 target_beneath ts (suc r) o c =
@@ -44,8 +48,16 @@ target_beneath ts (suc r) o c =
     (or_cases (is_some (cover ts r (2 * o))) (is_some (cover ts r (2 * o + 1))) below))
     (or_cases (has_place ts (suc r) o) (is_some (cover ts r (2 * o)) || is_some (cover ts r (2 * o + 1))) (sym (covered_up ts r o) ∙ c))
   where
-    up_from : (p : ℕ) → p / 2 ≡ o → (q : Place) × (k : ℕ) × (has_place ts q.row q.off ≡ true) × (q.row + k ≡ r) × (q.off / 2 ^ k ≡ p) → (q : Place) × (k : ℕ) × (has_place ts q.row q.off ≡ true) × (q.row + k ≡ suc r) × (q.off / 2 ^ k ≡ o)
-    up_from p e w = (w.0, suc w.1, w.2, (let z : w.0.row + suc w.1 ≡ suc r = omega (arith, w.3) in z), parts-suc w.0.off w.1 ∙ ap (λ x. x / 2) w.4 ∙ e)
+    up_from : (p : ℕ) → p / 2 ≡ o → (q : Place) × (k : ℕ) × (has_place ts q.row q.off ≡ true) × (q.row + k ≡ r) × (q.off / 2 ^ k ≡ p)
+        → (q : Place) × (k : ℕ) × (has_place ts q.row q.off ≡ true) × (q.row + k ≡ suc r) × (q.off / 2 ^ k ≡ o)
+    up_from p e w = (
+      w.0,
+      suc w.1,
+      w.2,
+      (let z : w.0.row + suc w.1 ≡ suc r = omega (arith, w.3) in z),
+      parts-suc w.0.off w.1 ∙ ap (λ x. x / 2) w.4
+          ∙ e,
+    )
 
 module _ (n : ℕ) (ts : List Place) (shape : HasShape n ts) where
   -- a target has no target beneath
@@ -56,7 +68,8 @@ module _ (n : ℕ) (ts : List Place) (shape : HasShape n ts) where
       let lt : w.0.row < suc r = omega (arith, w.3) in
       let k : suc r - w.0.row ≡ suc w.1 = omega (arith, w.3) in
       let up : w.0.off / 2 ^ (suc r - w.0.row) ≡ o / 2 = ap (λ x. w.0.off / 2 ^ x) k ∙ (parts-suc w.0.off w.1 ∙ ap (λ x. x / 2) w.4) in
-      let above : is_above (place (suc r) (o / 2)) w.0 ≡ true = and_from (nat_lt w.0.row (suc r)) (w.0.off / 2 ^ (suc r - w.0.row) == o / 2) (lt-ltb _ _ lt) (eq-eqb _ _ up) in
+      let above : is_above (place (suc r) (o / 2)) w.0 ≡ true =
+      and_from (nat_lt w.0.row (suc r)) (w.0.off / 2 ^ (suc r - w.0.row) == o / 2) (lt-ltb _ _ lt) (eq-eqb _ _ up) in
       false≢true (sym (shape.apart (place (suc r) (o / 2)) w.0 it w.2) ∙ above))
 
   bare_left : (r o : ℕ) → has_place ts (suc r) o ≡ true → is_some (cover ts r (2 * o)) ≡ false
@@ -67,28 +80,38 @@ module _ (n : ℕ) (ts : List Place) (shape : HasShape n ts) where
 
 -- what is covered is not needed, nor is what has a sibling that is not covered
 covered_unneeded : (n : ℕ) (ts : List Place) (r o : ℕ) → is_some (cover ts r o) ≡ true → has_place (need n ts) r o ≡ false
-covered_unneeded n ts r o c = false_from_ne_true _ (λ h. let w = needed_parts n ts r o (need_had n ts r o h).1 in false≢true (sym (ap is_some w.1) ∙ c))
+covered_unneeded n ts r o c = false_from_ne_true _ (λ h. let w = needed_parts n ts r o (need_had n ts r o h).1 in
+    false≢true (sym (ap is_some w.1) ∙ c))
 
 alone_unneeded : (n : ℕ) (ts : List Place) (r o : ℕ) → is_some (cover ts r (sibling_off o)) ≡ false → has_place (need n ts) r o ≡ false
 alone_unneeded n ts r o c = false_from_ne_true _ (λ h. let w = needed_parts n ts r o (need_had n ts r o h).1 in false≢true (sym c ∙ ap is_some w.2.1))
 
-bare_none : (ts : List Place) (r o : ℕ) → is_some (cover ts (suc r) o) ≡ false → (is_some (cover ts r (2 * o)) ≡ false) × (is_some (cover ts r (2 * o + 1)) ≡ false)
+bare_none : (ts : List Place) (r o : ℕ) → is_some (cover ts (suc r) o) ≡ false → (is_some (cover ts r (2 * o)) ≡ false)
+    × (is_some (cover ts r (2 * o + 1)) ≡ false)
 bare_none ts r o c = (
-  false_from_ne_true _ (λ l. false≢true (sym c ∙ (covered_up ts r o ∙ or_right (has_place ts (suc r) o) (is_some (cover ts r (2 * o)) || is_some (cover ts r (2 * o + 1))) (or_left (is_some (cover ts r (2 * o))) (is_some (cover ts r (2 * o + 1))) l)))),
-  false_from_ne_true _ (λ l. false≢true (sym c ∙ (covered_up ts r o ∙ or_right (has_place ts (suc r) o) (is_some (cover ts r (2 * o)) || is_some (cover ts r (2 * o + 1))) (or_right (is_some (cover ts r (2 * o))) (is_some (cover ts r (2 * o + 1))) l)))),
+  false_from_ne_true _ (λ l. false≢true (sym c ∙ (covered_up ts r o
+      ∙ or_right (has_place ts (suc r) o) (is_some (cover ts r (2 * o)) || is_some (cover ts r (2 * o + 1)))
+      (or_left (is_some (cover ts r (2 * o))) (is_some (cover ts r (2 * o + 1))) l)))),
+  false_from_ne_true _ (λ l. false≢true (sym c ∙ (covered_up ts r o
+      ∙ or_right (has_place ts (suc r) o) (is_some (cover ts r (2 * o)) || is_some (cover ts r (2 * o + 1)))
+      (or_right (is_some (cover ts r (2 * o))) (is_some (cover ts r (2 * o + 1))) l)))),
 )
 
 -- nothing is needed at or beneath what is neither covered nor needed
-none_needed : (n : ℕ) (ts : List Place) (r o : ℕ) → is_some (cover ts r o) ≡ false → has_place (need n ts) r o ≡ false → is_some (cover (need n ts) r o) ≡ false
+none_needed : (n : ℕ) (ts : List Place) (r o : ℕ) → is_some (cover ts r o) ≡ false → has_place (need n ts) r o ≡ false
+    → is_some (cover (need n ts) r o) ≡ false
 none_needed n ts zero o c h = rw h refl
 none_needed n ts (suc r) o c h =
     let w = bare_none ts r o c in
     let left = none_needed n ts r (2 * o) w.0 (alone_unneeded n ts r (2 * o) (ap (λ x. is_some (cover ts r x)) (sibling_off-left o) ∙ w.1)) in
-    let right = none_needed n ts r (2 * o + 1) w.1 (alone_unneeded n ts r (2 * o + 1) (ap (λ x. is_some (cover ts r x)) (sibling_off-right o) ∙ w.0)) in
-    covered_up (need n ts) r o ∙ or_from (has_place (need n ts) (suc r) o) _ h (or_from (is_some (cover (need n ts) r (2 * o))) (is_some (cover (need n ts) r (2 * o + 1))) left right)
+    let right = none_needed n ts r (2 * o + 1) w.1
+    (alone_unneeded n ts r (2 * o + 1) (ap (λ x. is_some (cover ts r x)) (sibling_off-right o) ∙ w.0)) in
+    covered_up (need n ts) r o ∙ or_from (has_place (need n ts) (suc r) o) _ h
+    (or_from (is_some (cover (need n ts) r (2 * o))) (is_some (cover (need n ts) r (2 * o + 1))) left right)
 
 -- where only one of two siblings is covered, the other is needed
-other_needed : (n : ℕ) (ts : List Place) (r o : ℕ) → InForest n r o → is_root n r o ≡ false → is_some (cover ts r o) ≡ false → is_some (cover ts r (sibling_off o)) ≡ true → is_some (cover (need n ts) r o) ≡ true
+other_needed : (n : ℕ) (ts : List Place) (r o : ℕ) → InForest n r o → is_root n r o ≡ false → is_some (cover ts r o) ≡ false
+    → is_some (cover ts r (sibling_off o)) ≡ true → is_some (cover (need n ts) r o) ≡ true
 other_needed n ts r o h other c d =
     let needed : is_needed n ts (place r o) ≡ true = rw (other, c, d) refl in
     covered_target (need n ts) r o (need_has n ts r o h needed)
@@ -103,22 +126,28 @@ module _ (n : ℕ) (ts : List Place) (shape : HasShape n ts) where
   gone_is : (r o : ℕ) → InForest n r o → (is_some (cover ts r o) && not (is_some (cover (need n ts) r o))) ≡ is_gone ts r o
   gone_is zero o h = by_target (cases_Bool (has_place ts zero o))
     where
-      by_target : (has_place ts zero o ≡ true) ⊎ (has_place ts zero o ≡ false) → (is_some (cover ts zero o) && not (is_some (cover (need n ts) zero o))) ≡ is_gone ts zero o
+      by_target : (has_place ts zero o ≡ true) ⊎ (has_place ts zero o ≡ false)
+          → (is_some (cover ts zero o) && not (is_some (cover (need n ts) zero o))) ≡ is_gone ts zero o
       by_target (inl it) =
           let un = covered_unneeded n ts zero o (covered_target ts zero o it) in
           rw (it, un) refl
       by_target (inr e) = rw e refl
-  gone_is (suc r) o h = by_target (cases_Bool (has_place ts (suc r) o)) (gone_is r (2 * o) (InForest-left n r o h)) (gone_is r (2 * o + 1) (InForest-right n r o h))
+  gone_is (suc r) o h = by_target (cases_Bool (has_place ts (suc r) o)) (gone_is r (2 * o) (InForest-left n r o h))
+      (gone_is r (2 * o + 1) (InForest-right n r o h))
     where
-      by_halves : has_place ts (suc r) o ≡ false → (is_some (cover ts r (2 * o)) ≡ true) ⊎ (is_some (cover ts r (2 * o)) ≡ false) → (is_some (cover ts r (2 * o + 1)) ≡ true) ⊎ (is_some (cover ts r (2 * o + 1)) ≡ false) →
-          ((has_place ts (suc r) o || (is_some (cover ts r (2 * o)) || is_some (cover ts r (2 * o + 1)))) && not (has_place (need n ts) (suc r) o || (is_some (cover (need n ts) r (2 * o)) || is_some (cover (need n ts) r (2 * o + 1))))) ≡
-          ((is_some (cover ts r (2 * o)) && not (is_some (cover (need n ts) r (2 * o)))) && (is_some (cover ts r (2 * o + 1)) && not (is_some (cover (need n ts) r (2 * o + 1)))))
+      by_halves : has_place ts (suc r) o ≡ false → (is_some (cover ts r (2 * o)) ≡ true) ⊎ (is_some (cover ts r (2 * o)) ≡ false)
+          → (is_some (cover ts r (2 * o + 1)) ≡ true) ⊎ (is_some (cover ts r (2 * o + 1)) ≡ false) →
+          ((has_place ts (suc r) o || (is_some (cover ts r (2 * o)) || is_some (cover ts r (2 * o + 1))))
+          && not (has_place (need n ts) (suc r) o || (is_some (cover (need n ts) r (2 * o)) || is_some (cover (need n ts) r (2 * o + 1))))) ≡
+          ((is_some (cover ts r (2 * o)) && not (is_some (cover (need n ts) r (2 * o))))
+          && (is_some (cover ts r (2 * o + 1)) && not (is_some (cover (need n ts) r (2 * o + 1)))))
       by_halves e (inl l) (inl m) =
           let up : is_some (cover ts (suc r) o) ≡ true = covered_up ts r o ∙ rw (e, l) refl in
           let un = covered_unneeded n ts (suc r) o up in
           rw (e, l, m, un) (sym (both_bools (is_some (cover (need n ts) r (2 * o))) (is_some (cover (need n ts) r (2 * o + 1)))))
       by_halves e (inl l) (inr m) =
-          let k = other_needed n ts r (2 * o + 1) (InForest-right n r o h) (not_root-right n r o h) m (ap (λ x. is_some (cover ts r x)) (sibling_off-right o) ∙ l) in
+          let k = other_needed n ts r (2 * o + 1) (InForest-right n r o h) (not_root-right n r o h) m
+          (ap (λ x. is_some (cover ts r x)) (sibling_off-right o) ∙ l) in
           rw (e, l, m, k) (third (has_place (need n ts) (suc r) o) (is_some (cover (need n ts) r (2 * o))))
         where
           third : (a b : Bool) → ((false || (true || false)) && not (a || (b || true))) ≡ ((true && not b) && (false && not true))
@@ -127,7 +156,8 @@ module _ (n : ℕ) (ts : List Place) (shape : HasShape n ts) where
           third false true = refl
           third false false = refl
       by_halves e (inr l) (inl m) =
-          let k = other_needed n ts r (2 * o) (InForest-left n r o h) (not_root-left n r o h) l (ap (λ x. is_some (cover ts r x)) (sibling_off-left o) ∙ m) in
+          let k = other_needed n ts r (2 * o) (InForest-left n r o h) (not_root-left n r o h) l
+          (ap (λ x. is_some (cover ts r x)) (sibling_off-left o) ∙ m) in
           rw (e, l, m, k) (third (has_place (need n ts) (suc r) o) (is_some (cover (need n ts) r (2 * o + 1))))
         where
           third : (a b : Bool) → ((false || (false || true)) && not (a || (true || b))) ≡ ((false && not true) && (true && not b))
@@ -144,8 +174,11 @@ module _ (n : ℕ) (ts : List Place) (shape : HasShape n ts) where
           let bl = bare_left n ts shape r o it in
           let br = bare_right n ts shape r o it in
           let nl = none_needed n ts r (2 * o) bl (alone_unneeded n ts r (2 * o) (ap (λ x. is_some (cover ts r x)) (sibling_off-left o) ∙ br)) in
-          let nr = none_needed n ts r (2 * o + 1) br (alone_unneeded n ts r (2 * o + 1) (ap (λ x. is_some (cover ts r x)) (sibling_off-right o) ∙ bl)) in
-          let none : is_some (cover (need n ts) (suc r) o) ≡ false = covered_up (need n ts) r o ∙ or_from (has_place (need n ts) (suc r) o) _ (covered_unneeded n ts (suc r) o c) (or_from (is_some (cover (need n ts) r (2 * o))) (is_some (cover (need n ts) r (2 * o + 1))) nl nr) in
+          let nr = none_needed n ts r (2 * o + 1) br
+          (alone_unneeded n ts r (2 * o + 1) (ap (λ x. is_some (cover ts r x)) (sibling_off-right o) ∙ bl)) in
+          let none : is_some (cover (need n ts) (suc r) o) ≡ false = covered_up (need n ts) r o
+          ∙ or_from (has_place (need n ts) (suc r) o) _ (covered_unneeded n ts (suc r) o c)
+          (or_from (is_some (cover (need n ts) r (2 * o))) (is_some (cover (need n ts) r (2 * o + 1))) nl nr) in
           ap₂ (λ x y. x && not y) c none ∙ sym (or_left (has_place ts (suc r) o) (is_gone ts r (2 * o) && is_gone ts r (2 * o + 1)) it)
       by_target (inr e) left right =
           ap₂ (λ x y. x && not y) (covered_up ts r o) (covered_up (need n ts) r o) ∙
@@ -167,7 +200,8 @@ has_above n ts cs ks c k places x h =
     let w = has_where ks x h in
     let p = places w.0 w.1 in
     let at : pos n p.0 ≡ x = p.2 ∙ w.2 in
-    subst (λ y. has_number cs y ≡ true) at (c p.0 p.1 ∙ above_covered n ts p.0.row p.0.off (sym (k p.0 p.1) ∙ subst (λ y. has_number ks y ≡ true) (sym at) h))
+    subst (λ y. has_number cs y ≡ true) at (c p.0 p.1
+    ∙ above_covered n ts p.0.row p.0.off (sym (k p.0 p.1) ∙ subst (λ y. has_number ks y ≡ true) (sym at) h))
 
 -- ---- where no two targets stand side by side
 
@@ -186,14 +220,16 @@ apart_from xs up steps x h =
     let a = has_where xs x h in
     let b = has_where xs (suc x) h' in
     let le : a.0 ≤ b.0 = not_before a.0 b.0 a.1 a.2 b.2 (cases_lt b.0 a.0) in
-    between (b.0 - a.0) a.0 (let e : b.0 < length xs = b.1 in let z : a.0 + (b.0 - a.0) < length xs = omega (arith, e, le) in z) a.2 (ap (λ k. get_or xs k 0) (let e : a.0 + (b.0 - a.0) ≡ b.0 = omega (arith, le) in e) ∙ b.2))
+    between (b.0 - a.0) a.0 (let e : b.0 < length xs = b.1 in let z : a.0 + (b.0 - a.0) < length xs = omega (arith, e, le) in
+    z) a.2 (ap (λ k. get_or xs k 0) (let e : a.0 + (b.0 - a.0) ≡ b.0 = omega (arith, le) in e) ∙ b.2))
   where
     not_before : (a b : ℕ) → a < length xs → get_or xs a 0 ≡ x → get_or xs b 0 ≡ suc x → (b < a) ⊎ (a ≤ b) → a ≤ b
     not_before a b l ea eb (inl lt) = let z = up b a 0 (omega (arith, lt)) l in absurd (omega (arith, z, ea, eb))
     not_before a b l ea eb (inr le) = le
 
     step : (v : ℕ) → v ≡ x → (w : ℕ) → (w ≡ suc v → ⊥) → v ≤ w → w ≤ suc x → w ≡ x
-    step v e w never le most = ⊎_elim (λ same. absurd (never (same ∙ ap suc (sym e)))) (λ differ. omega (arith, e, le, most, differ)) (cases_eq w (suc x))
+    step v e w never le most = ⊎_elim (λ same. absurd (never (same ∙ ap suc (sym e)))) (λ differ. omega (arith, e, le, most, differ))
+        (cases_eq w (suc x))
 
     between : (d k : ℕ) → k + d < length xs → get_or xs k 0 ≡ x → get_or xs (k + d) 0 ≡ suc x → ⊥
     between zero k l e f = let z : k + 0 ≡ k = omega arith in let g = sym e ∙ (ap (λ i. get_or xs i 0) (sym z) ∙ f) in omega (arith, g)
@@ -204,7 +240,8 @@ apart_from xs up steps x h =
         let next = step (get_or xs k 0) e (get_or xs (k + 1) 0) (steps k (omega (arith, l))) low (omega (arith, high, f)) in
         between d (k + 1) (omega (arith, l)) next (ap (λ i. get_or xs i 0) (sym to) ∙ f)
 
-module _ (n : ℕ) (ts : List Place) (sorted : List ℕ) (within : AreWithin n ts) (perm : IsPermutation (positions_of n ts) sorted) (apart : AreApart sorted) where
+module _ (n : ℕ) (ts : List Place) (sorted : List ℕ) (within : AreWithin n ts) (perm : IsPermutation (positions_of n ts) sorted)
+    (apart : AreApart sorted) where
   -- nothing is gone but the targets
   alone_gone : (r o : ℕ) → InForest n r o → is_gone ts r o ≡ has_place ts r o
   alone_gone zero o h = refl
@@ -241,7 +278,8 @@ module _ (n : ℕ) (ts : List Place) (p : Place) (h : InForest n p.row p.off) (s
   pub moved_top : is_root n p.row p.off ≡ true → Some p ≡ moved n ts p.row p.off
   moved_top top = sym (moved-step n ts p.row p.off h ∙ rw (stays, top) refl)
 
-  pub moved_up : is_root n p.row p.off ≡ false → moved n ts p.row p.off ≡ child_place (is_gone ts p.row (sibling_off p.off)) (p.off % 2) (moved n ts (suc p.row) (p.off / 2))
+  pub moved_up : is_root n p.row p.off ≡ false
+      → moved n ts p.row p.off ≡ child_place (is_gone ts p.row (sibling_off p.off)) (p.off % 2) (moved n ts (suc p.row) (p.off / 2))
   moved_up other = moved-step n ts p.row p.off h ∙ rw (stays, other) refl
 
 -- where a place moves to nothing: it is gone, or beneath a target
@@ -285,7 +323,8 @@ above_cases t r o h =
     (λ other.
     let high : suc r < t.row = omega (arith, lt, other) in
     let k : t.row - r ≡ suc (t.row - suc r) = omega (arith, high) in
-    inr (and_from (nat_lt (suc r) t.row) ((o / 2) / 2 ^ (t.row - suc r) == t.off) (lt-ltb _ _ high) (eq-eqb _ _ (sym (ap (λ x. o / 2 ^ x) k ∙ half_pow o (t.row - suc r)) ∙ off))))
+    inr (and_from (nat_lt (suc r) t.row) ((o / 2) / 2 ^ (t.row - suc r) == t.off) (lt-ltb _ _ high)
+    (eq-eqb _ _ (sym (ap (λ x. o / 2 ^ x) k ∙ half_pow o (t.row - suc r)) ∙ off))))
     (cases_eq t.row (suc r))
 
 child_none : (b : Bool) (side : ℕ) (x : Option Place) → child_place b side x ≡ None → x ≡ None
@@ -325,7 +364,8 @@ module _ (n : ℕ) (ts : List Place) (shape : HasShape n ts) where
       (λ is. inl (target_gone ts (suc r) (o / 2) (subst (λ (x : Place). has_place ts x.row x.off ≡ true) is b.1)))
       (λ ab. inr (b.0, b.1, ab))
       (above_cases b.0 r o b.2) in
-      moved_up n ts (place r o) h stays other ∙ ap (child_place (is_gone ts r (sibling_off o)) (o % 2)) (none_of k (suc r) (o / 2) below (InForest-up n r o h other) higher))
+      moved_up n ts (place r o) h stays other ∙ ap (child_place (is_gone ts r (sibling_off o)) (o % 2))
+      (none_of k (suc r) (o / 2) below (InForest-up n r o h other) higher))
       (cases_Bool (is_root n r o)))
       w)
       (cases_Bool (is_gone ts r o))
@@ -338,9 +378,11 @@ module _ (n : ℕ) (ts : List Place) (shape : HasShape n ts) where
           let j = t.row - r - 1 in
           let s : t.row - r ≡ suc j = omega (arith, lt) in
           let high : r + suc j ≡ t.row = omega (arith, lt) in
-          nothing_above n r o j top (subst (λ x. InForest n x (o / 2 ^ suc j)) (sym high) (subst (λ x. InForest n t.row x) (sym (ap (λ x. o / 2 ^ x) (sym s) ∙ off)) i))
+          nothing_above n r o j top (subst (λ x. InForest n x (o / 2 ^ suc j)) (sym high)
+          (subst (λ x. InForest n t.row x) (sym (ap (λ x. o / 2 ^ x) (sym s) ∙ off)) i))
 
-  pub none_exactly : (p : Place) → InForest n p.row p.off → (moved n ts p.row p.off ≡ None → (is_gone ts p.row p.off ≡ true) ⊎ IsBeneathTarget ts p) × ((is_gone ts p.row p.off ≡ true) ⊎ IsBeneathTarget ts p → moved n ts p.row p.off ≡ None)
+  pub none_exactly : (p : Place) → InForest n p.row p.off → (moved n ts p.row p.off ≡ None → (is_gone ts p.row p.off ≡ true) ⊎ IsBeneathTarget ts p)
+      × ((is_gone ts p.row p.off ≡ true) ⊎ IsBeneathTarget ts p → moved n ts p.row p.off ≡ None)
   none_exactly p h = (none_from (n - p.row) p.row p.off refl h, none_of (n - p.row) p.row p.off refl h)
 
 covered_kept : (a b : Bool) → (a ≡ true → b ≡ true) → (a && not b) ≡ false
@@ -348,12 +390,14 @@ covered_kept false b h = refl
 covered_kept true b h = rw (h refl) refl
 
 -- nothing is gone past a position where what is covered there is kept
-pub none_past : (n : ℕ) (ts : List Place) (covered kept : List ℕ) (last : ℕ) → GoneTell n ts covered kept → ((x : ℕ) → last < x → has_number covered x ≡ true → has_number kept x ≡ true) → NoneGonePast n ts last
+pub none_past : (n : ℕ) (ts : List Place) (covered kept : List ℕ) (last : ℕ) → GoneTell n ts covered kept
+    → ((x : ℕ) → last < x → has_number covered x ≡ true → has_number kept x ≡ true) → NoneGonePast n ts last
 none_past n ts covered kept last tell has row off h lt =
     sym (tell row off h) ∙ covered_kept (has_number covered (position n row off)) (has_number kept (position n row off)) (has (position n row off) lt)
 
 -- a place is gone whose position is covered and not kept
-pub gone_at : (n : ℕ) (ts : List Place) (covered kept : List ℕ) (last : ℕ) → ArePositions n covered → GoneTell n ts covered kept → has_number covered last ≡ true → has_number kept last ≡ false → IsGoneAt n ts last
+pub gone_at : (n : ℕ) (ts : List Place) (covered kept : List ℕ) (last : ℕ) → ArePositions n covered → GoneTell n ts covered kept
+    → has_number covered last ≡ true → has_number kept last ≡ false → IsGoneAt n ts last
 gone_at n ts covered kept last places tell there lacked =
     let w = has_where covered last there in
     let p = places w.0 w.1 in
@@ -370,6 +414,8 @@ no_target n (p ∷ ps) covered kept shape tell all =
     absurd (false≢true (sym stays ∙ (tell p.row p.off (shape.within p here) ∙ target_gone (p ∷ ps) p.row p.off here)))
 
 -- the last number that is covered and not kept tells the last place that is gone
-pub last_is : (n : ℕ) (ts : List Place) (covered kept : List ℕ) (last : ℕ) → HasShape n ts → TellGone n ts covered kept → ((has_number covered last ≡ true) × (has_number kept last ≡ false)) ⊎ (HasAll kept covered × (last ≡ 0)) → IsGoneAt n ts last ⊎ ((ts ≡ []) × (last ≡ 0))
+pub last_is : (n : ℕ) (ts : List Place) (covered kept : List ℕ) (last : ℕ) → HasShape n ts → TellGone n ts covered kept
+    → ((has_number covered last ≡ true) × (has_number kept last ≡ false)) ⊎ (HasAll kept covered × (last ≡ 0))
+    → IsGoneAt n ts last ⊎ ((ts ≡ []) × (last ≡ 0))
 last_is n ts covered kept last shape t (inl lacked) = inl (gone_at n ts covered kept last t.places t.tell lacked.0 lacked.1)
 last_is n ts covered kept last shape t (inr none) = inr (no_target n ts covered kept shape t.tell none.0, none.1)

@@ -1,5 +1,6 @@
 -- The siblings that are needed.
-use Rattle.std.proofs.Common.{◌≡◌, ℕ, zero, suc, ◌+◌, ◌-◌, ◌*◌, ◌/◌, ◌%◌, ◌<◌, true, false, ◌||◌, List, [], ◌∷◌, ◌++◌, length, get_or, take, filter_map, Option, Some, None, is_some, refl, sym, ap, ◌∙◌, subst, ap₂, ⊎_elim, inl, inr, arith, eq-eqb, eqb-true}
+use Rattle.std.proofs.Common.{◌≡◌, ℕ, zero, suc, ◌+◌, ◌-◌, ◌*◌, ◌/◌, ◌%◌, ◌<◌, true, false, ◌||◌, List, [], ◌∷◌, ◌++◌, length, get_or, take}
+use Rattle.std.proofs.Common.{filter_map, Option, Some, None, is_some, refl, sym, ap, ◌∙◌, subst, ap₂, ⊎_elim, inl, inr, arith, eq-eqb, eqb-true}
 use Rattle.std.specs.Prelude.{◌⊎◌, ◌==◌}
 use Rattle.std.specs.List.{cons_option}
 use Rattle.std.specs.List.Sorted.{IsNonDecreasing, IsStrictlyIncreasing, IsPermutation}
@@ -33,12 +34,14 @@ abbrev pub beside : Place → Place
 beside p = place p.row (sibling_off p.off)
 
 -- a place right beside another in the forest is right beside it in the list
-pub near_from_has : (n : ℕ) (cs : List Place) (m : ℕ) → Rises n cs → m < length cs → has cs (beside (place_in cs m)) ≡ true → IsNear cs m (beside (place_in cs m))
+pub near_from_has : (n : ℕ) (cs : List Place) (m : ℕ) → Rises n cs → m < length cs → has cs (beside (place_in cs m)) ≡ true
+    → IsNear cs m (beside (place_in cs m))
 near_from_has n cs m rises lm h =
     let p = place_in cs m in
     let w = place_where cs p.row (sibling_off p.off) h in
     let at : pos n (place_in cs w.0) ≡ pos n (beside p) = ap (pos n) w.2 in
-    let one : (pos n (place_in cs w.0) ≡ pos n p + 1) ⊎ (pos n (place_in cs w.0) + 1 ≡ pos n p) = ⊎_elim (λ a. inl (omega (arith, at, a))) (λ a. inr (omega (arith, at, a))) (sibling_cases p.off) in
+    let one : (pos n (place_in cs w.0) ≡ pos n p + 1) ⊎ (pos n (place_in cs w.0) + 1 ≡ pos n p) =
+    ⊎_elim (λ a. inl (omega (arith, at, a))) (λ a. inr (omega (arith, at, a))) (sibling_cases p.off) in
     ⊎_elim
     (λ same. let e = ap (λ x. pos n (place_in cs x)) same in let z : ⊥ = ⊎_elim (λ a. omega (arith, a, e)) (λ a. omega (arith, a, e)) one in absurd z)
     (⊎_elim
@@ -70,21 +73,29 @@ has_from_near cs m p lm near =
     near
 
 -- what a filter by options keeps, up to one index more
-kept_more : (f : Place → Option Place) (xs : List Place) (i : ℕ) (d : Place) → i < length xs → filter_map f (take (i + 1) xs) ≡ filter_map f (take i xs) ++ cons_option (f (get_or xs i d)) []
+kept_more : (f : Place → Option Place) (xs : List Place) (i : ℕ) (d : Place) → i < length xs
+    → filter_map f (take (i + 1) xs) ≡ filter_map f (take i xs) ++ cons_option (f (get_or xs i d)) []
 kept_more f xs i d h = ap (filter_map f) (take_more xs i d h) ∙ filter_map-append f (take i xs) (get_or xs i d ∷ [])
 
-pub kept_some : (f : Place → Option Place) (xs : List Place) (i : ℕ) (d : Place) (old new : List Place) (p : Place) → i < length xs → old ≡ filter_map f (take i xs) → f (get_or xs i d) ≡ Some p → new ≡ old ++ p ∷ [] → new ≡ filter_map f (take (i + 1) xs)
-kept_some f xs i d old new p h e g m = m ∙ (ap (λ l. l ++ p ∷ []) e ∙ (ap (λ o. filter_map f (take i xs) ++ cons_option o []) (sym g) ∙ sym (kept_more f xs i d h)))
+pub kept_some : (f : Place → Option Place) (xs : List Place) (i : ℕ) (d : Place) (old new : List Place) (p : Place) → i < length xs
+    → old ≡ filter_map f (take i xs) → f (get_or xs i d) ≡ Some p → new ≡ old ++ p ∷ [] → new ≡ filter_map f (take (i + 1) xs)
+kept_some f xs i d old new p h e g m = m
+    ∙ (ap (λ l. l ++ p ∷ []) e ∙ (ap (λ o. filter_map f (take i xs) ++ cons_option o []) (sym g) ∙ sym (kept_more f xs i d h)))
 
-pub kept_none : (f : Place → Option Place) (xs : List Place) (i : ℕ) (d : Place) (old : List Place) → i < length xs → old ≡ filter_map f (take i xs) → f (get_or xs i d) ≡ None → old ≡ filter_map f (take (i + 1) xs)
-kept_none f xs i d old h e g = e ∙ (sym (append-nil (filter_map f (take i xs))) ∙ (ap (λ o. filter_map f (take i xs) ++ cons_option o []) (sym g) ∙ sym (kept_more f xs i d h)))
+pub kept_none : (f : Place → Option Place) (xs : List Place) (i : ℕ) (d : Place) (old : List Place) → i < length xs → old ≡ filter_map f (take i xs)
+    → f (get_or xs i d) ≡ None → old ≡ filter_map f (take (i + 1) xs)
+kept_none f xs i d old h e g = e ∙ (sym (append-nil (filter_map f (take i xs)))
+    ∙ (ap (λ o. filter_map f (take i xs) ++ cons_option o []) (sym g) ∙ sym (kept_more f xs i d h)))
 
 -- and how many that are
-counted_more : (f : Place → Option Place) (xs : List Place) (i : ℕ) (d : Place) (old : ℕ) → i < length xs → old ≡ length (filter_map f (take i xs)) → length (filter_map f (take (i + 1) xs)) ≡ old + length (cons_option (f (get_or xs i d)) [])
+counted_more : (f : Place → Option Place) (xs : List Place) (i : ℕ) (d : Place) (old : ℕ) → i < length xs → old ≡ length (filter_map f (take i xs))
+    → length (filter_map f (take (i + 1) xs)) ≡ old + length (cons_option (f (get_or xs i d)) [])
 counted_more f xs i d old h e =
-    ap length (kept_more f xs i d h) ∙ (length-append (filter_map f (take i xs)) (cons_option (f (get_or xs i d)) []) ∙ ap (λ k. k + length (cons_option (f (get_or xs i d)) [])) (sym e))
+    ap length (kept_more f xs i d h) ∙ (length-append (filter_map f (take i xs)) (cons_option (f (get_or xs i d)) [])
+    ∙ ap (λ k. k + length (cons_option (f (get_or xs i d)) [])) (sym e))
 
-pub counted_some : (f : Place → Option Place) (xs : List Place) (i : ℕ) (d : Place) (old : ℕ) → i < length xs → old ≡ length (filter_map f (take i xs)) → is_some (f (get_or xs i d)) ≡ true → old + 1 ≡ length (filter_map f (take (i + 1) xs))
+pub counted_some : (f : Place → Option Place) (xs : List Place) (i : ℕ) (d : Place) (old : ℕ) → i < length xs
+    → old ≡ length (filter_map f (take i xs)) → is_some (f (get_or xs i d)) ≡ true → old + 1 ≡ length (filter_map f (take (i + 1) xs))
 counted_some f xs i d old h e some =
     let more = counted_more f xs i d old h e in
     let last = one (f (get_or xs i d)) some in
@@ -94,7 +105,8 @@ counted_some f xs i d old h e some =
     one (Some p) e = refl
     one None e = absurd (false≢true e)
 
-pub counted_none : (f : Place → Option Place) (xs : List Place) (i : ℕ) (d : Place) (old : ℕ) → i < length xs → old ≡ length (filter_map f (take i xs)) → is_some (f (get_or xs i d)) ≡ false → old ≡ length (filter_map f (take (i + 1) xs))
+pub counted_none : (f : Place → Option Place) (xs : List Place) (i : ℕ) (d : Place) (old : ℕ) → i < length xs
+    → old ≡ length (filter_map f (take i xs)) → is_some (f (get_or xs i d)) ≡ false → old ≡ length (filter_map f (take (i + 1) xs))
 counted_none f xs i d old h e none =
     let more = counted_more f xs i d old h e in
     let last = empty (f (get_or xs i d)) none in
@@ -129,11 +141,13 @@ filter_map_has f (x ∷ os) o p h e =
     behind None i = i
     behind (Some z) i = or_right (is_at p.row p.off z) (has (filter_map f os) p) i
 
-filter_map_had : (f : Place → Option Place) (os : List Place) (q : Place) → has (filter_map f os) q ≡ true → (o : Place) × (has os o ≡ true) × (f o ≡ Some q)
+filter_map_had : (f : Place → Option Place) (os : List Place) (q : Place) → has (filter_map f os) q ≡ true → (o : Place) × (has os o ≡ true)
+    × (f o ≡ Some q)
 filter_map_had f [] q h = absurd (false≢true h)
 filter_map_had f (x ∷ os) q h = by_first (f x) refl h (filter_map_had f os q)
   where
-    by_first : (y : Option Place) → f x ≡ y → has (cons_option y (filter_map f os)) q ≡ true → (has (filter_map f os) q ≡ true → (o : Place) × (has os o ≡ true) × (f o ≡ Some q)) → (o : Place) × (has (x ∷ os) o ≡ true) × (f o ≡ Some q)
+    by_first : (y : Option Place) → f x ≡ y → has (cons_option y (filter_map f os)) q ≡ true
+        → (has (filter_map f os) q ≡ true → (o : Place) × (has os o ≡ true) × (f o ≡ Some q)) → (o : Place) × (has (x ∷ os) o ≡ true) × (f o ≡ Some q)
     by_first None e i rest = let w = rest i in (w.0, or_right (is_at w.0.row w.0.off x) (has os w.0) w.1, w.2)
     by_first (Some z) e i rest =
         ⊎_elim
@@ -142,19 +156,24 @@ filter_map_had f (x ∷ os) q h = by_first (f x) refl h (filter_map_had f os q)
         (or_cases (is_at q.row q.off z) (has (filter_map f os) q) i)
 
 -- what `needed_beside` gives
-pub beside_some : (n : ℕ) (cs : List Place) (p q : Place) → needed_beside n cs p ≡ Some q → (is_top n p ≡ false) × (has cs (beside p) ≡ false) × (q ≡ beside p)
+pub beside_some : (n : ℕ) (cs : List Place) (p q : Place) → needed_beside n cs p ≡ Some q → (is_top n p ≡ false) × (has cs (beside p) ≡ false)
+    × (q ≡ beside p)
 beside_some n cs p q e =
     ⊎_elim
     (λ (t : (is_top n p || has_place cs p.row (sibling_off p.off)) ≡ true). absurd (none-some q (rw t at e)))
-    (λ (f : (is_top n p || has_place cs p.row (sibling_off p.off)) ≡ false). let w = or_parts (is_top n p) (has_place cs p.row (sibling_off p.off)) f in (w.0, w.1, sym (same_Some _ _ (rw f at e))))
+    (λ (f : (is_top n p || has_place cs p.row (sibling_off p.off)) ≡ false). let w =
+    or_parts (is_top n p) (has_place cs p.row (sibling_off p.off)) f in (w.0, w.1, sym (same_Some _ _ (rw f at e))))
     (cases_Bool (is_top n p || has_place cs p.row (sibling_off p.off)))
 
 -- the siblings of ascending places ascend
-beside_ascends : (n : ℕ) (cs ps : List Place) → IsAscending ps → ((p : Place) → has ps p ≡ true → has cs p ≡ true) → IsAscending (filter_map (needed_beside n cs) ps)
+beside_ascends : (n : ℕ) (cs ps : List Place) → IsAscending ps → ((p : Place) → has ps p ≡ true → has cs p ≡ true)
+    → IsAscending (filter_map (needed_beside n cs) ps)
 beside_ascends n cs [] h sub = tt
-beside_ascends n cs (x ∷ ps) h sub = by_first (needed_beside n cs x) refl (beside_ascends n cs ps h.1 (λ p i. sub p (or_right (is_at p.row p.off x) (has ps p) i)))
+beside_ascends n cs (x ∷ ps) h sub = by_first (needed_beside n cs x) refl
+    (beside_ascends n cs ps h.1 (λ p i. sub p (or_right (is_at p.row p.off x) (has ps p) i)))
   where
-    by_first : (y : Option Place) → needed_beside n cs x ≡ y → IsAscending (filter_map (needed_beside n cs) ps) → IsAscending (cons_option y (filter_map (needed_beside n cs) ps))
+    by_first : (y : Option Place) → needed_beside n cs x ≡ y → IsAscending (filter_map (needed_beside n cs) ps)
+        → IsAscending (cons_option y (filter_map (needed_beside n cs) ps))
     by_first None e rest = rest
     by_first (Some p) e rest = (
       (λ q i.
@@ -180,7 +199,8 @@ beside_ascends n cs (x ∷ ps) h sub = by_first (needed_beside n cs x) refl (bes
     )
 
 -- a place is covered where it is a target, or one of its children is covered
-pub covered_up : (ts : List Place) (r o : ℕ) → is_some (cover ts (suc r) o) ≡ (has_place ts (suc r) o || (is_some (cover ts r (2 * o)) || is_some (cover ts r (2 * o + 1))))
+pub covered_up : (ts : List Place) (r o : ℕ)
+    → is_some (cover ts (suc r) o) ≡ (has_place ts (suc r) o || (is_some (cover ts r (2 * o)) || is_some (cover ts r (2 * o + 1))))
 covered_up ts r o =
     ⊎_elim (λ it. rw it refl) (λ other. rw other (by_halves (cover ts r (2 * o)) (cover ts r (2 * o + 1)))) (cases_Bool (has_place ts (suc r) o))
   where
@@ -194,7 +214,8 @@ pub covered_target : (ts : List Place) (r o : ℕ) → has_place ts r o ≡ true
 covered_target ts zero o h = rw h refl
 covered_target ts (suc r) o h = rw h refl
 
-module _ (n : ℕ) (ts : List Place) (xs : List ℕ) (cs : List Place) (within : AreWithin n ts) (s : IsSwept n xs cs) (tied : (q : Place) → InForest n q.row q.off → has_number xs (pos n q) ≡ has ts q) where
+module _ (n : ℕ) (ts : List Place) (xs : List ℕ) (cs : List Place) (within : AreWithin n ts) (s : IsSwept n xs cs) (tied : (q : Place)
+    → InForest n q.row q.off → has_number xs (pos n q) ≡ has ts q) where
   -- what the sweep has is covered
   swept_covered : (r o : ℕ) → has_place cs r o ≡ true → is_some (cover ts r o) ≡ true
   swept_covered zero o h =
@@ -211,8 +232,10 @@ module _ (n : ℕ) (ts : List Place) (xs : List ℕ) (cs : List Place) (within :
       let below : is_some (cover ts r c.0.off) ≡ true = swept_covered r c.0.off (subst (λ x. has_place cs x c.0.off ≡ true) row c.1) in
       covered_up ts r o ∙ or_right (has_place ts (suc r) o) (is_some (cover ts r (2 * o)) || is_some (cover ts r (2 * o + 1)))
       (⊎_elim
-      (λ even. let e : c.0.off ≡ 2 * o = omega (arith, off, even) in or_left (is_some (cover ts r (2 * o))) (is_some (cover ts r (2 * o + 1))) (subst (λ x. is_some (cover ts r x) ≡ true) e below))
-      (λ odd. let e : c.0.off ≡ 2 * o + 1 = omega (arith, off, odd) in or_right (is_some (cover ts r (2 * o))) (is_some (cover ts r (2 * o + 1))) (subst (λ x. is_some (cover ts r x) ≡ true) e below))
+      (λ even. let e : c.0.off ≡ 2 * o = omega (arith, off, even) in
+      or_left (is_some (cover ts r (2 * o))) (is_some (cover ts r (2 * o + 1))) (subst (λ x. is_some (cover ts r x) ≡ true) e below))
+      (λ odd. let e : c.0.off ≡ 2 * o + 1 = omega (arith, off, odd) in
+      or_right (is_some (cover ts r (2 * o))) (is_some (cover ts r (2 * o + 1))) (subst (λ x. is_some (cover ts r x) ≡ true) e below))
       (cases_eq (c.0.off % 2) 0)))
       (s.sound (place (suc r) o) h)
 
@@ -237,8 +260,10 @@ module _ (n : ℕ) (ts : List Place) (xs : List ℕ) (cs : List Place) (within :
       ⊎_elim
       (λ t. swept_target (suc r) o h t)
       (λ below. ⊎_elim
-      (λ left. subst (λ x. has_place cs (suc r) x ≡ true) (double_half o) (swept_above r (2 * o) (not_root-left n r o h) (covered_swept r (2 * o) (InForest-left n r o h) left)))
-      (λ right. subst (λ x. has_place cs (suc r) x ≡ true) (double_half_odd o) (swept_above r (2 * o + 1) (not_root-right n r o h) (covered_swept r (2 * o + 1) (InForest-right n r o h) right)))
+      (λ left. subst (λ x. has_place cs (suc r) x ≡ true) (double_half o)
+      (swept_above r (2 * o) (not_root-left n r o h) (covered_swept r (2 * o) (InForest-left n r o h) left)))
+      (λ right. subst (λ x. has_place cs (suc r) x ≡ true) (double_half_odd o)
+      (swept_above r (2 * o + 1) (not_root-right n r o h) (covered_swept r (2 * o + 1) (InForest-right n r o h) right)))
       (or_cases (is_some (cover ts r (2 * o))) (is_some (cover ts r (2 * o + 1))) below))
       (or_cases (has_place ts (suc r) o) (is_some (cover ts r (2 * o)) || is_some (cover ts r (2 * o + 1))) (sym (covered_up ts r o) ∙ c))
 
@@ -258,7 +283,8 @@ module _ (n : ℕ) (ts : List Place) (xs : List ℕ) (cs : List Place) (within :
       let sib = sibling_within n w.0.row w.0.off here b.0 in
       let no_root = sibling_no_root n w.0.row w.0.off here in
       let uncovered : is_some (cover ts w.0.row (sibling_off w.0.off)) ≡ false = sym (swept_is w.0.row (sibling_off w.0.off) sib) ∙ b.1 in
-      let covered : is_some (cover ts w.0.row (sibling_off (sibling_off w.0.off))) ≡ true = ap (λ x. is_some (cover ts w.0.row x)) (sibling_twice w.0.off) ∙ (sym (swept_is w.0.row w.0.off here) ∙ w.1) in
+      let covered : is_some (cover ts w.0.row (sibling_off (sibling_off w.0.off))) ≡ true =
+      ap (λ x. is_some (cover ts w.0.row x)) (sibling_twice w.0.off) ∙ (sym (swept_is w.0.row w.0.off here) ∙ w.1) in
       let needed : is_needed n ts (beside w.0) ≡ true = rw (no_root, uncovered, covered) refl in
       subst (λ (p : Place). has (need n ts) p ≡ true) (sym b.2) (need_has n ts w.0.row (sibling_off w.0.off) sib needed))
       (λ r o i.
@@ -266,15 +292,18 @@ module _ (n : ℕ) (ts : List Place) (xs : List ℕ) (cs : List Place) (within :
       let p = needed_parts n ts r o w.1 in
       let sib = sibling_within n r o w.0 p.0 in
       let covered : has_place cs r (sibling_off o) ≡ true = swept_is r (sibling_off o) sib ∙ ap is_some p.2.1 in
-      let alone : has_place cs r (sibling_off (sibling_off o)) ≡ false = ap (has_place cs r) (sibling_twice o) ∙ (swept_is r o w.0 ∙ ap is_some p.1) in
-      let given_back : needed_beside n cs (place r (sibling_off o)) ≡ Some (place r o) = rw (sibling_no_root n r o w.0, alone, sibling_twice o) refl in
+      let alone : has_place cs r (sibling_off (sibling_off o)) ≡ false = ap (has_place cs r) (sibling_twice o)
+      ∙ (swept_is r o w.0 ∙ ap is_some p.1) in
+      let given_back : needed_beside n cs (place r (sibling_off o)) ≡ Some (place r o) =
+      rw (sibling_no_root n r o w.0, alone, sibling_twice o) refl in
       filter_map_has (needed_beside n cs) cs (place r (sibling_off o)) (place r o) covered given_back)
 
 -- each of the positions in order is that of a place
 pub positions_are : (n : ℕ) (ps : List Place) (ys : List ℕ) → AreWithin n ps → IsPermutation (positions_of n ps) ys → ArePositions n ys
 positions_are n ps ys h perm k lt =
     let x = get_or ys k 0 in
-    let there : has_number (positions_of n ps) x ≡ true = list_any-IsPermutation (λ y. y == x) (positions_of n ps) ys perm ∙ list_any_at (λ y. y == x) ys k 0 lt (eq-eqb x x refl) in
+    let there : has_number (positions_of n ps) x ≡ true = list_any-IsPermutation (λ y. y == x) (positions_of n ps) ys perm
+    ∙ list_any_at (λ y. y == x) ys k 0 lt (eq-eqb x x refl) in
     let w = numbered ps there in
     (w.0, h w.0.row w.0.off w.1, w.2)
   where
@@ -303,7 +332,8 @@ pub rises_sorted : (n : ℕ) (cs : List Place) → Rises n cs → IsNonDecreasin
 rises_sorted n cs rises = sorted_from_rising (positions_of n cs) (rises_strictly n cs rises)
 
 -- a sweep over the positions of places gives their cover
-pub cover_from_sweep : (n : ℕ) (ps : List Place) (ys : List ℕ) (cs : List Place) → AreWithin n ps → IsPermutation (positions_of n ps) ys → IsSwept n ys cs → IsCoverOf n ps cs
+pub cover_from_sweep : (n : ℕ) (ps : List Place) (ys : List ℕ) (cs : List Place) → AreWithin n ps → IsPermutation (positions_of n ps) ys
+    → IsSwept n ys cs → IsCoverOf n ps cs
 cover_from_sweep n ps ys cs h perm s =
     let tied : (q : Place) → InForest n q.row q.off → has_number ys (pos n q) ≡ has ps q = λ q i. sorted_number_is n ps ys q h perm i in
     record {

@@ -1,5 +1,6 @@
 -- The places right above needed places, and what they cover.
-use Rattle.std.proofs.Common.{◌≡◌, ℕ, zero, suc, ◌+◌, ◌*◌, ◌/◌, Bool, true, false, ◌&&◌, ◌||◌, List, [], ◌∷◌, map, is_some, refl, sym, ap, ap₂, ◌∙◌, subst, ⊎_elim, inl, inr, arith, eq-eqb, eqb-true}
+use Rattle.std.proofs.Common.{◌≡◌, ℕ, zero, suc, ◌+◌, ◌*◌, ◌/◌, Bool, true, false, ◌&&◌, ◌||◌, List, [], ◌∷◌, map, is_some, refl, sym, ap, ap₂, ◌∙◌}
+use Rattle.std.proofs.Common.{subst, ⊎_elim, inl, inr, arith, eq-eqb, eqb-true}
 use Rattle.std.specs.Prelude.{◌⊎◌, ◌==◌}
 use Rattle.std.proofs.lemmas.Bool.{cases_Bool, false≢true, false_from_ne_true, or_cases, or_left, or_right, or_from, cases_eq}
 use Rattle.forest_place.specs.declared.place.Place.{Place}
@@ -29,7 +30,8 @@ half_is : (x o : ℕ) → (x / 2 == o) ≡ ((x == 2 * o) || (x == 2 * o + 1))
 half_is x o =
     same_Bools (x / 2 == o) ((x == 2 * o) || (x == 2 * o + 1))
     (λ t. let e : x / 2 ≡ o = eqb-true _ _ t in by_side e (cases_eq x (2 * o)))
-    (λ t. ⊎_elim (λ l. let e : x ≡ 2 * o = eqb-true _ _ l in eq-eqb _ _ (omega (arith, e))) (λ r. let e : x ≡ 2 * o + 1 = eqb-true _ _ r in eq-eqb _ _ (omega (arith, e))) (or_cases (x == 2 * o) (x == 2 * o + 1) t))
+    (λ t. ⊎_elim (λ l. let e : x ≡ 2 * o = eqb-true _ _ l in eq-eqb _ _ (omega (arith, e))) (λ r. let e : x ≡ 2 * o + 1 = eqb-true _ _ r in
+    eq-eqb _ _ (omega (arith, e))) (or_cases (x == 2 * o) (x == 2 * o + 1) t))
   where
     by_side : x / 2 ≡ o → (x ≡ 2 * o) ⊎ (x ≡ 2 * o → ⊥) → ((x == 2 * o) || (x == 2 * o + 1)) ≡ true
     by_side e (inl l) = or_left (x == 2 * o) (x == 2 * o + 1) (eq-eqb _ _ l)
@@ -54,7 +56,8 @@ up_at p r o = ap₂ (λ x y. x && y) (suc_is p.row r) (half_is p.off o) ∙ spre
 has_ups : (ns : List Place) (r o : ℕ) → has_place (ups ns) (suc r) o ≡ (has_place ns r (2 * o) || has_place ns r (2 * o + 1))
 has_ups [] r o = refl
 has_ups (p ∷ ps) r o =
-    ap₂ (λ x y. x || y) (up_at p r o) (has_ups ps r o) ∙ shuffled (is_at r (2 * o) p) (is_at r (2 * o + 1) p) (has_place ps r (2 * o)) (has_place ps r (2 * o + 1))
+    ap₂ (λ x y. x || y) (up_at p r o) (has_ups ps r o)
+    ∙ shuffled (is_at r (2 * o) p) (is_at r (2 * o + 1) p) (has_place ps r (2 * o)) (has_place ps r (2 * o + 1))
 
 none_low : (ns : List Place) (o : ℕ) → has_place (ups ns) 0 o ≡ false
 none_low [] o = refl
@@ -67,7 +70,8 @@ cover_low ts o = ⊎_elim (λ t. rw t refl) (λ e. rw e refl) (cases_Bool (has_p
 cover_ups : (ns : List Place) (r o : ℕ) → is_some (cover (ups ns) (suc r) o) ≡ (is_some (cover ns r (2 * o)) || is_some (cover ns r (2 * o + 1)))
 cover_ups ns zero o =
     covered_up (ups ns) 0 o ∙
-    (ap₂ (λ x y. x || y) (has_ups ns 0 o ∙ ap₂ (λ x y. x || y) (sym (cover_low ns (2 * o))) (sym (cover_low ns (2 * o + 1)))) (or_from _ _ (cover_low (ups ns) (2 * o) ∙ none_low ns (2 * o)) (cover_low (ups ns) (2 * o + 1) ∙ none_low ns (2 * o + 1))) ∙
+    (ap₂ (λ x y. x || y) (has_ups ns 0 o ∙ ap₂ (λ x y. x || y) (sym (cover_low ns (2 * o))) (sym (cover_low ns (2 * o + 1))))
+    (or_from _ _ (cover_low (ups ns) (2 * o) ∙ none_low ns (2 * o)) (cover_low (ups ns) (2 * o + 1) ∙ none_low ns (2 * o + 1))) ∙
     or_false (is_some (cover ns 0 (2 * o)) || is_some (cover ns 0 (2 * o + 1))))
   where
     or_false : (b : Bool) → (b || false) ≡ b
@@ -82,7 +86,8 @@ cover_ups ns (suc r) o =
 -- a place that is not among them is covered by them where it is covered by those right above them
 pub cover_above : (ns : List Place) (r o : ℕ) → has_place ns r o ≡ false → is_some (cover (ups ns) r o) ≡ is_some (cover ns r o)
 cover_above ns zero o e = cover_low (ups ns) o ∙ (none_low ns o ∙ sym (cover_low ns o ∙ e))
-cover_above ns (suc r) o e = cover_ups ns r o ∙ sym (covered_up ns r o ∙ ap (λ x. x || (is_some (cover ns r (2 * o)) || is_some (cover ns r (2 * o + 1)))) e)
+cover_above ns (suc r) o e = cover_ups ns r o
+    ∙ sym (covered_up ns r o ∙ ap (λ x. x || (is_some (cover ns r (2 * o)) || is_some (cover ns r (2 * o + 1)))) e)
 
 -- needed places are no roots, so that they have places above them
 pub ups_within : (n : ℕ) (ts : List Place) → AreWithin n (ups (need n ts))
@@ -103,14 +108,17 @@ above_covered n ts (suc r) o h =
     covered_up ts r o ∙ or_right (has_place ts (suc r) o) (is_some (cover ts r (2 * o)) || is_some (cover ts r (2 * o + 1)))
     (⊎_elim
     (λ it. ⊎_elim
-    (λ left. or_right (is_some (cover ts r (2 * o))) (is_some (cover ts r (2 * o + 1))) (ap (λ x. is_some (cover ts r x)) (sym (sibling_off-left o)) ∙ beside_needed (2 * o) left))
-    (λ right. or_left (is_some (cover ts r (2 * o))) (is_some (cover ts r (2 * o + 1))) (ap (λ x. is_some (cover ts r x)) (sym (sibling_off-right o)) ∙ beside_needed (2 * o + 1) right))
+    (λ left. or_right (is_some (cover ts r (2 * o))) (is_some (cover ts r (2 * o + 1))) (ap (λ x. is_some (cover ts r x)) (sym (sibling_off-left o))
+    ∙ beside_needed (2 * o) left))
+    (λ right. or_left (is_some (cover ts r (2 * o))) (is_some (cover ts r (2 * o + 1))) (ap (λ x. is_some (cover ts r x)) (sym (sibling_off-right o))
+    ∙ beside_needed (2 * o + 1) right))
     (or_cases (has_place (need n ts) r (2 * o)) (has_place (need n ts) r (2 * o + 1)) (sym (has_ups (need n ts) r o) ∙ it)))
     (λ below. ⊎_elim
     (λ left. or_left (is_some (cover ts r (2 * o))) (is_some (cover ts r (2 * o + 1))) (above_covered n ts r (2 * o) left))
     (λ right. or_right (is_some (cover ts r (2 * o))) (is_some (cover ts r (2 * o + 1))) (above_covered n ts r (2 * o + 1) right))
     (or_cases (is_some (cover (ups (need n ts)) r (2 * o))) (is_some (cover (ups (need n ts)) r (2 * o + 1))) below))
-    (or_cases (has_place (ups (need n ts)) (suc r) o) (is_some (cover (ups (need n ts)) r (2 * o)) || is_some (cover (ups (need n ts)) r (2 * o + 1))) (sym (covered_up (ups (need n ts)) r o) ∙ h)))
+    (or_cases (has_place (ups (need n ts)) (suc r) o) (is_some (cover (ups (need n ts)) r (2 * o)) || is_some (cover (ups (need n ts)) r (2 * o + 1)))
+    (sym (covered_up (ups (need n ts)) r o) ∙ h)))
   where
     beside_needed : (x : ℕ) → has_place (need n ts) r x ≡ true → is_some (cover ts r (sibling_off x)) ≡ true
     beside_needed x it = ap is_some (needed_parts n ts r x (need_had n ts r x it).1).2.1

@@ -1,5 +1,6 @@
 -- One step of a sweep.
-use Rattle.std.proofs.Common.{◌≡◌, ℕ, zero, suc, ◌+◌, ◌-◌, ◌/◌, ◌^◌, ◌<◌, ◌≤◌, true, false, List, [], ◌∷◌, ◌++◌, length, get_or, refl, sym, ap, ◌∙◌, subst, ap₂, ⊎_elim, inl, inr, arith, eq-eqb}
+use Rattle.std.proofs.Common.{◌≡◌, ℕ, zero, suc, ◌+◌, ◌-◌, ◌/◌, ◌^◌, ◌<◌, ◌≤◌, true, false, List, [], ◌∷◌, ◌++◌, length, get_or, refl, sym, ap, ◌∙◌}
+use Rattle.std.proofs.Common.{subst, ap₂, ⊎_elim, inl, inr, arith, eq-eqb}
 use Rattle.std.specs.Prelude.{◌⊎◌, ◌==◌}
 use Rattle.std.specs.List.Sorted.{IsNonDecreasing}
 use Rattle.std.proofs.lemmas.Bool.{cases_lt, cases_eq, cases_order, cases_Bool, false≢true, true≢false}
@@ -24,7 +25,8 @@ pub self_up : (n : ℕ) (p : Place) → InForest n p.row p.off → is_top n p �
 self_up n p h other = position_rises n p (up p) h (InForest-up n p.row p.off h other) (inl (omega arith))
 
 -- the places above two places stand in their order, or are one
-pub ups_rise : (n : ℕ) (p q : Place) → InForest n p.row p.off → InForest n q.row q.off → is_top n p ≡ false → is_top n q ≡ false → pos n p < pos n q → pos n (up p) ≤ pos n (up q)
+pub ups_rise : (n : ℕ) (p q : Place) → InForest n p.row p.off → InForest n q.row q.off → is_top n p ≡ false → is_top n q ≡ false → pos n p < pos n q
+    → pos n (up p) ≤ pos n (up q)
 ups_rise n p q h k a b lt =
     let hp = InForest-up n p.row p.off h a in
     let hq = InForest-up n q.row q.off k b in
@@ -44,14 +46,16 @@ module _ (n : ℕ) (cs : List Place) (rises : (a b : ℕ) → a < b → b < leng
   index_low zero h = omega arith
   index_low (suc a) h = let z = rises a (suc a) (omega arith) h in omega (arith, z, index_low a (omega arith))
 
-  pub not_last : (p : Place) → ((a : ℕ) → a < length cs → pos n (place_in cs a) ≤ pos n p) → InForest n p.row p.off → AreWithin n cs → (0 < length cs → place_in cs (length cs - 1) ≡ p → ⊥) → (a : ℕ) → a < length cs → pos n (place_in cs a) < pos n p
+  pub not_last : (p : Place) → ((a : ℕ) → a < length cs → pos n (place_in cs a) ≤ pos n p) → InForest n p.row p.off → AreWithin n cs
+      → (0 < length cs → place_in cs (length cs - 1) ≡ p → ⊥) → (a : ℕ) → a < length cs → pos n (place_in cs a) < pos n p
   not_last p high inside within new a h =
       let l = length cs - 1 in
       let some : 0 < length cs = omega arith in
       let top = high l (omega arith) in
       let far : pos n (place_in cs l) < pos n p =
       ⊎_elim (λ lt. lt)
-      (λ ge. absurd (new some (one_position n (place_in cs l) p (within (place_in cs l).row (place_in cs l).off (has_at cs l (record { row = 0; off = 0 }) (omega arith))) inside (omega (arith, top, ge)))))
+      (λ ge. absurd (new some (one_position n (place_in cs l) p (within (place_in cs l).row (place_in cs l).off
+      (has_at cs l (record { row = 0; off = 0 }) (omega arith))) inside (omega (arith, top, ge)))))
       (cases_lt (pos n (place_in cs l)) (pos n p)) in
       ⊎_elim
       (λ same. subst (λ x. pos n (place_in cs x) < pos n p) (sym same) far)
@@ -75,7 +79,8 @@ long_by_one : (cs : List Place) (p : Place) → length (cs ++ p ∷ []) ≡ leng
 long_by_one cs p = length-append cs (p ∷ [])
 
 has_last : (cs : List Place) (p : Place) → has (cs ++ p ∷ []) p ≡ true
-has_last cs p = let w = has_at (cs ++ p ∷ []) (length cs) (record { row = 0; off = 0 }) (omega (arith, long_by_one cs p)) in subst (λ (x : Place). has (cs ++ p ∷ []) x ≡ true) (last_at cs p) w
+has_last cs p = let w = has_at (cs ++ p ∷ []) (length cs) (record { row = 0; off = 0 }) (omega (arith, long_by_one cs p)) in
+    subst (λ (x : Place). has (cs ++ p ∷ []) x ≡ true) (last_at cs p) w
 
 -- p comes at the end, where no place is past it
 pub record IsStep (n : ℕ) (xs : List ℕ) (cs : List Place) (k j : ℕ) (p : Place) (k' j' : ℕ) : Type 0 where
@@ -97,7 +102,8 @@ module _ (n : ℕ) (xs : List ℕ) (cs : List Place) (k j : ℕ) (p : Place) (k'
 
   step_there : 0 < length cs → place_in cs (length cs - 1) ≡ p → IsSweep n xs cs k' j'
   step_there some last =
-      let there : has cs p ≡ true = subst (λ (x : Place). has cs x ≡ true) last (has_at cs (length cs - 1) (record { row = 0; off = 0 }) (omega arith)) in
+      let there : has cs p ≡ true = subst (λ (x : Place). has cs x ≡ true) last
+      (has_at cs (length cs - 1) (record { row = 0; off = 0 }) (omega arith)) in
       let lk = w.later_k in
       let lj = w.later_j in
       record {
@@ -106,8 +112,10 @@ module _ (n : ℕ) (xs : List ℕ) (cs : List Place) (k j : ℕ) (p : Place) (k'
         some = w.some;
         few = w.few;
         sound = s.sound;
-        closed = λ m lt other. ⊎_elim (λ old. s.closed m old other) (λ ge. subst (λ (x : Place). has cs x ≡ true) (sym (w.closed m ge lt other)) there) (cases_lt m k);
-        numbers = λ m lt q h e. ⊎_elim (λ old. s.numbers m old q h e) (λ ge. subst (λ (x : Place). has cs x ≡ true) (sym (same_p m q ge lt h e)) there) (cases_lt m j);
+        closed = λ m lt other. ⊎_elim (λ old. s.closed m old other)
+            (λ ge. subst (λ (x : Place). has cs x ≡ true) (sym (w.closed m ge lt other)) there) (cases_lt m k);
+        numbers = λ m lt q h e. ⊎_elim (λ old. s.numbers m old q h e)
+            (λ ge. subst (λ (x : Place). has cs x ≡ true) (sym (same_p m q ge lt h e)) there) (cases_lt m j);
         ups = λ m a ge lt la other. s.ups m a (omega (arith, ge, lk)) lt la other;
         tops = λ m a ge lt la. s.tops m a (omega (arith, ge, lj)) lt la;
       }
@@ -128,14 +136,17 @@ module _ (n : ℕ) (xs : List ℕ) (cs : List Place) (k j : ℕ) (p : Place) (k'
             (λ end.
             let at : b ≡ length cs = omega (arith, h, more, end) in
             let la : a < length cs = omega (arith, lt, at) in
-            subst (λ x. pos n (place_in (cs ++ p ∷ []) a) < pos n (place_in (cs ++ p ∷ []) x)) (sym at) (rw (early_at cs p a la, last_at cs p) (below a la)))
+            subst (λ x. pos n (place_in (cs ++ p ∷ []) a) < pos n (place_in (cs ++ p ∷ []) x)) (sym at)
+            (rw (early_at cs p a la, last_at cs p) (below a la)))
             (cases_lt b (length cs));
         some = omega (arith, top, more);
         few = w.few;
         sound = λ q h.
             ⊎_elim
             (λ old. ⊎_elim (λ num. inl num) (λ c. inr (c.0, grown c.0 c.1, c.2, c.3)) (s.sound q old))
-            (λ e. subst (λ (x : Place). (has_number xs (pos n x) ≡ true) ⊎ ((c : Place) × (has (cs ++ p ∷ []) c ≡ true) × (is_top n c ≡ false) × (up c ≡ x))) e (⊎_elim (λ num. inl num) (λ c. inr (c.0, grown c.0 c.1, c.2, c.3)) w.origin))
+            (λ e. subst (λ (x : Place). (has_number xs (pos n x) ≡ true)
+            ⊎ ((c : Place) × (has (cs ++ p ∷ []) c ≡ true) × (is_top n c ≡ false) × (up c ≡ x))) e
+            (⊎_elim (λ num. inl num) (λ c. inr (c.0, grown c.0 c.1, c.2, c.3)) w.origin))
             (has_cases cs p q.row q.off h);
         closed = λ m lt other.
             let lm : m < length cs = omega (arith, lt, top) in
@@ -146,16 +157,20 @@ module _ (n : ℕ) (xs : List ℕ) (cs : List Place) (k j : ℕ) (p : Place) (k'
             (λ old. grown (up (place_in cs m)) (s.closed m old other'))
             (λ ge. subst (λ (x : Place). has (cs ++ p ∷ []) x ≡ true) (sym (w.closed m ge lt other')) (has_last cs p))
             (cases_lt m k));
-        numbers = λ m lt q h e. ⊎_elim (λ old. grown q (s.numbers m old q h e)) (λ ge. subst (λ (x : Place). has (cs ++ p ∷ []) x ≡ true) (sym (same_p m q ge lt h e)) (has_last cs p)) (cases_lt m j);
+        numbers = λ m lt q h e. ⊎_elim (λ old. grown q (s.numbers m old q h e))
+            (λ ge. subst (λ (x : Place). has (cs ++ p ∷ []) x ≡ true) (sym (same_p m q ge lt h e)) (has_last cs p)) (cases_lt m j);
         ups = λ m a ge lm la other. up_to m a ge lm la other (cases_lt m (length cs)) (cases_lt a (length cs));
         tops = λ m a ge lm la.
             ⊎_elim
             (λ old. rw (early_at cs p a old) (s.tops m a (omega (arith, ge, lj)) lm old))
-            (λ end. let at : a ≡ length cs = omega (arith, la, more, end) in subst (λ x. pos n (place_in (cs ++ p ∷ []) x) ≤ get_or xs m 0) (sym at) (rw (last_at cs p) (w.tops m ge lm)))
+            (λ end. let at : a ≡ length cs = omega (arith, la, more, end) in
+            subst (λ x. pos n (place_in (cs ++ p ∷ []) x) ≤ get_or xs m 0) (sym at) (rw (last_at cs p) (w.tops m ge lm)))
             (cases_lt a (length cs));
       }
     where
-      up_to : (m a : ℕ) → k' ≤ m → m < length (cs ++ p ∷ []) → a < length (cs ++ p ∷ []) → is_top n (place_in (cs ++ p ∷ []) m) ≡ false → (m < length cs) ⊎ (length cs ≤ m) → (a < length cs) ⊎ (length cs ≤ a) → pos n (place_in (cs ++ p ∷ []) a) ≤ pos n (up (place_in (cs ++ p ∷ []) m))
+      up_to : (m a : ℕ) → k' ≤ m → m < length (cs ++ p ∷ []) → a < length (cs ++ p ∷ []) → is_top n (place_in (cs ++ p ∷ []) m) ≡ false
+          → (m < length cs) ⊎ (length cs ≤ m) → (a < length cs) ⊎ (length cs ≤ a)
+          → pos n (place_in (cs ++ p ∷ []) a) ≤ pos n (up (place_in (cs ++ p ∷ []) m))
       up_to m a ge lm la other (inl old) (inl early) =
           let lk = w.later_k in
           let other' : is_top n (place_in cs m) ≡ false = ap (is_top n) (sym (early_at cs p m old)) ∙ other in
@@ -163,7 +178,8 @@ module _ (n : ℕ) (xs : List ℕ) (cs : List Place) (k j : ℕ) (p : Place) (k'
       up_to m a ge lm la other (inl old) (inr end) =
           let at : a ≡ length cs = omega (arith, la, long_by_one cs p, end) in
           let other' : is_top n (place_in cs m) ≡ false = ap (is_top n) (sym (early_at cs p m old)) ∙ other in
-          subst (λ x. pos n (place_in (cs ++ p ∷ []) x) ≤ pos n (up (place_in (cs ++ p ∷ []) m))) (sym at) (rw (last_at cs p, early_at cs p m old) (w.ups m ge old other'))
+          subst (λ x. pos n (place_in (cs ++ p ∷ []) x) ≤ pos n (up (place_in (cs ++ p ∷ []) m))) (sym at)
+          (rw (last_at cs p, early_at cs p m old) (w.ups m ge old other'))
       up_to m a ge lm la other (inr end) early =
           let at : m ≡ length cs = omega (arith, lm, long_by_one cs p, end) in
           let is : place_in (cs ++ p ∷ []) m ≡ p = ap (place_in (cs ++ p ∷ [])) at ∙ last_at cs p in
@@ -172,11 +188,13 @@ module _ (n : ℕ) (xs : List ℕ) (cs : List Place) (k j : ℕ) (p : Place) (k'
           subst (λ (x : Place). pos n (place_in (cs ++ p ∷ []) a) ≤ pos n (up x)) (sym is)
           (⊎_elim
           (λ old. let z = w.high a old in rw (early_at cs p a old) (omega (arith, z, high)))
-          (λ (last : length cs ≤ a). let b : a ≡ length cs = omega (arith, la, long_by_one cs p, last) in subst (λ x. pos n (place_in (cs ++ p ∷ []) x) ≤ pos n (up p)) (sym b) (rw (last_at cs p) (omega (arith, high))))
+          (λ (last : length cs ≤ a). let b : a ≡ length cs = omega (arith, la, long_by_one cs p, last) in
+          subst (λ x. pos n (place_in (cs ++ p ∷ []) x) ≤ pos n (up p)) (sym b) (rw (last_at cs p) (omega (arith, high))))
           early)
 
   pub step : (new : List Place) → IsPushed cs p new → IsSweep n xs new k' j'
-  step new h = ⊎_elim (λ a. subst (λ l. IsSweep n xs l k' j') (sym a.2) (step_there a.0 a.1)) (λ b. subst (λ l. IsSweep n xs l k' j') (sym b.1) (step_new b.0)) h
+  step new h = ⊎_elim (λ a. subst (λ l. IsSweep n xs l k' j') (sym a.2) (step_there a.0 a.1))
+      (λ b. subst (λ l. IsSweep n xs l k' j') (sym b.1) (step_new b.0)) h
 
 module _ (n : ℕ) (xs : List ℕ) (cs : List Place) (k j : ℕ) (s : IsSweep n xs cs k j) (sorted : IsNonDecreasing xs) where
   pub in_forest : (m : ℕ) → m < length cs → InForest n (place_in cs m).row (place_in cs m).off
@@ -189,7 +207,8 @@ module _ (n : ℕ) (xs : List ℕ) (cs : List Place) (k j : ℕ) (s : IsSweep n 
     some = omega arith;
     few = s.few;
     sound = s.sound;
-    closed = λ m l other. ⊎_elim (λ old. s.closed m old other) (λ ge. let e : m ≡ k = omega (arith, l, ge) in absurd (true≢false (sym (ap (λ x. is_top n (place_in cs x)) e ∙ top) ∙ other))) (cases_lt m k);
+    closed = λ m l other. ⊎_elim (λ old. s.closed m old other) (λ ge. let e : m ≡ k = omega (arith, l, ge) in
+        absurd (true≢false (sym (ap (λ x. is_top n (place_in cs x)) e ∙ top) ∙ other))) (cases_lt m k);
     numbers = s.numbers;
     ups = λ m a ge lm la other. s.ups m a (omega (arith, ge)) lm la other;
     tops = s.tops;
@@ -213,7 +232,8 @@ module _ (n : ℕ) (xs : List ℕ) (cs : List Place) (k j : ℕ) (s : IsSweep n 
             some = omega (arith, there);
             few = few;
             later_j = omega arith;
-            ups = λ m ge lm om. ups_rise n (place_in cs k) (place_in cs m) (in_forest k there) (in_forest m lm) other om (s.rises k m (omega (arith, ge)) lm);
+            ups = λ m ge lm om. ups_rise n (place_in cs k) (place_in cs m) (in_forest k there) (in_forest m lm) other om
+                (s.rises k m (omega (arith, ge)) lm);
             tops = λ m ge lm. let a = c.least other (omega (arith, ge, lm)) in let b = sorted j m 0 ge lm in omega (arith, a, b);
             closed = λ m ge lt om. let e : m ≡ k = omega (arith, ge, lt) in ap (λ x. up (place_in cs x)) e;
             numbers = λ m ge lt. absurd (omega (arith, ge, lt));
@@ -221,7 +241,8 @@ module _ (n : ℕ) (xs : List ℕ) (cs : List Place) (k j : ℕ) (s : IsSweep n 
           new (h.below other)
 
   -- a number more
-  pub numbered : (new : List Place) (p : Place) → NumberNext n cs k xs j → j < length xs → InForest n p.row p.off → pos n p ≡ get_or xs j 0 → IsPushed cs p new → IsSweep n xs new k (j + 1)
+  pub numbered : (new : List Place) (p : Place) → NumberNext n cs k xs j → j < length xs → InForest n p.row p.off → pos n p ≡ get_or xs j 0
+      → IsPushed cs p new → IsSweep n xs new k (j + 1)
   numbered new p c lj inside is h =
       let some = s.some in
       step n xs cs k j p k (j + 1) s

@@ -9,7 +9,7 @@ use Rattle.forest_model.specs.Cover.{cover, is_needed}
 use Rattle.forest_model.specs.Deletion.{is_gone}
 use Rattle.proof_shape.specs.Moves.{HasPart, IsSurveyed}
 use Rattle.proof_shape.specs.Survey.{IsCoverOf}
-use Rattle.proof_shape.specs.Targeted.{IsTargeted}
+use Rattle.proof_shape.specs.Targeted.{IsShaped}
 use Rattle.proof_shape.proofs.Longer.{shape_none}
 
 pub none_covered : (row off : ℕ) → cover [] row off ≡ None
@@ -23,7 +23,8 @@ ends_false false b c e = refl
 
 none_needed : (n : ℕ) (p : Place) → is_needed n [] p ≡ false
 none_needed n p =
-    ends_false (not (is_root n p.row p.off)) (not (is_some (cover [] p.row p.off))) (is_some (cover [] p.row (sibling_off p.off))) (ap is_some (none_covered p.row (sibling_off p.off)))
+    ends_false (not (is_root n p.row p.off)) (not (is_some (cover [] p.row p.off))) (is_some (cover [] p.row (sibling_off p.off)))
+    (ap is_some (none_covered p.row (sibling_off p.off)))
 
 none_of : (n : ℕ) (ps : List Place) → filter (is_needed n []) ps ≡ []
 none_of n [] = refl
@@ -41,8 +42,8 @@ none_gone : (row off : ℕ) → is_gone [] row off ≡ false
 none_gone zero off = refl
 none_gone (suc row) off = rw (none_gone row (2 * off)) refl
 
-pub untargeted : (n : ℕ) → n < 2 ^ 40 → IsTargeted (record { leaves = n; targets = [] })
-untargeted n few = record { few = few; counted = omega arith; shape = shape_none n }
+pub untargeted : (n : ℕ) → n < 2 ^ 40 → IsShaped (record { leaves = n; targets = [] })
+untargeted n few = record { few = few; shape = shape_none n }
 
 no_part : HasPart [] []
 no_part = record { rises = λ k lt. absurd (omega (arith, lt)); part_rises = λ k lt. absurd (omega (arith, lt)); there = λ x h. h }

@@ -10,7 +10,8 @@ use Rattle.proof_shape.specs.Targeted.{Targeted}
 
 -- where the targets are places of live entries, and these are spent: what stays of the part whose content stands at p goes to q
 abbrev pub WhatStaysGoes : Targeted → Place → Option Place → Type 0
-WhatStaysGoes t p q = (es : List (Option Digest)) (numbers : List ℕ) (row part : ℕ) (tree : Tree) → length es ≡ t.leaves → StandAt es t.targets numbers →
+WhatStaysGoes t p q = (es : List (Option Digest)) (numbers : List ℕ) (row part : ℕ) (tree : Tree) → length es ≡ t.leaves
+    → StandAt es t.targets numbers →
     tree_at es p.row p.off ≡ Some tree → content es row part ≡ Some tree →
     GoesTo (entries_without numbers es) (content (entries_without numbers es) row part) q
 

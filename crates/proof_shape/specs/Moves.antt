@@ -9,7 +9,7 @@ use Rattle.forest_model.specs.Deletion.{is_gone}
 use Rattle.proof_shape.specs.Shape.{has_number}
 use Rattle.proof_shape.specs.Survey.{pos, IsCoverOf}
 use Rattle.proof_shape.specs.Swept.{ArePositions}
-use Rattle.proof_shape.specs.Targeted.{IsTargeted}
+use Rattle.proof_shape.specs.Targeted.{IsShaped}
 
 -- the numbers tell which places are covered
 abbrev pub CoversTell : ℕ → List Place → List ℕ → Type 0
@@ -48,7 +48,7 @@ AreApart xs = (x : ℕ) → has_number xs x ≡ true → has_number xs (suc x) �
 
 -- targets, the places at and above them, and their own positions in ascending order
 pub record ArePaths (n : ℕ) (ts cover : List Place) (sorted : List ℕ) : Type 0 where
-  pub targeted : IsTargeted (record { leaves = n; targets = ts })
+  pub shaped : IsShaped (record { leaves = n; targets = ts })
   pub cover_is : IsCoverOf n ts cover
   pub ascending : IsNonDecreasing sorted
   pub same : IsPermutation (positions_of n ts) sorted

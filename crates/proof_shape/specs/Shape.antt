@@ -24,6 +24,10 @@ pub record AreTargetsBy (by : Naming) (n : ℕ) (numbers : List ℕ) (ts : List 
   pub numbered : map (number_by by n) ts ≡ numbers
   pub shape : HasShape n ts
 
+-- there are targets of these numbers, which have shape
+abbrev pub HasTargetsBy : Naming → ℕ → List ℕ → Type 0
+HasTargetsBy by n numbers = (ts : List Place) × AreTargetsBy by n numbers ts
+
 -- the numbers before index i are those of targets
 pub record IsSoundBy (by : Naming) (n : ℕ) (numbers : List ℕ) (i : ℕ) : Type 0 where
   pub below : i < length numbers
@@ -54,6 +58,9 @@ IsFaultBy by n numbers NoMemory = Unit {0}
 
 abbrev pub AreTargets : ℕ → List ℕ → List Place → Type 0
 AreTargets = AreTargetsBy Position
+
+abbrev pub HasTargets : ℕ → List ℕ → Type 0
+HasTargets = HasTargetsBy Position
 
 abbrev pub IsShapeFault : ℕ → List ℕ → ShapeFault → Type 0
 IsShapeFault = IsFaultBy Position

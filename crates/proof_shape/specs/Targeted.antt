@@ -1,4 +1,4 @@
--- What contracts see of `Targets`.
+-- What contracts see of `Survey` and of `Targets`.
 use Rattle.std.specs.Prelude.{◌≡◌, ℕ, true, false, ◌^◌, ◌<◌, List, length}
 use Rattle.forest_place.specs.declared.place.Place.{Place}
 use Rattle.forest_place.specs.Forest.{InForest}
@@ -12,6 +12,11 @@ pub record Targeted : Type 0 where
   pub leaves : ℕ
   pub targets : List Place
 
+pub record IsShaped (t : Targeted) : Type 0 where
+  pub few : t.leaves < 2 ^ 40
+  pub shape : HasShape t.leaves t.targets
+
+-- and there are no more than `u32` numbers
 pub record IsTargeted (t : Targeted) : Type 0 where
   pub few : t.leaves < 2 ^ 40
   pub counted : length t.targets < 2 ^ 32

@@ -8,7 +8,7 @@ ghost use Rattle.proof_shape.specs.Shape.{has_number};
 ghost use Rattle.proof_shape.specs.Moves.{HasNeighbours, AreApart, HasAll, HasPart, TellGone, CoversTell};
 ghost use Rattle.proof_shape.specs.Swept.{ArePositions};
 
-use crate::survey::{covered_positions, parents_of};
+use crate::sweep::{covered_positions, parents_of};
 use forest_place::Place;
 use std::alloc::{AllocError, Global};
 
@@ -28,7 +28,8 @@ fn have_neighbours(sorted: &[u64]) -> bool
 }
 
 // Two lists of positions: the places that are gone are those of the first which are not of the second. Where no two
-// targets, whose positions are given in ascending order, stand side by side, nothing is gone but them. Else it is what is covered, unless something is needed beneath.
+// targets, whose positions are given in ascending order, stand side by side, nothing is gone but them. Else it is what is covered, unless something
+// is needed beneath.
 pub(crate) fn gone_among(
     alloc: Global,
     n: u64,

@@ -13,9 +13,11 @@ mod order;
 mod paths;
 mod shape;
 mod survey;
+mod sweep;
 mod targets;
 mod wrong;
 
 pub use fault::ShapeFault;
 pub use moves::child_of;
+pub use survey::Survey;
 pub use targets::Targets;

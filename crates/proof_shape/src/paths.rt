@@ -1,17 +1,16 @@
 //! Places that have the shape of targets, with those above them.
-ghost use Rattle.std.specs.Prelude.{◌≡◌, ◌^◌, ◌<◌, ◌≤◌, IfOk, MatchResult, length};
+ghost use Rattle.std.specs.Prelude.{◌≡◌, ◌↔◌, ◌^◌, ◌<◌, IfOk, IfSome, IsTrue, MatchOption};
 ghost use Rattle.forest_place.specs.Places.{AreWithin};
-ghost use Rattle.proof_shape.specs.Found.{IsPlaceFault};
+ghost use Rattle.forest_model.specs.Cover.{HasShape};
 ghost use Rattle.proof_shape.specs.Moves.{ArePaths};
-ghost use Rattle.proof_shape.specs.Shape.{AreTargetsBy, IsFaultBy};
+ghost use Rattle.proof_shape.specs.Shape.{AreTargetsBy, HasTargetsBy};
 
-use crate::ShapeFault;
 use crate::locate::locate;
 use crate::order::sorted_positions;
-use crate::survey::covered_places;
-use crate::wrong::{fault_at, sound_length};
+use crate::shape::is_shaped;
+use crate::sweep::covered_places;
 use forest_place::{Naming, Place};
-use std::alloc::Global;
+use std::alloc::{AllocError, Global};
 
 // Targets, these and the places above them, and the positions of the targets in ascending order.
 #[derive(Drop)]
@@ -21,43 +20,53 @@ pub(crate) struct Paths {
     pub sorted: Vec<u64>,
 }
 
-// The paths of these places, which are the first of so many that were asked for.
-fn paths_over(alloc: Global, n: u64, places: Vec<Place>, count: usize) -> Result<Paths, ShapeFault>
+// Whether the places have the shape of targets. They have, where that is known.
+fn has_shape(alloc: Global, n: u64, places: &[Place], known: bool) -> Result<bool, AllocError>
+    requires small { n < 2 ^ 40 }
+    requires within { AreWithin n places.now }
+    requires known { IsTrue known → HasShape n places.now }
+    ensures { IfOk result (λ b. IsTrue b ↔ HasShape n places.now) }
+{
+    if known {
+        return Ok(true);
+    }
+    is_shaped(alloc, n, places)
+}
+
+// The paths of these places, where they have the shape of targets.
+fn paths_over(alloc: Global, n: u64, places: Vec<Place>) -> Result<Option<Paths>, AllocError>
     requires small { n < 2 ^ 40 }
     requires within { AreWithin n places.items }
-    requires fits { length places.items ≤ count }
-    requires few { count < 2 ^ 32 }
-    ensures found { MatchResult result (λ p. (p.targets.items ≡ places.items) × (count ≤ length places.items)) (λ e. IsPlaceFault n places.items count e) }
-    ensures paths { IfOk result (λ p. ArePaths n p.targets.items p.covered.items p.sorted.items) }
+    ensures found { IfOk result (λ found. MatchOption found (HasShape n places.items → ⊥) (λ p. p.targets.items ≡ places.items)) }
+    ensures paths { IfOk result (λ found. IfSome found (λ p. ArePaths n p.targets.items p.covered.items p.sorted.items)) }
 {
     let sorted = sorted_positions(alloc, n, &places)?;
-    let (covered, shaped) = covered_places(alloc, n, &places, &sorted)?;
-    let sound = sound_length(alloc, n, &places, shaped)?;
-    if sound < places.len() {
-        return Err(fault_at(n, &places, sound));
+    let (covered, free) = covered_places(alloc, n, &places, &sorted)?;
+    if !has_shape(alloc, n, &places, free)? {
+        return Ok(None);
     }
-    if sound < count {
-        return Err(ShapeFault::Outside(sound as u32));
-    }
-    Ok(Paths {
+    Ok(Some(Paths {
         targets: places,
         covered,
         sorted,
-    })
+    }))
 }
 
-// The paths of the places that these numbers name.
+// The paths of the places that these numbers name, where they name targets.
 pub(crate) fn paths_named(
     alloc: Global,
     naming: Naming,
     n: u64,
     numbers: &[u64],
-) -> Result<Paths, ShapeFault>
-    requires small { n < 2 ^ 40 }
-    requires few { length numbers.now < 2 ^ 32 }
-    ensures found { MatchResult result (λ p. AreTargetsBy naming n numbers.now p.targets.items) (λ e. IsFaultBy naming n numbers.now e) }
-    ensures paths { IfOk result (λ p. ArePaths n p.targets.items p.covered.items p.sorted.items) }
+) -> Result<Option<Paths>, AllocError>
+    requires { n < 2 ^ 40 }
+    ensures found { IfOk result (λ found. MatchOption found (HasTargetsBy naming n numbers.now → ⊥)
+        (λ p. AreTargetsBy naming n numbers.now p.targets.items)) }
+    ensures paths { IfOk result (λ found. IfSome found (λ p. ArePaths n p.targets.items p.covered.items p.sorted.items)) }
 {
     let places = locate(alloc, naming, n, numbers)?;
-    paths_over(alloc, n, places, numbers.len())
+    if places.len() < numbers.len() {
+        return Ok(None);
+    }
+    paths_over(alloc, n, places)
 }

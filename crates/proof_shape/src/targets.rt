@@ -1,41 +1,27 @@
 //! The targets of a deletion.
-ghost use Rattle.std.specs.Prelude.{◌≡◌, ◌↔◌, ◌⊎◌, ◌^◌, ◌<◌, [], IfOk, MatchResult, length, true};
+ghost use Rattle.std.specs.Prelude.{◌≡◌, ◌↔◌, ◌⊎◌, ◌^◌, ◌<◌, [], MatchResult, length, true};
 
 use crate::ShapeFault;
-use crate::leaving::{gone_among, last_gone};
-use crate::moves::moved_from;
-use crate::need::{needed_count, needed_of};
-use crate::order::positions_of;
-use crate::paths::{Paths, paths_named};
+use crate::survey::Survey;
+use crate::wrong::fault_named;
 use forest_place::{Naming, Place};
-use std::alloc::{AllocError, Global};
+use std::alloc::Global;
 use std::marker::Model;
 
-/// Targets of a deletion: different places of a forest, of which none stands above another.
+/// Targets of a deletion: different places of a forest, of which none stands above another, and fewer than 2^32.
 #[derive(Drop)]
 pub struct Targets {
-    count: u64,
-    list: Vec<Place>,
-    needed: Vec<Place>,
-
-    // The targets and the places above them, and their positions.
-    covered: Vec<Place>,
-    numbers: Vec<u64>,
-
-    // A place is gone whose position is in the first list and not in the second.
-    among: Vec<u64>,
-    kept: Vec<u64>,
+    survey: Survey,
 }
 
 impl Model for Targets {
     ghost use Rattle.proof_shape.specs.Targeted.{Targeted, IsTargeted};
-    ghost use Rattle.proof_shape.specs.Moves.{IsSurveyed};
 
     ghost Value = { Targeted };
 
-    ghost view = { λ t. record { leaves = t.count; targets = t.list.items } };
+    ghost view = { λ t. t.survey };
 
-    ghost invariant = { λ t. IsTargeted (record { leaves = t.count; targets = t.list.items }) × IsSurveyed t.count t.list.items t.needed.items t.covered.items t.numbers.items t.among.items t.kept.items };
+    ghost invariant = { λ t. IsTargeted t.survey };
 }
 
 impl Targets {
@@ -45,35 +31,9 @@ impl Targets {
     ghost use Rattle.forest_model.specs.Cover.{need};
     ghost use Rattle.forest_model.specs.Deletion.{moved, is_gone};
     ghost use Rattle.proof_shape.specs.Laws.{WhatStaysGoes, EntryGoes};
-    ghost use Rattle.proof_shape.specs.Moves.{ArePaths};
     ghost use Rattle.proof_shape.specs.Shape.{AreTargetsBy, IsFaultBy, AreTargets, IsShapeFault, AreFixedTargets, IsFixedFault};
     ghost use Rattle.proof_shape.specs.Survey.{IsCoverOf};
     ghost use Rattle.proof_shape.specs.Targeted.{IsTargeted, IsBeneathTarget, NoneGonePast, IsGoneAt};
-
-    // What these targets tell of all other places.
-    fn of(alloc: Global, n: u64, paths: Paths) -> Result<Targets, AllocError>
-        requires { ArePaths n paths.targets.items paths.covered.items paths.sorted.items }
-        ensures { IfOk result (λ t. t ≡ record { leaves = n; targets = paths.targets.items }) }
-    {
-        let Paths {
-            targets: list,
-            covered,
-            sorted,
-        } = paths;
-        let count = needed_count(n, &covered);
-        let needed = needed_of(alloc, n, &covered, count)?;
-        let numbers = positions_of(alloc, n, &covered)?;
-        let (among, kept) = gone_among(alloc, n, &list, sorted, &numbers, &needed)?;
-        Ok(Targets {
-            count: n,
-            list,
-            needed,
-            covered,
-            numbers,
-            among,
-            kept,
-        })
-    }
 
     /// The targets at these positions of the forest over `n` entries. A fault names items of the list by `u32`, so the list has
     /// fewer than 2^32.
@@ -105,8 +65,10 @@ impl Targets {
         requires few { length numbers.now < 2 ^ 32 }
         ensures { MatchResult result (λ t. (t.leaves ≡ n) × AreTargetsBy naming n numbers.now t.targets) (λ e. IsFaultBy naming n numbers.now e) }
     {
-        let paths = paths_named(alloc, naming, n, numbers)?;
-        Ok(Targets::of(alloc, n, paths)?)
+        match Survey::named(alloc, naming, n, numbers)? {
+            Some(survey) => Ok(Targets { survey }),
+            None => Err(fault_named(alloc, naming, n, numbers)?),
+        }
     }
 
     /// No target, in the forest over `n` entries. It takes no memory.
@@ -115,14 +77,15 @@ impl Targets {
         ensures { result ≡ record { leaves = n; targets = [] } }
     {
         Targets {
-            count: n,
-            list: Vec::new(alloc),
-            needed: Vec::new(alloc),
-            covered: Vec::new(alloc),
-            numbers: Vec::new(alloc),
-            among: Vec::new(alloc),
-            kept: Vec::new(alloc),
+            survey: Survey::none(alloc, n),
         }
+    }
+
+    /// The same without the bound on how many there are.
+    pub fn survey(&self) -> &Survey
+        ensures { result.now ≡ self.now }
+    {
+        &self.survey
     }
 
     /// How many entries the forest has.
@@ -130,14 +93,14 @@ impl Targets {
         ensures is { result ≡ self.now.leaves }
         ensures targets { IsTargeted self.now }
     {
-        self.count
+        self.survey.leaves()
     }
 
     /// How many targets there are.
     pub fn len(&self) -> u32
         ensures { result ≡ length self.now.targets }
     {
-        self.list.len() as u32
+        self.survey.places().len() as u32
     }
 
     /// The target at an index, in the order in which the positions were given.
@@ -145,14 +108,14 @@ impl Targets {
         requires { i < length self.now.targets }
         ensures { result ≡ place_in self.now.targets i }
     {
-        self.list[i as usize]
+        self.survey.places()[i as usize]
     }
 
     /// All targets, in that order.
     pub fn places(&self) -> &[Place]
         ensures { result.now ≡ self.now.targets }
     {
-        &self.list
+        self.survey.places()
     }
 
     /// The covered places, which are the targets and all places above them, in ascending position, and their positions.
@@ -160,14 +123,14 @@ impl Targets {
         ensures is { IsCoverOf self.now.leaves self.now.targets result.0.now }
         ensures positions { result.1.now ≡ numbers_of self.now.leaves result.0.now }
     {
-        (&self.covered, &self.numbers)
+        self.survey.covered()
     }
 
     /// The places whose digests a proof of the targets has to give, in ascending position.
     pub fn needed(&self) -> &[Place]
         ensures { result.now ≡ need self.now.leaves self.now.targets }
     {
-        &self.needed
+        self.survey.needed()
     }
 
     /// Where what stays of a place goes once the targets are gone: a root that stays keeps its place, and a child goes to
@@ -181,7 +144,7 @@ impl Targets {
         ensures stays { WhatStaysGoes self.now place result }
         ensures entries { EntryGoes self.now place result }
     {
-        moved_from(self.count, &self.among, &self.kept, place)
+        self.survey.moved(place)
     }
 
     /// The position of the last place that is gone. Each target is gone; where there is no target, nothing is, and the answer is 0.
@@ -189,6 +152,6 @@ impl Targets {
         ensures gone { IsGoneAt self.now.leaves self.now.targets result ⊎ ((self.now.targets ≡ []) × (result ≡ 0)) }
         ensures past { NoneGonePast self.now.leaves self.now.targets result }
     {
-        last_gone(&self.among, &self.kept)
+        self.survey.last_gone()
     }
 }

@@ -1,29 +1,22 @@
 //! Where a list of places goes wrong.
-ghost use Rattle.std.specs.Prelude.{◌≡◌, ◌≢◌, ℕ, ◌^◌, ◌+◌, ◌<◌, ◌||◌, true, false, IfOk, IsTrue, MatchOption, length, take};
+ghost use Rattle.std.specs.Prelude.{◌≡◌, ◌≢◌, ℕ, ◌^◌, ◌+◌, ◌<◌, ◌||◌, true, false, IfOk, MatchOption, length, take};
 ghost use Rattle.forest_place.specs.Places.{AreWithin, place_in};
 ghost use Rattle.forest_model.specs.Cover.{HasShape, is_above};
 ghost use Rattle.proof_shape.specs.Found.{AreLow, IsSoundLength, IsFirstEqual, IsFirstCrossing, IsFaultAt, crosses as is_crossing};
+ghost use Rattle.proof_shape.specs.Shape.{HasTargetsBy, IsFaultBy};
 
 use crate::ShapeFault;
+use crate::locate::locate;
 use crate::shape::is_shaped;
-use forest_place::Place;
+use forest_place::{Naming, Place};
 use std::alloc::{AllocError, Global};
 
-// How many places from the front have the shape of targets. All have, where that is known.
-pub(crate) fn sound_length(
-    alloc: Global,
-    n: u64,
-    places: &[Place],
-    shaped: bool,
-) -> Result<usize, AllocError>
+// How many places from the front have the shape of targets.
+fn sound_length(alloc: Global, n: u64, places: &[Place]) -> Result<usize, AllocError>
     requires small { n < 2 ^ 40 }
     requires within { AreWithin n places.now }
-    requires shaped { IsTrue shaped → HasShape n places.now }
     ensures { IfOk result (λ k. IsSoundLength n places.now k) }
 {
-    if shaped {
-        return Ok(places.len());
-    }
     if is_shaped(alloc, n, places)? {
         return Ok(places.len());
     }
@@ -85,7 +78,7 @@ fn first_crossing(places: &[Place], i: usize) -> usize
 }
 
 // What is wrong with the place at an index, where the places before it have the shape of targets.
-pub(crate) fn fault_at(n: u64, places: &[Place], i: usize) -> ShapeFault
+fn fault_at(n: u64, places: &[Place], i: usize) -> ShapeFault
     requires small { n < 2 ^ 40 }
     requires within { AreWithin n places.now }
     requires few { length places.now < 2 ^ 32 }
@@ -97,5 +90,26 @@ pub(crate) fn fault_at(n: u64, places: &[Place], i: usize) -> ShapeFault
     match first_equal(places, i) {
         Some(j) => ShapeFault::Repeated(i as u32, j as u32),
         None => ShapeFault::Beneath(i as u32, first_crossing(places, i) as u32),
+    }
+}
+
+// What is wrong with numbers that are not those of targets.
+pub(crate) fn fault_named(
+    alloc: Global,
+    naming: Naming,
+    n: u64,
+    numbers: &[u64],
+) -> Result<ShapeFault, AllocError>
+    requires small { n < 2 ^ 40 }
+    requires few { length numbers.now < 2 ^ 32 }
+    requires none { HasTargetsBy naming n numbers.now → ⊥ }
+    ensures { IfOk result (IsFaultBy naming n numbers.now) }
+{
+    let places = locate(alloc, naming, n, numbers)?;
+    let sound = sound_length(alloc, n, &places)?;
+    if sound < places.len() {
+        Ok(fault_at(n, &places, sound))
+    } else {
+        Ok(ShapeFault::Outside(sound as u32))
     }
 }

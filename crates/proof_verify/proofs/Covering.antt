@@ -1,5 +1,6 @@
 -- What is gathered of the covered places is what the proof comes to at each.
-use Rattle.std.proofs.Common.{◌≡◌, ℕ, zero, suc, ◌+◌, ◌<◌, ◌≤◌, true, false, List, [], ◌∷◌, ◌++◌, take, map, length, get_or, Option, Some, None, is_some, refl, sym, ap, ◌∙◌, subst, inl, inr, arith}
+use Rattle.std.proofs.Common.{◌≡◌, ℕ, zero, suc, ◌+◌, ◌<◌, ◌≤◌, true, false, List, [], ◌∷◌, ◌++◌, take, map, length, get_or, Option, Some, None}
+use Rattle.std.proofs.Common.{is_some, refl, sym, ap, ◌∙◌, subst, inl, inr, arith}
 use Rattle.std.specs.Prelude.{◌⊎◌}
 use Rattle.std.specs.List.{range_with_len}
 use Rattle.std.proofs.lemmas.Bool.{cases_Bool, false≢true}
@@ -47,33 +48,41 @@ by_index cs (suc k) le =
     let lt : k < length cs = omega (arith, le) in
     let up : k + 1 ≡ suc k = omega arith in
     subst (λ m. map (place_in cs) (range_with_len 0 m) ≡ take m cs) up
-    (map-range_with_len_more (place_in cs) 0 k k (omega arith) ∙ (ap (λ ps. ps ++ place_in cs k ∷ []) (by_index cs k (omega (arith, le))) ∙ sym (take_more cs k (record { row = 0; off = 0 }) lt)))
+    (map-range_with_len_more (place_in cs) 0 k k (omega arith) ∙ (ap (λ ps. ps ++ place_in cs k ∷ []) (by_index cs k (omega (arith, le)))
+    ∙ sym (take_more cs k (record { row = 0; off = 0 }) lt)))
 
-module _ (H : List ℕ → Digest) (n : ℕ) (ts cs : List Place) (os : List Origin) (plan : IsPlan n ts cs os) (shape : HasShape n ts) (leaves hashes : List Digest) (leaves_long : length leaves ≡ length ts) (hashes_long : length hashes ≡ length (need n ts))
+module _ (H : List ℕ → Digest) (n : ℕ) (ts cs : List Place) (os : List Origin) (plan : IsPlan n ts cs os) (shape : HasShape n ts)
+    (leaves hashes : List Digest) (leaves_long : length leaves ≡ length ts) (hashes_long : length hashes ≡ length (need n ts))
     (nodes : List Node) (evaluated : AreEvaluated H os leaves hashes (length os) nodes) where
   some_cover : (x : Option Cover) → is_some x ≡ true → (c : Cover) × (x ≡ Some c)
   some_cover None e = absurd (false≢true e)
   some_cover (Some c) e = (c, refl)
 
-  made_is : (m : ℕ) (c : Cover) → m < length cs → cover ts (place_in cs m).row (place_in cs m).off ≡ Some c → IsMade H n ts leaves hashes (place_in cs m) c (made_from hashes nodes (origin_at os m))
+  made_is : (m : ℕ) (c : Cover) → m < length cs → cover ts (place_in cs m).row (place_in cs m).off ≡ Some c
+      → IsMade H n ts leaves hashes (place_in cs m) c (made_from hashes nodes (origin_at os m))
   made_is m c lt e = by_target (cases_Bool (has ts (place_in cs m)))
     where
       p : Place
       p = place_in cs m
 
-      as_target : (o : Origin) → IsTargetAt ts (place_in cs m) o → has ts (place_in cs m) ≡ true → IsMade H n ts leaves hashes (place_in cs m) c (made_from hashes nodes o)
+      as_target : (o : Origin) → IsTargetAt ts (place_in cs m) o → has ts (place_in cs m) ≡ true
+          → IsMade H n ts leaves hashes (place_in cs m) c (made_from hashes nodes o)
       as_target (Target i) w it =
-          let is : target (place_in cs m).row (place_in cs m).off ≡ c = same_Some _ c (sym (target_cover ts (place_in cs m).row (place_in cs m).off it) ∙ e) in
+          let is : target (place_in cs m).row (place_in cs m).off ≡ c =
+          same_Some _ c (sym (target_cover ts (place_in cs m).row (place_in cs m).off it) ∙ e) in
           subst (λ (x : Cover). IsMade H n ts leaves hashes (place_in cs m) x (made_from hashes nodes (Target i))) is w
       as_target (Halves x y) w it = absurd w
 
-      as_inner : (o : Origin) → origin_at os m ≡ o → has ts (place_in cs m) ≡ false → IsMade H n ts leaves hashes (place_in cs m) c (made_from hashes nodes o)
+      as_inner : (o : Origin) → origin_at os m ≡ o → has ts (place_in cs m) ≡ false
+          → IsMade H n ts leaves hashes (place_in cs m) c (made_from hashes nodes o)
       as_inner (Target i) is none = absurd (subst (AreHalves n cs (place_in cs m)) is (plan.inner m lt none).1)
       as_inner (Halves x y) is none =
           let w = halves_are n ts cs os plan shape leaves hashes leaves_long hashes_long H nodes evaluated m x y c lt is none e in
-          subst (λ (k : Cover). IsMade H n ts leaves hashes (place_in cs m) k (made_from hashes nodes (Halves x y))) (sym w.2) (ap (λ (z : Node). z.digest) w.3, ap (λ (z : Node). z.digest) w.4)
+          subst (λ (k : Cover). IsMade H n ts leaves hashes (place_in cs m) k (made_from hashes nodes (Halves x y))) (sym w.2)
+          (ap (λ (z : Node). z.digest) w.3, ap (λ (z : Node). z.digest) w.4)
 
-      by_target : (has ts (place_in cs m) ≡ true) ⊎ (has ts (place_in cs m) ≡ false) → IsMade H n ts leaves hashes (place_in cs m) c (made_from hashes nodes (origin_at os m))
+      by_target : (has ts (place_in cs m) ≡ true) ⊎ (has ts (place_in cs m) ≡ false)
+          → IsMade H n ts leaves hashes (place_in cs m) c (made_from hashes nodes (origin_at os m))
       by_target (inl it) = as_target (origin_at os m) (plan.targets m lt it) it
       by_target (inr none) = as_inner (origin_at os m) refl none
 
@@ -89,18 +98,23 @@ module _ (H : List ℕ → Digest) (n : ℕ) (ts cs : List Place) (os : List Ori
         made = made_is m c.0 lt c.1;
       }
 
-  pub items_are : (items : List CoveredPlace) → items ≡ map (item_from cs os nodes hashes) (range_with_len 0 (length cs)) → AreEvaluatedAt H n ts leaves hashes items
+  pub items_are : (items : List CoveredPlace) → items ≡ map (item_from cs os nodes hashes) (range_with_len 0 (length cs))
+      → AreEvaluatedAt H n ts leaves hashes items
   items_are items is =
       let f = item_from cs os nodes hashes in
       let count : length items ≡ length cs = ap length is ∙ length-map-range_with_len f 0 (length cs) in
-      let at = λ (i : ℕ) (d : CoveredPlace) (lt : i < length cs). let e : get_or items i d ≡ f i = ap (λ (l : List CoveredPlace). get_or l i d) is ∙ get_or-map-range_with_len f 0 (length cs) i i d lt (omega arith) in e in
+      let at = λ (i : ℕ) (d : CoveredPlace) (lt : i < length cs). let e : get_or items i d ≡ f i = ap (λ (l : List CoveredPlace). get_or l i d) is
+      ∙ get_or-map-range_with_len f 0 (length cs) i i d lt (omega arith) in e in
       record {
-        each = λ i d lt. let l : i < length cs = omega (arith, lt, count) in subst (IsEvaluatedAt H n ts leaves hashes) (sym (at i d l)) (item_is i l);
+        each = λ i d lt. let l : i < length cs = omega (arith, lt, count) in
+            subst (IsEvaluatedAt H n ts leaves hashes) (sym (at i d l)) (item_is i l);
         all = λ row off c h e.
             let there : has cs (place row off) ≡ true = plan.cover_is.covered (place row off) h ∙ ap is_some e in
             let w = place_where cs row off there in
             (w.0, (let l = w.1 in omega (arith, l, count)), λ d. ap (λ (x : CoveredPlace). x.place) (at w.0 d w.1) ∙ w.2);
         order =
-            let made : map (λ (x : CoveredPlace). x.place) items ≡ cs = ap (map (λ (x : CoveredPlace). x.place)) is ∙ (map-map (λ (x : CoveredPlace). x.place) f (range_with_len 0 (length cs)) ∙ (by_index cs (length cs) (omega arith) ∙ take_all (length cs) cs (omega arith))) in
+            let made : map (λ (x : CoveredPlace). x.place) items ≡ cs = ap (map (λ (x : CoveredPlace). x.place)) is
+            ∙ (map-map (λ (x : CoveredPlace). x.place) f (range_with_len 0 (length cs))
+            ∙ (by_index cs (length cs) (omega arith) ∙ take_all (length cs) cs (omega arith))) in
             subst (IsCoverOf n ts) (sym made) plan.cover_is;
       }

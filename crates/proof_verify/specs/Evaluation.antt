@@ -17,7 +17,8 @@ IsMade H n ts leaves hashes p (target row off) (Of.Target i) = (i < length ts) �
 IsMade H n ts leaves hashes p (target row off) (Of.Halves x y) = ⊥
 IsMade H n ts leaves hashes p (given row off) made = ⊥
 IsMade H n ts leaves hashes p (both l r) (Of.Target i) = ⊥
-IsMade H n ts leaves hashes p (both l r) (Of.Halves x y) = (x ≡ evaluation H n ts nothing_known leaves hashes l) × (y ≡ evaluation H n ts nothing_known leaves hashes r)
+IsMade H n ts leaves hashes p (both l r) (Of.Halves x y) = (x ≡ evaluation H n ts nothing_known leaves hashes l)
+    × (y ≡ evaluation H n ts nothing_known leaves hashes r)
 
 -- a covered place with what the proof comes to there
 pub record IsEvaluatedAt (H : List ℕ → Digest) (n : ℕ) (ts : List Place) (leaves hashes : List Digest) (item : CoveredPlace) : Type 0 where
@@ -30,5 +31,6 @@ pub record IsEvaluatedAt (H : List ℕ → Digest) (n : ℕ) (ts : List Place) (
 -- all covered places, in ascending position
 pub record AreEvaluatedAt (H : List ℕ → Digest) (n : ℕ) (ts : List Place) (leaves hashes : List Digest) (items : List CoveredPlace) : Type 0 where
   pub each : (i : ℕ) (d : CoveredPlace) → i < length items → IsEvaluatedAt H n ts leaves hashes (get_or items i d)
-  pub all : (row off : ℕ) (c : Cover) → InForest n row off → cover ts row off ≡ Some c → (i : ℕ) × (i < length items) × ((d : CoveredPlace) → (get_or items i d).place ≡ record { row = row; off = off })
+  pub all : (row off : ℕ) (c : Cover) → InForest n row off → cover ts row off ≡ Some c → (i : ℕ) × (i < length items)
+      × ((d : CoveredPlace) → (get_or items i d).place ≡ record { row = row; off = off })
   pub order : IsCoverOf n ts (map (λ item. item.place) items)

@@ -12,7 +12,7 @@ use crate::node::Node;
 use crate::origin::Origin;
 use crate::plan::plan_of;
 use forest_place::Place;
-use proof_shape::Targets;
+use proof_shape::Survey;
 use std::alloc::{AllocError, Global};
 use std::sync::ledger::Ledger;
 use uo_base::NoMemory;
@@ -61,7 +61,8 @@ fn gather(
     requires origins { length origins.now ≡ length covered.now }
     requires nodes { length nodes.now ≡ length covered.now }
     requires within { AreHalfwise origins.now (length nodes.now) (length hashes.now) }
-    ensures { IfOk result (λ items. items.items ≡ map (item_from covered.now origins.now nodes.now hashes.now) (range_with_len 0 (length covered.now))) }
+    ensures { IfOk result (λ items. items.items
+        ≡ map (item_from covered.now origins.now nodes.now hashes.now) (range_with_len 0 (length covered.now))) }
 {
     let mut items = Vec::with_capacity(alloc, covered.len())?;
     for i in 0..covered.len() {
@@ -81,7 +82,7 @@ fn gather(
 /// ascending position.
 pub fn evaluate_covered<D: Digester, L: Ledger>(
     alloc: Global,
-    targets: &Targets,
+    targets: &Survey,
     leaves: &[Digest],
     hashes: &[Digest],
     steps: &mut Steps<L>,

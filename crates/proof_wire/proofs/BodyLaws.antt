@@ -28,7 +28,8 @@ unfolding whole_at body_at
 no_targets bytes e = rw e refl
 
 -- behind the targets s of a body
-module _ (bytes s left : List ℕ) (targets : counted_at (number_at w64) bytes ≡ Some (targets_in s, left)) (whole : 8 * (length s / 8) ≡ length s) where
+module _ (bytes s left : List ℕ) (targets : counted_at (number_at w64) bytes ≡ Some (targets_in s, left))
+    (whole : 8 * (length s / 8) ≡ length s) where
   count : length (targets_in s) ≡ length s / 8
   count = length-parts (number_at w64) 8 (from_le_bytes w64) targets_even s whole
 
@@ -50,7 +51,8 @@ module _ (bytes s left : List ℕ) (targets : counted_at (number_at w64) bytes �
     unfolding whole_at body_at
     no_hashes e = let rests = by_count (λ n. times rest_at n left) _ rests in rw (targets, rests, e) refl
 
-    pub more_left : (hs : List Digest) (end : List ℕ) → counted_at digest_in_front behind ≡ Some (hs, end) → eqb (length end) 0 ≡ false → whole_at bytes ≡ None
+    pub more_left : (hs : List Digest) (end : List ℕ) → counted_at digest_in_front behind ≡ Some (hs, end) → eqb (length end) 0 ≡ false
+        → whole_at bytes ≡ None
     unfolding whole_at body_at
     more_left hs end e some = let rests = by_count (λ n. times rest_at n left) _ rests in rw (targets, rests, e, some) refl
 
@@ -64,24 +66,28 @@ module _ (bytes s left : List ℕ) (targets : counted_at (number_at w64) bytes �
   pub is_view : (starts : List (Bor (List ℕ))) (behind hashes : List ℕ) → times rest_at (length s / 8) left ≡ Some (rests_in starts, behind)
       → AllByRecursion BeginsWithRest starts → 32 * (length hashes / 32) ≡ length hashes → IsMessageView s starts hashes
   is_view starts behind hashes rests begin even =
-      let many : length starts ≡ length s / 8 = sym (length-rests starts begin) ∙ times-length rest_at (length s / 8) left (rests_in starts) behind rests in
+      let many : length starts ≡ length s / 8 =
+      sym (length-rests starts begin) ∙ times-length rest_at (length s / 8) left (rests_in starts) behind rests in
       record { even_targets = omega (arith, many, whole); begin = begin; even_hashes = even }
 
 -- ---- what a call that reads a whole body answers
 
-pub full_found : (r : Result BlockProof MessageFault) (bytes : List ℕ) → IsBytes bytes → GivesOrFails {X = BlockProof} {A = BlockProof} (λ m. m) claims r [] (whole_at bytes)
+pub full_found : (r : Result BlockProof MessageFault) (bytes : List ℕ) → IsBytes bytes
+    → GivesOrFails {X = BlockProof} {A = BlockProof} (λ m. m) claims r [] (whole_at bytes)
     → IfOk r (λ m. ProofFits m × (bytes ≡ body_text m))
 full_found (Ok m) bytes is_bytes gives = let b = whole_took bytes m [] is_bytes gives in (b.fits, b.text)
 full_found (Err e) bytes is_bytes gives = tt
 
-pub full_none : (r : Result BlockProof MessageFault) (bytes : List ℕ) → GivesOrFails {X = BlockProof} {A = BlockProof} (λ m. m) claims r [] (whole_at bytes)
+pub full_none : (r : Result BlockProof MessageFault) (bytes : List ℕ)
+    → GivesOrFails {X = BlockProof} {A = BlockProof} (λ m. m) claims r [] (whole_at bytes)
     → IsErrOf r NotAMessage → (p : BlockProof) → ProofFits p → bytes ≡ body_text p → ⊥
 full_none (Ok m) bytes gives is p fits e = cc
 full_none (Err NotAMessage) bytes gives is p fits e = no_body bytes gives p fits e
 full_none (Err NoMemory) bytes gives is p fits e = cc
 full_none (Err (Version v)) bytes gives is p fits e = gives
 
-pub full_version : (r : Result BlockProof MessageFault) (bytes : List ℕ) → GivesOrFails {X = BlockProof} {A = BlockProof} (λ m. m) claims r [] (whole_at bytes)
+pub full_version : (r : Result BlockProof MessageFault) (bytes : List ℕ)
+    → GivesOrFails {X = BlockProof} {A = BlockProof} (λ m. m) claims r [] (whole_at bytes)
     → (v : ℕ) → IsErrOf r (Version v) → ⊥
 full_version (Ok m) bytes gives v is = cc
 full_version (Err NotAMessage) bytes gives v is = cc

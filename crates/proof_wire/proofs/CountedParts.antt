@@ -1,5 +1,6 @@
 -- Things of one size behind their count: cutting them off is reading them.
-use Rattle.std.proofs.Common.{◌≡◌, ℕ, ◌*◌, ◌/◌, ◌≤◌, Bool, true, false, cond, ltb, List, length, take, drop, Option, Some, None, refl, sym, ap, subst, ◌∙◌, arith}
+use Rattle.std.proofs.Common.{◌≡◌, ℕ, ◌*◌, ◌/◌, ◌≤◌, Bool, true, false, cond, ltb, List, length, take, drop, Option, Some, None, refl, sym, ap, subst}
+use Rattle.std.proofs.Common.{◌∙◌, arith}
 use Rattle.std.specs.Prelude.{IfSome}
 use Rattle.std.specs.Borrow.{Bor}
 use Rattle.std.proofs.lemmas.Bool.{le-ltb, lt-ltb, ltb-false, ltb-true}
@@ -38,8 +39,11 @@ module _ {A : Type 0} (at : List ℕ → Option (A × List ℕ)) (k : ℕ) (valu
       let long : k * n.0 ≤ length n.1 = ltb-false _ _ g.0 in
       let len : length (take (k * n.0) n.1) ≡ k * n.0 = omega (arith, length-take (k * n.0) n.1) in
       let count : length (take (k * n.0) n.1) / k ≡ n.0 = ap (λ m. m / k) len ∙ even.divides n.0 in
-      subst (λ (p : List ℕ × List ℕ). Parts (Some n) p.0 p.1) g.1
-      (rw count (times_even at k value even n.0 n.1 long ∙ ap (λ xs. found (xs, drop (k * n.0) n.1)) (sym (things_take at k value even n.0 n.1 long))), rw count (sym len))
+      subst (λ (p : List ℕ × List ℕ). Parts (Some n) p.0 p.1) g.1 (
+        rw count (times_even at k value even n.0 n.1 long
+            ∙ ap (λ xs. found (xs, drop (k * n.0) n.1)) (sym (things_take at k value even n.0 n.1 long))),
+        rw count (sym len),
+      )
 
   -- cutting off the counted parts is reading them
   pub parts_none : (bytes : List ℕ) → parts_at k bytes ≡ None → counted_at at bytes ≡ None
@@ -52,12 +56,14 @@ module _ {A : Type 0} (at : List ℕ → Option (A × List ℕ)) (k : ℕ) (valu
   parts_some bytes parts left e = some_of (compact_at bytes) parts left e
 
   -- so a call that cuts them off gives what reading them gives
-  pub gives_parts : (result : Option (Bor (List ℕ))) (left bytes : List ℕ) → Gives {X = Bor (List ℕ)} {A = List ℕ} (λ s. s.now) result left (parts_at k bytes)
+  pub gives_parts : (result : Option (Bor (List ℕ))) (left bytes : List ℕ)
+      → Gives {X = Bor (List ℕ)} {A = List ℕ} (λ s. s.now) result left (parts_at k bytes)
       → Gives {X = Bor (List ℕ)} {A = List A} (λ s. things at (length s.now / k) s.now) result left (counted_at at bytes)
   gives_parts None left bytes e = parts_none bytes e
   gives_parts (Some s) left bytes e = (parts_some bytes s.now left e).0
 
-  pub whole_parts : (result : Option (Bor (List ℕ))) (left bytes : List ℕ) → Gives {X = Bor (List ℕ)} {A = List ℕ} (λ s. s.now) result left (parts_at k bytes)
+  pub whole_parts : (result : Option (Bor (List ℕ))) (left bytes : List ℕ)
+      → Gives {X = Bor (List ℕ)} {A = List ℕ} (λ s. s.now) result left (parts_at k bytes)
       → IfSome result (λ s. k * (length s.now / k) ≡ length s.now)
   whole_parts None left bytes e = tt
   whole_parts (Some s) left bytes e = (parts_some bytes s.now left e).1

@@ -29,7 +29,8 @@ module _ (targets text : List ℕ) (made : IsOfSpends targets text) where
   spends_made = ap₂ spends_of made.at (rests_read (length targets) text rests_told) ∙ spends_told made.spends
 
   -- its text, part by part
-  pub text_made : (hashes : List Digest) → body_text (proof_made targets text hashes) ≡ counted (to_le_bytes w64) targets ++ text ++ counted digest_text hashes
+  pub text_made : (hashes : List Digest) → body_text (proof_made targets text hashes) ≡ counted (to_le_bytes w64) targets ++ text
+      ++ counted digest_text hashes
   unfolding body_text
   text_made hashes = rw (spends_made, made.told, made.at) refl
 
@@ -45,11 +46,13 @@ proof_fits targets text hashes made few few_hashes =
       hashes = made.1;
     }
 
-text_more : (spends : List Spend) (s : Spend) → flat_map rest_text (rests_of (spends ++ s ∷ [])) ≡ flat_map rest_text (rests_of spends) ++ rest_text s.rest
+text_more : (spends : List Spend) (s : Spend) → flat_map rest_text (rests_of (spends ++ s ∷ [])) ≡ flat_map rest_text (rests_of spends)
+    ++ rest_text s.rest
 text_more spends s = ap (flat_map rest_text) (map-append (λ (x : Spend). x.rest) spends (s ∷ [])) ∙ told_more (rests_of spends) s.rest
 
 -- one more spend
-module _ (targets text more more_text : List ℕ) (made : IsOfSpends targets text) (target : ℕ) (rest : Rest) (small : target < 2 ^ 64) (fits : RestFits rest)
+module _ (targets text more more_text : List ℕ) (made : IsOfSpends targets text) (target : ℕ) (rest : Rest) (small : target < 2 ^ 64)
+    (fits : RestFits rest)
     (at : more ≡ targets ++ target ∷ []) (told : more_text ≡ text ++ rest_text rest) where
   abbrev spend : Spend
   spend = record { target = target; rest = rest }
@@ -62,10 +65,12 @@ module _ (targets text more more_text : List ℕ) (made : IsOfSpends targets tex
     told = told ∙ ap (λ (t : List ℕ). t ++ rest_text rest) made.told ∙ sym (text_more made.spends spend);
   }
 
-  pub proof_more : (hashes : List Digest) → proof_made more more_text hashes ≡ record { spends = (proof_made targets text hashes).spends ++ spend ∷ []; hashes = hashes }
+  pub proof_more : (hashes : List Digest) → proof_made more more_text hashes
+      ≡ record { spends = (proof_made targets text hashes).spends ++ spend ∷ []; hashes = hashes }
   unfolding one_more
   proof_more hashes =
-      ap (λ (ss : List Spend). with_hashes ss) (spends_made more more_text one_more ∙ ap (λ (ss : List Spend). ss ++ spend ∷ []) (sym (spends_made targets text made)))
+      ap (λ (ss : List Spend). with_hashes ss)
+      (spends_made more more_text one_more ∙ ap (λ (ss : List Spend). ss ++ spend ∷ []) (sym (spends_made targets text made)))
     where
       with_hashes : List Spend → BlockProof
       with_hashes ss = record { spends = ss; hashes = hashes }
@@ -87,7 +92,8 @@ module _ (targets : List ℕ) (n : ℕ) (text : List ℕ) (made : IsOfRests n te
       let rests = rests-spends targets made.rests each in
       record {
         spends = spends_of targets made.rests;
-        fit = spends_fit _ (subst (AllByRecursion (λ n. n < 2 ^ 64)) (sym at) (all_small targets small)) (subst (AllByRecursion RestFits) (sym rests) made.fit);
+        fit = spends_fit _ (subst (AllByRecursion (λ n. n < 2 ^ 64)) (sym at) (all_small targets small))
+            (subst (AllByRecursion RestFits) (sym rests) made.fit);
         at = sym at;
         told = made.told ∙ ap (flat_map rest_text) (sym rests);
       }

@@ -1,5 +1,6 @@
 -- What a message says is a lawful format.
-use Rattle.std.proofs.Common.{◌≡◌, ℕ, ◌^◌, ◌<◌, cond, eqb, Bool, true, false, List, [], ◌∷◌, ◌++◌, length, Some, None, refl, sym, ap, ap₂, subst, ◌∙◌, append_assoc, arith}
+use Rattle.std.proofs.Common.{◌≡◌, ℕ, ◌^◌, ◌<◌, cond, eqb, Bool, true, false, List, [], ◌∷◌, ◌++◌, length, Some, None, refl, sym, ap, ap₂, subst, ◌∙◌}
+use Rattle.std.proofs.Common.{append_assoc, arith}
 use Rattle.std.specs.Int.{w64, to_le_bytes}
 use Rattle.std.specs.List.{flat_map, AllByRecursion}
 use Rattle.std.proofs.lemmas.Bool.{eqb-true}
@@ -16,7 +17,8 @@ use Rattle.forest_place.proofs.NamedLaws.{one_naming}
 use Rattle.leaf_record.specs.Leaf.{Rest, RestFits, rest_text}
 use Rattle.leaf_record.specs.Reading.{rest_at}
 use Rattle.leaf_record.proofs.LeafLaws.{rest_lawful}
-use Rattle.proof_wire.specs.BlockProof.{Spend, BlockProof, ProofMessage, targets_of, rests_of, body_text, kind_of, message_text, SpendFits, ProofFits, MessageFits, spends_of}
+use Rattle.proof_wire.specs.BlockProof.{Spend, BlockProof, ProofMessage, targets_of, rests_of, body_text, kind_of, message_text, SpendFits, ProofFits}
+use Rattle.proof_wire.specs.BlockProof.{MessageFits, spends_of}
 use Rattle.proof_wire.specs.Reading.{body_at, whole_at}
 
 abbrev IsTarget : ℕ → Type 0
@@ -78,8 +80,10 @@ behind_lawful : (ts : List ℕ) → Lawful (λ p. Told ts p × Behind p) behind_
 unfolding behind_text
 behind_lawful ts =
     same _ (λ p. Told ts p × Behind p) _ behind_text _
-    (led (Told ts) (RestsFit (length ts)) (flat_map rest_text) (times rest_at (length ts)) (λ p. rests_of p.spends) _ _ _ (repeated RestFits rest_text rest_at rest_lawful (length ts)) (λ rs fits.
-    led (λ p. Told ts p × (rests_of p.spends ≡ rs)) (AreCounted IsDigest) (counted digest_text) (counted_at digest_in_front) (λ p. p.hashes) _ _ _ hashes_lawful (λ hs _.
+    (led (Told ts) (RestsFit (length ts)) (flat_map rest_text) (times rest_at (length ts)) (λ p. rests_of p.spends) _ _ _
+    (repeated RestFits rest_text rest_at rest_lawful (length ts)) (λ rs fits.
+    led (λ p. Told ts p × (rests_of p.spends ≡ rs)) (AreCounted IsDigest) (counted digest_text) (counted_at digest_in_front) (λ p. p.hashes) _ _ _
+    hashes_lawful (λ hs _.
     ended (λ p. (Told ts p × (rests_of p.spends ≡ rs)) × (p.hashes ≡ hs))
     (record { spends = spends_of ts rs; hashes = hs }) (((tt, targets-spends ts rs fits.0), rests-spends ts rs fits.0), refl)
     (λ p e. rw (← e.0.0.1, ← e.0.1, ← e.1) (ap (with_hashes p.hashes) (sym (spends_told p.spends)))))))
@@ -94,7 +98,8 @@ pub body_lawful : Lawful ProofFits body_text body_at
 unfolding body_at body_text behind_text
 body_lawful =
     same _ ProofFits (λ p. counted (to_le_bytes w64) (targets_of p.spends) ++ behind_text p) body_text body_at
-    (led Always (AreCounted IsTarget) (counted (to_le_bytes w64)) (counted_at (number_at w64)) (λ p. targets_of p.spends) Behind behind_text _ targets_lawful (λ ts _. behind_lawful ts))
+    (led Always (AreCounted IsTarget) (counted (to_le_bytes w64)) (counted_at (number_at w64)) (λ p. targets_of p.spends) Behind behind_text _
+    targets_lawful (λ ts _. behind_lawful ts))
     (λ p f. record {
       count_of_spends = rw length-map at f.1.0.0;
       spends = spends_fit p.spends f.1.0.1 f.1.1.0;
@@ -145,8 +150,10 @@ one_kind true true e = refl
 -- a message's text is the front of no other's
 pub one_message : OneReading MessageFits message_text
 one_message x y a b fx fy e =
-    let body = one_reading _ _ _ body_lawful x.proof y.proof a b fx fy (tails e) in
-    (ap (λ v. made v x.lean x.proof) (one_naming x.naming y.naming (versions e)) ∙ ap₂ (made y.naming) (one_kind x.lean y.lean (kinds e)) body.0, body.1)
+    let body = one_reading _ _ _ body_lawful x.proof y.proof a b fx fy (tails e) in (
+      ap (λ v. made v x.lean x.proof) (one_naming x.naming y.naming (versions e)) ∙ ap₂ (made y.naming) (one_kind x.lean y.lean (kinds e)) body.0,
+      body.1,
+    )
   where
     tails : {v w k l : ℕ} {xs ys : List ℕ} → v ∷ k ∷ xs ≡ w ∷ l ∷ ys → xs ≡ ys
     tails e = cc

@@ -58,7 +58,12 @@ impl Message {
         requires same { length targets.items ≡ length rests }
         // That an array has its length is known of a value, but not of those in a `Vec`.
         requires fit { AllByRecursion IsDigest hashes.items }
-        ensures { result ≡ record { naming = FixedPosition; lean = lean; proof = record { spends = spends_of targets.items rests; hashes = hashes.items } } }
+        ensures { result ≡ record {
+          naming = FixedPosition;
+          lean = lean;
+          proof =
+              record { spends = spends_of targets.items rests; hashes = hashes.items };
+        } }
     {
         Message {
             lean,
@@ -70,7 +75,12 @@ impl Message {
 
     /// One more spend: the fixed position of its leaf's place in the forest before the block, and its rest.
     pub fn push_spend(&mut self, target: u64, rest: &RestView<'_>) -> Result<(), NoMemory>
-        ensures ok { OnOk result (self.new ≡ record { naming = self.old.naming; lean = self.old.lean; proof = record { spends = self.old.proof.spends ++ record { target = target; rest = rest.now } ∷ []; hashes = self.old.proof.hashes } }) }
+        ensures ok { OnOk result (self.new ≡ record {
+          naming = self.old.naming;
+          lean = self.old.lean;
+          proof =
+              record { spends = self.old.proof.spends ++ record { target = target; rest = rest.now } ∷ []; hashes = self.old.proof.hashes };
+        }) }
         ensures err { OnErr result (self.new ≡ self.old) }
     {
         let start = self.rests.len();
@@ -86,7 +96,12 @@ impl Message {
 
     /// One more hash.
     pub fn push_hash(&mut self, hash: Digest) -> Result<(), NoMemory>
-        ensures ok { OnOk result (self.new ≡ record { naming = self.old.naming; lean = self.old.lean; proof = record { spends = self.old.proof.spends; hashes = self.old.proof.hashes ++ hash ∷ [] } }) }
+        ensures ok { OnOk result (self.new ≡ record {
+          naming = self.old.naming;
+          lean = self.old.lean;
+          proof =
+              record { spends = self.old.proof.spends; hashes = self.old.proof.hashes ++ hash ∷ [] };
+        }) }
         ensures err { OnErr result (self.new ≡ self.old) }
     {
         self.hashes.push(hash)?;
@@ -102,8 +117,7 @@ impl Message {
         put_parts(self.lean, &self.targets, &self.rests, &self.hashes, out)
     }
 
-    /// Appends the one text of the message, in version 2. Memory is asked for once at most. Where there is none, the text before it
-    /// stays as it was.
+    /// Appends the one text of the message, in version 2. Memory is asked for once at most. Where there is none, the text before it stays as it was.
     pub fn write(&self, out: &mut Vec<u8>) -> Result<(), NoMemory>
         ensures ok { OnOk result (out.new.items ≡ out.old.items ++ message_text self.now) }
         ensures err { OnErr result (out.new.items ≡ out.old.items) }
@@ -154,7 +168,8 @@ fn put_parts(
     hashes: &[Digest],
     out: &mut Vec<u8>,
 ) -> Result<(), NoMemory>
-    ensures ok { OnOk result (out.new.items ≡ out.old.items ++ version_of FixedPosition ∷ kind_of lean ∷ (counted (to_le_bytes w64) targets.now ++ rests.now ++ counted digest_text hashes.now)) }
+    ensures ok { OnOk result (out.new.items ≡ out.old.items ++ version_of FixedPosition ∷ kind_of lean
+        ∷ (counted (to_le_bytes w64) targets.now ++ rests.now ++ counted digest_text hashes.now)) }
     ensures err { OnErr result (Grew out.old.items out.new.items) }
     ensures few { (length targets.now < 2 ^ 64) × (length hashes.now < 2 ^ 64) }
 {

@@ -122,7 +122,8 @@ fn read_behind<'a>(
     text: &'a [u8],
 ) -> Result<MessageView<'a>, MessageFault>
     ensures found { IfOk result (λ m. (m.naming ≡ naming) × ProofFits m.proof × (text.now ≡ kind_of m.lean ∷ body_text m.proof)) }
-    ensures none { IsErrOf result MessageFault.NotAMessage → (lean : Bool) (p : BlockProof) → ProofFits p → text.now ≡ kind_of lean ∷ body_text p → ⊥ }
+    ensures none { IsErrOf result MessageFault.NotAMessage → (lean : Bool) (p : BlockProof) → ProofFits p → text.now ≡ kind_of lean ∷ body_text p
+        → ⊥ }
     ensures version { (v : ℕ) → IsErrOf result (MessageFault.Version v) → ⊥ }
 {
     match text {

@@ -1,5 +1,6 @@
 -- What holds of a world through each act holds after any list of acts.
-use Rattle.std.proofs.Common.{◌≡◌, ℕ, zero, suc, ◌≤◌, ◌<◌, ◌^◌, true, List, [], ◌∷◌, ◌++◌, map, length, Option, Some, None, cond, refl, sym, ap, ◌∙◌, subst, arith, ⊎_elim}
+use Rattle.std.proofs.Common.{◌≡◌, ℕ, zero, suc, ◌≤◌, ◌<◌, ◌^◌, true, List, [], ◌∷◌, ◌++◌, map, length, Option, Some, None, cond, refl, sym, ap, ◌∙◌}
+use Rattle.std.proofs.Common.{subst, arith, ⊎_elim}
 use Rattle.std.specs.Prelude.{nat_le, slice_get}
 use Rattle.std.specs.List.{AllByRecursion, AllZip}
 use Rattle.std.proofs.lemmas.Bool.{cases_Bool, leb-true, le-leb}
@@ -16,8 +17,11 @@ use Rattle.bridge_prover.specs.Bridge.{BridgeState}
 use Rattle.bridge_prover.specs.Bridge as Bridges
 use Rattle.relay_core.specs.declared.store.Reply.{Reply}
 use Rattle.relay_core.specs.Acts.{WorldAct, BridgeTook, FollowerAsked, AskServed, ReplyDelivered}
-use Rattle.relay_core.specs.World.{FollowerState, WorldState, newest_of, fresh_follower, is_accepted, sent_of, with_ask, with_reply, applies, event_for, next_world, world_after}
-use Rattle.relay_core.specs.Branches.{Digests, Begun, rules_of, begun_world, blocks_of, world_at, branch, AreActBytes, StandsForActs, IsOnBranch, AreOnBranches, IsNeverRefused, FollowersAreOnBranches, OneSerialOneChain, RepliesAreNeverRefused, ActsAreFollowed}
+use Rattle.relay_core.specs.World.{FollowerState, WorldState, newest_of, fresh_follower, is_accepted, sent_of, with_ask, with_reply, applies}
+use Rattle.relay_core.specs.World.{event_for, next_world, world_after}
+use Rattle.relay_core.specs.Branches.{Digests, Begun, rules_of, begun_world, blocks_of, world_at, branch, AreActBytes, StandsForActs, IsOnBranch}
+use Rattle.relay_core.specs.Branches.{AreOnBranches, IsNeverRefused, FollowersAreOnBranches, OneSerialOneChain, RepliesAreNeverRefused}
+use Rattle.relay_core.specs.Branches.{ActsAreFollowed}
 use Rattle.forest_roots.proofs.One.{one_stump}
 use Rattle.node_rules.proofs.Fitting.{start_fits}
 use Rattle.compact_node.proofs.Throughout.{fresh-node, fresh-stands}
@@ -33,7 +37,8 @@ all-append [] ys a b = b
 all-append (x ∷ xs) ys a b = (a.0, all-append xs ys a.1 b)
 
 module _ (H : List ℕ → Digest) (text : Leaf → List ℕ) where
-  pub after-push : (w : WorldState) (acts : List WorldAct) (act : WorldAct) → world_after H text w (acts ++ act ∷ []) ≡ next_world H text (world_after H text w acts) act
+  pub after-push : (w : WorldState) (acts : List WorldAct) (act : WorldAct)
+      → world_after H text w (acts ++ act ∷ []) ≡ next_world H text (world_after H text w acts) act
   after-push w [] act = refl
   after-push w (a ∷ acts) act = after-push (next_world H text w a) acts act
 
@@ -60,19 +65,23 @@ module _ (H : List ℕ → Digest) (text : Leaf → List ℕ) where
   all_sent_grow w (act ∷ acts) = let a = sent_grows w act in let b = all_sent_grow (next_world H text w act) acts in omega (arith, a, b)
 
   -- the act at which a serial was given is the same in a longer list
-  at-old : (w : WorldState) (acts : List WorldAct) (act : WorldAct) (s : ℕ) → s ≤ length (world_after H text w acts).sent → world_at H text w (acts ++ act ∷ []) s ≡ world_at H text w acts s
+  at-old : (w : WorldState) (acts : List WorldAct) (act : WorldAct) (s : ℕ) → s ≤ length (world_after H text w acts).sent
+      → world_at H text w (acts ++ act ∷ []) s ≡ world_at H text w acts s
   at-old w [] act s given = ap (λ b. cond b w (next_world H text w act)) (le-leb s (length w.sent) given)
   at-old w (a ∷ acts) act s given =
       let next = next_world H text w a in
       ap (λ (v : WorldState). cond (nat_le s (length w.sent)) w v) (at-old next acts act s given)
 
   -- a serial that was not given before is given by the last act, if by any
-  at-new : (w : WorldState) (acts : List WorldAct) (act : WorldAct) (s : ℕ) → length (world_after H text w acts).sent < s → world_at H text w (acts ++ act ∷ []) s ≡ world_after H text w (acts ++ act ∷ [])
-  at-new w [] act s above = ⊎_elim (λ t. let few = leb-true s (length w.sent) t in absurd (omega (arith, few, above))) (λ f. rw f refl) (cases_Bool (nat_le s (length w.sent)))
+  at-new : (w : WorldState) (acts : List WorldAct) (act : WorldAct) (s : ℕ) → length (world_after H text w acts).sent < s
+      → world_at H text w (acts ++ act ∷ []) s ≡ world_after H text w (acts ++ act ∷ [])
+  at-new w [] act s above = ⊎_elim (λ t. let few = leb-true s (length w.sent) t in absurd (omega (arith, few, above))) (λ f. rw f refl)
+      (cases_Bool (nat_le s (length w.sent)))
   at-new w (a ∷ acts) act s above =
       let next = next_world H text w a in
       let more = all_sent_grow w (a ∷ acts) in
-      ⊎_elim (λ t. let few = leb-true s (length w.sent) t in absurd (omega (arith, few, above, more))) (λ f. rw f (at-new next acts act s above)) (cases_Bool (nat_le s (length w.sent)))
+      ⊎_elim (λ t. let few = leb-true s (length w.sent) t in absurd (omega (arith, few, above, more))) (λ f. rw f (at-new next acts act s above))
+      (cases_Bool (nat_le s (length w.sent)))
 
   -- ---- from the start
 
@@ -90,7 +99,8 @@ module _ (H : List ℕ → Digest) (text : Leaf → List ℕ) where
     abbrev IsSound : List WorldAct → Type 0
     IsSound acts = Sound H text long rules few begun.lists (IsOf acts) (world_after H text first acts)
 
-    fresh_followers : (lists : List (List (List ℕ))) → AllZip (FollowerFits H text rules (start.now ∷ [])) lists (map (fresh_follower begun.net begun.limits) lists)
+    fresh_followers : (lists : List (List (List ℕ)))
+        → AllZip (FollowerFits H text rules (start.now ∷ [])) lists (map (fresh_follower begun.net begun.limits) lists)
     fresh_followers [] = tt
     fresh_followers (scripts ∷ lists) = (
       record {
@@ -133,14 +143,19 @@ module _ (H : List ℕ → Digest) (text : Leaf → List ℕ) where
         let w' = next_world H text w act in
         let Q = IsOf (acts ++ act ∷ []) in
         let at = λ (s : ℕ) (l : Level) (v : WorldState). IsLevelOf rules l (blocks_of v.sent v.chain) in
-        let keeps : (s : ℕ) (l : Level) → s ≤ length w.sent → IsOf acts s l → Q s l = λ s l given of. subst (at s l) (sym (at-old first acts act s given)) of in
-        let new : (v : WorldState) (l : Level) → v ≡ w' → length v.sent ≡ suc (length w.sent) → IsLevelOf rules l (blocks_of v.sent v.chain) → Q (suc (length w.sent)) l =
-        λ v l is count of. subst (at (suc (length w.sent)) l) (is ∙ (sym (after-push first acts act) ∙ sym (at-new first acts act (suc (length w.sent)) (omega arith)))) of in
-        subst (Sound H text long rules few begun.lists Q) (sym (after-push first acts act)) (act_sound H text long rules few begun.lists (IsOf acts) Q w sound keeps w' new act refl are)
+        let keeps : (s : ℕ) (l : Level) → s ≤ length w.sent → IsOf acts s l → Q s l =
+        λ s l given of. subst (at s l) (sym (at-old first acts act s given)) of in
+        let new : (v : WorldState) (l : Level) → v ≡ w' → length v.sent ≡ suc (length w.sent) → IsLevelOf rules l (blocks_of v.sent v.chain)
+        → Q (suc (length w.sent)) l =
+        λ v l is count of. subst (at (suc (length w.sent)) l)
+        (is ∙ (sym (after-push first acts act) ∙ sym (at-new first acts act (suc (length w.sent)) (omega arith)))) of in
+        subst (Sound H text long rules few begun.lists Q) (sym (after-push first acts act))
+        (act_sound H text long rules few begun.lists (IsOf acts) Q w sound keeps w' new act refl are)
 
     sound_through : (acts more : List WorldAct) → AllByRecursion AreActBytes more → IsSound acts → IsSound (acts ++ more)
     sound_through acts [] all sound = subst IsSound (sym (append-nil acts)) sound
-    sound_through acts (act ∷ more) all sound = subst IsSound (append_assoc acts (act ∷ []) more) (sound_through (acts ++ act ∷ []) more all.1 (one_more acts act all.0 sound))
+    sound_through acts (act ∷ more) all sound =
+        subst IsSound (append_assoc acts (act ∷ []) more) (sound_through (acts ++ act ∷ []) more all.1 (one_more acts act all.0 sound))
 
     pub sound_after : (acts : List WorldAct) → AllByRecursion AreActBytes acts → IsSound acts
     sound_after acts all = sound_through [] acts all start_sound
@@ -151,7 +166,8 @@ module _ (H : List ℕ → Digest) (text : Leaf → List ℕ) where
       abbrev w : WorldState
       w = world_after H text first acts
 
-      pub on_branch : (scripts : List (List ℕ)) (x : FollowerState) → FollowerFits H text rules sound.levels scripts x → IsOnBranch H text begun acts scripts x
+      pub on_branch : (scripts : List (List ℕ)) (x : FollowerState) → FollowerFits H text rules sound.levels scripts x
+          → IsOnBranch H text begun acts scripts x
       on_branch scripts x fits =
           let s = newest_of x.serials in
           let l = fits.state.now in
@@ -164,14 +180,17 @@ module _ (H : List ℕ → Digest) (text : Leaf → List ℕ) where
             given = omega (arith, within, count);
             blocks = ap (λ (c : Chain). c.blocks) chain ∙ of.blocks_are;
             tip = ap (λ (c : Chain). c.tip) chain ∙ of.tip;
-            stands = subst (λ m. LevelStands H text scripts m x.node.newest) (sym of.level) (subst (λ y. LevelStands H text y l x.node.newest) fits.same_scripts fits.stands.newest);
+            stands = subst (λ m. LevelStands H text scripts m x.node.newest) (sym of.level)
+                (subst (λ y. LevelStands H text y l x.node.newest) fits.same_scripts fits.stands.newest);
             watch = fits.same_scripts;
           }
 
       pub all_on_branches : AllZip (IsOnBranch H text begun acts) begun.lists w.followers
-      all_on_branches = zip-weaker (FollowerFits H text rules sound.levels) (IsOnBranch H text begun acts) on_branch begun.lists w.followers sound.followers
+      all_on_branches = zip-weaker (FollowerFits H text rules sound.levels) (IsOnBranch H text begun acts) on_branch begun.lists w.followers
+          sound.followers
 
-      pub one_chain : (f g : ℕ) (x y : FollowerState) → slice_get w.followers f ≡ Some x → slice_get w.followers g ≡ Some y → newest_of x.serials ≡ newest_of y.serials →
+      pub one_chain : (f g : ℕ) (x y : FollowerState) → slice_get w.followers f ≡ Some x → slice_get w.followers g ≡ Some y
+          → newest_of x.serials ≡ newest_of y.serials →
           (x.node.newest.chain ≡ y.node.newest.chain) × (x.node.newest.roots ≡ y.node.newest.roots)
       one_chain f g x y at_f at_g same =
           let a = zip-at (FollowerFits H text rules sound.levels) begun.lists w.followers f x sound.followers at_f in
@@ -183,14 +202,17 @@ module _ (H : List ℕ → Digest) (text : Leaf → List ℕ) where
           let first_stands = subst (λ l. LevelStands H text x.node.scripts l x.node.newest) now a.2.stands.newest in
           let second_stands = b.2.stands.newest in (
             first_stands.chain ∙ sym second_stands.chain,
-            one_stump H (entries H text m.history) x.node.newest.roots y.node.newest.roots a.2.is.newest.stump b.2.is.newest.stump first_stands.roots second_stands.roots,
+            one_stump H (entries H text m.history) x.node.newest.roots y.node.newest.roots a.2.is.newest.stump b.2.is.newest.stump first_stands.roots
+                second_stands.roots,
           )
 
-      pub never_refused : (f j : ℕ) (x : FollowerState) (r : Reply) → slice_get w.followers f ≡ Some x → slice_get w.replies j ≡ Some r → applies r x ≡ true →
+      pub never_refused : (f j : ℕ) (x : FollowerState) (r : Reply) → slice_get w.followers f ≡ Some x → slice_get w.replies j ≡ Some r
+          → applies r x ≡ true →
           is_made (Some (verdict_on H text x.node (event_in (event_for w.sent r.kind)))) ≡ true
       never_refused f j x r at_f at_j can =
           let a = zip-at (FollowerFits H text rules sound.levels) begun.lists w.followers f x sound.followers at_f in
-          (reply_moves H text rules w.sent sound.levels a.0 x a.2 r can (all-at (ReplyFits H text rules w.sent sound.levels) w.replies j r sound.replies at_j)).made
+          (reply_moves H text rules w.sent sound.levels a.0 x a.2 r can
+          (all-at (ReplyFits H text rules w.sent sound.levels) w.replies j r sound.replies at_j)).made
 
 -- ---- the laws
 
@@ -203,13 +225,15 @@ through H text begun acts P w stands h = subst P (sym stands.is) h
 pub followers_are_on_branches : FollowersAreOnBranches
 followers_are_on_branches H text long begun acts w stands =
     let sound = sound_after H text long begun stands.leaves stands.bytes acts stands.all in
-    through H text begun acts (λ v. AreOnBranches H text begun acts v) w stands (all_on_branches H text long begun stands.leaves stands.bytes acts sound)
+    through H text begun acts (λ v. AreOnBranches H text begun acts v) w stands
+    (all_on_branches H text long begun stands.leaves stands.bytes acts sound)
 
 pub one_serial_one_chain : OneSerialOneChain
 one_serial_one_chain H text long begun acts w stands =
     let sound = sound_after H text long begun stands.leaves stands.bytes acts stands.all in
     through H text begun acts
-    (λ v. (f g : ℕ) (x y : FollowerState) → slice_get v.followers f ≡ Some x → slice_get v.followers g ≡ Some y → newest_of x.serials ≡ newest_of y.serials → (x.node.newest.chain ≡ y.node.newest.chain) × (x.node.newest.roots ≡ y.node.newest.roots))
+    (λ v. (f g : ℕ) (x y : FollowerState) → slice_get v.followers f ≡ Some x → slice_get v.followers g ≡ Some y
+    → newest_of x.serials ≡ newest_of y.serials → (x.node.newest.chain ≡ y.node.newest.chain) × (x.node.newest.roots ≡ y.node.newest.roots))
     w stands (one_chain H text long begun stands.leaves stands.bytes acts sound)
 
 pub replies_are_never_refused : RepliesAreNeverRefused

@@ -1,5 +1,6 @@
 -- A follower that gets a reply which applies.
-use Rattle.std.proofs.Common.{◌≡◌, ℕ, zero, suc, ◌≤◌, Bool, true, List, [], ◌∷◌, ◌++◌, length, take, drop, Some, None, cond, refl, sym, ap, ap₂, ◌∙◌, subst, arith}
+use Rattle.std.proofs.Common.{◌≡◌, ℕ, zero, suc, ◌≤◌, Bool, true, List, [], ◌∷◌, ◌++◌, length, take, drop, Some, None, cond, refl, sym, ap, ap₂, ◌∙◌}
+use Rattle.std.proofs.Common.{subst, arith}
 use Rattle.std.specs.Prelude.{◌==◌, nat_le, is_some, slice_get}
 use Rattle.std.specs.List.{AllZip}
 use Rattle.std.proofs.lemmas.Bool.{and_parts, eqb-true, leb-true, false≢true}
@@ -13,7 +14,8 @@ use Rattle.block_rules.specs.Blocks.{external}
 use Rattle.node_rules.specs.Reading.{Handed}
 use Rattle.node_rules.specs.Judging.{Rules, full, message_of, written}
 use Rattle.node_rules.specs.Laws.{IsTaken}
-use Rattle.node_rules.specs.Machine.{ChainEvent, BlockCame, RollbackCame, Level, State, Outcome, chain_of, full_judge, level_after, pushed, by_refusal, by_evidence, back, rolled_back, event_in, step, full_outcome, is_made}
+use Rattle.node_rules.specs.Machine.{ChainEvent, BlockCame, RollbackCame, Level, State, Outcome, chain_of, full_judge, level_after, pushed}
+use Rattle.node_rules.specs.Machine.{by_refusal, by_evidence, back, rolled_back, event_in, step, full_outcome, is_made}
 use Rattle.compact_node.specs.Node.{NodeState, IsNode, LevelStands, Stands, verdict_on, next_node}
 use Rattle.relay_core.specs.declared.act.Kind.{Kind}
 use Rattle.relay_core.specs.declared.act.Kind.TheVariants.{Next, Same, Back, Lost}
@@ -41,7 +43,8 @@ zip-take P (suc k) (x ∷ xs) [] z = absurd z
 zip-take P (suc k) (x ∷ xs) (y ∷ ys) z = (z.0, zip-take P k xs ys z.1)
 
 -- behind a rollback
-back-zip : (P : ℕ → Level → Type 0) (k : ℕ) (ss : List ℕ) (l : Level) (ls : List Level) → k ≤ length ls → AllZip P ss (l ∷ ls) → AllZip P (drop k ss) ((back k l ls).now ∷ (back k l ls).older)
+back-zip : (P : ℕ → Level → Type 0) (k : ℕ) (ss : List ℕ) (l : Level) (ls : List Level) → k ≤ length ls → AllZip P ss (l ∷ ls)
+    → AllZip P (drop k ss) ((back k l ls).now ∷ (back k l ls).older)
 back-zip P zero ss l ls few z = z
 back-zip P (suc k) [] l ls few z = absurd z
 back-zip P (suc k) (s ∷ ss) l [] few z = absurd (omega (arith, few))
@@ -66,7 +69,8 @@ module _ (H : List ℕ → Digest) (text : Leaf → List ℕ) (rules : Rules) wh
     full_takes : step rules (full_judge H text scripts rules) s (BlockCame (Some b) handed) ≡ outcome newer
     full_takes =
         let evidence = full H text scripts s.now.history (external b s.now.blocks) handed in
-        let same : level_after s.now b evidence ≡ newer = ap (λ (ns : List ℕ). level_after s.now b (record evidence { numbers = ns })) taken.same_entries ∙ sym leads.next in
+        let same : level_after s.now b evidence ≡ newer =
+        ap (λ (ns : List ℕ). level_after s.now b (record evidence { numbers = ns })) taken.same_entries ∙ sym leads.next in
         ap (λ (f : Bool). by_evidence rules s b (cond f None (Some evidence))) taken.not_forged
         ∙ (ap (by_refusal s b evidence) taken.accepted ∙ ap outcome same)
 
@@ -81,13 +85,15 @@ module _ (H : List ℕ → Digest) (text : Leaf → List ℕ) (rules : Rules) wh
     pub stands : Stands H text state x.node
     pub at : AllZip (λ s l. slice_get levels s ≡ Some l) x.serials (state.now ∷ state.older)
 
-  at_more : (levels more : List Level) (ss : List ℕ) (ls : List Level) → AllZip (λ s l. slice_get levels s ≡ Some l) ss ls → AllZip (λ s l. slice_get (levels ++ more) s ≡ Some l) ss ls
+  at_more : (levels more : List Level) (ss : List ℕ) (ls : List Level) → AllZip (λ s l. slice_get levels s ≡ Some l) ss ls
+      → AllZip (λ s l. slice_get (levels ++ more) s ≡ Some l) ss ls
   at_more levels more [] [] z = tt
   at_more levels more [] (l ∷ ls) z = absurd z
   at_more levels more (s ∷ ss) [] z = absurd z
   at_more levels more (s ∷ ss) (l ∷ ls) z = (got_front levels more s l z.0, at_more levels more ss ls z.1)
 
-  pub follower_more : (levels more : List Level) (scripts : List (List ℕ)) (x : FollowerState) → FollowerFits levels scripts x → FollowerFits (levels ++ more) scripts x
+  pub follower_more : (levels more : List Level) (scripts : List (List ℕ)) (x : FollowerState) → FollowerFits levels scripts x
+      → FollowerFits (levels ++ more) scripts x
   follower_more levels more scripts x fits = record {
     same_rules = fits.same_rules;
     same_scripts = fits.same_scripts;
@@ -98,7 +104,8 @@ module _ (H : List ℕ → Digest) (text : Leaf → List ℕ) (rules : Rules) wh
   }
 
   -- it takes the event, and stands for these levels then
-  takes : (state : State) (x : NodeState) (e : ChainEvent) (v : Verdict) (t : State) → IsNode x → Stands H text state x → full_outcome H text x.scripts x.rules state e ≡ record { verdict = Some v; state = t } → is_made (Some v) ≡ true →
+  takes : (state : State) (x : NodeState) (e : ChainEvent) (v : Verdict) (t : State) → IsNode x → Stands H text state x
+      → full_outcome H text x.scripts x.rules state e ≡ record { verdict = Some v; state = t } → is_made (Some v) ≡ true →
       (is_made (Some (verdict_on H text x e)) ≡ true) × Stands H text t (next_node H text x e)
   takes state x e v t is stands o made =
       let all = compact_is_full H text x e is state stands (ap (λ (p : Outcome). is_some p.verdict) o) in
@@ -114,7 +121,8 @@ module _ (H : List ℕ → Digest) (text : Leaf → List ℕ) (rules : Rules) wh
       pub follower : FollowerFits levels scripts (moved H text sent kind x)
       pub made : is_made (Some (verdict_on H text x.node (event_in (event_for sent kind)))) ≡ true
 
-    moves : (kind : Kind) (t : State) → (is_made (Some (verdict_on H text x.node (event_in (event_for sent kind)))) ≡ true) × Stands H text t (next_node H text x.node (event_in (event_for sent kind))) →
+    moves : (kind : Kind) (t : State) → (is_made (Some (verdict_on H text x.node (event_in (event_for sent kind)))) ≡ true)
+        × Stands H text t (next_node H text x.node (event_in (event_for sent kind))) →
         AllZip IsAt (serials_after kind x.serials) (t.now ∷ t.older) → Moves kind
     moves kind t took at =
         let e = event_in (event_for sent kind) in
@@ -139,7 +147,8 @@ module _ (H : List ℕ → Digest) (text : Leaf → List ℕ) (rules : Rules) wh
     pub at_newest : IsAt (newest_of x.serials) fits.state.now
     at_newest = newest_at x.serials fits.state.now fits.state.older fits.at
 
-    one_more : (serial : ℕ) (l : Level) (ss : List ℕ) (now : Level) (older : List Level) → IsAt serial l → AllZip IsAt ss (now ∷ older) → AllZip IsAt (take 101 (serial ∷ ss)) (l ∷ take 100 (now ∷ older))
+    one_more : (serial : ℕ) (l : Level) (ss : List ℕ) (now : Level) (older : List Level) → IsAt serial l → AllZip IsAt ss (now ∷ older)
+        → AllZip IsAt (take 101 (serial ∷ ss)) (l ∷ take 100 (now ∷ older))
     one_more serial l ss now older at z = (at, zip-take IsAt 100 ss (now ∷ older) z)
 
     next_moves : (serial : ℕ) → Follows H text rules sent levels (newest_of x.serials) serial → Moves (Next serial)
@@ -150,8 +159,10 @@ module _ (H : List ℕ → Digest) (text : Leaf → List ℕ) (rules : Rules) wh
         let leads = subst (λ l. Leads H text rules l y f.newer) same f.link.leads in
         let t : State = pushed f.newer s in
         let v = Accepted s.now.blocks (block_hash_of leads.block) (length f.newer.history) in
-        let e₀ = BlockCame (Some leads.block) (written (external leads.block s.now.blocks) (message_of H text None s.now.history (external leads.block s.now.blocks))) in
-        let read : event_in (event_for sent (Next serial)) ≡ e₀ = ap (λ o. event_in (block_event o)) f.link.at ∙ ap₂ BlockCame leads.reads leads.handed in
+        let e₀ = BlockCame (Some leads.block) (written (external leads.block s.now.blocks)
+        (message_of H text None s.now.history (external leads.block s.now.blocks))) in
+        let read : event_in (event_for sent (Next serial)) ≡ e₀ = ap (λ o. event_in (block_event o)) f.link.at
+        ∙ ap₂ BlockCame leads.reads leads.handed in
         let full = full_takes scripts s y f.newer leads in
         let full' : full_outcome H text x.node.scripts x.node.rules s e₀ ≡ record { verdict = Some v; state = t } =
         subst (λ r. full_outcome H text x.node.scripts r s e₀ ≡ record { verdict = Some v; state = t }) (sym fits.same_rules)
@@ -164,12 +175,15 @@ module _ (H : List ℕ → Digest) (text : Leaf → List ℕ) (rules : Rules) wh
     back_moves : (count : ℕ) → nat_le count (length x.node.older) ≡ true → Moves (Back count)
     back_moves count can =
         let s = fits.state in
-        let few : count ≤ length s.older = subst (λ n. count ≤ n) (sym (zip-long (LevelStands H text x.node.scripts) s.older x.node.older fits.stands.older)) (leb-true count (length x.node.older) can) in
-        let can' : nat_le count (length s.older) ≡ true = subst (λ n. nat_le count n ≡ true) (sym (zip-long (LevelStands H text x.node.scripts) s.older x.node.older fits.stands.older)) can in
+        let few : count ≤ length s.older = subst (λ n. count ≤ n) (sym
+        (zip-long (LevelStands H text x.node.scripts) s.older x.node.older fits.stands.older)) (leb-true count (length x.node.older) can) in
+        let can' : nat_le count (length s.older) ≡ true = subst (λ n. nat_le count n ≡ true)
+        (sym (zip-long (LevelStands H text x.node.scripts) s.older x.node.older fits.stands.older)) can in
         let t = back count s.now s.older in
         let o = rolled_back count t in
         let full : full_outcome H text x.node.scripts x.node.rules s (RollbackCame count) ≡ o = rw can' refl in
-        moves (Back count) t (takes s x.node (RollbackCame count) _ t fits.is fits.stands full refl) (back-zip IsAt count x.serials s.now s.older few fits.at)
+        moves (Back count) t (takes s x.node (RollbackCame count) _ t fits.is fits.stands full refl)
+        (back-zip IsAt count x.serials s.now s.older few fits.at)
 
     kind_moves : (kind : Kind) → can_do kind (length x.node.older) ≡ true → KindFits H text rules sent levels (newest_of x.serials) kind → Moves kind
     kind_moves (Next serial) can f = next_moves serial f

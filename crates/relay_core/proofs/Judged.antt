@@ -21,13 +21,16 @@ not_accepted (RolledBack count height hash leaves) not = refl
 not_accepted (TooDeep asked kept) not = refl
 not_accepted Stray not = refl
 
-pub sent_same : (v : Verdict) (event : FeedEvent) (message : Option (List ℕ)) (sent : List Sent) → is_accepted v ≡ false → sent_after v event message sent ≡ sent
+pub sent_same : (v : Verdict) (event : FeedEvent) (message : Option (List ℕ)) (sent : List Sent) → is_accepted v ≡ false
+    → sent_after v event message sent ≡ sent
 sent_same v event message sent off = ap (λ b. sent ++ cond b (sent_of event message) []) off ∙ append-nil sent
 
-pub chain_same : (s : BridgeState) (y : Option Block) (handed : Handed) (serial : ℕ) (chain : List ℕ) → is_accepted (verdict_on s (BlockCame y handed)) ≡ false → chain_after (verdict_on s (BlockCame y handed)) serial chain ≡ chain
+pub chain_same : (s : BridgeState) (y : Option Block) (handed : Handed) (serial : ℕ) (chain : List ℕ)
+    → is_accepted (verdict_on s (BlockCame y handed)) ≡ false → chain_after (verdict_on s (BlockCame y handed)) serial chain ≡ chain
 chain_same s None handed serial chain off = refl
 chain_same s (Some b) handed serial chain off = by (refusal_on s b) off
   where
-    by : (x : Option Refusal) → let v = verdict_by s.chain b (length (new_records b s.chain.blocks)) x in is_accepted v ≡ false → chain_after v serial chain ≡ chain
+    by : (x : Option Refusal) → let v = verdict_by s.chain b (length (new_records b s.chain.blocks)) x in
+        is_accepted v ≡ false → chain_after v serial chain ≡ chain
     by None off = absurd (false≢true (sym off))
     by (Some why) off = refl

@@ -14,23 +14,30 @@ use Rattle.relay_core.proofs.Linking.{IsLevelOf}
 use Rattle.relay_core.proofs.Handing.{FollowerFits}
 use Rattle.relay_core.proofs.Acting.{sound_after}
 
-module _ (H : List ℕ → Digest) (text : Leaf → List ℕ) (begun : Begun) (acts : List WorldAct) (levels : List Level) (told : (s : ℕ) (l : Level) → slice_get levels s ≡ Some l → IsLevelOf (rules_of begun) l (branch H text (begun_world begun) acts s)) where
-  each_level : (scripts : List (List ℕ)) (ss : List ℕ) (ms : List Level) (ls : List LevelState) → AllZip (λ s l. slice_get levels s ≡ Some l) ss ms → AllZip (LevelStands H text scripts) ms ls →
+module _ (H : List ℕ → Digest) (text : Leaf → List ℕ) (begun : Begun) (acts : List WorldAct) (levels : List Level) (told : (s : ℕ) (l : Level)
+    → slice_get levels s ≡ Some l → IsLevelOf (rules_of begun) l (branch H text (begun_world begun) acts s)) where
+  each_level : (scripts : List (List ℕ)) (ss : List ℕ) (ms : List Level) (ls : List LevelState) → AllZip (λ s l. slice_get levels s ≡ Some l) ss ms
+      → AllZip (LevelStands H text scripts) ms ls →
       AllZip (λ s l. LevelStands H text scripts (level_after_all (rules_of begun) (branch H text (begun_world begun) acts s)) l) ss ls
   each_level scripts [] [] [] a b = tt
   each_level scripts [] [] (l ∷ ls) a b = absurd b
   each_level scripts [] (m ∷ ms) ls a b = absurd a
   each_level scripts (s ∷ ss) [] ls a b = absurd a
   each_level scripts (s ∷ ss) (m ∷ ms) [] a b = absurd b
-  each_level scripts (s ∷ ss) (m ∷ ms) (l ∷ ls) a b = (subst (λ k. LevelStands H text scripts k l) (sym (told s m a.0).level) b.0, each_level scripts ss ms ls a.1 b.1)
+  each_level scripts (s ∷ ss) (m ∷ ms) (l ∷ ls) a b =
+      (subst (λ k. LevelStands H text scripts k l) (sym (told s m a.0).level) b.0, each_level scripts ss ms ls a.1 b.1)
 
-  each_follower : (lists : List (List (List ℕ))) (xs : List FollowerState) → AllZip (FollowerFits H text (rules_of begun) levels) lists xs → AllByRecursion (HasLevelsOf H text begun acts) xs
+  each_follower : (lists : List (List (List ℕ))) (xs : List FollowerState) → AllZip (FollowerFits H text (rules_of begun) levels) lists xs
+      → AllByRecursion (HasLevelsOf H text begun acts) xs
   each_follower [] [] z = tt
   each_follower [] (x ∷ xs) z = absurd z
   each_follower (scripts ∷ lists) [] z = absurd z
   each_follower (scripts ∷ lists) (x ∷ xs) z =
-      let fits = z.0 in
-      (each_level x.node.scripts x.serials (fits.state.now ∷ fits.state.older) (x.node.newest ∷ x.node.older) fits.at (fits.stands.newest, fits.stands.older), each_follower lists xs z.1)
+      let fits = z.0 in (
+        each_level x.node.scripts x.serials (fits.state.now ∷ fits.state.older) (x.node.newest ∷ x.node.older) fits.at
+            (fits.stands.newest, fits.stands.older),
+        each_follower lists xs z.1,
+      )
 
 pub serials_are_of_levels : SerialsAreOfLevels
 serials_are_of_levels H text long begun acts w stands =

@@ -1,8 +1,10 @@
 -- Serials of a chain, kept with the newest last, and what is said of them with the newest first.
-use Rattle.std.proofs.Common.{◌≡◌, ◌≢◌, ℕ, zero, suc, ◌+◌, ◌-◌, ◌≤◌, ◌<◌, true, false, List, [], ◌∷◌, ◌++◌, ◌^◌, map, reverse, get_or, length, take, drop, Option, Some, None, Err, refl, sym, ap, ◌∙◌, subst, arith, eq-eqb, inl, inr, ⊎_elim}
+use Rattle.std.proofs.Common.{◌≡◌, ◌≢◌, ℕ, zero, suc, ◌+◌, ◌-◌, ◌≤◌, ◌<◌, true, false, List, [], ◌∷◌, ◌++◌, ◌^◌, map, reverse, get_or, length, take}
+use Rattle.std.proofs.Common.{drop, Option, Some, None, Err, refl, sym, ap, ◌∙◌, subst, arith, eq-eqb, inl, inr, ⊎_elim}
 use Rattle.std.specs.Prelude.{IfSome, is_some, slice_index, ◌==◌, ◌⊎◌, option_map}
 use Rattle.std.proofs.lemmas.Bool.{cases_Bool, cases_lt, eqb-true, false≢true}
-use Rattle.std.proofs.lemmas.List.{length-map, get_or-reverse, length-reverse, length-take, reverse-append, take_all, take_at, get_or-take, get_or_push, get_or_append_left, length_push}
+use Rattle.std.proofs.lemmas.List.{length-map, get_or-reverse, length-reverse, length-take, reverse-append, take_all, take_at, get_or-take}
+use Rattle.std.proofs.lemmas.List.{get_or_push, get_or_append_left, length_push}
 use Rattle.std.proofs.lemmas.List.Sorted.{searched}
 use Rattle.std.specs.List.Sorted.{IsBinarySearchResult}
 use Rattle.std.specs.Ordering.{nat_cmp}
@@ -28,14 +30,17 @@ pub after_not : (xs : List ℕ) (s : ℕ) → ((k : ℕ) → suc k < length xs �
 after_not [] s h = refl
 after_not (x ∷ []) s h = refl
 after_not (x ∷ y ∷ xs) s h =
-    ⊎_elim (λ t. absurd (h 0 (omega arith) (eqb-true y s t))) (λ f. rw f (after_not (y ∷ xs) s (λ k lt. h (suc k) (omega (arith, lt))))) (cases_Bool (y == s))
+    ⊎_elim (λ t. absurd (h 0 (omega arith) (eqb-true y s t))) (λ f. rw f (after_not (y ∷ xs) s (λ k lt. h (suc k) (omega (arith, lt)))))
+    (cases_Bool (y == s))
 
-pub after_at : (xs : List ℕ) (s j : ℕ) → suc j < length xs → get_or xs (suc j) 0 ≡ s → ((k : ℕ) → k < j → get_or xs (suc k) 0 ≢ s) → after_on xs s ≡ Some (get_or xs j 0)
+pub after_at : (xs : List ℕ) (s j : ℕ) → suc j < length xs → get_or xs (suc j) 0 ≡ s → ((k : ℕ) → k < j → get_or xs (suc k) 0 ≢ s)
+    → after_on xs s ≡ Some (get_or xs j 0)
 after_at [] s j lt e h = absurd (omega (arith, lt))
 after_at (x ∷ []) s j lt e h = absurd (omega (arith, lt))
 after_at (x ∷ y ∷ xs) s zero lt e h = rw (eq-eqb y s e) refl
 after_at (x ∷ y ∷ xs) s (suc j) lt e h =
-    ⊎_elim (λ t. absurd (h 0 (omega arith) (eqb-true y s t))) (λ f. rw f (after_at (y ∷ xs) s j (omega (arith, lt)) e (λ k l. h (suc k) (omega (arith, l))))) (cases_Bool (y == s))
+    ⊎_elim (λ t. absurd (h 0 (omega arith) (eqb-true y s t)))
+    (λ f. rw f (after_at (y ∷ xs) s j (omega (arith, lt)) e (λ k l. h (suc k) (omega (arith, l))))) (cases_Bool (y == s))
 
 -- ---- which is met first
 
@@ -43,10 +48,12 @@ pub met_not : (chain ss : List ℕ) → ((k : ℕ) → k < length ss → is_on c
 met_not chain [] h = refl
 met_not chain (s ∷ ss) h = rw (h 0 (omega arith)) (ap (option_map (λ k. suc k)) (met_not chain ss (λ k lt. h (suc k) (omega (arith, lt)))))
 
-pub met_here : (chain ss : List ℕ) (k : ℕ) → k < length ss → is_on chain (get_or ss k 0) ≡ true → ((j : ℕ) → j < k → is_on chain (get_or ss j 0) ≡ false) → met_at chain ss ≡ Some k
+pub met_here : (chain ss : List ℕ) (k : ℕ) → k < length ss → is_on chain (get_or ss k 0) ≡ true
+    → ((j : ℕ) → j < k → is_on chain (get_or ss j 0) ≡ false) → met_at chain ss ≡ Some k
 met_here chain [] k lt e h = absurd (omega (arith, lt))
 met_here chain (s ∷ ss) zero lt e h = rw e refl
-met_here chain (s ∷ ss) (suc k) lt e h = rw (h 0 (omega arith)) (ap (option_map (λ j. suc j)) (met_here chain ss k (omega (arith, lt)) e (λ j l. h (suc j) (omega (arith, l)))))
+met_here chain (s ∷ ss) (suc k) lt e h =
+    rw (h 0 (omega arith)) (ap (option_map (λ j. suc j)) (met_here chain ss k (omega (arith, lt)) e (λ j l. h (suc j) (omega (arith, l)))))
 
 -- ---- rising serials
 
@@ -61,17 +68,20 @@ turned xs k lt = get_or-reverse xs k 0 lt
 pub found_on : (xs : List ℕ) (s i : ℕ) → i < length xs → get_or xs i 0 ≡ s → is_on (reverse xs) s ≡ true
 found_on xs s i lt e =
     let long = length-reverse xs in
-    let at : get_or (reverse xs) (length xs - 1 - i) 0 ≡ get_or xs (length xs - 1 - (length xs - 1 - i)) 0 = turned xs (length xs - 1 - i) (omega (arith, lt)) in
+    let at : get_or (reverse xs) (length xs - 1 - i) 0 ≡ get_or xs (length xs - 1 - (length xs - 1 - i)) 0 =
+    turned xs (length xs - 1 - i) (omega (arith, lt)) in
     let back : length xs - 1 - (length xs - 1 - i) ≡ i = omega (arith, lt) in
     on_at (reverse xs) s (length xs - 1 - i) (omega (arith, lt, long)) (at ∙ (ap (λ k. get_or xs k 0) back ∙ e))
 
 pub not_found_on : (xs : List ℕ) (s : ℕ) → ((k : ℕ) → k < length xs → get_or xs k 0 ≢ s) → is_on (reverse xs) s ≡ false
 not_found_on xs s h =
     let long = length-reverse xs in
-    on_not (reverse xs) s (λ k lt e. let lt' : k < length xs = omega (arith, lt, long) in h (length xs - 1 - k) (omega (arith, lt')) (sym (turned xs k lt') ∙ e))
+    on_not (reverse xs) s (λ k lt e. let lt' : k < length xs = omega (arith, lt, long) in
+    h (length xs - 1 - k) (omega (arith, lt')) (sym (turned xs k lt') ∙ e))
 
 -- the one behind an element comes after it
-pub after_found : (n : ℕ) (xs : List ℕ) (s i : ℕ) → IsRising n xs → suc i < length xs → get_or xs i 0 ≡ s → after_on (reverse xs) s ≡ Some (get_or xs (suc i) 0)
+pub after_found : (n : ℕ) (xs : List ℕ) (s i : ℕ) → IsRising n xs → suc i < length xs → get_or xs i 0 ≡ s
+    → after_on (reverse xs) s ≡ Some (get_or xs (suc i) 0)
 after_found n xs s i r lt e =
     let long = length-reverse xs in
     let j = length xs - 2 - i in
@@ -112,7 +122,8 @@ rising_push n xs r =
       most = λ i within. most i within;
     }
   where
-    at : (i : ℕ) → i < length (xs ++ suc n ∷ []) → ((i < length xs) × (get_or (xs ++ suc n ∷ []) i 0 ≡ get_or xs i 0)) ⊎ ((i ≡ length xs) × (get_or (xs ++ suc n ∷ []) i 0 ≡ suc n))
+    at : (i : ℕ) → i < length (xs ++ suc n ∷ []) → ((i < length xs) × (get_or (xs ++ suc n ∷ []) i 0 ≡ get_or xs i 0))
+        ⊎ ((i ≡ length xs) × (get_or (xs ++ suc n ∷ []) i 0 ≡ suc n))
     at i within =
         let long = length_push xs (suc n) in
         ⊎_elim
@@ -175,11 +186,14 @@ put_all serial xs few =
 pub place_lost : (n : ℕ) (xs : List ℕ) (s i : ℕ) → IsRising n xs → IsBinarySearchResult (λ y. nat_cmp y s) xs (Err i) → is_on (reverse xs) s ≡ false
 place_lost n xs s i r found =
     let rise : (a b : ℕ) → a ≤ b → b < length xs → get_or xs a 0 ≤ get_or xs b 0 =
-    λ a b le lt. ⊎_elim (λ less. let u = r.up a b less lt in omega (arith, u)) (λ ge. let same : a ≡ b = omega (arith, le, ge) in subst (λ k. get_or xs a 0 ≤ get_or xs k 0) same (omega arith)) (cases_lt a b) in
+    λ a b le lt. ⊎_elim (λ less. let u = r.up a b less lt in omega (arith, u)) (λ ge. let same : a ≡ b = omega (arith, le, ge) in
+    subst (λ k. get_or xs a 0 ≤ get_or xs k 0) same (omega arith)) (cases_lt a b) in
     let m = searched xs s (Err i) found rise in
-    not_found_on xs s (λ k lt e. ⊎_elim (λ less. let u = m.1 k less in omega (arith, u, e)) (λ ge. let u = m.2 k ge lt in omega (arith, u, e)) (cases_lt k i))
+    not_found_on xs s (λ k lt e. ⊎_elim (λ less. let u = m.1 k less in omega (arith, u, e)) (λ ge. let u = m.2 k ge lt in
+    omega (arith, u, e)) (cases_lt k i))
 
-pub has_is : (xs : List ℕ) (s : ℕ) (r : Option ℕ) → IfSome r (λ i. (i < length xs) × (slice_index xs i ≡ s)) → (r ≡ None → is_on (reverse xs) s ≡ false) → is_some r ≡ is_on (reverse xs) s
+pub has_is : (xs : List ℕ) (s : ℕ) (r : Option ℕ) → IfSome r (λ i. (i < length xs) × (slice_index xs i ≡ s))
+    → (r ≡ None → is_on (reverse xs) s ≡ false) → is_some r ≡ is_on (reverse xs) s
 has_is xs s None found lost = sym (lost refl)
 has_is xs s (Some i) found lost = sym (found_on xs s i found.0 found.1)
 
@@ -188,18 +202,23 @@ has_is xs s (Some i) found lost = sym (found_on xs s i found.0 found.1)
 abbrev pub NoneMet : List ℕ → List ℕ → ℕ → Type 0
 NoneMet chain ss k = (j : ℕ) → j < k → is_on chain (get_or (reverse ss) j 0) ≡ false
 
-pub met_more : (chain ss : List ℕ) (k : ℕ) → k < length ss → NoneMet chain ss k → is_on chain (get_or ss (length ss - 1 - k) 0) ≡ false → NoneMet chain ss (k + 1)
+pub met_more : (chain ss : List ℕ) (k : ℕ) → k < length ss → NoneMet chain ss k → is_on chain (get_or ss (length ss - 1 - k) 0) ≡ false
+    → NoneMet chain ss (k + 1)
 met_more chain ss k lt none one j less =
-    ⊎_elim (λ l. none j l) (λ ge. let same : k ≡ j = omega (arith, ge, less) in subst (λ i. is_on chain (get_or (reverse ss) i 0) ≡ false) same (ap (is_on chain) (turned ss k lt) ∙ one)) (cases_lt j k)
+    ⊎_elim (λ l. none j l) (λ ge. let same : k ≡ j = omega (arith, ge, less) in
+    subst (λ i. is_on chain (get_or (reverse ss) i 0) ≡ false) same (ap (is_on chain) (turned ss k lt) ∙ one)) (cases_lt j k)
 
-pub met_found : (chain ss : List ℕ) (k : ℕ) → k < length ss → NoneMet chain ss k → is_on chain (get_or ss (length ss - 1 - k) 0) ≡ true → Some k ≡ met_at chain (reverse ss)
-met_found chain ss k lt none on = let long = length-reverse ss in sym (met_here chain (reverse ss) k (omega (arith, lt, long)) (ap (is_on chain) (turned ss k lt) ∙ on) none)
+pub met_found : (chain ss : List ℕ) (k : ℕ) → k < length ss → NoneMet chain ss k → is_on chain (get_or ss (length ss - 1 - k) 0) ≡ true
+    → Some k ≡ met_at chain (reverse ss)
+met_found chain ss k lt none on = let long = length-reverse ss in
+    sym (met_here chain (reverse ss) k (omega (arith, lt, long)) (ap (is_on chain) (turned ss k lt) ∙ on) none)
 
 pub met_none : (chain ss : List ℕ) (k : ℕ) → length ss ≤ k → NoneMet chain ss k → None ≡ met_at chain (reverse ss)
 met_none chain ss k ge none = let long = length-reverse ss in sym (met_not chain (reverse ss) (λ j lt. none j (omega (arith, lt, long, ge))))
 
 -- what a world begins with
-pub kept_new : {A W F : Type 0} (sent : List A) (chain : List ℕ) (f : W → F) (watches : List W) (followers : List F) → sent ≡ [] → chain ≡ 0 ∷ [] → followers ≡ map f watches → length watches < 2 ^ 32 → IsKept (length sent) chain (length followers)
+pub kept_new : {A W F : Type 0} (sent : List A) (chain : List ℕ) (f : W → F) (watches : List W) (followers : List F) → sent ≡ [] → chain ≡ 0 ∷ []
+    → followers ≡ map f watches → length watches < 2 ^ 32 → IsKept (length sent) chain (length followers)
 kept_new sent chain f watches followers none zero' made few =
     let long : length followers ≡ length watches = ap length made ∙ length-map watches f in
     record {

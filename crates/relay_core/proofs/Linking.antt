@@ -1,5 +1,6 @@
 -- The levels of serials, and how the blocks of the bridge lead from one to the next.
-use Rattle.std.proofs.Common.{◌≡◌, ℕ, zero, suc, ◌<◌, ◌≤◌, ◌^◌, Bool, true, false, List, [], ◌∷◌, ◌++◌, map, length, drop, Option, Some, None, cond, refl, sym, ap, ◌∙◌, subst, arith}
+use Rattle.std.proofs.Common.{◌≡◌, ℕ, zero, suc, ◌<◌, ◌≤◌, ◌^◌, Bool, true, false, List, [], ◌∷◌, ◌++◌, map, length, drop, Option, Some, None, cond}
+use Rattle.std.proofs.Common.{refl, sym, ap, ◌∙◌, subst, arith}
 use Rattle.std.specs.Prelude.{◌==◌, slice_get, option_map}
 use Rattle.std.specs.List.{AllByRecursion}
 use Rattle.std.proofs.lemmas.Bool.{eqb-true}
@@ -32,7 +33,8 @@ got_last [] x = refl
 got_last (z ∷ xs) x = got_last xs x
 
 -- what is at an index of a longer list is at it before, or is the last
-pub got_either : {X : Type 0} (xs : List X) (x : X) (P : ℕ → X → Type 0) → ((i : ℕ) (y : X) → slice_get xs i ≡ Some y → P i y) → P (length xs) x → (i : ℕ) (y : X) → slice_get (xs ++ x ∷ []) i ≡ Some y → P i y
+pub got_either : {X : Type 0} (xs : List X) (x : X) (P : ℕ → X → Type 0) → ((i : ℕ) (y : X) → slice_get xs i ≡ Some y → P i y) → P (length xs) x
+    → (i : ℕ) (y : X) → slice_get (xs ++ x ∷ []) i ≡ Some y → P i y
 got_either [] x P old new zero y e = subst (P 0) (same_Some x y e) new
 got_either [] x P old new (suc i) y e = absurd (none-some y e)
 got_either (z ∷ xs) x P old new zero y e = old 0 y e
@@ -61,7 +63,8 @@ module _ (H : List ℕ → Digest) (text : Leaf → List ℕ) (rules : Rules) wh
     pub handed : handed_in x.message ≡ written (external block older.blocks) (message_of H text None older.history (external block older.blocks))
 
   -- the proving node takes it, whatever its older levels
-  pub led : (s : State) (x : Sent) (newer : Level) → Leads s.now x newer → (step rules own_judge s (BlockCame (block_in x.block) nothing)).state.now ≡ newer
+  pub led : (s : State) (x : Sent) (newer : Level) → Leads s.now x newer → (step rules own_judge s (BlockCame (block_in x.block) nothing)).state.now
+      ≡ newer
   led s x newer l =
       let evidence = own s.now.history (external l.block s.now.blocks) in
       ap (λ y. (step rules own_judge s (BlockCame y nothing)).state.now) l.reads
@@ -109,7 +112,8 @@ module _ (H : List ℕ → Digest) (text : Leaf → List ℕ) (rules : Rules) wh
         let x = below.0.one in
         let leads = below.0.leads in
         let from = subst (λ m. Leads m x l) (sym before.level) leads in
-        subst (λ (y : Option Sent). IsLevelOf rules l (somes (option_map (λ w. w.block) y ∷ map (λ t. option_map (λ w. w.block) (sent_at sent t)) (p ∷ ss)))) (sym below.0.at)
+        subst (λ (y : Option Sent). IsLevelOf rules l
+        (somes (option_map (λ w. w.block) y ∷ map (λ t. option_map (λ w. w.block) (sent_at sent t)) (p ∷ ss)))) (sym below.0.at)
         (record {
           level = led (proved_after rules older) x l from;
           blocks_are = ap (λ (m : Level). m.blocks) leads.next ∙ ap suc before.blocks_are;
@@ -140,12 +144,14 @@ module _ (H : List ℕ → Digest) (text : Leaf → List ℕ) (rules : Rules) wh
     ReplyFits r = KindFits r.first r.kind
 
     -- what comes after a serial on a line follows it
-    after_follows : (s : ℕ) (l : Level) (ss : List ℕ) (ls : List Level) → slice_get levels s ≡ Some l → Below s l ss ls → (first serial : ℕ) → after_on (s ∷ ss) first ≡ Some serial → Follows first serial
+    after_follows : (s : ℕ) (l : Level) (ss : List ℕ) (ls : List Level) → slice_get levels s ≡ Some l → Below s l ss ls → (first serial : ℕ)
+        → after_on (s ∷ ss) first ≡ Some serial → Follows first serial
     after_follows s l [] ls at below first serial e = absurd (none-some serial e)
     after_follows s l (p ∷ ss) [] at below first serial e = absurd below
     after_follows s l (p ∷ ss) (k ∷ ls) at below first serial e = by (p == first) refl e (λ f. after_follows p k ss ls below.1 below.2 first serial f)
       where
-        by : (b : Bool) → (p == first) ≡ b → cond b (Some s) (after_on (p ∷ ss) first) ≡ Some serial → (after_on (p ∷ ss) first ≡ Some serial → Follows first serial) → Follows first serial
+        by : (b : Bool) → (p == first) ≡ b → cond b (Some s) (after_on (p ∷ ss) first) ≡ Some serial
+            → (after_on (p ∷ ss) first ≡ Some serial → Follows first serial) → Follows first serial
         by true here e later =
             subst (λ t. Follows first t) (same_Some s serial e)
             (subst (λ t. Follows t s) (eqb-true p first here) (record { older = k; newer = l; at_first = below.1; at_serial = at; link = below.0 }))

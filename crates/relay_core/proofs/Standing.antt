@@ -1,5 +1,6 @@
 -- What holds of a world through each act.
-use Rattle.std.proofs.Common.{◌≡◌, ℕ, zero, suc, ◌≤◌, ◌<◌, ◌^◌, Bool, true, false, List, [], ◌∷◌, ◌++◌, length, take, drop, Option, Some, None, cond, refl, sym, ap, ◌∙◌, subst, arith, ⊎_elim}
+use Rattle.std.proofs.Common.{◌≡◌, ℕ, zero, suc, ◌≤◌, ◌<◌, ◌^◌, Bool, true, false, List, [], ◌∷◌, ◌++◌, length, take, drop, Option, Some, None, cond}
+use Rattle.std.proofs.Common.{refl, sym, ap, ◌∙◌, subst, arith, ⊎_elim}
 use Rattle.std.specs.Prelude.{nat_le, slice_get, slice_set}
 use Rattle.std.specs.List.{AllByRecursion, AllZip}
 use Rattle.std.proofs.lemmas.Bool.{cases_Bool, leb-true, false≢true}
@@ -22,21 +23,25 @@ use Rattle.node_rules.specs.Reading.{Handed, read, handed_in, message_in}
 use Rattle.node_rules.specs.Judging.{Rules, Evidence, own, refusal, message_of, written}
 use Rattle.node_rules.specs.Proving.{written_text}
 use Rattle.node_rules.specs.Fitting.{AreEventBytes, EventFits, StateFits}
-use Rattle.node_rules.specs.Machine.{ChainEvent, BlockCame, RollbackCame, Level, State, Outcome, chain_of, own_judge, level_after, pushed, by_refusal, back, rolled_back, gone_to, verdict_by, is_made}
-use Rattle.bridge_prover.specs.Bridge.{BridgeState, refusal_on, verdict_on, after_block, bridge_by, next_bridge, gone_back, chain_back, message_by, message_on, told_if}
+use Rattle.node_rules.specs.Machine.{ChainEvent, BlockCame, RollbackCame, Level, State, Outcome, chain_of, own_judge, level_after, pushed, by_refusal}
+use Rattle.node_rules.specs.Machine.{back, rolled_back, gone_to, verdict_by, is_made}
+use Rattle.bridge_prover.specs.Bridge.{BridgeState, refusal_on, verdict_on, after_block, bridge_by, next_bridge, gone_back, chain_back, message_by}
+use Rattle.bridge_prover.specs.Bridge.{message_on, told_if}
 use Rattle.bridge_prover.specs.Own.{own_in}
 use Rattle.bridge_prover.specs.Standing.{Stands, IsBridge}
 use Rattle.bridge_prover.specs.Laws.{own_outcome, text_by, IsAsOwn}
 use Rattle.relay_core.specs.declared.store.Reply.{Reply}
 use Rattle.relay_core.specs.Acts.{WorldAct, BridgeTook, FollowerAsked, AskServed, ReplyDelivered}
-use Rattle.relay_core.specs.World.{Sent, FollowerState, WorldState, chain_after, is_accepted, with_event, with_ask, with_reply, reply_to, applies, moved, with_moved, next_world}
+use Rattle.relay_core.specs.World.{Sent, FollowerState, WorldState, chain_after, is_accepted, with_event, with_ask, with_reply, reply_to, applies}
+use Rattle.relay_core.specs.World.{moved, with_moved, next_world}
 use Rattle.relay_core.specs.Branches.{AreActBytes, Digests, blocks_of}
 use Rattle.node_rules.proofs.Fitting.{read_event_fits, step_fits}
 use Rattle.node_rules.proofs.Written.{written_fits}
 use Rattle.node_rules.proofs.MessageLaws.{message_read}
 use Rattle.bridge_prover.proofs.Refining.{bridge_is_own, next_is_bridge}
 use Rattle.bridge_prover.proofs.Throughout.{kept_rules, kept_watch}
-use Rattle.relay_core.proofs.Linking.{got_last, got_either, IsLevelOf, Leads, Line, line-drop, line_level, line_more, ReplyFits, reply_fits, replies_more}
+use Rattle.relay_core.proofs.Linking.{got_last, got_either, IsLevelOf, Leads, Line, line-drop, line_level, line_more, ReplyFits, reply_fits}
+use Rattle.relay_core.proofs.Linking.{replies_more}
 use Rattle.relay_core.proofs.Handing.{FollowerFits, follower_more, reply_moves}
 
 -- ---- lists
@@ -51,21 +56,24 @@ all-at P (y ∷ xs) zero x all e = subst P (same_Some y x e) all.0
 all-at P (y ∷ xs) (suc i) x all e = all-at P xs i x all.1 e
 
 -- the one that is in step with one at an index
-pub zip-at : {X Y : Type 0} (P : X → Y → Type 0) (xs : List X) (ys : List Y) (i : ℕ) (y : Y) → AllZip P xs ys → slice_get ys i ≡ Some y → (x : X) × (slice_get xs i ≡ Some x) × P x y
+pub zip-at : {X Y : Type 0} (P : X → Y → Type 0) (xs : List X) (ys : List Y) (i : ℕ) (y : Y) → AllZip P xs ys → slice_get ys i ≡ Some y
+    → (x : X) × (slice_get xs i ≡ Some x) × P x y
 zip-at P [] [] i y z e = absurd (none-some y e)
 zip-at P [] (w ∷ ys) i y z e = absurd z
 zip-at P (x ∷ xs) [] i y z e = absurd z
 zip-at P (x ∷ xs) (w ∷ ys) zero y z e = (x, refl, subst (P x) (same_Some w y e) z.0)
 zip-at P (x ∷ xs) (w ∷ ys) (suc i) y z e = zip-at P xs ys i y z.1 e
 
-zip-set : {X Y : Type 0} (P : X → Y → Type 0) (xs : List X) (ys : List Y) (i : ℕ) (y w : Y) → AllZip P xs ys → slice_get ys i ≡ Some y → ((x : X) → P x y → P x w) → AllZip P xs (slice_set ys i w)
+zip-set : {X Y : Type 0} (P : X → Y → Type 0) (xs : List X) (ys : List Y) (i : ℕ) (y w : Y) → AllZip P xs ys → slice_get ys i ≡ Some y
+    → ((x : X) → P x y → P x w) → AllZip P xs (slice_set ys i w)
 zip-set P [] [] i y w z e h = z
 zip-set P [] (v ∷ ys) i y w z e h = absurd z
 zip-set P (x ∷ xs) [] i y w z e h = absurd z
 zip-set P (x ∷ xs) (v ∷ ys) zero y w z e h = (h x (subst (P x) (same_Some v y e) z.0), z.1)
 zip-set P (x ∷ xs) (v ∷ ys) (suc i) y w z e h = (z.0, zip-set P xs ys i y w z.1 e h)
 
-pub zip-weaker : {X Y : Type 0} (P Q : X → Y → Type 0) → ((x : X) (y : Y) → P x y → Q x y) → (xs : List X) (ys : List Y) → AllZip P xs ys → AllZip Q xs ys
+pub zip-weaker : {X Y : Type 0} (P Q : X → Y → Type 0) → ((x : X) (y : Y) → P x y → Q x y) → (xs : List X) (ys : List Y) → AllZip P xs ys
+    → AllZip Q xs ys
 zip-weaker P Q h [] [] z = tt
 zip-weaker P Q h [] (y ∷ ys) z = absurd z
 zip-weaker P Q h (x ∷ xs) [] z = absurd z
@@ -108,12 +116,15 @@ module _ (H : List ℕ → Digest) (text : Leaf → List ℕ) (long : Digests H)
     pub stands : Stands H text t s
     pub fits : StateFits rules t
 
-  as_own : (s : BridgeState) (t : State) (e : ChainEvent) → IsBeside s t → IsAsOwn H text None rules t e (verdict_on s e) (message_on H s e) (next_bridge H text s e)
+  as_own : (s : BridgeState) (t : State) (e : ChainEvent) → IsBeside s t
+      → IsAsOwn H text None rules t e (verdict_on s e) (message_on H s e) (next_bridge H text s e)
   as_own s t e beside =
       subst (λ r. IsAsOwn H text None r t e (verdict_on s e) (message_on H s e) (next_bridge H text s e)) beside.same_rules
-      (subst (λ x. IsAsOwn H text x s.rules t e (verdict_on s e) (message_on H s e) (next_bridge H text s e)) beside.no_watch (bridge_is_own H text s e beside.is t beside.stands))
+      (subst (λ x. IsAsOwn H text x s.rules t e (verdict_on s e) (message_on H s e) (next_bridge H text s e)) beside.no_watch
+      (bridge_is_own H text s e beside.is t beside.stands))
 
-  extends : (s : BridgeState) (t : State) (bytes : List ℕ) (b : Block) (handed : Handed) → block_in bytes ≡ Some b → BlockFits b → IsBeside s t → refusal_on s b ≡ None → Extends t bytes (message_for s b) (after_block H text s b)
+  extends : (s : BridgeState) (t : State) (bytes : List ℕ) (b : Block) (handed : Handed) → block_in bytes ≡ Some b → BlockFits b → IsBeside s t
+      → refusal_on s b ≡ None → Extends t bytes (message_for s b) (after_block H text s b)
   extends s t bytes b handed reads block_fits beside accepts =
       let e = BlockCame (Some b) handed in
       let ext = external b t.now.blocks in
@@ -121,20 +132,31 @@ module _ (H : List ℕ → Digest) (text : Leaf → List ℕ) (long : Digests H)
       let m = message_of H text None t.now.history ext in
       let new = length (new_records b s.chain.blocks) in
       let one = as_own s t e beside in
-      let made : is_made (own_outcome rules t e).verdict ≡ true = ap is_made one.said ∙ ap (λ x. is_made (Some (verdict_by s.chain b new x))) accepts in
+      let made : is_made (own_outcome rules t e).verdict ≡ true =
+      ap is_made one.said ∙ ap (λ x. is_made (Some (verdict_by s.chain b new x))) accepts in
       let passes : refusal rules (chain_of t.now) b ev ≡ None = made_passes t b ev (refusal rules (chain_of t.now) b ev) made in
       let newer = level_after t.now b ev in
       let l = beside.fits.0 in
       let within = l.within in
-      let again = message_read (message_text m) m (written_fits H text long t.now.history l.records (omega (arith, within, few)) None rules (chain_of t.now) b block_fits passes) refl in
+      let again = message_read (message_text m) m
+      (written_fits H text long t.now.history l.records (omega (arith, within, few)) None rules (chain_of t.now) b block_fits passes) refl in
       let same : message_for s b ≡ written_text ext m =
       ap (λ x. told_if x (message_for s b)) (sym accepts) ∙ (one.passed ∙ ap (λ x. cond x (text_by H text None t.now e) None) made) in
       record {
         newer = newer;
-        leads = record { block = b; reads = reads; few = omega (arith, within, few); passes = passes; next = refl; handed = ap handed_in same ∙ handed_again ext m again };
+        leads = record {
+          block = b;
+          reads = reads;
+          few = omega (arith, within, few);
+          passes = passes;
+          next = refl;
+          handed =
+              ap handed_in same ∙ handed_again ext m again;
+        };
         stands = subst (λ x. Stands H text (pushed newer t) (bridge_by x (after_block H text s b) s)) accepts
             (subst (λ (x : Option Refusal). Stands H text (by_refusal t b ev x).state (next_bridge H text s e)) passes one.stands);
-        fits = subst (λ (x : Option Refusal). StateFits rules (by_refusal t b ev x).state) passes (step_fits rules own_judge t e block_fits beside.fits);
+        fits = subst (λ (x : Option Refusal). StateFits rules (by_refusal t b ev x).state) passes
+            (step_fits rules own_judge t e block_fits beside.fits);
       }
 
   -- ---- a world
@@ -163,7 +185,8 @@ module _ (H : List ℕ → Digest) (text : Leaf → List ℕ) (long : Digests H)
       all = (t.now ∷ t.older) ++ sound.rest
 
       told_still : (s : ℕ) (l : Level) → slice_get levels s ≡ Some l → Q s l
-      told_still s l at = let count = sound.count in let within = slice_get_within levels s l at in keeps s l (omega (arith, count, within)) (sound.told s l at)
+      told_still s l at = let count = sound.count in let within = slice_get_within levels s l at in
+          keeps s l (omega (arith, count, within)) (sound.told s l at)
 
       same_world : Sound Q w
       same_world = record {
@@ -184,7 +207,8 @@ module _ (H : List ℕ → Digest) (text : Leaf → List ℕ) (long : Digests H)
       same_parts : Sound Q (with_parts w.bridge [] w.chain)
       same_parts = subst (λ sent. Sound Q (record w { sent = sent })) (sym (append-nil w.sent)) same_world
 
-      beside_then : (e : ChainEvent) (t' : State) (s' : BridgeState) → s' ≡ next_bridge H text w.bridge e → Stands H text t' s' → StateFits rules t' → IsBeside s' t'
+      beside_then : (e : ChainEvent) (t' : State) (s' : BridgeState) → s' ≡ next_bridge H text w.bridge e → Stands H text t' s' → StateFits rules t'
+          → IsBeside s' t'
       beside_then e t' s' is stands fits = record {
         same_rules = ap (λ (s : BridgeState). s.rules) is ∙ (kept_rules H text w.bridge e ∙ sound.beside.same_rules);
         no_watch = ap (λ (s : BridgeState). s.watch) is ∙ (kept_watch H text w.bridge e ∙ sound.beside.no_watch);
@@ -196,11 +220,14 @@ module _ (H : List ℕ → Digest) (text : Leaf → List ℕ) (long : Digests H)
       -- ---- a block is accepted
 
       -- the serial that the act gives, if any, has the property
-      module _ (next : WorldState) (new : (v : WorldState) (l : Level) → v ≡ next → length v.sent ≡ suc (length w.sent) → IsLevelOf rules l (blocks_of v.sent v.chain) → Q (suc (length w.sent)) l) where
-        serial_line : (x : Sent) (l : Level) → Leads H text rules t.now x l → Line H text rules (w.sent ++ x ∷ []) (levels ++ l ∷ []) (suc (length w.sent) ∷ w.chain) (l ∷ all)
+      module _ (next : WorldState) (new : (v : WorldState) (l : Level) → v ≡ next → length v.sent ≡ suc (length w.sent)
+          → IsLevelOf rules l (blocks_of v.sent v.chain) → Q (suc (length w.sent)) l) where
+        serial_line : (x : Sent) (l : Level) → Leads H text rules t.now x l
+            → Line H text rules (w.sent ++ x ∷ []) (levels ++ l ∷ []) (suc (length w.sent) ∷ w.chain) (l ∷ all)
         serial_line x l leads = by w.chain (line_more H text rules w.sent levels (x ∷ []) (l ∷ []) w.chain all sound.line)
           where
-            by : (chain : List ℕ) → Line H text rules (w.sent ++ x ∷ []) (levels ++ l ∷ []) chain all → Line H text rules (w.sent ++ x ∷ []) (levels ++ l ∷ []) (suc (length w.sent) ∷ chain) (l ∷ all)
+            by : (chain : List ℕ) → Line H text rules (w.sent ++ x ∷ []) (levels ++ l ∷ []) chain all
+                → Line H text rules (w.sent ++ x ∷ []) (levels ++ l ∷ []) (suc (length w.sent) ∷ chain) (l ∷ all)
             by [] line = absurd line
             by (s ∷ ss) line = (
               subst (λ n. slice_get (levels ++ l ∷ []) n ≡ Some l) sound.count (got_last levels l),
@@ -213,7 +240,8 @@ module _ (H : List ℕ → Digest) (text : Leaf → List ℕ) (long : Digests H)
             ap (λ ls. l ∷ (ls ++ sound.rest)) (sym (take-append-drop 100 (t.now ∷ t.older)))
             ∙ ap (λ ls. l ∷ ls) (append_assoc (take 100 (t.now ∷ t.older)) (drop 100 (t.now ∷ t.older)) sound.rest)
 
-        grown : (e : ChainEvent) (x : Sent) (s' : BridgeState) → s' ≡ next_bridge H text w.bridge e → with_parts s' (x ∷ []) (suc (length w.sent) ∷ w.chain) ≡ next → Extends t x.block x.message s' →
+        grown : (e : ChainEvent) (x : Sent) (s' : BridgeState) → s' ≡ next_bridge H text w.bridge e
+            → with_parts s' (x ∷ []) (suc (length w.sent) ∷ w.chain) ≡ next → Extends t x.block x.message s' →
             Sound Q (with_parts s' (x ∷ []) (suc (length w.sent) ∷ w.chain))
         grown e x s' is is_next more =
             let l = more.newer in
@@ -225,13 +253,15 @@ module _ (H : List ℕ → Digest) (text : Leaf → List ℕ) (long : Digests H)
               levels = levels ++ l ∷ [];
               count = omega (arith, count, one_level, one_sent);
               told = got_either levels l Q told_still
-                  (subst (λ n. Q n l) (sym count) (new (with_parts s' (x ∷ []) (suc (length w.sent) ∷ w.chain)) l is_next (omega (arith, one_sent)) (line_level H text rules (w.sent ++ x ∷ []) (levels ++ l ∷ []) (suc (length w.sent) ∷ w.chain) l all line)));
+                  (subst (λ n. Q n l) (sym count) (new (with_parts s' (x ∷ []) (suc (length w.sent) ∷ w.chain)) l is_next (omega (arith, one_sent))
+                  (line_level H text rules (w.sent ++ x ∷ []) (levels ++ l ∷ []) (suc (length w.sent) ∷ w.chain) l all line)));
               state = pushed l t;
               beside = beside_then e (pushed l t) s' is more.stands more.fits;
               rest = drop 100 (t.now ∷ t.older) ++ sound.rest;
               line = subst (Line H text rules (w.sent ++ x ∷ []) (levels ++ l ∷ []) (suc (length w.sent) ∷ w.chain)) (pushed_front l) line;
               replies = replies_more H text rules w.sent levels (x ∷ []) (l ∷ []) w.replies sound.replies;
-              followers = zip-weaker (FollowerFits H text rules levels) (FollowerFits H text rules (levels ++ l ∷ [])) (λ scripts f fits. follower_more H text rules levels (l ∷ []) scripts f fits) lists w.followers sound.followers;
+              followers = zip-weaker (FollowerFits H text rules levels) (FollowerFits H text rules (levels ++ l ∷ []))
+                  (λ scripts f fits. follower_more H text rules levels (l ∷ []) scripts f fits) lists w.followers sound.followers;
             }
 
         -- ---- an event
@@ -241,14 +271,18 @@ module _ (H : List ℕ → Digest) (text : Leaf → List ℕ) (long : Digests H)
         world_by bytes handed y =
             let e = BlockCame y handed in
             let v = verdict_on w.bridge e in
-            with_parts (next_bridge H text w.bridge e) (cond (is_accepted v) (record { block = bytes; message = message_on H w.bridge e } ∷ []) []) (chain_after v (suc (length w.sent)) w.chain)
+            with_parts (next_bridge H text w.bridge e) (cond (is_accepted v) (record { block = bytes; message = message_on H w.bridge e } ∷ []) [])
+            (chain_after v (suc (length w.sent)) w.chain)
 
         abbrev world_if : List ℕ → Block → Option Refusal → WorldState
         world_if bytes b x =
             let v = verdict_by w.bridge.chain b (length (new_records b w.bridge.chain.blocks)) x in
-            with_parts (bridge_by x (after_block H text w.bridge b) w.bridge) (cond (is_accepted v) (record { block = bytes; message = told_if x (message_for w.bridge b) } ∷ []) []) (chain_after v (suc (length w.sent)) w.chain)
+            with_parts (bridge_by x (after_block H text w.bridge b) w.bridge)
+            (cond (is_accepted v) (record { block = bytes; message = told_if x (message_for w.bridge b) } ∷ []) [])
+            (chain_after v (suc (length w.sent)) w.chain)
 
-        with_block : (bytes : List ℕ) (message : Option (List ℕ)) → with_event H text w (Feed.BlockCame bytes message) ≡ next → IsBytes bytes → Sound Q (with_event H text w (Feed.BlockCame bytes message))
+        with_block : (bytes : List ℕ) (message : Option (List ℕ)) → with_event H text w (Feed.BlockCame bytes message) ≡ next → IsBytes bytes
+            → Sound Q (with_event H text w (Feed.BlockCame bytes message))
         with_block bytes message is_next is_bytes = by_block (block_in bytes) refl
           where
             by_case : (b : Block) → block_in bytes ≡ Some b → (x : Option Refusal) → refusal_on w.bridge b ≡ x → Sound Q (world_if bytes b x)
@@ -256,7 +290,8 @@ module _ (H : List ℕ → Digest) (text : Leaf → List ℕ) (long : Digests H)
             by_case b reads None accepts =
                 let e = BlockCame (Some b) (handed_in message) in
                 let fits = subst (λ y. EventFits (BlockCame y (handed_in message))) reads (read_event_fits (Feed.BlockCame bytes message) is_bytes) in
-                grown e (record { block = bytes; message = message_for w.bridge b }) (after_block H text w.bridge b) (ap (λ x. bridge_by x (after_block H text w.bridge b) w.bridge) (sym accepts))
+                grown e (record { block = bytes; message = message_for w.bridge b }) (after_block H text w.bridge b)
+                (ap (λ x. bridge_by x (after_block H text w.bridge b) w.bridge) (sym accepts))
                 (sym (ap (world_by bytes (handed_in message)) reads ∙ ap (world_if bytes b) accepts) ∙ is_next)
                 (extends w.bridge t bytes b (handed_in message) reads fits sound.beside accepts)
 
@@ -275,7 +310,8 @@ module _ (H : List ℕ → Digest) (text : Leaf → List ℕ) (long : Digests H)
             let t' = back k t.now t.older in
             let stands : Stands H text t' (gone_back H text k w.bridge) =
             subst (λ x. Stands H text t' (cond x (gone_back H text k w.bridge) w.bridge)) can
-            (subst (λ x. Stands H text (Outcome.state (cond x (rolled_back k t') (record { verdict = Some (TooDeep k (length t.older)); state = t }))) (next_bridge H text w.bridge e)) can' one.stands) in
+            (subst (λ x. Stands H text (Outcome.state (cond x (rolled_back k t') (record { verdict = Some (TooDeep k (length t.older)); state = t })))
+            (next_bridge H text w.bridge e)) can' one.stands) in
             subst (λ sent. Sound Q (record w { bridge = gone_back H text k w.bridge; sent = sent; chain = drop k w.chain })) (sym (append-nil w.sent))
             (record {
               levels = levels;
@@ -284,7 +320,8 @@ module _ (H : List ℕ → Digest) (text : Leaf → List ℕ) (long : Digests H)
               state = t';
               beside = beside_then e t' (gone_back H text k w.bridge) (rw can refl) stands (gone_fits k can');
               rest = sound.rest;
-              line = subst (Line H text rules w.sent levels (drop k w.chain)) (back-drop k t.now t.older sound.rest is_few) (line-drop H text rules w.sent levels k w.chain all (longer k is_few) sound.line);
+              line = subst (Line H text rules w.sent levels (drop k w.chain)) (back-drop k t.now t.older sound.rest is_few)
+                  (line-drop H text rules w.sent levels k w.chain all (longer k is_few) sound.line);
               replies = sound.replies;
               followers = sound.followers;
             })
@@ -293,7 +330,9 @@ module _ (H : List ℕ → Digest) (text : Leaf → List ℕ) (long : Digests H)
             deep_enough k made = ⊎_elim (λ x. x) (λ f. absurd (false≢true (rw f at made))) (cases_Bool (nat_le k (length t.older)))
 
             gone_fits : (k : ℕ) → nat_le k (length t.older) ≡ true → StateFits rules (back k t.now t.older)
-            gone_fits k can' = subst (λ x. StateFits rules (Outcome.state (cond x (rolled_back k (back k t.now t.older)) (record { verdict = Some (TooDeep k (length t.older)); state = t })))) can' (step_fits rules own_judge t (RollbackCame k) tt sound.beside.fits)
+            gone_fits k can' = subst (λ x. StateFits rules (Outcome.state
+                (cond x (rolled_back k (back k t.now t.older)) (record { verdict = Some (TooDeep k (length t.older)); state = t })))) can'
+                (step_fits rules own_judge t (RollbackCame k) tt sound.beside.fits)
 
             longer : (k : ℕ) → k ≤ length t.older → k < length all
             longer k few' = let more = length-append (t.now ∷ t.older) sound.rest in omega (arith, few', more)
@@ -303,7 +342,8 @@ module _ (H : List ℕ → Digest) (text : Leaf → List ℕ) (long : Digests H)
           where
             by : (x : Bool) → nat_le k (length w.bridge.undo) ≡ x →
                 let v = cond x (gone_to k (chain_back k w.bridge.chain w.bridge.undo)) (TooDeep k (length w.bridge.undo)) in
-                Sound Q (with_parts (cond x (gone_back H text k w.bridge) w.bridge) (cond (is_accepted v) [] []) (chain_after v (suc (length w.sent)) w.chain))
+                Sound Q (with_parts (cond x (gone_back H text k w.bridge) w.bridge) (cond (is_accepted v) [] [])
+                (chain_after v (suc (length w.sent)) w.chain))
             by true can = gone k can
             by false deep = same_parts
 
@@ -338,16 +378,19 @@ module _ (H : List ℕ → Digest) (text : Leaf → List ℕ) (long : Digests H)
           beside = sound.beside;
           rest = sound.rest;
           line = sound.line;
-          replies = all-push (ReplyFits H text rules w.sent levels) w.replies (reply_to w.chain serials) sound.replies (reply_fits H text rules w.sent levels w.chain all sound.line serials);
+          replies = all-push (ReplyFits H text rules w.sent levels) w.replies (reply_to w.chain serials) sound.replies
+              (reply_fits H text rules w.sent levels w.chain all sound.line serials);
           followers = sound.followers;
         }
 
-        deliver_sound : (f : ℕ) (x : Option FollowerState) (r : Option Reply) (j : ℕ) → slice_get w.followers f ≡ x → slice_get w.replies j ≡ r → Sound Q (with_moved H text w f x r)
+        deliver_sound : (f : ℕ) (x : Option FollowerState) (r : Option Reply) (j : ℕ) → slice_get w.followers f ≡ x → slice_get w.replies j ≡ r
+            → Sound Q (with_moved H text w f x r)
         deliver_sound f None r j at_f at_j = same_world
         deliver_sound f (Some x) None j at_f at_j = same_world
         deliver_sound f (Some x) (Some r) j at_f at_j = by (applies r x) refl
           where
-            by : (b : Bool) → applies r x ≡ b → Sound Q (record w { followers = cond b (slice_set w.followers f (moved H text w.sent r.kind x)) w.followers })
+            by : (b : Bool) → applies r x ≡ b → Sound Q
+                (record w { followers = cond b (slice_set w.followers f (moved H text w.sent r.kind x)) w.followers })
             by false a = same_world
             by true a = record {
               levels = levels;
@@ -359,7 +402,8 @@ module _ (H : List ℕ → Digest) (text : Leaf → List ℕ) (long : Digests H)
               line = sound.line;
               replies = sound.replies;
               followers = zip-set (FollowerFits H text rules levels) lists w.followers f x (moved H text w.sent r.kind x) sound.followers at_f
-                  (λ scripts fits. (reply_moves H text rules w.sent levels scripts x fits r a (all-at (ReplyFits H text rules w.sent levels) w.replies j r sound.replies at_j)).follower);
+                  (λ scripts fits. (reply_moves H text rules w.sent levels scripts x fits r a
+                  (all-at (ReplyFits H text rules w.sent levels) w.replies j r sound.replies at_j)).follower);
             }
 
         pub act_sound : (act : WorldAct) → next_world H text w act ≡ next → AreActBytes act → Sound Q (next_world H text w act)

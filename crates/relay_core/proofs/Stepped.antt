@@ -1,5 +1,6 @@
 -- A world behind what its parts were left as.
-use Rattle.std.proofs.Common.{◌≡◌, ℕ, zero, suc, Bool, true, false, List, [], ◌∷◌, ◌++◌, length, Option, Some, Result, Ok, Err, cond, refl, sym, ap, ap₂, ◌∙◌}
+use Rattle.std.proofs.Common.{◌≡◌, ℕ, zero, suc, Bool, true, false, List, [], ◌∷◌, ◌++◌, length, Option, Some, Result, Ok, Err, cond, refl, sym, ap}
+use Rattle.std.proofs.Common.{ap₂, ◌∙◌}
 use Rattle.std.specs.Prelude.{OnOk, OnErr, slice_get, slice_set}
 use Rattle.std.proofs.lemmas.List.{append-nil}
 use Rattle.std.proofs.lemmas.Option.{same_Some}
@@ -24,45 +25,54 @@ module _ (H : List ℕ → Digest) (text : Leaf → List ℕ) (w : WorldState) w
   none_sent false = sym (append-nil w.sent)
 
   rolled : (count : ℕ) (bridge : BridgeState) (chain : List ℕ) → let e = event_in (RollbackCame count) in
-      bridge ≡ next_bridge H text w.bridge e → chain ≡ chain_after (verdict_on w.bridge e) (suc (length w.sent)) w.chain → record w { bridge = bridge; chain = chain } ≡ with_event H text w (RollbackCame count)
+      bridge ≡ next_bridge H text w.bridge e → chain ≡ chain_after (verdict_on w.bridge e) (suc (length w.sent)) w.chain
+      → record w { bridge = bridge; chain = chain } ≡ with_event H text w (RollbackCame count)
   rolled count bridge chain p q =
       let e = event_in (RollbackCame count) in
       let made = λ (b : BridgeState) (c : List ℕ) (s : List Sent). let v : WorldState = record w { bridge = b; sent = s; chain = c } in v in
-      ap₂ (λ b c. made b c w.sent) p q ∙ ap (made (next_bridge H text w.bridge e) (chain_after (verdict_on w.bridge e) (suc (length w.sent)) w.chain)) (none_sent (is_accepted (verdict_on w.bridge e)))
+      ap₂ (λ b c. made b c w.sent) p q ∙ ap (made (next_bridge H text w.bridge e) (chain_after (verdict_on w.bridge e) (suc (length w.sent)) w.chain))
+      (none_sent (is_accepted (verdict_on w.bridge e)))
 
   pub rolled_ok : {T E : Type 0} (r : Result T E) (count : ℕ) (bridge : BridgeState) (chain : List ℕ) → let e = event_in (RollbackCame count) in
-      OnOk r (bridge ≡ next_bridge H text w.bridge e) → ((serial : ℕ) → OnOk r (chain ≡ chain_after (verdict_on w.bridge e) serial w.chain)) → OnOk r (record w { bridge = bridge; chain = chain } ≡ with_event H text w (RollbackCame count))
+      OnOk r (bridge ≡ next_bridge H text w.bridge e) → ((serial : ℕ) → OnOk r (chain ≡ chain_after (verdict_on w.bridge e) serial w.chain))
+      → OnOk r (record w { bridge = bridge; chain = chain } ≡ with_event H text w (RollbackCame count))
   rolled_ok (Ok x) count bridge chain p q = rolled count bridge chain p (q (suc (length w.sent)))
   rolled_ok (Err e) count bridge chain p q = tt
 
   -- a follower took a reply
-  handed : (f : ℕ) (x y : FollowerState) (r : Reply) (j : ℕ) → slice_get w.followers f ≡ Some x → slice_get w.replies j ≡ Some r → y ≡ cond (applies r x) (moved H text w.sent r.kind x) x →
+  handed : (f : ℕ) (x y : FollowerState) (r : Reply) (j : ℕ) → slice_get w.followers f ≡ Some x → slice_get w.replies j ≡ Some r
+      → y ≡ cond (applies r x) (moved H text w.sent r.kind x) x →
       record w { followers = slice_set w.followers f y } ≡ with_moved H text w f (slice_get w.followers f) (slice_get w.replies j)
   handed f x y r j at_f at_j is =
       let made = λ (xs : List FollowerState). let v : WorldState = record w { followers = xs } in v in
       ap (λ z. made (slice_set w.followers f z)) is ∙ (ap made (by (applies r x)) ∙ ap₂ (λ a b. with_moved H text w f a b) (sym at_f) (sym at_j))
     where
-      by : (b : Bool) → slice_set w.followers f (cond b (moved H text w.sent r.kind x) x) ≡ cond b (slice_set w.followers f (moved H text w.sent r.kind x)) w.followers
+      by : (b : Bool) → slice_set w.followers f (cond b (moved H text w.sent r.kind x) x)
+          ≡ cond b (slice_set w.followers f (moved H text w.sent r.kind x)) w.followers
       by true = refl
       by false = set_same w.followers f x at_f
 
-  pub handed_ok : {T E : Type 0} (a : Result T E) (f : ℕ) (x y : FollowerState) (r : Reply) (j : ℕ) → slice_get w.followers f ≡ Some x → slice_get w.replies j ≡ Some r → OnOk a (y ≡ cond (applies r x) (moved H text w.sent r.kind x) x) →
+  pub handed_ok : {T E : Type 0} (a : Result T E) (f : ℕ) (x y : FollowerState) (r : Reply) (j : ℕ) → slice_get w.followers f ≡ Some x
+      → slice_get w.replies j ≡ Some r → OnOk a (y ≡ cond (applies r x) (moved H text w.sent r.kind x) x) →
       OnOk a (record w { followers = slice_set w.followers f y } ≡ with_moved H text w f (slice_get w.followers f) (slice_get w.replies j))
   handed_ok (Ok z) f x y r j at_f at_j h = handed f x y r j at_f at_j h
   handed_ok (Err e) f x y r j at_f at_j h = tt
 
-  pub handed_err : {T E : Type 0} (a : Result T E) (f : ℕ) (x y : FollowerState) → slice_get w.followers f ≡ Some x → OnErr a (y ≡ x) → OnErr a (record w { followers = slice_set w.followers f y } ≡ w)
+  pub handed_err : {T E : Type 0} (a : Result T E) (f : ℕ) (x y : FollowerState) → slice_get w.followers f ≡ Some x → OnErr a (y ≡ x)
+      → OnErr a (record w { followers = slice_set w.followers f y } ≡ w)
   handed_err (Ok z) f x y at_f h = tt
   handed_err (Err e) f x y at_f h =
       let made = λ (xs : List FollowerState). let v : WorldState = record w { followers = xs } in v in
       ap (λ z. made (slice_set w.followers f z)) h ∙ ap made (set_same w.followers f x at_f)
 
   -- the bridge handled a block
-  pub taken_ok : {T E : Type 0} (r : Result T E) (bytes : List ℕ) (message : Option (List ℕ)) (bridge : BridgeState) (sent : List Sent) (chain : List ℕ) →
+  pub taken_ok : {T E : Type 0} (r : Result T E) (bytes : List ℕ) (message : Option (List ℕ)) (bridge : BridgeState) (sent : List Sent)
+      (chain : List ℕ) →
       let event = BlockCame bytes message in
       let e = event_in event in
       OnOk r (bridge ≡ next_bridge H text w.bridge e) → OnOk r (sent ≡ sent_after (verdict_on w.bridge e) event (message_on H w.bridge e) w.sent) →
-      OnOk r (chain ≡ chain_after (verdict_on w.bridge e) (suc (length w.sent)) w.chain) → OnOk r (record w { bridge = bridge; sent = sent; chain = chain } ≡ with_event H text w event)
+      OnOk r (chain ≡ chain_after (verdict_on w.bridge e) (suc (length w.sent)) w.chain)
+      → OnOk r (record w { bridge = bridge; sent = sent; chain = chain } ≡ with_event H text w event)
   taken_ok (Ok x) bytes message bridge sent chain p q s =
       let event = BlockCame bytes message in
       let e = event_in event in
@@ -70,7 +80,8 @@ module _ (H : List ℕ → Digest) (text : Leaf → List ℕ) (w : WorldState) w
       ap₂ (λ b c. made b c sent) p s ∙ ap (made (next_bridge H text w.bridge e) (chain_after (verdict_on w.bridge e) (suc (length w.sent)) w.chain)) q
   taken_ok (Err e) bytes message bridge sent chain p q s = tt
 
-  pub taken_err : {T E : Type 0} (r : Result T E) (bridge : BridgeState) (sent : List Sent) (chain : List ℕ) → OnErr r (bridge ≡ w.bridge) → OnErr r (sent ≡ w.sent) → OnErr r (chain ≡ w.chain) →
+  pub taken_err : {T E : Type 0} (r : Result T E) (bridge : BridgeState) (sent : List Sent) (chain : List ℕ) → OnErr r (bridge ≡ w.bridge)
+      → OnErr r (sent ≡ w.sent) → OnErr r (chain ≡ w.chain) →
       OnErr r (record w { bridge = bridge; sent = sent; chain = chain } ≡ w)
   taken_err (Ok x) bridge sent chain p q s = tt
   taken_err (Err e) bridge sent chain p q s =

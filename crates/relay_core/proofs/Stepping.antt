@@ -1,5 +1,6 @@
 -- What a step leaves, from what it answers.
-use Rattle.std.proofs.Common.{◌≡◌, ℕ, ◌+◌, ◌≤◌, Bool, true, false, List, [], ◌∷◌, ◌++◌, length, Option, Some, None, Result, Ok, Err, cond, sym, subst, arith}
+use Rattle.std.proofs.Common.{◌≡◌, ℕ, ◌+◌, ◌≤◌, Bool, true, false, List, [], ◌∷◌, ◌++◌, length, Option, Some, None, Result, Ok, Err, cond, sym, subst}
+use Rattle.std.proofs.Common.{arith}
 use Rattle.std.specs.Prelude.{IfOk, OnOk, OnErr, slice_get}
 use Rattle.std.proofs.lemmas.List.{length-append}
 use Rattle.uo_base.specs.FeedEvent.{FeedEvent, BlockCame, RollbackCame, StrayCame}
@@ -48,7 +49,8 @@ module _ (H : List ℕ → Digest) (text : Leaf → List ℕ) where
       by (Some x) = omega arith
   given_one w (ReplyDelivered f j) = omega arith
 
-  pub counted : {T E : Type 0} (r : Result T E) (w v : WorldState) (act : WorldAct) → OnOk r (v ≡ next_world H text w act) → OnErr r (v ≡ w) → length v.sent ≤ length w.sent + 1
+  pub counted : {T E : Type 0} (r : Result T E) (w v : WorldState) (act : WorldAct) → OnOk r (v ≡ next_world H text w act) → OnErr r (v ≡ w)
+      → length v.sent ≤ length w.sent + 1
   counted r w v act next stays =
       either r (v ≡ next_world H text w act) (v ≡ w) (length v.sent ≤ length w.sent + 1) next stays
       (λ is. subst (λ u. length u.sent ≤ length w.sent + 1) (sym is) (given_one w act))
@@ -56,16 +58,20 @@ module _ (H : List ℕ → Digest) (text : Leaf → List ℕ) where
 
   pub stands_on : (w v : WorldState) (act : WorldAct) → AreActBytes act → v ≡ next_world H text w act →
       (begun : Begun) (acts : List WorldAct) → StandsForActs H text begun acts w → StandsForActs H text begun (acts ++ act ∷ []) v
-  stands_on w v act are is begun acts stands = subst (StandsForActs H text begun (acts ++ act ∷ [])) (sym is) ((acts_are_followed H text begun).1 acts w act are stands)
+  stands_on w v act are is begun acts stands =
+      subst (StandsForActs H text begun (acts ++ act ∷ [])) (sym is) ((acts_are_followed H text begun).1 acts w act are stands)
 
   pub branches_on : Digests H → (w v : WorldState) (act : WorldAct) → AreActBytes act → v ≡ next_world H text w act →
       (begun : Begun) (acts : List WorldAct) → StandsForActs H text begun acts w → AreOnBranches H text begun (acts ++ act ∷ []) v
-  branches_on long w v act are is begun acts stands = followers_are_on_branches H text long begun (acts ++ act ∷ []) v (stands_on w v act are is begun acts stands)
+  branches_on long w v act are is begun acts stands =
+      followers_are_on_branches H text long begun (acts ++ act ∷ []) v (stands_on w v act are is begun acts stands)
 
-  pub never_against : Digests H → (w : WorldState) (begun : Begun) (acts : List WorldAct) → StandsForActs H text begun acts w → IsNeverRefused H text w
+  pub never_against : Digests H → (w : WorldState) (begun : Begun) (acts : List WorldAct) → StandsForActs H text begun acts w
+      → IsNeverRefused H text w
   never_against long w begun acts stands = replies_are_never_refused H text long begun acts w stands
 
-  pub told_on : {E : Type 0} (r : Result Outcome E) (w v : WorldState) (act : WorldAct) → IfOk r (λ o. o ≡ outcome_on w act) → OnOk r (v ≡ next_world H text w act) → IfOk r (λ o. ChangesAsTold o w v)
+  pub told_on : {E : Type 0} (r : Result Outcome E) (w v : WorldState) (act : WorldAct) → IfOk r (λ o. o ≡ outcome_on w act)
+      → OnOk r (v ≡ next_world H text w act) → IfOk r (λ o. ChangesAsTold o w v)
   told_on (Ok o) w v act is next =
       subst (λ p. ChangesAsTold p w v) (sym is) (subst (ChangesAsTold (outcome_on w act) w) (sym next) (outcomes_tell_changes H text w act))
   told_on (Err e) w v act is next = tt

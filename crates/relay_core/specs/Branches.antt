@@ -1,5 +1,6 @@
 -- The branches of the bridge, and what holds of followers beside them, whatever the digest function and the leaf text.
-use Rattle.std.specs.Prelude.{◌≡◌, ℕ, ◌<◌, ◌≤◌, ◌^◌, nat_le, true, List, [], ◌∷◌, ◌++◌, map, length, slice_get, Option, Some, None, option_map, if◌then◌else◌}
+use Rattle.std.specs.Prelude.{◌≡◌, ℕ, ◌<◌, ◌≤◌, ◌^◌, nat_le, true, List, [], ◌∷◌, ◌++◌, map, length, slice_get, Option, Some, None, option_map}
+use Rattle.std.specs.Prelude.{if◌then◌else◌}
 use Rattle.std.specs.List.{AllByRecursion, AllZip}
 use Rattle.uo_base.specs.declared.event.Limits.{Limits}
 use Rattle.uo_base.specs.declared.event.Net.{Net}
@@ -82,11 +83,13 @@ pub record StandsForActs (H : List ℕ → Digest) (text : Leaf → List ℕ) (b
 
 -- the newest serial of a follower was given, or is 0; the follower has the chain of its branch, and stands in roots and cache, with its own
 -- watch list, for all outputs of the proving node after this branch
-pub record IsOnBranch (H : List ℕ → Digest) (text : Leaf → List ℕ) (begun : Begun) (acts : List WorldAct) (scripts : List (List ℕ)) (x : FollowerState) : Type 0 where
+pub record IsOnBranch (H : List ℕ → Digest) (text : Leaf → List ℕ) (begun : Begun) (acts : List WorldAct) (scripts : List (List ℕ))
+    (x : FollowerState) : Type 0 where
   pub given : newest_of x.serials ≤ length (world_after H text (begun_world begun) acts).sent
   pub blocks : x.node.newest.chain.blocks ≡ length (branch H text (begun_world begun) acts (newest_of x.serials))
   pub tip : x.node.newest.chain.tip ≡ tip_of (branch H text (begun_world begun) acts (newest_of x.serials))
-  pub stands : LevelStands H text scripts (level_after_all (rules_of begun) (branch H text (begun_world begun) acts (newest_of x.serials))) x.node.newest
+  pub stands : LevelStands H text scripts (level_after_all (rules_of begun) (branch H text (begun_world begun) acts (newest_of x.serials)))
+      x.node.newest
   pub watch : x.node.scripts ≡ scripts
 
 -- each follower is
@@ -110,7 +113,8 @@ OneSerialOneChain = (H : List ℕ → Digest) (text : Leaf → List ℕ) → Dig
 
 -- a reply that applies is not refused by the node: it accepts the block, or goes back
 abbrev pub IsNeverRefused : (List ℕ → Digest) → (Leaf → List ℕ) → WorldState → Type 0
-IsNeverRefused H text w = (f j : ℕ) (x : FollowerState) (r : Reply) → slice_get w.followers f ≡ Some x → slice_get w.replies j ≡ Some r → applies r x ≡ true →
+IsNeverRefused H text w = (f j : ℕ) (x : FollowerState) (r : Reply) → slice_get w.followers f ≡ Some x → slice_get w.replies j ≡ Some r
+    → applies r x ≡ true →
     is_made (Some (verdict_on H text x.node (event_in (event_for w.sent r.kind)))) ≡ true
 
 abbrev pub RepliesAreNeverRefused : Type 0
@@ -121,4 +125,5 @@ RepliesAreNeverRefused = (H : List ℕ → Digest) (text : Leaf → List ℕ) �
 abbrev pub ActsAreFollowed : Type 0
 ActsAreFollowed = (H : List ℕ → Digest) (text : Leaf → List ℕ) (begun : Begun) →
     (begun.limits.leaves < 2 ^ 40 → begun.limits.bytes ≤ 2 ^ 48 → StandsForActs H text begun [] (begun_world begun))
-    × ((acts : List WorldAct) (w : WorldState) (act : WorldAct) → AreActBytes act → StandsForActs H text begun acts w → StandsForActs H text begun (acts ++ act ∷ []) (next_world H text w act))
+    × ((acts : List WorldAct) (w : WorldState) (act : WorldAct) → AreActBytes act → StandsForActs H text begun acts w
+    → StandsForActs H text begun (acts ++ act ∷ []) (next_world H text w act))

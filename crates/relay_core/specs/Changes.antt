@@ -32,4 +32,5 @@ pub record ChangesAsTold (o : Outcome) (w w' : WorldState) : Type 0 where
   pub followers : moves_node o ≡ false → w'.followers ≡ w.followers
 
 abbrev pub OutcomesTellChanges : Type 0
-OutcomesTellChanges = (H : List ℕ → Digest) (text : Leaf → List ℕ) (w : WorldState) (act : WorldAct) → ChangesAsTold (outcome_on w act) w (next_world H text w act)
+OutcomesTellChanges = (H : List ℕ → Digest) (text : Leaf → List ℕ) (w : WorldState) (act : WorldAct)
+    → ChangesAsTold (outcome_on w act) w (next_world H text w act)

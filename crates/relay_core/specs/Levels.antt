@@ -11,7 +11,8 @@ use Rattle.relay_core.specs.Branches.{Digests, Begun, rules_of, begun_world, bra
 -- a follower has a serial for each of its levels, and each level stands for all outputs of the proving node after the branch of its serial
 abbrev pub HasLevelsOf : (List ℕ → Digest) → (Leaf → List ℕ) → Begun → List WorldAct → FollowerState → Type 0
 HasLevelsOf H text begun acts x =
-    AllZip (λ s l. LevelStands H text x.node.scripts (level_after_all (rules_of begun) (branch H text (begun_world begun) acts s)) l) x.serials (x.node.newest ∷ x.node.older)
+    AllZip (λ s l. LevelStands H text x.node.scripts (level_after_all (rules_of begun) (branch H text (begun_world begun) acts s)) l) x.serials
+    (x.node.newest ∷ x.node.older)
 
 abbrev pub SerialsAreOfLevels : Type 0
 SerialsAreOfLevels = (H : List ℕ → Digest) (text : Leaf → List ℕ) → Digests H → (begun : Begun) (acts : List WorldAct) (w : WorldState) →

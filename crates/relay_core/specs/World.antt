@@ -1,5 +1,6 @@
 -- A world of one bridge and many followers, what is answered to an act in it, and what it is then.
-use Rattle.std.specs.Prelude.{ℕ, zero, suc, ◌==◌, nat_le, Bool, true, false, ◌&&◌, ◌||◌, List, [], ◌∷◌, ◌++◌, map, take, drop, length, slice_get, slice_set, Option, Some, None, option_map, if◌then◌else◌}
+use Rattle.std.specs.Prelude.{ℕ, zero, suc, ◌==◌, nat_le, Bool, true, false, ◌&&◌, ◌||◌, List, [], ◌∷◌, ◌++◌, map, take, drop, length, slice_get}
+use Rattle.std.specs.Prelude.{slice_set, Option, Some, None, option_map, if◌then◌else◌}
 use Rattle.uo_base.specs.declared.event.Limits.{Limits}
 use Rattle.uo_base.specs.declared.event.Net.{Net}
 use Rattle.uo_base.specs.FeedEvent.{FeedEvent, BlockCame, RollbackCame, StrayCame}
@@ -179,7 +180,8 @@ serials_after Lost serials = serials
 abbrev pub moved : (List ℕ → Digest) → (Leaf → List ℕ) → List Sent → Kind → FollowerState → FollowerState
 moved H text sent kind x = record { node = next_node H text x.node (event_in (event_for sent kind)); serials = serials_after kind x.serials }
 
-abbrev pub followers_after : (List ℕ → Digest) → (Leaf → List ℕ) → List Sent → List FollowerState → ℕ → Option FollowerState → Option Reply → List FollowerState
+abbrev pub followers_after : (List ℕ → Digest) → (Leaf → List ℕ) → List Sent → List FollowerState → ℕ → Option FollowerState → Option Reply
+    → List FollowerState
 followers_after H text sent followers f None r = followers
 followers_after H text sent followers f (Some x) None = followers
 followers_after H text sent followers f (Some x) (Some r) = if applies r x then slice_set followers f (moved H text sent r.kind x) else followers

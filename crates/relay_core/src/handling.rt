@@ -1,5 +1,6 @@
 //! The bridge handles an event.
-ghost use Rattle.std.specs.Prelude.{◌≡◌, ◌<◌, ◌≤◌, ◌^◌, ◌++◌, ◌∷◌, [], ℕ, suc, length, map, reverse, take, drop, option_map, option_copied, IfOk, OnOk, OnErr};
+ghost use Rattle.std.specs.Prelude.{◌≡◌, ◌<◌, ◌≤◌, ◌^◌, ◌++◌, ◌∷◌, [], ℕ, suc, length, map, reverse, take, drop, option_map, option_copied, IfOk};
+ghost use Rattle.std.specs.Prelude.{OnOk, OnErr};
 ghost use Rattle.std.specs.Vec.{vec_len, vec_capacity};
 ghost use Rattle.uo_base.specs.FeedEvent as Feed;
 ghost use Rattle.leaf_record.specs.Leaf.{leaf_text};
@@ -30,9 +31,13 @@ pub(crate) fn take_block<D: Digester, L: Ledger>(
     requires short { length block.now < 2 ^ 32 }
     requires rising { IsRising (length sent.old.items) chain.old.items }
     ensures verdict { let e = event_in (Feed.BlockCame block.now (option_copied message.entry)) in IfOk result (λ v. v ≡ verdict_on bridge.old e) }
-    ensures bridge { let e = event_in (Feed.BlockCame block.now (option_copied message.entry)) in OnOk result (bridge.new ≡ next_bridge D.digest_of leaf_text bridge.old e) }
-    ensures sent { let event = Feed.BlockCame block.now (option_copied message.entry) in OnOk result (sent.new.items ≡ sent_after (verdict_on bridge.old (event_in event)) event (message_on D.digest_of bridge.old (event_in event)) sent.old.items) }
-    ensures chain { let e = event_in (Feed.BlockCame block.now (option_copied message.entry)) in OnOk result (reverse chain.new.items ≡ chain_after (verdict_on bridge.old e) (suc (length sent.old.items)) (reverse chain.old.items)) }
+    ensures bridge { let e = event_in (Feed.BlockCame block.now (option_copied message.entry)) in
+        OnOk result (bridge.new ≡ next_bridge D.digest_of leaf_text bridge.old e) }
+    ensures sent { let event = Feed.BlockCame block.now (option_copied message.entry) in
+        OnOk result (sent.new.items ≡ sent_after (verdict_on bridge.old (event_in event)) event (message_on D.digest_of bridge.old (event_in event))
+        sent.old.items) }
+    ensures chain { let e = event_in (Feed.BlockCame block.now (option_copied message.entry)) in
+        OnOk result (reverse chain.new.items ≡ chain_after (verdict_on bridge.old e) (suc (length sent.old.items)) (reverse chain.old.items)) }
     ensures rising { IsRising (length sent.new.items) chain.new.items }
     ensures bridge_stays { OnErr result (bridge.new ≡ bridge.old) }
     ensures sent_stays { OnErr result (sent.new.items ≡ sent.old.items) }
@@ -74,7 +79,8 @@ pub(crate) fn roll_back<D: Digester, L: Ledger>(
     requires { IsRising given chain.old.items }
     ensures verdict { IfOk result (λ v. v ≡ verdict_on bridge.old (event_in (Feed.RollbackCame count))) }
     ensures bridge { OnOk result (bridge.new ≡ next_bridge D.digest_of leaf_text bridge.old (event_in (Feed.RollbackCame count))) }
-    ensures chain { (serial : ℕ) → OnOk result (reverse chain.new.items ≡ chain_after (verdict_on bridge.old (event_in (Feed.RollbackCame count))) serial (reverse chain.old.items)) }
+    ensures chain { (serial : ℕ) → OnOk result
+        (reverse chain.new.items ≡ chain_after (verdict_on bridge.old (event_in (Feed.RollbackCame count))) serial (reverse chain.old.items)) }
     ensures rising { IsRising given chain.new.items }
     ensures bridge_stays { OnErr result (bridge.new ≡ bridge.old) }
     ensures chain_stays { OnErr result (chain.new.items ≡ chain.old.items) }

@@ -1,5 +1,6 @@
 //! Serials of a chain, of which the newest stands last.
-ghost use Rattle.std.specs.Prelude.{◌≡◌, ◌+◌, ◌<◌, ◌≤◌, ℕ, ◌∷◌, length, take, drop, reverse, slice_get, slice_index, Some, None, false, is_some, IfSome, OnErr};
+ghost use Rattle.std.specs.Prelude.{◌≡◌, ◌+◌, ◌<◌, ◌≤◌, ℕ, ◌∷◌, length, take, drop, reverse, slice_get, slice_index, Some, None, false, is_some};
+ghost use Rattle.std.specs.Prelude.{IfSome, OnErr};
 ghost use Rattle.std.specs.Vec.{vec_len, vec_capacity};
 ghost use Rattle.relay_core.specs.World.{newest_of, is_on, met_at, after_on, next_or_same, reply_to};
 ghost use Rattle.relay_core.specs.Rising.{IsRising};

@@ -1,5 +1,6 @@
 //! A world.
-ghost use Rattle.std.specs.Prelude.{◌≡◌, ◌+◌, ◌<◌, ◌≤◌, ◌^◌, ◌++◌, ◌∷◌, [], ℕ, suc, length, map, reverse, slice_get, slice_set, option_map, option_copied, if◌then◌else◌, ◌-◌, List, Some, IfOk, OnOk, OnErr};
+ghost use Rattle.std.specs.Prelude.{◌≡◌, ◌+◌, ◌<◌, ◌≤◌, ◌^◌, ◌++◌, ◌∷◌, [], ℕ, suc, length, map, reverse, slice_get, slice_set, option_map};
+ghost use Rattle.std.specs.Prelude.{option_copied, if◌then◌else◌, ◌-◌, List, Some, IfOk, OnOk, OnErr};
 ghost use Rattle.uo_base.specs.Reading.{IsBytes};
 ghost use Rattle.uo_base.specs.FeedEvent as Feed;
 ghost use Rattle.uo_base.specs.FeedEvent.{event_of};
@@ -26,8 +27,8 @@ use std::sync::ledger::Ledger;
 use uo_base::{Event, Limits, Net, NoMemory};
 use uo_digest::{Digester, Steps};
 
-/// One bridge and its followers, with all that was asked and answered, by the digester `D`. Each block that the bridge accepts gets the next serial, from
-/// 1 on; 0 stands for the chain without blocks. All accepted blocks are kept, with their messages.
+/// One bridge and its followers, with all that was asked and answered, by the digester `D`. Each block that the bridge accepts gets the next serial,
+/// from 1 on; 0 stands for the chain without blocks. All accepted blocks are kept, with their messages.
 #[derive(Drop)]
 pub struct World<D: Digester> {
     alloc: Global,
@@ -48,7 +49,15 @@ impl<D: Digester> Model for World<D> {
 
     ghost Value = { WorldState };
 
-    ghost view = { λ w. record { bridge = w.bridge; sent = w.sent.items; chain = reverse w.chain.items; asks = w.asks.items; replies = w.replies.items; followers = w.followers.items } };
+    ghost view = { λ w. record {
+      bridge = w.bridge;
+      sent = w.sent.items;
+      chain = reverse w.chain.items;
+      asks = w.asks.items;
+      replies =
+          w.replies.items;
+      followers = w.followers.items;
+    } };
 
     ghost invariant = { λ w. IsKept (length w.sent.items) w.chain.items (length w.followers.items) };
 }
@@ -127,7 +136,8 @@ impl<D: Digester> World<D> {
         ensures next { OnOk result (self.new ≡ next_world D.digest_of leaf_text self.old (act_of act.entry)) }
         ensures stays { OnErr result (self.new ≡ self.old) }
 
-        // Each outcome but the verdict on a block that is accepted or a rollback that is made leaves the bridge as it was, and each but `Moved` the nodes.
+        // Each outcome but the verdict on a block that is accepted or a rollback that is made leaves the bridge as it was, and each but `Moved` the
+        // nodes.
         ensures told { IfOk result (λ o. ChangesAsTold o self.old self.new) }
 
         // At most one serial is given.
@@ -135,9 +145,12 @@ impl<D: Digester> World<D> {
 
         // Where it stands for some acts, it stands for these and this one then, each follower is on the branch of its newest serial, and no
         // reply that applies is refused.
-        ensures stands { OnOk result ((begun : Begun) (acts : List WorldAct) → StandsForActs D.digest_of leaf_text begun acts self.old → StandsForActs D.digest_of leaf_text begun (acts ++ act_of act.entry ∷ []) self.new) }
-        ensures branches { OnOk result ((begun : Begun) (acts : List WorldAct) → StandsForActs D.digest_of leaf_text begun acts self.old → AreOnBranches D.digest_of leaf_text begun (acts ++ act_of act.entry ∷ []) self.new) }
-        ensures accepted { (begun : Begun) (acts : List WorldAct) → StandsForActs D.digest_of leaf_text begun acts self.old → IsNeverRefused D.digest_of leaf_text self.old }
+        ensures stands { OnOk result ((begun : Begun) (acts : List WorldAct) → StandsForActs D.digest_of leaf_text begun acts self.old
+            → StandsForActs D.digest_of leaf_text begun (acts ++ act_of act.entry ∷ []) self.new) }
+        ensures branches { OnOk result ((begun : Begun) (acts : List WorldAct) → StandsForActs D.digest_of leaf_text begun acts self.old
+            → AreOnBranches D.digest_of leaf_text begun (acts ++ act_of act.entry ∷ []) self.new) }
+        ensures accepted { (begun : Begun) (acts : List WorldAct) → StandsForActs D.digest_of leaf_text begun acts self.old
+            → IsNeverRefused D.digest_of leaf_text self.old }
     {
         check_bytes(&act);
         self.handle(act, steps)
@@ -273,7 +286,8 @@ fn hand<D: Digester, L: Ledger>(
     steps: &mut Steps<L>,
 ) -> Result<Outcome, NoMemory>
     ensures outcome { IfOk result (λ o. o ≡ delivered (Some follower.old) (Some reply.now)) }
-    ensures next { OnOk result (follower.new ≡ (if applies reply.now follower.old then moved D.digest_of leaf_text sent.now reply.now.kind follower.old else follower.old)) }
+    ensures next { OnOk result (follower.new
+        ≡ (if applies reply.now follower.old then moved D.digest_of leaf_text sent.now reply.now.kind follower.old else follower.old)) }
     ensures stays { OnErr result (follower.new ≡ follower.old) }
 {
     if follower.can_take(reply) {

@@ -1,5 +1,6 @@
 -- What stands before a byte, and what behind it.
-use Rattle.std.proofs.Common.{◌≡◌, ℕ, zero, suc, ◌+◌, ◌-◌, ◌<◌, ◌==◌, Bool, true, false, List, [], ◌∷◌, ◌++◌, length, get_or, take, take_all, drop, Option, Some, None, refl, sym, ap, subst, ◌∙◌, arith, if◌then◌else◌}
+use Rattle.std.proofs.Common.{◌≡◌, ℕ, zero, suc, ◌+◌, ◌-◌, ◌<◌, ◌==◌, Bool, true, false, List, [], ◌∷◌, ◌++◌, length, get_or, take, take_all, drop}
+use Rattle.std.proofs.Common.{Option, Some, None, refl, sym, ap, subst, ◌∙◌, arith, if◌then◌else◌}
 use Rattle.std.proofs.lemmas.Bool.{eq-eqb, eqb-true, eqb-false, ne_eqb, cond-true, cond-false}
 use Rattle.std.proofs.lemmas.List.{length-drop}
 use Rattle.relay_script.specs.Reading.{cut_at, put_byte}
@@ -24,7 +25,8 @@ cut_parts front rest = Some (front, rest)
 abbrev pub one_cut : Bool → ℕ → List ℕ → Option (List ℕ × List ℕ) → Option (List ℕ × List ℕ)
 one_cut t b text x = if t then Some ([], text) else put_byte b x
 
-found_at : (byte : ℕ) (text : List ℕ) (i : ℕ) → i < length text → IsBehind byte text i → get_or text i 0 ≡ byte → cut_at byte text ≡ Some (take i text, drop (suc i) text)
+found_at : (byte : ℕ) (text : List ℕ) (i : ℕ) → i < length text → IsBehind byte text i → get_or text i 0 ≡ byte
+    → cut_at byte text ≡ Some (take i text, drop (suc i) text)
 unfolding cut_at
 found_at byte [] i within before e = absurd (omega (arith, within))
 found_at byte (b ∷ text) zero within before e = cond-true _ _ _ (eq-eqb b byte e)
@@ -32,7 +34,8 @@ found_at byte (b ∷ text) (suc i) within before e =
     cond-false _ _ _ (ne_eqb b byte (before 0 (omega arith)))
     ∙ ap (put_byte b) (found_at byte text i (omega (arith, within)) (λ j few. before (suc j) (omega (arith, few))) e)
 
-pub found_here : (byte : ℕ) (text : List ℕ) (i : ℕ) → i < length text → IsBehind byte text i → get_or text i 0 ≡ byte → Some (take i text, take (length text - (i + 1)) (drop (i + 1) text)) ≡ cut_at byte text
+pub found_here : (byte : ℕ) (text : List ℕ) (i : ℕ) → i < length text → IsBehind byte text i → get_or text i 0 ≡ byte
+    → Some (take i text, take (length text - (i + 1)) (drop (i + 1) text)) ≡ cut_at byte text
 found_here byte text i within before e =
     let next : i + 1 ≡ suc i = omega arith in
     let whole = take_all (length text - (i + 1)) (drop (i + 1) text) (omega (arith, length-drop (i + 1) text)) in

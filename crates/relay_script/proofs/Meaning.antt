@@ -1,5 +1,6 @@
 -- What is read of a text is what it means.
-use Rattle.std.proofs.Common.{◌≡◌, ℕ, zero, suc, ◌-◌, ◌<◌, ◌≤◌, ◌^◌, ◌==◌, Bool, true, false, List, [], ◌∷◌, ◌++◌, length, codes, decimal, bytes_eq, Option, Some, None, option_map, Result, Ok, Err, refl, sym, ap, ap₂, subst, ◌∙◌, arith, if◌then◌else◌, append_assoc}
+use Rattle.std.proofs.Common.{◌≡◌, ℕ, zero, suc, ◌-◌, ◌<◌, ◌≤◌, ◌^◌, ◌==◌, Bool, true, false, List, [], ◌∷◌, ◌++◌, length, codes, decimal, bytes_eq}
+use Rattle.std.proofs.Common.{Option, Some, None, option_map, Result, Ok, Err, refl, sym, ap, ap₂, subst, ◌∙◌, arith, if◌then◌else◌, append_assoc}
 use Rattle.std.specs.Char.{digit_value}
 use Rattle.std.specs.Str.Parse.{AllDigits}
 use Rattle.std.specs.Cmp.Lexicographic.{same_text}
@@ -11,7 +12,8 @@ use Rattle.relay_script.specs.declared.line.ScriptLine.{ScriptLine}
 use Rattle.relay_script.specs.declared.line.ScriptLine.TheVariants.{Bridge, Ask, Serve, Deliver}
 use Rattle.relay_script.specs.declared.script.ScriptFault.{ScriptFault}
 use Rattle.relay_script.specs.Script.{line_text, LineFits, script_text, IsScriptOf, FailsAt, IsReadAs}
-use Rattle.relay_script.specs.Reading.{cut_at, put_byte, follower_in, message_in, delivery_in, act_in, line_in, with_rest, first_line, joined, bad_line, script_from, script_in}
+use Rattle.relay_script.specs.Reading.{cut_at, put_byte, follower_in, message_in, delivery_in, act_in, line_in, with_rest, first_line, joined}
+use Rattle.relay_script.specs.Reading.{bad_line, script_from, script_in}
 use Rattle.relay_script.proofs.Cutting.{is_whole}
 use Rattle.relay_script.proofs.Reading.{line_cut, pair_is, reads_line, reads_none, is_shorter}
 
@@ -57,7 +59,8 @@ line_without Bridge fits = (refl, (refl, (refl, (refl, (refl, (refl, tt))))))
 line_without (Ask follower) fits = (refl, (refl, (refl, (refl, (number_without follower (omega (arith, fits))).0))))
 line_without (Serve ask) fits = (refl, (refl, (refl, (refl, (refl, (refl, (number_without ask fits).0))))))
 line_without (Deliver follower reply) fits =
-    let two = both_without 10 (decimal follower) (32 ∷ decimal reply) (number_without follower (omega (arith, fits.0))).0 (refl, (number_without reply fits.1).0) in
+    let two = both_without 10 (decimal follower) (32 ∷ decimal reply) (number_without follower (omega (arith, fits.0))).0
+    (refl, (number_without reply fits.1).0) in
     (refl, (refl, (refl, (refl, (refl, (refl, (refl, (refl, two))))))))
 
 abbrev delivery_cut : Option (List ℕ × List ℕ) → Option ScriptLine
@@ -71,7 +74,8 @@ line_again (Ask follower) fits = ap (option_map Ask) (number_again (2 ^ 32 - 1) 
 line_again (Serve ask) fits = ap (option_map Serve) (number_again (2 ^ 64 - 1) ask (omega (arith, fits)) fits)
 line_again (Deliver follower reply) fits =
     ap delivery_cut (cut_again 32 (decimal follower) (decimal reply) (number_without follower (omega (arith, fits.0))).1)
-    ∙ ap (λ x. x >>= λ f. option_map (Deliver f) (message_in (decimal reply))) (number_again (2 ^ 32 - 1) follower (omega (arith, fits.0)) (omega (arith, fits.0)))
+    ∙ ap (λ x. x >>= λ f. option_map (Deliver f) (message_in (decimal reply)))
+    (number_again (2 ^ 32 - 1) follower (omega (arith, fits.0)) (omega (arith, fits.0)))
     ∙ ap (option_map (Deliver follower)) (number_again (2 ^ 64 - 1) reply (omega (arith, fits.1)) fits.1)
 
 -- a text says a line
@@ -85,14 +89,16 @@ module _ (line : ScriptLine) where
   delivery_is : (words : List ℕ) → delivery_in words ≡ Some line → Says (codes "deliver" ++ 32 ∷ words) line
   delivery_is words e = by (cut_at 32 words) refl e
     where
-      by_reply : (p : List ℕ × List ℕ) → words ≡ p.0 ++ 32 ∷ p.1 → (f : ℕ) → p.0 ≡ decimal f → f < 2 ^ 32 → (y : Option ℕ) → message_in p.1 ≡ y → option_map (Deliver f) y ≡ Some line → Says (codes "deliver" ++ 32 ∷ words) line
+      by_reply : (p : List ℕ × List ℕ) → words ≡ p.0 ++ 32 ∷ p.1 → (f : ℕ) → p.0 ≡ decimal f → f < 2 ^ 32 → (y : Option ℕ) → message_in p.1 ≡ y
+          → option_map (Deliver f) y ≡ Some line → Says (codes "deliver" ++ 32 ∷ words) line
       by_reply p w f is small None r e = absurd cc
       by_reply p w f is small (Some reply) r e =
           let told = number_is (2 ^ 64 - 1) p.1 reply r in
           subst (Says (codes "deliver" ++ 32 ∷ words)) (some_line _ _ e)
           (ap (λ l. codes "deliver" ++ 32 ∷ l) (w ∙ ap₂ (λ a b. a ++ 32 ∷ b) is told.0), (small, omega (arith, told.1)))
 
-      by_follower : (p : List ℕ × List ℕ) → words ≡ p.0 ++ 32 ∷ p.1 → (x : Option ℕ) → follower_in p.0 ≡ x → (x >>= λ f. option_map (Deliver f) (message_in p.1)) ≡ Some line → Says (codes "deliver" ++ 32 ∷ words) line
+      by_follower : (p : List ℕ × List ℕ) → words ≡ p.0 ++ 32 ∷ p.1 → (x : Option ℕ) → follower_in p.0 ≡ x
+          → (x >>= λ f. option_map (Deliver f) (message_in p.1)) ≡ Some line → Says (codes "deliver" ++ 32 ∷ words) line
       by_follower p w None f e = absurd cc
       by_follower p w (Some follower) f e =
           let told = number_is (2 ^ 32 - 1) p.0 follower f in
@@ -124,7 +130,8 @@ module _ (line : ScriptLine) where
   by_name name word words same says = subst (λ w. Says (w ++ 32 ∷ words) line) (sym (same_text _ _ (sym same))) says
 
   -- what is read behind a test
-  by_test : (text : List ℕ) (b : Bool) (x y : Option ScriptLine) → (b ≡ true → x ≡ Some line → Says text line) → (b ≡ false → y ≡ Some line → Says text line) → (if b then x else y) ≡ Some line → Says text line
+  by_test : (text : List ℕ) (b : Bool) (x y : Option ScriptLine) → (b ≡ true → x ≡ Some line → Says text line)
+      → (b ≡ false → y ≡ Some line → Says text line) → (if b then x else y) ≡ Some line → Says text line
   by_test text true x y first second e = first refl e
   by_test text false x y first second e = second refl e
 
@@ -154,7 +161,8 @@ module _ (line : ScriptLine) where
 first_is : (text rest : List ℕ) (line : ScriptLine) → first_line text ≡ Some (line, rest) → (text ≡ line_text line ++ 10 ∷ rest) × LineFits line
 first_is text rest line e = by (cut_at 10 text) refl e
   where
-    by_line : (p : List ℕ × List ℕ) → cut_at 10 text ≡ Some p → (x : Option ScriptLine) → line_in p.0 ≡ x → with_rest p.1 x ≡ Some (line, rest) → (text ≡ line_text line ++ 10 ∷ rest) × LineFits line
+    by_line : (p : List ℕ × List ℕ) → cut_at 10 text ≡ Some p → (x : Option ScriptLine) → line_in p.0 ≡ x → with_rest p.1 x ≡ Some (line, rest)
+        → (text ≡ line_text line ++ 10 ∷ rest) × LineFits line
     by_line p c None f e = absurd cc
     by_line p c (Some l) f e =
         let says = line_is l p.0 f in
@@ -198,7 +206,8 @@ module _ (n : ℕ) (text : List ℕ) where
     from = omega arith;
   }
 
-  one_line : (rest : List ℕ) (line : ScriptLine) → text ≡ line_text line ++ 10 ∷ rest → LineFits line → (r : Result (List ScriptLine) ScriptFault) → Reads (suc n) rest r → Reads n text (joined (line ∷ []) r)
+  one_line : (rest : List ℕ) (line : ScriptLine) → text ≡ line_text line ++ 10 ∷ rest → LineFits line → (r : Result (List ScriptLine) ScriptFault)
+      → Reads (suc n) rest r → Reads n text (joined (line ∷ []) r)
   unfolding Reads script_text
   one_line rest line is fits (Ok lines) w = record { fit = (fits, w.fit); spelled = is ∙ ap (λ l. line_text line ++ 10 ∷ l) w.spelled }
   one_line rest line is fits (Err fault) w = record {
@@ -220,7 +229,8 @@ reads most n [] few = record { fit = tt; spelled = refl }
 reads zero n (b ∷ text) few = absurd (omega (arith, few))
 reads (suc most) n (b ∷ text) few = by (first_line (b ∷ text)) refl (λ rest short. reads most (suc n) rest short)
   where
-    by : (x : Option (ScriptLine × List ℕ)) → first_line (b ∷ text) ≡ x → ((rest : List ℕ) → length rest ≤ most → Reads (suc n) rest (script_from (suc n) [] rest)) → Reads n (b ∷ text) (script_from n [] (b ∷ text))
+    by : (x : Option (ScriptLine × List ℕ)) → first_line (b ∷ text) ≡ x
+        → ((rest : List ℕ) → length rest ≤ most → Reads (suc n) rest (script_from (suc n) [] rest)) → Reads n (b ∷ text) (script_from n [] (b ∷ text))
     by None e more = subst (Reads n (b ∷ text)) (sym (reads_none n (b ∷ text) (omega arith) e)) (fails_here n (b ∷ text) (omega arith) e)
     by (Some p) e more =
         let is = first_is (b ∷ text) p.1 p.0 e in

@@ -1,5 +1,6 @@
 -- How a script is read, line by line.
-use Rattle.std.proofs.Common.{◌≡◌, ℕ, suc, ◌+◌, ◌<◌, ◌≤◌, ◌^◌, ◌==◌, Bool, true, false, List, [], ◌∷◌, ◌++◌, length, decimal, Option, Some, None, Result, Ok, Err, refl, sym, ap, subst, ◌∙◌, arith, if◌then◌else◌, append-nil, append_assoc, length-append}
+use Rattle.std.proofs.Common.{◌≡◌, ℕ, suc, ◌+◌, ◌<◌, ◌≤◌, ◌^◌, ◌==◌, Bool, true, false, List, [], ◌∷◌, ◌++◌, length, decimal, Option, Some, None}
+use Rattle.std.proofs.Common.{Result, Ok, Err, refl, sym, ap, subst, ◌∙◌, arith, if◌then◌else◌, append-nil, append_assoc, length-append}
 use Rattle.std.specs.Str.{IsUtf8}
 use Rattle.std.proofs.lemmas.Fmt.{IsAscii-decimal}
 use Rattle.std.proofs.lemmas.Str.{IsUtf8-from_ascii}
@@ -8,7 +9,8 @@ use Rattle.command_words.specs.Numbers.{number_in}
 use Rattle.command_words.proofs.NumberLaws.{number_is}
 use Rattle.relay_script.specs.declared.line.ScriptLine.{ScriptLine}
 use Rattle.relay_script.specs.declared.script.ScriptFault.{ScriptFault}
-use Rattle.relay_script.specs.Reading.{cut_at, line_in, with_rest, first_line, joined, bad_line, put, ended, script_from, script_in, lines_told, lines_in, IsScript, IsTaken}
+use Rattle.relay_script.specs.Reading.{cut_at, line_in, with_rest, first_line, joined, bad_line, put, ended, script_from, script_in, lines_told}
+use Rattle.relay_script.specs.Reading.{lines_in, IsScript, IsTaken}
 use Rattle.relay_script.proofs.Cutting.{one_cut, is_whole}
 
 -- ---- numbers
@@ -32,20 +34,25 @@ pub pair_is : {A B : Type 0} (p q : A × B) → ◌≡◌ {A = Option (A × B)} 
 pair_is p q e = cc
 
 module _ (n : ℕ) where
-  by_cut : (text front rest came : List ℕ) → cut_at 10 text ≡ Some (front, rest) → script_from n came text ≡ put (line_in (came ++ front)) n (script_from (suc n) [] rest)
+  by_cut : (text front rest came : List ℕ) → cut_at 10 text ≡ Some (front, rest)
+      → script_from n came text ≡ put (line_in (came ++ front)) n (script_from (suc n) [] rest)
   unfolding cut_at script_from
   by_cut [] front rest came e = absurd cc
   by_cut (b ∷ text) front rest came e = by (b == 10) (cut_at 10 text) refl e (λ p f. by_cut text p.0 p.1 (came ++ b ∷ []) f)
     where
       by : (t : Bool) (x : Option (List ℕ × List ℕ)) → cut_at 10 text ≡ x → one_cut t b text x ≡ Some (front, rest)
-          → ((p : List ℕ × List ℕ) → cut_at 10 text ≡ Some p → script_from n (came ++ b ∷ []) text ≡ put (line_in ((came ++ b ∷ []) ++ p.0)) n (script_from (suc n) [] p.1))
-          → (if t then put (line_in came) n (script_from (suc n) [] text) else script_from n (came ++ b ∷ []) text) ≡ put (line_in (came ++ front)) n (script_from (suc n) [] rest)
+          → ((p : List ℕ × List ℕ) → cut_at 10 text ≡ Some p
+          → script_from n (came ++ b ∷ []) text ≡ put (line_in ((came ++ b ∷ []) ++ p.0)) n (script_from (suc n) [] p.1))
+          → (if t then put (line_in came) n (script_from (suc n) [] text) else script_from n (came ++ b ∷ []) text)
+          ≡ put (line_in (came ++ front)) n (script_from (suc n) [] rest)
       by true x f e more =
-          subst (λ (p : List ℕ × List ℕ). put (line_in came) n (script_from (suc n) [] text) ≡ put (line_in (came ++ p.0)) n (script_from (suc n) [] p.1)) (pair_is _ _ e)
+          subst (λ (p : List ℕ × List ℕ). put (line_in came) n (script_from (suc n) [] text)
+          ≡ put (line_in (came ++ p.0)) n (script_from (suc n) [] p.1)) (pair_is _ _ e)
           (ap (λ l. put (line_in l) n (script_from (suc n) [] text)) (sym (append-nil came)))
       by false None f e more = absurd cc
       by false (Some p) f e more =
-          subst (λ (q : List ℕ × List ℕ). script_from n (came ++ b ∷ []) text ≡ put (line_in (came ++ q.0)) n (script_from (suc n) [] q.1)) (pair_is _ _ e)
+          subst (λ (q : List ℕ × List ℕ). script_from n (came ++ b ∷ []) text ≡ put (line_in (came ++ q.0)) n (script_from (suc n) [] q.1))
+          (pair_is _ _ e)
           (more p f ∙ ap (λ l. put (line_in l) n (script_from (suc n) [] p.1)) (append_assoc came (b ∷ []) p.0))
 
   uncut : (text came : List ℕ) → cut_at 10 text ≡ None → script_from n came text ≡ ended n (came ++ text)
@@ -61,16 +68,19 @@ module _ (n : ℕ) where
       by false None f e more = more f ∙ ap (ended n) (append_assoc came (b ∷ []) text)
 
   -- a text that begins with a line
-  pub reads_line : (text rest : List ℕ) (line : ScriptLine) → first_line text ≡ Some (line, rest) → script_from n [] text ≡ joined (line ∷ []) (script_from (suc n) [] rest)
+  pub reads_line : (text rest : List ℕ) (line : ScriptLine) → first_line text ≡ Some (line, rest)
+      → script_from n [] text ≡ joined (line ∷ []) (script_from (suc n) [] rest)
   reads_line text rest line e = by (cut_at 10 text) refl e
     where
-      by_line : (p : List ℕ × List ℕ) → cut_at 10 text ≡ Some p → (x : Option ScriptLine) → line_in p.0 ≡ x → with_rest p.1 x ≡ Some (line, rest) → script_from n [] text ≡ joined (line ∷ []) (script_from (suc n) [] rest)
+      by_line : (p : List ℕ × List ℕ) → cut_at 10 text ≡ Some p → (x : Option ScriptLine) → line_in p.0 ≡ x → with_rest p.1 x ≡ Some (line, rest)
+          → script_from n [] text ≡ joined (line ∷ []) (script_from (suc n) [] rest)
       by_line p c None f e = absurd cc
       by_line p c (Some l) f e =
           subst (λ (q : ScriptLine × List ℕ). script_from n [] text ≡ joined (q.0 ∷ []) (script_from (suc n) [] q.1)) (pair_is _ _ e)
           (by_cut text p.0 p.1 [] c ∙ ap (λ x. put x n (script_from (suc n) [] p.1)) f)
 
-      by : (x : Option (List ℕ × List ℕ)) → cut_at 10 text ≡ x → line_cut x ≡ Some (line, rest) → script_from n [] text ≡ joined (line ∷ []) (script_from (suc n) [] rest)
+      by : (x : Option (List ℕ × List ℕ)) → cut_at 10 text ≡ x → line_cut x ≡ Some (line, rest)
+          → script_from n [] text ≡ joined (line ∷ []) (script_from (suc n) [] rest)
       by None c e = absurd cc
       by (Some p) c e = by_line p c (line_in p.0) refl e
 
@@ -78,7 +88,8 @@ module _ (n : ℕ) where
   pub reads_none : (text : List ℕ) → 0 < length text → first_line text ≡ None → script_from n [] text ≡ bad_line n
   reads_none text some e = by (cut_at 10 text) refl e
     where
-      by_line : (p : List ℕ × List ℕ) → cut_at 10 text ≡ Some p → (x : Option ScriptLine) → line_in p.0 ≡ x → with_rest p.1 x ≡ None → script_from n [] text ≡ bad_line n
+      by_line : (p : List ℕ × List ℕ) → cut_at 10 text ≡ Some p → (x : Option ScriptLine) → line_in p.0 ≡ x → with_rest p.1 x ≡ None
+          → script_from n [] text ≡ bad_line n
       by_line p c None f e = by_cut text p.0 p.1 [] c ∙ ap (λ x. put x n (script_from (suc n) [] p.1)) f
       by_line p c (Some l) f e = absurd cc
 
@@ -94,7 +105,8 @@ module _ (n : ℕ) where
 pub is_shorter : (text rest : List ℕ) (line : ScriptLine) → first_line text ≡ Some (line, rest) → length rest < length text
 is_shorter text rest line e = by (cut_at 10 text) refl e
   where
-    by_line : (p : List ℕ × List ℕ) → cut_at 10 text ≡ Some p → (x : Option ScriptLine) → with_rest p.1 x ≡ Some (line, rest) → length rest < length text
+    by_line : (p : List ℕ × List ℕ) → cut_at 10 text ≡ Some p → (x : Option ScriptLine) → with_rest p.1 x ≡ Some (line, rest)
+        → length rest < length text
     by_line p c None e = absurd cc
     by_line p c (Some l) e =
         subst (λ (q : ScriptLine × List ℕ). length q.1 < length text) (pair_is _ _ e)
@@ -123,10 +135,12 @@ joined-both front back (Err fault) = refl
 pub begins : (text : List ℕ) → IsReading text text 1
 begins text = record { front = []; is = joined-none (script_in text); few = omega arith }
 
-pub goes_on : (text rest more : List ℕ) (n : ℕ) (line : ScriptLine) → IsReading text rest n → first_line rest ≡ Some (line, more) → IsReading text more (n + 1)
+pub goes_on : (text rest more : List ℕ) (n : ℕ) (line : ScriptLine) → IsReading text rest n → first_line rest ≡ Some (line, more)
+    → IsReading text more (n + 1)
 goes_on text rest more n line w e = record {
   front = w.front ++ line ∷ [];
-  is = w.is ∙ ap (joined w.front) (reads_line n rest more line e) ∙ joined-both w.front (line ∷ []) (script_from (suc n) [] more) ∙ ap (λ k. joined (w.front ++ line ∷ []) (script_from k [] more)) next;
+  is = w.is ∙ ap (joined w.front) (reads_line n rest more line e) ∙ joined-both w.front (line ∷ []) (script_from (suc n) [] more)
+      ∙ ap (λ k. joined (w.front ++ line ∷ []) (script_from k [] more)) next;
   few = omega (arith, w.few, is_shorter rest more line e);
 }
   where
@@ -146,7 +160,8 @@ is_read text (b ∷ rest) n w none = absurd (omega (arith, none))
 
 -- ---- taking a line
 
-put_ok : (m n : ℕ) (x : Option ScriptLine) (r s : Result (List ScriptLine) ScriptFault) (lines : List ScriptLine) → ((k : List ScriptLine) → r ≡ Ok k → s ≡ Ok k) → put x m r ≡ Ok lines → put x n s ≡ Ok lines
+put_ok : (m n : ℕ) (x : Option ScriptLine) (r s : Result (List ScriptLine) ScriptFault) (lines : List ScriptLine)
+    → ((k : List ScriptLine) → r ≡ Ok k → s ≡ Ok k) → put x m r ≡ Ok lines → put x n s ≡ Ok lines
 put_ok m n None r s lines more e = absurd cc
 put_ok m n (Some line) (Err fault) s lines more e = absurd cc
 put_ok m n (Some line) (Ok k) s lines more e = ap (joined (line ∷ [])) (more k refl) ∙ e
@@ -168,10 +183,12 @@ renumbered (b ∷ text) came m n lines e = by (b == 10) e (λ k f. renumbered te
 same_lines : (a b : List ScriptLine) → ◌≡◌ {A = Result (List ScriptLine) ScriptFault} (Ok a) (Ok b) → a ≡ b
 same_lines a b e = cc
 
-pub taken : (text rest : List ℕ) (line : ScriptLine) → IsScript text → first_line text ≡ Some (line, rest) → (lines_in text ≡ line ∷ lines_in rest) × IsScript rest
+pub taken : (text rest : List ℕ) (line : ScriptLine) → IsScript text → first_line text ≡ Some (line, rest) → (lines_in text ≡ line ∷ lines_in rest)
+    × IsScript rest
 taken text rest line w e = by (script_from 2 [] rest) refl (sym (reads_line 1 text rest line e) ∙ w.is)
   where
-    by : (r : Result (List ScriptLine) ScriptFault) → script_from 2 [] rest ≡ r → joined (line ∷ []) r ≡ Ok (lines_in text) → (lines_in text ≡ line ∷ lines_in rest) × IsScript rest
+    by : (r : Result (List ScriptLine) ScriptFault) → script_from 2 [] rest ≡ r → joined (line ∷ []) r ≡ Ok (lines_in text)
+        → (lines_in text ≡ line ∷ lines_in rest) × IsScript rest
     by (Err fault) f e = absurd cc
     by (Ok lines) f e =
         let is : script_in rest ≡ Ok lines = renumbered rest [] 2 1 lines f in

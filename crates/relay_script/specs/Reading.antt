@@ -1,5 +1,6 @@
 -- Scripts, read by computation.
-use Rattle.std.specs.Prelude.{◌≡◌, ℕ, suc, ◌-◌, ◌^◌, ◌==◌, List, [], ◌∷◌, ◌++◌, Option, Some, None, Result, Ok, Err, codes, bytes_eq, option_map, if◌then◌else◌}
+use Rattle.std.specs.Prelude.{◌≡◌, ℕ, suc, ◌-◌, ◌^◌, ◌==◌, List, [], ◌∷◌, ◌++◌, Option, Some, None, Result, Ok, Err, codes, bytes_eq, option_map}
+use Rattle.std.specs.Prelude.{if◌then◌else◌}
 use Rattle.std.specs.Borrow.{Bor}
 use Rattle.uo_base.specs.Reading.{◌>>=◌}
 use Rattle.command_words.specs.Numbers.{number_in}
@@ -68,7 +69,8 @@ ended number (b ∷ came) = bad_line number
 -- the lines of a text from this number on, where some bytes of the first one came before
 unfoldable pub script_from : (number : ℕ) → (came text : List ℕ) → Result (List ScriptLine) ScriptFault
 script_from number came [] = ended number came
-script_from number came (b ∷ text) = if b == 10 then put (line_in came) number (script_from (suc number) [] text) else script_from number (came ++ b ∷ []) text
+script_from number came (b ∷ text) = if b == 10 then put (line_in came) number (script_from (suc number) [] text) else script_from number
+    (came ++ b ∷ []) text
 
 abbrev pub script_in : List ℕ → Result (List ScriptLine) ScriptFault
 script_in text = script_from 1 [] text

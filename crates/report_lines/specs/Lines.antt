@@ -7,7 +7,10 @@ use Rattle.report_lines.specs.declared.line.CheckFault.TheVariants as Check
 use Rattle.report_lines.specs.declared.line.ReplyKind.{ReplyKind}
 use Rattle.report_lines.specs.declared.line.ReplyKind.TheVariants.{Next, Same, Back, Lost}
 use Rattle.report_lines.specs.declared.line.Line.{Line}
-use Rattle.report_lines.specs.declared.line.Line.TheVariants.{Verdict as Told, End, Words, FrameMagic, FrameCut, FrameLong, FrameRollback, LimitFeed, PriorForm, PriorVersion, Watch, LimitPrior, LimitWatch, Supply, Clash, Generated, UpgradedFeed, UpgradedState, Ordered, NoTip, Missing, Loop, Ticket, NoTicket, CheckLive, CheckFails, TicketClash, Asked, Replied, Moved, Stale, Unknown, Node, NoEvent, Script}
+use Rattle.report_lines.specs.declared.line.Line.TheVariants.{Verdict as Told, End, Words, FrameMagic, FrameCut, FrameLong, FrameRollback, LimitFeed}
+use Rattle.report_lines.specs.declared.line.Line.TheVariants.{PriorForm, PriorVersion, Watch, LimitPrior, LimitWatch, Supply, Clash, Generated}
+use Rattle.report_lines.specs.declared.line.Line.TheVariants.{UpgradedFeed, UpgradedState, Ordered, NoTip, Missing, Loop, Ticket, NoTicket, CheckLive}
+use Rattle.report_lines.specs.declared.line.Line.TheVariants.{CheckFails, TicketClash, Asked, Replied, Moved, Stale, Unknown, Node, NoEvent, Script}
 use Rattle.block_rules.specs.declared.refusal.ProofRefusal.{ProofRefusal}
 use Rattle.block_rules.specs.declared.refusal.ProofRefusal.TheVariants.{Outside, Repeated, Beneath, HashCount, EmptyRoot, RootDiffers}
 use Rattle.block_rules.specs.declared.refusal.WitnessFault.{WitnessFault}
@@ -66,7 +69,8 @@ abbrev pub verdict_text : Verdict → List ℕ
 verdict_text (Accepted height hash leaves) = codes "accepted " ++ decimal height ++ codes " " ++ hash_text hash ++ codes " " ++ decimal leaves
 verdict_text (Refused height (Some hash) why) = codes "refused " ++ decimal height ++ codes " " ++ hash_text hash ++ codes " " ++ refusal_text why
 verdict_text (Refused height None why) = codes "refused " ++ decimal height ++ codes " - " ++ refusal_text why
-verdict_text (RolledBack count (Some height) hash leaves) = codes "rolledback " ++ decimal count ++ codes " " ++ decimal height ++ codes " " ++ hash_text hash ++ codes " " ++ decimal leaves
+verdict_text (RolledBack count (Some height) hash leaves) = codes "rolledback " ++ decimal count ++ codes " " ++ decimal height ++ codes " "
+    ++ hash_text hash ++ codes " " ++ decimal leaves
 verdict_text (RolledBack count None hash leaves) = codes "rolledback " ++ decimal count ++ codes " - - " ++ decimal leaves
 verdict_text (TooDeep asked kept) = codes "toodeep " ++ decimal asked ++ codes " " ++ decimal kept
 verdict_text Stray = codes "stray"
@@ -92,7 +96,8 @@ tip_text None = codes "- -"
 -- the words of a line
 abbrev pub line_text : Line → List ℕ
 line_text (Told verdict) = verdict_text verdict
-line_text (End events (Some tip) leaves) = codes "end " ++ decimal events ++ codes " " ++ decimal tip.0 ++ codes " " ++ hash_text tip.1 ++ codes " " ++ decimal leaves
+line_text (End events (Some tip) leaves) = codes "end " ++ decimal events ++ codes " " ++ decimal tip.0 ++ codes " " ++ hash_text tip.1 ++ codes " "
+    ++ decimal leaves
 line_text (End events None leaves) = codes "end " ++ decimal events ++ codes " - - " ++ decimal leaves
 line_text (Words at) = codes "words " ++ decimal at
 line_text (FrameMagic offset found) = codes "frame magic " ++ decimal offset ++ codes " " ++ encode_lower found
@@ -124,7 +129,8 @@ line_text (Replied reply kind) = codes "replied " ++ decimal reply ++ codes " " 
 line_text (Moved serial) = with_one (codes "moved") serial
 line_text Stale = codes "stale"
 line_text Unknown = codes "unknown"
-line_text (Node follower serial tip leaves) = codes "node " ++ decimal follower ++ codes " " ++ decimal serial ++ codes " " ++ tip_text tip ++ codes " " ++ decimal leaves
+line_text (Node follower serial tip leaves) = codes "node " ++ decimal follower ++ codes " " ++ decimal serial ++ codes " " ++ tip_text tip
+    ++ codes " " ++ decimal leaves
 line_text NoEvent = codes "bridge none"
 line_text (Script number) = with_one (codes "script") number
 

@@ -1,5 +1,6 @@
 -- A cache that stands for a history is stored as that history is, and is read back.
-use Rattle.std.proofs.Common.{◌≡◌, ℕ, suc, ◌+◌, ◌<◌, ◌^◌, Bool, true, false, cond, List, [], ◌∷◌, map, length, get_or, Option, Some, None, refl, sym, ap, ap₂, ◌∙◌, subst, arith, ⊎_elim}
+use Rattle.std.proofs.Common.{◌≡◌, ℕ, suc, ◌+◌, ◌<◌, ◌^◌, Bool, true, false, cond, List, [], ◌∷◌, map, length, get_or, Option, Some, None, refl, sym}
+use Rattle.std.proofs.Common.{ap, ap₂, ◌∙◌, subst, arith, ⊎_elim}
 use Rattle.std.specs.Prelude.{filter_map, option_map, is_some}
 use Rattle.std.specs.List.{AllByRecursion, AllZip, cons_option}
 use Rattle.std.proofs.lemmas.Bool.{cases_Bool, or_right}
@@ -40,14 +41,18 @@ module _ (H : List ℕ → Digest) (scripts : List (List ℕ)) (us : History) wh
   es = entries H leaf_text us
 
   -- those from entry i on
-  pub entries_from : (i : ℕ) (vs : History) → ((k : ℕ) → get_or vs k None ≡ get_or us (i + k) None) → map entry_of (filter_map (kept_leaf H leaf_text us) (kept_from i scripts vs)) ≡ kept_entries (entry_place es) scripts i vs
+  pub entries_from : (i : ℕ) (vs : History) → ((k : ℕ) → get_or vs k None ≡ get_or us (i + k) None)
+      → map entry_of (filter_map (kept_leaf H leaf_text us) (kept_from i scripts vs)) ≡ kept_entries (entry_place es) scripts i vs
   entries_from i [] at = refl
   entries_from i (v ∷ vs) at =
       let rest = entries_from (suc i) vs (λ k. at (suc k) ∙ ap (λ n. get_or us n None) (let z : i + suc k ≡ suc i + k = omega arith in z)) in
       by_entry v (at 0 ∙ ap (λ n. get_or us n None) (let z : i + 0 ≡ i = omega arith in z)) rest
     where
-      by_place : (leaf : Leaf) → Some leaf ≡ get_or us i None → (q : Option Place) → entry_place es i ≡ q → map entry_of (filter_map (kept_leaf H leaf_text us) (kept_from (suc i) scripts vs)) ≡ kept_entries (entry_place es) scripts (suc i) vs → is_watched scripts (Some leaf) ≡ true
-          → map entry_of (filter_map (kept_leaf H leaf_text us) (i ∷ kept_from (suc i) scripts vs)) ≡ cons_option (kept_entry scripts i q (Some leaf)) (kept_entries (entry_place es) scripts (suc i) vs)
+      by_place : (leaf : Leaf) → Some leaf ≡ get_or us i None → (q : Option Place) → entry_place es i ≡ q
+          → map entry_of (filter_map (kept_leaf H leaf_text us) (kept_from (suc i) scripts vs)) ≡ kept_entries (entry_place es) scripts (suc i) vs
+          → is_watched scripts (Some leaf) ≡ true
+          → map entry_of (filter_map (kept_leaf H leaf_text us) (i ∷ kept_from (suc i) scripts vs))
+          ≡ cons_option (kept_entry scripts i q (Some leaf)) (kept_entries (entry_place es) scripts (suc i) vs)
       by_place leaf e None f rest t = rw (← e, f) rest
       by_place leaf e (Some p) f rest t = rw (← e, f, t) (ap (λ xs. record { number = i; place = p; leaf = leaf } ∷ xs) rest)
 
@@ -59,25 +64,33 @@ module _ (H : List ℕ → Digest) (scripts : List (List ℕ)) (us : History) wh
       none_spent None = refl
       none_spent (Some p) = refl
 
-      by_entry : (u : Option Leaf) → u ≡ get_or us i None → map entry_of (filter_map (kept_leaf H leaf_text us) (kept_from (suc i) scripts vs)) ≡ kept_entries (entry_place es) scripts (suc i) vs
-          → map entry_of (filter_map (kept_leaf H leaf_text us) (cond (is_watched scripts u) (i ∷ kept_from (suc i) scripts vs) (kept_from (suc i) scripts vs))) ≡ cons_option (kept_entry scripts i (entry_place es i) u) (kept_entries (entry_place es) scripts (suc i) vs)
+      by_entry : (u : Option Leaf) → u ≡ get_or us i None → map entry_of (filter_map (kept_leaf H leaf_text us) (kept_from (suc i) scripts vs))
+          ≡ kept_entries (entry_place es) scripts (suc i) vs
+          → map entry_of (filter_map (kept_leaf H leaf_text us) (cond (is_watched scripts u) (i ∷ kept_from (suc i) scripts vs)
+          (kept_from (suc i) scripts vs))) ≡ cons_option (kept_entry scripts i (entry_place es i) u)
+          (kept_entries (entry_place es) scripts (suc i) vs)
       by_entry None e rest = rw (none_spent (entry_place es i)) rest
       by_entry (Some leaf) e rest =
           ⊎_elim
           (λ t. rw t (by_place leaf e (entry_place es i) refl rest t))
-          (λ t. ap (λ b. map entry_of (filter_map (kept_leaf H leaf_text us) (cond b (i ∷ kept_from (suc i) scripts vs) (kept_from (suc i) scripts vs)))) t
+          (λ t. ap (λ b. map entry_of (filter_map (kept_leaf H leaf_text us)
+          (cond b (i ∷ kept_from (suc i) scripts vs) (kept_from (suc i) scripts vs)))) t
           ∙ (rest ∙ sym (ap (λ x. cons_option x (kept_entries (entry_place es) scripts (suc i) vs)) (none_kept leaf (entry_place es i) t))))
           (cases_Bool (is_watched scripts (Some leaf)))
 
   pub same_entries : map entry_of (kept_leaves H leaf_text scripts us) ≡ level_kept H scripts us
   same_entries = entries_from 0 us (λ k. ap (λ n. get_or us n None) (let z : k ≡ 0 + k = omega arith in z))
 
-  leaf_digests : (ns : List ℕ) → map (λ k. k.digest) (filter_map (kept_leaf H leaf_text us) ns) ≡ map (λ k. H (leaf_text k.leaf)) (filter_map (kept_leaf H leaf_text us) ns)
+  leaf_digests : (ns : List ℕ) → map (λ k. k.digest) (filter_map (kept_leaf H leaf_text us) ns)
+      ≡ map (λ k. H (leaf_text k.leaf)) (filter_map (kept_leaf H leaf_text us) ns)
   leaf_digests [] = refl
   leaf_digests (i ∷ ns) = by_one (get_or us i None) (entry_place es i) (leaf_digests ns)
     where
-      by_one : (u : Option Leaf) (q : Option Place) → map (λ k. k.digest) (filter_map (kept_leaf H leaf_text us) ns) ≡ map (λ k. H (leaf_text k.leaf)) (filter_map (kept_leaf H leaf_text us) ns)
-          → map (λ k. k.digest) (cons_option (kept_leaf_of (λ leaf. H (leaf_text leaf)) i u q) (filter_map (kept_leaf H leaf_text us) ns)) ≡ map (λ k. H (leaf_text k.leaf)) (cons_option (kept_leaf_of (λ leaf. H (leaf_text leaf)) i u q) (filter_map (kept_leaf H leaf_text us) ns))
+      by_one : (u : Option Leaf) (q : Option Place) → map (λ k. k.digest) (filter_map (kept_leaf H leaf_text us) ns)
+          ≡ map (λ k. H (leaf_text k.leaf)) (filter_map (kept_leaf H leaf_text us) ns)
+          → map (λ k. k.digest) (cons_option (kept_leaf_of (λ leaf. H (leaf_text leaf)) i u q) (filter_map (kept_leaf H leaf_text us) ns))
+          ≡ map (λ k. H (leaf_text k.leaf)) (cons_option (kept_leaf_of (λ leaf. H (leaf_text leaf)) i u q)
+          (filter_map (kept_leaf H leaf_text us) ns))
       by_one None q rest = rest
       by_one (Some leaf) None rest = rest
       by_one (Some leaf) (Some p) rest = ap (λ ds. H (leaf_text leaf) ∷ ds) rest
@@ -92,10 +105,12 @@ as_somes g (q ∷ qs) = by_one (g q) refl (as_somes g qs)
     by_one None e rest = rw e rest
     by_one (Some d) e rest = rw e (ap (λ ds. d ∷ ds) rest)
 
-map_at : (f g : Place → Option Digest) (ps : List Place) → ((r o : ℕ) → has_place ps r o ≡ true → f (place r o) ≡ g (place r o)) → filter_map f ps ≡ somes (map g ps)
+map_at : (f g : Place → Option Digest) (ps : List Place) → ((r o : ℕ) → has_place ps r o ≡ true → f (place r o) ≡ g (place r o))
+    → filter_map f ps ≡ somes (map g ps)
 map_at f g ps h = filter_map-at f g ps h ∙ as_somes g ps
 
-module _ (H : List ℕ → Digest) (scripts : List (List ℕ)) (c : CachedLevel) (l : Level) (stump : IsStump c.roots) (s : StandsForLevel H scripts c l) where
+module _ (H : List ℕ → Digest) (scripts : List (List ℕ)) (c : CachedLevel) (l : Level) (stump : IsStump c.roots)
+    (s : StandsForLevel H scripts c l) where
   abbrev us' : History
   us' = l.history
 
@@ -112,7 +127,8 @@ module _ (H : List ℕ → Digest) (scripts : List (List ℕ)) (c : CachedLevel)
   few = omega (arith, stump.few, s.roots.leaves)
 
   roots_are : c.roots ≡ stump_of H hist
-  roots_are = one_stump H hist c.roots (stump_of H hist) stump (is_stump H hist few) s.roots (record { leaves = refl; roots = λ row slot. stump_slot H hist row few slot })
+  roots_are = one_stump H hist c.roots (stump_of H hist) stump (is_stump H hist few) s.roots
+      (record { leaves = refl; roots = λ row slot. stump_slot H hist row few slot })
 
   kept_are : map entry_of c.kept ≡ level_kept H scripts l.history
   kept_are = ap (map entry_of) s.cache.of_kept ∙ same_entries H scripts l.history
@@ -123,8 +139,10 @@ module _ (H : List ℕ → Digest) (scripts : List (List ℕ)) (c : CachedLevel)
   at_needed : (r o : ℕ) → has_place (need (length hist) ts) r o ≡ true → look c.held r o ≡ digest_at H hist r o
   at_needed r o h =
       let w = need_had (length hist) ts r o h in
-      let needed : is_needed (length l.history) (kept_places H leaf_text scripts l.history) (place r o) ≡ true = ap₂ (λ (n : ℕ) (qs : List Place). is_needed n qs (place r o)) (sym count) ts_are ∙ w.1 in
-      let known : is_known (length l.history) (kept_places H leaf_text scripts l.history) (place r o) ≡ true = or_right (is_some (cover (kept_places H leaf_text scripts l.history) r o)) _ needed in
+      let needed : is_needed (length l.history) (kept_places H leaf_text scripts l.history) (place r o) ≡ true =
+      ap₂ (λ (n : ℕ) (qs : List Place). is_needed n qs (place r o)) (sym count) ts_are ∙ w.1 in
+      let known : is_known (length l.history) (kept_places H leaf_text scripts l.history) (place r o) ≡ true =
+      or_right (is_some (cover (kept_places H leaf_text scripts l.history) r o)) _ needed in
       known_is H leaf_text scripts l.history c.kept c.held s.cache r o ∙ rw known refl
 
   hashes_are : filter_map (λ p. look c.held p.row p.off) (need (length hist) ts) ≡ digests_at H hist (need (length hist) ts)
@@ -133,30 +151,39 @@ module _ (H : List ℕ → Digest) (scripts : List (List ℕ)) (c : CachedLevel)
   pub same_level : level_in c ≡ level_of H scripts l
   same_level =
       let hashes : (level_in c).hashes ≡ digests_at H hist (need (length hist) ts) =
-      ap₂ (λ (n : ℕ) (ks : List StoredEntry). filter_map (λ p. look c.held p.row p.off) (need n (places_of ks))) s.roots.leaves kept_are ∙ hashes_are in
-      let value = λ (tip : Digest) (f : Stump) (ks : List StoredEntry) (hs : List Digest). let v : LevelValue = record { tip = tip; roots = f; kept = ks; hashes = hs } in v in
+      ap₂ (λ (n : ℕ) (ks : List StoredEntry). filter_map (λ p. look c.held p.row p.off) (need n (places_of ks))) s.roots.leaves kept_are
+      ∙ hashes_are in
+      let value = λ (tip : Digest) (f : Stump) (ks : List StoredEntry) (hs : List Digest). let v : LevelValue =
+      record { tip = tip; roots = f; kept = ks; hashes = hs } in v in
       ap (λ (d : Digest). value d c.roots (map entry_of c.kept) (level_in c).hashes) s.tip
       ∙ (ap (λ (f : Stump). value l.tip f (map entry_of c.kept) (level_in c).hashes) roots_are
       ∙ ap₂ (value l.tip (stump_of H hist)) kept_are hashes)
 
-  held_here : (r o : ℕ) → has_place (places (length hist)) r o ≡ true → held_at (digest_at H hist) (length hist) (kept_places H leaf_text scripts l.history) (place r o) ≡ option_map (λ d. (place r o, d)) (level_tells H (level_of H scripts l) (place r o))
+  held_here : (r o : ℕ) → has_place (places (length hist)) r o ≡ true
+      → held_at (digest_at H hist) (length hist) (kept_places H leaf_text scripts l.history) (place r o)
+      ≡ option_map (λ d. (place r o, d)) (level_tells H (level_of H scripts l) (place r o))
   held_here r o h =
       let within = places_had (length hist) r o h in
       let told = held_is_known H scripts l (place r o) within in
       by_known (is_known (length hist) (kept_places H leaf_text scripts l.history) (place r o)) refl
       (told ∙ ap (λ n. cond (is_known n (kept_places H leaf_text scripts l.history) (place r o)) (digest_at H hist r o) None) (sym count))
     where
-      by_known : (b : Bool) → is_known (length hist) (kept_places H leaf_text scripts l.history) (place r o) ≡ b → level_tells H (level_of H scripts l) (place r o) ≡ cond (is_known (length hist) (kept_places H leaf_text scripts l.history) (place r o)) (digest_at H hist r o) None
-          → held_at (digest_at H hist) (length hist) (kept_places H leaf_text scripts l.history) (place r o) ≡ option_map (λ d. (place r o, d)) (level_tells H (level_of H scripts l) (place r o))
+      by_known : (b : Bool) → is_known (length hist) (kept_places H leaf_text scripts l.history) (place r o) ≡ b
+          → level_tells H (level_of H scripts l) (place r o) ≡ cond (is_known (length hist) (kept_places H leaf_text scripts l.history) (place r o))
+          (digest_at H hist r o) None
+          → held_at (digest_at H hist) (length hist) (kept_places H leaf_text scripts l.history) (place r o)
+          ≡ option_map (λ d. (place r o, d)) (level_tells H (level_of H scripts l) (place r o))
       by_known true e told = rw (told, e) refl
       by_known false e told = rw (told, e) refl
 
   pub is_filled : IsFilled H c
   is_filled = record {
-    digests = subst (λ (ks : List Kept). map (λ k. k.digest) ks ≡ map (λ k. H (leaf_text k.leaf)) ks) (sym s.cache.of_kept) (leaf_digests H scripts l.history (kept scripts l.history));
+    digests = subst (λ (ks : List Kept). map (λ k. k.digest) ks ≡ map (λ k. H (leaf_text k.leaf)) ks) (sym s.cache.of_kept)
+        (leaf_digests H scripts l.history (kept scripts l.history));
     held =
         s.cache.of_held
-        ∙ (filter_map-at (held_at (digest_at H hist) (length hist) (kept_places H leaf_text scripts l.history)) (λ p. option_map (λ d. (p, d)) (level_tells H (level_of H scripts l) p)) (places (length hist)) held_here
+        ∙ (filter_map-at (held_at (digest_at H hist) (length hist) (kept_places H leaf_text scripts l.history))
+        (λ p. option_map (λ d. (p, d)) (level_tells H (level_of H scripts l) p)) (places (length hist)) held_here
         ∙ ap₂ (λ (n : ℕ) (v : LevelValue). told_list n (level_tells H v)) (sym s.roots.leaves) (sym same_level));
   }
 
@@ -178,16 +205,25 @@ module _ (H : List ℕ → Digest) (scripts : List (List ℕ)) where
   stands : (l : Level) → length l.history < 2 ^ 40 → IsStump (cached_of l).roots × StandsForLevel H scripts (cached_of l) l
   stands l small =
       let es' = entries H leaf_text l.history in
-      let few' : length es' < 2 ^ 40 = omega (arith, small, length-map l.history (option_map (λ r. H (leaf_text r)))) in
-      (is_stump H es' few', record { tip = refl; roots = record { leaves = refl; roots = λ row slot. stump_slot H es' row few' slot }; cache = record { of_kept = refl; of_held = refl } })
+      let few' : length es' < 2 ^ 40 = omega (arith, small, length-map l.history (option_map (λ r. H (leaf_text r)))) in (
+        is_stump H es' few',
+        record {
+          tip = refl;
+          roots = record { leaves = refl; roots = λ row slot. stump_slot H es' row few' slot };
+          cache =
+              record { of_kept = refl; of_held = refl };
+        },
+      )
 
-  one_read : (c : CachedLevel) (l : Level) → length l.history < 2 ^ 40 → level_in c ≡ level_of H scripts l → IsFilled H c → StandsForLevel H scripts c l
+  one_read : (c : CachedLevel) (l : Level) → length l.history < 2 ^ 40 → level_in c ≡ level_of H scripts l → IsFilled H c
+      → StandsForLevel H scripts c l
   one_read c l small e filled =
       let w = stands l small in
       let v = standing_is_stored H scripts (cached_of l) l w.0 w.1 in
       subst (λ (d : CachedLevel). StandsForLevel H scripts d l) (one_filling H (cached_of l) c v.1 filled (v.0 ∙ sym e)) w.1
 
-  all_read : (cs : List CachedLevel) (ls : List Level) → AllByRecursion (λ l. length l.history < 2 ^ 40) ls → map level_in cs ≡ map (level_of H scripts) ls → AllByRecursion (IsFilled H) cs → AllZip (StandsForLevel H scripts) cs ls
+  all_read : (cs : List CachedLevel) (ls : List Level) → AllByRecursion (λ l. length l.history < 2 ^ 40) ls
+      → map level_in cs ≡ map (level_of H scripts) ls → AllByRecursion (IsFilled H) cs → AllZip (StandsForLevel H scripts) cs ls
   all_read [] [] small e filled = tt
   all_read [] (l ∷ ls) small e filled = absurd (omega (arith, ap length e))
   all_read (c ∷ cs) [] small e filled = absurd (omega (arith, ap length e))
@@ -197,4 +233,5 @@ module _ (H : List ℕ → Digest) (scripts : List (List ℕ)) where
       (one_read c l small.0 first filled.0, all_read cs ls small.1 others filled.1)
 
 pub stored_is_standing : StoredIsStanding
-stored_is_standing = λ H net scripts s c small e filled. all_read H scripts c.levels (s.now ∷ s.older) small (ap (λ (v : StateValue). v.levels) e) filled
+stored_is_standing = λ H net scripts s c small e filled. all_read H scripts c.levels (s.now ∷ s.older) small (ap (λ (v : StateValue). v.levels) e)
+    filled

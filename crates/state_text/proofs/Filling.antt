@@ -35,7 +35,8 @@ use Rattle.state_text.proofs.Holding.{at_needed}
 
 -- ---- the order of kept entries
 
-found_from : (from : ℕ) (ks : List Kept) → NumbersRise from (map entry_of ks) → (k : ℕ) (v : Kept) → find is_same_number leaf_key k ks ≡ Some v → from ≤ k
+found_from : (from : ℕ) (ks : List Kept) → NumbersRise from (map entry_of ks) → (k : ℕ) (v : Kept) → find is_same_number leaf_key k ks ≡ Some v
+    → from ≤ k
 found_from from [] rise k v e = absurd (none-some v e)
 found_from from (x ∷ ks) rise k v e =
     ⊎_elim
@@ -45,11 +46,15 @@ found_from from (x ∷ ks) rise k v e =
 
 pub numbers_ascend : (from : ℕ) (ks : List Kept) → NumbersRise from (map entry_of ks) → AscendByNumber ks
 numbers_ascend from [] rise = tt
-numbers_ascend from (x ∷ ks) rise = ((λ k v e. lt-ltb x.number k (found_from (suc x.number) ks rise.1 k v e)), numbers_ascend (suc x.number) ks rise.1)
+numbers_ascend from (x ∷ ks) rise = (
+  (λ k v e. lt-ltb x.number k (found_from (suc x.number) ks rise.1 k v e)),
+  numbers_ascend (suc x.number) ks rise.1,
+)
 
 -- ---- the hashes
 
-listed_all : {X Y : Type 0} (g : X → Option Y) (xs : List X) (ys : List Y) → map (λ y. let o : Option Y = Some y in o) ys ≡ map g xs → filter_map g xs ≡ ys
+listed_all : {X Y : Type 0} (g : X → Option Y) (xs : List X) (ys : List Y) → map (λ y. let o : Option Y = Some y in o) ys ≡ map g xs
+    → filter_map g xs ≡ ys
 listed_all g [] [] e = refl
 listed_all g [] (y ∷ ys) e = absurd (omega (arith, ap length e))
 listed_all g (x ∷ xs) [] e = absurd (omega (arith, ap length e))
@@ -65,9 +70,11 @@ module _ (H : List ℕ → Digest) (n : ℕ) (ts : List Place) (leaves hashes : 
       let at = told_at H n ts leaves hashes in
       let some = λ (d : Digest). let o : Option Digest = Some d in o in
       listed_all (λ p. look (told_list n at) p.row p.off) (need n ts) hashes
-      (map_from some (λ p. look (told_list n at) p.row p.off) (H []) (need n ts) hashes (distinct_from_ascending (need n ts) (need_ascending n ts)) long (λ r o h.
+      (map_from some (λ p. look (told_list n at) p.row p.off) (H []) (need n ts) hashes (distinct_from_ascending (need n ts) (need_ascending n ts))
+      long (λ r o h.
       let w = need_had n ts r o h in
-      sym (look_told n at r o w.0 ∙ (at_needed H n ts leaves hashes (place r o) w.1 ∙ ap some (ap (λ ps. beside (H []) ps hashes r o) (asked_all n ts))))))
+      sym (look_told n at r o w.0 ∙ (at_needed H n ts leaves hashes (place r o) w.1
+      ∙ ap some (ap (λ ps. beside (H []) ps hashes r o) (asked_all n ts))))))
 
 -- ---- a level
 
@@ -75,25 +82,30 @@ pub shape_leaves : (ks : List Kept) → leaf_places ks ≡ places_of (map entry_
 shape_leaves [] = refl
 shape_leaves (k ∷ ks) = ap (λ ps. k.place ∷ ps) (shape_leaves ks)
 
-same_leaves : (H : List ℕ → Digest) (ks : List Kept) → map (λ leaf. H (leaf_text leaf)) (leaves_of (map entry_of ks)) ≡ map (λ k. H (leaf_text k.leaf)) ks
+same_leaves : (H : List ℕ → Digest) (ks : List Kept) → map (λ leaf. H (leaf_text leaf)) (leaves_of (map entry_of ks))
+    ≡ map (λ k. H (leaf_text k.leaf)) ks
 same_leaves H [] = refl
 same_leaves H (k ∷ ks) = ap (λ ds. H (leaf_text k.leaf) ∷ ds) (same_leaves H ks)
 
 -- what was read of a level, judged, and the lists made of it
-pub record IsFound (H : List ℕ → Digest) (scripts : List (List ℕ)) (f : Stump) (kept : List Kept) (hashes : List Digest) (held : List (Place × Digest)) (entries : List StoredEntry) : Type 0 where
+pub record IsFound (H : List ℕ → Digest) (scripts : List (List ℕ)) (f : Stump) (kept : List Kept) (hashes : List Digest)
+    (held : List (Place × Digest)) (entries : List StoredEntry) : Type 0 where
   pub are : AreKept scripts f.leaves entries
   pub accepted : IsAccepted H f.leaves (root_in f) (places_of entries) nothing_known (map (λ leaf. H (leaf_text leaf)) (leaves_of entries)) hashes
   pub told : held ≡ told_list f.leaves (told_at H f.leaves (places_of entries) (map (λ leaf. H (leaf_text leaf)) (leaves_of entries)) hashes)
   pub digests : map (λ k. k.digest) kept ≡ map (λ leaf. H (leaf_text leaf)) (leaves_of entries)
 
 -- and what is made of it
-pub record IsMade (H : List ℕ → Digest) (scripts : List (List ℕ)) (tip : Digest) (f : Stump) (kept : List Kept) (hashes : List Digest) (held : List (Place × Digest)) (entries : List StoredEntry) : Type 0 where
-  pub level : IsMadeLevel H scripts (record { tip = tip; roots = f; kept = entries; hashes = hashes }) (record { tip = tip; roots = f; kept = kept; held = held })
+pub record IsMade (H : List ℕ → Digest) (scripts : List (List ℕ)) (tip : Digest) (f : Stump) (kept : List Kept) (hashes : List Digest)
+    (held : List (Place × Digest)) (entries : List StoredEntry) : Type 0 where
+  pub level : IsMadeLevel H scripts (record { tip = tip; roots = f; kept = entries; hashes = hashes })
+      (record { tip = tip; roots = f; kept = kept; held = held })
   pub numbers : AscendByNumber kept
   pub places : AscendByPlace held
   pub shape : HasShape f.leaves (leaf_places kept)
 
-module _ (H : List ℕ → Digest) (scripts : List (List ℕ)) (tip : Digest) (f : Stump) (kept : List Kept) (hashes : List Digest) (held : List (Place × Digest)) where
+module _ (H : List ℕ → Digest) (scripts : List (List ℕ)) (tip : Digest) (f : Stump) (kept : List Kept) (hashes : List Digest)
+    (held : List (Place × Digest)) where
   made_here : IsFound H scripts f kept hashes held (map entry_of kept) → IsMade H scripts tip f kept hashes held (map entry_of kept)
   made_here found =
       let ts = places_of (map entry_of kept) in
@@ -103,7 +115,8 @@ module _ (H : List ℕ → Digest) (scripts : List (List ℕ)) (tip : Digest) (f
       let made : CachedLevel = record { tip = tip; roots = f; kept = kept; held = held } in
       let hashes_are : filter_map (λ p. look held p.row p.off) (need f.leaves ts) ≡ hashes =
       ap (λ hs. filter_map (λ p. look hs p.row p.off) (need f.leaves ts)) found.told ∙ hashes_held H f.leaves ts leaves hashes long in
-      let same : level_in made ≡ level = ap (λ (hs : List Digest). let l : LevelValue = record { tip = tip; roots = f; kept = map entry_of kept; hashes = hs } in l) hashes_are in
+      let same : level_in made ≡ level = ap (λ (hs : List Digest). let l : LevelValue =
+      record { tip = tip; roots = f; kept = map entry_of kept; hashes = hs } in l) hashes_are in
       record {
         level = record {
           sound = record { kept = found.are; proved = found.accepted };
@@ -114,12 +127,15 @@ module _ (H : List ℕ → Digest) (scripts : List (List ℕ)) (tip : Digest) (f
           };
         };
         numbers = numbers_ascend 0 kept found.are.rise;
-        places = subst AscendByPlace (sym found.told) (places_ascend (told_list f.leaves (told_at H f.leaves ts leaves hashes)) (told_ascending f.leaves (told_at H f.leaves ts leaves hashes)));
+        places = subst AscendByPlace (sym found.told) (places_ascend (told_list f.leaves (told_at H f.leaves ts leaves hashes))
+            (told_ascending f.leaves (told_at H f.leaves ts leaves hashes)));
         shape = subst (HasShape f.leaves) (sym (shape_leaves kept)) found.accepted.shape;
       }
 
-  pub made_from : (entries : List StoredEntry) → map entry_of kept ≡ entries → IsFound H scripts f kept hashes held entries → IsMade H scripts tip f kept hashes held entries
-  made_from entries same = subst (λ (es : List StoredEntry). IsFound H scripts f kept hashes held es → IsMade H scripts tip f kept hashes held es) same made_here
+  pub made_from : (entries : List StoredEntry) → map entry_of kept ≡ entries → IsFound H scripts f kept hashes held entries
+      → IsMade H scripts tip f kept hashes held entries
+  made_from entries same = subst (λ (es : List StoredEntry). IsFound H scripts f kept hashes held es → IsMade H scripts tip f kept hashes held es)
+      same made_here
 
 pub entries_within : (n : ℕ) (es : List StoredEntry) → AllByRecursion (StandsWithin n) es → AreWithin n (places_of es)
 entries_within n [] a r o h = absurd (false≢true h)
@@ -130,19 +146,25 @@ entries_within n (e ∷ es) a r o h =
     (or_cases (is_at r o e.place) (has_place (places_of es) r o) h)
 
 -- what was read of a level, in parts, and what was found of it
-module _ (H : List ℕ → Digest) (scripts : List (List ℕ)) (tip : Digest) (f : Stump) (entries : List StoredEntry) (hashes : List Digest) (level : LevelValue)
+module _ (H : List ℕ → Digest) (scripts : List (List ℕ)) (tip : Digest) (f : Stump) (entries : List StoredEntry) (hashes : List Digest)
+    (level : LevelValue)
     (is : level ≡ record { tip = tip; roots = f; kept = entries; hashes = hashes })
-    (ts : List Place) (leaves hs : List Digest) (places : ts ≡ places_of entries) (shown : leaves ≡ map (λ leaf. H (leaf_text leaf)) (leaves_of entries)) (same : hs ≡ hashes) where
-  pub level_denied : (e : StateFault) → claims e (IsAccepted H f.leaves (root_in f) ts nothing_known leaves hs → ⊥) → claims e (IsLevel H scripts level → ⊥)
+    (ts : List Place) (leaves hs : List Digest) (places : ts ≡ places_of entries)
+    (shown : leaves ≡ map (λ leaf. H (leaf_text leaf)) (leaves_of entries)) (same : hs ≡ hashes) where
+  pub level_denied : (e : StateFault) → claims e (IsAccepted H f.leaves (root_in f) ts nothing_known leaves hs → ⊥)
+      → claims e (IsLevel H scripts level → ⊥)
   level_denied e d =
       denied e (IsAccepted H f.leaves (root_in f) ts nothing_known leaves hs) (IsLevel H scripts level)
       (λ good. let l : IsLevel H scripts (record { tip = tip; roots = f; kept = entries; hashes = hashes }) = subst (IsLevel H scripts) is good in
       subst (λ (x : List Place). IsAccepted H f.leaves (root_in f) x nothing_known leaves hs) (sym places)
       (subst (λ (x : List Digest). IsAccepted H f.leaves (root_in f) (places_of entries) nothing_known x hs) (sym shown)
-      (subst (λ (x : List Digest). IsAccepted H f.leaves (root_in f) (places_of entries) nothing_known (map (λ leaf. H (leaf_text leaf)) (leaves_of entries)) x) (sym same) l.proved))) d
+      (subst (λ (x : List Digest). IsAccepted H f.leaves (root_in f) (places_of entries) nothing_known
+      (map (λ leaf. H (leaf_text leaf)) (leaves_of entries)) x) (sym same) l.proved))) d
 
-  pub level_made : (n : ℕ) → n ≡ f.leaves → AreKept scripts n entries → (held : List (Place × Digest)) → IsAccepted H f.leaves (root_in f) ts nothing_known leaves hs × (held ≡ told_list f.leaves (told_at H f.leaves ts leaves hs))
-      → (kept : List Kept) → map entry_of kept ≡ entries → map (λ k. k.digest) kept ≡ leaves → IsMade H scripts tip f kept hashes held entries × IsMadeLevel H scripts level (record { tip = tip; roots = f; kept = kept; held = held })
+  pub level_made : (n : ℕ) → n ≡ f.leaves → AreKept scripts n entries → (held : List (Place × Digest))
+      → IsAccepted H f.leaves (root_in f) ts nothing_known leaves hs × (held ≡ told_list f.leaves (told_at H f.leaves ts leaves hs))
+      → (kept : List Kept) → map entry_of kept ≡ entries → map (λ k. k.digest) kept ≡ leaves → IsMade H scripts tip f kept hashes held entries
+      × IsMadeLevel H scripts level (record { tip = tip; roots = f; kept = kept; held = held })
   level_made n count are held found kept again digests =
       let leaves_are = map (λ leaf. H (leaf_text leaf)) (leaves_of entries) in
       let a : IsAccepted H f.leaves (root_in f) (places_of entries) nothing_known leaves_are hashes =
@@ -153,7 +175,8 @@ module _ (H : List ℕ → Digest) (scripts : List (List ℕ)) (tip : Digest) (f
       found.1 ∙ (ap (λ (x : List Place). told_list f.leaves (told_at H f.leaves x leaves hs)) places
       ∙ (ap (λ (x : List Digest). told_list f.leaves (told_at H f.leaves (places_of entries) x hs)) shown
       ∙ ap (λ (x : List Digest). told_list f.leaves (told_at H f.leaves (places_of entries) leaves_are x)) same)) in
-      let made = made_from H scripts tip f kept hashes held entries again (record { are = subst (λ m. AreKept scripts m entries) count are; accepted = a; told = t; digests = digests ∙ shown }) in
+      let made = made_from H scripts tip f kept hashes held entries again
+      (record { are = subst (λ m. AreKept scripts m entries) count are; accepted = a; told = t; digests = digests ∙ shown }) in
       (made, subst (λ (l : LevelValue). IsMadeLevel H scripts l (record { tip = tip; roots = f; kept = kept; held = held })) (sym is) made.level)
 
 -- ---- levels, one after another
@@ -166,7 +189,8 @@ all_more : {X : Type 0} (P : X → Type 0) (xs : List X) (x : X) → AllByRecurs
 all_more P [] x a p = (p, tt)
 all_more P (z ∷ xs) x a p = (a.0, all_more P xs x a.1 p)
 
-pub levels_more : (H : List ℕ → Digest) (scripts : List (List ℕ)) (ls : List LevelValue) (made : List CachedLevel) (l : LevelValue) (m : CachedLevel) → AreMadeLevels H scripts ls made → IsMadeLevel H scripts l m → AreMadeLevels H scripts (ls ++ l ∷ []) (made ++ m ∷ [])
+pub levels_more : (H : List ℕ → Digest) (scripts : List (List ℕ)) (ls : List LevelValue) (made : List CachedLevel) (l : LevelValue) (m : CachedLevel)
+    → AreMadeLevels H scripts ls made → IsMadeLevel H scripts l m → AreMadeLevels H scripts (ls ++ l ∷ []) (made ++ m ∷ [])
 levels_more H scripts ls made l m a is = record {
   sound = all_more (IsLevel H scripts) ls l a.sound is.sound;
   same = map-append level_in made (m ∷ []) ∙ ap₂ (λ (x : List LevelValue) (y : LevelValue). x ++ y ∷ []) a.same is.same;
@@ -175,7 +199,8 @@ levels_more H scripts ls made l m a is = record {
 
 -- ---- two levels that say the same
 
-same_kept : (H : List ℕ → Digest) (ks ms : List Kept) → map entry_of ks ≡ map entry_of ms → map (λ k. k.digest) ks ≡ map (λ k. H (leaf_text k.leaf)) ks → map (λ k. k.digest) ms ≡ map (λ k. H (leaf_text k.leaf)) ms → ks ≡ ms
+same_kept : (H : List ℕ → Digest) (ks ms : List Kept) → map entry_of ks ≡ map entry_of ms
+    → map (λ k. k.digest) ks ≡ map (λ k. H (leaf_text k.leaf)) ks → map (λ k. k.digest) ms ≡ map (λ k. H (leaf_text k.leaf)) ms → ks ≡ ms
 same_kept H [] [] e a b = refl
 same_kept H [] (m ∷ ms) e a b = absurd (omega (arith, ap length e))
 same_kept H (k ∷ ks) [] e a b = absurd (omega (arith, ap length e))
@@ -188,7 +213,8 @@ same_kept H (k ∷ ks) (m ∷ ms) e a b =
     let rest_m : map (λ (x : Kept). x.digest) ms ≡ map (λ (x : Kept). H (leaf_text x.leaf)) ms = cc in
     let digest : k.digest ≡ m.digest = of_k ∙ (ap (λ (s : StoredEntry). H (leaf_text s.leaf)) first ∙ sym of_m) in
     ap₂ (λ (x : Kept) (xs : List Kept). x ∷ xs)
-    (ap₂ (λ (s : StoredEntry) (d : Digest). let x : Kept = record { number = s.number; leaf = s.leaf; place = s.place; digest = d } in x) first digest)
+    (ap₂ (λ (s : StoredEntry) (d : Digest). let x : Kept = record { number = s.number; leaf = s.leaf; place = s.place; digest = d } in
+    x) first digest)
     (same_kept H ks ms others rest_k rest_m)
 
 pub one_filling : OneFilling

@@ -31,12 +31,14 @@ pub counted-none : {A : Type 0} (at : List ℕ → Option (A × List ℕ)) (byte
 unfolding counted_at
 counted-none at bytes e = rw e refl
 
-pub counted-some : {A : Type 0} (at : List ℕ → Option (A × List ℕ)) (bytes : List ℕ) (n : ℕ) (after : List ℕ) → compact_at bytes ≡ Some (n, after) → counted_at at bytes ≡ times at n after
+pub counted-some : {A : Type 0} (at : List ℕ → Option (A × List ℕ)) (bytes : List ℕ) (n : ℕ) (after : List ℕ) → compact_at bytes ≡ Some (n, after)
+    → counted_at at bytes ≡ times at n after
 unfolding counted_at
 counted-some at bytes n after e = rw e refl
 
 -- what holds of each thing that can be read holds of all of a list
-pub times-all : {A : Type 0} (P : A → Type 0) (at : List ℕ → Option (A × List ℕ)) → ((bytes : List ℕ) (x : A) (rest : List ℕ) → at bytes ≡ Some (x, rest) → P x)
+pub times-all : {A : Type 0} (P : A → Type 0) (at : List ℕ → Option (A × List ℕ))
+    → ((bytes : List ℕ) (x : A) (rest : List ℕ) → at bytes ≡ Some (x, rest) → P x)
     → (n : ℕ) (bytes : List ℕ) (xs : List A) (rest : List ℕ) → times at n bytes ≡ Some (xs, rest) → AllByRecursion P xs
 unfolding times
 times-all {A = A} P at each zero bytes xs rest e = subst (λ (p : List A × List ℕ). AllByRecursion P p.0) (some_is ([], bytes) (xs, rest) e) tt
@@ -44,9 +46,11 @@ times-all {A = A} P at each (suc n) bytes xs rest e =
     let s = bind_some (at bytes) (λ first. times at n first.1 >>= λ others. Some (first.0 ∷ others.0, others.1)) (xs, rest) e in
     let o = bind_some (times at n s.0.1) (λ others. Some (s.0.0 ∷ others.0, others.1)) (xs, rest) s.2 in
     let made : List A × List ℕ = (s.0.0 ∷ o.0.0, o.0.1) in
-    subst (λ (p : List A × List ℕ). AllByRecursion P p.0) (some_is made (xs, rest) o.2) (each bytes s.0.0 s.0.1 s.1, times-all P at each n s.0.1 o.0.0 o.0.1 o.1)
+    subst (λ (p : List A × List ℕ). AllByRecursion P p.0) (some_is made (xs, rest) o.2)
+    (each bytes s.0.0 s.0.1 s.1, times-all P at each n s.0.1 o.0.0 o.0.1 o.1)
 
-pub counted-all : {A : Type 0} (P : A → Type 0) (at : List ℕ → Option (A × List ℕ)) → ((bytes : List ℕ) (x : A) (rest : List ℕ) → at bytes ≡ Some (x, rest) → P x)
+pub counted-all : {A : Type 0} (P : A → Type 0) (at : List ℕ → Option (A × List ℕ))
+    → ((bytes : List ℕ) (x : A) (rest : List ℕ) → at bytes ≡ Some (x, rest) → P x)
     → (bytes : List ℕ) (xs : List A) (rest : List ℕ) → counted_at at bytes ≡ Some (xs, rest) → AllByRecursion P xs
 unfolding counted_at
 counted-all P at each bytes xs rest e =

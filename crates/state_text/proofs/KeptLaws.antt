@@ -1,5 +1,6 @@
 -- The kept entries of a history: where they stand, and that their places have shape.
-use Rattle.std.proofs.Common.{◌≡◌, ℕ, zero, suc, ◌+◌, ◌-◌, ◌/◌, ◌^◌, ◌<◌, ◌≤◌, true, List, [], ◌∷◌, map, length, get_or, Option, Some, None, refl, sym, ap, ap₂, ◌∙◌, subst, arith, ⊎_elim}
+use Rattle.std.proofs.Common.{◌≡◌, ℕ, zero, suc, ◌+◌, ◌-◌, ◌/◌, ◌^◌, ◌<◌, ◌≤◌, true, List, [], ◌∷◌, map, length, get_or, Option, Some, None, refl}
+use Rattle.std.proofs.Common.{sym, ap, ap₂, ◌∙◌, subst, arith, ⊎_elim}
 use Rattle.std.specs.Prelude.{option_map, slice_get, nat_lt, ◌==◌}
 use Rattle.std.specs.List.{AllByRecursion, cons_option}
 use Rattle.std.proofs.lemmas.Bool.{cases_Bool, false≢true, or_cases, and_parts, false_from_ne_true, ltb-true, eqb-true}
@@ -61,7 +62,8 @@ module _ (H : List ℕ → Digest) (scripts : List (List ℕ)) (us : History) wh
   live_below (v ∷ vs) zero r e = omega arith
   live_below (v ∷ vs) (suc k) r e = let b = live_below vs k r e in omega (arith, b)
 
-  kept_here : (i : ℕ) (p : Place) (r : Leaf) → get_or us i None ≡ Some r → entry_place es i ≡ Some p → is_watched scripts (Some r) ≡ true → IsKeptAt (record { number = i; place = p; leaf = r })
+  kept_here : (i : ℕ) (p : Place) (r : Leaf) → get_or us i None ≡ Some r → entry_place es i ≡ Some p → is_watched scripts (Some r) ≡ true
+      → IsKeptAt (record { number = i; place = p; leaf = r })
   kept_here i p r live at watched =
       let d : get_or es i None ≡ Some (H (leaf_text r)) = got_entry (λ x. H (leaf_text x)) us i ∙ ap (option_map (λ x. H (leaf_text x))) live in
       let w = entry_found es i (H (leaf_text r)) d in
@@ -73,13 +75,15 @@ module _ (H : List ℕ → Digest) (scripts : List (List ℕ)) (us : History) wh
         watched = watched;
       }
 
-  pub all_kept : (i : ℕ) (vs : History) → ((k : ℕ) → get_or vs k None ≡ get_or us (i + k) None) → AreKeptAt i (kept_entries (entry_place es) scripts i vs)
+  pub all_kept : (i : ℕ) (vs : History) → ((k : ℕ) → get_or vs k None ≡ get_or us (i + k) None)
+      → AreKeptAt i (kept_entries (entry_place es) scripts i vs)
   all_kept i [] at = record { rise = tt; each = tt }
   all_kept i (v ∷ vs) at =
       let rest = all_kept (suc i) vs (λ k. at (suc k) ∙ ap (λ n. get_or us n None) (let z : i + suc k ≡ suc i + k = omega arith in z)) in
       by_place (entry_place es i) refl v (at 0 ∙ ap (λ n. get_or us n None) (let z : i + 0 ≡ i = omega arith in z)) rest
     where
-      by_place : (q : Option Place) → entry_place es i ≡ q → (u : Option Leaf) → u ≡ get_or us i None → AreKeptAt (suc i) (kept_entries (entry_place es) scripts (suc i) vs)
+      by_place : (q : Option Place) → entry_place es i ≡ q → (u : Option Leaf) → u ≡ get_or us i None
+          → AreKeptAt (suc i) (kept_entries (entry_place es) scripts (suc i) vs)
           → AreKeptAt i (cons_option (kept_entry scripts i q u) (kept_entries (entry_place es) scripts (suc i) vs))
       by_place None e u f rest = more i _ rest
       by_place (Some p) e None f rest = more i _ rest
@@ -102,7 +106,8 @@ module _ (H : List ℕ → Digest) (scripts : List (List ℕ)) (us : History) wh
   one_of i [] a r o h = absurd (false≢true h)
   one_of i (e ∷ kept) a r o h =
       ⊎_elim
-      (λ here. let same = same_from_is_at r o e.place here in record { entry = e; from_on = a.rise.0; is = a.each.0; row = ap (λ p. p.row) same; off = ap (λ p. p.off) same })
+      (λ here. let same = same_from_is_at r o e.place here in
+      record { entry = e; from_on = a.rise.0; is = a.each.0; row = ap (λ p. p.row) same; off = ap (λ p. p.off) same })
       (λ there.
       let w = one_of (suc e.number) kept (record { rise = a.rise.1; each = a.each.1 }) r o there in
       record { entry = w.entry; from_on = omega (arith, a.rise.0, w.from_on); is = w.is; row = w.row; off = w.off })
@@ -117,7 +122,8 @@ module _ (H : List ℕ → Digest) (scripts : List (List ℕ)) (us : History) wh
       let rest : AreKeptAt (suc e.number) kept = record { rise = a.rise.1; each = a.each.1 } in (
         false_from_ne_true (has_place (places_of kept) e.place.row e.place.off) (λ again.
             let w = one_of (suc e.number) kept rest e.place.row e.place.off again in
-            let same : Some (leaf e.number (H (leaf_text e.leaf))) ≡ Some (leaf w.entry.number (H (leaf_text w.entry.leaf))) = sym a.each.0.stands ∙ stands_at (suc e.number) e.place.row e.place.off w in
+            let same : Some (leaf e.number (H (leaf_text e.leaf))) ≡ Some (leaf w.entry.number (H (leaf_text w.entry.leaf))) =
+            sym a.each.0.stands ∙ stands_at (suc e.number) e.place.row e.place.off w in
             let n : e.number ≡ w.entry.number = cc in
             omega (arith, n, w.from_on)),
         distinct (suc e.number) kept rest,
@@ -137,16 +143,19 @@ module _ (H : List ℕ → Digest) (scripts : List (List ℕ)) (us : History) wh
         let e : p.row - q.row ≡ suc k = omega arith in
         let f : p.row ≡ q.row + suc k = omega arith in
         let g : q.off / 2 ^ suc k ≡ p.off = subst (λ j. q.off / 2 ^ j ≡ p.off) e at in
-        let s : tree_at es (q.row + suc k) (q.off / 2 ^ suc k) ≡ Some (leaf up.entry.number (H (leaf_text up.entry.leaf))) = ap₂ (tree_at es) (sym f) g ∙ stands_at i p.row p.off up in
+        let s : tree_at es (q.row + suc k) (q.off / 2 ^ suc k) ≡ Some (leaf up.entry.number (H (leaf_text up.entry.leaf))) =
+        ap₂ (tree_at es) (sym f) g ∙ stands_at i p.row p.off up in
         none-some _ (sym (nothing_beneath es k q.row q.off _ _ s) ∙ stands_at i q.row q.off low));
   }
 
-  pub target_stands : (i : ℕ) (kept : List StoredEntry) → AreKeptAt i kept → (r o : ℕ) → has_place (places_of kept) r o ≡ true → (t : Tree) × (tree_at es r o ≡ Some t)
+  pub target_stands : (i : ℕ) (kept : List StoredEntry) → AreKeptAt i kept → (r o : ℕ) → has_place (places_of kept) r o ≡ true
+      → (t : Tree) × (tree_at es r o ≡ Some t)
   target_stands i kept a r o h = let w = one_of i kept a r o h in (leaf w.entry.number (H (leaf_text w.entry.leaf)), stands_at i r o w)
 
   -- ---- lists over the kept entries
 
-  pub leaves_shown : (kept : List StoredEntry) → AllByRecursion IsKeptAt kept → map Some (map (λ r. H (leaf_text r)) (leaves_of kept)) ≡ map (λ p. digest_at H es p.row p.off) (places_of kept)
+  pub leaves_shown : (kept : List StoredEntry) → AllByRecursion IsKeptAt kept
+      → map Some (map (λ r. H (leaf_text r)) (leaves_of kept)) ≡ map (λ p. digest_at H es p.row p.off) (places_of kept)
   leaves_shown [] a = refl
   leaves_shown (e ∷ kept) a = ap₂ (λ x xs. x ∷ xs) (sym (ap (option_map (digest_of H)) a.0.stands)) (leaves_shown kept a.1)
 
@@ -159,15 +168,24 @@ module _ (H : List ℕ → Digest) (scripts : List (List ℕ)) (us : History) wh
   leaf_fits (v ∷ vs) zero r fit e = subst LiveFits (same_Some v (Some r) e) fit.0
   leaf_fits (v ∷ vs) (suc k) r fit e = leaf_fits vs k r fit.1 e
 
-  pub kept_fit : length us < 2 ^ 40 → LeavesFit us → (kept : List StoredEntry) → AllByRecursion IsKeptAt kept → AllByRecursion (EntryFits (length es)) kept
+  pub kept_fit : length us < 2 ^ 40 → LeavesFit us → (kept : List StoredEntry) → AllByRecursion IsKeptAt kept
+      → AllByRecursion (EntryFits (length es)) kept
   kept_fit few fit [] a = tt
-  kept_fit few fit (e ∷ kept) a = (record { number = omega (arith, few, a.0.below); place = tree_at-forest es e.place.row e.place.off _ a.0.stands; leaf = leaf_fits us e.number e.leaf fit a.0.live }, kept_fit few fit kept a.1)
+  kept_fit few fit (e ∷ kept) a = (
+    record {
+      number = omega (arith, few, a.0.below);
+      place = tree_at-forest es e.place.row e.place.off _ a.0.stands;
+      leaf = leaf_fits us e.number e.leaf fit a.0.live;
+    },
+    kept_fit few fit kept a.1,
+  )
 
   kept_count : (place : ℕ → Option Place) (i : ℕ) (vs : History) → length (kept_entries place scripts i vs) ≤ length vs
   kept_count place i [] = omega arith
   kept_count place i (v ∷ vs) = by_entry (kept_entry scripts i (place i) v) (kept_count place (suc i) vs)
     where
-      by_entry : (x : Option StoredEntry) → length (kept_entries place scripts (suc i) vs) ≤ length vs → length (cons_option x (kept_entries place scripts (suc i) vs)) ≤ suc (length vs)
+      by_entry : (x : Option StoredEntry) → length (kept_entries place scripts (suc i) vs) ≤ length vs
+          → length (cons_option x (kept_entries place scripts (suc i) vs)) ≤ suc (length vs)
       by_entry None h = omega (arith, h)
       by_entry (Some e) h = omega (arith, h)
 

@@ -1,5 +1,6 @@
 -- What a node that holds every output stores is the state of a node.
-use Rattle.std.proofs.Common.{◌≡◌, ℕ, zero, suc, ◌+◌, ◌-◌, ◌*◌, ◌/◌, ◌^◌, ◌<◌, ◌≤◌, Bool, true, cond, List, [], ◌∷◌, ◌++◌, map, length, get_or, Option, Some, None, refl, sym, ap, ◌∙◌, subst, arith, ⊎_elim}
+use Rattle.std.proofs.Common.{◌≡◌, ℕ, zero, suc, ◌+◌, ◌-◌, ◌*◌, ◌/◌, ◌^◌, ◌<◌, ◌≤◌, Bool, true, cond, List, [], ◌∷◌, ◌++◌, map, length, get_or}
+use Rattle.std.proofs.Common.{Option, Some, None, refl, sym, ap, ◌∙◌, subst, arith, ⊎_elim}
 use Rattle.std.specs.Prelude.{option_map, filter}
 use Rattle.std.specs.List.{AllByRecursion, range_with_len}
 use Rattle.std.proofs.lemmas.Bool.{cases_Bool, cases_lt}
@@ -78,7 +79,8 @@ module _ (H : List ℕ → Digest) (long : (x : List ℕ) → IsDigest (H x)) wh
       of (Some r) h = subst IsDigest (same_Some _ _ h) (long (leaf_text r))
   each_long us (inner l r) e = (each_long us l e.0, each_long us r e.1)
 
-  tree_fits : (us : History) (x : Option Tree) → ((t : Tree) → x ≡ Some t → EachLeaf (λ i d. get_or (entries H leaf_text us) i None ≡ Some d) t) → RootFits (option_map (digest_of H) x)
+  tree_fits : (us : History) (x : Option Tree) → ((t : Tree) → x ≡ Some t → EachLeaf (λ i d. get_or (entries H leaf_text us) i None ≡ Some d) t)
+      → RootFits (option_map (digest_of H) x)
   tree_fits us None h = tt
   tree_fits us (Some t) h = tree_long t (each_long us t (h t refl))
 
@@ -86,13 +88,15 @@ module _ (H : List ℕ → Digest) (long : (x : List ℕ) → IsDigest (H x)) wh
   digest_fits us row off = tree_fits us (tree_at (entries H leaf_text us) row off) (λ t e. tree_at-leaves (entries H leaf_text us) row off t e)
 
   root_fits : (us : History) (row : ℕ) → RootFits (root H (entries H leaf_text us) row)
-  root_fits us row = let es = entries H leaf_text us in tree_fits us (content es row (root_off (length es) row)) (λ t e. content-leaves es row (root_off (length es) row) t e)
+  root_fits us row = let es = entries H leaf_text us in
+      tree_fits us (content es row (root_off (length es) row)) (λ t e. content-leaves es row (root_off (length es) row) t e)
 
   somes_fit : (us : History) (ps : List Place) → AllByRecursion IsDigest (digests_at H (entries H leaf_text us) ps)
   somes_fit us [] = tt
   somes_fit us (p ∷ ps) = of (digest_at H (entries H leaf_text us) p.row p.off) (digest_fits us p.row p.off) (somes_fit us ps)
     where
-      of : (d : Option Digest) → RootFits d → AllByRecursion IsDigest (digests_at H (entries H leaf_text us) ps) → AllByRecursion IsDigest (somes (d ∷ map (λ q. digest_at H (entries H leaf_text us) q.row q.off) ps))
+      of : (d : Option Digest) → RootFits d → AllByRecursion IsDigest (digests_at H (entries H leaf_text us) ps)
+          → AllByRecursion IsDigest (somes (d ∷ map (λ q. digest_at H (entries H leaf_text us) q.row q.off) ps))
       of None f rest = rest
       of (Some d) f rest = (f, rest)
 
@@ -101,11 +105,13 @@ module _ (H : List ℕ → Digest) (long : (x : List ℕ) → IsDigest (H x)) wh
 root_if : (List ℕ → Digest) → List (Option Digest) → ℕ → Option Digest
 root_if H es row = cond (is_slot (length es) row) (root H es row) None
 
-stump_row : (H : List ℕ → Digest) (es : List (Option Digest)) (row : ℕ) → row < 40 → root_in (stump_of H es) row ≡ cond (is_slot (length es) row) (root H es row) None
+stump_row : (H : List ℕ → Digest) (es : List (Option Digest)) (row : ℕ) → row < 40
+    → root_in (stump_of H es) row ≡ cond (is_slot (length es) row) (root H es row) None
 stump_row H es row lt = get_or-map-range_with_len (λ r. cond (is_slot (length es) r) (root H es r) None) 0 40 row row None lt (omega arith)
 
 stump_past : (H : List ℕ → Digest) (es : List (Option Digest)) (row : ℕ) → 40 ≤ row → root_in (stump_of H es) row ≡ None
-stump_past H es row le = get_or_past (stump_of H es).rows row None (omega (arith, length-map (range_with_len 0 40) (λ r. cond (is_slot (length es) r) (root H es r) None), le))
+stump_past H es row le = get_or_past (stump_of H es).rows row None
+    (omega (arith, length-map (range_with_len 0 40) (λ r. cond (is_slot (length es) r) (root H es r) None), le))
 
 pub is_stump : (H : List ℕ → Digest) (es : List (Option Digest)) → length es < 2 ^ 40 → IsStump (stump_of H es)
 is_stump H es few = record {
@@ -114,12 +120,14 @@ is_stump H es few = record {
   bare = λ row none. ⊎_elim (λ lt. stump_row H es row lt ∙ rw none refl) (λ ge. stump_past H es row ge) (cases_lt row 40);
 }
 
-pub stump_slot : (H : List ℕ → Digest) (es : List (Option Digest)) (row : ℕ) → length es < 2 ^ 40 → is_slot (length es) row ≡ true → root_in (stump_of H es) row ≡ root H es row
+pub stump_slot : (H : List ℕ → Digest) (es : List (Option Digest)) (row : ℕ) → length es < 2 ^ 40 → is_slot (length es) row ≡ true
+    → root_in (stump_of H es) row ≡ root H es row
 stump_slot H es row few slot = stump_row H es row (slot_small (length es) row 40 slot few) ∙ rw slot refl
 
 -- ---- a level
 
-module _ (H : List ℕ → Digest) (long : (x : List ℕ) → IsDigest (H x)) (scripts : List (List ℕ)) (l : Level) (blocks most : ℕ) (few : most < 2 ^ 40) (c : IsChained blocks most l) where
+module _ (H : List ℕ → Digest) (long : (x : List ℕ) → IsDigest (H x)) (scripts : List (List ℕ)) (l : Level) (blocks most : ℕ) (few : most < 2 ^ 40)
+    (c : IsChained blocks most l) where
   abbrev us : History
   us = l.history
 
@@ -161,8 +169,10 @@ module _ (H : List ℕ → Digest) (long : (x : List ℕ) → IsDigest (H x)) (s
   proved = record {
     shape = shape H scripts us 0 kept stand;
     one_leaf_each = sym (length-map leaves Some) ∙ (ap length shown ∙ length-map ts (λ p. digest_at H es p.row p.off));
-    one_hash_each = sym (length-map hashes Some) ∙ (ap length there_asked ∙ length-map (asked (length es) ts nothing_known) (λ p. digest_at H es p.row p.off));
-    agrees = λ row beneath slot e. stump_slot H es row few_entries slot ∙ root_computed H es ts nothing_known leaves hashes shown (λ r o d h. absurd (none-some d h)) there_asked row beneath slot e;
+    one_hash_each = sym (length-map hashes Some)
+        ∙ (ap length there_asked ∙ length-map (asked (length es) ts nothing_known) (λ p. digest_at H es p.row p.off));
+    agrees = λ row beneath slot e. stump_slot H es row few_entries slot
+        ∙ root_computed H es ts nothing_known leaves hashes shown (λ r o d h. absurd (none-some d h)) there_asked row beneath slot e;
   }
 
   pub level_sound : IsLevel H scripts (level_of H scripts l)
@@ -179,7 +189,14 @@ module _ (H : List ℕ → Digest) (long : (x : List ℕ) → IsDigest (H x)) (s
         (cases_Bool (is_slot (length es) row));
     count_of_kept = omega (arith, few_kept H scripts us, few_entries, same_length);
     kept = kept_fit H scripts us (omega (arith, few_entries, same_length)) c.fit kept stand.each;
-    count_of_hashes = omega (arith, length-somes (map (λ p. digest_at H es p.row p.off) (need (length es) ts)), length-map (need (length es) ts) (λ p. digest_at H es p.row p.off), length-kept (is_needed (length es) ts) (places (length es)), few_places (length es), few_entries);
+    count_of_hashes = omega (
+      arith,
+      length-somes (map (λ p. digest_at H es p.row p.off) (need (length es) ts)),
+      length-map (need (length es) ts) (λ p. digest_at H es p.row p.off),
+      length-kept (is_needed (length es) ts) (places (length es)),
+      few_places (length es),
+      few_entries,
+    );
     hashes = somes_fit H long us (need (length es) ts);
   }
 
@@ -192,22 +209,34 @@ module _ (H : List ℕ → Digest) (long : (x : List ℕ) → IsDigest (H x)) (s
 -- ---- all levels
 
 module _ (H : List ℕ → Digest) (long : (x : List ℕ) → IsDigest (H x)) (scripts : List (List ℕ)) (most : ℕ) (few : most < 2 ^ 40) where
-  all_fit : (blocks bound : ℕ) (ls : List Level) → bound ≤ most → AreChained blocks bound ls → AllByRecursion (LevelFits most) (map (level_of H scripts) ls)
+  all_fit : (blocks bound : ℕ) (ls : List Level) → bound ≤ most → AreChained blocks bound ls
+      → AllByRecursion (LevelFits most) (map (level_of H scripts) ls)
   all_fit blocks bound [] le c = tt
   all_fit blocks bound (l ∷ ls) le c =
-      let wide : IsChained blocks most l = record { blocks_are = c.0.blocks_are; tip = c.0.tip; fit = c.0.fit; within = omega (arith, le, c.0.within); start_tip = c.0.start_tip; start_history = c.0.start_history } in
+      let wide : IsChained blocks most l = record {
+        blocks_are = c.0.blocks_are;
+        tip = c.0.tip;
+        fit = c.0.fit;
+        within = omega (arith, le, c.0.within);
+        start_tip = c.0.start_tip;
+        start_history = c.0.start_history;
+      } in
       (level_fits H long scripts l blocks most few wide, all_fit (blocks - 1) (length l.history) ls (omega (arith, le, c.0.within)) c.1)
 
-  all_sound : (blocks bound : ℕ) (ls : List Level) → bound ≤ most → AreChained blocks bound ls → AllByRecursion (IsLevel H scripts) (map (level_of H scripts) ls)
+  all_sound : (blocks bound : ℕ) (ls : List Level) → bound ≤ most → AreChained blocks bound ls
+      → AllByRecursion (IsLevel H scripts) (map (level_of H scripts) ls)
   all_sound blocks bound [] le c = tt
-  all_sound blocks bound (l ∷ ls) le c =
-      (level_sound H long scripts l blocks bound (omega (arith, le, few)) c.0, all_sound (blocks - 1) (length l.history) ls (omega (arith, le, c.0.within)) c.1)
+  all_sound blocks bound (l ∷ ls) le c = (
+    level_sound H long scripts l blocks bound (omega (arith, le, few)) c.0,
+    all_sound (blocks - 1) (length l.history) ls (omega (arith, le, c.0.within)) c.1,
+  )
 
   all_next : (blocks bound : ℕ) (ls : List Level) → bound ≤ most → AreChained blocks bound ls → AreLevels blocks bound (map (level_of H scripts) ls)
   all_next blocks bound [] le c = tt
   all_next blocks bound (l ∷ ls) le c = (
     level_next H long scripts l blocks bound (omega (arith, le, few)) c.0,
-    subst (λ n. AreLevels (blocks - 1) n (map (level_of H scripts) ls)) (sym (length-map l.history (option_map (λ r. H (leaf_text r))))) (all_next (blocks - 1) (length l.history) ls (omega (arith, le, c.0.within)) c.1),
+    subst (λ n. AreLevels (blocks - 1) n (map (level_of H scripts) ls)) (sym (length-map l.history (option_map (λ r. H (leaf_text r)))))
+        (all_next (blocks - 1) (length l.history) ls (omega (arith, le, c.0.within)) c.1),
   )
 
 scripts_fit : (scripts : List (List ℕ)) → AllByRecursion IsScript scripts → AllByRecursion ScriptFits scripts

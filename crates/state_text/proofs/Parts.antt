@@ -21,7 +21,8 @@ pub level-no_head : (by : Naming) (most : ℕ) (bytes : List ℕ) → head_at mo
 unfolding level_at
 level-no_head by most bytes e = rw e refl
 
-module _ (by : Naming) (most : ℕ) (bytes : List ℕ) (tip : Digest) (f : Stump) (after : List ℕ) (head : head_at most bytes ≡ Some ((tip, f), after)) where
+module _ (by : Naming) (most : ℕ) (bytes : List ℕ) (tip : Digest) (f : Stump) (after : List ℕ)
+    (head : head_at most bytes ≡ Some ((tip, f), after)) where
   pub level-no_kept : (e : StateFault) → Fails e (counted_at (entry_at by f.leaves) after) → Fails e (level_at by most bytes)
   unfolding level_at
   level-no_kept e h = rw head (part-fails e _ _ h)
@@ -42,7 +43,8 @@ pub body-no_front : (by : Naming) (most : ℕ) (bytes : List ℕ) → front_at b
 unfolding whole_at body_at
 body-no_front by most bytes e = rw e refl
 
-module _ (by : Naming) (most : ℕ) (bytes : List ℕ) (net : Net) (blocks : ℕ) (after : List ℕ) (front : front_at bytes ≡ Some ((net, blocks), after)) where
+module _ (by : Naming) (most : ℕ) (bytes : List ℕ) (net : Net) (blocks : ℕ) (after : List ℕ)
+    (front : front_at bytes ≡ Some ((net, blocks), after)) where
   pub body-no_scripts : (e : StateFault) → Fails e (counted_at sized_at after) → Fails e (whole_at by most bytes)
   unfolding whole_at body_at
   body-no_scripts e h = rw front (part-fails e _ _ (part-fails e _ _ h))
@@ -62,6 +64,7 @@ module _ (by : Naming) (most : ℕ) (bytes : List ℕ) (net : Net) (blocks : ℕ
         unfolding whole_at body_at
         body-more some = rw (front, read, counted, all, some) refl
 
-        pub body-whole : eqb (length end) 0 ≡ true → whole_at by most bytes ≡ Some (record { net = net; blocks = blocks; scripts = scripts; levels = levels }, [])
+        pub body-whole : eqb (length end) 0 ≡ true
+            → whole_at by most bytes ≡ Some (record { net = net; blocks = blocks; scripts = scripts; levels = levels }, [])
         unfolding whole_at body_at
         body-whole none = let nil : end ≡ [] = nil_from_length end (eqb-true _ _ none) in rw (front, read, counted, all, none, nil) refl

@@ -19,7 +19,8 @@ module _ (H : List ℕ → Digest) (f : Stump) (n : ℕ) (same : n ≡ f.leaves)
   Accepted = IsAccepted H f.leaves (root_in f) ts nothing_known leaves hashes
 
   pub wrong_count : (needed : List Place) → needed ≡ need n ts → (length hashes ≡ length needed → ⊥) → Accepted → ⊥
-  wrong_count needed is other a = other (a.one_hash_each ∙ (ap length (asked_all f.leaves ts) ∙ (ap (λ m. length (need m ts)) (sym same) ∙ ap length (sym is))))
+  wrong_count needed is other a = other (a.one_hash_each
+      ∙ (ap length (asked_all f.leaves ts) ∙ (ap (λ m. length (need m ts)) (sym same) ∙ ap length (sym is))))
 
   module _ (items : List CoveredPlace) (are : AreEvaluatedAt H n ts leaves hashes items) where
     here : AreEvaluatedAt H f.leaves ts leaves hashes items
@@ -39,4 +40,5 @@ module _ (H : List ℕ → Digest) (f : Stump) (n : ℕ) (same : n ≡ f.leaves)
       is_accepted shape leaf_each right = accepted H f ts leaves hashes items here (subst (λ m. HasShape m ts) same shape) leaf_each hashes_are right
 
       pub is_told : merged (map told_pair items) (paired needed hashes) ≡ told_list f.leaves (told_at H f.leaves ts leaves hashes)
-      is_told = ap (λ ps. merged (map told_pair items) (paired ps hashes)) (is ∙ ap (λ m. need m ts) same) ∙ told_are H f.leaves ts leaves hashes items here hashes_are
+      is_told = ap (λ ps. merged (map told_pair items) (paired ps hashes)) (is ∙ ap (λ m. need m ts) same)
+          ∙ told_are H f.leaves ts leaves hashes items here hashes_are

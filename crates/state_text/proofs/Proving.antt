@@ -1,42 +1,17 @@
 -- Places as targets.
-use Rattle.std.proofs.Common.{◌≡◌, ℕ, ◌^◌, ◌≤◌, List, [], ◌∷◌, length, Result, Ok, Err, Some, refl, sym, ap, ap₂, ◌∙◌, subst, arith}
+use Rattle.std.proofs.Common.{◌≡◌, ℕ, List, [], ◌∷◌, length, Result, Ok, Err, refl, sym, ap, ap₂, ◌∙◌, subst, arith}
 use Rattle.std.specs.Prelude.{MatchResult}
-use Rattle.std.proofs.lemmas.Option.{none-some}
 use Rattle.forest_place.specs.declared.place.Place.{Place}
 use Rattle.forest_place.specs.Places.{AreWithin}
 use Rattle.forest_place.specs.Position.{position, positions_of}
 use Rattle.forest_place.proofs.Positions.{one_position}
 use Rattle.forest_model.specs.Cover.{HasShape}
-use Rattle.proof_shape.specs.Shape.{AreTargets, IsShapeFault}
+use Rattle.proof_shape.specs.Shape.{AreTargets, HasTargets}
 use Rattle.proof_shape.specs.Targeted.{Targeted}
-use Rattle.proof_shape.specs.declared.fault.ShapeFault.{ShapeFault}
-use Rattle.proof_shape.specs.declared.fault.ShapeFault.TheVariants.{Outside, Repeated, Beneath}
 use Rattle.proof_shape.proofs.Ordered.{has_first, within_rest}
-use Rattle.block_rules.specs.declared.refusal.ProofRefusal.TheVariants as Refused
-use Rattle.forest_place.specs.declared.naming.Naming.TheVariants.{Position}
-use Rattle.node_rules.specs.Accepting.{shape_fault}
-use Rattle.node_rules.proofs.Placing.{places_by, passes_by, told_by}
 use Rattle.state_text.specs.declared.fault.StateFault.{StateFault}
 use Rattle.state_text.specs.Reading.{claims}
-use Rattle.state_text.specs.Ordered.{HasTargets}
 use Rattle.state_text.proofs.Judged.{denied}
-
--- ---- targets and faults
-
-pub no_outside : (n : ℕ) → n ≤ 2 ^ 40 → (numbers : List ℕ) (e : ShapeFault) (i : ℕ) → e ≡ Outside i → IsShapeFault n numbers e → HasTargets n numbers → ⊥
-no_outside n few numbers e i is h t =
-    let told : shape_fault n [] 0 (places_by Position n numbers) ≡ Some (Refused.Outside i) = told_by Position n few numbers (Outside i) (subst (IsShapeFault n numbers) is h) in
-    none-some _ (sym (passes_by Position n few numbers t.0 t.1) ∙ told)
-
-pub no_repeated : (n : ℕ) → n ≤ 2 ^ 40 → (numbers : List ℕ) (e : ShapeFault) (i j : ℕ) → e ≡ Repeated i j → IsShapeFault n numbers e → HasTargets n numbers → ⊥
-no_repeated n few numbers e i j is h t =
-    let told : shape_fault n [] 0 (places_by Position n numbers) ≡ Some (Refused.Repeated i j) = told_by Position n few numbers (Repeated i j) (subst (IsShapeFault n numbers) is h) in
-    none-some _ (sym (passes_by Position n few numbers t.0 t.1) ∙ told)
-
-pub no_beneath : (n : ℕ) → n ≤ 2 ^ 40 → (numbers : List ℕ) (e : ShapeFault) (i j : ℕ) → e ≡ Beneath i j → IsShapeFault n numbers e → HasTargets n numbers → ⊥
-no_beneath n few numbers e i j is h t =
-    let told : shape_fault n [] 0 (places_by Position n numbers) ≡ Some (Refused.Beneath i j) = told_by Position n few numbers (Beneath i j) (subst (IsShapeFault n numbers) is h) in
-    none-some _ (sym (passes_by Position n few numbers t.0 t.1) ∙ told)
 
 -- places by their positions
 same_places : (n : ℕ) (ts ps : List Place) → AreWithin n ts → AreWithin n ps → positions_of n ts ≡ positions_of n ps → ts ≡ ps
@@ -46,15 +21,19 @@ same_places n (t ∷ ts) [] within inside e = absurd (omega (arith, ap length e)
 same_places n (t ∷ ts) (p ∷ ps) within inside e =
     let first : position n t.row t.off ≡ position n p.row p.off = cc in
     let others : positions_of n ts ≡ positions_of n ps = cc in
-    ap₂ (λ (x : Place) (xs : List Place). x ∷ xs) (one_position n t p (within t.row t.off (has_first t ts)) (inside p.row p.off (has_first p ps)) first)
+    ap₂ (λ (x : Place) (xs : List Place). x ∷ xs)
+    (one_position n t p (within t.row t.off (has_first t ts)) (inside p.row p.off (has_first p ps)) first)
     (same_places n ts ps (within_rest n t ts within) (within_rest n p ps inside) others)
 
 module _ (n : ℕ) (places : List Place) (positions : List ℕ) (within : AreWithin n places) (numbers : positions ≡ positions_of n places) where
   targets_same : (ts : List Place) → AreTargets n positions ts → ts ≡ places
-  targets_same ts targets = same_places n ts places (λ r o h. targets.shape.within (record { row = r; off = o }) h) within (targets.numbered ∙ numbers)
+  targets_same ts targets = same_places n ts places (λ r o h. targets.shape.within (record { row = r; off = o }) h) within
+      (targets.numbered ∙ numbers)
 
   -- the targets at the positions of these places are these places
-  pub targets_made : (r : Result Targeted StateFault) → MatchResult r (λ t. (t.leaves ≡ n) × AreTargets n positions t.targets) (λ e. claims e (HasTargets n positions → ⊥))
+  pub targets_made : (r : Result Targeted StateFault)
+      → MatchResult r (λ t. (t.leaves ≡ n) × AreTargets n positions t.targets) (λ e. claims e (HasTargets n positions → ⊥))
       → MatchResult r (λ t. (t.leaves ≡ n) × (t.targets ≡ places) × HasShape n places) (λ e. claims e (HasShape n places → ⊥))
   targets_made (Ok t) m = let same = targets_same t.targets m.1 in (m.0, same, subst (HasShape n) same m.1.shape)
-  targets_made (Err e) m = denied e (HasTargets n positions) (HasShape n places) (λ shape. (places, record { numbered = sym numbers; shape = shape })) m
+  targets_made (Err e) m = denied e (HasTargets n positions) (HasShape n places) (λ shape. (places, record { numbered = sym numbers; shape = shape }))
+      m

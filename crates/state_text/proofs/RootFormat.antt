@@ -1,5 +1,6 @@
 -- The roots of a level are a lawful format.
-use Rattle.std.proofs.Common.{◌≡◌, ℕ, zero, suc, ◌^◌, ◌<◌, ◌≤◌, eqb, true, false, List, [], ◌∷◌, ◌++◌, length, get_or, replicate, Option, Some, None, refl, sym, ap, ap₂, subst, ◌∙◌, append_assoc, arith, ⊎_elim}
+use Rattle.std.proofs.Common.{◌≡◌, ℕ, zero, suc, ◌^◌, ◌<◌, ◌≤◌, eqb, true, false, List, [], ◌∷◌, ◌++◌, length, get_or, replicate, Option, Some, None}
+use Rattle.std.proofs.Common.{refl, sym, ap, ap₂, subst, ◌∙◌, append_assoc, arith, ⊎_elim}
 use Rattle.std.proofs.lemmas.Bool.{cases_Bool, cases_lt, eqb-true, false≢true}
 use Rattle.std.proofs.lemmas.List.{get_or-set_same, get_or-set_other, length-set, get_or_past}
 use Rattle.uo_base.specs.Reading.{IsBytes, ◌>>=◌}
@@ -37,7 +38,8 @@ no_mark : root_at [] ≡ None
 unfolding root_at
 no_mark = refl
 
-root_took : (bytes : List ℕ) (r : Option Digest) (rest : List ℕ) → IsBytes bytes → root_at bytes ≡ Some (r, rest) → Took bytes (root_text r) rest (RootFits r)
+root_took : (bytes : List ℕ) (r : Option Digest) (rest : List ℕ) → IsBytes bytes → root_at bytes ≡ Some (r, rest)
+    → Took bytes (root_text r) rest (RootFits r)
 root_took [] r rest is_bytes e = absurd (not_both (root_at []) (r, rest) no_mark e)
 root_took (b ∷ bytes) r rest is_bytes e =
     ⊎_elim
@@ -49,7 +51,8 @@ root_took (b ∷ bytes) r rest is_bytes e =
     (λ more. ⊎_elim
     (λ one.
     let z : b ≡ 1 = eqb-true b 1 one in
-    let s = bind_some (digest_in_front bytes) (λ d. Some (full d.0, d.1)) (r, rest) (sym (mark-some bytes) ∙ (ap (λ (k : ℕ). root_at (k ∷ bytes)) (sym z) ∙ e)) in
+    let s = bind_some (digest_in_front bytes) (λ d. Some (full d.0, d.1)) (r, rest)
+    (sym (mark-some bytes) ∙ (ap (λ (k : ℕ). root_at (k ∷ bytes)) (sym z) ∙ e)) in
     let t = digest_lawful.took bytes s.0.0 s.0.1 (bytes-tail b bytes is_bytes) s.1 in
     let made : Option Digest × List ℕ = (full s.0.0, s.0.1) in
     subst (λ (p : Option Digest × List ℕ). Took (b ∷ bytes) (root_text p.0) p.1 (RootFits p.0)) (some_is made (r, rest) s.2)
@@ -105,7 +108,8 @@ with_blank k f r slot b = record {
 less_blank : (k : ℕ) (f : Stump) → IsBlank (suc k) f → IsBlank k f
 less_blank k f b = record { forty = b.forty; below = λ row lt. b.below row (omega arith); bare = b.bare }
 
-from_over : (k : ℕ) (f g : Stump) (r : Option Digest) → k < 40 → is_slot f.leaves k ≡ true → IsBlank (suc k) f → RootFits r → IsOver k (with_root f k r) g → IsOver (suc k) f g × (root_in g k ≡ r)
+from_over : (k : ℕ) (f g : Stump) (r : Option Digest) → k < 40 → is_slot f.leaves k ≡ true → IsBlank (suc k) f → RootFits r
+    → IsOver k (with_root f k r) g → IsOver (suc k) f g × (root_in g k ≡ r)
 from_over k f g r lt slot b fits o =
     let here : root_in g k ≡ r = o.above k (omega arith) ∙ get_or-set_same f.rows k r None (omega (arith, b.forty)) in (
       record {
@@ -113,7 +117,8 @@ from_over k f g r lt slot b fits o =
         forty = o.forty;
         bare = o.bare;
         above = λ row le. o.above row (omega arith) ∙ get_or-set_other f.rows k row r None (λ e. omega (arith, e, le));
-        digests = λ row le. ⊎_elim (λ less. o.digests row less) (λ ge. let e : row ≡ k = omega arith in subst RootFits (sym here ∙ ap (root_in g) (sym e)) fits) (cases_lt row k);
+        digests = λ row le. ⊎_elim (λ less. o.digests row less) (λ ge. let e : row ≡ k = omega arith in
+            subst RootFits (sym here ∙ ap (root_in g) (sym e)) fits) (cases_lt row k);
       },
       here,
     )
@@ -128,7 +133,8 @@ to_over k f g lt b o =
       above = λ row le.
           ⊎_elim
           (λ less. o.above row less ∙ sym (get_or-set_other f.rows k row r None (λ e. omega (arith, e, less))))
-          (λ ge. let e : row ≡ k = omega arith in ap (root_in g) e ∙ (sym (get_or-set_same f.rows k r None (omega (arith, b.forty))) ∙ ap (root_in (with_root f k r)) (sym e)))
+          (λ ge. let e : row ≡ k = omega arith in ap (root_in g) e
+          ∙ (sym (get_or-set_same f.rows k r None (omega (arith, b.forty))) ∙ ap (root_in (with_root f k r)) (sym e)))
           (cases_lt k row);
       digests = λ row less. o.digests row (omega arith);
     }
@@ -139,7 +145,8 @@ none_here k f g none b o = record {
   forty = o.forty;
   bare = o.bare;
   above = λ row le. o.above row (omega arith);
-  digests = λ row le. ⊎_elim (λ less. o.digests row less) (λ ge. let e : row ≡ k = omega arith in subst RootFits (sym (ap (root_in g) e ∙ o.bare k none)) tt) (cases_lt row k);
+  digests = λ row le. ⊎_elim (λ less. o.digests row less) (λ ge. let e : row ≡ k = omega arith in
+      subst RootFits (sym (ap (root_in g) e ∙ o.bare k none)) tt) (cases_lt row k);
 }
 
 none_there : (k : ℕ) (f g : Stump) → is_slot f.leaves k ≡ false → IsBlank (suc k) f → IsOver (suc k) f g → IsOver k f g
@@ -147,7 +154,8 @@ none_there k f g none b o = record {
   leaves = o.leaves;
   forty = o.forty;
   bare = o.bare;
-  above = λ row le. ⊎_elim (λ less. o.above row less) (λ ge. let e : row ≡ k = omega arith in ap (root_in g) e ∙ (o.bare k none ∙ sym (ap (root_in f) e ∙ b.below k (omega arith)))) (cases_lt k row);
+  above = λ row le. ⊎_elim (λ less. o.above row less) (λ ge. let e : row ≡ k = omega arith in
+      ap (root_in g) e ∙ (o.bare k none ∙ sym (ap (root_in f) e ∙ b.below k (omega arith)))) (cases_lt k row);
   digests = λ row less. o.digests row (omega arith);
 }
 
@@ -164,7 +172,8 @@ pub text-none : (g : Stump) → roots_text 0 g ≡ []
 unfolding roots_text
 text-none g = refl
 
-read-slot : (k : ℕ) (f : Stump) (bytes : List ℕ) → is_slot f.leaves k ≡ true → roots_at (suc k) f bytes ≡ (root_at bytes >>= λ root. roots_at k (with_root f k root.0) root.1)
+read-slot : (k : ℕ) (f : Stump) (bytes : List ℕ) → is_slot f.leaves k ≡ true
+    → roots_at (suc k) f bytes ≡ (root_at bytes >>= λ root. roots_at k (with_root f k root.0) root.1)
 unfolding roots_at
 read-slot k f bytes e = rw e refl
 
@@ -176,7 +185,8 @@ read-none : (f : Stump) (bytes : List ℕ) → roots_at 0 f bytes ≡ Some (f, b
 unfolding roots_at
 read-none f bytes = refl
 
-roots_took : (k : ℕ) (f : Stump) → k ≤ 40 → IsBlank k f → (bytes : List ℕ) (g : Stump) (rest : List ℕ) → IsBytes bytes → roots_at k f bytes ≡ Some (g, rest) → Took bytes (roots_text k g) rest (IsOver k f g)
+roots_took : (k : ℕ) (f : Stump) → k ≤ 40 → IsBlank k f → (bytes : List ℕ) (g : Stump) (rest : List ℕ) → IsBytes bytes
+    → roots_at k f bytes ≡ Some (g, rest) → Took bytes (roots_text k g) rest (IsOver k f g)
 roots_took zero f le b bytes g rest is_bytes e =
     subst (λ (p : Stump × List ℕ). Took bytes (roots_text 0 p.0) p.1 (IsOver 0 f p.0)) (some_is (f, bytes) (g, rest) (sym (read-none f bytes) ∙ e))
     (record {
@@ -194,24 +204,34 @@ roots_took (suc k) f le b bytes g rest is_bytes e =
     let slot' : is_slot g.leaves k ≡ true = ap (λ n. is_slot n k) o.0.leaves ∙ slot in
     record {
       fits = o.0;
-      parts = t.parts ∙ (ap₂ (λ (x : Option Digest) (y : List ℕ). root_text x ++ y) (sym o.1) u.parts ∙ (sym (append_assoc (root_text (root_in g k)) (roots_text k g) rest) ∙ ap (λ (x : List ℕ). x ++ rest) (sym (text-slot k g slot'))));
+      parts = t.parts ∙ (ap₂ (λ (x : Option Digest) (y : List ℕ). root_text x ++ y) (sym o.1) u.parts
+          ∙ (sym (append_assoc (root_text (root_in g k)) (roots_text k g) rest) ∙ ap (λ (x : List ℕ). x ++ rest) (sym (text-slot k g slot'))));
       rest_bytes = u.rest_bytes;
     })
     (λ bare.
     let u = roots_took k f (omega arith) (less_blank k f b) bytes g rest is_bytes (sym (read-bare k f bytes bare) ∙ e) in
     let o = none_here k f g bare b u.fits in
-    record { fits = o; parts = u.parts ∙ ap (λ (x : List ℕ). x ++ rest) (sym (text-bare k g (ap (λ n. is_slot n k) o.leaves ∙ bare))); rest_bytes = u.rest_bytes })
+    record {
+      fits = o;
+      parts = u.parts ∙ ap (λ (x : List ℕ). x ++ rest) (sym (text-bare k g (ap (λ n. is_slot n k) o.leaves ∙ bare)));
+      rest_bytes =
+          u.rest_bytes;
+    })
     (cases_Bool (is_slot f.leaves k))
 
-roots_again : (k : ℕ) (f : Stump) → k ≤ 40 → IsBlank k f → (g : Stump) (rest : List ℕ) → IsOver k f g → roots_at k f (roots_text k g ++ rest) ≡ Some (g, rest)
-roots_again zero f le b g rest o = read-none f (roots_text 0 g ++ rest) ∙ ap₂ (λ (x : Stump) (y : List ℕ). found (x, y)) (none_over f g b o) (ap (λ (x : List ℕ). x ++ rest) (text-none g))
+roots_again : (k : ℕ) (f : Stump) → k ≤ 40 → IsBlank k f → (g : Stump) (rest : List ℕ) → IsOver k f g
+    → roots_at k f (roots_text k g ++ rest) ≡ Some (g, rest)
+roots_again zero f le b g rest o = read-none f (roots_text 0 g ++ rest)
+    ∙ ap₂ (λ (x : Stump) (y : List ℕ). found (x, y)) (none_over f g b o) (ap (λ (x : List ℕ). x ++ rest) (text-none g))
 roots_again (suc k) f le b g rest o =
     ⊎_elim
     (λ slot.
     let r = root_in g k in
-    let text = ap (λ (x : List ℕ). x ++ rest) (text-slot k g (ap (λ n. is_slot n k) o.leaves ∙ slot)) ∙ append_assoc (root_text r) (roots_text k g) rest in
+    let text = ap (λ (x : List ℕ). x ++ rest) (text-slot k g (ap (λ n. is_slot n k) o.leaves ∙ slot))
+    ∙ append_assoc (root_text r) (roots_text k g) rest in
     let first = root_lawful.again r (roots_text k g ++ rest) (o.digests k (omega arith)) in
-    ap (roots_at (suc k) f) text ∙ (read-slot k f _ slot ∙ rw first (roots_again k (with_root f k r) (omega arith) (with_blank k f r slot b) g rest (to_over k f g (omega arith) b o))))
+    ap (roots_at (suc k) f) text ∙ (read-slot k f _ slot
+    ∙ rw first (roots_again k (with_root f k r) (omega arith) (with_blank k f r slot b) g rest (to_over k f g (omega arith) b o))))
     (λ bare.
     ap (λ (x : List ℕ). roots_at (suc k) f (x ++ rest)) (text-bare k g (ap (λ n. is_slot n k) o.leaves ∙ bare))
     ∙ (read-bare k f (roots_text k g ++ rest) bare ∙ roots_again k f (omega arith) (less_blank k f b) g rest (none_there k f g bare b o)))
@@ -239,11 +259,16 @@ empty_blank n = record { forty = refl; below = λ row lt. empty-none n row; bare
 pub roots_lawful : (n : ℕ) → n < 2 ^ 40 → Lawful (AreRoots n) (roots_text 40) (roots_at 40 (empty_roots n))
 roots_lawful n few =
     same (IsOver 40 (empty_roots n)) (AreRoots n) (roots_text 40) (roots_text 40) (roots_at 40 (empty_roots n))
-    (record { took = λ bytes g rest is_bytes e. roots_took 40 (empty_roots n) (omega arith) (empty_blank n) bytes g rest is_bytes e; again = λ g rest o. roots_again 40 (empty_roots n) (omega arith) (empty_blank n) g rest o })
+    (record {
+      took = λ bytes g rest is_bytes e. roots_took 40 (empty_roots n) (omega arith) (empty_blank n) bytes g rest is_bytes e;
+      again =
+          λ g rest o. roots_again 40 (empty_roots n) (omega arith) (empty_blank n) g rest o;
+    })
     (λ g o. record {
       leaves = o.leaves;
       stump = record { few = rw o.leaves few; forty = o.forty; bare = λ row none. o.bare row (ap (λ m. is_slot m row) (sym o.leaves) ∙ none) };
-      digests = λ row. ⊎_elim (λ lt. o.digests row lt) (λ ge. subst RootFits (sym (get_or_past g.rows row None (omega (arith, o.forty)))) tt) (cases_lt row 40);
+      digests = λ row. ⊎_elim (λ lt. o.digests row lt) (λ ge. subst RootFits (sym (get_or_past g.rows row None (omega (arith, o.forty)))) tt)
+          (cases_lt row 40);
     })
     (λ g a. record {
       leaves = a.leaves;

@@ -1,5 +1,6 @@
 -- Ascending scripts: what stands before what, and a search.
-use Rattle.std.proofs.Common.{◌≡◌, ℕ, zero, suc, ◌-◌, ◌<◌, ◌≤◌, true, ◌+◌, List, [], ◌∷◌, map, length, take, drop, get_or, Some, refl, sym, ap, ◌∙◌, subst, arith, ⊎_elim}
+use Rattle.std.proofs.Common.{◌≡◌, ℕ, zero, suc, ◌-◌, ◌<◌, ◌≤◌, true, ◌+◌, List, [], ◌∷◌, map, length, take, drop, get_or, Some, refl, sym, ap, ◌∙◌}
+use Rattle.std.proofs.Common.{subst, arith, ⊎_elim}
 use Rattle.std.specs.Prelude.{bytes_eq}
 use Rattle.std.specs.Global.{Vec}
 use Rattle.std.specs.List.{insert}
@@ -62,7 +63,8 @@ is_less Less e = refl
 is_less Equal e = absurd (false≢true e)
 is_less Greater e = absurd (false≢true e)
 
-before_found : (x : List ℕ) (xs : List (List ℕ)) → ScriptsRise (x ∷ xs) → (k v : List ℕ) → find bytes_eq script_key k xs ≡ Some v → is_before_script x k ≡ true
+before_found : (x : List ℕ) (xs : List (List ℕ)) → ScriptsRise (x ∷ xs) → (k v : List ℕ) → find bytes_eq script_key k xs ≡ Some v
+    → is_before_script x k ≡ true
 before_found x [] rise k v e = absurd (none-some v e)
 before_found x (y ∷ ys) rise k v e =
     ⊎_elim

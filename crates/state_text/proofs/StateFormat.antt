@@ -1,5 +1,6 @@
 -- Levels and states are lawful formats.
-use Rattle.std.proofs.Common.{◌≡◌, ℕ, ◌^◌, ◌<◌, ◌≤◌, cond, eqb, leb, false, List, [], ◌∷◌, ◌++◌, length, Some, None, refl, sym, ap, ap₂, subst, ◌∙◌, append_assoc, append-nil, arith, ⊎_elim}
+use Rattle.std.proofs.Common.{◌≡◌, ℕ, ◌^◌, ◌<◌, ◌≤◌, cond, eqb, leb, false, List, [], ◌∷◌, ◌++◌, length, Some, None, refl, sym, ap, ap₂, subst, ◌∙◌}
+use Rattle.std.proofs.Common.{append_assoc, append-nil, arith, ⊎_elim}
 use Rattle.std.specs.Int.{w32, w64, to_le_bytes}
 use Rattle.std.specs.List.{flat_map, AllByRecursion}
 use Rattle.std.proofs.lemmas.Bool.{cases_Bool, eqb-true, le-leb, leb-true}
@@ -8,7 +9,8 @@ use Rattle.uo_base.specs.declared.event.Net.{Net}
 use Rattle.uo_base.specs.declared.event.Net.TheVariants.{Main, Regtest}
 use Rattle.uo_base.specs.Reading.{IsBytes, ◌>>=◌, byte_at, number_at, times}
 use Rattle.uo_base.specs.Compact.{sized, sized_at, counted, counted_at}
-use Rattle.uo_base.proofs.Formats.{Took, Lawful, same, led, ended, tested, repeated, bind_some, passed, not_both, some_is, Always, u32_lawful, u64_lawful}
+use Rattle.uo_base.proofs.Formats.{Took, Lawful, same, led, ended, tested, repeated, bind_some, passed, not_both, some_is, Always, u32_lawful}
+use Rattle.uo_base.proofs.Formats.{u64_lawful}
 use Rattle.uo_base.proofs.CompactLaws.{AreCounted, counted_lawful, sized_lawful}
 use Rattle.uo_digest.specs.declared.digest.Digest.{Digest}
 use Rattle.uo_digest.specs.Reading.{digest_text, IsDigest}
@@ -69,7 +71,8 @@ unfolding head_at
 head_lawful most few =
     same _ (HeadFits most) head_text head_text (head_at most)
     (led Always IsDigest digest_text digest_in_front (λ (h : Head). h.0) _ _ _ digest_lawful (λ tip _.
-    led (λ (h : Head). Unit {0} × (h.0 ≡ tip)) (λ n. n ≤ most) (to_le_bytes w64) (leaves_at most) (λ h. h.1.leaves) _ _ _ (leaves_lawful most few) (λ n le.
+    led (λ (h : Head). Unit {0} × (h.0 ≡ tip)) (λ n. n ≤ most) (to_le_bytes w64) (leaves_at most) (λ h. h.1.leaves) _ _ _ (leaves_lawful most few)
+    (λ n le.
     head_roots tip n (omega (arith, le, few)))))
     (λ h f. record { tip = f.1.0; leaves = f.1.1.0; roots = f.1.1.1.0 })
     (λ h f. (tt, (f.tip, (f.leaves, (f.roots, tt)))))
@@ -89,12 +92,15 @@ abbrev LevelTold : Head → LevelValue → Type 0
 LevelTold h l = Unit {0} × (head_of l ≡ h)
 
 level_behind : (by : Naming) (h : Head) → h.1.leaves < 2 ^ 40 → Lawful (λ (l : LevelValue). LevelTold h l × Behind l) (behind_text by)
-    (λ bytes. counted_at (entry_at by h.1.leaves) bytes >>= λ kept. counted_at digest_in_front kept.1 >>= λ hashes. Some (record { tip = h.0; roots = h.1; kept = kept.0; hashes = hashes.0 }, hashes.1))
+    (λ bytes. counted_at (entry_at by h.1.leaves) bytes >>= λ kept. counted_at digest_in_front kept.1 >>= λ hashes. Some
+    (record { tip = h.0; roots = h.1; kept = kept.0; hashes = hashes.0 }, hashes.1))
 level_behind by h few =
     same _ (λ (l : LevelValue). LevelTold h l × Behind l) _ (behind_text by) _
-    (led (LevelTold h) (AreCounted (EntryFits h.1.leaves)) (counted (entry_text by h.1.leaves)) (counted_at (entry_at by h.1.leaves)) (λ l. l.kept) _ _ _
+    (led (LevelTold h) (AreCounted (EntryFits h.1.leaves)) (counted (entry_text by h.1.leaves)) (counted_at (entry_at by h.1.leaves)) (λ l. l.kept) _
+    _ _
     (counted_lawful (EntryFits h.1.leaves) (entry_text by h.1.leaves) (entry_at by h.1.leaves) (entry_lawful by h.1.leaves few)) (λ kept _.
-    led (λ (l : LevelValue). LevelTold h l × (l.kept ≡ kept)) (AreCounted IsDigest) (counted digest_text) (counted_at digest_in_front) (λ l. l.hashes) _ _ _ (counted_lawful IsDigest digest_text digest_in_front digest_lawful) (λ hashes _.
+    led (λ (l : LevelValue). LevelTold h l × (l.kept ≡ kept)) (AreCounted IsDigest) (counted digest_text) (counted_at digest_in_front) (λ l. l.hashes)
+    _ _ _ (counted_lawful IsDigest digest_text digest_in_front digest_lawful) (λ hashes _.
     ended (λ (l : LevelValue). (LevelTold h l × (l.kept ≡ kept)) × (l.hashes ≡ hashes))
     (record { tip = h.0; roots = h.1; kept = kept; hashes = hashes }) (((tt, refl), refl), refl)
     (λ l e. rw (← e.0.0.1, ← e.0.1, ← e.1) refl))))
@@ -106,7 +112,8 @@ pub level_lawful : (by : Naming) (most : ℕ) → most < 2 ^ 40 → Lawful (Leve
 unfolding level_at level_text
 level_lawful by most few =
     same _ (LevelFits most) _ (level_text by) (level_at by most)
-    (led Always (HeadFits most) head_text (head_at most) head_of _ _ _ (head_lawful most few) (λ h fits. level_behind by h (omega (arith, fits.leaves, few))))
+    (led Always (HeadFits most) head_text (head_at most) head_of _ _ _ (head_lawful most few)
+    (λ h fits. level_behind by h (omega (arith, fits.leaves, few))))
     (λ l f. record {
       tip = f.1.0.tip;
       leaves = f.1.0.leaves;
@@ -117,8 +124,15 @@ level_lawful by most few =
       count_of_hashes = f.1.1.1.0.0;
       hashes = f.1.1.1.0.1;
     })
-    (λ l f. (tt, (record { tip = f.tip; leaves = f.leaves; roots = record { stump = f.roots; digests = f.digests } }, ((f.count_of_kept, f.kept), ((f.count_of_hashes, f.hashes), tt)))))
-    (λ l _. regrouped l.tip.0 (to_le_bytes w64 l.roots.leaves) (roots_text 40 l.roots) (counted (entry_text by l.roots.leaves) l.kept) (counted digest_text l.hashes))
+    (λ l f. (
+      tt,
+      (
+        record { tip = f.tip; leaves = f.leaves; roots = record { stump = f.roots; digests = f.digests } },
+        ((f.count_of_kept, f.kept), ((f.count_of_hashes, f.hashes), tt)),
+      ),
+    ))
+    (λ l _. regrouped l.tip.0 (to_le_bytes w64 l.roots.leaves) (roots_text 40 l.roots) (counted (entry_text by l.roots.leaves) l.kept)
+    (counted digest_text l.hashes))
   where
     regrouped : (t n r k h : List ℕ) → (t ++ (n ++ (r ++ []))) ++ (k ++ (h ++ [])) ≡ t ++ n ++ r ++ k ++ h
     regrouped t n r k h = simp (append_assoc, append-nil)
@@ -141,18 +155,21 @@ net_other : (b : ℕ) (bytes : List ℕ) → eqb b 0 ≡ false → eqb b 1 ≡ f
 unfolding net_at
 net_other b bytes e f = rw (e, f) refl
 
-net_took : (bytes : List ℕ) (net : Net) (rest : List ℕ) → IsBytes bytes → net_at bytes ≡ Some (net, rest) → Took bytes (net_code net ∷ []) rest (Unit {0})
+net_took : (bytes : List ℕ) (net : Net) (rest : List ℕ) → IsBytes bytes → net_at bytes ≡ Some (net, rest)
+    → Took bytes (net_code net ∷ []) rest (Unit {0})
 net_took [] net rest is_bytes e = absurd (not_both (net_at []) (net, rest) net_none e)
 net_took (b ∷ bytes) net rest is_bytes e =
     ⊎_elim
     (λ zero.
     let z : b ≡ 0 = eqb-true b 0 zero in
-    subst (λ (p : Net × List ℕ). Took (b ∷ bytes) (net_code p.0 ∷ []) p.1 (Unit {0})) (some_is (Main, bytes) (net, rest) (sym (net_main bytes) ∙ (ap (λ (k : ℕ). net_at (k ∷ bytes)) (sym z) ∙ e)))
+    subst (λ (p : Net × List ℕ). Took (b ∷ bytes) (net_code p.0 ∷ []) p.1 (Unit {0}))
+    (some_is (Main, bytes) (net, rest) (sym (net_main bytes) ∙ (ap (λ (k : ℕ). net_at (k ∷ bytes)) (sym z) ∙ e)))
     (record { fits = tt; parts = ap (λ (k : ℕ). k ∷ bytes) z; rest_bytes = bytes-tail b bytes is_bytes }))
     (λ more. ⊎_elim
     (λ one.
     let z : b ≡ 1 = eqb-true b 1 one in
-    subst (λ (p : Net × List ℕ). Took (b ∷ bytes) (net_code p.0 ∷ []) p.1 (Unit {0})) (some_is (Regtest, bytes) (net, rest) (sym (net_regtest bytes) ∙ (ap (λ (k : ℕ). net_at (k ∷ bytes)) (sym z) ∙ e)))
+    subst (λ (p : Net × List ℕ). Took (b ∷ bytes) (net_code p.0 ∷ []) p.1 (Unit {0}))
+    (some_is (Regtest, bytes) (net, rest) (sym (net_regtest bytes) ∙ (ap (λ (k : ℕ). net_at (k ∷ bytes)) (sym z) ∙ e)))
     (record { fits = tt; parts = ap (λ (k : ℕ). k ∷ bytes) z; rest_bytes = bytes-tail b bytes is_bytes }))
     (λ other. absurd (not_both (net_at (b ∷ bytes)) (net, rest) (net_other b bytes more other) e))
     (cases_Bool (eqb b 1)))
@@ -168,7 +185,8 @@ net_lawful = record { took = net_took; again = λ net rest _. net_again net rest
 byte_took : (bytes : List ℕ) (n : ℕ) (rest : List ℕ) → IsBytes bytes → byte_at bytes ≡ Some (n, rest) → Took bytes (n ∷ []) rest (n < 256)
 byte_took [] n rest is_bytes e = absurd cc
 byte_took (b ∷ bytes) n rest is_bytes e =
-    subst (λ (p : ℕ × List ℕ). Took (b ∷ bytes) (p.0 ∷ []) p.1 (p.0 < 256)) (some_is (b, bytes) (n, rest) e) (record { fits = is_bytes 0; parts = refl; rest_bytes = bytes-tail b bytes is_bytes })
+    subst (λ (p : ℕ × List ℕ). Took (b ∷ bytes) (p.0 ∷ []) p.1 (p.0 < 256)) (some_is (b, bytes) (n, rest) e)
+    (record { fits = is_bytes 0; parts = refl; rest_bytes = bytes-tail b bytes is_bytes })
 
 byte_lawful : Lawful (λ n. n < 256) (λ n. n ∷ []) byte_at
 byte_lawful = record { took = byte_took; again = λ n rest fits. refl }
@@ -203,11 +221,15 @@ abbrev BodyTold : Front → List (List ℕ) → ℕ → StateValue → Type 0
 BodyTold front scripts count s = ((Unit {0} × (front_of s ≡ front)) × (s.scripts ≡ scripts)) × (length s.levels ≡ count)
 
 body_levels : (by : Naming) (most : ℕ) → most < 2 ^ 40 → (front : Front) (scripts : List (List ℕ)) (count : ℕ)
-    → Lawful (λ (s : StateValue). BodyTold front scripts count s × (AllByRecursion (LevelFits most) s.levels × Unit {0})) (λ s. flat_map (level_text by) s.levels ++ [])
-    (λ bytes. times (level_at by most) count bytes >>= λ levels. Some (record { net = front.0; blocks = front.1; scripts = scripts; levels = levels.0 }, levels.1))
+    → Lawful (λ (s : StateValue). BodyTold front scripts count s × (AllByRecursion (LevelFits most) s.levels × Unit {0}))
+    (λ s. flat_map (level_text by) s.levels ++ [])
+    (λ bytes. times (level_at by most) count bytes >>= λ levels. Some
+    (record { net = front.0; blocks = front.1; scripts = scripts; levels = levels.0 }, levels.1))
 body_levels by most few front scripts count =
-    same _ (λ (s : StateValue). BodyTold front scripts count s × (AllByRecursion (LevelFits most) s.levels × Unit {0})) _ (λ s. flat_map (level_text by) s.levels ++ []) _
-    (led (BodyTold front scripts count) (λ ls. (length ls ≡ count) × AllByRecursion (LevelFits most) ls) (flat_map (level_text by)) (times (level_at by most) count) (λ (s : StateValue). s.levels) _ _ _
+    same _ (λ (s : StateValue). BodyTold front scripts count s × (AllByRecursion (LevelFits most) s.levels × Unit {0})) _
+    (λ s. flat_map (level_text by) s.levels ++ []) _
+    (led (BodyTold front scripts count) (λ ls. (length ls ≡ count) × AllByRecursion (LevelFits most) ls) (flat_map (level_text by))
+    (times (level_at by most) count) (λ (s : StateValue). s.levels) _ _ _
     (repeated (LevelFits most) (level_text by) (level_at by most) (level_lawful by most few) count) (λ levels fits.
     ended (λ (s : StateValue). BodyTold front scripts count s × (s.levels ≡ levels))
     (record { net = front.0; blocks = front.1; scripts = scripts; levels = levels }) ((((tt, refl), refl), fits.0), refl)
@@ -221,12 +243,15 @@ unfolding body_at body_text
 body_lawful by most few =
     same _ (StateFits most) _ (body_text by) (body_at by most)
     (led Always FrontFits front_text front_at front_of _ _ _ front_lawful (λ front _.
-    led (λ (s : StateValue). Unit {0} × (front_of s ≡ front)) (AreCounted ScriptFits) (counted sized) (counted_at sized_at) (λ s. s.scripts) _ _ _ (counted_lawful ScriptFits sized sized_at sized_lawful) (λ scripts _.
-    led (λ (s : StateValue). (Unit {0} × (front_of s ≡ front)) × (s.scripts ≡ scripts)) (λ n. n < 256) (λ n. n ∷ []) byte_at (λ s. length s.levels) _ _ _ byte_lawful (λ count _.
+    led (λ (s : StateValue). Unit {0} × (front_of s ≡ front)) (AreCounted ScriptFits) (counted sized) (counted_at sized_at) (λ s. s.scripts) _ _ _
+    (counted_lawful ScriptFits sized sized_at sized_lawful) (λ scripts _.
+    led (λ (s : StateValue). (Unit {0} × (front_of s ≡ front)) × (s.scripts ≡ scripts)) (λ n. n < 256) (λ n. n ∷ []) byte_at (λ s. length s.levels) _
+    _ _ byte_lawful (λ count _.
     body_levels by most few front scripts count))))
     (λ s f. record { blocks = f.1.0; count_of_scripts = f.1.1.0.0; scripts = f.1.1.0.1; count_of_levels = f.1.1.1.0; levels = f.1.1.1.1.0 })
     (λ s f. (tt, (f.blocks, ((f.count_of_scripts, f.scripts), (f.count_of_levels, (f.levels, tt))))))
-    (λ s _. regrouped (net_code s.net ∷ []) (to_le_bytes w32 s.blocks) (counted sized s.scripts) (length s.levels ∷ []) (flat_map (level_text by) s.levels))
+    (λ s _. regrouped (net_code s.net ∷ []) (to_le_bytes w32 s.blocks) (counted sized s.scripts) (length s.levels ∷ [])
+    (flat_map (level_text by) s.levels))
   where
     regrouped : (n b s c l : List ℕ) → (n ++ (b ++ [])) ++ (s ++ (c ++ (l ++ []))) ≡ n ++ b ++ s ++ c ++ l
     regrouped n b s c l = simp (append_assoc, append-nil)
@@ -238,7 +263,8 @@ pub record IsBody (by : Naming) (most : ℕ) (bytes : List ℕ) (s : StateValue)
   pub fits : StateFits most s
   pub text : bytes ≡ body_text by s
 
-pub whole_took : (by : Naming) (most : ℕ) → most < 2 ^ 40 → (bytes : List ℕ) (s : StateValue) (left : List ℕ) → IsBytes bytes → whole_at by most bytes ≡ Some (s, left) → IsBody by most bytes s
+pub whole_took : (by : Naming) (most : ℕ) → most < 2 ^ 40 → (bytes : List ℕ) (s : StateValue) (left : List ℕ) → IsBytes bytes
+    → whole_at by most bytes ≡ Some (s, left) → IsBody by most bytes s
 unfolding whole_at
 whole_took by most few bytes s left is_bytes e =
     let b = bind_some (body_at by most bytes) (λ x. cond (eqb (length x.1) 0) (Some x) None) (s, left) e in
@@ -251,9 +277,12 @@ whole_took by most few bytes s left is_bytes e =
 pub whole_again : (by : Naming) (most : ℕ) → most < 2 ^ 40 → (s : StateValue) → StateFits most s → whole_at by most (body_text by s) ≡ Some (s, [])
 unfolding whole_at
 whole_again by most few s fits =
-    let e : body_at by most (body_text by s) ≡ Some (s, []) = ap (body_at by most) (sym (append-nil (body_text by s))) ∙ (body_lawful by most few).again s [] fits in
+    let e : body_at by most (body_text by s) ≡ Some (s, []) = ap (body_at by most) (sym (append-nil (body_text by s)))
+    ∙ (body_lawful by most few).again s [] fits in
     rw e refl
 
 -- a text is that of one state
-pub one_body : (by : Naming) (most : ℕ) → most < 2 ^ 40 → (s t : StateValue) → StateFits most s → StateFits most t → body_text by s ≡ body_text by t → s ≡ t
-one_body by most few s t fs ft e = ap (λ p. p.0) (some_is (s, []) (t, []) (sym (whole_again by most few s fs) ∙ (ap (whole_at by most) e ∙ whole_again by most few t ft)))
+pub one_body : (by : Naming) (most : ℕ) → most < 2 ^ 40 → (s t : StateValue) → StateFits most s → StateFits most t → body_text by s ≡ body_text by t
+    → s ≡ t
+one_body by most few s t fs ft e = ap (λ p. p.0)
+    (some_is (s, []) (t, []) (sym (whole_again by most few s fs) ∙ (ap (whole_at by most) e ∙ whole_again by most few t ft)))

@@ -38,7 +38,8 @@ module _ (at : Place → Option Digest) where
   told_places [] = refl
   told_places (p ∷ ps) = by_one (at p) refl (told_places ps)
     where
-      by_one : (x : Option Digest) → at p ≡ x → places_in (filter_map told ps) ≡ filter (λ q. is_some (at q)) ps → places_in (filter_map told (p ∷ ps)) ≡ filter (λ q. is_some (at q)) (p ∷ ps)
+      by_one : (x : Option Digest) → at p ≡ x → places_in (filter_map told ps) ≡ filter (λ q. is_some (at q)) ps
+          → places_in (filter_map told (p ∷ ps)) ≡ filter (λ q. is_some (at q)) (p ∷ ps)
       by_one None e rest = rw e rest
       by_one (Some d) e rest = rw e (ap (λ qs. p ∷ qs) rest)
 
@@ -77,14 +78,18 @@ module _ (at : Place → Option Digest) where
       there : is_at r o p ≡ false → has_place ps r o ≡ true
       there other = ⊎_elim (λ t. absurd (false≢true (sym other ∙ t))) (λ t. t) (or_cases (is_at r o p) (has_place ps r o) h)
 
-      by_one : (x : Option Digest) → at p ≡ x → (is_at r o p ≡ true) ⊎ (is_at r o p ≡ false) → (has_place ps r o ≡ true → look (filter_map told ps) r o ≡ at (place r o)) → look (filter_map told (p ∷ ps)) r o ≡ at (place r o)
-      by_one None e (inl here) rest = let f : at (place r o) ≡ None = ap at (sym (same_from_is_at r o p here)) ∙ e in rw e (none_told ps r o f ∙ sym f)
-      by_one (Some d) e (inl here) rest = let f : at (place r o) ≡ Some d = ap at (sym (same_from_is_at r o p here)) ∙ e in rw e (look_here p d (filter_map told ps) r o here ∙ sym f)
+      by_one : (x : Option Digest) → at p ≡ x → (is_at r o p ≡ true) ⊎ (is_at r o p ≡ false)
+          → (has_place ps r o ≡ true → look (filter_map told ps) r o ≡ at (place r o)) → look (filter_map told (p ∷ ps)) r o ≡ at (place r o)
+      by_one None e (inl here) rest = let f : at (place r o) ≡ None = ap at (sym (same_from_is_at r o p here)) ∙ e in
+          rw e (none_told ps r o f ∙ sym f)
+      by_one (Some d) e (inl here) rest = let f : at (place r o) ≡ Some d = ap at (sym (same_from_is_at r o p here)) ∙ e in
+          rw e (look_here p d (filter_map told ps) r o here ∙ sym f)
       by_one None e (inr other) rest = rw e (rest (there other))
       by_one (Some d) e (inr other) rest = rw e (look_later p d (filter_map told ps) r o other ∙ rest (there other))
 
 -- two lists over the same places that are told are the same
-same_held : (at : Place → Option Digest) (xs ys : List (Place × Digest)) → places_in xs ≡ places_in ys → AllByRecursion (λ h. at h.0 ≡ Some h.1) xs → AllByRecursion (λ h. at h.0 ≡ Some h.1) ys → xs ≡ ys
+same_held : (at : Place → Option Digest) (xs ys : List (Place × Digest)) → places_in xs ≡ places_in ys → AllByRecursion (λ h. at h.0 ≡ Some h.1) xs
+    → AllByRecursion (λ h. at h.0 ≡ Some h.1) ys → xs ≡ ys
 same_held at [] [] e a b = refl
 same_held at [] (y ∷ ys) e a b = absurd (omega (arith, ap length e))
 same_held at (x ∷ xs) [] e a b = absurd (omega (arith, ap length e))
@@ -92,17 +97,21 @@ same_held at (x ∷ xs) (y ∷ ys) e a b =
     let first : x.0 ≡ y.0 = cc in
     let others : places_in xs ≡ places_in ys = cc in
     let digest : x.1 ≡ y.1 = same_Some x.1 y.1 (sym a.0 ∙ (ap at first ∙ b.0)) in
-    ap₂ (λ (h : Place × Digest) (hs : List (Place × Digest)). h ∷ hs) (ap₂ (λ (p : Place) (d : Digest). (p, d)) first digest) (same_held at xs ys others a.1 b.1)
+    ap₂ (λ (h : Place × Digest) (hs : List (Place × Digest)). h ∷ hs) (ap₂ (λ (p : Place) (d : Digest). (p, d)) first digest)
+    (same_held at xs ys others a.1 b.1)
 
-told_of_held : (n : ℕ) (at : Place → Option Digest) (hs : List (Place × Digest)) → AllByRecursion (IsHeld n at) hs → AllByRecursion (λ h. at h.0 ≡ Some h.1) hs
+told_of_held : (n : ℕ) (at : Place → Option Digest) (hs : List (Place × Digest)) → AllByRecursion (IsHeld n at) hs
+    → AllByRecursion (λ h. at h.0 ≡ Some h.1) hs
 told_of_held n at [] a = tt
 told_of_held n at (h ∷ hs) a = (a.0.1, told_of_held n at hs a.1)
 
-within_held : (n : ℕ) (at : Place → Option Digest) (hs : List (Place × Digest)) → AllByRecursion (IsHeld n at) hs → (r o : ℕ) → has_place (places_in hs) r o ≡ true → InForest n r o × (is_some (at (place r o)) ≡ true)
+within_held : (n : ℕ) (at : Place → Option Digest) (hs : List (Place × Digest)) → AllByRecursion (IsHeld n at) hs → (r o : ℕ)
+    → has_place (places_in hs) r o ≡ true → InForest n r o × (is_some (at (place r o)) ≡ true)
 within_held n at [] a r o h = absurd (false≢true h)
 within_held n at (x ∷ hs) a r o h =
     ⊎_elim
-    (λ here. let same = same_from_is_at r o x.0 here in subst (λ (p : Place). InForest n p.row p.off × (is_some (at p) ≡ true)) same (a.0.0, ap is_some a.0.1))
+    (λ here. let same = same_from_is_at r o x.0 here in
+    subst (λ (p : Place). InForest n p.row p.off × (is_some (at p) ≡ true)) same (a.0.0, ap is_some a.0.1))
     (λ there. within_held n at hs a.1 r o there)
     (or_cases (is_at r o x.0) (has_place (places_in hs) r o) h)
 
@@ -121,7 +130,8 @@ module _ (n : ℕ) (at : Place → Option Digest) where
   pub listed : (hs : List (Place × Digest)) → AreHeld n at hs → hs ≡ told_list n at
   listed hs are =
       let same : places_in hs ≡ filter (λ p. is_some (at p)) (places n) =
-      same_ascending (places_in hs) (filter (λ p. is_some (at p)) (places n)) are.ascending (ascending-filter (λ p. is_some (at p)) (places n) (places_ascending n))
+      same_ascending (places_in hs) (filter (λ p. is_some (at p)) (places n)) are.ascending
+      (ascending-filter (λ p. is_some (at p)) (places n) (places_ascending n))
       (λ r o h. let w = within_held n at hs are.sound r o h in filter_has (λ p. is_some (at p)) (places n) r o (places_have n r o w.0) w.1)
       (λ r o h.
       let w = filter_had (λ p. is_some (at p)) (places n) r o h in
@@ -131,7 +141,8 @@ module _ (n : ℕ) (at : Place → Option Digest) where
 
 -- ---- the order of a cache
 
-found_has : (p : Place) (hs : List (Place × Digest)) (h : Place × Digest) → find is_same_place held_key p hs ≡ Some h → has_place (places_in hs) p.row p.off ≡ true
+found_has : (p : Place) (hs : List (Place × Digest)) (h : Place × Digest) → find is_same_place held_key p hs ≡ Some h
+    → has_place (places_in hs) p.row p.off ≡ true
 found_has p [] h e = absurd cc
 found_has p (x ∷ hs) h e =
     ⊎_elim

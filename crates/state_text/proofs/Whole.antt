@@ -34,7 +34,8 @@ module _ (H : List ℕ → Digest) (by : Naming) (most : ℕ) (few : most < 2 ^ 
     -- what was found of what was read
     pub judged : IsBytes body → (r : Result CachedState StateFault)
         → MatchResult r (λ s. IsSound H most v × (state_in s ≡ v) × AllByRecursion (IsFilled H) s.levels) (λ e. claims e (IsSound H most v → ⊥))
-        → MatchResult r (λ s. IsState H most (state_in s) × (body ≡ body_text by (state_in s)) × AllByRecursion (IsFilled H) s.levels) (λ e. claims e (HasBody H by most body → ⊥))
+        → MatchResult r (λ s. IsState H most (state_in s) × (body ≡ body_text by (state_in s)) × AllByRecursion (IsFilled H) s.levels)
+        (λ e. claims e (HasBody H by most body → ⊥))
     judged is_bytes (Ok s) m =
         let t = whole_took by most few body v [] is_bytes read in
         let state : IsState H most v = record { fits = t.fits; sound = m.0 } in

@@ -69,5 +69,6 @@ StandingIsStored = (H : List ℕ → Digest) (scripts : List (List ℕ)) (c : Ca
 
 -- what is read of the state of a node that holds every output stands for it, level by level
 abbrev pub StoredIsStanding : Type 0
-StoredIsStanding = (H : List ℕ → Digest) (net : Net) (scripts : List (List ℕ)) (s : State) (c : CachedState) → AllByRecursion (λ l. length l.history < 2 ^ 40) (s.now ∷ s.older) →
+StoredIsStanding = (H : List ℕ → Digest) (net : Net) (scripts : List (List ℕ)) (s : State) (c : CachedState)
+    → AllByRecursion (λ l. length l.history < 2 ^ 40) (s.now ∷ s.older) →
     state_in c ≡ state_of H net scripts s → AllByRecursion (IsFilled H) c.levels → AllZip (StandsForLevel H scripts) c.levels (s.now ∷ s.older)

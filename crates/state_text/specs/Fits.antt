@@ -68,7 +68,8 @@ pub record AreKept (scripts : List (List ℕ)) (n : ℕ) (kept : List StoredEntr
 -- under roots that are not empty, there is a hash for each needed place, and each slot evaluates to its root
 pub record IsLevel (H : List ℕ → Digest) (scripts : List (List ℕ)) (l : LevelValue) : Type 0 where
   pub kept : AreKept scripts l.roots.leaves l.kept
-  pub proved : IsAccepted H l.roots.leaves (root_in l.roots) (places_of l.kept) nothing_known (map (λ leaf. H (leaf_text leaf)) (leaves_of l.kept)) l.hashes
+  pub proved : IsAccepted H l.roots.leaves (root_in l.roots) (places_of l.kept) nothing_known (map (λ leaf. H (leaf_text leaf)) (leaves_of l.kept))
+      l.hashes
 
 -- a level with no block is that of the start
 pub record IsStart (l : LevelValue) : Type 0 where

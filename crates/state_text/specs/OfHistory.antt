@@ -91,4 +91,5 @@ HistoryHasState = (H : List ℕ → Digest) (net : Net) (scripts : List (List �
 
 -- and a text is that of one state alone, whatever its version
 abbrev pub OneState : Type 0
-OneState = (H : List ℕ → Digest) (most : ℕ) (text : List ℕ) (s t : StateValue) → most < 2 ^ 40 → IsState H most s → IsState H most t → IsTextOf s text → IsTextOf t text → s ≡ t
+OneState = (H : List ℕ → Digest) (most : ℕ) (text : List ℕ) (s t : StateValue) → most < 2 ^ 40 → IsState H most s → IsState H most t → IsTextOf s text
+    → IsTextOf t text → s ≡ t

@@ -5,8 +5,6 @@ use Rattle.std.specs.declared.cmp.Ordering.TheVariants.{Less}
 use Rattle.std.specs.Ordering.{nat_cmp}
 use Rattle.std.specs.Cmp.Lexicographic.{slice_cmp}
 use Rattle.uo_digest.specs.declared.digest.Digest.{Digest}
-use Rattle.forest_place.specs.declared.place.Place.{Place}
-use Rattle.proof_shape.specs.Shape.{AreTargets}
 use Rattle.leaf_cache.specs.Watched.{IsScript}
 use Rattle.forest_place.specs.declared.naming.Naming.TheVariants.{FixedPosition}
 use Rattle.state_text.specs.Stored.{LevelValue, level_text}
@@ -24,10 +22,6 @@ pub record AreScripts (scripts : List (List ℕ)) : Type 0 where
   pub few : length scripts ≤ 10000
   pub each : AllByRecursion IsScript scripts
   pub rise : ScriptsRise scripts
-
--- targets that have shape stand at these positions
-abbrev pub HasTargets : ℕ → List ℕ → Type 0
-HasTargets n positions = (ts : List Place) × AreTargets n positions ts
 
 -- the text that is written of a level as a node keeps it
 abbrev pub kept_text : CachedLevel → List ℕ

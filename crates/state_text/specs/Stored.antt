@@ -16,16 +16,14 @@ use Rattle.forest_place.specs.Named.{version_of, number_by}
 use Rattle.forest_roots.specs.Stump.{Stump, root_in}
 use Rattle.state_text.specs.declared.entry.StoredEntry.{StoredEntry}
 
--- a chain's newest block, the roots of its entries, those of them that are kept, and the digests that a proof of these needs,
--- in ascending position
+-- a chain's newest block, the roots of its entries, those of them that are kept, and the digests that a proof of these needs, in ascending position
 pub record LevelValue : Type 0 where
   pub tip : Digest
   pub roots : Stump
   pub kept : List StoredEntry
   pub hashes : List Digest
 
--- the network, how many blocks the chain has, the watched scripts, and the levels, the present one first: each older one has a
--- block less
+-- the network, how many blocks the chain has, the watched scripts, and the levels, the present one first: each older one has a block less
 pub record StateValue : Type 0 where
   pub net : Net
   pub blocks : ℕ
@@ -96,4 +94,5 @@ pub record IsOfVersion (v : ℕ) (text : List ℕ) : Type 0 where
 
 -- what stands before the levels that are written
 abbrev pub front_text : Net → ℕ → List (List ℕ) → ℕ → List ℕ
-front_text net blocks scripts levels = 85 ∷ 84 ∷ 88 ∷ 83 ∷ version_of FixedPosition ∷ net_code net ∷ [] ++ to_le_bytes w32 blocks ++ counted sized scripts ++ levels ∷ []
+front_text net blocks scripts levels = 85 ∷ 84 ∷ 88 ∷ 83 ∷ version_of FixedPosition ∷ net_code net ∷ [] ++ to_le_bytes w32 blocks
+    ++ counted sized scripts ++ levels ∷ []

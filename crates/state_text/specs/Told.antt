@@ -19,7 +19,8 @@ told_by f other (Some c) = Some (f c)
 
 abbrev pub told_at : (List ℕ → Digest) → ℕ → List Place → List Digest → List Digest → Place → Option Digest
 told_at H n ts leaves hashes p =
-    told_by (evaluation H n ts nothing_known leaves hashes) (if is_needed n ts p then Some (hash_of H n ts nothing_known hashes p.row p.off) else None) (cover ts p.row p.off)
+    told_by (evaluation H n ts nothing_known leaves hashes)
+    (if is_needed n ts p then Some (hash_of H n ts nothing_known hashes p.row p.off) else None) (cover ts p.row p.off)
 
 abbrev pub level_tells : (List ℕ → Digest) → LevelValue → Place → Option Digest
 level_tells H l = told_at H l.roots.leaves (places_of l.kept) (map (λ leaf. H (leaf_text leaf)) (leaves_of l.kept)) l.hashes

@@ -120,7 +120,8 @@ fn judge_levels<D: Digester, L: Ledger>(
     levels: Vec<SpelledLevel<D>>,
     steps: &mut Steps<L>,
 ) -> Result<Vec<StoredLevel<D>>, StateFault>
-    ensures { MatchResult result (λ made. AreMadeLevels D.digest_of watch.now levels.items made.items) (λ e. claims e (AllByRecursion (IsLevel D.digest_of watch.now) levels.items → ⊥)) }
+    ensures { MatchResult result (λ made. AreMadeLevels D.digest_of watch.now levels.items made.items)
+        (λ e. claims e (AllByRecursion (IsLevel D.digest_of watch.now) levels.items → ⊥)) }
 {
     let mut room = LeafBuf::new(alloc)?;
     let mut made = Vec::with_capacity(alloc, levels.len())?;

@@ -52,7 +52,8 @@ fn listed(alloc: Global, scripts: &[Vec<u8>]) -> Result<Watch, NoMemory>
 
 /// The list of these scripts, where there are at most 10,000, each of 1 to 10,000 bytes, and each comes before the next one.
 pub(crate) fn watch_of(alloc: Global, scripts: &[Vec<u8>]) -> Result<Watch, StateFault>
-    ensures { MatchResult result (λ watch. AreWatched (map (λ s. s.items) scripts.now) × (watch ≡ map (λ s. s.items) scripts.now)) (λ e. claims e (AreWatched (map (λ s. s.items) scripts.now) → ⊥)) }
+    ensures { MatchResult result (λ watch. AreWatched (map (λ s. s.items) scripts.now) × (watch ≡ map (λ s. s.items) scripts.now))
+        (λ e. claims e (AreWatched (map (λ s. s.items) scripts.now) → ⊥)) }
 {
     judge_scripts(scripts)?;
     Ok(listed(alloc, scripts)?)

@@ -86,7 +86,8 @@ impl<D> Drop for SpelledState<D> {
 impl<D> SpelledState<D> {
     /// Its network, count of blocks, scripts and levels.
     pub(crate) fn into_parts(self) -> (Net, u32, Vec<Vec<u8>>, Vec<SpelledLevel<D>>)
-        ensures { self ≡ record { net = result.0; blocks = result.1; scripts = map (λ script. script.items) result.2.items; levels = result.3.items } }
+        ensures { self
+            ≡ record { net = result.0; blocks = result.1; scripts = map (λ script. script.items) result.2.items; levels = result.3.items } }
     {
         let SpelledState {
             net,

@@ -3,13 +3,12 @@ ghost use Rattle.std.specs.Prelude.{◌≡◌, ◌<◌, ◌^◌, map, IfOk, Matc
 ghost use Rattle.forest_place.specs.Places.{AreWithin};
 ghost use Rattle.forest_place.specs.Position.{positions_of as numbers_of};
 ghost use Rattle.forest_model.specs.Cover.{HasShape};
-ghost use Rattle.proof_shape.specs.Shape.{AreTargets};
+ghost use Rattle.proof_shape.specs.Shape.{AreTargets, HasTargets};
 ghost use Rattle.state_text.specs.Reading.{claims};
-ghost use Rattle.state_text.specs.Ordered.{HasTargets};
 
 use crate::fault::StateFault;
 use forest_place::{Place, position};
-use proof_shape::{ShapeFault, Targets};
+use proof_shape::Survey;
 use std::alloc::Global;
 use uo_base::NoMemory;
 
@@ -25,28 +24,23 @@ fn positions_of(alloc: Global, n: u64, places: &[Place]) -> Result<Vec<u64>, NoM
     Ok(positions)
 }
 
-// The targets at these positions, where they have shape. Of 2^32 or more there is no room for targets.
-fn targets_at(alloc: Global, n: u64, positions: &[u64]) -> Result<Targets, StateFault>
+// The targets at these positions, where they have shape.
+fn targets_at(alloc: Global, n: u64, positions: &[u64]) -> Result<Survey, StateFault>
     requires { n < 2 ^ 40 }
     ensures { MatchResult result (λ t. (t.leaves ≡ n) × AreTargets n positions.now t.targets) (λ e. claims e (HasTargets n positions.now → ⊥)) }
 {
-    if positions.len() >= 1 << 32 {
-        return Err(StateFault::NoMemory);
-    }
-    match Targets::new(alloc, n, positions) {
-        Ok(targets) => Ok(targets),
-        Err(ShapeFault::NoMemory) => Err(StateFault::NoMemory),
-        Err(ShapeFault::Outside(_)) => Err(StateFault::NotAState),
-        Err(ShapeFault::Repeated(_, _)) => Err(StateFault::NotAState),
-        Err(ShapeFault::Beneath(_, _)) => Err(StateFault::NotAState),
+    match Survey::of(alloc, n, positions)? {
+        Some(targets) => Ok(targets),
+        None => Err(StateFault::NotAState),
     }
 }
 
 /// These places as targets, where they have shape.
-pub(crate) fn targets_of(alloc: Global, n: u64, places: &[Place]) -> Result<Targets, StateFault>
+pub(crate) fn targets_of(alloc: Global, n: u64, places: &[Place]) -> Result<Survey, StateFault>
     requires few { n < 2 ^ 40 }
     requires within { AreWithin n places.now }
-    ensures { MatchResult result (λ t. (t.leaves ≡ n) × (t.targets ≡ places.now) × HasShape n places.now) (λ e. claims e (HasShape n places.now → ⊥)) }
+    ensures { MatchResult result (λ t. (t.leaves ≡ n) × (t.targets ≡ places.now) × HasShape n places.now)
+        (λ e. claims e (HasShape n places.now → ⊥)) }
 {
     let positions = positions_of(alloc, n, places)?;
     targets_at(alloc, n, &positions)

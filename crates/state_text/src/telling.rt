@@ -11,7 +11,7 @@ ghost use Rattle.state_text.specs.Merged.{comes_before, merged, paired, told_pai
 use crate::fault::StateFault;
 use forest_place::{Place, is_root};
 use forest_roots::Roots;
-use proof_shape::Targets;
+use proof_shape::Survey;
 use proof_verify::{CoveredPlace, evaluate_covered};
 use std::alloc::Global;
 use std::sync::ledger::Ledger;
@@ -110,7 +110,7 @@ fn judge_roots<D: Digester>(roots: &Roots<D>, covered: &[CoveredPlace]) -> bool
 pub(crate) fn told_of<D: Digester, L: Ledger>(
     alloc: Global,
     roots: &Roots<D>,
-    targets: &Targets,
+    targets: &Survey,
     leaves: &[Digest],
     hashes: &[Digest],
     steps: &mut Steps<L>,

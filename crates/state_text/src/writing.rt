@@ -27,7 +27,7 @@ use forest_place::{Naming, Place};
 use forest_roots::Roots;
 use leaf_cache::{Kept, Parts, Watch, digest_in};
 use leaf_record::{Record, RecordView, write_rest};
-use proof_shape::Targets;
+use proof_shape::Survey;
 use std::alloc::Global;
 use uo_base::{Net, NoMemory, Sink, SinkFault, put_all, put_compact};
 use uo_digest::{Digest, Digester};
@@ -62,7 +62,8 @@ fn put_roots<D: Digester>(out: &mut Vec<u8>, roots: &Roots<D>) -> Result<(), NoM
 }
 
 fn put_leaf(out: &mut Vec<u8>, leaf: &RecordView<'_>) -> Result<(), NoMemory>
-    ensures ok { OnOk result (out.new.items ≡ out.old.items ++ (leaf.now.point.txid.0 ++ (to_le_bytes w32 leaf.now.point.index ++ rest_text leaf.now.rest))) }
+    ensures ok { OnOk result (out.new.items ≡ out.old.items
+        ++ (leaf.now.point.txid.0 ++ (to_le_bytes w32 leaf.now.point.index ++ rest_text leaf.now.rest))) }
     ensures err { OnErr result (Grew out.old.items out.new.items) }
 {
     let rest = leaf.rest();
@@ -92,7 +93,8 @@ fn put_entry(
 ) -> Result<(), NoMemory>
     requires few { n < 2 ^ 40 }
     requires within { InForest n place.row place.off }
-    ensures ok { OnOk result (out.new.items ≡ out.old.items ++ entry_text FixedPosition n (record { number = number; place = place; leaf = leaf.now })) }
+    ensures ok { OnOk result (out.new.items ≡ out.old.items
+        ++ entry_text FixedPosition n (record { number = number; place = place; leaf = leaf.now })) }
     ensures err { OnErr result (Grew out.old.items out.new.items) }
 {
     let view = leaf.view();
@@ -133,7 +135,7 @@ fn places_in(alloc: Global, kept: &[Kept]) -> Result<Vec<Place>, NoMemory>
     Ok(kept.iter().map(|entry| entry.place).collect(alloc)?)
 }
 
-fn targets_in(alloc: Global, n: u64, kept: &[Kept]) -> Result<Targets, NoMemory>
+fn targets_in(alloc: Global, n: u64, kept: &[Kept]) -> Result<Survey, NoMemory>
     requires few { n < 2 ^ 40 }
     requires shape { HasShape n (leaf_places kept.now) }
     ensures { IfOk result (λ t. (t.leaves ≡ n) × (t.targets ≡ leaf_places kept.now)) }
@@ -182,7 +184,8 @@ fn put_level<D: Digester>(
     hashes: &[Digest],
 ) -> Result<(), NoMemory>
     requires { AreWithin roots.now.leaves (leaf_places kept.now) }
-    ensures ok { OnOk result (out.new.items ≡ out.old.items ++ level_text FixedPosition (record { tip = tip; roots = roots.now; kept = map entry_of kept.now; hashes = hashes.now })) }
+    ensures ok { OnOk result (out.new.items ≡ out.old.items
+        ++ level_text FixedPosition (record { tip = tip; roots = roots.now; kept = map entry_of kept.now; hashes = hashes.now })) }
     ensures err { OnErr result (Grew out.old.items out.new.items) }
 {
     let n = roots.leaves();
@@ -270,7 +273,8 @@ fn level_bytes<D: Digester>(
     parts: &Parts,
 ) -> Result<Vec<u8>, NoMemory>
     requires { HasShape roots.now.leaves (leaf_places parts.now.kept) }
-    ensures { IfOk result (λ bytes. bytes.items ≡ level_text FixedPosition (level_in (record { tip = tip; roots = roots.now; kept = parts.now.kept; held = parts.now.held }))) }
+    ensures { IfOk result (λ bytes. bytes.items
+        ≡ level_text FixedPosition (level_in (record { tip = tip; roots = roots.now; kept = parts.now.kept; held = parts.now.held }))) }
 {
     let targets = targets_in(alloc, roots.leaves(), &parts.kept)?;
     let hashes = digests_at(alloc, &parts.held, targets.needed())?;
@@ -321,8 +325,10 @@ pub fn write_level<W: Sink, D: Digester>(
     parts: &Parts,
 ) -> Result<(), SinkFault>
     requires { HasShape roots.now.leaves (leaf_places parts.now.kept) }
-    ensures whole { OnOk result (Appends (W.held sink.old) (W.held sink.new) (level_text FixedPosition (level_in (record { tip = tip; roots = roots.now; kept = parts.now.kept; held = parts.now.held })))) }
-    ensures part { AppendsPart (W.held sink.old) (W.held sink.new) (level_text FixedPosition (level_in (record { tip = tip; roots = roots.now; kept = parts.now.kept; held = parts.now.held }))) }
+    ensures whole { OnOk result (Appends (W.held sink.old) (W.held sink.new)
+        (level_text FixedPosition (level_in (record { tip = tip; roots = roots.now; kept = parts.now.kept; held = parts.now.held })))) }
+    ensures part { AppendsPart (W.held sink.old) (W.held sink.new)
+        (level_text FixedPosition (level_in (record { tip = tip; roots = roots.now; kept = parts.now.kept; held = parts.now.held }))) }
     ensures later { W.faults sink.old ≤ W.faults sink.new }
     ensures cause { IsErrOf result SinkFault.Failed → Rose (W.faults sink.old) (W.faults sink.new) }
 {

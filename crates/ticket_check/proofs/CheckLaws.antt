@@ -30,7 +30,8 @@ use Rattle.audit_replay.proofs.Shown.{shows, shows_none}
 use Rattle.ticket_check.specs.Tickets.{Ticket, TicketFits}
 use Rattle.ticket_check.specs.declared.verdict.TicketVerdict.{TicketVerdict}
 use Rattle.ticket_check.specs.declared.verdict.TicketVerdict.TheVariants as Verdict
-use Rattle.ticket_check.specs.Judging.{TicketAccepts, TicketRight, view_of, target_in, message_of, points, ticket_fault, unless_refused, ticket_verdict}
+use Rattle.ticket_check.specs.Judging.{TicketAccepts, TicketRight, view_of, target_in, message_of, points, ticket_fault, unless_refused}
+use Rattle.ticket_check.specs.Judging.{ticket_verdict}
 use Rattle.ticket_check.specs.declared.checked.Checked.{Checked}
 use Rattle.ticket_check.specs.declared.checked.Checked.TheVariants as Said
 use Rattle.ticket_check.specs.Laws.{CheckedIsAccepted, LiveIsRight, RecheckedIsRight}
@@ -64,26 +65,32 @@ checked_is_accepted H s k =
 abbrev over : (List ℕ → Digest) → List (Option Digest) → View
 over H es = record { n = length es; roots = root H es; known = nothing_known }
 
-pub same_verdict : (H : List ℕ → Digest) (es : List (Option Digest)) (tip : Digest) (k : Ticket) (f : Stump) → StandsFor H es f → ticket_verdict H (view_of f) tip k ≡ ticket_verdict H (over H es) tip k
+pub same_verdict : (H : List ℕ → Digest) (es : List (Option Digest)) (tip : Digest) (k : Ticket) (f : Stump) → StandsFor H es f
+    → ticket_verdict H (view_of f) tip k ≡ ticket_verdict H (over H es) tip k
 same_verdict H es tip k f stands =
     ap (λ x. if is_same k.tip tip then unless_refused x else Verdict.Tip)
-    (fault_alike H leaf_text (view_of f) (over H es) (record { n = stands.leaves; roots = stands.roots; known = λ row off. refl }) (points k) (message_of k))
+    (fault_alike H leaf_text (view_of f) (over H es) (record { n = stands.leaves; roots = stands.roots; known = λ row off. refl }) (points k)
+    (message_of k))
 
 pub live_is_right : LiveIsRight
 live_is_right H t s k stands honest = let checked = checked_is_accepted H s k in (λ e. honest (checked.live.0 e), λ r. checked.live.1 (accepts r))
   where
     accepts : TicketRight H t.now.history t.now.tip k → AcceptsOver H s k
     accepts r =
-        let long : length t.now.history ≡ length (entries H leaf_text t.now.history) = sym (length-map t.now.history (option_map (λ (l : Leaf). H (leaf_text l)))) in
-        let there = subst (λ n. TicketAccepts H n (root H (entries H leaf_text t.now.history)) t.now.tip k) long (right_is_live H t.now.history t.now.tip k r) in
+        let long : length t.now.history ≡ length (entries H leaf_text t.now.history) =
+        sym (length-map t.now.history (option_map (λ (l : Leaf). H (leaf_text l)))) in
+        let there = subst (λ n. TicketAccepts H n (root H (entries H leaf_text t.now.history)) t.now.tip k) long
+        (right_is_live H t.now.history t.now.tip k r) in
         let live = (live_is_accepted H (over H (entries H leaf_text t.now.history)) t.now.tip k).1 there in
         let tip_is : s.newest.chain.tip ≡ t.now.tip = ap (λ (x : Chain). x.tip) stands.newest.chain in
-        let here = ap (λ x. ticket_verdict H (view_of s.newest.roots) x k) tip_is ∙ (same_verdict H (entries H leaf_text t.now.history) t.now.tip k s.newest.roots stands.newest.roots ∙ live) in
+        let here = ap (λ x. ticket_verdict H (view_of s.newest.roots) x k) tip_is
+        ∙ (same_verdict H (entries H leaf_text t.now.history) t.now.tip k s.newest.roots stands.newest.roots ∙ live) in
         (live_is_accepted H (view_of s.newest.roots) s.newest.chain.tip k).0 here
 
 -- ---- by an auditor
 
-module _ (H : List ℕ → Digest) (long : (x : List ℕ) → IsDigest (H x)) (s : BridgeState) (k : Ticket) (audit : IsAudit H leaf_text s) (fits : TicketFits k) where
+module _ (H : List ℕ → Digest) (long : (x : List ℕ) → IsDigest (H x)) (s : BridgeState) (k : Ticket) (audit : IsAudit H leaf_text s)
+    (fits : TicketFits k) where
   abbrev us : History
   us = history_of s
 
@@ -119,10 +126,12 @@ module _ (H : List ℕ → Digest) (long : (x : List ℕ) → IsDigest (H x)) (s
   same_length = sym (length-map us (option_map (λ (l : Leaf). H (leaf_text l)))) ∙ ap length (sym stand.entries_are)
 
   to_entries : AcceptsUs → Accepts
-  to_entries a = subst (λ (e : List (Option Digest)). TicketAccepts H (length s.entries) (root H e) tip k) (sym stand.entries_are) (subst (λ n. TicketAccepts H n (root H (entries H leaf_text us)) tip k) same_length a)
+  to_entries a = subst (λ (e : List (Option Digest)). TicketAccepts H (length s.entries) (root H e) tip k) (sym stand.entries_are)
+      (subst (λ n. TicketAccepts H n (root H (entries H leaf_text us)) tip k) same_length a)
 
   to_us : Accepts → AcceptsUs
-  to_us a = subst (λ n. TicketAccepts H n (root H (entries H leaf_text us)) tip k) (sym same_length) (subst (λ (e : List (Option Digest)). TicketAccepts H (length s.entries) (root H e) tip k) stand.entries_are a)
+  to_us a = subst (λ n. TicketAccepts H n (root H (entries H leaf_text us)) tip k) (sym same_length)
+      (subst (λ (e : List (Option Digest)). TicketAccepts H (length s.entries) (root H e) tip k) stand.entries_are a)
 
   right_accepts : Right → Accepts
   right_accepts r = to_entries (right_is_live H us tip k r)
@@ -130,11 +139,13 @@ module _ (H : List ℕ → Digest) (long : (x : List ℕ) → IsDigest (H x)) (s
   -- the verdict is that over the history
   verdict_us : verdict ≡ ticket_verdict H (over_all H us) tip k
   verdict_us =
-      ap (λ (e : List (Option Digest)). ticket_verdict H (record { n = length s.entries; roots = root H e; known = nothing_known }) tip k) stand.entries_are
+      ap (λ (e : List (Option Digest)). ticket_verdict H (record { n = length s.entries; roots = root H e; known = nothing_known }) tip k)
+      stand.entries_are
       ∙ ap (λ n. ticket_verdict H (record { n = n; roots = root H (entries H leaf_text us); known = nothing_known }) tip k) (sym same_length)
 
   -- it is refused
-  refused_so : (v : TicketVerdict) (live : Checked) → verdict ≡ v → (v ≡ Verdict.Live → ⊥) → said_by v live ≡ said_by v (live_of k) → IsRechecked H us tip k (said_by v live)
+  refused_so : (v : TicketVerdict) (live : Checked) → verdict ≡ v → (v ≡ Verdict.Live → ⊥) → said_by v live ≡ said_by v (live_of k)
+      → IsRechecked H us tip k (said_by v live)
   refused_so v live is other same =
       let never : Accepts → ⊥ = λ a. other (sym is ∙ (live_is_accepted H (view_in H s) tip k).1 a) in
       record {
@@ -155,7 +166,8 @@ module _ (H : List ℕ → Digest) (long : (x : List ℕ) → IsDigest (H x)) (s
       })
 
   -- it is accepted and not right
-  clash_so : Accepts → (Right → ⊥) → (x : Option TextClash) (c : TextClash) → x ≡ Some c → IsTicketClash H us k c → IsRechecked H us tip k (unless_clash x k)
+  clash_so : Accepts → (Right → ⊥) → (x : Option TextClash) (c : TextClash) → x ≡ Some c → IsTicketClash H us k c
+      → IsRechecked H us tip k (unless_clash x k)
   clash_so a wrong x c some shown =
       subst (λ y. IsRechecked H us tip k (unless_clash y k)) (sym some) (record {
         live = (λ e. absurd (no_clash Verdict.Live k c (sym e)), λ r. absurd (wrong r));
@@ -175,13 +187,15 @@ module _ (H : List ℕ → Digest) (long : (x : List ℕ) → IsDigest (H x)) (s
     none_there : proof_fault H leaf_text (over H (entries H leaf_text us)) (points k) (message_of k) ≡ None
     none_there = subst (λ e. proof_fault H leaf_text (over H e) (points k) (message_of k) ≡ None) stand.entries_are none_here
 
-    moved : clash_in H s.entries s.held nothing_known outside (message_of k) ≡ clash_in H (entries H leaf_text us) s.held nothing_known outside (message_of k)
+    moved : clash_in H s.entries s.held nothing_known outside (message_of k)
+        ≡ clash_in H (entries H leaf_text us) s.held nothing_known outside (message_of k)
     moved = ap (λ e. clash_in H e s.held nothing_known outside (message_of k)) stand.entries_are
 
     tested : is_right H leaf_text us nothing_known (points k) (message_of k) ≡ true → Right
     tested sound =
         (ticket_right_is_tested H us tip k).0
-        (and_from (is_same k.tip tip) (is_right H leaf_text us nothing_known (points k) (message_of k)) (subst (λ d. is_same k.tip d ≡ true) a.tip_is (is_same-same k.tip)) sound)
+        (and_from (is_same k.tip tip) (is_right H leaf_text us nothing_known (points k) (message_of k))
+        (subst (λ d. is_same k.tip d ≡ true) a.tip_is (is_same-same k.tip)) sound)
 
     untested : is_right H leaf_text us nothing_known (points k) (message_of k) ≡ false → Right → ⊥
     untested wrong r = false≢true (sym (ap (λ b. is_same k.tip tip && b) wrong ∙ never (is_same k.tip tip)) ∙ (ticket_right_is_tested H us tip k).1 r)
@@ -200,7 +214,8 @@ module _ (H : List ℕ → Digest) (long : (x : List ℕ) → IsDigest (H x)) (s
       clash = record {
         of_forest = w.of_forest;
         of_proof = subst (λ ts. IsValueText H leaf_text (length us) ts nothing_known (k.leaf ∷ []) k.hashes c.second)
-            (target_one H (record { n = length us; roots = root H (entries H leaf_text us); known = nothing_known }) k a.place named_there) w.of_proof;
+            (target_one H (record { n = length us; roots = root H (entries H leaf_text us); known = nothing_known }) k a.place named_there)
+            w.of_proof;
         differ = w.differ;
         first_is = w.first_is;
         second_is = w.second_is;
@@ -210,15 +225,18 @@ module _ (H : List ℕ → Digest) (long : (x : List ℕ) → IsDigest (H x)) (s
     accepted_so : (b : Bool) → is_right H leaf_text us nothing_known (points k) (message_of k) ≡ b → IsRechecked H us tip k (unless_clash found k)
     accepted_so true sound =
         right_so a (tested sound) found
-        (moved ∙ shows_none H long us s.held stand_there outside (message_of k) refl (fits.leaf, tt) fits.hashes nothing_known (λ row off d e. absurd (none-some d e)) none_there sound)
+        (moved ∙ shows_none H long us s.held stand_there outside (message_of k) refl (fits.leaf, tt) fits.hashes nothing_known
+        (λ row off d e. absurd (none-some d e)) none_there sound)
     accepted_so false wrong =
-        let x = shows H long us s.held stand_there outside (message_of k) refl (fits.leaf, tt) fits.hashes nothing_known (λ row off d e. absurd (none-some d e)) none_there wrong in
+        let x = shows H long us s.held stand_there outside (message_of k) refl (fits.leaf, tt) fits.hashes nothing_known
+        (λ row off d e. absurd (none-some d e)) none_there wrong in
         clash_so a (untested wrong) found x.0 (moved ∙ x.1) (ticket_clash_so x.0 x.2)
 
   by_verdict : (v : TicketVerdict) → verdict ≡ v → IsRechecked H us tip k (said_by v (unless_clash found k))
   by_verdict Verdict.Tip e = refused_so Verdict.Tip (unless_clash found k) e (λ z. cc) refl
   by_verdict (Verdict.Refused why) e = refused_so (Verdict.Refused why) (unless_clash found k) e (λ z. cc) refl
-  by_verdict Verdict.Live e = accepted_so ((live_is_accepted H (view_in H s) tip k).0 e) (is_right H leaf_text us nothing_known (points k) (message_of k)) refl
+  by_verdict Verdict.Live e = accepted_so ((live_is_accepted H (view_in H s) tip k).0 e)
+      (is_right H leaf_text us nothing_known (points k) (message_of k)) refl
 
 pub rechecked_is_right : RecheckedIsRight
 rechecked_is_right H long s k audit fits = by_verdict H long s k audit fits (ticket_verdict H (view_in H s) s.chain.tip k) refl

@@ -24,13 +24,17 @@ use Rattle.ticket_check.specs.Judging.{TicketAccepts, target_in, message_of}
 use Rattle.ticket_check.specs.Clashing.{IsTicketAnswer, ticket_clash_in}
 use Rattle.ticket_check.proofs.Tickets.{IsTarget, target_is, target_one, passes_one}
 
-module _ (H : List ℕ → Digest) (es : List (Option Digest)) (held : List Held) (tip : Digest) (k : Ticket) (a : TicketAccepts H (length es) (root H es) tip k) (n target : ℕ) (counted : n ≡ length es) (target_is_so : target ≡ k.target) where
+module _ (H : List ℕ → Digest) (es : List (Option Digest)) (held : List Held) (tip : Digest) (k : Ticket)
+    (a : TicketAccepts H (length es) (root H es) tip k) (n target : ℕ) (counted : n ≡ length es) (target_is_so : target ≡ k.target) where
   -- a place is named
   pub never_none : (x : Option Targeted) → x ≡ target_at n target → x ≡ None → ⊥
   never_none x found none =
-      none-some _ (sym none ∙ (found ∙ (ap (λ j. target_at j target) counted ∙ (ap (target_at (length es)) target_is_so ∙ ap (option_map (λ (p : Place). let t : Targeted = record { leaves = length es; targets = p ∷ [] } in t)) a.named))))
+      none-some _ (sym none ∙ (found ∙ (ap (λ j. target_at j target) counted
+      ∙ (ap (target_at (length es)) target_is_so
+      ∙ ap (option_map (λ (p : Place). let t : Targeted = record { leaves = length es; targets = p ∷ [] } in t)) a.named))))
 
-  module _ (t : Targeted) (seen : List (Option Digest)) (seen_held : List Held) (rs : List Leaf) (hs : List Digest) (found : Some t ≡ target_at n target)
+  module _ (t : Targeted) (seen : List (Option Digest)) (seen_held : List Held) (rs : List Leaf) (hs : List Digest)
+      (found : Some t ≡ target_at n target)
       (seen_is : seen ≡ es) (held_is : seen_held ≡ held) (leaves_are : rs ≡ k.leaf ∷ []) (hashes_are : hs ≡ k.hashes) where
     abbrev it : IsTarget n target t
     it = target_is n target t (sym found)
@@ -39,13 +43,15 @@ module _ (H : List ℕ → Digest) (es : List (Option Digest)) (held : List Held
     p = it.place
 
     named : target_in (length es) k ≡ Some p
-    named = subst (λ j. target_in j k ≡ Some p) counted (subst (λ (x : ℕ). target_in n (record { tip = k.tip; target = x; leaf = k.leaf; hashes = k.hashes }) ≡ Some p) target_is_so it.named)
+    named = subst (λ j. target_in j k ≡ Some p) counted
+        (subst (λ (x : ℕ). target_in n (record { tip = k.tip; target = x; leaf = k.leaf; hashes = k.hashes }) ≡ Some p) target_is_so it.named)
 
     place_is : a.place ≡ p
     place_is = same_Some a.place p (sym a.named ∙ named)
 
     accepted : IsAccepted H (length es) (root H es) (p ∷ []) nothing_known (H (leaf_text k.leaf) ∷ []) k.hashes
-    accepted = subst (λ (q : Place). IsAccepted H (length es) (root H es) (q ∷ []) nothing_known (H (leaf_text k.leaf) ∷ []) k.hashes) place_is a.accepted
+    accepted = subst (λ (q : Place). IsAccepted H (length es) (root H es) (q ∷ []) nothing_known (H (leaf_text k.leaf) ∷ []) k.hashes) place_is
+        a.accepted
 
     brought : (P : List Place → List Leaf → List Digest → Type 0) → P t.targets rs hs → P (p ∷ []) (k.leaf ∷ []) k.hashes
     brought P w =
@@ -64,16 +70,19 @@ module _ (H : List ℕ → Digest) (es : List (Option Digest)) (held : List Held
       accepted_there : AcceptsAll H us (p ∷ []) (k.leaf ∷ []) k.hashes
       accepted_there =
           subst (λ j. IsAccepted H j (root H (entries H leaf_text us)) (p ∷ []) nothing_known (H (leaf_text k.leaf) ∷ []) k.hashes) same_length
-          (subst (λ (e : List (Option Digest)). IsAccepted H (length es) (root H e) (p ∷ []) nothing_known (H (leaf_text k.leaf) ∷ []) k.hashes) s.entries_are accepted)
+          (subst (λ (e : List (Option Digest)). IsAccepted H (length es) (root H e) (p ∷ []) nothing_known (H (leaf_text k.leaf) ∷ []) k.hashes)
+          s.entries_are accepted)
 
       by_answer : (x : Option TextClash) → IsAnswerIn H us (p ∷ []) (k.leaf ∷ []) k.hashes x → IsTicketAnswer H us tip k x
       by_answer None w = record { tip_is = a.tip_is; place = p; named = named_there; right = w accepted_there }
       by_answer (Some c) w = (
-        λ r. w.1 (subst (λ (q : Place). IsRight H leaf_text us (q ∷ []) nothing_known (k.leaf ∷ []) k.hashes) (same_Some r.place p (sym r.named ∙ named_there)) r.right),
+        λ r. w.1 (subst (λ (q : Place). IsRight H leaf_text us (q ∷ []) nothing_known (k.leaf ∷ []) k.hashes)
+            (same_Some r.place p (sym r.named ∙ named_there)) r.right),
         record { place = p; named = named_there; clash = w.2 },
       )
 
-    pub answer_so : (x : Option TextClash) → ((us : History) → StandForHistory H seen seen_held us → IsAnswerIn H us t.targets rs hs x) → (us : History) → StandForHistory H es held us → IsTicketAnswer H us tip k x
+    pub answer_so : (x : Option TextClash) → ((us : History) → StandForHistory H seen seen_held us → IsAnswerIn H us t.targets rs hs x)
+        → (us : History) → StandForHistory H es held us → IsTicketAnswer H us tip k x
     answer_so x w us s = by_answer us s x (brought (λ ts l d. IsAnswerIn H us ts l d x) (w us (stand us s)))
 
     abbrev over : View
@@ -84,11 +93,14 @@ module _ (H : List ℕ → Digest) (es : List (Option Digest)) (held : List Held
 
     whole : ticket_clash_in H es held k ≡ pair_of (p ∷ [])
     whole =
-        ap (λ (y : Option ProofRefusal). if is_none y then pair_of (targets (length es) (message_of k)) else None) (passes_one H over k p named accepted)
+        ap (λ (y : Option ProofRefusal). if is_none y then pair_of (targets (length es) (message_of k)) else None)
+        (passes_one H over k p named accepted)
         ∙ ap pair_of (target_one H over k p named)
 
-    pub exact_so : (x : Option TextClash) → ((us : History) → StandForHistory H seen seen_held us → IsFirstPair H seen seen_held t.targets rs hs x) → (us : History) → StandForHistory H es held us → x ≡ ticket_clash_in H es held k
+    pub exact_so : (x : Option TextClash) → ((us : History) → StandForHistory H seen seen_held us → IsFirstPair H seen seen_held t.targets rs hs x)
+        → (us : History) → StandForHistory H es held us → x ≡ ticket_clash_in H es held k
     exact_so x w us s =
         let first = brought (λ ts l d. IsFirstPair H es held ts l d x)
-        (subst (λ h. IsFirstPair H es h t.targets rs hs x) held_is (subst (λ (e : List (Option Digest)). IsFirstPair H e seen_held t.targets rs hs x) seen_is (w us (stand us s)))) in
+        (subst (λ h. IsFirstPair H es h t.targets rs hs x) held_is
+        (subst (λ (e : List (Option Digest)). IsFirstPair H e seen_held t.targets rs hs x) seen_is (w us (stand us s)))) in
         first.accepted accepted ∙ sym whole

@@ -1,5 +1,6 @@
 -- The tickets of kept entries.
-use Rattle.std.proofs.Common.{◌≡◌, ℕ, ◌-◌, ◌^◌, ◌<◌, true, List, [], ◌∷◌, map, length, get_or, Option, Some, None, refl, sym, ap, ◌∙◌, subst, ⊎_elim, arith}
+use Rattle.std.proofs.Common.{◌≡◌, ℕ, ◌-◌, ◌^◌, ◌<◌, true, List, [], ◌∷◌, map, length, get_or, Option, Some, None, refl, sym, ap, ◌∙◌, subst, ⊎_elim}
+use Rattle.std.proofs.Common.{arith}
 use Rattle.std.specs.Prelude.{option_map}
 use Rattle.std.specs.Borrow.{Bor}
 use Rattle.std.specs.List.{filter_map, cons_option}
@@ -45,7 +46,8 @@ found_from : (f : ℕ → Option Kept) (i : ℕ) (xs : List ℕ) (v : Kept) → 
 found_from f i [] v e = absurd (none-some v e)
 found_from f i (x ∷ xs) v e = by_first (f x) refl e (found_from f i xs v)
   where
-    by_first : (y : Option Kept) → f x ≡ y → kept_entry (cons_option y (filter_map f xs)) i ≡ Some v → (kept_entry (filter_map f xs) i ≡ Some v → (z : ℕ) × (f z ≡ Some v)) → (z : ℕ) × (f z ≡ Some v)
+    by_first : (y : Option Kept) → f x ≡ y → kept_entry (cons_option y (filter_map f xs)) i ≡ Some v
+        → (kept_entry (filter_map f xs) i ≡ Some v → (z : ℕ) × (f z ≡ Some v)) → (z : ℕ) × (f z ≡ Some v)
     by_first None g e rest = rest e
     by_first (Some y) g e rest =
         ⊎_elim
@@ -67,7 +69,8 @@ found_place (k ∷ ks) i v e =
     ⊎_elim
     (λ t.
     let same : k ≡ v = same_Some k v (rw t at e) in
-    or_left (is_at v.place.row v.place.off k.place) (has_place (leaf_places ks) v.place.row v.place.off) (subst (λ (x : Kept). is_at v.place.row v.place.off x.place ≡ true) (sym same) (is_at-same v.place.row v.place.off)))
+    or_left (is_at v.place.row v.place.off k.place) (has_place (leaf_places ks) v.place.row v.place.off)
+    (subst (λ (x : Kept). is_at v.place.row v.place.off x.place ≡ true) (sym same) (is_at-same v.place.row v.place.off)))
     (λ t. or_right (is_at v.place.row v.place.off k.place) (has_place (leaf_places ks) v.place.row v.place.off) (found_place ks i v (rw t at e)))
     (cases_Bool (is_same_number i k.number))
 
@@ -75,7 +78,8 @@ found_place (k ∷ ks) i v e =
 pub kept_low : (s : NodeState) (number : ℕ) (e : Kept) → IsNode s → kept_entry s.newest.kept number ≡ Some e → IsLow e.place.row e.place.off
 kept_low s number e is found =
     let few = is.newest.stump.few in
-    places_low s.newest.roots.leaves e.place.row e.place.off (omega (arith, few)) (is.newest.lists.shape.within e.place (found_place s.newest.kept number e found))
+    places_low s.newest.roots.leaves e.place.row e.place.off (omega (arith, few))
+    (is.newest.lists.shape.within e.place (found_place s.newest.kept number e found))
 
 -- ---- that of a kept entry is right
 
@@ -95,31 +99,47 @@ module _ (H : List ℕ → Digest) (us : History) where
     place : entry_place es i ≡ Some e.place
     number : e.number ≡ i
 
-  entry_from : (i : ℕ) (u : Option Leaf) (q : Option Place) (e : Kept) → get_or us i None ≡ u → entry_place es i ≡ q → kept_leaf_of digest_of_leaf i u q ≡ Some e → IsEntry i e
+  entry_from : (i : ℕ) (u : Option Leaf) (q : Option Place) (e : Kept) → get_or us i None ≡ u → entry_place es i ≡ q
+      → kept_leaf_of digest_of_leaf i u q ≡ Some e → IsEntry i e
   entry_from i None q e a b w = absurd (none-some e w)
   entry_from i (Some l) None e a b w = absurd (none-some e w)
   entry_from i (Some l) (Some p) e a b w =
       let z = same_Some _ e w in
-      record { live = a ∙ ap (λ (x : Kept). Some x.leaf) z; place = b ∙ ap (λ (x : Kept). Some x.place) z; number = ap (λ (x : Kept). x.number) (sym z) }
+      record {
+        live = a ∙ ap (λ (x : Kept). Some x.leaf) z;
+        place = b ∙ ap (λ (x : Kept). Some x.place) z;
+        number =
+            ap (λ (x : Kept). x.number) (sym z);
+      }
 
   live_at : (i : ℕ) (e : Kept) → IsEntry i e → IsLiveAt H leaf_text us e.place e.leaf
   live_at i e is =
       let there : get_or es i None ≡ Some (digest_of_leaf e.leaf) = got_entry digest_of_leaf us i ∙ ap (option_map digest_of_leaf) is.live in
       let w = entry_found es i (digest_of_leaf e.leaf) there in
       let same : w.0 ≡ e.place = same_Some w.0 e.place (sym w.1 ∙ is.place) in
-      record { number = i; live = got us i e.leaf is.live; stands = subst (λ (p : Place). tree_at es p.row p.off ≡ Some (leaf i (digest_of_leaf e.leaf))) same w.2 }
+      record {
+        number = i;
+        live = got us i e.leaf is.live;
+        stands =
+            subst (λ (p : Place). tree_at es p.row p.off ≡ Some (leaf i (digest_of_leaf e.leaf))) same w.2;
+      }
 
-  right_of : (scripts : List (List ℕ)) (l : LevelState) (tip : Digest) (number : ℕ) (e : Kept) → length us < 2 ^ 40 → IsCacheOf H leaf_text scripts us l.kept l.held → l.chain.tip ≡ tip → kept_entry l.kept number ≡ Some e → TicketRight H us tip (ticket_with l e)
+  right_of : (scripts : List (List ℕ)) (l : LevelState) (tip : Digest) (number : ℕ) (e : Kept) → length us < 2 ^ 40
+      → IsCacheOf H leaf_text scripts us l.kept l.held → l.chain.tip ≡ tip → kept_entry l.kept number ≡ Some e
+      → TicketRight H us tip (ticket_with l e)
   right_of scripts l tip number e few cache tip_is found =
-      let from = found_from (kept_leaf H leaf_text us) number (kept_numbers scripts us) e (ap (λ ks. kept_entry ks number) (sym cache.of_kept) ∙ found) in
+      let from = found_from (kept_leaf H leaf_text us) number (kept_numbers scripts us) e
+      (ap (λ ks. kept_entry ks number) (sym cache.of_kept) ∙ found) in
       let is = entry_from from.0 (get_or us from.0 None) (entry_place es from.0) e refl refl from.1 in
       let live = live_at from.0 e is in
       let same : number ≡ from.0 = sym (found_number l.kept number e found) ∙ is.number in
       let hashes : List Digest = beside_way (40 - e.place.row) l.held e.place.row e.place.off in
       let proof = proof_climbed H leaf_text scripts us l.kept l.held number hashes few cache
-      (ap (λ (x : Option Kept). option_map (λ (p : Place). beside_way (40 - p.row) l.held p.row p.off) (option_map (λ (k : Kept). k.place) x)) found) in
+      (ap (λ (x : Option Kept). option_map (λ (p : Place). beside_way (40 - p.row) l.held p.row p.off) (option_map (λ (k : Kept). k.place) x))
+      found) in
       let at : proof.place ≡ e.place = same_Some proof.place e.place (sym proof.stands ∙ (ap (entry_place es) same ∙ is.place)) in
-      let within : InForest (length us) e.place.row e.place.off = subst (λ n. InForest n e.place.row e.place.off) same_length (tree_at-forest es e.place.row e.place.off _ live.stands) in
+      let within : InForest (length us) e.place.row e.place.off =
+      subst (λ n. InForest n e.place.row e.place.off) same_length (tree_at-forest es e.place.row e.place.off _ live.stands) in
       record {
         tip_is = tip_is;
         place = e.place;
@@ -143,7 +163,8 @@ kept_tickets_are_right H t s number k is stands e = by (kept_entry s.newest.kept
         let c = same_length H t.now.history in
         omega (arith, a, b, c)
 
-    by : (x : Option Kept) → kept_entry s.newest.kept number ≡ x → option_map (ticket_with s.newest) x ≡ Some k → TicketRight H t.now.history t.now.tip k
+    by : (x : Option Kept) → kept_entry s.newest.kept number ≡ x → option_map (ticket_with s.newest) x ≡ Some k
+        → TicketRight H t.now.history t.now.tip k
     by None found w = absurd (none-some k w)
     by (Some e) found w =
         subst (TicketRight H t.now.history t.now.tip) (same_Some (ticket_with s.newest e) k w)
@@ -151,6 +172,7 @@ kept_tickets_are_right H t s number k is stands e = by (kept_entry s.newest.kept
 
 -- ---- by the names of the calls
 
-pub low_so : (s : NodeState) (number : ℕ) (ks : List Kept) (x : Option (Bor Kept)) (b : Bor Kept) → IsNode s → ks ≡ s.newest.kept → option_map (λ e. e.now) x ≡ kept_entry ks number → x ≡ Some b → IsLow b.now.place.row b.now.place.off
+pub low_so : (s : NodeState) (number : ℕ) (ks : List Kept) (x : Option (Bor Kept)) (b : Bor Kept) → IsNode s → ks ≡ s.newest.kept
+    → option_map (λ e. e.now) x ≡ kept_entry ks number → x ≡ Some b → IsLow b.now.place.row b.now.place.off
 low_so s number ks x b is kept found at =
     kept_low s number b.now is (ap (λ z. kept_entry z number) (sym kept) ∙ (sym found ∙ ap (option_map (λ (e : Bor Kept). e.now)) at))

@@ -1,5 +1,6 @@
 -- A ticket beside a message with one spend.
-use Rattle.std.proofs.Common.{◌≡◌, ◌≢◌, ℕ, ◌≤◌, ◌^◌, Bool, true, false, List, [], ◌∷◌, map, length, get_or, Option, Some, None, refl, sym, ap, ◌∙◌, subst, ap₂, arith}
+use Rattle.std.proofs.Common.{◌≡◌, ◌≢◌, ℕ, ◌≤◌, ◌^◌, Bool, true, false, List, [], ◌∷◌, map, length, get_or, Option, Some, None, refl, sym, ap, ◌∙◌}
+use Rattle.std.proofs.Common.{subst, ap₂, arith}
 use Rattle.std.specs.Prelude.{◌↔◌, if◌then◌else◌, option_map}
 use Rattle.std.specs.List.{AllPairs}
 use Rattle.std.proofs.lemmas.Bool.{and_parts, and_from}
@@ -39,18 +40,21 @@ use Rattle.node_rules.proofs.Telling.{count_told, empty_told, other_told}
 use Rattle.ticket_check.specs.Tickets.{Ticket}
 use Rattle.ticket_check.specs.declared.verdict.TicketVerdict.TheVariants as Said
 use Rattle.ticket_check.specs.Alone.{alone, target_at}
-use Rattle.ticket_check.specs.Judging.{TicketAccepts, TicketRight, target_in, message_of, points, view_of, ticket_fault, unless_refused, ticket_verdict, is_ticket_right}
+use Rattle.ticket_check.specs.Judging.{TicketAccepts, TicketRight, target_in, message_of, points, view_of, ticket_fault, unless_refused}
+use Rattle.ticket_check.specs.Judging.{ticket_verdict, is_ticket_right}
 
 -- ---- the target of one number
 
-one_place : (n x : ℕ) (ts : List Place) → place_by FixedPosition n x ∷ [] ≡ map Some ts → option_map (alone n) (place_by FixedPosition n x) ≡ Some (record { leaves = n; targets = ts })
+one_place : (n x : ℕ) (ts : List Place) → place_by FixedPosition n x ∷ [] ≡ map Some ts
+    → option_map (alone n) (place_by FixedPosition n x) ≡ Some (record { leaves = n; targets = ts })
 one_place n x [] e = absurd cc
 one_place n x (p ∷ []) e = let same : place_by FixedPosition n x ≡ Some p = cc in ap (option_map (alone n)) same
 one_place n x (p ∷ q ∷ ts) e = absurd cc
 
 pub target_found : (n x : ℕ) (t : Targeted) → n ≤ 2 ^ 40 → t.leaves ≡ n → AreFixedTargets n (x ∷ []) t.targets → Some t ≡ target_at n x
 target_found n x t few counted a =
-    sym (one_place n x t.targets (named_by FixedPosition n few (x ∷ []) t.targets a) ∙ ap (λ (j : ℕ). let y : Option Targeted = Some (record { leaves = j; targets = t.targets }) in y) (sym counted))
+    sym (one_place n x t.targets (named_by FixedPosition n few (x ∷ []) t.targets a)
+    ∙ ap (λ (j : ℕ). let y : Option Targeted = Some (record { leaves = j; targets = t.targets }) in y) (sym counted))
 
 pub none_found : (n x i : ℕ) (whole : ShapeFault) → whole ≡ Shape.Outside i → IsFixedFault n (x ∷ []) whole → None ≡ target_at n x
 none_found n x i whole is w =
@@ -137,25 +141,32 @@ module _ (H : List ℕ → Digest) (f : Stump) (k : Ticket) (p : Place) (e : tar
 
 -- ---- what was asked, by the names of the calls
 
-module _ (H : List ℕ → Digest) (f : Stump) (k : Ticket) (t : Targeted) (asked_for : target_at f.leaves k.target ≡ Some t) (shaped_so : HasShape t.leaves t.targets)
-    (seen : Stump) (d : Digest) (l : Leaf) (hs : List Digest) (same : seen ≡ f) (digest : d ≡ H (leaf_text l)) (leaf_is : l ≡ k.leaf) (hashes_are : hs ≡ k.hashes) where
+module _ (H : List ℕ → Digest) (f : Stump) (k : Ticket) (t : Targeted) (asked_for : target_at f.leaves k.target ≡ Some t)
+    (shaped_so : HasShape t.leaves t.targets)
+    (seen : Stump) (d : Digest) (l : Leaf) (hs : List Digest) (same : seen ≡ f) (digest : d ≡ H (leaf_text l)) (leaf_is : l ≡ k.leaf)
+    (hashes_are : hs ≡ k.hashes) where
   abbrev it : IsTarget f.leaves k.target t
   it = target_is f.leaves k.target t asked_for
 
   shape_so : HasShape f.leaves (it.place ∷ [])
   shape_so = subst (λ (x : Targeted). HasShape x.leaves x.targets) it.is shaped_so
 
-  brought : (P : Stump → List Place → List Digest → List Digest → Type 0) → P seen t.targets (d ∷ []) hs → P f (it.place ∷ []) (H (leaf_text k.leaf) ∷ []) k.hashes
+  brought : (P : Stump → List Place → List Digest → List Digest → Type 0) → P seen t.targets (d ∷ []) hs
+      → P f (it.place ∷ []) (H (leaf_text k.leaf) ∷ []) k.hashes
   brought P w =
       subst (P f (it.place ∷ []) (H (leaf_text k.leaf) ∷ [])) hashes_are
       (subst (λ x. P f (it.place ∷ []) (x ∷ []) hs) (digest ∙ ap (λ x. H (leaf_text x)) leaf_is)
       (subst (λ (x : Targeted). P f x.targets (d ∷ []) hs) it.is (subst (λ x. P x t.targets (d ∷ []) hs) same w)))
 
-  pub done_so : (tells : Bool) (pairs : List (Place × Digest)) (g : Stump) → IsDeleted tells H seen t.targets (d ∷ []) hs pairs g → None ≡ ticket_fault H (view_of f) k
-  done_so tells pairs g w = sym (passes_one H (view_of f) k it.place it.named (brought (λ x ts leaves hashes. IsAccepted H x.leaves (root_in x) ts nothing_known leaves hashes) w.accepted))
+  pub done_so : (tells : Bool) (pairs : List (Place × Digest)) (g : Stump) → IsDeleted tells H seen t.targets (d ∷ []) hs pairs g
+      → None ≡ ticket_fault H (view_of f) k
+  done_so tells pairs g w = sym (passes_one H (view_of f) k it.place it.named
+      (brought (λ x ts leaves hashes. IsAccepted H x.leaves (root_in x) ts nothing_known leaves hashes) w.accepted))
 
-  pub stays_so : (fault : ProofFault) (said : ProofRefusal) → IsProofFault H seen t.targets (d ∷ []) hs fault → said ≡ proof_refusal fault → Some said ≡ ticket_fault H (view_of f) k
-  stays_so fault said w is = ap Some is ∙ fault_told H f k it.place it.named shape_so fault (brought (λ x ts leaves hashes. IsProofFault H x ts leaves hashes fault) w)
+  pub stays_so : (fault : ProofFault) (said : ProofRefusal) → IsProofFault H seen t.targets (d ∷ []) hs fault → said ≡ proof_refusal fault
+      → Some said ≡ ticket_fault H (view_of f) k
+  stays_so fault said w is = ap Some is ∙ fault_told H f k it.place it.named shape_so fault
+      (brought (λ x ts leaves hashes. IsProofFault H x ts leaves hashes fault) w)
 
 -- ---- the laws
 
@@ -167,7 +178,8 @@ module _ (H : List ℕ → Digest) (v : View) (tip : Digest) (k : Ticket) where
   named_somewhere None e none same = absurd (none-some (Outside 0) (sym none ∙ sym (outside_told H v k e)))
   named_somewhere (Some p) e none same = live_at p e same none
 
-  live_from : (b : Bool) (x : Option ProofRefusal) → is_same k.tip tip ≡ b → ticket_fault H v k ≡ x → (if b then unless_refused x else Said.Tip) ≡ Said.Live → TicketAccepts H v.n v.roots tip k
+  live_from : (b : Bool) (x : Option ProofRefusal) → is_same k.tip tip ≡ b → ticket_fault H v k ≡ x
+      → (if b then unless_refused x else Said.Tip) ≡ Said.Live → TicketAccepts H v.n v.roots tip k
   live_from false x same e live = absurd cc
   live_from true (Some why) same e live = absurd cc
   live_from true None same e live = named_somewhere (target_in v.n k) refl e (is_same-true k.tip tip same)
@@ -176,7 +188,8 @@ module _ (H : List ℕ → Digest) (v : View) (tip : Digest) (k : Ticket) where
   live_is_accepted = (
     λ live. live_from (is_same k.tip tip) (ticket_fault H v k) refl refl live,
     λ a.
-        ap₂ (λ b x. if b then unless_refused x else Said.Tip) (subst (λ d. is_same k.tip d ≡ true) a.tip_is (is_same-same k.tip)) (passes_one H v k a.place a.named a.accepted),
+        ap₂ (λ b x. if b then unless_refused x else Said.Tip) (subst (λ d. is_same k.tip d ≡ true) a.tip_is (is_same-same k.tip))
+        (passes_one H v k a.place a.named a.accepted),
   )
 
 module _ (H : List ℕ → Digest) (us : History) (tip : Digest) (k : Ticket) where
@@ -186,7 +199,8 @@ module _ (H : List ℕ → Digest) (us : History) (tip : Digest) (k : Ticket) wh
   abbrev RightAt : List Place → Type 0
   RightAt ts = IsRight H leaf_text us ts nothing_known (k.leaf ∷ []) k.hashes
 
-  right_from : (x : Option Place) → target_in (length us) k ≡ x → k.tip ≡ tip → RightAt (targets (length us) (message_of k)) → named (length us) (message_of k) ≡ map Some (targets (length us) (message_of k)) → TicketRight H us tip k
+  right_from : (x : Option Place) → target_in (length us) k ≡ x → k.tip ≡ tip → RightAt (targets (length us) (message_of k))
+      → named (length us) (message_of k) ≡ map Some (targets (length us) (message_of k)) → TicketRight H us tip k
   right_from None e same right all = absurd (no_none [] (targets (length us) (message_of k)) (sym (ap (λ (x : Option Place). x ∷ []) e) ∙ all))
   right_from (Some p) e same right all = record { tip_is = same; place = p; named = e; right = subst RightAt (target_one H over k p e) right }
 
@@ -207,7 +221,8 @@ module _ (H : List ℕ → Digest) (us : History) (tip : Digest) (k : Ticket) wh
     tip_is = r.tip_is;
     place = r.place;
     named = r.named;
-    accepted = accepted_from_right H leaf_text us (r.place ∷ []) nothing_known (k.leaf ∷ []) k.hashes (λ row off d e. absurd (none-some d e)) single r.right;
+    accepted = accepted_from_right H leaf_text us (r.place ∷ []) nothing_known (k.leaf ∷ []) k.hashes (λ row off d e. absurd (none-some d e)) single
+        r.right;
   }
     where
       single : AllPairs (λ a b. a ≢ b) (k.leaf ∷ [])

@@ -28,22 +28,26 @@ RightIsTested = (H : List ℕ → Digest) (us : History) (tip : Digest) (k : Tic
 
 -- a right ticket is accepted by the roots of the history
 abbrev pub RightIsLive : Type 0
-RightIsLive = (H : List ℕ → Digest) (us : History) (tip : Digest) (k : Ticket) → TicketRight H us tip k → TicketAccepts H (length us) (root H (entries H leaf_text us)) tip k
+RightIsLive = (H : List ℕ → Digest) (us : History) (tip : Digest) (k : Ticket) → TicketRight H us tip k
+    → TicketAccepts H (length us) (root H (entries H leaf_text us)) tip k
 
 -- where a node stands for what a node holds that holds every output, the ticket of each entry that it keeps is right
 abbrev pub KeptTicketsAreRight : Type 0
-KeptTicketsAreRight = (H : List ℕ → Digest) (t : State) (s : NodeState) (number : ℕ) (k : Ticket) → IsNode s → Stands H leaf_text t s → ticket_of s.newest number ≡ Some k → TicketRight H t.now.history t.now.tip k
+KeptTicketsAreRight = (H : List ℕ → Digest) (t : State) (s : NodeState) (number : ℕ) (k : Ticket) → IsNode s → Stands H leaf_text t s
+    → ticket_of s.newest number ≡ Some k → TicketRight H t.now.history t.now.tip k
 
 -- a node says that a ticket is live exactly where its roots accept it
 abbrev pub CheckedIsAccepted : Type 0
 CheckedIsAccepted = (H : List ℕ → Digest) (s : NodeState) (k : Ticket) → IsChecked H s k (checked_by H s k)
 
--- and where it stands for what a node holds that holds every output, and its roots accept the ticket where it is right alone, exactly
--- where it is right
+-- and where it stands for what a node holds that holds every output, and its roots accept the ticket where it is right alone, exactly where it is
+-- right
 abbrev pub LiveIsRight : Type 0
-LiveIsRight = (H : List ℕ → Digest) (t : State) (s : NodeState) (k : Ticket) → Stands H leaf_text t s → (AcceptsOver H s k → TicketRight H t.now.history t.now.tip k)
+LiveIsRight = (H : List ℕ → Digest) (t : State) (s : NodeState) (k : Ticket) → Stands H leaf_text t s
+    → (AcceptsOver H s k → TicketRight H t.now.history t.now.tip k)
     → (checked_by H s k ≡ live_of k) ↔ TicketRight H t.now.history t.now.tip k
 
 -- an auditor says of a ticket what is said over all its outputs
 abbrev pub RecheckedIsRight : Type 0
-RecheckedIsRight = (H : List ℕ → Digest) → ((x : List ℕ) → IsDigest (H x)) → (s : BridgeState) (k : Ticket) → IsAudit H leaf_text s → TicketFits k → IsRechecked H (history_of s) s.chain.tip k (rechecked_by H s k)
+RecheckedIsRight = (H : List ℕ → Digest) → ((x : List ℕ) → IsDigest (H x)) → (s : BridgeState) (k : Ticket) → IsAudit H leaf_text s → TicketFits k
+    → IsRechecked H (history_of s) s.chain.tip k (rechecked_by H s k)

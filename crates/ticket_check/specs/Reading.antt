@@ -22,7 +22,16 @@ body_at bytes = do
   index ← number_at w32 txid.1
   rest ← rest_at index.1
   hashes ← counted_at digest_in_front rest.1
-  Some (record { tip = tip.0; target = target.0; leaf = record { point = record { txid = txid.0; index = index.0 }; rest = rest.0 }; hashes = hashes.0 }, hashes.1)
+  Some (
+    record {
+      tip = tip.0;
+      target = target.0;
+      leaf = record { point = record { txid = txid.0; index = index.0 }; rest = rest.0 };
+      hashes =
+          hashes.0;
+    },
+    hashes.1,
+  )
 
 -- ---- the whole, by computation
 

@@ -4,7 +4,8 @@ ghost use Rattle.forest_model.specs.Standing.{root};
 ghost use Rattle.leaf_record.specs.Leaf.{leaf_text};
 ghost use Rattle.audit_replay.specs.Audit.{IsAudit};
 ghost use Rattle.ticket_check.specs.Judging.{TicketAccepts, ticket_verdict};
-ghost use Rattle.ticket_check.specs.Checking.{check_of, checked_by, fault_said, live_of as live_in, recheck_of, rechecked_by, said_by, unless_clash as unless_clash_of, view_in};
+ghost use Rattle.ticket_check.specs.Checking.{check_of, checked_by, fault_said, live_of as live_in, recheck_of, rechecked_by, said_by};
+ghost use Rattle.ticket_check.specs.Checking.{unless_clash as unless_clash_of, view_in};
 ghost use Rattle.ticket_check.specs.Clashing.{ticket_clash_in};
 
 use crate::checked::Checked;
@@ -130,8 +131,7 @@ fn rechecked<D: Digester, L: Ledger>(
     }
 }
 
-/// What an auditor says of it, over all outputs: a ticket that the roots accept is right, or it shows two different texts with one
-/// digest.
+/// What an auditor says of it, over all outputs: a ticket that the roots accept is right, or it shows two different texts with one digest.
 pub fn recheck_ticket<D: Digester, L: Ledger>(
     alloc: Global,
     audit: &Audit<D>,

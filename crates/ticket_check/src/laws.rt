@@ -1,5 +1,6 @@
 //! What holds of tickets. There is no code here: each law is the contract of a function that does nothing.
-ghost use Rattle.ticket_check.specs.Laws.{CheckedIsAccepted, KeptTicketsAreRight, LiveIsAccepted, LiveIsRight, RecheckedIsRight, RightIsLive, RightIsTested};
+ghost use Rattle.ticket_check.specs.Laws.{CheckedIsAccepted, KeptTicketsAreRight, LiveIsAccepted, LiveIsRight, RecheckedIsRight, RightIsLive};
+ghost use Rattle.ticket_check.specs.Laws.{RightIsTested};
 
 /// A ticket is said to be live exactly where the roots accept it.
 pub fn live_is_accepted()

@@ -31,7 +31,8 @@ fn put_hashes(hashes: &[Digest], out: &mut Vec<u8>) -> Result<(), NoMemory>
 
 // The output's name and what it is besides.
 fn put_leaf(leaf: &RecordView<'_>, out: &mut Vec<u8>) -> Result<(), NoMemory>
-    ensures ok { OnOk result (out.new.items ≡ out.old.items ++ leaf.now.point.txid.0 ++ to_le_bytes w32 leaf.now.point.index ++ rest_text leaf.now.rest) }
+    ensures ok { OnOk result (out.new.items ≡ out.old.items ++ leaf.now.point.txid.0 ++ to_le_bytes w32 leaf.now.point.index
+        ++ rest_text leaf.now.rest) }
     ensures err { OnErr result (Grew out.old.items out.new.items) }
     ensures fits { LeafFits leaf.now }
 {
@@ -60,7 +61,8 @@ fn put_parts(
     hashes: &[Digest],
     out: &mut Vec<u8>,
 ) -> Result<(), NoMemory>
-    ensures ok { OnOk result (out.new.items ≡ out.old.items ++ ticket_text (record { tip = tip; target = target; leaf = leaf.now; hashes = hashes.now })) }
+    ensures ok { OnOk result (out.new.items ≡ out.old.items
+        ++ ticket_text (record { tip = tip; target = target; leaf = leaf.now; hashes = hashes.now })) }
     ensures err { OnErr result (Grew out.old.items out.new.items) }
     ensures fits { OnOk result (TicketFits (record { tip = tip; target = target; leaf = leaf.now; hashes = hashes.now })) }
 {
@@ -78,7 +80,8 @@ pub fn put_ticket(
     hashes: &[Digest],
     out: &mut Vec<u8>,
 ) -> Result<(), NoMemory>
-    ensures ok { OnOk result (out.new.items ≡ out.old.items ++ ticket_text (record { tip = tip; target = target; leaf = leaf.now; hashes = hashes.now })) }
+    ensures ok { OnOk result (out.new.items ≡ out.old.items
+        ++ ticket_text (record { tip = tip; target = target; leaf = leaf.now; hashes = hashes.now })) }
     ensures err { OnErr result (out.new.items ≡ out.old.items) }
     // What was written is a ticket, so it is read again.
     ensures fits { OnOk result (TicketFits (record { tip = tip; target = target; leaf = leaf.now; hashes = hashes.now })) }

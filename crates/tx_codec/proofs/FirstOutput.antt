@@ -23,7 +23,8 @@ first_read None others x later e = absurd (nothing_first x later e)
 first_read (Some p) others x later e = ap Some (first_some p (others p) x later e)
 
 -- it is what is read in front
-pub first_thing : {A : Type 0} (at : List ℕ → Option (Read A)) (n : ℕ) (bytes : List ℕ) (x : A) (later : List A) → things at n bytes ≡ x ∷ later → option_map (λ (p : Read A). p.0) (at bytes) ≡ Some x
+pub first_thing : {A : Type 0} (at : List ℕ → Option (Read A)) (n : ℕ) (bytes : List ℕ) (x : A) (later : List A) → things at n bytes ≡ x ∷ later
+    → option_map (λ (p : Read A). p.0) (at bytes) ≡ Some x
 unfolding times
 first_thing at zero bytes x later e = absurd (nothing_first x later e)
 first_thing at (suc n) bytes x later e = first_read (at bytes) (λ p. times at n p.1) x later e

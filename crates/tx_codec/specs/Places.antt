@@ -40,7 +40,13 @@ HasStacks n None = Unit {0}
 HasStacks n (Some bytes) = HasThings stack_at n bytes.now
 
 abbrev pub whole : Parts → Transaction
-whole p = record { version = p.version; inputs = inputs_of p.core; outputs = outputs_of p.core; stacks = stacks_of p.core.input_count p.stacks; lock_time = p.lock_time }
+whole p = record {
+  version = p.version;
+  inputs = inputs_of p.core;
+  outputs = outputs_of p.core;
+  stacks = stacks_of p.core.input_count p.stacks;
+  lock_time = p.lock_time;
+}
 
 -- each list can be read
 pub record IsParts (p : Parts) : Type 0 where

@@ -1,5 +1,6 @@
 -- Things of one size: reading n of them is cutting off n times the size, and each is found by its index.
-use Rattle.std.proofs.Common.{◌≡◌, ℕ, zero, suc, ◌+◌, ◌*◌, ◌/◌, ◌<◌, ◌≤◌, List, [], ◌∷◌, length, take, drop, Option, Some, None, refl, sym, ap, ◌∙◌, arith, inl, inr}
+use Rattle.std.proofs.Common.{◌≡◌, ℕ, zero, suc, ◌+◌, ◌*◌, ◌/◌, ◌<◌, ◌≤◌, List, [], ◌∷◌, length, take, drop, Option, Some, None, refl, sym, ap, ◌∙◌}
+use Rattle.std.proofs.Common.{arith, inl, inr}
 use Rattle.std.specs.Prelude.{slice_get}
 use Rattle.std.specs.Option.{option_map_or}
 use Rattle.std.proofs.lemmas.Bool.{cases_lt}
@@ -65,16 +66,20 @@ module _ {A : Type 0} (at : List ℕ → Option (A × List ℕ)) (k : ℕ) (valu
       let front = ap value (take-take k (k * suc n) bytes (omega arith)) in
       let others = ap (λ m. drop k (take m bytes)) (sym (sized_more n)) ∙ drop-take k (k * n) bytes in
       things_suc n all (omega arith) ∙ ap (λ xs. value (take k all) ∷ things at n xs) others
-      ∙ ap (λ x. x ∷ things at n (take (k * n) (drop k bytes))) front ∙ ap (λ xs. value (take k bytes) ∷ xs) (things_take n (drop k bytes) (behind n bytes le))
+      ∙ ap (λ x. x ∷ things at n (take (k * n) (drop k bytes))) front
+      ∙ ap (λ xs. value (take k bytes) ∷ xs) (things_take n (drop k bytes) (behind n bytes le))
       ∙ sym (things_suc n bytes le)
 
-  pub at_index : (n i : ℕ) (bytes : List ℕ) → k * n ≤ length bytes → i < n → slice_get (things at n bytes) i ≡ Some (value (take k (drop (k * i) bytes)))
+  pub at_index : (n i : ℕ) (bytes : List ℕ) → k * n ≤ length bytes → i < n
+      → slice_get (things at n bytes) i ≡ Some (value (take k (drop (k * i) bytes)))
   at_index zero i bytes le lt = absurd (omega arith)
   at_index (suc n) zero bytes le lt = let z : k * 0 ≡ 0 = omega arith in rw (things_suc n bytes le, z) refl
   at_index (suc n) (suc i) bytes le lt =
-      rw (things_suc n bytes le) (at_index n i (drop k bytes) (behind n bytes le) (omega arith) ∙ ap (λ xs. found (value (take k xs))) (drop-drop (k * i) k bytes ∙ ap (λ m. drop m bytes) (sized_more i)))
+      rw (things_suc n bytes le) (at_index n i (drop k bytes) (behind n bytes le) (omega arith)
+      ∙ ap (λ xs. found (value (take k xs))) (drop-drop (k * i) k bytes ∙ ap (λ m. drop m bytes) (sized_more i)))
 
   -- how many there are in a text that they fill
   pub length-parts : (bytes : List ℕ) → k * (length bytes / k) ≡ length bytes → length (things at (length bytes / k) bytes) ≡ length bytes / k
   length-parts bytes whole =
-      times-length at (length bytes / k) bytes _ _ (times_even (length bytes / k) bytes (let le : k * (length bytes / k) ≤ length bytes = omega arith in le))
+      times-length at (length bytes / k) bytes _ _
+      (times_even (length bytes / k) bytes (let le : k * (length bytes / k) ≤ length bytes = omega arith in le))

@@ -44,7 +44,8 @@ ReadsOf told held held' file None result into = ⊥
 ReadsOf told held held' file (Some file') result into = ReadConsumes (prepend_known held (told file)) (prepend_known held' (told file')) result into
 
 -- a read goes on in the file that is open, and else begins in one that is open then
-abbrev pub ReadsFile : {F : Type 0} → (told : F → Option (List ℕ)) → (held held' : List ℕ) → (file file' : Option F) → Result ℕ Failed → List ℕ → Type 0
+abbrev pub ReadsFile : {F : Type 0} → (told : F → Option (List ℕ)) → (held held' : List ℕ) → (file file' : Option F) → Result ℕ Failed → List ℕ
+    → Type 0
 ReadsFile told held held' (Some file) file' result into = ReadsOf told held held' file file' result into
 ReadsFile {F = F} told held held' None file' (Ok n) into = (opened : F) × ReadsOf told held held' opened file' (Ok n) into
 ReadsFile told held held' None file' (Err fault) into = ⊤

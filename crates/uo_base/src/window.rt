@@ -9,8 +9,8 @@ use std::io::Read;
 
 const SIZE: usize = 16_384;
 
-/// Bytes of a reader that are read ahead, so that many small reads make one call of the system. A piece that has room for as many is
-/// read into at once.
+/// Bytes of a reader that are read ahead, so that many small reads make one call of the system. A piece that has room for as many is read into at
+/// once.
 #[derive(Drop)]
 pub struct Window {
     bytes: [u8; SIZE],
@@ -43,7 +43,8 @@ impl Window {
     ) -> Result<usize, Failed>
         ensures bound { ReadsAtMost result into.new }
         // What is held and what the reader tells are one text, and none is given only at its end.
-        ensures bytes { ReadConsumes (prepend_known (ahead self.old) (T.remaining reader.old)) (prepend_known (ahead self.new) (T.remaining reader.new)) result into.new }
+        ensures bytes { ReadConsumes (prepend_known (ahead self.old) (T.remaining reader.old))
+            (prepend_known (ahead self.new) (T.remaining reader.new)) result into.new }
         // The same of what is held, also where the reader tells nothing.
         ensures held { GivesAhead (ahead self.old) (ahead self.new) result into.new }
         ensures empty { OnErr result (ahead self.old ≡ []) }

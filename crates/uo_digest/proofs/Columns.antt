@@ -28,7 +28,8 @@ counted_on long j m start (b ∷ text) =
     ]
 
 in_two : (j n start : ℕ) (front text : List ℕ) →
-    fold mixed start (filter (meets j) (enumerate_from n (front ++ text))) ≡ fold mixed (fold mixed start (filter (meets j) (enumerate_from n front))) (filter (meets j) (enumerate_from (n + length front) text))
+    fold mixed start (filter (meets j) (enumerate_from n (front ++ text))) ≡ fold mixed (fold mixed start (filter (meets j) (enumerate_from n front)))
+    (filter (meets j) (enumerate_from (n + length front) text))
 in_two j n start [] text = let e : n + 0 ≡ n = omega arith in rw e refl
 in_two j n start (b ∷ front) text =
     let e : n + 1 + length front ≡ n + suc (length front) = omega arith in

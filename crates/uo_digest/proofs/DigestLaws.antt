@@ -45,5 +45,6 @@ module _ (bytes : List ℕ) (whole : 32 * (length bytes / 32) ≡ length bytes) 
     -- and is made of the bytes there
     pub digest_index : (d : Digest) → d.0 ≡ take 32 (drop (32 * i) bytes) → slice_get all i ≡ Some d
     digest_index d e =
-        let found = at_index digest_in_front 32 of_bytes digests_even (length bytes / 32) i bytes (omega (arith, whole)) (omega (arith, whole, digest_within)) in
+        let found = at_index digest_in_front 32 of_bytes digests_even (length bytes / 32) i bytes (omega (arith, whole))
+        (omega (arith, whole, digest_within)) in
         ap (λ xs. slice_get xs i) (sym is) ∙ found ∙ ap (λ (x : Digest). let y : Option Digest = Some x in y) (sym (digest_is d _ e))

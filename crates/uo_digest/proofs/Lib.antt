@@ -1,2 +1,3 @@
 pub mod DigestLaws
 mod Columns
+mod BatchLemmas

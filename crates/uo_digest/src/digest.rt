@@ -9,6 +9,14 @@ use uo_base::Cursor;
 #[derive(Clone, Copy, Debug, PartialEq, Eq)]
 pub struct Digest(pub [u8; 32]);
 
+impl From<[u8; 32]> for Digest {
+    ghost from_gives = { λ bytes digest. digest.0 ≡ bytes };
+
+    fn from(bytes: [u8; 32]) -> Digest {
+        Digest(bytes)
+    }
+}
+
 impl Digest {
     /// The digest that 32 bytes are.
     pub fn from_bytes(bytes: &[u8]) -> Digest

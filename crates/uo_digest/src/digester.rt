@@ -1,7 +1,9 @@
 //! What a digest is, and what makes one.
-ghost use Rattle.std.specs.Prelude.{◌≡◌, ◌+◌, ◌++◌, ℕ, List, length};
+ghost use Rattle.std.specs.Prelude.{◌≡◌, ◌+◌, ◌++◌, ℕ, List, length, map};
+ghost use Rattle.std.specs.Borrow.{Bor};
 ghost use Rattle.uo_digest.specs.declared.digest.Digest.{Digest as Digested};
 
+use crate::pair::pair_text;
 use crate::{Digest, Steps};
 use std::sync::ledger::Ledger;
 
@@ -29,6 +31,35 @@ pub trait Digester {
     fn digest_behind<L: Ledger>(front: &Self::Front, rest: &[u8], steps: &mut Steps<L>) -> Digest
         ensures value { (text : List ℕ) → holds front.now text → result ≡ digest_of (text ++ rest.now) }
         ensures step { steps.new ≡ steps.old + 1 };
+
+    /// The digest of each pair of digests, as one text of 64 bytes, in the place of an entry of `out`, each as one step.
+    fn digest_pairs<L: Ledger>(pairs: &[(Digest, Digest)], out: &mut [Digest], steps: &mut Steps<L>)
+        requires { length out.old ≡ length pairs.now }
+        ensures value { out.new ≡ map (λ (pair : Digested × Digested). digest_of (pair.0.0 ++ pair.1.0)) pairs.now }
+        ensures step { steps.new ≡ steps.old + length pairs.now }
+    {
+        'each: for i in 0..pairs.len() {
+            let (left, right) = pairs[i];
+            out[i] = Self::digest(&pair_text(left, right), steps);
+        }
+    }
+
+    /// The digest of each whole text, a front and what comes behind it, in the place of an entry of `out`, each as one step.
+    fn digest_each_behind<L: Ledger>(
+        front: &Self::Front,
+        rests: &[&[u8]],
+        out: &mut [Digest],
+        steps: &mut Steps<L>,
+    )
+        requires { length out.old ≡ length rests.now }
+        ensures value { (text : List ℕ) → holds front.now text
+            → out.new ≡ map (λ (rest : Bor (List ℕ)). digest_of (text ++ rest.now)) rests.now }
+        ensures step { steps.new ≡ steps.old + length rests.now }
+    {
+        'each: for i in 0..rests.len() {
+            out[i] = Self::digest_behind(front, rests[i], steps);
+        }
+    }
 
     /// A digest has 32 bytes.
     ghost has_32_bytes: { (text : List ℕ) → length (digest_of text).0 ≡ 32 };

@@ -2,10 +2,11 @@
 ghost use Rattle.std.specs.Prelude.{◌≡◌};
 ghost use Rattle.sha2.specs.Sha256.{sha256};
 ghost use Rattle.sha2.specs.Sha512.{sha512_256};
-ghost use Rattle.sha2.specs.Hashers.{Holds512_256};
 ghost use Rattle.sha2.proofs.Facts512.{length-sha512_256};
+ghost use Rattle.digest_lanes.specs.Front.{Holds};
 
-use crate::{Digest, Digester, Steps};
+use crate::{Digest, Digester, Steps, beside};
+use digest_lanes::Front;
 use sha2::{Sha256, Sha512_256};
 use std::sync::ledger::Ledger;
 
@@ -20,23 +21,36 @@ impl Digester for Sha512t256 {
         Digest(<Sha512_256 as sha2::Digest>::digest(text))
     }
 
-    type Front = Sha512_256;
+    type Front = Front;
 
-    ghost holds = { λ hasher text. Holds512_256 hasher text };
+    ghost holds = { λ front text. Holds front text };
 
-    fn front(text: &[u8]) -> Sha512_256 {
-        <Sha512_256 as sha2::Digest>::new_with_prefix(text)
+    fn front(text: &[u8]) -> Front {
+        Front::new(text)
     }
 
-    fn digest_behind<L: Ledger>(front: &Sha512_256, rest: &[u8], steps: &mut Steps<L>) -> Digest {
+    fn digest_behind<L: Ledger>(front: &Front, rest: &[u8], steps: &mut Steps<L>) -> Digest {
         steps.tick();
-        match front.clone() {
-            Ok(mut hasher) => {
-                sha2::Digest::update(&mut hasher, rest);
-                Digest(sha2::Digest::finalize(hasher))
-            }
-            Err(_) => unreachable!(),
-        }
+        Digest(front.digest(rest))
+    }
+
+    fn digest_pairs<L: Ledger>(
+        pairs: &[(Digest, Digest)],
+        out: &mut [Digest],
+        steps: &mut Steps<L>,
+    ) {
+        steps.tick_all(pairs.len());
+        beside::digest_pairs(pairs, out);
+    }
+
+    fn digest_each_behind<L: Ledger>(
+        front: &Front,
+        rests: &[&[u8]],
+        out: &mut [Digest],
+        steps: &mut Steps<L>,
+    ) {
+        steps.tick_all(rests.len());
+        beside::digest_each(front, rests, out);
     }
 
     ghost has_32_bytes = { length-sha512_256 };

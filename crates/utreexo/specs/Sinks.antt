@@ -17,7 +17,8 @@ of_kind file quiet (Quiet s) = quiet s
 -- ---- what a write does
 
 -- a write to this file, behind what it has
-pub record IsFileWrite {R F D : Type 0} (told : F → Option (List ℕ)) (old new : FileSink R F D) (result : Result ℕ SinkFault) (piece : List ℕ) : Type 0 where
+pub record IsFileWrite {R F D : Type 0} (told : F → Option (List ℕ)) (old new : FileSink R F D) (result : Result ℕ SinkFault) (piece : List ℕ) : Type
+    0 where
   pub name : sink_name new ≡ sink_name old
   pub file : WritesFile told (sink_file old) (sink_file new) result piece
 

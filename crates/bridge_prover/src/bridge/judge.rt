@@ -76,8 +76,10 @@ impl<D: Digester> Bridge<D> {
         steps: &mut Steps<L>,
     ) -> Result<Judged, NoMemory>
         requires short { length bytes.now < 2 ^ 32 }
-        ensures verdict { IfOk result (λ j. verdict_in j ≡ judged_on D.digest_of leaf_text self.old (BlockCame (block_in bytes.now) (handed_in (option_copied message.entry)))) }
-        ensures next { OnOk result (self.new ≡ next_judged D.digest_of leaf_text self.old (BlockCame (block_in bytes.now) (handed_in (option_copied message.entry)))) }
+        ensures verdict { IfOk result (λ j. verdict_in j
+            ≡ judged_on D.digest_of leaf_text self.old (BlockCame (block_in bytes.now) (handed_in (option_copied message.entry)))) }
+        ensures next { OnOk result (self.new ≡ next_judged D.digest_of leaf_text self.old
+            (BlockCame (block_in bytes.now) (handed_in (option_copied message.entry)))) }
         ensures stays { OnErr result (self.new ≡ self.old) }
         ensures fits { IfOk result (λ j. EventFits (BlockCame (block_in bytes.now) (handed_in (option_copied message.entry)))) }
     {
@@ -95,8 +97,10 @@ impl<D: Digester> Bridge<D> {
         message: Option<&[u8]>,
         steps: &mut Steps<L>,
     ) -> Result<Judged, NoMemory>
-        ensures verdict { IfOk result (λ j. verdict_in j ≡ judged_on D.digest_of leaf_text self.old (BlockCame (Some block.now) (handed_in (option_copied message.entry)))) }
-        ensures next { OnOk result (self.new ≡ next_judged D.digest_of leaf_text self.old (BlockCame (Some block.now) (handed_in (option_copied message.entry)))) }
+        ensures verdict { IfOk result (λ j. verdict_in j
+            ≡ judged_on D.digest_of leaf_text self.old (BlockCame (Some block.now) (handed_in (option_copied message.entry)))) }
+        ensures next { OnOk result (self.new ≡ next_judged D.digest_of leaf_text self.old
+            (BlockCame (Some block.now) (handed_in (option_copied message.entry)))) }
         ensures stays { OnErr result (self.new ≡ self.old) }
         ensures fits { BlockFits block.now }
     {
@@ -126,8 +130,7 @@ impl<D: Digester> Bridge<D> {
         })
     }
 
-    // Judges a block with what stands beside it, and goes on where no rule is broken. The answer is whether it did, or whether
-    // the event is forged.
+    // Judges a block with what stands beside it, and goes on where no rule is broken. The answer is whether it did, or whether the event is forged.
     fn take<L: Ledger>(
         &mut self,
         block: &BlockView<'_>,
@@ -136,7 +139,8 @@ impl<D: Digester> Bridge<D> {
         steps: &mut Steps<L>,
     ) -> Result<bool, RuleFault>
         requires { hash ≡ block_hash_of block.now }
-        ensures ok { IfOk result (λ taken. IsTaken D.digest_of leaf_text self.old block.now (handed_in (option_copied message.entry)) taken self.new) }
+        ensures ok { IfOk result (λ taken. IsTaken D.digest_of leaf_text self.old block.now
+            (handed_in (option_copied message.entry)) taken self.new) }
         ensures err { IfErr result (λ fault. IsNotTaken D.digest_of leaf_text self.old block.now (handed_in (option_copied message.entry)) fault) }
         ensures stays { OnErr result (self.new ≡ self.old) }
     {
@@ -163,8 +167,10 @@ impl<D: Digester> Bridge<D> {
         steps: &mut Steps<L>,
     ) -> Result<Option<Shown>, RuleFault>
         requires { length spends.now.external < 2 ^ 32 }
-        ensures ok { IfOk result (λ shown. AreRight D.digest_of leaf_text self.old spends.now.external (handed_in (option_copied message.entry)) shown) }
-        ensures err { IfErr result (λ fault. AreNotTaken D.digest_of leaf_text self.old spends.now.external (handed_in (option_copied message.entry)) fault) }
+        ensures ok { IfOk result (λ shown. AreRight D.digest_of leaf_text self.old spends.now.external (handed_in (option_copied message.entry))
+            shown) }
+        ensures err { IfErr result (λ fault. AreNotTaken D.digest_of leaf_text self.old spends.now.external (handed_in (option_copied message.entry))
+            fault) }
         ensures stays { self.new ≡ self.old }
     {
         let Some(message) = message_rules(self.alloc, spends, message)? else {
@@ -189,7 +195,8 @@ impl<D: Digester> Bridge<D> {
         requires few { length external.now < 2 ^ 32 }
         requires known { AreKnown D.digest_of leaf_text (watched_by self.old) (history_of self.old) known.now }
         ensures ok { IfOk result (λ shown. IsAcceptedBy D.digest_of leaf_text self.old external.now message.now shown) }
-        ensures err { IfErr result (λ fault. IsFirst (option_map Why.Proof (fault_for D.digest_of leaf_text self.old external.now message.now)) fault) }
+        ensures err { IfErr result (λ fault. IsFirst
+            (option_map Why.Proof (fault_for D.digest_of leaf_text self.old external.now message.now)) fault) }
         ensures stays { self.new ≡ self.old }
     {
         let found = found_shown(self.alloc, message)?;

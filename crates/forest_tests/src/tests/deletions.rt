@@ -162,7 +162,7 @@ fn covers_of_four<L: Ledger>(rt: &impl Abort, alloc: Global, steps: &mut Steps<L
     };
     assert!(rt; targets.len() == 1 && targets.needed().len() == 2);
     let hashes = [digest(1), digest(12)];
-    let Ok(items) = evaluate_covered::<XorFold, L>(alloc, &targets, &[digest(2)], &hashes, steps)
+    let Ok(items) = evaluate_covered::<XorFold, L>(alloc, targets.survey(), &[digest(2)], &hashes, steps)
     else {
         panic!(rt; "no memory")
     };

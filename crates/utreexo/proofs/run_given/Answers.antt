@@ -10,7 +10,8 @@ use Rattle.utreexo.specs.Program.{EndsBy, ExitsBy}
 use Rattle.utreexo.proofs.run_given.Goals as goal
 use Rattle.utreexo.proofs.run_given.Goals.{in-Ok, in-Err}
 
-module _ {R F D I : Type 0} (left : AnySource R F D I → Option (List ℕ)) (held : AnySink R F D → Option (List ℕ)) (code : ℕ) (status run : Status) (is : code ≡ code_of status) (same : status ≡ run) where
+module _ {R F D I : Type 0} (left : AnySource R F D I → Option (List ℕ)) (held : AnySink R F D → Option (List ℕ)) (code : ℕ) (status run : Status)
+    (is : code ≡ code_of status) (same : status ≡ run) where
   exits : (words : List (List ℕ)) → EndsBy left held words run → ExitsBy left held code
   exits words ended = record { status = run; code_is = is ∙ ap code_of same; ended = inr (words, ended) }
 

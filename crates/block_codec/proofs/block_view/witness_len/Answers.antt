@@ -12,4 +12,5 @@ overflow_add-witness c =
     let same = rw (← c.bytes.ensures.text, ← c.stripped_len.ensures) at below in search rules
 
 pub loop-tx-preserved : goal.loop-tx-preserved
-loop-tx-preserved c = rw (c.bytes.ensures.text, c.stripped_len.ensures) ((witness_more _ _ _ _ c.loop-tx-test.true c.tx-item.is c.requires c.loop-tx.invariant).adds)
+loop-tx-preserved c = rw (c.bytes.ensures.text, c.stripped_len.ensures)
+    ((witness_more _ _ _ _ c.loop-tx-test.true c.tx-item.is c.requires c.loop-tx.invariant).adds)

@@ -7,7 +7,8 @@ loop-pair-init c = lifted-start _
 
 pub loop-pair-preserved : goal.loop-pair-preserved
 loop-pair-preserved c =
-    lifted-more _ _ _ _ (omega (arith, c.args.hashes.now.ok.0, c.loop-pair.invariant.len)) (rw c.deref.ensures.value at c.hash_above.ensures) c.loop-pair.invariant
+    lifted-more _ _ _ _ (omega (arith, c.args.hashes.now.ok.0, c.loop-pair.invariant.len)) (rw c.deref.ensures.value at c.hash_above.ensures)
+    c.loop-pair.invariant
 
 pub returns : goal.returns
 returns c =

@@ -15,5 +15,6 @@ invariant_of-result c =
 
 pub returns-clause-found : goal.returns-clause-found
 returns-clause-found c =
-    let b = block_read c.args.text.now c.in_ok-header.header c.in_ok-header.txs.items (λ i. omega (arith, c.type_inv.text i)) c.in_ok-header.ensures in
+    let b = block_read c.args.text.now c.in_ok-header.header c.in_ok-header.txs.items (λ i. omega (arith, c.type_inv.text i))
+    c.in_ok-header.ensures in
     (b.fits, b.text)

@@ -8,5 +8,6 @@ use Rattle.block_rules.proofs.double.first_seen.Given as goal
 abbrev pub invariant-loop-input : goal.invariant-loop-input
 invariant-loop-input l = record {
   at : l.i + length l.input-iterator ≡ length l.fn.tx.inputs;
-  reaches : (t : ℕ) (before : List Outpoint) (more : List Placed) → HasPoints l.fn.seen before → Reaches before (placed_from t 0 l.fn.tx.inputs ++ more) (placed_from t l.i l.input-iterator ++ more) l.seen;
+  reaches : (t : ℕ) (before : List Outpoint) (more : List Placed) → HasPoints l.fn.seen before
+      → Reaches before (placed_from t 0 l.fn.tx.inputs ++ more) (placed_from t l.i l.input-iterator ++ more) l.seen;
 }

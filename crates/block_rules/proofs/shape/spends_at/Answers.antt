@@ -26,4 +26,5 @@ returns c =
     let g = c.in_ok-made.ensures.walked in
     let all = new_is b h w.made.origins w.made.outputs.items c.new_outputs.result.items (seen w) refl g c.new_outputs.ensures in
     spends_are c.args.net h w.made.origins.height b w.external.items (somes (history_at w.made.origins c.new_outputs.result.items)) _ w.bills.items
-    c.in_ok-made.ensures.origins.height g.outs (somes_of _ _ all) (c.output_sum.ensures ∙ sym (claimed_is b.txs c.tx.result.now c.tx.ensures)) g.billed
+    c.in_ok-made.ensures.origins.height g.outs (somes_of _ _ all) (c.output_sum.ensures ∙ sym (claimed_is b.txs c.tx.result.now c.tx.ensures))
+    g.billed

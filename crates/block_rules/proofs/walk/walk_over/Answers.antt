@@ -21,11 +21,13 @@ loop-t-preserved c =
     let at = v.place in
     let on = s.place in
     record {
-      walks = walks_on c.args.block.now c.args.height c.loop-t.t c.tx.result.now c.loop-t.walk.made.origins (seen c.loop-t.walk) v.origins c.tx.ensures (omega (arith, at)) v.walks (seen c.pass.new.self) s.on;
+      walks = walks_on c.args.block.now c.args.height c.loop-t.t c.tx.result.now c.loop-t.walk.made.origins (seen c.loop-t.walk) v.origins
+          c.tx.ensures (omega (arith, at)) v.walks (seen c.pass.new.self) s.on;
       origins = arises_on c.args.block.now c.args.height _ _ s.origins v.origins;
       place = omega (arith, on);
       known = s.known;
     }
 
 pub returns-clause-walked : goal.returns-clause-walked
-returns-clause-walked c = walk_ends c.args.block.now c.args.height c.loop-t.t (seen c.loop-t.walk) (omega (arith, c.tx_count-t-end.ensures, c.loop-t-test.false)) c.loop-t.invariant.walks
+returns-clause-walked c = walk_ends c.args.block.now c.args.height c.loop-t.t (seen c.loop-t.walk)
+    (omega (arith, c.tx_count-t-end.ensures, c.loop-t-test.false)) c.loop-t.invariant.walks

@@ -13,8 +13,10 @@ loop-i-preserved g c =
     let first = c.args.leaves.now in
     let lt : i < length xs = c.loop-i-test.true in
     record {
-      entries = c.write.ensures.leaves ∙ ap (λ z. set z x None) c.loop-i.invariant.entries ∙ sym (entries_without-push (take i xs) x first) ∙ ap (λ l. entries_without l first) (sym (take_more xs i 0 lt));
-      right = subst (λ k. ArePartsBut g.D.Digester.digest_of c.args.n c.write.new.leaves c.write.new.parts k 0) c.number_at-next.ensures c.write.ensures.right;
+      entries = c.write.ensures.leaves ∙ ap (λ z. set z x None) c.loop-i.invariant.entries ∙ sym (entries_without-push (take i xs) x first)
+          ∙ ap (λ l. entries_without l first) (sym (take_more xs i 0 lt));
+      right = subst (λ k. ArePartsBut g.D.Digester.digest_of c.args.n c.write.new.leaves c.write.new.parts k 0) c.number_at-next.ensures
+          c.write.ensures.right;
       forty = c.write.ensures.forty;
       room = c.write.ensures.room ∙ c.loop-i.invariant.room;
       cost = omega (arith, c.write.ensures.cost, c.loop-i.invariant.cost);

@@ -9,7 +9,8 @@ use Rattle.bridge_forest.proofs.arena.gather.Goals as goal
 
 pub part_in-requires-clause-within : goal.part_in-requires-clause-within
 part_in-requires-clause-within g c =
-    subst (λ x. InForest c.args.n c.rows.row x) (sym c.sibling.ensures.off) (sibling_in c.args.n c.rows.row c.rows.off (up_within c.args.n c.rows.row c.rows.off (c.goes_up.ensures.0 c.rows-test.true).0))
+    subst (λ x. InForest c.args.n c.rows.row x) (sym c.sibling.ensures.off)
+    (sibling_in c.args.n c.rows.row c.rows.off (up_within c.args.n c.rows.row c.rows.off (c.goes_up.ensures.0 c.rows-test.true).0))
 
 pub rows-preserved : goal.rows-preserved
 rows-preserved g c =
@@ -25,15 +26,18 @@ rows-preserved g c =
     let here : off / 2 ≡ i / 2 ^ suc row = omega (arith, c.rows.invariant.here, parts-suc i row) in
     let within' : InForest n (row + 1) (off / 2) = subst (λ x. InForest n x (off / 2)) e within in
     let digest : c.part_in.result.now ≡ part_digest H leaves row (sibling_off (i / 2 ^ row)) =
-    c.part_in.ensures ∙ ap (kept leaves parts row) (c.sibling.ensures.off ∙ ap sibling_off c.rows.invariant.here) ∙ beside_right H n leaves parts i row c.requires.right (subst (λ x. InForest n (suc row) x) here within) in
+    c.part_in.ensures ∙ ap (kept leaves parts row) (c.sibling.ensures.off ∙ ap sibling_off c.rows.invariant.here)
+    ∙ beside_right H n leaves parts i row c.requires.right (subst (λ x. InForest n (suc row) x) here within) in
     record {
       small = row_small n (row + 1) (off / 2) 40 within' c.requires.small;
       here = subst (λ x. off / 2 ≡ i / 2 ^ x) e here;
-      there = let t : c.rows.other / 2 ≡ c.args.next / 2 ^ suc row = ap (λ x. x / 2) c.rows.invariant.there ∙ sym (parts-suc c.args.next row) in subst (λ x. c.rows.other / 2 ≡ c.args.next / 2 ^ x) e t;
+      there = let t : c.rows.other / 2 ≡ c.args.next / 2 ^ suc row = ap (λ x. x / 2) c.rows.invariant.there ∙ sym (parts-suc c.args.next row) in
+          subst (λ x. c.rows.other / 2 ≡ c.args.next / 2 ^ x) e t;
       within = within';
       found = one_found H n leaves c.rows.siblings i row c.part_in.result.now c.rows.invariant.small digest c.rows.invariant.found;
     }
 
 pub returns-clause-beside : goal.returns-clause-beside
 returns-clause-beside g c =
-    all_found g.D.Digester.digest_of c.args.n c.args.leaves.now c.rows.siblings c.args.number c.args.next c.rows.row c.rows.off c.rows.other c.rows.invariant.here c.rows.invariant.there (λ w. true≢false (sym (c.goes_up.ensures.1 w) ∙ c.rows-test.false)) c.rows.invariant.found
+    all_found g.D.Digester.digest_of c.args.n c.args.leaves.now c.rows.siblings c.args.number c.args.next c.rows.row c.rows.off c.rows.other
+    c.rows.invariant.here c.rows.invariant.there (λ w. true≢false (sym (c.goes_up.ensures.1 w) ∙ c.rows-test.false)) c.rows.invariant.found

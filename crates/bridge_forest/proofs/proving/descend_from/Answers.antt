@@ -13,10 +13,12 @@ use Rattle.bridge_forest.proofs.proving.descend_from.Goals.{then-not-is_empty+in
 use Rattle.bridge_forest.proofs.proving.descend_from.Goals as goal
 
 pub returns-then-count-eq0-clause-behind : goal.returns-then-count-eq0-clause-behind
-returns-then-count-eq0-clause-behind g c = λ all is. behind_even (length c.args.entries.now) c.args.row c.args.numbers.now all (omega (arith, c.if-count-eq0.true)) is
+returns-then-count-eq0-clause-behind g c =
+    λ all is. behind_even (length c.args.entries.now) c.args.row c.args.numbers.now all (omega (arith, c.if-count-eq0.true)) is
 
 pub returns-then-count-eq0-clause-noted : goal.returns-then-count-eq0-clause-noted
-returns-then-count-eq0-clause-noted g c = λ ts all at is f. from_same g.D.Digester.digest_of c.args.entries.now ts c.args.row c.args.rows.now.items (omega (arith, c.if-count-eq0.true)) f
+returns-then-count-eq0-clause-noted g c =
+    λ ts all at is f. from_same g.D.Digester.digest_of c.args.entries.now ts c.args.row c.args.rows.now.items (omega (arith, c.if-count-eq0.true)) f
 
 pub descend-requires-clause-stands : goal.descend-requires-clause-stands
 descend-requires-clause-stands g c =
@@ -44,27 +46,35 @@ returns-clause-noted g c = λ ts all at is f.
       | then-not-is_empty+in_ok-descend w ↦
           subst (λ rows. AreFrom H es ts row rows.items) (sym w.rows-is)
           (from_more H es ts row root c.args.rows.now.items w.descend.new.rows.items refl refl odd f
-          (w.in_ok-descend.ensures.noted ts all at (record { are = has; beside = λ none. absurd (true≢false (sym (c.is_empty.ensures ∙ eq-eqb _ _ (ap length none)) ∙ w.if-not-is_empty.true)) })))
+          (w.in_ok-descend.ensures.noted ts all at (record {
+            are = has;
+            beside =
+                λ none. absurd (true≢false (sym (c.is_empty.ensures ∙ eq-eqb _ _ (ap length none)) ∙ w.if-not-is_empty.true));
+          })))
       | else-not-is_empty w ↦
           let none = nil_from_length _ (eqb-true _ _ (sym c.is_empty.ensures ∙ w.if-not-is_empty.false)) in
           subst (λ rows. AreFrom H es ts row rows.items) (sym w.rows-is)
-          (from_more H es ts row root c.args.rows.now.items c.args.rows.now.items refl refl odd f (slot_nothing H es ts all at root c.args.rows.now.items top (sym has ∙ none)))
+          (from_more H es ts row root c.args.rows.now.items c.args.rows.now.items refl refl odd f
+          (slot_nothing H es ts all at root c.args.rows.now.items top (sym has ∙ none)))
     ]
 
 pub returns-then-count-eq0-clause-later : goal.returns-then-count-eq0-clause-later
-returns-then-count-eq0-clause-later g c = behind_none c.args.entries.now c.args.row c.args.numbers.now (omega (arith, c.if-count-eq0.true)) c.requires.later
+returns-then-count-eq0-clause-later g c =
+    behind_none c.args.entries.now c.args.row c.args.numbers.now (omega (arith, c.if-count-eq0.true)) c.requires.later
 
 pub descend-requires-clause-inside : goal.descend-requires-clause-inside
 descend-requires-clause-inside g c =
     let es = c.args.entries.now in
     let odd : length es / 2 ^ c.args.row % 2 ≡ 1 = omega (arith, c.if-count-eq0.false) in
-    subst (AreIn es c.args.row (length es / 2 ^ c.args.row - 1)) (sym (c.split_at.ensures.front ∙ c.count_upto.ensures.upto)) (in_slot es c.args.row (length es / 2 ^ c.args.row - 1) c.args.numbers.now odd refl c.requires.later)
+    subst (AreIn es c.args.row (length es / 2 ^ c.args.row - 1)) (sym (c.split_at.ensures.front ∙ c.count_upto.ensures.upto))
+    (in_slot es c.args.row (length es / 2 ^ c.args.row - 1) c.args.numbers.now odd refl c.requires.later)
 
 pub returns-clause-later : goal.returns-clause-later
 returns-clause-later g c =
     let es = c.args.entries.now in
     let odd : length es / 2 ^ c.args.row % 2 ≡ 1 = omega (arith, c.if-count-eq0.false) in
-    subst (AreBehind es c.args.row) (sym (c.split_at.ensures.back ∙ c.count_upto.ensures.beyond)) (behind_slot es c.args.row (length es / 2 ^ c.args.row - 1) c.args.numbers.now odd refl c.requires.later)
+    subst (AreBehind es c.args.row) (sym (c.split_at.ensures.back ∙ c.count_upto.ensures.beyond))
+    (behind_slot es c.args.row (length es / 2 ^ c.args.row - 1) c.args.numbers.now odd refl c.requires.later)
 
 pub returns-then-count-eq0-clause-places : goal.returns-then-count-eq0-clause-places
 returns-then-count-eq0-clause-places g c = ([], refl, places_none c.args.entries.now c.args.places.now.items)
@@ -74,11 +84,13 @@ returns-clause-places g c =
     let es = c.args.entries.now in
     let xs = c.args.numbers.now in
     let here = c.split_at.result.0.now in
-    let all : here ++ c.split_at.result.1.now ≡ xs = ap₂ (λ low high. low ++ high) c.split_at.ensures.front c.split_at.ensures.back ∙ take-append-drop c.count_upto.result xs in (
+    let all : here ++ c.split_at.result.1.now ≡ xs = ap₂ (λ low high. low ++ high) c.split_at.ensures.front c.split_at.ensures.back
+    ∙ take-append-drop c.count_upto.result xs in (
       here,
       all,
       elim c.if-not-is_empty.branch [
-        | then-not-is_empty+in_ok-descend w ↦ subst (λ ps. HasPlaces es here c.args.places.now.items ps.items) (sym w.places-is) w.in_ok-descend.ensures.places
+        | then-not-is_empty+in_ok-descend w ↦ subst (λ ps. HasPlaces es here c.args.places.now.items ps.items) (sym w.places-is)
+            w.in_ok-descend.ensures.places
         | else-not-is_empty w ↦
             let none : here ≡ [] = nil_from_length _ (eqb-true _ _ (sym c.is_empty.ensures ∙ w.if-not-is_empty.false)) in
             subst (λ ps. HasPlaces es here c.args.places.now.items ps.items) (sym w.places-is)

@@ -15,7 +15,8 @@ invariant-way g l = record {
   there : InForest (length l.entries) l.above.row l.above.off;
   inside : l.number / 2 ^ l.at.row ≡ l.at.off;
   wide : HasRows (length l.entries) l.rows.items;
-  on : (ts : List Place) (all : List ℕ) → StandAt l.entries ts all → AreOfPart l.entries ts all l.fn.part l.fn.place (l.number ∷ []) → IsOn g.D.Digester.digest_of l.entries ts all l.fn.place l.at l.above (l.number ∷ []) l.initial.rows.items l.rows.items;
+  on : (ts : List Place) (all : List ℕ) → StandAt l.entries ts all → AreOfPart l.entries ts all l.fn.part l.fn.place (l.number ∷ [])
+      → IsOn g.D.Digester.digest_of l.entries ts all l.fn.place l.at l.above (l.number ∷ []) l.initial.rows.items l.rows.items;
 }
 
 abbrev pub decreases-way : goal.decreases-way

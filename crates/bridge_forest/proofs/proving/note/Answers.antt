@@ -5,7 +5,8 @@ use Rattle.bridge_forest.proofs.proving.note.Goals as goal
 
 pub put-requires : goal.put-requires
 put-requires g c =
-    let within = there g.D.Digester.digest_of c.args.entries.now c.args.parts.now c.requires.right c.args.part.row c.args.part.off c.args.place c.in-Some.digest c.requires.within c.requires.stands (sym c.in-Some.is ∙ c.part_in.ensures) in
+    let within = there g.D.Digester.digest_of c.args.entries.now c.args.parts.now c.requires.right c.args.part.row c.args.part.off c.args.place
+    c.in-Some.digest c.requires.within c.requires.stands (sym c.in-Some.is ∙ c.part_in.ensures) in
     c.requires.wide.is c.args.place.row c.args.place.off within
 
 pub returns-in-Some-clause-here : goal.returns-in-Some-clause-here
@@ -15,7 +16,8 @@ returns-in-Some-clause-here g c =
     let place = c.args.place in
     let d = c.in-Some.digest in
     let is = sym c.in-Some.is ∙ c.part_in.ensures in
-    noted_here H es c.put.result place d _ _ (digest_here H es c.args.parts.now c.requires.right c.args.part.row c.args.part.off place d c.requires.within c.requires.stands is) c.put.ensures.here
+    noted_here H es c.put.result place d _ _ (digest_here H es c.args.parts.now c.requires.right c.args.part.row c.args.part.off place d
+    c.requires.within c.requires.stands is) c.put.ensures.here
 
 pub returns-in-Some-clause-wide : goal.returns-in-Some-clause-wide
 returns-in-Some-clause-wide g c = rows_stay (length c.args.entries.now) c.args.rows.now.items c.put.new.rows.items c.put.ensures.len c.requires.wide

@@ -15,7 +15,8 @@ loop-row-init g c =
       placed = ([], refl, places_none es c.args.places.now.items);
       later = behind_all es c.args.numbers.now c.requires.small c.requires.live;
       left = all_behind (length es) c.args.numbers.now c.requires.small;
-      from = from_nothing g.D.Digester.digest_of es (places_of es c.args.numbers.now) c.in_ok-rows.rows.items c.requires.small c.in_ok-rows.ensures.none;
+      from = from_nothing g.D.Digester.digest_of es (places_of es c.args.numbers.now) c.in_ok-rows.rows.items c.requires.small
+          c.in_ok-rows.ensures.none;
     }
 
 pub loop-row-preserved : goal.loop-row-preserved
@@ -34,10 +35,16 @@ loop-row-preserved g c =
     record {
       wide = c.descend_from.ensures.wide;
       rise = c.in_ok-left.ensures.rise;
-      placed = (was.0 ++ more.0, append_assoc was.0 more.0 c.in_ok-left.left.now ∙ (ap (λ xs. was.0 ++ xs) more.1 ∙ was.1), places_both es was.0 more.0 (was.0 ++ more.0) c.args.places.now.items c.loop-row.places.items c.descend_from.new.places.items was.2 more.2 refl);
+      placed = (
+        was.0 ++ more.0,
+        append_assoc was.0 more.0 c.in_ok-left.left.now ∙ (ap (λ xs. was.0 ++ xs) more.1 ∙ was.1),
+        places_both es was.0 more.0 (was.0 ++ more.0) c.args.places.now.items c.loop-row.places.items c.descend_from.new.places.items was.2 more.2
+            refl,
+      );
       later = subst (λ k. AreBehind es k c.in_ok-left.left.now) down c.in_ok-left.ensures.later;
       left = subst (λ k. c.in_ok-left.left.now ≡ behind (length es) k numbers) down (c.in_ok-left.ensures.behind numbers left);
-      from = subst (λ k. AreFrom H es ts k c.descend_from.new.rows.items) down (c.in_ok-left.ensures.noted ts numbers (stand_there es numbers c.requires.live) left from);
+      from = subst (λ k. AreFrom H es ts k c.descend_from.new.rows.items) down
+          (c.in_ok-left.ensures.noted ts numbers (stand_there es numbers c.requires.live) left from);
     }
 
 pub descend_from-requires-clause-later : goal.descend_from-requires-clause-later
@@ -50,6 +57,7 @@ returns-clause-places g c =
     let es = c.args.entries.now in
     let was = c.loop-row.invariant.placed in
     let e : 40 - c.loop-row.row ≡ 0 = omega (arith, c.loop-row-test.false) in
-    let none : c.loop-row.left.now ≡ [] = behind_nothing es c.loop-row.left.now (subst (λ k. AreBehind es k c.loop-row.left.now) e c.loop-row.invariant.later) in
+    let none : c.loop-row.left.now ≡ [] = behind_nothing es c.loop-row.left.now
+    (subst (λ k. AreBehind es k c.loop-row.left.now) e c.loop-row.invariant.later) in
     let all : was.0 ≡ c.args.numbers.now = sym (append-nil was.0) ∙ (ap (λ xs. was.0 ++ xs) (sym none) ∙ was.1) in
     subst (λ xs. HasPlaces es xs c.args.places.now.items c.loop-row.places.items) all was.2

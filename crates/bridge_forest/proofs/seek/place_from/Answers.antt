@@ -5,7 +5,8 @@ use Rattle.bridge_forest.proofs.Ascending.{ascent-on, ascent-ends, off-below}
 use Rattle.bridge_forest.proofs.seek.place_from.Goals as goal
 
 pub risen-ascent-requires-clause-row : goal.risen-ascent-requires-clause-row
-risen-ascent-requires-clause-row c = row_small (length c.args.entries.now) c.ascent.ascent.part.row c.ascent.ascent.part.off 40 c.ascent.invariant.within c.requires.small
+risen-ascent-requires-clause-row c = row_small (length c.args.entries.now) c.ascent.ascent.part.row c.ascent.ascent.part.off 40
+    c.ascent.invariant.within c.requires.small
 
 pub risen-ascent-requires-clause-rows : goal.risen-ascent-requires-clause-rows
 risen-ascent-requires-clause-rows c =
@@ -22,28 +23,34 @@ pub ascent-preserved : goal.ascent-preserved
 ascent-preserved c =
     let a = c.ascent.ascent in
     let b = c.risen-ascent.result in
-    ascent-on c.args.entries.now c.args.parts.now c.requires.alike c.args.place c.has_sibling.result a.part.row a.part.off a.rows a.width a.left b.rows b.width b.left b.part (sym c.is_root.ensures ∙ c.ascent-test.true) c.has_sibling.ensures c.risen-ascent.ensures.part c.risen-ascent.ensures.deeper c.risen-ascent.ensures.same c.ascent.invariant
+    ascent-on c.args.entries.now c.args.parts.now c.requires.alike c.args.place c.has_sibling.result a.part.row a.part.off a.rows a.width a.left
+    b.rows b.width b.left b.part (sym c.is_root.ensures ∙ c.ascent-test.true) c.has_sibling.ensures c.risen-ascent.ensures.part
+    c.risen-ascent.ensures.deeper c.risen-ascent.ensures.same c.ascent.invariant
 
 pub overflow_mul-result : goal.overflow_mul-result
 overflow_mul-result c =
     let a = c.ascent.ascent in
-    let end = ascent-ends c.args.entries.now c.args.parts.now c.requires.alike c.args.place a.part.row a.part.off a.rows a.width a.left (sym c.is_root.ensures ∙ c.ascent-test.false) c.ascent.invariant c.requires.within c.requires.some in
+    let end = ascent-ends c.args.entries.now c.args.parts.now c.requires.alike c.args.place a.part.row a.part.off a.rows a.width a.left
+    (sym c.is_root.ensures ∙ c.ascent-test.false) c.ascent.invariant c.requires.within c.requires.some in
     let low = off-below (length c.args.entries.now) _ _ end.2 in
     omega (arith, low, c.requires.small)
 
 pub overflow_add-result : goal.overflow_add-result
 overflow_add-result c =
     let a = c.ascent.ascent in
-    let end = ascent-ends c.args.entries.now c.args.parts.now c.requires.alike c.args.place a.part.row a.part.off a.rows a.width a.left (sym c.is_root.ensures ∙ c.ascent-test.false) c.ascent.invariant c.requires.within c.requires.some in
+    let end = ascent-ends c.args.entries.now c.args.parts.now c.requires.alike c.args.place a.part.row a.part.off a.rows a.width a.left
+    (sym c.is_root.ensures ∙ c.ascent-test.false) c.ascent.invariant c.requires.within c.requires.some in
     let low = off-below (length c.args.entries.now) _ _ end.2 in
     omega (arith, low, c.requires.small)
 
 pub returns-clause-stands : goal.returns-clause-stands
 returns-clause-stands c =
     let a = c.ascent.ascent in
-    (ascent-ends c.args.entries.now c.args.parts.now c.requires.alike c.args.place a.part.row a.part.off a.rows a.width a.left (sym c.is_root.ensures ∙ c.ascent-test.false) c.ascent.invariant c.requires.within c.requires.some).1
+    (ascent-ends c.args.entries.now c.args.parts.now c.requires.alike c.args.place a.part.row a.part.off a.rows a.width a.left
+    (sym c.is_root.ensures ∙ c.ascent-test.false) c.ascent.invariant c.requires.within c.requires.some).1
 
 pub returns-clause-within : goal.returns-clause-within
 returns-clause-within c =
     let a = c.ascent.ascent in
-    (ascent-ends c.args.entries.now c.args.parts.now c.requires.alike c.args.place a.part.row a.part.off a.rows a.width a.left (sym c.is_root.ensures ∙ c.ascent-test.false) c.ascent.invariant c.requires.within c.requires.some).2
+    (ascent-ends c.args.entries.now c.args.parts.now c.requires.alike c.args.place a.part.row a.part.off a.rows a.width a.left
+    (sym c.is_root.ensures ∙ c.ascent-test.false) c.ascent.invariant c.requires.within c.requires.some).2

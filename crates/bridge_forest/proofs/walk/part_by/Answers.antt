@@ -7,6 +7,8 @@ use Rattle.bridge_forest.proofs.walk.part_by.Goals as goal
 
 pub returns-else-node-eq0 : goal.returns-else-node-eq0
 returns-else-node-eq0 c =
-    let up = subst (λ b. OnTrue b (IsParentAt (length c.args.entries.now) c.args.above.now c.args.at c.args.place)) c.if-not-has_parent.false c.has_parent.ensures in
+    let up = subst (λ b. OnTrue b (IsParentAt (length c.args.entries.now) c.args.above.now c.args.at c.args.place)) c.if-not-has_parent.false
+    c.has_parent.ensures in
     subst (IsPartAt c.args.entries.now c.args.place.row c.args.place.off) (sym c.child.ensures)
-    (inner_told c.args.entries.now c.args.parts.now c.requires.alike c.args.above.now c.args.nodes.now c.args.at c.args.place c.requires.within up c.requires.told c.in-Some.node c.in-Some.is (omega (arith, c.if-node-eq0.false)))
+    (inner_told c.args.entries.now c.args.parts.now c.requires.alike c.args.above.now c.args.nodes.now c.args.at c.args.place c.requires.within up
+    c.requires.told c.in-Some.node c.in-Some.is (omega (arith, c.if-node-eq0.false)))

@@ -7,4 +7,5 @@ use Rattle.bridge_prover.proofs.claims.found_shown.Goals as goal
 
 pub loop-i-preserved : goal.loop-i-preserved
 loop-i-preserved c =
-    one_more _ _ _ _ _ (got-map found_of (rests_of c.args.message.now.proof.spends) c.loop-i.i c.rest-rest.result c.rest-rest.ensures ∙ ap Some (sym c.found_in.ensures)) c.loop-i.invariant c.in_ok-push.ensures.items
+    one_more _ _ _ _ _ (got-map found_of (rests_of c.args.message.now.proof.spends) c.loop-i.i c.rest-rest.result c.rest-rest.ensures
+    ∙ ap Some (sym c.found_in.ensures)) c.loop-i.invariant c.in_ok-push.ensures.items

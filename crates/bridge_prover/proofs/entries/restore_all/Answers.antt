@@ -24,11 +24,14 @@ loop-number-preserved g c =
     let i = c.loop-number.number-index in
     let old = c.loop-number.forest.entries in
     let more = c.restore.ensures.entries in
-    let long : length c.restore.new.forest.entries ≡ length old = ap length more ∙ length-restored (restored_in H leaf_text hs (get_or xs i 0 ∷ [])) old in
+    let long : length c.restore.new.forest.entries ≡ length old =
+    ap length more ∙ length-restored (restored_in H leaf_text hs (get_or xs i 0 ∷ [])) old in
     record {
       same = restored_more H leaf_text hs xs i _ old _ c.loop-number-test.true c.loop-number.invariant.same more;
       long = long ∙ c.loop-number.invariant.long;
-      spent = λ k le lt. ap (λ es. is_live es (get_or xs k 0)) more ∙ (live-restored_other H leaf_text hs (get_or xs i 0) (get_or xs k 0) old (other_later xs i k c.requires.apart le lt) ∙ c.loop-number.invariant.spent k (omega (arith, le)) lt);
+      spent = λ k le lt. ap (λ es. is_live es (get_or xs k 0)) more
+          ∙ (live-restored_other H leaf_text hs (get_or xs i 0) (get_or xs k 0) old (other_later xs i k c.requires.apart le lt)
+          ∙ c.loop-number.invariant.spent k (omega (arith, le)) lt);
       steps =
           let cost = subst (λ n. c.restore.new.steps ≤ c.loop-number.steps + (rows n + 1)) c.loop-number.invariant.long c.restore.ensures.steps in
           omega (arith, cost, c.loop-number.invariant.steps);

@@ -8,7 +8,8 @@ use Rattle.bridge_prover.proofs.entries.restore_all.Given as goal
 
 abbrev pub invariant-loop-number : goal.invariant-loop-number
 invariant-loop-number g l = record {
-  same : l.forest.entries ≡ all_restored (restored_in g.D.Digester.digest_of leaf_text l.outputs (take l.number-index l.numbers)) l.initial.forest.entries;
+  same : l.forest.entries ≡ all_restored (restored_in g.D.Digester.digest_of leaf_text l.outputs (take l.number-index l.numbers))
+      l.initial.forest.entries;
   long : length l.forest.entries ≡ length l.initial.forest.entries;
   spent : (k : ℕ) → l.number-index ≤ k → k < length l.numbers → is_live l.forest.entries (get_or l.numbers k 0) ≡ false;
   steps : l.steps ≤ l.initial.steps + l.number-index * (rows (length l.initial.forest.entries) + 1);

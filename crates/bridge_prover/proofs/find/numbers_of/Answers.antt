@@ -18,7 +18,8 @@ returns-in_default-clause-err c =
     let ext = c.args.external.now in
     let i = c.loop-i.i in
     let at = slice_index_or ext i none in
-    let told = made_at point_of (λ p. newest p hs) ext c.deref.result.now c.in_ok-newest.newest.items i none c.index.result.now c.loop-i-test.true (c.deref.ensures.value ∙ c.in_ok-names.ensures) c.in_ok-newest.ensures in
+    let told = made_at point_of (λ p. newest p hs) ext c.deref.result.now c.in_ok-newest.newest.items i none c.index.result.now c.loop-i-test.true
+    (c.deref.ensures.value ∙ c.in_ok-names.ensures) c.in_ok-newest.ensures in
     sym c.loop-i.invariant.left
     ∙ first_here (missing_in hs) ext i none (Why.Missing at.tx at.input) c.loop-i-test.true
     (ap (λ r. unless (is_some r) (Why.Missing at.tx at.input)) (sym told ∙ (sym c.index.ensures ∙ c.in_default.is)))
@@ -29,9 +30,12 @@ loop-i-preserved c =
     let ext = c.args.external.now in
     let i = c.loop-i.i in
     let at = slice_index_or ext i none in
-    let told = made_at point_of (λ p. newest p hs) ext c.deref.result.now c.in_ok-newest.newest.items i none c.index.result.now c.loop-i-test.true (c.deref.ensures.value ∙ c.in_ok-names.ensures) c.in_ok-newest.ensures in
+    let told = made_at point_of (λ p. newest p hs) ext c.deref.result.now c.in_ok-newest.newest.items i none c.index.result.now c.loop-i-test.true
+    (c.deref.ensures.value ∙ c.in_ok-names.ensures) c.in_ok-newest.ensures in
     let here = sym told ∙ (sym c.index.ensures ∙ c.in-Some.is) in
     record {
-      found = answered_more (λ o. newest (point_of o) hs) ext i none c.in-Some.number _ _ c.loop-i-test.true here c.loop-i.invariant.found c.in_ok-push.ensures.items;
-      left = sym (first_more (missing_in hs) ext i none c.loop-i-test.true (ap (λ r. unless (is_some r) (Why.Missing at.tx at.input)) here)) ∙ c.loop-i.invariant.left;
+      found = answered_more (λ o. newest (point_of o) hs) ext i none c.in-Some.number _ _ c.loop-i-test.true here c.loop-i.invariant.found
+          c.in_ok-push.ensures.items;
+      left = sym (first_more (missing_in hs) ext i none c.loop-i-test.true (ap (λ r. unless (is_some r) (Why.Missing at.tx at.input)) here))
+          ∙ c.loop-i.invariant.left;
     }

@@ -10,6 +10,9 @@ loop-number-preserved c =
     let xs = c.args.numbers.now in
     let i = c.loop-number.number-index in
     record {
-      same = ap (spent_in (drop (i + 1) xs)) c.spend.ensures ∙ (sym (spent_step xs i c.loop-number.outputs c.loop-number-test.true) ∙ c.loop-number.invariant.same);
-      live = λ k le lt. ap (is_live (get_or xs k 0)) c.spend.ensures ∙ (live-with_other (get_or xs i 0) (get_or xs k 0) _ c.loop-number.outputs (other_later xs i k c.requires.apart le lt) ∙ c.loop-number.invariant.live k (omega (arith, le)) lt);
+      same = ap (spent_in (drop (i + 1) xs)) c.spend.ensures
+          ∙ (sym (spent_step xs i c.loop-number.outputs c.loop-number-test.true) ∙ c.loop-number.invariant.same);
+      live = λ k le lt. ap (is_live (get_or xs k 0)) c.spend.ensures
+          ∙ (live-with_other (get_or xs i 0) (get_or xs k 0) _ c.loop-number.outputs (other_later xs i k c.requires.apart le lt)
+          ∙ c.loop-number.invariant.live k (omega (arith, le)) lt);
     }

@@ -10,6 +10,9 @@ loop-number-preserved c =
     let xs = c.args.numbers.now in
     let i = c.loop-number.number-index in
     record {
-      same = ap (unspent_in (drop (i + 1) xs)) c.unspend.ensures ∙ (sym (unspent_step xs i c.loop-number.outputs c.loop-number-test.true) ∙ c.loop-number.invariant.same);
-      spent = λ k le lt. ap (is_spent (get_or xs k 0)) c.unspend.ensures ∙ (spent-with_other (get_or xs i 0) (get_or xs k 0) _ c.loop-number.outputs (other_later xs i k c.requires.apart le lt) ∙ c.loop-number.invariant.spent k (omega (arith, le)) lt);
+      same = ap (unspent_in (drop (i + 1) xs)) c.unspend.ensures
+          ∙ (sym (unspent_step xs i c.loop-number.outputs c.loop-number-test.true) ∙ c.loop-number.invariant.same);
+      spent = λ k le lt. ap (is_spent (get_or xs k 0)) c.unspend.ensures
+          ∙ (spent-with_other (get_or xs i 0) (get_or xs k 0) _ c.loop-number.outputs (other_later xs i k c.requires.apart le lt)
+          ∙ c.loop-number.invariant.spent k (omega (arith, le)) lt);
     }

@@ -16,7 +16,8 @@ put_hashes-requires c =
     let i = c.loop-row.row-index in
     let n = c.args.kept.now.leaves in
     let all = subst (λ rs. AllByRecursion (Within n) (flat_map (λ row. row) rs)) (sym c.deref-row-items.ensures.value) c.requires in
-    subst (AllByRecursion (Within n)) (sym (c.as_slice.ensures ∙ c.row-item.is)) (all_in_row (Within n) rows i c.row-item.result c.loop-row-test.true all)
+    subst (AllByRecursion (Within n)) (sym (c.as_slice.ensures ∙ c.row-item.is))
+    (all_in_row (Within n) rows i c.row-item.result c.loop-row-test.true all)
 
 pub loop-row-preserved : goal.loop-row-preserved
 loop-row-preserved c =
@@ -25,7 +26,8 @@ loop-row-preserved c =
     let n = c.args.kept.now.leaves in
     let kept = c.args.kept.now.targets in
     record {
-      given = row_more n kept rows i c.row-item.result c.loop-row.hashes.items _ c.loop-row-test.true c.loop-row.invariant.given (c.in_ok-put_hashes.ensures.given ∙ ap (λ xs. c.loop-row.hashes.items ++ hashes_unknown n kept xs) (c.as_slice.ensures ∙ c.row-item.is));
+      given = row_more n kept rows i c.row-item.result c.loop-row.hashes.items _ c.loop-row-test.true c.loop-row.invariant.given
+          (c.in_ok-put_hashes.ensures.given ∙ ap (λ xs. c.loop-row.hashes.items ++ hashes_unknown n kept xs) (c.as_slice.ensures ∙ c.row-item.is));
       digests = c.put_hashes.ensures.digests c.loop-row.invariant.digests;
     }
 
@@ -34,4 +36,5 @@ returns-clause-given c =
     let n = c.args.kept.now.leaves in
     let kept = c.args.kept.now.targets in
     c.loop-row.invariant.given
-    ∙ ap (λ rs. hashes_unknown n kept (flat_map (λ row. row) rs)) (take_all c.loop-row.row-index _ (omega (arith, c.loop-row-test.false)) ∙ c.deref-row-items.ensures.value)
+    ∙ ap (λ rs. hashes_unknown n kept (flat_map (λ row. row) rs)) (take_all c.loop-row.row-index _ (omega (arith, c.loop-row-test.false))
+    ∙ c.deref-row-items.ensures.value)

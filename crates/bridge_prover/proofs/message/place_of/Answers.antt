@@ -12,4 +12,5 @@ returns-in-Ok g c =
     let places = c.args.places.now in
     let blank : Place = record { row = 0; off = 0 } in
     let found = searched c.args.spent.now c.args.number (Ok c.in-Ok.at) c.in-Ok.ensures.position (λ i j le lt. c.requires.rise i j 0 le lt) in
-    subst (λ i. entry_place es i ≡ Some (get_or places c.in-Ok.at blank)) found.1 (placed_at es c.args.spent.now places c.in-Ok.at blank c.requires.told found.0)
+    subst (λ i. entry_place es i ≡ Some (get_or places c.in-Ok.at blank)) found.1
+    (placed_at es c.args.spent.now places c.in-Ok.at blank c.requires.told found.0)

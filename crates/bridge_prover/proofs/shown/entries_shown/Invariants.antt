@@ -5,4 +5,5 @@ use Rattle.bridge_prover.specs.Shown.{shown_all}
 use Rattle.bridge_prover.proofs.shown.entries_shown.Given as goal
 
 abbrev pub invariant-loop-i : goal.invariant-loop-i
-invariant-loop-i g l = map Some l.numbers.items ≡ take l.i (shown_all l.forest.entries l.outputs l.places (claimed (points_of l.external) (rests_of l.message.proof.spends)))
+invariant-loop-i g l = map Some l.numbers.items
+    ≡ take l.i (shown_all l.forest.entries l.outputs l.places (claimed (points_of l.external) (rests_of l.message.proof.spends)))

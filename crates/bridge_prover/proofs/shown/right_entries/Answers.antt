@@ -7,7 +7,8 @@ use Rattle.bridge_prover.proofs.shown.right_entries.Goals as goal
 
 pub returns-in_default : goal.returns-in_default
 returns-in_default g c = λ us scripts h full.
-    none_shown g.D.Digester.digest_of leaf_text _ _ us scripts h c.args.external.now c.args.message.now c.args.targets.now c.requires.count c.requires.named c.places.result.now c.places.ensures _ c.in_default.is c.in_ok-numbers.ensures
+    none_shown g.D.Digester.digest_of leaf_text _ _ us scripts h c.args.external.now c.args.message.now c.args.targets.now c.requires.count
+    c.requires.named c.places.result.now c.places.ensures _ c.in_default.is c.in_ok-numbers.ensures
 
 pub do_hashes_stand-requires : goal.do_hashes_stand-requires
 do_hashes_stand-requires g c =
@@ -18,8 +19,12 @@ do_hashes_stand-requires g c =
 
 pub returns-then-do_hashes_stand : goal.returns-then-do_hashes_stand
 returns-then-do_hashes_stand g c = λ us scripts h full.
-    all_right g.D.Digester.digest_of leaf_text _ _ us scripts h c.args.external.now c.args.message.now c.args.targets.now c.requires.count c.requires.named c.places.result.now c.places.ensures c.args.hashes.now full c.needed.result.now c.needed.ensures _ _ c.in-Some.is c.in_ok-numbers.ensures (c.if-do_hashes_stand.ensures ∙ (c.deref.ensures.value ∙ c.in_ok-found.ensures))
+    all_right g.D.Digester.digest_of leaf_text _ _ us scripts h c.args.external.now c.args.message.now c.args.targets.now c.requires.count
+    c.requires.named c.places.result.now c.places.ensures c.args.hashes.now full c.needed.result.now c.needed.ensures _ _ c.in-Some.is
+    c.in_ok-numbers.ensures (c.if-do_hashes_stand.ensures ∙ (c.deref.ensures.value ∙ c.in_ok-found.ensures))
 
 pub returns-else-do_hashes_stand : goal.returns-else-do_hashes_stand
 returns-else-do_hashes_stand g c = λ us scripts h full.
-    hash_wrong g.D.Digester.digest_of leaf_text _ _ us scripts h c.args.external.now c.args.message.now c.args.targets.now c.requires.count c.requires.named c.places.result.now c.places.ensures c.args.hashes.now full c.needed.result.now c.needed.ensures (λ e. c.if-do_hashes_stand.ensures (e ∙ sym (c.deref.ensures.value ∙ c.in_ok-found.ensures)))
+    hash_wrong g.D.Digester.digest_of leaf_text _ _ us scripts h c.args.external.now c.args.message.now c.args.targets.now c.requires.count
+    c.requires.named c.places.result.now c.places.ensures c.args.hashes.now full c.needed.result.now c.needed.ensures
+    (λ e. c.if-do_hashes_stand.ensures (e ∙ sym (c.deref.ensures.value ∙ c.in_ok-found.ensures)))

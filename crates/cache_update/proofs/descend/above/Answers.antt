@@ -7,4 +7,5 @@ pub parent-requires : goal.parent-requires
 parent-requires c = row_small c.args.n c.args.place.row c.args.place.off 40 c.requires.within c.requires.small
 
 pub returns : goal.returns
-returns c = ap₂ (λ (r : ℕ) (o : ℕ). let x : Place = record { row = r; off = o } in x) (c.parent.ensures.row ∙ add-one c.args.place.row) c.parent.ensures.off
+returns c = ap₂ (λ (r : ℕ) (o : ℕ). let x : Place = record { row = r; off = o } in x) (c.parent.ensures.row ∙ add-one c.args.place.row)
+    c.parent.ensures.off

@@ -12,11 +12,13 @@ index_on-at-requires-clause-before c = c.loop-i.invariant.near _ (omega (arith, 
 
 pub loop-i-preserved : goal.loop-i-preserved
 loop-i-preserved c = record {
-  rest = c.loop-i.invariant.rest ∙ gather_on (gained c.args.older.now) c.args.newer.now c.loop-i.gained.items _ c.loop-i.i _ (omega arith) c.note_gained.ensures.items;
+  rest = c.loop-i.invariant.rest ∙ gather_on (gained c.args.older.now) c.args.newer.now c.loop-i.gained.items _ c.loop-i.i _ (omega arith)
+      c.note_gained.ensures.items;
   len = omega (arith, c.loop-i.invariant.len, c.note_gained.ensures.len);
   near = λ d lt. before_next c.args.older.now c.args.newer.now c.loop-i.i _ _ d c.requires.newer (omega (arith, lt)) c.index_on-at.ensures;
   room = omega (arith, c.loop-i.invariant.room, c.note_gained.ensures.capacity);
 }
 
 pub returns-clause-items : goal.returns-clause-items
-returns-clause-items c = sym (c.loop-i.invariant.rest ∙ gather_end (gained c.args.older.now) c.args.newer.now c.loop-i.gained.items c.loop-i.i (omega arith))
+returns-clause-items c = sym (c.loop-i.invariant.rest
+    ∙ gather_end (gained c.args.older.now) c.args.newer.now c.loop-i.gained.items c.loop-i.i (omega arith))

@@ -12,11 +12,13 @@ index_on-at-requires-clause-before c = c.loop-i.invariant.near _ (omega (arith, 
 
 pub loop-i-preserved : goal.loop-i-preserved
 loop-i-preserved c = record {
-  rest = c.loop-i.invariant.rest ∙ gather_on (lost c.args.newer.now) c.args.older.now c.loop-i.lost.items _ c.loop-i.i _ (omega arith) c.note_lost.ensures.items;
+  rest = c.loop-i.invariant.rest ∙ gather_on (lost c.args.newer.now) c.args.older.now c.loop-i.lost.items _ c.loop-i.i _ (omega arith)
+      c.note_lost.ensures.items;
   len = omega (arith, c.loop-i.invariant.len, c.note_lost.ensures.len);
   near = λ d lt. before_next c.args.newer.now c.args.older.now c.loop-i.i _ _ d c.requires.older (omega (arith, lt)) c.index_on-at.ensures;
   room = omega (arith, c.loop-i.invariant.room, c.note_lost.ensures.capacity);
 }
 
 pub returns-clause-items : goal.returns-clause-items
-returns-clause-items c = sym (c.loop-i.invariant.rest ∙ gather_end (lost c.args.newer.now) c.args.older.now c.loop-i.lost.items c.loop-i.i (omega arith))
+returns-clause-items c = sym (c.loop-i.invariant.rest
+    ∙ gather_end (lost c.args.newer.now) c.args.older.now c.loop-i.lost.items c.loop-i.i (omega arith))

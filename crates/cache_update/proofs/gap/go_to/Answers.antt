@@ -11,7 +11,8 @@ pub go_up-requires-clause-ascends : goal.go_up-requires-clause-ascends
 go_up-requires-clause-ascends c = subst AscendByPlace (sym c.go_down-down.ensures.same) c.requires.ascends
 
 pub go_up-requires-clause-before : goal.go_up-requires-clause-before
-go_up-requires-clause-before c = subst (λ (hs : List (Place × Digest)). EndsBefore hs c.go_down-down.result.from c.args.place) (sym c.go_down-down.ensures.same) c.go_down-down.ensures.before
+go_up-requires-clause-before c = subst (λ (hs : List (Place × Digest)). EndsBefore hs c.go_down-down.result.from c.args.place)
+    (sym c.go_down-down.ensures.same) c.go_down-down.ensures.before
 
 pub returns-clause-same : goal.returns-clause-same
 returns-clause-same c = c.go_up.ensures.same ∙ c.go_down-down.ensures.same
@@ -20,4 +21,5 @@ pub returns-clause-size : goal.returns-clause-size
 returns-clause-size c = omega (arith, c.go_up.ensures.size, c.go_down-down.ensures.size)
 
 pub returns-clause-split : goal.returns-clause-split
-returns-clause-split c = subst (λ (hs : List (Place × Digest)). IsSplit is_before_place held_key c.args.place hs c.go_up.result.from) c.go_down-down.ensures.same c.go_up.ensures.split
+returns-clause-split c = subst (λ (hs : List (Place × Digest)). IsSplit is_before_place held_key c.args.place hs c.go_up.result.from)
+    c.go_down-down.ensures.same c.go_up.ensures.split

@@ -12,4 +12,5 @@ pub returns-clause-within : goal.returns-clause-within
 returns-clause-within c = let o = c.loop-now.invariant.gap.order in let w = c.loop-now.invariant.gap.within in omega (arith, o, w)
 
 pub returns-clause-same : goal.returns-clause-same
-returns-clause-same c = gap_shut c.loop-now.now.from c.loop-now.now.to c.loop-now.list c.loop-now.invariant.gap (omega (arith, c.loop-now-test.false)) ∙ c.loop-now.invariant.same
+returns-clause-same c = gap_shut c.loop-now.now.from c.loop-now.now.to c.loop-now.list c.loop-now.invariant.gap (omega (arith, c.loop-now-test.false))
+    ∙ c.loop-now.invariant.same

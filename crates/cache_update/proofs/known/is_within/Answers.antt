@@ -5,8 +5,10 @@ use Rattle.cache_update.proofs.known.is_within.Goals as goal
 
 pub returns-else-place-lt40-clause-is : goal.returns-else-place-lt40-clause-is
 returns-else-place-lt40-clause-is c =
-    let high : nat_lt c.args.place.row 40 ≡ false = ⊎_elim (λ t. let low = ltb-true c.args.place.row 40 t in absurd (omega (arith, low, c.if-place-lt40.false))) (λ t. t) (cases_Bool (nat_lt c.args.place.row 40)) in
+    let high : nat_lt c.args.place.row 40 ≡ false = ⊎_elim (λ t. let low = ltb-true c.args.place.row 40 t in
+    absurd (omega (arith, low, c.if-place-lt40.false))) (λ t. t) (cases_Bool (nat_lt c.args.place.row 40)) in
     high ∙ ⊎_elim
-    (λ t. let within = ltb-true c.args.place.off (c.args.n / 2 ^ c.args.place.row) t in let low = row_small c.args.n c.args.place.row c.args.place.off 40 within c.requires in absurd (omega (arith, low, c.if-place-lt40.false)))
+    (λ t. let within = ltb-true c.args.place.off (c.args.n / 2 ^ c.args.place.row) t in
+    let low = row_small c.args.n c.args.place.row c.args.place.off 40 within c.requires in absurd (omega (arith, low, c.if-place-lt40.false)))
     (λ t. sym t)
     (cases_Bool (nat_lt c.args.place.off (c.args.n / 2 ^ c.args.place.row)))

@@ -9,7 +9,8 @@ pub invariant_of-parts : goal.invariant_of-parts
 invariant_of-parts c =
     let forest = rw (← c.parts.view_is) at c.requires.forest in (
       subst AscendByNumber (sym c.add_kept.ensures.items)
-          (more_ascend (is_empty_of c.args.joins.now) c.args.n (length c.args.joins.now) c.args.leaf c.args.digest _ c.parts.invariant.0 forest.numbers),
+          (more_ascend (is_empty_of c.args.joins.now) c.args.n (length c.args.joins.now) c.args.leaf c.args.digest _ c.parts.invariant.0
+          forest.numbers),
       c.add_held.ensures.ascends,
     )
 
@@ -17,7 +18,8 @@ pub returns-clause-forest : goal.returns-clause-forest
 returns-clause-forest c =
     let forest = rw (← c.parts.view_is) at c.requires.forest in
     record {
-      numbers = subst (All (IsNumbered (c.args.n + 1))) (sym c.add_kept.ensures.items) (numbers_more (is_empty_of c.args.joins.now) c.args.n (length c.args.joins.now) c.args.leaf c.args.digest _ forest.numbers);
+      numbers = subst (All (IsNumbered (c.args.n + 1))) (sym c.add_kept.ensures.items)
+          (numbers_more (is_empty_of c.args.joins.now) c.args.n (length c.args.joins.now) c.args.leaf c.args.digest _ forest.numbers);
       kept = subst (λ n. All (IsKeptIn n) c.add_kept.new.kept.items) (sym (add-one c.args.n))
           (subst (All (IsKeptIn _)) (sym c.add_kept.ensures.items)
           (more_in (is_empty_of c.args.joins.now) c.args.n (length c.args.joins.now) c.requires.slots c.args.leaf c.args.digest _ forest.kept));
@@ -30,6 +32,7 @@ pub returns-clause-ordered : goal.returns-clause-ordered
 returns-clause-ordered c =
     let forest = rw (← c.parts.view_is) at c.requires.forest in (
       subst AscendByNumber (sym c.add_kept.ensures.items)
-          (more_ascend (is_empty_of c.args.joins.now) c.args.n (length c.args.joins.now) c.args.leaf c.args.digest _ c.parts.invariant.0 forest.numbers),
+          (more_ascend (is_empty_of c.args.joins.now) c.args.n (length c.args.joins.now) c.args.leaf c.args.digest _ c.parts.invariant.0
+          forest.numbers),
       c.add_held.ensures.ascends,
     )

@@ -7,11 +7,13 @@ loop-step-init c = record { known = c.requires.known; short = (let w = c.require
 
 pub returns-then-value-number : goal.returns-then-value-number
 returns-then-value-number c =
-    bracket_up c.args.numbers.now c.args.number 0 c.loop-step.high (c.loop-step.high - c.loop-step.step - 1) c.requires.sorted c.loop-step.invariant.known (omega arith) (omega (arith, c.loop-step-test.true)) (omega (arith, c.if-value-number.true))
+    bracket_up c.args.numbers.now c.args.number 0 c.loop-step.high (c.loop-step.high - c.loop-step.step - 1) c.requires.sorted
+    c.loop-step.invariant.known (omega arith) (omega (arith, c.loop-step-test.true)) (omega (arith, c.if-value-number.true))
 
 pub loop-step-preserved : goal.loop-step-preserved
 loop-step-preserved c = record {
-  known = bracket_down c.args.numbers.now c.args.number 0 c.loop-step.high (c.loop-step.high - c.loop-step.step - 1) c.requires.sorted c.loop-step.invariant.known (omega arith) (omega (arith, c.loop-step-test.true)) (omega (arith, c.if-value-number.false));
+  known = bracket_down c.args.numbers.now c.args.number 0 c.loop-step.high (c.loop-step.high - c.loop-step.step - 1) c.requires.sorted
+      c.loop-step.invariant.known (omega arith) (omega (arith, c.loop-step-test.true)) (omega (arith, c.if-value-number.false));
   short = omega (arith, c.loop-step.invariant.short, c.loop-step-test.true);
   some = omega (arith, c.loop-step.invariant.some);
 }

@@ -7,11 +7,13 @@ loop-step-init c = record { known = c.requires.known; short = omega arith; some 
 
 pub returns-then-value-number : goal.returns-then-value-number
 returns-then-value-number c =
-    bracket_down c.args.numbers.now c.args.number c.loop-step.low (length c.args.numbers.now) (c.loop-step.low + c.loop-step.step) c.requires.sorted c.loop-step.invariant.known (omega arith) (omega (arith, c.loop-step-test.true)) (omega (arith, c.if-value-number.true))
+    bracket_down c.args.numbers.now c.args.number c.loop-step.low (length c.args.numbers.now) (c.loop-step.low + c.loop-step.step) c.requires.sorted
+    c.loop-step.invariant.known (omega arith) (omega (arith, c.loop-step-test.true)) (omega (arith, c.if-value-number.true))
 
 pub loop-step-preserved : goal.loop-step-preserved
 loop-step-preserved c = record {
-  known = bracket_up c.args.numbers.now c.args.number c.loop-step.low (length c.args.numbers.now) (c.loop-step.low + c.loop-step.step) c.requires.sorted c.loop-step.invariant.known (omega arith) (omega (arith, c.loop-step-test.true)) (omega (arith, c.if-value-number.false));
+  known = bracket_up c.args.numbers.now c.args.number c.loop-step.low (length c.args.numbers.now) (c.loop-step.low + c.loop-step.step)
+      c.requires.sorted c.loop-step.invariant.known (omega arith) (omega (arith, c.loop-step-test.true)) (omega (arith, c.if-value-number.false));
   short = omega (arith, c.loop-step.invariant.short);
   some = omega (arith, c.loop-step.invariant.some);
 }

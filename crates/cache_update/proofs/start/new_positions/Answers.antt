@@ -7,5 +7,6 @@ use Rattle.cache_update.proofs.start.new_positions.Goals as goal
 
 pub returns : goal.returns
 returns c =
-    sym (c.loop-i.invariant ∙ gather_end (λ (k : Kept). new_position c.args.targets.now.leaves c.args.targets.now.targets k.place) c.args.kept.now c.loop-i.positions.items c.loop-i.i (omega arith))
+    sym (c.loop-i.invariant ∙ gather_end (λ (k : Kept). new_position c.args.targets.now.leaves c.args.targets.now.targets k.place) c.args.kept.now
+    c.loop-i.positions.items c.loop-i.i (omega arith))
     ∙ positions_are c.args.targets.now.leaves c.args.targets.now.targets c.args.kept.now

@@ -8,11 +8,19 @@ use Rattle.cache_update.proofs.undoing.put_back_lost.Goals as goal
 
 pub loop-i-init : goal.loop-i-init
 loop-i-init c =
-    let rest = undo_start is_same_place is_before_place held_key digest_was c.args.lost.now (around c.args.gap.from c.args.gap.to c.args.list.now) _ refl in
-    record { gap = c.requires.gap; rest = rest; ascends = c.requires.ascends; within = omega arith; room = room_starts c.args.lost.now (around c.args.gap.from c.args.gap.to c.args.list.now) _ _ refl rest c.requires.room }
+    let rest = undo_start is_same_place is_before_place held_key digest_was c.args.lost.now (around c.args.gap.from c.args.gap.to c.args.list.now) _
+    refl in
+    record {
+      gap = c.requires.gap;
+      rest = rest;
+      ascends = c.requires.ascends;
+      within = omega arith;
+      room = room_starts c.args.lost.now (around c.args.gap.from c.args.gap.to c.args.list.now) _ _ refl rest c.requires.room;
+    }
 
 pub put_in-now-requires-clause-room : goal.put_in-now-requires-clause-room
-put_in-now-requires-clause-room c = has_gap c.args.lost.now c.loop-i.now.from c.loop-i.now.to c.loop-i.list c.loop-i.i c.loop-i.invariant.gap (omega (arith, c.loop-i-test.true)) c.loop-i.invariant.room
+put_in-now-requires-clause-room c = has_gap c.args.lost.now c.loop-i.now.from c.loop-i.now.to c.loop-i.list c.loop-i.i c.loop-i.invariant.gap
+    (omega (arith, c.loop-i-test.true)) c.loop-i.invariant.room
 
 pub loop-i-preserved : goal.loop-i-preserved
 loop-i-preserved c =
@@ -21,9 +29,13 @@ loop-i-preserved c =
     let inside : c.loop-i.i - 1 < length c.args.lost.now = omega (arith, c.loop-i-test.true, c.loop-i.invariant.within) in
     record {
       gap = c.put_in-now.ensures.gap;
-      rest = undo_on is_same_place is_before_place held_key digest_was c.args.lost.now _ now _ c.loop-i.i (c.loop-i.i - 1) _ fewer inside c.put_in-now.ensures.items c.loop-i.invariant.rest;
+      rest = undo_on is_same_place is_before_place held_key digest_was c.args.lost.now _ now _ c.loop-i.i (c.loop-i.i - 1) _ fewer inside
+          c.put_in-now.ensures.items c.loop-i.invariant.rest;
       ascends = c.put_in-now.ensures.ascends;
       within = omega (arith, c.loop-i.invariant.within);
-      room = room_kept _ _ (length c.loop-i.list) _ (omega (arith, c.put_in-now.auto.list)) (room_stays c.args.lost.now now _ _ _ _ c.loop-i.i (c.loop-i.i - 1) fewer c.put_in-now.ensures.items
-          (undo_on is_same_place is_before_place held_key digest_was c.args.lost.now (undo_digests (map digest_was (take c.loop-i.i c.args.lost.now)) now) now _ c.loop-i.i (c.loop-i.i - 1) _ fewer inside c.put_in-now.ensures.items refl) c.loop-i.invariant.room);
+      room = room_kept _ _ (length c.loop-i.list) _ (omega (arith, c.put_in-now.auto.list))
+          (room_stays c.args.lost.now now _ _ _ _ c.loop-i.i (c.loop-i.i - 1) fewer c.put_in-now.ensures.items
+          (undo_on is_same_place is_before_place held_key digest_was c.args.lost.now
+          (undo_digests (map digest_was (take c.loop-i.i c.args.lost.now)) now) now _ c.loop-i.i (c.loop-i.i - 1) _ fewer inside
+          c.put_in-now.ensures.items refl) c.loop-i.invariant.room);
     }

@@ -14,7 +14,8 @@ put_entry-requires-clause-room c =
 
 pub loop-entry-preserved : goal.loop-entry-preserved
 loop-entry-preserved c = record {
-  rest = taken_on _ c.loop-entry.left.items c.pop.new.self.items c.loop-entry.kept.items c.put_entry.new.kept.items c.in-Some.entry c.pop.result c.pop.ensures.items c.in-Some.is c.put_entry.ensures.items c.loop-entry.invariant.rest;
+  rest = taken_on _ c.loop-entry.left.items c.pop.new.self.items c.loop-entry.kept.items c.put_entry.new.kept.items c.in-Some.entry c.pop.result
+      c.pop.ensures.items c.in-Some.is c.put_entry.ensures.items c.loop-entry.invariant.rest;
   ascends = c.put_entry.ensures.ascends;
   room = omega (arith, c.loop-entry.invariant.room, c.put_entry.ensures.capacity);
 }

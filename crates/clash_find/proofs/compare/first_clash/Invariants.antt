@@ -4,4 +4,5 @@ use Rattle.clash_find.specs.Searched.{IsCompared}
 use Rattle.clash_find.proofs.compare.first_clash.Given as goal
 
 abbrev pub invariant-loop-item : goal.invariant-loop-item
-invariant-loop-item g l = (i : ℕ) (d : CoveredPlace) → i < l.item-index → IsCompared g.D.Digester.digest_of l.forest.entries l.outputs l.leaves (get_or l.items i d) None
+invariant-loop-item g l = (i : ℕ) (d : CoveredPlace) → i < l.item-index
+    → IsCompared g.D.Digester.digest_of l.forest.entries l.outputs l.leaves (get_or l.items i d) None

@@ -6,22 +6,28 @@ use Rattle.clash_find.proofs.search.find_in.Goals as goal
 pub returns-then-hashes-needed-clause-answer : goal.returns-then-hashes-needed-clause-answer
 returns-then-hashes-needed-clause-answer g c =
     let H = g.D.Digester.digest_of in
-    count_answer H g.met.D.Digester.has_32_bytes c.args.outputs.now c.args.targets.now.targets c.args.leaves.now c.args.hashes.now c.args.forest.now.entries
-    (other_so H g.met.D.Digester.has_32_bytes c.args.outputs.now c.args.targets.now.targets c.args.leaves.now c.args.hashes.now c.args.forest.now.entries c.args.targets.now.leaves c.needed.result.now c.requires.entries c.needed.ensures c.if-hashes-needed.true)
+    count_answer H g.met.D.Digester.has_32_bytes c.args.outputs.now c.args.targets.now.targets c.args.leaves.now c.args.hashes.now
+    c.args.forest.now.entries
+    (other_so H g.met.D.Digester.has_32_bytes c.args.outputs.now c.args.targets.now.targets c.args.leaves.now c.args.hashes.now
+    c.args.forest.now.entries c.args.targets.now.leaves c.needed.result.now c.requires.entries c.needed.ensures c.if-hashes-needed.true)
 
 pub returns-then-hashes-needed-clause-exact : goal.returns-then-hashes-needed-clause-exact
 returns-then-hashes-needed-clause-exact g c = λ us s.
     let H = g.D.Digester.digest_of in
-    count_exact H g.met.D.Digester.has_32_bytes c.args.outputs.now c.args.targets.now.targets c.args.leaves.now c.args.hashes.now c.args.forest.now.entries
-    (other_so H g.met.D.Digester.has_32_bytes c.args.outputs.now c.args.targets.now.targets c.args.leaves.now c.args.hashes.now c.args.forest.now.entries c.args.targets.now.leaves c.needed.result.now c.requires.entries c.needed.ensures c.if-hashes-needed.true)
+    count_exact H g.met.D.Digester.has_32_bytes c.args.outputs.now c.args.targets.now.targets c.args.leaves.now c.args.hashes.now
+    c.args.forest.now.entries
+    (other_so H g.met.D.Digester.has_32_bytes c.args.outputs.now c.args.targets.now.targets c.args.leaves.now c.args.hashes.now
+    c.args.forest.now.entries c.args.targets.now.leaves c.needed.result.now c.requires.entries c.needed.ensures c.if-hashes-needed.true)
 
 pub returns-clause-answer : goal.returns-clause-answer
 returns-clause-answer g c =
     let H = g.D.Digester.digest_of in
     IfOk-weaker c.search.result _ _
     (λ clash searched.
-    found_answer H g.met.D.Digester.has_32_bytes c.args.outputs.now c.args.targets.now.targets c.args.leaves.now c.args.hashes.now c.args.forest.now.entries clash
-    (found_so H g.met.D.Digester.has_32_bytes c.args.outputs.now c.args.targets.now.targets c.args.leaves.now c.args.hashes.now c.args.forest.now.entries c.args.targets.now.leaves clash c.requires.entries c.leaves-count.ensures.targets.shape c.requires.leaves
+    found_answer H g.met.D.Digester.has_32_bytes c.args.outputs.now c.args.targets.now.targets c.args.leaves.now c.args.hashes.now
+    c.args.forest.now.entries clash
+    (found_so H g.met.D.Digester.has_32_bytes c.args.outputs.now c.args.targets.now.targets c.args.leaves.now c.args.hashes.now
+    c.args.forest.now.entries c.args.targets.now.leaves clash c.requires.entries c.leaves-count.ensures.targets.shape c.requires.leaves
     (c.if-hashes-needed.false ∙ ap length c.needed.ensures) searched))
     c.search.ensures
 
@@ -30,7 +36,9 @@ returns-clause-exact g c =
     let H = g.D.Digester.digest_of in
     IfOk-weaker c.search.result _ _
     (λ clash searched.
-    found_exact H g.met.D.Digester.has_32_bytes c.args.outputs.now c.args.targets.now.targets c.args.leaves.now c.args.hashes.now c.args.forest.now.entries clash
-    (found_so H g.met.D.Digester.has_32_bytes c.args.outputs.now c.args.targets.now.targets c.args.leaves.now c.args.hashes.now c.args.forest.now.entries c.args.targets.now.leaves clash c.requires.entries c.leaves-count.ensures.targets.shape c.requires.leaves
+    found_exact H g.met.D.Digester.has_32_bytes c.args.outputs.now c.args.targets.now.targets c.args.leaves.now c.args.hashes.now
+    c.args.forest.now.entries clash
+    (found_so H g.met.D.Digester.has_32_bytes c.args.outputs.now c.args.targets.now.targets c.args.leaves.now c.args.hashes.now
+    c.args.forest.now.entries c.args.targets.now.leaves clash c.requires.entries c.leaves-count.ensures.targets.shape c.requires.leaves
     (c.if-hashes-needed.false ∙ ap length c.needed.ensures) searched))
     c.search.ensures

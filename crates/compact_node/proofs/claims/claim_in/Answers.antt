@@ -6,5 +6,6 @@ use Rattle.compact_node.proofs.claims.claim_in.Goals as goal
 
 pub returns-clause-err : goal.returns-clause-err
 returns-clause-err g c =
-    proof_errs g.D.Digester.digest_of leaf_text (view_by c.args.roots.now c.args.held.now) c.args.spends.now.external _ (option_copied c.args.message) _ _ _ c.in_ok-message.ensures c.in-Some.is c.external.ensures
+    proof_errs g.D.Digester.digest_of leaf_text (view_by c.args.roots.now c.args.held.now) c.args.spends.now.external _ (option_copied c.args.message)
+    _ _ _ c.in_ok-message.ensures c.in-Some.is c.external.ensures
     c.claim_of.ensures.err

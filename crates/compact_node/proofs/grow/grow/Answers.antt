@@ -14,7 +14,8 @@ returns-then-watches_nothing-clause-kept g c =
     let t = c.args.targets.now in
     on_ok c.grow_unwatched.result c.grow_unwatched.ensures.roots
     (λ _. unwatched_kept g.D.Digester.digest_of leaf_text c.args.cache.now.watch c.args.roots.now c.args.spends.now.new t.leaves t.targets
-    c.args.cache.now.parts.kept _ c.args.cache.now.parts.held c.grow_unwatched.new.cache.parts.held none.0 none.1.0 none.1.1 c.grow_unwatched.ensures.lists.0)
+    c.args.cache.now.parts.kept _ c.args.cache.now.parts.held c.grow_unwatched.new.cache.parts.held none.0 none.1.0 none.1.1
+    c.grow_unwatched.ensures.lists.0)
 
 pub returns-then-watches_nothing-clause-held : goal.returns-then-watches_nothing-clause-held
 returns-then-watches_nothing-clause-held g c =
@@ -22,4 +23,5 @@ returns-then-watches_nothing-clause-held g c =
     let t = c.args.targets.now in
     on_ok c.grow_unwatched.result c.grow_unwatched.ensures.roots
     (λ _. unwatched_held g.D.Digester.digest_of leaf_text c.args.cache.now.watch c.args.roots.now c.args.spends.now.new t.leaves t.targets
-    c.args.cache.now.parts.kept c.grow_unwatched.new.cache.parts.kept c.args.cache.now.parts.held _ none.0 none.1.0 none.1.1 (pairs_within t.leaves c.args.changes.now) c.grow_unwatched.ensures.lists.1)
+    c.args.cache.now.parts.kept c.grow_unwatched.new.cache.parts.kept c.args.cache.now.parts.held _ none.0 none.1.0 none.1.1
+    (pairs_within t.leaves c.args.changes.now) c.grow_unwatched.ensures.lists.1)

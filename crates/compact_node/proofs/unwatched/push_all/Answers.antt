@@ -17,7 +17,8 @@ push-requires g c = omega (arith, c.requires, c.loop-i.invariant.appending.count
 
 pub loop-i-preserved : goal.loop-i-preserved
 loop-i-preserved g c = record {
-  appending = appended_once _ _ _ _ _ _ _ _ c.loop-i.invariant.appending c.new_output-leaf.result c.leaf_digest-digest.result c.push.new.roots c.leaf_digest-digest.new.steps c.push.new.steps
+  appending = appended_once _ _ _ _ _ _ _ _ c.loop-i.invariant.appending c.new_output-leaf.result c.leaf_digest-digest.result c.push.new.roots
+      c.leaf_digest-digest.new.steps c.push.new.steps
       c.new_output-leaf.ensures c.leaf_digest-digest.ensures.value c.push.ensures.roots c.leaf_digest-digest.ensures.step c.push.ensures.steps;
   within = omega (arith, c.loop-i-test.true, c.new_count-i-end.ensures);
 }
@@ -26,7 +27,8 @@ pub returns-clause-roots : goal.returns-clause-roots
 returns-clause-roots g c =
     let H = g.D.Digester.digest_of in
     c.loop-i.invariant.appending.are
-    ∙ ap (λ (xs : List Leaf). with_leaves H c.args.roots.now (map (λ (leaf : Leaf). H (leaf_text leaf)) xs)) (take_all c.loop-i.i c.args.spends.now.new (omega (arith, c.loop-i-test.false, c.new_count-i-end.ensures)))
+    ∙ ap (λ (xs : List Leaf). with_leaves H c.args.roots.now (map (λ (leaf : Leaf). H (leaf_text leaf)) xs))
+    (take_all c.loop-i.i c.args.spends.now.new (omega (arith, c.loop-i-test.false, c.new_count-i-end.ensures)))
 
 pub returns-clause-steps : goal.returns-clause-steps
 returns-clause-steps g c =

@@ -14,7 +14,8 @@ returns-in_err-write_past-clause-part g c = stops _ _ _ _ _ _ _ _ c.loop-i.invar
 
 pub loop-i-preserved : goal.loop-i-preserved
 loop-i-preserved g c = record {
-  written = goes_on _ _ _ _ _ _ _ _ c.loop-i.invariant.written _ c.get.ensures _ _ _ c.in_ok-write_past.ensures.kept c.in_ok-write_past.ensures.held c.in_ok-write_past.ensures.whole;
+  written = goes_on _ _ _ _ _ _ _ _ c.loop-i.invariant.written _ c.get.ensures _ _ _ c.in_ok-write_past.ensures.kept c.in_ok-write_past.ensures.held
+      c.in_ok-write_past.ensures.whole;
   later = omega (arith, c.loop-i.invariant.later, c.write_past.ensures.later);
 }
 

@@ -18,8 +18,10 @@ write_level-requires g c = past_shape _ _ (unpacked _ _ _ c.unpack.ensures c.pas
 
 pub returns-in-Ok-clause-whole : goal.returns-in-Ok-clause-whole
 returns-in-Ok-clause-whole g c =
-    as_written c.write_level.result _ _ _ _ (past_text _ _ (unpacked _ _ _ c.unpack.ensures c.past.view_is) _ _ c.in-Ok.ensures.kept _ _ c.in-Ok.ensures.held) c.write_level.ensures.whole
+    as_written c.write_level.result _ _ _ _ (past_text _ _ (unpacked _ _ _ c.unpack.ensures c.past.view_is) _ _ c.in-Ok.ensures.kept _ _
+    c.in-Ok.ensures.held) c.write_level.ensures.whole
 
 pub returns-in-Ok-clause-part : goal.returns-in-Ok-clause-part
 returns-in-Ok-clause-part g c =
-    as_part _ _ _ _ (past_text _ _ (unpacked _ _ _ c.unpack.ensures c.past.view_is) _ _ c.in-Ok.ensures.kept _ _ c.in-Ok.ensures.held) c.write_level.ensures.part
+    as_part _ _ _ _ (past_text _ _ (unpacked _ _ _ c.unpack.ensures c.past.view_is) _ _ c.in-Ok.ensures.kept _ _ c.in-Ok.ensures.held)
+    c.write_level.ensures.part

@@ -6,4 +6,5 @@ use Rattle.digest_lanes.proofs.block512.ch.Goals as goal
 pub returns : goal.returns
 returns c j h =
     rw (c.xor-2.ensures j h, c.and.ensures j h, c.xor.ensures j h)
-    (ch_short w64 _ _ _ (lane_below c.args.x j c.fits-x.0 c.fits-x.1 h) (lane_below c.args.y j c.fits-y.0 c.fits-y.1 h) (lane_below c.args.z j c.fits-z.0 c.fits-z.1 h))
+    (ch_short w64 _ _ _ (lane_below c.args.x j c.fits-x.0 c.fits-x.1 h) (lane_below c.args.y j c.fits-y.0 c.fits-y.1 h)
+    (lane_below c.args.z j c.fits-z.0 c.fits-z.1 h))

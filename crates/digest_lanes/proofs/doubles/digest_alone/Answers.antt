@@ -11,7 +11,8 @@ each-preserved g c =
     let now = c.each.invariant in
     let kept = c.digest_at.ensures.kept in (
       λ i was. kept i (now.0 i was),
-      one_more (λ i. HasLength c.args.lengths (text_at c.args.texts.now i) → IsGivenAt (λ text v. g.T.From.from_gives (sha256 (sha256 text)) v) c.args.texts.now c.digest_at.new.out i)
+      one_more (λ i. HasLength c.args.lengths (text_at c.args.texts.now i)
+          → IsGivenAt (λ text v. g.T.From.from_gives (sha256 (sha256 text)) v) c.args.texts.now c.digest_at.new.out i)
           c.args.from c.each.i (λ i low lt has. kept i (now.1 i low lt has)) c.digest_at.ensures.made,
     )
 

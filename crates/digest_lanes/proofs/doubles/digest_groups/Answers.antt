@@ -22,6 +22,7 @@ groups-preserved g c =
         | inl a ↦ kept i (now.1 i a has)
         | inr b ↦
             let (k, (within, same)) = c.in-Some.ensures.all i b lt (rw c.lengths_of-lengths.ensures has) in
-            subst (λ n. IsGivenAt (λ text v. g.T.From.from_gives (sha256 (sha256 text)) v) c.args.texts.now c.digest_group.new.out n) same (c.digest_group.ensures.made k (omega arith))
+            subst (λ n. IsGivenAt (λ text v. g.T.From.from_gives (sha256 (sha256 text)) v) c.args.texts.now c.digest_group.new.out n) same
+            (c.digest_group.ensures.made k (omega arith))
       ],
     )

@@ -8,4 +8,5 @@ pub each-preserved : goal.each-preserved
 each-preserved g c = λ before held.
     let k = c.each.k in
     put_each (λ i v. g.T.From.from_gives (sha512_256 (before ++ text_at c.args.texts.now i)) v) c.args.out.now c.each.out
-    (slice_index c.args.group.now) k c.from.result (rw (c.digest_four-digests.ensures k (omega arith) before held) at c.from.ensures) (c.each.invariant before held)
+    (slice_index c.args.group.now) k c.from.result (rw (c.digest_four-digests.ensures k (omega arith) before held) at c.from.ensures)
+    (c.each.invariant before held)

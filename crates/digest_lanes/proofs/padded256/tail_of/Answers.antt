@@ -12,10 +12,12 @@ returns c =
     elim c.if-used-lt-BLOCK.branch [
       | then-used-lt-BLOCK w ↦ record {
         fits = omega (arith, w.end-is);
-        bytes = tail_is rest _ _ _ bytes 128 _ _ _ ((119 - length rest) % 64) 128 0 refl c.copy_from_slice.ensures.after written (omega arith) (omega arith) (omega arith);
+        bytes = tail_is rest _ _ _ bytes 128 _ _ _ ((119 - length rest) % 64) 128 0 refl c.copy_from_slice.ensures.after written (omega arith)
+            (omega arith) (omega arith);
       }
       | else-used-lt-BLOCK w ↦ record {
         fits = omega (arith, w.end-is);
-        bytes = tail_is rest _ _ _ bytes 128 _ _ _ ((119 - length rest) % 64) 128 0 refl c.copy_from_slice.ensures.after written (omega arith) (omega arith) (omega arith);
+        bytes = tail_is rest _ _ _ bytes 128 _ _ _ ((119 - length rest) % 64) 128 0 refl c.copy_from_slice.ensures.after written (omega arith)
+            (omega arith) (omega arith);
       }
     ]

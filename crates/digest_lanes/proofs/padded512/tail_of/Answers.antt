@@ -12,10 +12,12 @@ returns c =
     elim c.if-used-lt-BLOCK.branch [
       | then-used-lt-BLOCK w ↦ record {
         fits = omega (arith, w.end-is);
-        bytes = tail_is rest _ _ _ bytes 256 _ _ _ ((239 - length rest) % 128) 128 0 refl c.copy_from_slice.ensures.after written (omega arith) (omega arith) (omega arith);
+        bytes = tail_is rest _ _ _ bytes 256 _ _ _ ((239 - length rest) % 128) 128 0 refl c.copy_from_slice.ensures.after written (omega arith)
+            (omega arith) (omega arith);
       }
       | else-used-lt-BLOCK w ↦ record {
         fits = omega (arith, w.end-is);
-        bytes = tail_is rest _ _ _ bytes 256 _ _ _ ((239 - length rest) % 128) 128 0 refl c.copy_from_slice.ensures.after written (omega arith) (omega arith) (omega arith);
+        bytes = tail_is rest _ _ _ bytes 256 _ _ _ ((239 - length rest) % 128) 128 0 refl c.copy_from_slice.ensures.after written (omega arith)
+            (omega arith) (omega arith);
       }
     ]

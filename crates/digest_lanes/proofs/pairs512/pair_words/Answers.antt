@@ -19,7 +19,8 @@ returns c =
             splat_lane 0x8000000000000000 j h,
             splat_lane 0 j h,
             splat_lane 512 j h,
-          ) (pair_block (slice_index_or c.args.left.now j []) (slice_index_or c.args.right.now j []) (c.load_four-l0.ensures.long j h) (c.load_four-r0.ensures.long j h));
+          ) (pair_block (slice_index_or c.args.left.now j []) (slice_index_or c.args.right.now j []) (c.load_four-l0.ensures.long j h)
+          (c.load_four-r0.ensures.long j h));
       left = c.load_four-l0.ensures.long;
       right = c.load_four-r0.ensures.long;
     }

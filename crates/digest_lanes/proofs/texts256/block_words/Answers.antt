@@ -21,4 +21,5 @@ returns c j h =
       c.load_eight-w13.ensures j h,
       c.load_eight-w14.ensures j h,
       c.load_eight-w15.ensures j h,
-    ) (first_words_sixteen (slice_index_or (c.args.a.now ∷ c.args.b.now ∷ c.args.c.now ∷ c.args.d.now ∷ c.args.e.now ∷ c.args.f.now ∷ c.args.g.now ∷ c.args.h.now ∷ []) j []))
+    ) (first_words_sixteen (slice_index_or (c.args.a.now ∷ c.args.b.now ∷ c.args.c.now ∷ c.args.d.now ∷ c.args.e.now ∷ c.args.f.now ∷ c.args.g.now
+    ∷ c.args.h.now ∷ []) j []))

@@ -42,7 +42,8 @@ returns c j h =
     let texts = c.args.texts.now in
     let group = c.args.group.now in
     let text : ℕ → List ℕ = λ i. slice_index_or
-    (c.new-first.result ∷ c.new-second.result ∷ c.new-third.result ∷ c.new-fourth.result ∷ c.new-fifth.result ∷ c.new-sixth.result ∷ c.new-seventh.result ∷ c.new-eighth.result ∷ []) i [] in
+    (c.new-first.result ∷ c.new-second.result ∷ c.new-third.result ∷ c.new-fourth.result ∷ c.new-fifth.result ∷ c.new-sixth.result
+    ∷ c.new-seventh.result ∷ c.new-eighth.result ∷ []) i [] in
     let same = below_eight (λ i. text i ≡ padded_message (text_at texts (slice_index group i)))
     (rw (text_there texts (slice_index group 0)) at c.new-first.ensures)
     (rw (text_there texts (slice_index group 1)) at c.new-second.ensures)

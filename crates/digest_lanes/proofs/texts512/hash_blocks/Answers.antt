@@ -13,7 +13,8 @@ pub each-preserved : goal.each-preserved
 each-preserved c = λ j h.
     let k = c.each.k in
     let text : ℕ → List ℕ = λ i. slice_index_or (c.args.a.now ∷ c.args.b.now ∷ c.args.c.now ∷ c.args.d.now ∷ []) i [] in
-    let part : ℕ → List ℕ = λ i. slice_index_or (c.block.result.now ∷ c.block-in-each.result.now ∷ c.block-in-each-2.result.now ∷ c.block-in-each-3.result.now ∷ []) i [] in
+    let part : ℕ → List ℕ = λ i. slice_index_or
+    (c.block.result.now ∷ c.block-in-each.result.now ∷ c.block-in-each-2.result.now ∷ c.block-in-each-3.result.now ∷ []) i [] in
     let same = below_four (λ i. part i ≡ take 128 (drop (k * 128) (text i)))
     c.block.ensures.bytes c.block-in-each.ensures.bytes c.block-in-each-2.ensures.bytes c.block-in-each-3.ensures.bytes j h in
     c.compress-next.ensures j h (part j) (c.block_words-words.ensures j h)

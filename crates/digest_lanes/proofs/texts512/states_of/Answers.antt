@@ -8,16 +8,20 @@ use Rattle.digest_lanes.proofs.ListLemmas.{text_there}
 use Rattle.digest_lanes.proofs.texts512.states_of.Goals as goal
 
 pub hash_blocks-requires-clause-a : goal.hash_blocks-requires-clause-a
-hash_blocks-requires-clause-a c = rw (text_there c.args.texts.now (slice_index c.args.group.now 0)) at (ap length c.new-first.ensures) ∙ c.requires.blocks 0 (omega arith)
+hash_blocks-requires-clause-a c = rw (text_there c.args.texts.now (slice_index c.args.group.now 0)) at (ap length c.new-first.ensures)
+    ∙ c.requires.blocks 0 (omega arith)
 
 pub hash_blocks-requires-clause-b : goal.hash_blocks-requires-clause-b
-hash_blocks-requires-clause-b c = rw (text_there c.args.texts.now (slice_index c.args.group.now 1)) at (ap length c.new-second.ensures) ∙ c.requires.blocks 1 (omega arith)
+hash_blocks-requires-clause-b c = rw (text_there c.args.texts.now (slice_index c.args.group.now 1)) at (ap length c.new-second.ensures)
+    ∙ c.requires.blocks 1 (omega arith)
 
 pub hash_blocks-requires-clause-c : goal.hash_blocks-requires-clause-c
-hash_blocks-requires-clause-c c = rw (text_there c.args.texts.now (slice_index c.args.group.now 2)) at (ap length c.new-third.ensures) ∙ c.requires.blocks 2 (omega arith)
+hash_blocks-requires-clause-c c = rw (text_there c.args.texts.now (slice_index c.args.group.now 2)) at (ap length c.new-third.ensures)
+    ∙ c.requires.blocks 2 (omega arith)
 
 pub hash_blocks-requires-clause-d : goal.hash_blocks-requires-clause-d
-hash_blocks-requires-clause-d c = rw (text_there c.args.texts.now (slice_index c.args.group.now 3)) at (ap length c.new-fourth.ensures) ∙ c.requires.blocks 3 (omega arith)
+hash_blocks-requires-clause-d c = rw (text_there c.args.texts.now (slice_index c.args.group.now 3)) at (ap length c.new-fourth.ensures)
+    ∙ c.requires.blocks 3 (omega arith)
 
 pub returns : goal.returns
 returns c j h =

@@ -15,7 +15,8 @@ returns-else-n-le1-clause-least c = λ j lt. below_all c.args.n c.ilog2.result j
 
 pub returns-else-n-le1-clause-is : goal.returns-else-n-le1-clause-is
 returns-else-n-le1-clause-is c =
-    sym (rows_is c.args.n (c.ilog2.result + 1) (omega (arith, one_more c.ilog2.result, c.ilog2.ensures.next_power_gt)) (returns-else-n-le1-clause-least c))
+    sym (rows_is c.args.n (c.ilog2.result + 1) (omega (arith, one_more c.ilog2.result, c.ilog2.ensures.next_power_gt))
+    (returns-else-n-le1-clause-least c))
 
 pub returns-else-n-le1-clause-few : goal.returns-else-n-le1-clause-few
 returns-else-n-le1-clause-few c = omega (arith, pow_order c.ilog2.result 40 (omega (arith, c.ilog2.ensures.power_le, c.requires)))

@@ -9,4 +9,5 @@ pub returns-else-n-eq0-clause-few : goal.returns-else-n-eq0-clause-few
 returns-else-n-eq0-clause-few c = rows_few c.args.n c.ilog2.result 40 c.ilog2.ensures.power_le c.requires
 
 pub returns-else-n-eq0-clause-above : goal.returns-else-n-eq0-clause-above
-returns-else-n-eq0-clause-above c = λ row le. no_slot c.args.n (c.ilog2.result + 1) row (rows_room c.args.n c.ilog2.result c.ilog2.ensures.next_power_gt) le
+returns-else-n-eq0-clause-above c = λ row le. no_slot c.args.n (c.ilog2.result + 1) row
+    (rows_room c.args.n c.ilog2.result c.ilog2.ensures.next_power_gt) le

@@ -15,7 +15,8 @@ pub returns-in-Err-clause-ran : goal.returns-in-Err-clause-ran
 returns-in-Err-clause-ran g c =
     λ prior out.
     let l = subst (IsListOf _ _ _) c.in-Err.is c.in_ok-watch.ensures.list in
-    ran-refusing (auditing g.D.Digester.digest_of c.args.limits c.args.net c.args.named) _ prior _ (told_text prior) l.text (Tells-told_text prior) l.told c.in-Err.bad l.is _ _ _ _ c.say.result c.say.ensures.status c.say.ensures.whole c.say.ensures.part
+    ran-refusing (auditing g.D.Digester.digest_of c.args.limits c.args.net c.args.named) _ prior _ (told_text prior) l.text (Tells-told_text prior)
+    l.told c.in-Err.bad l.is _ _ _ _ c.say.result c.say.ensures.status c.say.ensures.whole c.say.ensures.part
 
 pub returns-in_err-auditor-clause-ran : goal.returns-in_err-auditor-clause-ran
 returns-in_err-auditor-clause-ran g c = λ prior out. ran-unbegun _ _ _ _ _ _ _ _ c.from_residual-in_err-auditor.ensures.0
@@ -24,8 +25,10 @@ pub returns-clause-ran : goal.returns-clause-ran
 returns-clause-ran g c =
     λ prior out.
     let l = subst (IsListOf _ _ _) c.in-Ok.is c.in_ok-watch.ensures.list in
-    ran-begun (auditing g.D.Digester.digest_of c.args.limits c.args.net c.args.named) _ prior _ (told_text prior) l.text (Tells-told_text prior) l.told c.in-Ok.watch l.is _ _
-    (audit-serves _ c.args.limits c.args.net (scripts_of c.in-Ok.watch) c.requires.leaves _ (c.in_ok-auditor.ensures ∙ ap (fresh_auditor c.args.net c.args.limits) c.watched-watch.ensures) out _ _ c.serve.ensures.served)
+    ran-begun (auditing g.D.Digester.digest_of c.args.limits c.args.net c.args.named) _ prior _ (told_text prior) l.text (Tells-told_text prior)
+    l.told c.in-Ok.watch l.is _ _
+    (audit-serves _ c.args.limits c.args.net (scripts_of c.in-Ok.watch) c.requires.leaves _
+    (c.in_ok-auditor.ensures ∙ ap (fresh_auditor c.args.net c.args.limits) c.watched-watch.ensures) out _ _ c.serve.ensures.served)
 
 pub returns-clause-read : goal.returns-clause-read
 returns-clause-read g c = λ failed. inl (c.serve.ensures.read failed)

@@ -25,8 +25,10 @@ returns-in-Err-Limit-clause-served g c =
 
 pub returns-in-Err-ReadFault-clause-served : goal.returns-in-Err-ReadFault-clause-served
 returns-in-Err-ReadFault-clause-served g c =
-    λ out. serves-unread _ c.args.limit _ (check-quiet g.D.Digester.digest_of c.args.limit c.args.node.now) _ _ _ (g.R.Sink.held c.args.report.now) out c.read_all.ensures.front ReadFault (λ e. cc)
+    λ out. serves-unread _ c.args.limit _ (check-quiet g.D.Digester.digest_of c.args.limit c.args.node.now) _ _ _ (g.R.Sink.held c.args.report.now)
+    out c.read_all.ensures.front ReadFault (λ e. cc)
 
 pub returns-in-Err-NoMemory-clause-served : goal.returns-in-Err-NoMemory-clause-served
 returns-in-Err-NoMemory-clause-served g c =
-    λ out. serves-unread _ c.args.limit _ (check-quiet g.D.Digester.digest_of c.args.limit c.args.node.now) _ _ _ (g.R.Sink.held c.args.report.now) out c.read_all.ensures.front NoMemory (λ e. cc)
+    λ out. serves-unread _ c.args.limit _ (check-quiet g.D.Digester.digest_of c.args.limit c.args.node.now) _ _ _ (g.R.Sink.held c.args.report.now)
+    out c.read_all.ensures.front NoMemory (λ e. cc)

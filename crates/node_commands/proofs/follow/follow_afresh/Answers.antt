@@ -16,12 +16,14 @@ pub returns-in_ok-node-in-Ok-clause-ran : goal.returns-in_ok-node-in-Ok-clause-r
 returns-in_ok-node-in-Ok-clause-ran g c =
     λ prior.
     let l = subst (IsListOf _ _ _) c.in-Ok.is c.in_ok-watch.ensures.list in
-    ran-begun (following_afresh g.D.Digester.digest_of c.args.limits c.args.net c.args.named) _ prior _ (told_text prior) l.text (Tells-told_text prior) l.told (fresh_for c.args.limits c.args.net c.in-Ok.watch)
+    ran-begun (following_afresh g.D.Digester.digest_of c.args.limits c.args.net c.args.named) _ prior _ (told_text prior) l.text
+    (Tells-told_text prior) l.told (fresh_for c.args.limits c.args.net c.in-Ok.watch)
     (ap (fresh_start c.args.limits c.args.net) l.is) _ _ (rw c.in_ok-node-in-Ok.ensures at c.follow.ensures.served)
 
 pub returns-in-Err-clause-ran : goal.returns-in-Err-clause-ran
 returns-in-Err-clause-ran g c =
     λ prior.
     let l = subst (IsListOf _ _ _) c.in-Err.is c.in_ok-watch.ensures.list in
-    ran-refusing (following_afresh g.D.Digester.digest_of c.args.limits c.args.net c.args.named) _ prior _ (told_text prior) l.text (Tells-told_text prior) l.told c.in-Err.bad
+    ran-refusing (following_afresh g.D.Digester.digest_of c.args.limits c.args.net c.args.named) _ prior _ (told_text prior) l.text
+    (Tells-told_text prior) l.told c.in-Err.bad
     (ap (fresh_start c.args.limits c.args.net) l.is) _ _ _ _ c.say.result c.say.ensures.status c.say.ensures.whole c.say.ensures.part

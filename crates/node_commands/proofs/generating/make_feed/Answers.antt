@@ -8,6 +8,8 @@ pub returns-clause-ran : goal.returns-clause-ran
 unfolding gen_answer
 returns-clause-ran g c =
     λ limit feed prior watch.
-    ran-begun (generating c.args.number c.args.blocks c.args.net) limit prior watch (told_text prior) (told_text watch) (Tells-told_text prior) (Tells-told_text watch) tt refl _ _
-    (serves-once (generating c.args.number c.args.blocks c.args.net) tt feed refl refl c.store_generated.result _ _ _ _ c.store_generated.ensures.status c.store_generated.ensures.said c.store_generated.ensures.sent
+    ran-begun (generating c.args.number c.args.blocks c.args.net) limit prior watch (told_text prior) (told_text watch) (Tells-told_text prior)
+    (Tells-told_text watch) tt refl _ _
+    (serves-once (generating c.args.number c.args.blocks c.args.net) tt feed refl refl c.store_generated.result _ _ _ _
+    c.store_generated.ensures.status c.store_generated.ensures.said c.store_generated.ensures.sent
     c.store_generated.ensures.part_said c.store_generated.ensures.part_sent c.store_generated.ensures.order c.store_generated.ensures.read)

@@ -6,7 +6,8 @@ pub returns-then-not-named-clause-list : goal.returns-then-not-named-clause-list
 returns-then-not-named-clause-list g c = list-none _ _ _ c.if-not-named.true
 
 pub returns-in-Ok-clause-list : goal.returns-in-Ok-clause-list
-returns-in-Ok-clause-list g c = lists-read _ _ _ _ c.if-not-named.false c.in-Ok.ensures.text c.in-Ok.ensures.within c.list_in.result (rw c.deref.ensures.value at c.list_in.ensures.list)
+returns-in-Ok-clause-list g c = lists-read _ _ _ _ c.if-not-named.false c.in-Ok.ensures.text c.in-Ok.ensures.within c.list_in.result
+    (rw c.deref.ensures.value at c.list_in.ensures.list)
 
 pub returns-in-Err-Limit-clause-list : goal.returns-in-Err-Limit-clause-list
 returns-in-Err-Limit-clause-list g c =

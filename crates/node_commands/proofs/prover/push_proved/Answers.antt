@@ -12,5 +12,6 @@ returns c =
     let frame = frame_text (block_magic c.args.net) c.args.block.now in
     let message = option_map (λ bytes. bytes.items) c.args.proved.now.message in
     OnOk-map c.push_block.result
-    (λ e. e ∙ ap (λ (w : List ℕ). w ++ frame) c.in_ok-push_message.ensures ∙ append_assoc c.args.sent.now.bytes.items (proof_frame_text message) frame)
+    (λ e. e ∙ ap (λ (w : List ℕ). w ++ frame) c.in_ok-push_message.ensures
+    ∙ append_assoc c.args.sent.now.bytes.items (proof_frame_text message) frame)
     c.push_block.ensures

@@ -4,4 +4,5 @@ use Rattle.node_commands.specs.Relayer.{node_lines}
 use Rattle.node_commands.proofs.relayer.push_nodes.Given as goal
 
 abbrev pub invariant-loop-follower : goal.invariant-loop-follower
-invariant-loop-follower g l = let followers = l.fn.world.followers in l.said.items ++ node_lines l.follower (drop l.follower followers) ≡ l.fn.said.items ++ node_lines 0 followers
+invariant-loop-follower g l = let followers = l.fn.world.followers in
+    l.said.items ++ node_lines l.follower (drop l.follower followers) ≡ l.fn.said.items ++ node_lines 0 followers

@@ -16,7 +16,8 @@ returns-in-Err-clause-ran g c =
     let prior = g.P.Source.left c.args.prior.now in
     let watch = g.W.Source.left c.args.watch.now in
     ran-words _ _ _ _ _ _ _ _ _ _ _ _ _ _ _ c.in-Err.ensures.exact
-    (ran-refusing (refusing c.in-Err.fault) _ prior watch (told_text prior) (told_text watch) (Tells-told_text prior) (Tells-told_text watch) (bad_words c.in-Err.fault) refl _ _ _ _
+    (ran-refusing (refusing c.in-Err.fault) _ prior watch (told_text prior) (told_text watch) (Tells-told_text prior) (Tells-told_text watch)
+    (bad_words c.in-Err.fault) refl _ _ _ _
     c.say.result c.say.ensures.status c.say.ensures.whole c.say.ensures.part)
 
 pub returns-in-Some-clause-ran : goal.returns-in-Some-clause-ran
@@ -27,28 +28,33 @@ returns-in-Some-clause-ran g c =
 pub returns-in-None-clause-ran : goal.returns-in-None-clause-ran
 returns-in-None-clause-ran g c =
     let exact = rw c.in-Ok-Follow.field-0-is at c.in-Ok-Follow.ensures.exact in
-    ran-afresh _ _ _ _ _ _ _ _ _ _ _ _ _ _ _ _ _ exact (ap (λ x. is_some (option_copied x)) c.in-None.is) c.unwrap_or-net.ensures (c.is_some-named.ensures ∙ copied_some _) (c.follow_afresh.ensures.ran _)
+    ran-afresh _ _ _ _ _ _ _ _ _ _ _ _ _ _ _ _ _ exact (ap (λ x. is_some (option_copied x)) c.in-None.is) c.unwrap_or-net.ensures
+    (c.is_some-named.ensures ∙ copied_some _) (c.follow_afresh.ensures.ran _)
 
 pub returns-in-None-clause-watch : goal.returns-in-None-clause-watch
 returns-in-None-clause-watch g c =
     let exact = rw c.in-Ok-Follow.field-0-is at c.in-Ok-Follow.ensures.exact in
-    watch-afresh g.D.Digester.digest_of c.args.limits _ _ exact (ap (λ x. is_some (option_copied x)) c.in-None.is) _ (c.is_some-named.ensures ∙ copied_some _) _ c.follow_afresh.ensures.stays
+    watch-afresh g.D.Digester.digest_of c.args.limits _ _ exact (ap (λ x. is_some (option_copied x)) c.in-None.is) _
+    (c.is_some-named.ensures ∙ copied_some _) _ c.follow_afresh.ensures.stays
 
 pub returns-in-None-clause-read : goal.returns-in-None-clause-read
 returns-in-None-clause-read g c =
     λ failed.
     let exact = rw c.in-Ok-Follow.field-0-is at c.in-Ok-Follow.ensures.exact in
-    read-afresh g.D.Digester.digest_of c.args.limits _ _ exact (ap (λ x. is_some (option_copied x)) c.in-None.is) _ (c.is_some-named.ensures ∙ copied_some _) _ _ _ _ _ _ (c.follow_afresh.ensures.read failed)
+    read-afresh g.D.Digester.digest_of c.args.limits _ _ exact (ap (λ x. is_some (option_copied x)) c.in-None.is) _
+    (c.is_some-named.ensures ∙ copied_some _) _ _ _ _ _ _ (c.follow_afresh.ensures.read failed)
 
 pub returns-in-Ok-Prove-clause-ran : goal.returns-in-Ok-Prove-clause-ran
 returns-in-Ok-Prove-clause-ran g c =
     let exact = rw c.in-Ok-Prove.field-0-is at c.in-Ok-Prove.ensures.exact in
-    ran-named _ _ _ _ _ _ _ _ _ _ _ _ _ _ _ exact (proving g.D.Digester.digest_of c.args.limits c.in-Ok-Prove.net) _ _ refl (c.is_some.ensures ∙ copied_some _) (c.prove.ensures.ran _)
+    ran-named _ _ _ _ _ _ _ _ _ _ _ _ _ _ _ exact (proving g.D.Digester.digest_of c.args.limits c.in-Ok-Prove.net) _ _ refl
+    (c.is_some.ensures ∙ copied_some _) (c.prove.ensures.ran _)
 
 pub returns-in-Ok-Audit-clause-ran : goal.returns-in-Ok-Audit-clause-ran
 returns-in-Ok-Audit-clause-ran g c =
     let exact = rw c.in-Ok-Audit.field-0-is at c.in-Ok-Audit.ensures.exact in
-    ran-named _ _ _ _ _ _ _ _ _ _ _ _ _ _ _ exact (auditing g.D.Digester.digest_of c.args.limits c.in-Ok-Audit.net) _ _ refl (c.is_some-in-Ok-Audit.ensures ∙ copied_some _) (c.audit.ensures.ran _ _)
+    ran-named _ _ _ _ _ _ _ _ _ _ _ _ _ _ _ exact (auditing g.D.Digester.digest_of c.args.limits c.in-Ok-Audit.net) _ _ refl
+    (c.is_some-in-Ok-Audit.ensures ∙ copied_some _) (c.audit.ensures.ran _ _)
 
 pub make_feed-requires : goal.make_feed-requires
 make_feed-requires g c =
@@ -95,5 +101,6 @@ returns-in-Ok-Recheck-clause-ran g c =
 pub returns-in-Ok-Relay-clause-ran : goal.returns-in-Ok-Relay-clause-ran
 returns-in-Ok-Relay-clause-ran g c =
     let exact = rw c.in-Ok-Relay.field-0-is at c.in-Ok-Relay.ensures.exact in
-    ran-beside _ _ _ _ _ _ _ _ _ _ _ _ _ _ _ exact (relaying g.D.Digester.digest_of c.args.limits c.in-Ok-Relay.followers c.in-Ok-Relay.net) _ _ _ _ refl
+    ran-beside _ _ _ _ _ _ _ _ _ _ _ _ _ _ _ exact (relaying g.D.Digester.digest_of c.args.limits c.in-Ok-Relay.followers c.in-Ok-Relay.net) _ _ _ _
+    refl
     (c.is_some-in-Ok-Relay.ensures ∙ copied_some _) (c.is_some-in-Ok-Relay-2.ensures ∙ copied_some _) (c.relay.ensures.ran _)

@@ -14,11 +14,13 @@ returns-in-Ok-clause-ran g c =
     let s = subst (IsStartOf _ _ _) c.in-Ok.is c.in_ok-node.ensures.begun in
     let m = ticketing g.D.Digester.digest_of c.args.limits c.args.number in
     ran-begun m _ _ watch s.text (told_text watch) s.told (Tells-told_text watch) c.in-Ok.node s.is _ _
-    (serves-once m c.in-Ok.node feed refl refl c.store_ticket.result _ _ _ _ c.store_ticket.ensures.status c.store_ticket.ensures.said c.store_ticket.ensures.sent
+    (serves-once m c.in-Ok.node feed refl refl c.store_ticket.result _ _ _ _ c.store_ticket.ensures.status c.store_ticket.ensures.said
+    c.store_ticket.ensures.sent
     c.store_ticket.ensures.part_said c.store_ticket.ensures.part_sent c.store_ticket.ensures.order c.store_ticket.ensures.read)
 
 pub returns-in-Err-clause-ran : goal.returns-in-Err-clause-ran
 returns-in-Err-clause-ran g c =
     λ feed watch.
     let s = subst (IsStartOf _ _ _) c.in-Err.is c.in_ok-node.ensures.begun in
-    ran-refusing (ticketing g.D.Digester.digest_of c.args.limits c.args.number) _ _ watch s.text (told_text watch) s.told (Tells-told_text watch) c.in-Err.bad s.is _ _ _ _ c.say.result c.say.ensures.status c.say.ensures.whole c.say.ensures.part
+    ran-refusing (ticketing g.D.Digester.digest_of c.args.limits c.args.number) _ _ watch s.text (told_text watch) s.told (Tells-told_text watch)
+    c.in-Err.bad s.is _ _ _ _ c.say.result c.say.ensures.status c.say.ensures.whole c.say.ensures.part

@@ -8,5 +8,6 @@ abbrev pub invariant-loop-place : goal.invariant-loop-place
 invariant-loop-place l = record {
   found : l.found.items ≡ map (λ p. look l.known p.row p.off) (take l.place-index l.places);
   within : l.next ≤ length l.known;
-  ahead : (q : Place) → has_place (drop l.place-index l.places) q.row q.off ≡ true → look l.known q.row q.off ≡ look (drop l.next l.known) q.row q.off;
+  ahead : (q : Place) → has_place (drop l.place-index l.places) q.row q.off ≡ true
+      → look l.known q.row q.off ≡ look (drop l.next l.known) q.row q.off;
 }

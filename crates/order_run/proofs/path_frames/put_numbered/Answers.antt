@@ -8,7 +8,8 @@ use Rattle.order_run.proofs.path_frames.put_numbered.Goals as goal
 
 pub put_block-requires : goal.put_block-requires
 put_block-requires g c =
-    frame_short c.args.arrivals.now (get_or c.args.numbers.now c.loop-number.number-index 0) c.body.result.now c.requires.short (c.requires.within c.loop-number.number-index 0 c.loop-number-test.true) c.body.ensures
+    frame_short c.args.arrivals.now (get_or c.args.numbers.now c.loop-number.number-index 0) c.body.result.now c.requires.short
+    (c.requires.within c.loop-number.number-index 0 c.loop-number-test.true) c.body.ensures
 
 pub returns-in_err-put_block-clause-part : goal.returns-in_err-put_block-clause-part
 returns-in_err-put_block-clause-part g c =
@@ -28,6 +29,7 @@ loop-number-preserved g c =
     let before = numbered_text c.args.net c.args.arrivals.now (take i c.args.numbers.now) in
     let all = ap (λ l. before ++ l) frame ∙ sym (one_more c.args.net c.args.arrivals.now c.args.numbers.now i c.loop-number-test.true) in
     record {
-      written = subst (λ l. Appends (g.O.Sink.held c.args.out.now) (g.O.Sink.held c.put_block.new.sink) l) all (Appends-trans _ _ _ _ _ c.loop-number.invariant.written c.in_ok-put_block.ensures.whole);
+      written = subst (λ l. Appends (g.O.Sink.held c.args.out.now) (g.O.Sink.held c.put_block.new.sink) l) all
+          (Appends-trans _ _ _ _ _ c.loop-number.invariant.written c.in_ok-put_block.ensures.whole);
       later = (let a = c.put_block.ensures.later in let b = c.loop-number.invariant.later in omega arith);
     }

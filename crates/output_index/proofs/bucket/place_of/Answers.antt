@@ -10,7 +10,14 @@ returns-then-cells-at c =
     let cells = c.args.cells.now in
     let blank : Newest = record { mark = 0; number = 0 } in
     let there = slice_get-get_or cells c.loop-at.at blank c.loop-at-test.true in
-    record { cell = _; there = there; mark = c.if-cells-at.true; tells = first-tells c.loop-at.at _ cells c.args.mark there c.if-cells-at.true c.loop-at.invariant; before = c.loop-at.invariant }
+    record {
+      cell = _;
+      there = there;
+      mark = c.if-cells-at.true;
+      tells =
+          first-tells c.loop-at.at _ cells c.args.mark there c.if-cells-at.true c.loop-at.invariant;
+      before = c.loop-at.invariant;
+    }
 
 pub loop-at-preserved : goal.loop-at-preserved
 loop-at-preserved c =
@@ -18,4 +25,5 @@ loop-at-preserved c =
     let blank : Newest = record { mark = 0; number = 0 } in
     let next : suc c.loop-at.at ≡ c.loop-at.at + 1 = omega arith in
     subst (λ k. in_cells (take k cells) c.args.mark ≡ None) next
-    (none-further c.loop-at.at _ cells c.args.mark (slice_get-get_or cells c.loop-at.at blank c.loop-at-test.true) c.if-cells-at.false c.loop-at.invariant)
+    (none-further c.loop-at.at _ cells c.args.mark (slice_get-get_or cells c.loop-at.at blank c.loop-at-test.true) c.if-cells-at.false
+    c.loop-at.invariant)

@@ -12,4 +12,5 @@ loop-at-preserved c =
     let blank : Newest = record { mark = 0; number = 0 } in
     let next : suc c.loop-at.at ≡ c.loop-at.at + 1 = omega arith in
     subst (λ k. AllByRecursion (λ x. bucket_of c.args.bits c.args.count x.mark ≡ c.args.number) (take k cells)) next
-    (own-further c.args.bits c.args.count c.args.number c.loop-at.at _ cells (slice_get-get_or cells c.loop-at.at blank c.loop-at-test.true) (sym c.bucket_of.ensures ∙ c.if-bucket_of-number.false) c.loop-at.invariant)
+    (own-further c.args.bits c.args.count c.args.number c.loop-at.at _ cells (slice_get-get_or cells c.loop-at.at blank c.loop-at-test.true)
+    (sym c.bucket_of.ensures ∙ c.if-bucket_of-number.false) c.loop-at.invariant)

@@ -26,8 +26,13 @@ loop-at-preserved c =
     let hs = c.loop-at.outputs in
     let known : ℕ → Leaving = λ k. get_or c.args.leaving.now k (record { mark = 0; alone = false }) in
     record {
-      same = ap (without_all (drop (i + 1) ns)) c.forget_known.ensures ∙ (sym (without_all-more ns i hs c.loop-at-test.true) ∙ c.loop-at.invariant.same);
-      spent = λ k le lt. ap (is_spent (get_or ns k 0)) c.forget_known.ensures ∙ (spent-without_other n (get_or ns k 0) hs (other_later ns i k c.requires.apart le lt) ∙ c.loop-at.invariant.spent k (omega (arith, le)) lt);
-      known = λ k le lt. subst (λ xs. IsLeaving xs (get_or ns k 0) (known k)) (sym c.forget_known.ensures) (leaving-without n (get_or ns k 0) (known k) hs (other_later ns i k c.requires.apart le lt) (c.loop-at.invariant.known k (omega (arith, le)) lt));
+      same = ap (without_all (drop (i + 1) ns)) c.forget_known.ensures
+          ∙ (sym (without_all-more ns i hs c.loop-at-test.true) ∙ c.loop-at.invariant.same);
+      spent = λ k le lt. ap (is_spent (get_or ns k 0)) c.forget_known.ensures
+          ∙ (spent-without_other n (get_or ns k 0) hs (other_later ns i k c.requires.apart le lt)
+          ∙ c.loop-at.invariant.spent k (omega (arith, le)) lt);
+      known = λ k le lt. subst (λ xs. IsLeaving xs (get_or ns k 0) (known k)) (sym c.forget_known.ensures)
+          (leaving-without n (get_or ns k 0) (known k) hs (other_later ns i k c.requires.apart le lt)
+          (c.loop-at.invariant.known k (omega (arith, le)) lt));
       len = c.loop-at.invariant.len;
     }

@@ -7,6 +7,7 @@ abbrev pub invariant-loop-at : goal.invariant-loop-at
 invariant-loop-at l = record {
   same : without_all (drop l.at l.numbers) l.outputs ≡ without_all l.numbers l.initial.outputs;
   spent : (k : ℕ) → l.at ≤ k → k < length l.numbers → is_spent (get_or l.numbers k 0) l.outputs ≡ true;
-  known : (k : ℕ) → l.at ≤ k → k < length l.numbers → IsLeaving l.outputs (get_or l.numbers k 0) (get_or l.leaving k (record { mark = 0; alone = false }));
+  known : (k : ℕ) → l.at ≤ k → k < length l.numbers
+      → IsLeaving l.outputs (get_or l.numbers k 0) (get_or l.leaving k (record { mark = 0; alone = false }));
   len : length l.leaving ≡ length l.numbers;
 }

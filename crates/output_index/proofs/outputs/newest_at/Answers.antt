@@ -13,5 +13,6 @@ returns-in-Some c =
     let n = c.in-Some.number in
     let e = c.at.result.now in
     let live : e.live ≡ true = sym (c.requires.live ∙ (ap (lives_at es) c.in-Some.is ∙ ap lives_in c.at.ensures)) ∙ c.if-live.true in
-    let fits = and_from e.live (same_point e.leaf.point p) live (ap (same_point e.leaf.point) (sym c.name.view_is) ∙ (sym c.is_of.ensures ∙ c.if-is_of.true)) in
+    let fits = and_from e.live (same_point e.leaf.point p) live
+    (ap (same_point e.leaf.point) (sym c.name.view_is) ∙ (sym c.is_of.ensures ∙ c.if-is_of.true)) in
     sym (walk-finds p es n e c.requires.rising c.at.ensures fits (walk-starts p es (Some n) (subst (IsHead es p) c.in-Some.is c.requires.head)))

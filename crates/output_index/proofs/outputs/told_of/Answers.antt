@@ -9,11 +9,18 @@ pub push-requires : goal.push-requires
 push-requires c =
     let ns = c.args.numbers.now in
     let i = c.loop-number.number-index in
-    omega (arith, AllZip-long (IsTold c.args.outputs.now) (take i ns) c.loop-number.told.items c.loop-number.invariant, take_few i ns, c.loop-number-test.true, c.requires.few)
+    omega (
+      arith,
+      AllZip-long (IsTold c.args.outputs.now) (take i ns) c.loop-number.told.items c.loop-number.invariant,
+      take_few i ns,
+      c.loop-number-test.true,
+      c.requires.few,
+    )
 
 pub loop-number-preserved : goal.loop-number-preserved
 loop-number-preserved c =
     let hs = c.args.outputs.now in
     let ns = c.args.numbers.now in
     let i = c.loop-number.number-index in
-    rw c.push.ensures.items (zip-more (IsTold hs) ns c.loop-number.told.items i 0 c.told.result c.loop-number-test.true c.loop-number.invariant c.told.ensures)
+    rw c.push.ensures.items (zip-more (IsTold hs) ns c.loop-number.told.items i 0 c.told.result c.loop-number-test.true c.loop-number.invariant
+    c.told.ensures)

@@ -8,6 +8,7 @@ use Rattle.output_index.proofs.shards.no_shards.Goals as goal
 
 pub loop-preserved : goal.loop-preserved
 loop-preserved c = record {
-  none = subst (λ maps. (m : ℕ) → shard_at (shards_in maps) m ≡ None) (sym c.in_ok-push.ensures.items) (none-in c.loop.shards.items c.new.result (λ m. ap (lookup (is_at (nat_cmp m))) c.new.ensures.empty) c.loop.invariant.none);
+  none = subst (λ maps. (m : ℕ) → shard_at (shards_in maps) m ≡ None) (sym c.in_ok-push.ensures.items)
+      (none-in c.loop.shards.items c.new.result (λ m. ap (lookup (is_at (nat_cmp m))) c.new.ensures.empty) c.loop.invariant.none);
   len = omega (arith, c.push.new.self.ok.0, c.in_ok-push.ensures.len, c.loop.shards.ok.0, c.loop.invariant.len);
 }

@@ -4,7 +4,8 @@ use Rattle.output_index.proofs.Numbered.{front-there, none-behind}
 use Rattle.output_index.proofs.slots.end_at.Goals as goal
 
 pub returns-in_err-reserve-clause-same : goal.returns-in_err-reserve-clause-same
-returns-in_err-reserve-clause-same c = ap (entries_from 0) (c.reserve.ensures.items ∙ c.truncate.ensures.items) ∙ front-there c.args.number c.args.slots.now.items c.requires
+returns-in_err-reserve-clause-same c = ap (entries_from 0) (c.reserve.ensures.items ∙ c.truncate.ensures.items)
+    ∙ front-there c.args.number c.args.slots.now.items c.requires
 
 pub loop-init : goal.loop-init
 loop-init c = record {

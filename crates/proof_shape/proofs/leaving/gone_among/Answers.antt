@@ -18,7 +18,8 @@ parents_of-requires-clause-within c =
 
 pub covered_positions-requires-clause-within : goal.covered_positions-requires-clause-within
 covered_positions-requires-clause-within c =
-    let is : c.deref-then-have_neighbours.result.now ≡ ups (need c.args.n c.args.targets.now) = c.deref-then-have_neighbours.ensures.value ∙ (c.in_ok-above.ensures ∙ ap ups c.requires.needed) in
+    let is : c.deref-then-have_neighbours.result.now ≡ ups (need c.args.n c.args.targets.now) = c.deref-then-have_neighbours.ensures.value
+    ∙ (c.in_ok-above.ensures ∙ ap ups c.requires.needed) in
     subst (AreWithin c.args.n) (sym is) (ups_within c.args.n c.args.targets.now)
 
 pub returns-in_ok-from_slice : goal.returns-in_ok-from_slice
@@ -26,7 +27,8 @@ returns-in_ok-from_slice c =
     let n = c.args.n in
     let ts = c.args.targets.now in
     let same = sym c.in_ok-from_slice.ensures.items in
-    let is : c.deref-then-have_neighbours.result.now ≡ ups (need n ts) = c.deref-then-have_neighbours.ensures.value ∙ (c.in_ok-above.ensures ∙ ap ups c.requires.needed) in
+    let is : c.deref-then-have_neighbours.result.now ≡ ups (need n ts) = c.deref-then-have_neighbours.ensures.value
+    ∙ (c.in_ok-above.ensures ∙ ap ups c.requires.needed) in
     let all = subst (CoversTell n ts) same c.requires.tell in
     let above = subst (λ l. CoversTell n l c.in_ok-kept.kept.items) is c.in_ok-kept.ensures.tell in
     record {

@@ -26,11 +26,13 @@ returns-in-Some-moved_from-clause-is t c = λ ts tell.
     let q = c.in-Some.next in
     let stays : is_gone ts p.row p.off ≡ false = sym (tell p.row p.off c.requires.within) ∙ (sym c.is_gone.ensures ∙ c.if-is_gone.false) in
     let e = c.in-Some.ensures.1 in
-    let up : moved c.args.n ts (suc p.row) (p.off / 2) ≡ Some c.in-Some-moved_from.goes = ap (λ (x : Place). moved c.args.n ts x.row x.off) (sym e) ∙ sym (c.in-Some-moved_from.ensures.is ts tell) in
+    let up : moved c.args.n ts (suc p.row) (p.off / 2) ≡ Some c.in-Some-moved_from.goes = ap (λ (x : Place). moved c.args.n ts x.row x.off) (sym e)
+    ∙ sym (c.in-Some-moved_from.ensures.is ts tell) in
     let other = c.in-Some.ensures.0 in
     let sib = sibling_within c.args.n p.row p.off c.requires.within other in
     let alone : c.is_gone-alone.result ≡ is_gone ts p.row (sibling_off p.off) =
-    c.is_gone-alone.ensures ∙ (ap₂ (gone_by c.args.n c.args.covered.now c.args.kept.now) c.sibling.ensures.row c.sibling.ensures.off ∙ tell p.row (sibling_off p.off) sib) in
+    c.is_gone-alone.ensures ∙ (ap₂ (gone_by c.args.n c.args.covered.now c.args.kept.now) c.sibling.ensures.row c.sibling.ensures.off
+    ∙ tell p.row (sibling_off p.off) sib) in
     c.child_of.ensures.is ∙ (ap₂ (λ b x. child_place b (p.off % 2) x) alone (sym up) ∙ sym (moved_up c.args.n ts p c.requires.within stays other))
 
 pub returns-in-None-clause-is : goal.returns-in-None-clause-is
@@ -38,5 +40,6 @@ returns-in-None-clause-is t c = λ ts tell.
     let p = c.args.place in
     let stays : is_gone ts p.row p.off ≡ false = sym (tell p.row p.off c.requires.within) ∙ (sym c.is_gone.ensures ∙ c.if-is_gone.false) in
     let e = c.in-Some.ensures.1 in
-    let up : moved c.args.n ts (suc p.row) (p.off / 2) ≡ None = ap (λ (x : Place). moved c.args.n ts x.row x.off) (sym e) ∙ sym (c.in-None.ensures.is ts tell) in
+    let up : moved c.args.n ts (suc p.row) (p.off / 2) ≡ None = ap (λ (x : Place). moved c.args.n ts x.row x.off) (sym e)
+    ∙ sym (c.in-None.ensures.is ts tell) in
     sym (moved_up c.args.n ts p c.requires.within stays c.in-Some.ensures.0 ∙ ap (child_place (is_gone ts p.row (sibling_off p.off)) (p.off % 2)) up)

@@ -15,7 +15,8 @@ is_root-requires-clause-within c =
 pub returns-else-is_near : goal.returns-else-is_near
 returns-else-is_near c =
     let p = place_in c.args.covered.now c.args.m in
-    let same : c.sibling-beside.result ≡ beside p = ap₂ (λ (x y : ℕ). let q : Place = record { row = x; off = y } in q) c.sibling-beside.ensures.row c.sibling-beside.ensures.off in
+    let same : c.sibling-beside.result ≡ beside p =
+    ap₂ (λ (x y : ℕ). let q : Place = record { row = x; off = y } in q) c.sibling-beside.ensures.row c.sibling-beside.ensures.off in
     let other : is_top c.args.n p ≡ false = sym c.is_root.ensures ∙ c.if-is_root.false in
     let alone : has c.args.covered.now (beside p) ≡ false = false_from_ne_true _ (λ t.
     let near = near_from_has c.args.n c.args.covered.now c.args.m c.requires.rises c.requires.index t in

@@ -14,9 +14,11 @@ loop-i-preserved c =
     let tells : c.is_some.result ≡ is_some (f (place_in cs i)) = c.is_some.ensures ∙ ap is_some c.needed_beside.ensures in
     elim c.if-is_some.branch [
       | then-is_some w ↦
-          let more = counted_some f cs i (record { row = 0; off = 0 }) c.loop-i.count c.loop-i-test.true c.loop-i.invariant.0 (sym tells ∙ w.if-is_some.true) in
+          let more = counted_some f cs i (record { row = 0; off = 0 }) c.loop-i.count c.loop-i-test.true c.loop-i.invariant.0
+          (sym tells ∙ w.if-is_some.true) in
           (w.count-is ∙ more, omega (arith, w.count-is, low))
       | else-is_some w ↦
-          let same = counted_none f cs i (record { row = 0; off = 0 }) c.loop-i.count c.loop-i-test.true c.loop-i.invariant.0 (sym tells ∙ w.if-is_some.false) in
+          let same = counted_none f cs i (record { row = 0; off = 0 }) c.loop-i.count c.loop-i-test.true c.loop-i.invariant.0
+          (sym tells ∙ w.if-is_some.false) in
           (w.count-is ∙ same, omega (arith, w.count-is, low))
     ]

@@ -11,7 +11,8 @@ loop-m-preserved c =
     let old = c.loop-m.needed.items in
     elim c.match-needed_beside.branch [
       | in-Some+in_ok-push w ↦
-          kept_some f cs c.loop-m.m (record { row = 0; off = 0 }) old c.match-needed_beside.needed.items w.in-Some.place c.loop-m-test.true c.loop-m.invariant
+          kept_some f cs c.loop-m.m (record { row = 0; off = 0 }) old c.match-needed_beside.needed.items w.in-Some.place c.loop-m-test.true
+          c.loop-m.invariant
           (sym c.needed_beside.ensures ∙ w.in-Some.is) (ap (λ v. v.items) w.needed-is ∙ w.in_ok-push.ensures.items)
       | in_default w ↦
           ap (λ v. v.items) w.needed-is ∙ kept_none f cs c.loop-m.m (record { row = 0; off = 0 }) old c.loop-m-test.true c.loop-m.invariant

@@ -18,10 +18,12 @@ returns c =
             shape_from_sorted n ps ys c.requires.within same
             (subst IsStrictlyIncreasing c.deref.ensures.value (c.rises.ensures.0 w.if-rises.true))
             (subst (AreApart n ps) w.deref-then-rises.ensures.value (w.are_apart.ensures.0 (sym w.result-is ∙ t)))),
-        (λ s. w.result-is ∙ w.are_apart.ensures.1 (subst (AreApart n ps) (sym w.deref-then-rises.ensures.value) (apart_from_shape n ps ys c.requires.within same s))),
+        (λ s. w.result-is ∙ w.are_apart.ensures.1
+            (subst (AreApart n ps) (sym w.deref-then-rises.ensures.value) (apart_from_shape n ps ys c.requires.within same s))),
       )
       | else-rises w ↦ (
         (λ t. absurd (false≢true (sym w.if-rises.false ∙ (sym w.result-is ∙ t)))),
-        (λ s. w.result-is ∙ c.rises.ensures.1 (subst IsStrictlyIncreasing (sym c.deref.ensures.value) (rising_from_shape n ps ys c.requires.within same up s))),
+        (λ s. w.result-is ∙ c.rises.ensures.1 (subst IsStrictlyIncreasing (sym c.deref.ensures.value)
+            (rising_from_shape n ps ys c.requires.within same up s))),
       )
     ]

@@ -10,4 +10,5 @@ first_crossing-requires-clause-low c = λ k h.
     row_small c.args.n p.row p.off 40 (c.requires.within p.row p.off (has_at c.args.places.now k (record { row = 0; off = 0 }) h)) c.requires.small
 
 pub first_crossing-requires-clause-some : goal.first_crossing-requires-clause-some
-first_crossing-requires-clause-some c = crossing_from c.args.n c.args.places.now c.args.i c.requires.within c.requires.index c.requires.sound c.in-None.ensures c.requires.wrong
+first_crossing-requires-clause-some c = crossing_from c.args.n c.args.places.now c.args.i c.requires.within c.requires.index c.requires.sound
+    c.in-None.ensures c.requires.wrong

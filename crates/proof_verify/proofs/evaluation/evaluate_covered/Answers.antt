@@ -15,14 +15,16 @@ pub evaluate-requires-clause-can : goal.evaluate-requires-clause-can
 evaluate-requires-clause-can g c =
     let t = c.args.targets.now in
     subst (λ os. CanEvaluate os (length c.args.leaves.now) (length c.args.hashes.now)) (sym c.deref.ensures.value)
-    (can t.leaves t.targets c.covered.result.0.now c.in_ok-origins.origins.items c.in_ok-origins.ensures.0 c.leaves-count.ensures.targets.shape c.args.leaves.now c.args.hashes.now c.requires.leaves c.requires.hashes)
+    (can t.leaves t.targets c.covered.result.0.now c.in_ok-origins.origins.items c.in_ok-origins.ensures.0 c.leaves-count.ensures.shaped.shape
+    c.args.leaves.now c.args.hashes.now c.requires.leaves c.requires.hashes)
 
 pub gather-requires-clause-within : goal.gather-requires-clause-within
 gather-requires-clause-within g c =
     let t = c.args.targets.now in
     let os = c.in_ok-origins.origins.items in
     let plan = c.in_ok-origins.ensures.0 in
-    let made = can t.leaves t.targets c.covered.result.0.now os plan c.leaves-count.ensures.targets.shape c.args.leaves.now c.args.hashes.now c.requires.leaves c.requires.hashes in
+    let made = can t.leaves t.targets c.covered.result.0.now os plan c.leaves-count.ensures.shaped.shape c.args.leaves.now c.args.hashes.now
+    c.requires.leaves c.requires.hashes in
     let new = c.evaluate.new.nodes in
     let long : length new ≡ length os = c.evaluate.ensures.nodes.long ∙ ap length c.deref.ensures.value in
     let count : length new ≡ length c.in_ok-nodes.nodes.items =
@@ -53,10 +55,13 @@ returns-clause-evaluated g c =
     let e = c.in_ok-origins.origins.ok.0 in
     omega (arith, a, b, d, e, long) in
     let same = c.deref-3.ensures.value ∙ refilled c.in_ok-nodes.nodes.len new c.in_ok-nodes.nodes.items count (sym c.in_ok-nodes.nodes.ok.0) in
-    let evaluated : AreEvaluated H os leaves hashes (length os) new = subst (λ (l : List Origin). AreEvaluated H l leaves hashes (length l) new) c.deref.ensures.value c.evaluate.ensures.nodes in
+    let evaluated : AreEvaluated H os leaves hashes (length os) new =
+    subst (λ (l : List Origin). AreEvaluated H l leaves hashes (length l) new) c.deref.ensures.value c.evaluate.ensures.nodes in
     let gathered = c.in_ok-gather.ensures in
-    items_are H t.leaves t.targets cs os plan c.leaves-count.ensures.targets.shape leaves hashes c.requires.leaves c.requires.hashes new evaluated c.in_ok-gather.field-0.items
-    (gathered ∙ (ap (λ (l : List Origin). map (item_from cs l c.deref-3.result.now hashes) (range_with_len 0 (length cs))) c.deref-2.ensures.value ∙ ap (λ (l : List Node). map (item_from cs os l hashes) (range_with_len 0 (length cs))) same))
+    items_are H t.leaves t.targets cs os plan c.leaves-count.ensures.shaped.shape leaves hashes c.requires.leaves c.requires.hashes new evaluated
+    c.in_ok-gather.field-0.items
+    (gathered ∙ (ap (λ (l : List Origin). map (item_from cs l c.deref-3.result.now hashes) (range_with_len 0 (length cs))) c.deref-2.ensures.value
+    ∙ ap (λ (l : List Node). map (item_from cs os l hashes) (range_with_len 0 (length cs))) same))
 
 pub returns-clause-fewer : goal.returns-clause-fewer
 returns-clause-fewer g c =

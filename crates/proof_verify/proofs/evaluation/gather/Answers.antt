@@ -10,7 +10,12 @@ use Rattle.proof_verify.proofs.evaluation.gather.Goals as goal
 pub loop-i-preserved : goal.loop-i-preserved
 loop-i-preserved c =
     let i = c.loop-i.i in
-    let made : Made → CoveredPlace = λ (m : Made). record { place = place_in c.args.covered.now i; made = m; digest = (node_at c.args.nodes.now i).digest } in
+    let made : Made → CoveredPlace = λ (m : Made). record {
+      place = place_in c.args.covered.now i;
+      made = m;
+      digest =
+          (node_at c.args.nodes.now i).digest;
+    } in
     c.in_ok-push.ensures.items
     ∙ (ap₂ (λ (xs : List CoveredPlace) (x : CoveredPlace). xs ++ x ∷ []) c.loop-i.invariant (ap made c.made_of.ensures)
     ∙ sym (map-range_with_len_more (item_from c.args.covered.now c.args.origins.now c.args.nodes.now c.args.hashes.now) 0 i i (omega arith)))

@@ -13,12 +13,15 @@ pub returns-in_default : goal.returns-in_default
 returns-in_default g c =
     let event = Feed.BlockCame c.args.block.now (option_copied c.args.message) in
     let s = c.args.bridge.now in
-    let off : is_accepted (verdict_on s (event_in event)) ≡ false = ap is_accepted (sym c.in_ok-proved.ensures.verdict) ∙ not_accepted c.in_ok-proved.proved.verdict c.in_default.not-Accepted in
+    let off : is_accepted (verdict_on s (event_in event)) ≡ false = ap is_accepted (sym c.in_ok-proved.ensures.verdict)
+    ∙ not_accepted c.in_ok-proved.proved.verdict c.in_default.not-Accepted in
     record {
       verdict = c.in_ok-proved.ensures.verdict;
       bridge = c.in_ok-proved.ensures.next;
-      sent = c.reserve.ensures.items ∙ sym (sent_same (verdict_on s (event_in event)) event (message_on g.D.Digester.digest_of s (event_in event)) c.args.sent.now.items off);
-      chain = ap reverse c.reserve-2.ensures.items ∙ sym (chain_same s (block_in c.args.block.now) (handed_in (option_copied c.args.message)) (suc (length c.args.sent.now.items)) (reverse c.args.chain.now.items) off);
+      sent = c.reserve.ensures.items ∙ sym (sent_same (verdict_on s (event_in event)) event (message_on g.D.Digester.digest_of s (event_in event))
+          c.args.sent.now.items off);
+      chain = ap reverse c.reserve-2.ensures.items ∙ sym (chain_same s (block_in c.args.block.now) (handed_in (option_copied c.args.message))
+          (suc (length c.args.sent.now.items)) (reverse c.args.chain.now.items) off);
       rising = rw (c.reserve.ensures.items, c.reserve-2.ensures.items) c.requires.rising;
       bridge_stays = tt;
       sent_stays = tt;

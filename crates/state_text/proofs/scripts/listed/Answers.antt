@@ -12,7 +12,8 @@ insert-requires-clause-some c =
     let xs = map (λ (s : Vec ℕ). s.items) c.args.scripts.now in
     let i = c.loop-script.script-index in
     let lt : i < length xs = omega (arith, c.loop-script-test.true, length-map c.args.scripts.now (λ (s : Vec ℕ). s.items)) in
-    subst IsScript (item_at c.args.scripts.now i c.script-item.result c.deref.result.now c.loop-script-test.true c.script-item.is c.deref.ensures.value) (all_at IsScript xs c.requires.each i [] lt)
+    subst IsScript (item_at c.args.scripts.now i c.script-item.result c.deref.result.now c.loop-script-test.true c.script-item.is
+    c.deref.ensures.value) (all_at IsScript xs c.requires.each i [] lt)
 
 pub loop-script-preserved : goal.loop-script-preserved
 loop-script-preserved c =

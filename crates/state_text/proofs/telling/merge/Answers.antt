@@ -7,6 +7,12 @@ use Rattle.state_text.proofs.telling.merge.Goals.{then-loop-i-test+else-j-right,
 
 pub returns : goal.returns
 returns c =
-    let ends : (length c.args.left.now ≤ c.loop-i.i) ⊎ (length c.args.right.now ≤ c.loop-i.j) = elim c.loop-i-test.branch [ then-loop-i-test+else-j-right w ↦ inr w.if-j-right.false | else-loop-i-test w ↦ inl w.loop-i-test.false ] in
-    rw (c.in_ok-extend_from_slice-2.ensures.items, c.in_ok-extend_from_slice.ensures.items, take_rest c.args.left.now c.loop-i.i, take_rest c.args.right.now c.loop-i.j)
+    let ends : (length c.args.left.now ≤ c.loop-i.i) ⊎ (length c.args.right.now ≤ c.loop-i.j) =
+    elim c.loop-i-test.branch [ then-loop-i-test+else-j-right w ↦ inr w.if-j-right.false | else-loop-i-test w ↦ inl w.loop-i-test.false ] in
+    rw (
+      c.in_ok-extend_from_slice-2.ensures.items,
+      c.in_ok-extend_from_slice.ensures.items,
+      take_rest c.args.left.now c.loop-i.i,
+      take_rest c.args.right.now c.loop-i.j,
+    )
     (merge-ends c.loop-i.out.items c.args.left.now c.args.right.now c.loop-i.i c.loop-i.j c.loop-i.invariant.whole ends)

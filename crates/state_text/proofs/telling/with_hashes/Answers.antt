@@ -10,4 +10,5 @@ loop-i-preserved c =
     let d : Digest = record { 0 = [] } in
     let i = c.loop-i.i in
     let pair : Place × Digest = (get_or c.args.places.now i p, get_or c.args.hashes.now i d) in
-    rw c.in_ok-push.ensures.items (ap (λ (x : List (Place × Digest)). x ++ pair ∷ []) c.loop-i.invariant ∙ sym (paired-more c.args.places.now c.args.hashes.now i p d c.loop-i-test.true c.requires))
+    rw c.in_ok-push.ensures.items (ap (λ (x : List (Place × Digest)). x ++ pair ∷ []) c.loop-i.invariant
+    ∙ sym (paired-more c.args.places.now c.args.hashes.now i p d c.loop-i-test.true c.requires))

@@ -26,7 +26,11 @@ returns g c =
     let first = c.deref.ensures.value ∙ ap kept c.parts.view_is in
     let third = c.deref-3.ensures.value ∙ ap kept c.parts.view_is in
     let held = c.deref-2.ensures.value ∙ ap (λ (x : Parted). x.held) c.parts.view_is in
-    let needed = c.needed.ensures ∙ ap₂ need (c.in_ok-targets.ensures.0 ∙ c.leaves.ensures.is) (c.in_ok-targets.ensures.1 ∙ (ap leaf_places first ∙ shape_leaves p.kept)) in
-    let hashes = c.deref-4.ensures.value ∙ (c.in_ok-hashes.ensures ∙ ap₂ (λ (hs : List (Place × Digest)) (ps : List Place). filter_map (λ q. look hs q.row q.off) ps) held needed) in
-    let value = λ (ks : List Kept) (hs : List Digest). level_text FixedPosition (record { tip = c.args.tip; roots = c.args.roots.now; kept = map entry_of ks; hashes = hs }) in
-    c.in_ok-put_level.ensures.ok ∙ (ap (λ (x : List ℕ). x ++ value c.deref-3.result.now c.deref-4.result.now) c.new-bytes.ensures.items ∙ ap₂ value third hashes)
+    let needed = c.needed.ensures ∙ ap₂ need (c.in_ok-targets.ensures.0 ∙ c.leaves.ensures.is)
+    (c.in_ok-targets.ensures.1 ∙ (ap leaf_places first ∙ shape_leaves p.kept)) in
+    let hashes = c.deref-4.ensures.value ∙ (c.in_ok-hashes.ensures
+    ∙ ap₂ (λ (hs : List (Place × Digest)) (ps : List Place). filter_map (λ q. look hs q.row q.off) ps) held needed) in
+    let value = λ (ks : List Kept) (hs : List Digest). level_text FixedPosition
+    (record { tip = c.args.tip; roots = c.args.roots.now; kept = map entry_of ks; hashes = hs }) in
+    c.in_ok-put_level.ensures.ok ∙ (ap (λ (x : List ℕ). x ++ value c.deref-3.result.now c.deref-4.result.now) c.new-bytes.ensures.items
+    ∙ ap₂ value third hashes)

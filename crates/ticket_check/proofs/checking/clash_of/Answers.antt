@@ -6,4 +6,5 @@ use Rattle.ticket_check.proofs.checking.clash_of.Goals as goal
 pub returns : goal.returns
 returns g c =
     let s = c.args.bridge.now in
-    IfOk-weaker c.ticket_clash.result _ _ (λ clash w. w (history_of s) (stands_for g.D.Digester.digest_of s c.requires.audit)) c.ticket_clash.ensures.exact
+    IfOk-weaker c.ticket_clash.result _ _ (λ clash w. w (history_of s) (stands_for g.D.Digester.digest_of s c.requires.audit))
+    c.ticket_clash.ensures.exact

@@ -12,4 +12,5 @@ pub unreachable-requires : goal.unreachable-requires
 unreachable-requires c = none_repeated c.args.n c.args.number _ _ c.in-Err-Repeated.field-0 c.in-Err-Repeated.field-0-is c.in-Err-Repeated.ensures
 
 pub unreachable-requires-in-Err-Beneath : goal.unreachable-requires-in-Err-Beneath
-unreachable-requires-in-Err-Beneath c = none_beneath c.args.n c.args.number _ _ c.in-Err-Beneath.field-0 c.in-Err-Beneath.field-0-is c.in-Err-Beneath.ensures
+unreachable-requires-in-Err-Beneath c = none_beneath c.args.n c.args.number _ _ c.in-Err-Beneath.field-0 c.in-Err-Beneath.field-0-is
+    c.in-Err-Beneath.ensures

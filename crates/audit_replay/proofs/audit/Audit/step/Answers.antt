@@ -18,7 +18,8 @@ invariant_of-self-in-Verdict g c =
 pub returns-in_ok-clash-in-Forged-clause-verdict : goal.returns-in_ok-clash-in-Forged-clause-verdict
 returns-in_ok-clash-in-Forged-clause-verdict g c =
     let e = event_in (event_of c.args.event) in
-    sym (ap verdict_in c.in-Forged.is) ∙ (c.in_ok-verdict.ensures.verdict ∙ ap (λ (x : AuditState). judged_on g.D.Digester.digest_of leaf_text x.bridge e) c.self.view_is)
+    sym (ap verdict_in c.in-Forged.is) ∙ (c.in_ok-verdict.ensures.verdict
+    ∙ ap (λ (x : AuditState). judged_on g.D.Digester.digest_of leaf_text x.bridge e) c.self.view_is)
 
 pub returns-in_ok-clash-in-Forged-clause-next : goal.returns-in_ok-clash-in-Forged-clause-next
 returns-in_ok-clash-in-Forged-clause-next g c =
@@ -26,4 +27,5 @@ returns-in_ok-clash-in-Forged-clause-next g c =
     let e = event_in (event_of c.args.event) in
     ap₂ (λ (b : BridgeState) (x : Bool). let a : AuditState = record { bridge = b; ended = x } in a)
     (c.in_ok-verdict.ensures.next ∙ ap (λ (x : AuditState). next_judged H leaf_text x.bridge e) c.self.view_is)
-    (ap is_none (sym (ap verdict_in c.in-Forged.is) ∙ (c.in_ok-verdict.ensures.verdict ∙ ap (λ (x : AuditState). judged_on H leaf_text x.bridge e) c.self.view_is)))
+    (ap is_none (sym (ap verdict_in c.in-Forged.is)
+    ∙ (c.in_ok-verdict.ensures.verdict ∙ ap (λ (x : AuditState). judged_on H leaf_text x.bridge e) c.self.view_is)))

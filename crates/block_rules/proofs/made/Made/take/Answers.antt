@@ -16,20 +16,23 @@ index_mut-requires c =
     omega (arith, within, long, size)
 
 pub returns-in-Some-clause-found : goal.returns-in-Some-clause-found
-returns-in-Some-clause-found c = c.found-found.ensures ∙ told_found (named_point c.args.txid.now c.args.index) (history c.args.self.now) c.in-Some.number c.in-Some.ensures
+returns-in-Some-clause-found c = c.found-found.ensures
+    ∙ told_found (named_point c.args.txid.now c.args.index) (history c.args.self.now) c.in-Some.number c.in-Some.ensures
 
 pub returns-in-Some-clause-left : goal.returns-in-Some-clause-left
 returns-in-Some-clause-left c =
     let m = c.args.self.now in
     ap (λ (x : Option Kept). map (option_map (leaf_at m.origins)) (set m.outputs.items c.in-Some.number x)) c.none.ensures
-    ∙ (map-set (option_map (leaf_at m.origins)) m.outputs.items c.in-Some.number None ∙ told_taken (named_point c.args.txid.now c.args.index) (history m) c.in-Some.number c.in-Some.ensures)
+    ∙ (map-set (option_map (leaf_at m.origins)) m.outputs.items c.in-Some.number None
+    ∙ told_taken (named_point c.args.txid.now c.args.index) (history m) c.in-Some.number c.in-Some.ensures)
 
 pub returns-in-Some-clause-known : goal.returns-in-Some-clause-known
 returns-in-Some-clause-known c =
     let m = c.args.self.now in
     let n = c.in-Some.number in
     let all = c.requires.all in
-    let is = ap (λ (x : Option Kept). map (option_map (leaf_at m.origins)) (set m.outputs.items n x)) c.none.ensures ∙ map-set (option_map (leaf_at m.origins)) m.outputs.items n None in
+    let is = ap (λ (x : Option Kept). map (option_map (leaf_at m.origins)) (set m.outputs.items n x)) c.none.ensures
+    ∙ map-set (option_map (leaf_at m.origins)) m.outputs.items n None in
     record {
       front = spent_kept m.origins.txids.items m.named.items m.newest m.known (history m) _ n is c.requires.front;
       all = all ∙ sym (length-set m.outputs.items n c.none.result);

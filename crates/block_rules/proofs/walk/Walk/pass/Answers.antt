@@ -11,7 +11,8 @@ returns-clause-on c =
     walked_is _ _ _ _ _ _
     (pass_left _ _ _ _ _ c.args.t c.args.tx.now _ _ (s.origins ∙ n.origins) a.origins a.added n.outputs s.left)
     (outs_are _ _ c.args.t c.args.tx.now _ _ n.outputs s.external)
-    (c.in_ok-push.ensures.items ∙ ap₂ (λ (bs : List Bill) (b : Bill). bs ++ b ∷ []) s.bills (bill_is _ _ c.args.t c.args.tx.now _ _ n.outputs s.found c.output_sum.ensures))
+    (c.in_ok-push.ensures.items ∙ ap₂ (λ (bs : List Bill) (b : Bill). bs ++ b ∷ []) s.bills
+    (bill_is _ _ c.args.t c.args.tx.now _ _ n.outputs s.found c.output_sum.ensures))
 
 pub invariant_of-push : goal.invariant_of-push
 invariant_of-push c =

@@ -23,5 +23,6 @@ loop-input-preserved c =
       bills = s.bills ∙ v.bills;
       left = left_on t i input c.loop-input.input-iterator c.next.new.self before after e s.left _ v.left;
       external = external_on t i input c.loop-input.input-iterator c.next.new.self before after e s.left _ _ _ s.external v.external;
-      found = found_on t i input c.loop-input.input-iterator c.next.new.self before after e s.left _ _ _ (c.in_ok-push.ensures.items ∙ ap (λ o. c.loop-input.own.items ++ o ∷ []) s.found) v.found;
+      found = found_on t i input c.loop-input.input-iterator c.next.new.self before after e s.left _ _ _
+          (c.in_ok-push.ensures.items ∙ ap (λ o. c.loop-input.own.items ++ o ∷ []) s.found) v.found;
     }

@@ -11,7 +11,10 @@ invariant-loop-input l = record {
   origins : l.self.made.origins ≡ l.fn.self.made.origins;
   named : l.self.made.named.items ≡ l.fn.self.made.named.items;
   bills : l.self.bills.items ≡ l.fn.self.bills.items;
-  left : left_from (placed_from l.fn.t l.i l.input-iterator) (history l.self.made) ≡ left_from (placed_from l.fn.t 0 l.fn.tx.inputs) (history l.fn.self.made);
-  external : l.self.external.items ++ external_in (spends_from (placed_from l.fn.t l.i l.input-iterator) (history l.self.made)) ≡ l.fn.self.external.items ++ external_in (spends_from (placed_from l.fn.t 0 l.fn.tx.inputs) (history l.fn.self.made));
-  found : l.own.items ++ map own_found (spends_from (placed_from l.fn.t l.i l.input-iterator) (history l.self.made)) ≡ map own_found (spends_from (placed_from l.fn.t 0 l.fn.tx.inputs) (history l.fn.self.made));
+  left : left_from (placed_from l.fn.t l.i l.input-iterator) (history l.self.made)
+      ≡ left_from (placed_from l.fn.t 0 l.fn.tx.inputs) (history l.fn.self.made);
+  external : l.self.external.items ++ external_in (spends_from (placed_from l.fn.t l.i l.input-iterator) (history l.self.made))
+      ≡ l.fn.self.external.items ++ external_in (spends_from (placed_from l.fn.t 0 l.fn.tx.inputs) (history l.fn.self.made));
+  found : l.own.items ++ map own_found (spends_from (placed_from l.fn.t l.i l.input-iterator) (history l.self.made))
+      ≡ map own_found (spends_from (placed_from l.fn.t 0 l.fn.tx.inputs) (history l.fn.self.made));
 }

@@ -16,7 +16,8 @@ loop-digest-preserved g c =
     let lt : k < length xs = c.loop-digest-test.true in
     let long : length c.add.new.self.entries ≡ length old + 1 = ap length done ∙ length_push old (Some x) in
     record {
-      entries = done ∙ ap (λ z. z ++ Some x ∷ []) c.loop-digest.invariant.entries ∙ append_assoc first (map Some (take k xs)) (Some x ∷ []) ∙ ap (λ z. first ++ z) (sym (map_more Some xs k none lt));
+      entries = done ∙ ap (λ z. z ++ Some x ∷ []) c.loop-digest.invariant.entries ∙ append_assoc first (map Some (take k xs)) (Some x ∷ [])
+          ∙ ap (λ z. first ++ z) (sym (map_more Some xs k none lt));
       count = omega (arith, long, c.loop-digest.invariant.count);
       spare = omega (arith, c.add.ensures.spare, c.loop-digest.invariant.spare);
       cost = omega (arith, c.add.ensures.few, c.loop-digest.invariant.cost);

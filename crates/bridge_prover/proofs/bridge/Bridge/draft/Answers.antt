@@ -6,7 +6,8 @@ use Rattle.bridge_prover.proofs.Drafting.{draft_none, draft_some}
 use Rattle.bridge_prover.proofs.bridge.Bridge.draft.Goals as goal
 
 pub returns-then-is_empty : goal.returns-then-is_empty
-returns-then-is_empty g c = draft_none c.args.self.now c.args.rests c.args.external.now (nil_from_length _ (eqb-true _ _ (sym c.is_empty.ensures ∙ c.if-is_empty.true)))
+returns-then-is_empty g c = draft_none c.args.self.now c.args.rests c.args.external.now
+    (nil_from_length _ (eqb-true _ _ (sym c.is_empty.ensures ∙ c.if-is_empty.true)))
 
 pub returns : goal.returns
 returns g c = draft_some c.args.self.now c.args.rests c.args.external.now _ (sym c.is_empty.ensures ∙ c.if-is_empty.false) (record {

@@ -11,7 +11,9 @@ loop-preserved g c =
     let s = c.args.self.now in
     let k = c.loop.counter in
     record {
-      same = c.go_one_back.ensures.next ∙ (ap (λ (x : BridgeState). undone_by H leaf_text x.undo x) c.loop.invariant.same ∙ back-more H leaf_text k s);
+      same = c.go_one_back.ensures.next ∙ (ap (λ (x : BridgeState). undone_by H leaf_text x.undo x) c.loop.invariant.same
+          ∙ back-more H leaf_text k s);
       steps = cost-more H leaf_text k s c.args.steps.now c.loop.steps c.go_one_back.new.steps c.loop.invariant.steps
-          (subst (λ (x : BridgeState). c.go_one_back.new.steps ≤ c.loop.steps + spent_by 1 x.undo * (rows (length x.entries) + 1)) c.loop.invariant.same c.go_one_back.ensures.steps);
+          (subst (λ (x : BridgeState). c.go_one_back.new.steps ≤ c.loop.steps + spent_by 1 x.undo * (rows (length x.entries) + 1))
+          c.loop.invariant.same c.go_one_back.ensures.steps);
     }

@@ -13,7 +13,8 @@ returns-in-Block-clause-levels g c =
     let H = g.D.Digester.digest_of in
     let s = c.args.self.now in
     let is = subst (IsBridge H leaf_text) c.self.view_is c.self.invariant.0 in
-    judged_so verdict_in H leaf_text (λ e v s'. LevelsJudged s v s') s c.judge_bytes.new.self c.args.event _ c.judge_bytes.result (ap (λ x. event_in (event_of x)) c.in-Block.is)
+    judged_so verdict_in H leaf_text (λ e v s'. LevelsJudged s v s') s c.judge_bytes.new.self c.args.event _ c.judge_bytes.result
+    (ap (λ x. event_in (event_of x)) c.in-Block.is)
     (λ e. levels_judged H leaf_text s e is) c.judge_bytes.ensures.verdict c.judge_bytes.ensures.next
 
 pub returns-in-Block-clause-refines : goal.returns-in-Block-clause-refines
@@ -21,7 +22,8 @@ returns-in-Block-clause-refines g c =
     let H = g.D.Digester.digest_of in
     let s = c.args.self.now in
     let is = subst (IsBridge H leaf_text) c.self.view_is c.self.invariant.0 in
-    judged_so verdict_in H leaf_text (JudgesAsFull H leaf_text s) s c.judge_bytes.new.self c.args.event _ c.judge_bytes.result (ap (λ x. event_in (event_of x)) c.in-Block.is)
+    judged_so verdict_in H leaf_text (JudgesAsFull H leaf_text s) s c.judge_bytes.new.self c.args.event _ c.judge_bytes.result
+    (ap (λ x. event_in (event_of x)) c.in-Block.is)
     (λ e. bridge_is_full H leaf_text s e is) c.judge_bytes.ensures.verdict c.judge_bytes.ensures.next
 
 pub returns-in-Rollback-clause-levels : goal.returns-in-Rollback-clause-levels
@@ -29,7 +31,8 @@ returns-in-Rollback-clause-levels g c =
     let H = g.D.Digester.digest_of in
     let s = c.args.self.now in
     let is = subst (IsBridge H leaf_text) c.self.view_is c.self.invariant.0 in
-    judged_so {E = Unit {0}} verdict_in H leaf_text (λ e v s'. LevelsJudged s v s') s c.roll_back.new.self c.args.event _ (Ok (Said.Verdict c.roll_back.result)) (ap (λ x. event_in (event_of x)) c.in-Rollback.is)
+    judged_so {E = Unit {0}} verdict_in H leaf_text (λ e v s'. LevelsJudged s v s') s c.roll_back.new.self c.args.event _
+    (Ok (Said.Verdict c.roll_back.result)) (ap (λ x. event_in (event_of x)) c.in-Rollback.is)
     (λ e. levels_judged H leaf_text s e is) (ap Some c.roll_back.ensures.verdict) c.roll_back.ensures.next
 
 pub returns-in-Rollback-clause-refines : goal.returns-in-Rollback-clause-refines
@@ -37,5 +40,6 @@ returns-in-Rollback-clause-refines g c =
     let H = g.D.Digester.digest_of in
     let s = c.args.self.now in
     let is = subst (IsBridge H leaf_text) c.self.view_is c.self.invariant.0 in
-    judged_so {E = Unit {0}} verdict_in H leaf_text (JudgesAsFull H leaf_text s) s c.roll_back.new.self c.args.event _ (Ok (Said.Verdict c.roll_back.result)) (ap (λ x. event_in (event_of x)) c.in-Rollback.is)
+    judged_so {E = Unit {0}} verdict_in H leaf_text (JudgesAsFull H leaf_text s) s c.roll_back.new.self c.args.event _
+    (Ok (Said.Verdict c.roll_back.result)) (ap (λ x. event_in (event_of x)) c.in-Rollback.is)
     (λ e. bridge_is_full H leaf_text s e is) (ap Some c.roll_back.ensures.verdict) c.roll_back.ensures.next

@@ -5,4 +5,8 @@ use Rattle.bridge_prover.proofs.Refining.{fresh_like}
 use Rattle.bridge_prover.proofs.bridge.Bridge.new.Goals as goal
 
 pub invariant_of-result : goal.invariant_of-result
-invariant_of-result g c = (fresh_like g.D.Digester.digest_of leaf_text c.args.net c.args.limits c.args.watch _ _ _ c.new.ensures.entries c.new-2.ensures c.in_ok-new.ensures c.requires, c.new-5.ensures.items ∙ ap (noted_in (scripts_of c.args.watch)) (sym c.new-2.ensures))
+invariant_of-result g c = (
+  fresh_like g.D.Digester.digest_of leaf_text c.args.net c.args.limits c.args.watch _ _ _ c.new.ensures.entries
+      c.new-2.ensures c.in_ok-new.ensures c.requires,
+  c.new-5.ensures.items ∙ ap (noted_in (scripts_of c.args.watch)) (sym c.new-2.ensures),
+)

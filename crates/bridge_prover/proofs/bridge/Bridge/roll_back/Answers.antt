@@ -11,4 +11,5 @@ pub returns-then-count-kept-clause-verdict : goal.returns-then-count-kept-clause
 returns-then-count-kept-clause-verdict g c =
     let s = c.args.self.now in
     let within : nat_le c.args.count (length s.undo) ≡ true = le-leb c.args.count (length s.undo) (omega arith) in
-    rw within (c.gone_to.ensures ∙ ap (gone_to c.args.count) (ap (λ (x : BridgeState). x.chain) c.go_back.ensures.next ∙ chain-back g.D.Digester.digest_of leaf_text c.args.count s))
+    rw within (c.gone_to.ensures ∙ ap (gone_to c.args.count)
+    (ap (λ (x : BridgeState). x.chain) c.go_back.ensures.next ∙ chain-back g.D.Digester.digest_of leaf_text c.args.count s))

@@ -26,8 +26,10 @@ pub returns-clause-err : goal.returns-clause-err
 returns-clause-err g c =
     let H = g.D.Digester.digest_of in
     let s = c.args.self.now in
-    err_weaker (λ fault. IsFirst (option_map Why.Proof (fault_for H leaf_text s c.external.result.now c.in-Some.message)) fault) (λ fault. AreNotTaken H leaf_text s c.args.spends.now.external (handed_in (option_copied c.args.message)) fault) c.show_by.result
-    (λ fault e. proof_first H leaf_text (view_of H leaf_text (watched_by s) (history_of s)) c.args.spends.now.external (handed_in (option_copied c.args.message)) c.in-Some.message fault
+    err_weaker (λ fault. IsFirst (option_map Why.Proof (fault_for H leaf_text s c.external.result.now c.in-Some.message)) fault)
+    (λ fault. AreNotTaken H leaf_text s c.args.spends.now.external (handed_in (option_copied c.args.message)) fault) c.show_by.result
+    (λ fault e. proof_first H leaf_text (view_of H leaf_text (watched_by s) (history_of s)) c.args.spends.now.external
+    (handed_in (option_copied c.args.message)) c.in-Some.message fault
     (c.in_ok-message.ensures.is ∙ ap handed_as c.in-Some.is) c.in_ok-message.ensures.passes
     (subst (λ ext. IsFirst (option_map Why.Proof (fault_for H leaf_text s ext c.in-Some.message)) fault) c.external.ensures e))
     c.show_by.ensures.err

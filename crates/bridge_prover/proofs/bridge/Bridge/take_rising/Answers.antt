@@ -22,7 +22,9 @@ use Rattle.bridge_prover.proofs.bridge.Bridge.take_rising.Goals as goal
 
 pub apply_block-requires-clause-live : goal.apply_block-requires-clause-live
 apply_block-requires-clause-live g c =
-    live_same c.args.numbers.items c.args.numbers.items c.args.spent.now c.args.spent.now c.args.self.now.entries c.self.inside.forest.entries c.reserve.new.self.entries refl c.requires.same refl (ap (λ s. s.entries) c.self.view_is) c.in_ok-reserve.ensures.entries c.requires.ready.live
+    live_same c.args.numbers.items c.args.numbers.items c.args.spent.now c.args.spent.now c.args.self.now.entries c.self.inside.forest.entries
+    c.reserve.new.self.entries refl c.requires.same refl (ap (λ s. s.entries) c.self.view_is) c.in_ok-reserve.ensures.entries
+    c.requires.ready.live
 
 pub invariant_of-self-2 : goal.invariant_of-self-2
 invariant_of-self-2 g c =
@@ -34,12 +36,17 @@ invariant_of-self-2 g c =
     let count : c.len-3.result ≡ length new = omega (arith, c.len-3.ensures, c.in_ok-digests.digests.ok.0, ap length digests, long) in
     let put = c.spend_all.ensures ∙ ap (spent_in c.deref.result.now) c.in_ok-insert_all.ensures.ok in
     let put' = put ∙ ap (λ ns. spent_in ns (i.outputs ++ numbered i.chain.leaves new)) c.deref.ensures.value in (
-      extended_like H leaf_text _ c.args.self.now c.self.view_is c.args.hash c.args.numbers.items new c.requires.ready.next c.len-3.result c.apply_block.new.self.entries c.keep.new.outputs c.keep.new.ring count
-          (c.apply_block.ensures.entries ∙ ap₂ (λ xs ys. xs ++ map Some ys) (ap (entries_without c.args.spent.now) c.in_ok-reserve.ensures.entries ∙ emptied_same c.args.numbers.items c.args.numbers.items c.args.spent.now i.forest.entries refl c.requires.same) (c.deref-4.ensures.value ∙ digests))
+      extended_like H leaf_text _ c.args.self.now c.self.view_is c.args.hash c.args.numbers.items new c.requires.ready.next c.len-3.result
+          c.apply_block.new.self.entries c.keep.new.outputs c.keep.new.ring count
+          (c.apply_block.ensures.entries ∙ ap₂ (λ xs ys. xs ++ map Some ys) (ap (entries_without c.args.spent.now) c.in_ok-reserve.ensures.entries
+          ∙ emptied_same c.args.numbers.items c.args.numbers.items c.args.spent.now i.forest.entries refl c.requires.same)
+          (c.deref-4.ensures.value ∙ digests))
           (c.keep.ensures.outputs ∙ ap (forgotten_in (dropped i.undo)) put')
           (c.keep.ensures.kept ∙ ap (λ u. take 100 (u ∷ i.undo)) c.undo_of-undo.ensures),
-      noted_then (scripts_of i.watch) c.deref.result.now (dropped i.undo) i.chain.leaves new i.outputs i.noted.items c.in_ok-noted.noted.items c.keep_held.new.noted.items c.spend_all.new.outputs c.keep.new.outputs c.self.invariant.1 c.in_ok-noted.ensures put c.keep.ensures.outputs
-          (c.keep_held.ensures ∙ ap (filter (λ k. is_some (leaf_at k c.keep.new.outputs))) (c.append.ensures ∙ ap₂ (λ xs ys. xs ++ ys) c.in_ok-reserve-2.ensures.items c.deref-3.ensures.value)),
+      noted_then (scripts_of i.watch) c.deref.result.now (dropped i.undo) i.chain.leaves new i.outputs i.noted.items c.in_ok-noted.noted.items
+          c.keep_held.new.noted.items c.spend_all.new.outputs c.keep.new.outputs c.self.invariant.1 c.in_ok-noted.ensures put c.keep.ensures.outputs
+          (c.keep_held.ensures ∙ ap (filter (λ k. is_some (leaf_at k c.keep.new.outputs)))
+          (c.append.ensures ∙ ap₂ (λ xs ys. xs ++ ys) c.in_ok-reserve-2.ensures.items c.deref-3.ensures.value)),
     )
 
 pub returns-clause-next : goal.returns-clause-next
@@ -52,8 +59,11 @@ returns-clause-next g c =
     let count : c.len-3.result ≡ length new = omega (arith, c.len-3.ensures, c.in_ok-digests.digests.ok.0, ap length digests, long) in
     let put = c.spend_all.ensures ∙ ap (spent_in c.deref.result.now) c.in_ok-insert_all.ensures.ok in
     let put' = put ∙ ap (λ ns. spent_in ns (i.outputs ++ numbered i.chain.leaves new)) c.deref.ensures.value in
-    extended_is H leaf_text _ c.args.self.now c.self.view_is c.args.hash c.args.numbers.items new c.requires.ready.next c.len-3.result c.apply_block.new.self.entries c.keep.new.outputs c.keep.new.ring count
-    (c.apply_block.ensures.entries ∙ ap₂ (λ xs ys. xs ++ map Some ys) (ap (entries_without c.args.spent.now) c.in_ok-reserve.ensures.entries ∙ emptied_same c.args.numbers.items c.args.numbers.items c.args.spent.now i.forest.entries refl c.requires.same) (c.deref-4.ensures.value ∙ digests))
+    extended_is H leaf_text _ c.args.self.now c.self.view_is c.args.hash c.args.numbers.items new c.requires.ready.next c.len-3.result
+    c.apply_block.new.self.entries c.keep.new.outputs c.keep.new.ring count
+    (c.apply_block.ensures.entries ∙ ap₂ (λ xs ys. xs ++ map Some ys) (ap (entries_without c.args.spent.now) c.in_ok-reserve.ensures.entries
+    ∙ emptied_same c.args.numbers.items c.args.numbers.items c.args.spent.now i.forest.entries refl c.requires.same)
+    (c.deref-4.ensures.value ∙ digests))
     (c.keep.ensures.outputs ∙ ap (forgotten_in (dropped i.undo)) put')
     (c.keep.ensures.kept ∙ ap (λ u. take 100 (u ∷ i.undo)) c.undo_of-undo.ensures)
 
@@ -62,12 +72,21 @@ returns-clause-steps g c =
     let new = c.args.spends.now.new in
     let long = length-map new (λ leaf. g.D.Digester.digest_of (leaf_text leaf)) in
     let many : length c.args.spent.now ≡ length c.args.numbers.items = length_permutation c.args.numbers.items c.args.spent.now c.requires.same in
-    let same : length c.args.spent.now * rows (length c.reserve.new.self.entries) ≡ length c.args.numbers.items * rows (length c.args.self.now.entries) =
+    let same : length c.args.spent.now * rows (length c.reserve.new.self.entries)
+    ≡ length c.args.numbers.items * rows (length c.args.self.now.entries) =
     ap₂ (λ k es. k * rows (length es)) many (c.in_ok-reserve.ensures.entries ∙ ap (λ s. s.entries) c.self.view_is) in
-    omega (arith, c.apply_block.ensures.steps, c.in_ok-digests.ensures.steps, same, ap length (c.deref-4.ensures.value ∙ c.in_ok-digests.ensures.digests), long)
+    omega (
+      arith,
+      c.apply_block.ensures.steps,
+      c.in_ok-digests.ensures.steps,
+      same,
+      ap length (c.deref-4.ensures.value ∙ c.in_ok-digests.ensures.digests),
+      long,
+    )
 
 -- what was put into the index and spent there
-abbrev put_is : (g : _) (c : goal.After-deref-in_default g) → c.spend_all.new.outputs ≡ spent_in c.args.numbers.items (c.self.inside.outputs ++ numbered c.self.inside.chain.leaves c.args.spends.now.new)
+abbrev put_is : (g : _) (c : goal.After-deref-in_default g) → c.spend_all.new.outputs
+    ≡ spent_in c.args.numbers.items (c.self.inside.outputs ++ numbered c.self.inside.chain.leaves c.args.spends.now.new)
 put_is g c = c.spend_all.ensures ∙ ap₂ spent_in c.deref.ensures.value c.in_ok-insert_all.ensures.ok
 
 pub give_back-requires-clause-spent : goal.give_back-requires-clause-spent
@@ -84,7 +103,9 @@ give_back-requires-clause-live g c =
     let i = c.self.inside in
     let held = subst (λ (x : BridgeState). All (λ k. is_live k x.held ≡ true) c.args.numbers.items) (sym c.self.view_is) c.requires.ready.held in
     let is = c.self.invariant.0 in
-    λ k le lt. ap (is_live k) (ap₂ unspent_in c.deref-in_default.ensures.value (put_is g c)) ∙ live_new c.args.numbers.items i.chain.leaves c.args.spends.now.new i.outputs is.rise is.below held k le (omega (arith, lt, c.new_count.ensures))
+    λ k le lt. ap (is_live k) (ap₂ unspent_in c.deref-in_default.ensures.value (put_is g c))
+    ∙ live_new c.args.numbers.items i.chain.leaves c.args.spends.now.new i.outputs is.rise is.below held k le
+    (omega (arith, lt, c.new_count.ensures))
 
 pub give_back-requires-clause-above : goal.give_back-requires-clause-above
 give_back-requires-clause-above g c =
@@ -93,7 +114,8 @@ give_back-requires-clause-above g c =
     let held = subst (λ (x : BridgeState). All (λ k. is_live k x.held ≡ true) c.args.numbers.items) (sym c.self.view_is) c.requires.ready.held in
     let is = c.self.invariant.0 in
     let count : i.chain.leaves + length new ≡ i.chain.leaves + c.new_count.result = omega (arith, c.new_count.ensures) in
-    subst (λ m. IsAbove m c.spend_all.new.outputs) count (subst (IsAbove (i.chain.leaves + length new)) (sym (put_is g c)) (above_both c.args.numbers.items i.chain.leaves new i.outputs is.rise is.below held))
+    subst (λ m. IsAbove m c.spend_all.new.outputs) count (subst (IsAbove (i.chain.leaves + length new)) (sym (put_is g c))
+    (above_both c.args.numbers.items i.chain.leaves new i.outputs is.rise is.below held))
 
 pub invariant_of-self-in_default : goal.invariant_of-self-in_default
 invariant_of-self-in_default g c =
@@ -102,9 +124,19 @@ invariant_of-self-in_default g c =
     let held = subst (λ (x : BridgeState). All (λ k. is_live k x.held ≡ true) c.args.numbers.items) (sym c.self.view_is) c.requires.ready.held in
     let is = c.self.invariant.0 in
     let put = c.spend_all.ensures ∙ ap₂ spent_in c.deref.ensures.value c.in_ok-insert_all.ensures.ok in
-    let same : c.give_back.new.outputs ≡ i.outputs = c.give_back.ensures ∙ (ap (cut_in i.chain.leaves) (ap₂ unspent_in c.deref-in_default.ensures.value put) ∙ taken_back c.args.numbers.items i.chain.leaves c.args.spends.now.new i.outputs is.rise is.below held) in
-    let st : List (Option Digest) → List Held → BridgeState = λ es hs. record { rules = record { net = i.net; limits = i.limits }; watch = i.watch; chain = i.chain; entries = es; held = hs; undo = i.undo } in (
-      subst (λ es. IsBridge H leaf_text (st es c.give_back.new.outputs)) (sym c.in_ok-reserve.ensures.entries) (subst (λ hs. IsBridge H leaf_text (st i.forest.entries hs)) (sym same) c.self.invariant.0),
+    let same : c.give_back.new.outputs ≡ i.outputs = c.give_back.ensures
+    ∙ (ap (cut_in i.chain.leaves) (ap₂ unspent_in c.deref-in_default.ensures.value put)
+    ∙ taken_back c.args.numbers.items i.chain.leaves c.args.spends.now.new i.outputs is.rise is.below held) in
+    let st : List (Option Digest) → List Held → BridgeState = λ es hs. record {
+      rules = record { net = i.net; limits = i.limits };
+      watch = i.watch;
+      chain = i.chain;
+      entries = es;
+      held = hs;
+      undo = i.undo;
+    } in (
+      subst (λ es. IsBridge H leaf_text (st es c.give_back.new.outputs)) (sym c.in_ok-reserve.ensures.entries)
+          (subst (λ hs. IsBridge H leaf_text (st i.forest.entries hs)) (sym same) c.self.invariant.0),
       c.in_ok-reserve-2.ensures.items ∙ (c.self.invariant.1 ∙ ap (noted_in (scripts_of i.watch)) (sym same)),
     )
 
@@ -114,11 +146,21 @@ returns-in_default-clause-stays g c =
     let held = subst (λ (x : BridgeState). All (λ k. is_live k x.held ≡ true) c.args.numbers.items) (sym c.self.view_is) c.requires.ready.held in
     let is = c.self.invariant.0 in
     let put = c.spend_all.ensures ∙ ap₂ spent_in c.deref.ensures.value c.in_ok-insert_all.ensures.ok in
-    let same : c.give_back.new.outputs ≡ i.outputs = c.give_back.ensures ∙ (ap (cut_in i.chain.leaves) (ap₂ unspent_in c.deref-in_default.ensures.value put) ∙ taken_back c.args.numbers.items i.chain.leaves c.args.spends.now.new i.outputs is.rise is.below held) in
-    let st : List (Option Digest) → List Held → BridgeState = λ es hs. record { rules = record { net = i.net; limits = i.limits }; watch = i.watch; chain = i.chain; entries = es; held = hs; undo = i.undo } in
+    let same : c.give_back.new.outputs ≡ i.outputs = c.give_back.ensures
+    ∙ (ap (cut_in i.chain.leaves) (ap₂ unspent_in c.deref-in_default.ensures.value put)
+    ∙ taken_back c.args.numbers.items i.chain.leaves c.args.spends.now.new i.outputs is.rise is.below held) in
+    let st : List (Option Digest) → List Held → BridgeState = λ es hs. record {
+      rules = record { net = i.net; limits = i.limits };
+      watch = i.watch;
+      chain = i.chain;
+      entries = es;
+      held = hs;
+      undo = i.undo;
+    } in
     ap₂ st c.in_ok-reserve.ensures.entries same ∙ c.self.view_is
 
 pub returns-clause-says : goal.returns-clause-says
 returns-clause-says g c =
     let H = g.D.Digester.digest_of in
-    c.in-Ok.ensures ∙ ap₂ (λ es ns. option_map (λ d. message_text (drafted H es ns c.args.spent.now d)) c.args.draft) (c.in_ok-reserve.ensures.entries ∙ ap (λ s. s.entries) c.self.view_is) c.deref-2.ensures.value
+    c.in-Ok.ensures ∙ ap₂ (λ es ns. option_map (λ d. message_text (drafted H es ns c.args.spent.now d)) c.args.draft)
+    (c.in_ok-reserve.ensures.entries ∙ ap (λ s. s.entries) c.self.view_is) c.deref-2.ensures.value

@@ -15,7 +15,8 @@ invariant_of-self c =
     let within = c.find-number.result.1 in
     let found : IsAt piles i number within = subst (λ (ps : List (List Coin)). IsAt ps i number within) c.deref.ensures.value c.find-number.ensures in
     let inside : i < length (all_of piles) = subst (λ (xs : List Coin). i < length xs) (sym c.self.view_is) c.requires in
-    counted-less piles (slice_set piles number c.in_ok-others.others) c.self.inside.len i c.self.invariant inside (others-left piles i number within c.index-2.result.now c.in_ok-others.others found c.index-2.ensures c.in_ok-others.ensures)
+    counted-less piles (slice_set piles number c.in_ok-others.others) c.self.inside.len i c.self.invariant inside
+    (others-left piles i number within c.index-2.result.now c.in_ok-others.others found c.index-2.ensures c.in_ok-others.ensures)
 
 pub returns-clause-coin : goal.returns-clause-coin
 returns-clause-coin c =
@@ -24,7 +25,8 @@ returns-clause-coin c =
     let number = c.find-number.result.0 in
     let within = c.find-number.result.1 in
     let found : IsAt piles i number within = subst (λ (ps : List (List Coin)). IsAt ps i number within) c.deref.ensures.value c.find-number.ensures in
-    c.coin-coin.ensures ∙ (coin-there piles i number within c.index.result.now found c.index.ensures ∙ ap (λ (xs : List Coin). coin_at xs i) c.self.view_is)
+    c.coin-coin.ensures ∙ (coin-there piles i number within c.index.result.now found c.index.ensures
+    ∙ ap (λ (xs : List Coin). coin_at xs i) c.self.view_is)
 
 pub returns-clause-taken : goal.returns-clause-taken
 returns-clause-taken c =
@@ -33,4 +35,5 @@ returns-clause-taken c =
     let number = c.find-number.result.0 in
     let within = c.find-number.result.1 in
     let found : IsAt piles i number within = subst (λ (ps : List (List Coin)). IsAt ps i number within) c.deref.ensures.value c.find-number.ensures in
-    others-left piles i number within c.index-2.result.now c.in_ok-others.others found c.index-2.ensures c.in_ok-others.ensures ∙ ap (λ (xs : List Coin). remove xs i) c.self.view_is
+    others-left piles i number within c.index-2.result.now c.in_ok-others.others found c.index-2.ensures c.in_ok-others.ensures
+    ∙ ap (λ (xs : List Coin). remove xs i) c.self.view_is

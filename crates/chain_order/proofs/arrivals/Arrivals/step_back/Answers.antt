@@ -14,4 +14,5 @@ returns-then-marks-number-clause-none c = λ met has.
 pub returns-clause-one : goal.returns-clause-one
 returns-clause-one c = λ met has.
     let there = c.index.ensures ∙ ap (λ xs. get_or xs c.in-Some.number c.index.result.now) c.self.view_is in
-    meets_one_there c.args.self.now (subst AreDifferent c.self.view_is c.self.invariant.different) _ _ met has c.args.hash _ (sym c.in-Some.ensures.number) c.if-marks-number.false _ c.index.result.now _ c.in_ok-push.ensures.items there c.prev.ensures
+    meets_one_there c.args.self.now (subst AreDifferent c.self.view_is c.self.invariant.different) _ _ met has c.args.hash _
+    (sym c.in-Some.ensures.number) c.if-marks-number.false _ c.index.result.now _ c.in_ok-push.ensures.items there c.prev.ensures

@@ -20,7 +20,8 @@ grow-requires-clause-forest g c =
 pub invariant_of-self : goal.invariant_of-self
 invariant_of-self g c =
     let i = c.self.inside in
-    same_marked (record { net = i.net; limits = i.limits }) i.cache.watch c.grow.new.cache.watch i.chain i.roots i.cache.parts c.grow.new.cache.parts i.older c.grow.ensures.watch c.in_err-mark.ensures.stays c.grow.ensures.kept_room
+    same_marked (record { net = i.net; limits = i.limits }) i.cache.watch c.grow.new.cache.watch i.chain i.roots i.cache.parts c.grow.new.cache.parts
+    i.older c.grow.ensures.watch c.in_err-mark.ensures.stays c.grow.ensures.kept_room
     c.grow.ensures.held_room c.self.invariant
 
 pub invariant_of-self-2 : goal.invariant_of-self-2
@@ -32,17 +33,32 @@ invariant_of-self-2 g c =
     let x : PastState = record { chain = i.chain; roots = c.in_ok-before.before; mark = c.in_ok-mark.mark } in
     let before = node_of rules i.cache.watch i.chain i.roots i.cache.parts i.older in
     let leaves : before.newest.roots.leaves ≡ c.args.self.now.newest.roots.leaves = ap (λ (s : NodeState). s.newest.roots.leaves) c.self.view_is in
-    let level = grown_level H leaf_text i.cache.watch before.newest c.args.hash c.args.targets.now.leaves c.args.targets.now.targets c.args.changes.now c.args.roots.now c.args.spends.now.new chain c.leaves.result c.set.new.self
-    c.grow.new.roots c.grow.new.cache.parts.kept c.grow.new.cache.parts.held (c.requires.entries ∙ sym leaves) (c.requires.same ∙ sym leaves) c.self.invariant.node.newest.counted refl c.leaves.ensures.is
+    let level = grown_level H leaf_text i.cache.watch before.newest c.args.hash c.args.targets.now.leaves c.args.targets.now.targets
+    c.args.changes.now c.args.roots.now c.args.spends.now.new chain c.leaves.result c.set.new.self
+    c.grow.new.roots c.grow.new.cache.parts.kept c.grow.new.cache.parts.held (c.requires.entries ∙ sym leaves) (c.requires.same ∙ sym leaves)
+    c.self.invariant.node.newest.counted refl c.leaves.ensures.is
     c.set.ensures c.in_ok-mark.ensures.roots c.in_ok-mark.ensures.kept c.in_ok-mark.ensures.held in
     let next = pushed_node rules i.cache.watch i.chain chain i.roots c.set.new.self i.cache.parts c.grow.new.cache.parts x i.older c.keep.new.self
-    (record { chain_is = refl; roots_are = c.in_ok-before.ensures; taken_are = c.keep.ensures; kept = c.in_ok-mark.ensures.kept_back; held = c.in_ok-mark.ensures.held_back }) c.grow.new.cache.watch c.grow.ensures.watch
+    (record {
+      chain_is = refl;
+      roots_are = c.in_ok-before.ensures;
+      taken_are = c.keep.ensures;
+      kept = c.in_ok-mark.ensures.kept_back;
+      held = c.in_ok-mark.ensures.held_back;
+    }) c.grow.new.cache.watch c.grow.ensures.watch
     ∙ (ap (λ (l : LevelState). with_level l before) level
-    ∙ ap (λ (s : NodeState). with_level (level_grown H leaf_text s.scripts s.newest c.args.hash c.args.targets.now.targets c.args.changes.now c.args.roots.now c.args.spends.now.new) s) c.self.view_is) in
+    ∙ ap (λ (s : NodeState). with_level (level_grown H leaf_text s.scripts s.newest c.args.hash c.args.targets.now.targets c.args.changes.now
+    c.args.roots.now c.args.spends.now.new) s) c.self.view_is) in
     record {
       node = subst IsNode (sym next) c.requires.next;
       marks = pushed_marks rules i.cache.watch i.chain chain i.roots c.set.new.self i.cache.parts c.grow.new.cache.parts x i.older c.keep.new.self
-          (record { chain_is = refl; roots_are = c.in_ok-before.ensures; taken_are = c.keep.ensures; kept = c.in_ok-mark.ensures.kept_back; held = c.in_ok-mark.ensures.held_back }) c.in_ok-mark.ensures.fits
+          (record {
+            chain_is = refl;
+            roots_are = c.in_ok-before.ensures;
+            taken_are = c.keep.ensures;
+            kept = c.in_ok-mark.ensures.kept_back;
+            held = c.in_ok-mark.ensures.held_back;
+          }) c.in_ok-mark.ensures.fits
           c.grow.ensures.kept_room c.grow.ensures.held_room c.self.invariant.marks;
     }
 
@@ -55,10 +71,19 @@ returns-clause-next g c =
     let x : PastState = record { chain = i.chain; roots = c.in_ok-before.before; mark = c.in_ok-mark.mark } in
     let before = node_of rules i.cache.watch i.chain i.roots i.cache.parts i.older in
     let leaves : before.newest.roots.leaves ≡ c.args.self.now.newest.roots.leaves = ap (λ (s : NodeState). s.newest.roots.leaves) c.self.view_is in
-    let level = grown_level H leaf_text i.cache.watch before.newest c.args.hash c.args.targets.now.leaves c.args.targets.now.targets c.args.changes.now c.args.roots.now c.args.spends.now.new chain c.leaves.result c.set.new.self
-    c.grow.new.roots c.grow.new.cache.parts.kept c.grow.new.cache.parts.held (c.requires.entries ∙ sym leaves) (c.requires.same ∙ sym leaves) c.self.invariant.node.newest.counted refl c.leaves.ensures.is
+    let level = grown_level H leaf_text i.cache.watch before.newest c.args.hash c.args.targets.now.leaves c.args.targets.now.targets
+    c.args.changes.now c.args.roots.now c.args.spends.now.new chain c.leaves.result c.set.new.self
+    c.grow.new.roots c.grow.new.cache.parts.kept c.grow.new.cache.parts.held (c.requires.entries ∙ sym leaves) (c.requires.same ∙ sym leaves)
+    c.self.invariant.node.newest.counted refl c.leaves.ensures.is
     c.set.ensures c.in_ok-mark.ensures.roots c.in_ok-mark.ensures.kept c.in_ok-mark.ensures.held in
     pushed_node rules i.cache.watch i.chain chain i.roots c.set.new.self i.cache.parts c.grow.new.cache.parts x i.older c.keep.new.self
-    (record { chain_is = refl; roots_are = c.in_ok-before.ensures; taken_are = c.keep.ensures; kept = c.in_ok-mark.ensures.kept_back; held = c.in_ok-mark.ensures.held_back }) c.grow.new.cache.watch c.grow.ensures.watch
+    (record {
+      chain_is = refl;
+      roots_are = c.in_ok-before.ensures;
+      taken_are = c.keep.ensures;
+      kept = c.in_ok-mark.ensures.kept_back;
+      held = c.in_ok-mark.ensures.held_back;
+    }) c.grow.new.cache.watch c.grow.ensures.watch
     ∙ (ap (λ (l : LevelState). with_level l before) level
-    ∙ ap (λ (s : NodeState). with_level (level_grown H leaf_text s.scripts s.newest c.args.hash c.args.targets.now.targets c.args.changes.now c.args.roots.now c.args.spends.now.new) s) c.self.view_is)
+    ∙ ap (λ (s : NodeState). with_level (level_grown H leaf_text s.scripts s.newest c.args.hash c.args.targets.now.targets c.args.changes.now
+    c.args.roots.now c.args.spends.now.new) s) c.self.view_is)

@@ -17,11 +17,15 @@ write_levels-requires-clause-older g c =
 pub returns-in-Ok-clause-whole : goal.returns-in-Ok-clause-whole
 returns-in-Ok-clause-whole g c =
     let i = c.self.inside in
-    as_written c.write_levels.result _ _ _ _ (levels_same (record { net = i.net; limits = i.limits }) i.cache.watch i.chain i.roots i.cache.parts c.in-Ok.parts i.older c.args.self.now c.self.view_is
-    (c.in-Ok.ensures.0 ∙ ap (λ (p : Parted). p.kept) c.seen.ensures, c.in-Ok.ensures.1 ∙ ap (λ (p : Parted). p.held) c.seen.ensures)) c.write_levels.ensures.whole
+    as_written c.write_levels.result _ _ _ _ (levels_same (record { net = i.net; limits = i.limits }) i.cache.watch i.chain i.roots i.cache.parts
+    c.in-Ok.parts i.older c.args.self.now c.self.view_is
+    (c.in-Ok.ensures.0 ∙ ap (λ (p : Parted). p.kept) c.seen.ensures, c.in-Ok.ensures.1 ∙ ap (λ (p : Parted). p.held) c.seen.ensures))
+    c.write_levels.ensures.whole
 
 pub returns-in-Ok-clause-part : goal.returns-in-Ok-clause-part
 returns-in-Ok-clause-part g c =
     let i = c.self.inside in
-    as_part _ _ _ _ (levels_same (record { net = i.net; limits = i.limits }) i.cache.watch i.chain i.roots i.cache.parts c.in-Ok.parts i.older c.args.self.now c.self.view_is
-    (c.in-Ok.ensures.0 ∙ ap (λ (p : Parted). p.kept) c.seen.ensures, c.in-Ok.ensures.1 ∙ ap (λ (p : Parted). p.held) c.seen.ensures)) c.write_levels.ensures.part
+    as_part _ _ _ _ (levels_same (record { net = i.net; limits = i.limits }) i.cache.watch i.chain i.roots i.cache.parts c.in-Ok.parts i.older
+    c.args.self.now c.self.view_is
+    (c.in-Ok.ensures.0 ∙ ap (λ (p : Parted). p.kept) c.seen.ensures, c.in-Ok.ensures.1 ∙ ap (λ (p : Parted). p.held) c.seen.ensures))
+    c.write_levels.ensures.part

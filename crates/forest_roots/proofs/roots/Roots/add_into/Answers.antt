@@ -7,7 +7,13 @@ use Rattle.forest_roots.proofs.roots.Roots.add_into.Goals as goal
 pub push-requires : goal.push-requires
 push-requires g c =
     let j = c.loop-self.invariant.joining in
-    omega (arith, j.small, ap length j.listed, length-map-range_with_len (join_at g.D.Digester.digest_of (record { leaves = c.self.inside.count; rows = c.self.inside.slots }) c.args.digest) 0 c.loop-self.row)
+    omega (
+      arith,
+      j.small,
+      ap length j.listed,
+      length-map-range_with_len
+          (join_at g.D.Digester.digest_of (record { leaves = c.self.inside.count; rows = c.self.inside.slots }) c.args.digest) 0 c.loop-self.row,
+    )
 
 pub loop-self-preserved : goal.loop-self-preserved
 loop-self-preserved g c =
@@ -15,19 +21,23 @@ loop-self-preserved g c =
     let few : suc c.self.inside.count < 2 ^ 40 = omega (arith, leaves, c.requires) in
     record {
       same_count = c.loop-self.invariant.same_count;
-      joining = joined_once g.D.Digester.digest_of c.self.inside.count c.self.inside.slots c.args.digest c.args.steps.now c.loop-self.row c.loop-self.self-inside.slots c.loop-self.carried c.loop-self.joins c.loop-self.steps
+      joining = joined_once g.D.Digester.digest_of c.self.inside.count c.self.inside.slots c.args.digest c.args.steps.now c.loop-self.row
+          c.loop-self.self-inside.slots c.loop-self.carried c.loop-self.joins c.loop-self.steps
           c.loop-self.invariant.joining few (ap (λ n. n / 2 ^ c.loop-self.row % 2) (sym c.loop-self.invariant.same_count) ∙ c.loop-self-test.true)
-          c.join_root-carried.result c.push.new.self c.join_root-carried.new.steps c.join_root-carried.ensures.value c.push.ensures c.join_root-carried.ensures.steps;
+          c.join_root-carried.result c.push.new.self c.join_root-carried.new.steps c.join_root-carried.ensures.value c.push.ensures
+          c.join_root-carried.ensures.steps;
     }
 
 pub invariant_of-self : goal.invariant_of-self
 invariant_of-self g c =
-    let whole = addition_ends g.D.Digester.digest_of c.args.self.now c.self.inside.count c.self.inside.slots c.args.digest c.args.steps.now c.loop-self.row c.loop-self.self-inside.count c.loop-self.self-inside.slots c.loop-self.carried c.loop-self.joins c.loop-self.steps
+    let whole = addition_ends g.D.Digester.digest_of c.args.self.now c.self.inside.count c.self.inside.slots c.args.digest c.args.steps.now
+    c.loop-self.row c.loop-self.self-inside.count c.loop-self.self-inside.slots c.loop-self.carried c.loop-self.joins c.loop-self.steps
     c.loop-self.invariant.joining c.self.view_is c.self.invariant c.requires c.loop-self.invariant.same_count c.loop-self-test.false in
     whole.stump
 
 pub returns : goal.returns
 returns g c =
-    let whole = addition_ends g.D.Digester.digest_of c.args.self.now c.self.inside.count c.self.inside.slots c.args.digest c.args.steps.now c.loop-self.row c.loop-self.self-inside.count c.loop-self.self-inside.slots c.loop-self.carried c.loop-self.joins c.loop-self.steps
+    let whole = addition_ends g.D.Digester.digest_of c.args.self.now c.self.inside.count c.self.inside.slots c.args.digest c.args.steps.now
+    c.loop-self.row c.loop-self.self-inside.count c.loop-self.self-inside.slots c.loop-self.carried c.loop-self.joins c.loop-self.steps
     c.loop-self.invariant.joining c.self.view_is c.self.invariant c.requires c.loop-self.invariant.same_count c.loop-self-test.false in
     record { roots = whole.roots; joins = whole.joins_are; steps = whole.steps_listed; counted = whole.steps_are; few = whole.few }

@@ -9,7 +9,13 @@ use Rattle.node_commands.proofs.prover.Prover.tell.Goals as goal
 pub invariant_of-self-2 : goal.invariant_of-self-2
 unfolding next_prover
 invariant_of-self-2 g c =
-    let p : ProverState = record { net = c.self.inside.net; bridge = c.self.inside.bridge; events = c.self.inside.events; refused = c.self.inside.refused } in
+    let p : ProverState = record {
+      net = c.self.inside.net;
+      bridge = c.self.inside.bridge;
+      events = c.self.inside.events;
+      refused =
+          c.self.inside.refused;
+    } in
     let r = reached-next g.D.Digester.digest_of p (event_of c.args.event) c.requires.bytes c.self.invariant in
     record { limits = r.limits; few = r.few; watch = r.watch; events = r.events; bytes = r.bytes; is = c.in_ok-proved.ensures.next ∙ r.is }
 
@@ -24,7 +30,13 @@ returns-clause-next g c = rw (← c.self.view_is, c.is_refused.ensures, c.in_ok-
 pub returns-clause-fits : goal.returns-clause-fits
 unfolding proved_of
 returns-clause-fits g c = λ made.
-    let p : ProverState = record { net = c.self.inside.net; bridge = c.self.inside.bridge; events = c.self.inside.events; refused = c.self.inside.refused } in
+    let p : ProverState = record {
+      net = c.self.inside.net;
+      bridge = c.self.inside.bridge;
+      events = c.self.inside.events;
+      refused =
+          c.self.inside.refused;
+    } in
     subst (λ m. CanBeWritten (beside m (event_of c.args.event))) (sym c.in_ok-proved.ensures.message)
     (passed-short g.D.Digester.digest_of g.met.D.Digester.has_32_bytes p (event_of c.args.event) c.requires.bytes c.self.invariant
     (ap (λ v. is_made (Some v)) (sym c.in_ok-proved.ensures.verdict) ∙ made))

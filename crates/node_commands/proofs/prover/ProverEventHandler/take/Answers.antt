@@ -12,7 +12,9 @@ returns-clause-sent g c =
     let message = option_map (λ bytes. bytes.items) c.in_ok-proved.proved.message in
     OnOk-any c.line_of.result (
     c.in_ok-push_made.ensures
-    ∙ ap (λ n. c.args.sent.now.bytes.items ++ made_frames n c.in_ok-proved.proved.verdict message event) (ap (λ (p : ProverState). p.net) c.self.view_is)
+    ∙ ap (λ n. c.args.sent.now.bytes.items ++ made_frames n c.in_ok-proved.proved.verdict message event)
+    (ap (λ (p : ProverState). p.net) c.self.view_is)
     ∙ ap (λ v. c.args.sent.now.bytes.items ++ made_frames c.args.self.now.net v message event) c.in_ok-proved.ensures.verdict
-    ∙ ap (λ m. c.args.sent.now.bytes.items ++ made_frames c.args.self.now.net (proved_of c.args.self.now event) m event) c.in_ok-proved.ensures.message
+    ∙ ap (λ m. c.args.sent.now.bytes.items ++ made_frames c.args.self.now.net (proved_of c.args.self.now event) m event)
+    c.in_ok-proved.ensures.message
     )

@@ -12,9 +12,13 @@ returns-then-ended-clause-said g c = rw (← c.self.view_is) (over-said g.D.Dige
 pub returns-clause-status : goal.returns-clause-status
 returns-clause-status g c =
     rw (← c.self.view_is)
-    (going-status g.D.Digester.digest_of _ _ _ (sym c.ended.ensures ∙ c.if-ended.false) (c.in_ok-checked.ensures ∙ ap (recheck_of g.D.Digester.digest_of c.self.inside.audit.bridge) c.deref.ensures.value) c.push_checked.ensures.status)
+    (going-status g.D.Digester.digest_of _ _ _ (sym c.ended.ensures ∙ c.if-ended.false)
+    (c.in_ok-checked.ensures ∙ ap (recheck_of g.D.Digester.digest_of c.self.inside.audit.bridge) c.deref.ensures.value)
+    c.push_checked.ensures.status)
 
 pub returns-clause-said : goal.returns-clause-said
 returns-clause-said g c =
     rw (← c.self.view_is)
-    (going-said g.D.Digester.digest_of _ _ _ _ _ (sym c.ended.ensures ∙ c.if-ended.false) (c.in_ok-checked.ensures ∙ ap (recheck_of g.D.Digester.digest_of c.self.inside.audit.bridge) c.deref.ensures.value) c.push_checked.ensures.said)
+    (going-said g.D.Digester.digest_of _ _ _ _ _ (sym c.ended.ensures ∙ c.if-ended.false)
+    (c.in_ok-checked.ensures ∙ ap (recheck_of g.D.Digester.digest_of c.self.inside.audit.bridge) c.deref.ensures.value)
+    c.push_checked.ensures.said)

@@ -8,7 +8,8 @@ use Rattle.output_index.proofs.chains.Chains.take_newest.Goals as goal
 pub invariant_of-self-in-None : goal.invariant_of-self-in-None
 invariant_of-self-in-None c =
     let new = c.take_newest.new.self in
-    let gone : few_at new c.args.mark ≡ None = c.take_newest.ensures.stays (λ s. none-some c.args.number (sym c.in-None.is ∙ s)) ∙ (sym c.take_newest.ensures.told ∙ c.in-None.is) in
+    let gone : few_at new c.args.mark ≡ None = c.take_newest.ensures.stays (λ s. none-some c.args.number (sym c.in-None.is ∙ s))
+    ∙ (sym c.take_newest.ensures.told ∙ c.in-None.is) in
     λ m some.
     ⊎_elim
     (λ e. absurd (false≢true (subst IsSome (ap (few_at new) e ∙ gone) some)))

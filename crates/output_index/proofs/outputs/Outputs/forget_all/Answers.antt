@@ -21,7 +21,9 @@ runs-preserved c =
     let k = c.min.result in
     let few : k ≤ length ns = omega (arith, c.min.ensures) in
     record {
-      same = ap₂ (λ ms xs. without_all ms xs) c.split_at.ensures.back (c.forget_run.ensures ∙ ap (λ ms. without_all ms hs) c.split_at.ensures.front) ∙ (without_all-parts k ns hs ∙ c.runs.invariant.same);
-      spent = rw (c.split_at.ensures.back, c.forget_run.ensures, c.split_at.ensures.front) (spent-behind k ns hs few c.runs.invariant.apart c.runs.invariant.spent);
+      same = ap₂ (λ ms xs. without_all ms xs) c.split_at.ensures.back (c.forget_run.ensures ∙ ap (λ ms. without_all ms hs) c.split_at.ensures.front)
+          ∙ (without_all-parts k ns hs ∙ c.runs.invariant.same);
+      spent = rw (c.split_at.ensures.back, c.forget_run.ensures, c.split_at.ensures.front)
+          (spent-behind k ns hs few c.runs.invariant.apart c.runs.invariant.spent);
       apart = rw c.split_at.ensures.back (apart-behind k ns c.runs.invariant.apart);
     }

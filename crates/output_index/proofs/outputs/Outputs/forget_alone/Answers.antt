@@ -13,7 +13,8 @@ take_newest-requires c =
     chain-there c.args.number c.args.mark c.self.inside.entries c.self.inside.chains there c.self.invariant
 
 pub remove-requires : goal.remove-requires
-remove-requires c = mark-held c.args.number c.args.mark c.self.inside.entries (mark-inside c.args.number c.args.mark c.self.inside.entries c.args.self.now c.self.view_is c.requires.mark)
+remove-requires c = mark-held c.args.number c.args.mark c.self.inside.entries
+    (mark-inside c.args.number c.args.mark c.self.inside.entries c.args.self.now c.self.view_is c.requires.mark)
 
 pub invariant_of-self : goal.invariant_of-self
 invariant_of-self c =
@@ -24,7 +25,8 @@ invariant_of-self c =
     let alone = subst (λ hs. IsAlone hs n m) (sym c.self.view_is) c.requires.alone in
     let taken = c.take_newest.ensures in
     rw c.remove.ensures
-    (chained-alone n m es c.self.inside.chains c.take_newest.new.self c.take_newest.result there alone taken.other taken.older taken.others c.self.invariant)
+    (chained-alone n m es c.self.inside.chains c.take_newest.new.self c.take_newest.result there alone taken.other taken.older taken.others
+    c.self.invariant)
 
 pub returns : goal.returns
 returns c =

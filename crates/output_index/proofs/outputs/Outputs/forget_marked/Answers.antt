@@ -13,7 +13,8 @@ remove-requires c =
     let n = c.args.number in
     let es = c.self.inside.entries in
     let hs = c.args.self.now in
-    held_back n c.unlink.new.entries hs (c.unlink.ensures.same ∙ c.self.view_is) (held_there n es hs c.self.view_is (spent_held n es hs c.self.view_is c.self.invariant.rising c.requires.spent))
+    held_back n c.unlink.new.entries hs (c.unlink.ensures.same ∙ c.self.view_is)
+    (held_there n es hs c.self.view_is (spent_held n es hs c.self.view_is c.self.invariant.rising c.requires.spent))
 
 pub returns : goal.returns
 returns c =

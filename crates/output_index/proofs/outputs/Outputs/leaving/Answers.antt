@@ -14,5 +14,8 @@ returns-then-eq c =
     let first : c.first.result ≡ Some n = equal_some c.first.result n (sym c.eq.ensures ∙ c.if-eq.true) in
     record {
       mark = c.requires.mark;
-      alone = OnTrue_from c.args.told.oldest (IsAlone c.args.self.now n m) (λ t. subst (λ hs. IsAlone hs n m) c.self.view_is (alone_from n m es chains c.self.invariant (subst (λ hs. IsOldest hs n m) (sym c.self.view_is) (OnTrue_at t c.requires.oldest)) (chain-first chains m n (sym c.first.ensures ∙ first))));
+      alone = OnTrue_from c.args.told.oldest (IsAlone c.args.self.now n m)
+          (λ t. subst (λ hs. IsAlone hs n m) c.self.view_is (alone_from n m es chains c.self.invariant
+          (subst (λ hs. IsOldest hs n m) (sym c.self.view_is) (OnTrue_at t c.requires.oldest))
+          (chain-first chains m n (sym c.first.ensures ∙ first))));
     }

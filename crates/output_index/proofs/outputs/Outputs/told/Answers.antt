@@ -19,5 +19,7 @@ returns c =
     let m = c.mark.result in
     subst (λ hs. IsTold hs n (record { mark = m; oldest = c.is_none.result })) c.self.view_is (record {
       mark = mark-in n es ∙ (ap (option_map mark_in) c.at-entry.ensures ∙ ap Some (sym c.mark.ensures));
-      oldest = OnTrue_from c.is_none.result (IsOldest (held_in es) n m) (λ t. subst (λ k. IsOldest (held_in es) n k) (sym c.mark.ensures) (oldest_from n e es c.self.invariant.older c.at-entry.ensures (c.is_none.ensures ∙ ap not t)));
+      oldest = OnTrue_from c.is_none.result (IsOldest (held_in es) n m)
+          (λ t. subst (λ k. IsOldest (held_in es) n k) (sym c.mark.ensures)
+          (oldest_from n e es c.self.invariant.older c.at-entry.ensures (c.is_none.ensures ∙ ap not t)));
     })

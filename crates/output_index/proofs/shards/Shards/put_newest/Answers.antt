@@ -15,7 +15,9 @@ returns-in_err-before-clause-others c =
     let mark = c.args.mark in
     let s = sym c.shard_of.ensures.is in
     let l : i < length maps = omega (arith, c.shard_of.ensures.few, c.in_ok-make_shards.ensures.len) in
-    λ m o. others-set maps c.index_mut.result.now c.insert.new.self i mark s l c.index_mut.ensures.value (λ j a. ap (lookup (is_at (nat_cmp j))) c.in_err-before.ensures.err) m o ∙ (c.make_shards.ensures.same m ∙ ap (λ xs. shard_at xs m) c.self.view_is)
+    λ m o. others-set maps c.index_mut.result.now c.insert.new.self i mark s l c.index_mut.ensures.value
+    (λ j a. ap (lookup (is_at (nat_cmp j))) c.in_err-before.ensures.err) m o
+    ∙ (c.make_shards.ensures.same m ∙ ap (λ xs. shard_at xs m) c.self.view_is)
 
 pub returns-in_err-before-clause-err : goal.returns-in_err-before-clause-err
 returns-in_err-before-clause-err c =
@@ -24,7 +26,9 @@ returns-in_err-before-clause-err c =
     let mark = c.args.mark in
     let s = sym c.shard_of.ensures.is in
     let l : i < length maps = omega (arith, c.shard_of.ensures.few, c.in_ok-make_shards.ensures.len) in
-    on_err _ _ (at-set maps c.insert.new.self i mark s l ∙ (ap (lookup (is_at (nat_cmp mark))) c.in_err-before.ensures.err ∙ (sym (at-map maps c.index_mut.result.now i mark s l c.index_mut.ensures.value) ∙ (c.make_shards.ensures.same mark ∙ ap (λ xs. shard_at xs mark) c.self.view_is))))
+    on_err _ _ (at-set maps c.insert.new.self i mark s l ∙ (ap (lookup (is_at (nat_cmp mark))) c.in_err-before.ensures.err
+    ∙ (sym (at-map maps c.index_mut.result.now i mark s l c.index_mut.ensures.value)
+    ∙ (c.make_shards.ensures.same mark ∙ ap (λ xs. shard_at xs mark) c.self.view_is))))
 
 pub returns-clause-before : goal.returns-clause-before
 returns-clause-before c =
@@ -33,7 +37,8 @@ returns-clause-before c =
     let mark = c.args.mark in
     let s = sym c.shard_of.ensures.is in
     let l : i < length maps = omega (arith, c.shard_of.ensures.few, c.in_ok-make_shards.ensures.len) in
-    c.in_ok-before.ensures.old ∙ (sym (at-map maps c.index_mut.result.now i mark s l c.index_mut.ensures.value) ∙ (c.make_shards.ensures.same mark ∙ ap (λ xs. shard_at xs mark) c.self.view_is))
+    c.in_ok-before.ensures.old ∙ (sym (at-map maps c.index_mut.result.now i mark s l c.index_mut.ensures.value)
+    ∙ (c.make_shards.ensures.same mark ∙ ap (λ xs. shard_at xs mark) c.self.view_is))
 
 pub returns-clause-here : goal.returns-clause-here
 returns-clause-here c =
@@ -51,4 +56,6 @@ returns-clause-others c =
     let mark = c.args.mark in
     let s = sym c.shard_of.ensures.is in
     let l : i < length maps = omega (arith, c.shard_of.ensures.few, c.in_ok-make_shards.ensures.len) in
-    λ m o. others-set maps c.index_mut.result.now c.insert.new.self i mark s l c.index_mut.ensures.value (λ j a. c.in_ok-before.ensures.updates.2 j (at_other mark j (λ e. a (sym e)))) m o ∙ (c.make_shards.ensures.same m ∙ ap (λ xs. shard_at xs m) c.self.view_is)
+    λ m o. others-set maps c.index_mut.result.now c.insert.new.self i mark s l c.index_mut.ensures.value
+    (λ j a. c.in_ok-before.ensures.updates.2 j (at_other mark j (λ e. a (sym e)))) m o
+    ∙ (c.make_shards.ensures.same m ∙ ap (λ xs. shard_at xs m) c.self.view_is)

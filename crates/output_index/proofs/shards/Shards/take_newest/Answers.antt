@@ -20,7 +20,8 @@ returns-clause-stays c =
     let mark = c.args.mark in
     let s = sym c.shard_of.ensures.is in
     let l = subst (λ j. j < length maps) s (map-within maps mark (subst (λ xs. IsSome (shard_at xs mark)) (sym c.self.view_is) c.requires)) in
-    λ r. at-set maps c.take_newest_in.new.newest i mark s l ∙ (c.take_newest_in.ensures.stays r ∙ (sym (at-map maps c.index_mut.result.now i mark s l c.index_mut.ensures.value) ∙ ap (λ xs. shard_at xs mark) c.self.view_is))
+    λ r. at-set maps c.take_newest_in.new.newest i mark s l ∙ (c.take_newest_in.ensures.stays r
+    ∙ (sym (at-map maps c.index_mut.result.now i mark s l c.index_mut.ensures.value) ∙ ap (λ xs. shard_at xs mark) c.self.view_is))
 
 pub returns-clause-others : goal.returns-clause-others
 returns-clause-others c =
@@ -29,4 +30,5 @@ returns-clause-others c =
     let mark = c.args.mark in
     let s = sym c.shard_of.ensures.is in
     let l = subst (λ j. j < length maps) s (map-within maps mark (subst (λ xs. IsSome (shard_at xs mark)) (sym c.self.view_is) c.requires)) in
-    λ m o. others-set maps c.index_mut.result.now c.take_newest_in.new.newest i mark s l c.index_mut.ensures.value c.take_newest_in.ensures.others m o ∙ ap (λ xs. shard_at xs m) c.self.view_is
+    λ m o. others-set maps c.index_mut.result.now c.take_newest_in.new.newest i mark s l c.index_mut.ensures.value c.take_newest_in.ensures.others m o
+    ∙ ap (λ xs. shard_at xs m) c.self.view_is

@@ -8,15 +8,18 @@ pub returns-in-Some-Some : goal.returns-in-Some-Some
 returns-in-Some-Some c =
     let n = c.args.number in
     let got = c.in-Some-Some.ensures.lookup in
-    ap Some c.entry.ensures ∙ sym (ap (entry_at n) (sym c.self.view_is ∙ ap (entries_from 0) (sym c.deref.ensures.value)) ∙ (read-at n _ c.deref.result.now (ltb-true _ _ (sym got.0)) got.1 ∙ c.in-Some-Some.field-0-is))
+    ap Some c.entry.ensures ∙ sym (ap (entry_at n) (sym c.self.view_is ∙ ap (entries_from 0) (sym c.deref.ensures.value))
+    ∙ (read-at n _ c.deref.result.now (ltb-true _ _ (sym got.0)) got.1 ∙ c.in-Some-Some.field-0-is))
 
 pub returns-in-Some-None : goal.returns-in-Some-None
 returns-in-Some-None c =
     let n = c.args.number in
     let got = c.in-Some-None.ensures.lookup in
-    sym (ap (entry_at n) (sym c.self.view_is ∙ ap (entries_from 0) (sym c.deref.ensures.value)) ∙ (read-at n _ c.deref.result.now (ltb-true _ _ (sym got.0)) got.1 ∙ c.in-Some-None.field-0-is))
+    sym (ap (entry_at n) (sym c.self.view_is ∙ ap (entries_from 0) (sym c.deref.ensures.value))
+    ∙ (read-at n _ c.deref.result.now (ltb-true _ _ (sym got.0)) got.1 ∙ c.in-Some-None.field-0-is))
 
 pub returns-in-None : goal.returns-in-None
 returns-in-None c =
     let n = c.args.number in
-    sym (ap (entry_at n) (sym c.self.view_is ∙ ap (entries_from 0) (sym c.deref.ensures.value)) ∙ none-past n c.deref.result.now (ltb-false _ _ (sym c.in-None.ensures.lookup.0)))
+    sym (ap (entry_at n) (sym c.self.view_is ∙ ap (entries_from 0) (sym c.deref.ensures.value))
+    ∙ none-past n c.deref.result.now (ltb-false _ _ (sym c.in-None.ensures.lookup.0)))

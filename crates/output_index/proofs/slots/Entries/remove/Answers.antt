@@ -14,17 +14,20 @@ unreachable-requires c =
 
 pub index_mut-requires : goal.index_mut-requires
 index_mut-requires c =
-    let within = stands-within c.args.number c.self.inside.slots.items (subst (λ es. IsSome (entry_at c.args.number es)) (sym c.self.view_is) c.requires) in
+    let within = stands-within c.args.number c.self.inside.slots.items
+    (subst (λ es. IsSome (entry_at c.args.number es)) (sym c.self.view_is) c.requires) in
     omega (arith, within, c.self.inside.slots.ok.0)
 
 pub push_reserved-requires : goal.push_reserved-requires
 push_reserved-requires c =
-    let fewer = count-cleared c.args.number c.self.inside.slots.items (subst (λ es. IsSome (entry_at c.args.number es)) (sym c.self.view_is) c.requires) in
+    let fewer = count-cleared c.args.number c.self.inside.slots.items
+    (subst (λ es. IsSome (entry_at c.args.number es)) (sym c.self.view_is) c.requires) in
     omega (arith, fewer, c.self.invariant.count, c.self.invariant.room)
 
 pub overflow_sub-self : goal.overflow_sub-self
 overflow_sub-self c =
-    let fewer = count-cleared c.args.number c.self.inside.slots.items (subst (λ es. IsSome (entry_at c.args.number es)) (sym c.self.view_is) c.requires) in
+    let fewer = count-cleared c.args.number c.self.inside.slots.items
+    (subst (λ es. IsSome (entry_at c.args.number es)) (sym c.self.view_is) c.requires) in
     omega (arith, fewer, c.self.invariant.count)
 
 pub invariant_of-self : goal.invariant_of-self

@@ -14,7 +14,8 @@ unreachable-requires c =
 
 pub index_mut-requires : goal.index_mut-requires
 index_mut-requires c =
-    let within = stands-within c.args.number c.self.inside.slots.items (subst (λ es. IsSome (entry_at c.args.number es)) (sym c.self.view_is) c.requires) in
+    let within = stands-within c.args.number c.self.inside.slots.items
+    (subst (λ es. IsSome (entry_at c.args.number es)) (sym c.self.view_is) c.requires) in
     omega (arith, within, c.self.inside.slots.ok.0)
 
 pub invariant_of-self : goal.invariant_of-self
@@ -24,7 +25,8 @@ invariant_of-self c =
     let held = subst (λ es. IsSome (entry_at n es)) (sym c.self.view_is) c.requires in
     let there = set-there n (set_live c.args.live) c.in-Some.slot xs held (subst (λ x. x ≡ get_or xs n x) c.in-Some.is c.index_mut.ensures.value) in
     record {
-      count = c.self.invariant.count ∙ sym (ap length (ap (λ e. entries_from 0 (set xs n (Some e))) c.set_live.ensures ∙ there) ∙ count-changed n (set_live c.args.live) (entries_from 0 xs));
+      count = c.self.invariant.count ∙ sym (ap length (ap (λ e. entries_from 0 (set xs n (Some e))) c.set_live.ensures ∙ there)
+          ∙ count-changed n (set_live c.args.live) (entries_from 0 xs));
       room = c.self.invariant.room;
     }
 
@@ -34,4 +36,5 @@ returns c =
     let xs = c.self.inside.slots.items in
     let held = subst (λ es. IsSome (entry_at n es)) (sym c.self.view_is) c.requires in
     ap (λ e. entries_from 0 (set xs n (Some e))) c.set_live.ensures
-    ∙ (set-there n (set_live c.args.live) c.in-Some.slot xs held (subst (λ x. x ≡ get_or xs n x) c.in-Some.is c.index_mut.ensures.value) ∙ ap (changed n (set_live c.args.live)) c.self.view_is)
+    ∙ (set-there n (set_live c.args.live) c.in-Some.slot xs held (subst (λ x. x ≡ get_or xs n x) c.in-Some.is c.index_mut.ensures.value)
+    ∙ ap (changed n (set_live c.args.live)) c.self.view_is)

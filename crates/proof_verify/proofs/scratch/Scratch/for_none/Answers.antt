@@ -1,5 +1,6 @@
 use Rattle.std.proofs.Common.{ℕ, ◌<◌, ◌^◌, Bool, true, false, [], refl, arith}
-use Rattle.proof_shape.proofs.Untargeted.{untargeted, covers}
+use Rattle.proof_shape.proofs.Longer.{shape_none}
+use Rattle.proof_shape.proofs.Untargeted.{covers}
 use Rattle.proof_verify.specs.Room.{IsRoom, AreToldPlaces}
 use Rattle.proof_verify.proofs.scratch.Scratch.for_none.Goals as goal
 
@@ -17,7 +18,7 @@ none_new false n = refl
 
 none_reserved : (tells : Bool) (n : ℕ) → n < 2 ^ 40 → IsRoom tells n [] [] [] [] [] []
 none_reserved tells n few = record {
-  targeted = untargeted n few;
+  targeted = record { few = few; counted = omega arith; shape = shape_none n };
   cover = [];
   plan = record {
     cover_is = covers n;

@@ -10,6 +10,16 @@ pub returns-clause-next : goal.returns-clause-next
 returns-clause-next g c =
     let H = g.D.Digester.digest_of in
     let i = c.self.inside in
-    let w : WorldState = record { bridge = i.bridge; sent = i.sent.items; chain = reverse i.chain.items; asks = i.asks.items; replies = i.replies.items; followers = i.followers.items } in
-    subst (λ v. OnOk c.roll_back.result (record w { bridge = c.roll_back.new.bridge; chain = reverse c.roll_back.new.chain.items } ≡ with_event H leaf_text v (Feed.RollbackCame c.args.count))) c.self.view_is
-    (rolled_ok H leaf_text w c.roll_back.result c.args.count c.roll_back.new.bridge (reverse c.roll_back.new.chain.items) c.roll_back.ensures.bridge c.roll_back.ensures.chain)
+    let w : WorldState = record {
+      bridge = i.bridge;
+      sent = i.sent.items;
+      chain = reverse i.chain.items;
+      asks = i.asks.items;
+      replies =
+          i.replies.items;
+      followers = i.followers.items;
+    } in
+    subst (λ v. OnOk c.roll_back.result (record w { bridge = c.roll_back.new.bridge; chain = reverse c.roll_back.new.chain.items }
+    ≡ with_event H leaf_text v (Feed.RollbackCame c.args.count))) c.self.view_is
+    (rolled_ok H leaf_text w c.roll_back.result c.args.count c.roll_back.new.bridge (reverse c.roll_back.new.chain.items) c.roll_back.ensures.bridge
+    c.roll_back.ensures.chain)

@@ -7,7 +7,8 @@ use Rattle.relay_core.proofs.Stepping.{on_ok, stands_on, branches_on, never_agai
 use Rattle.relay_core.proofs.world.World.step.Goals as goal
 
 pub returns-clause-told : goal.returns-clause-told
-returns-clause-told g c = told_on g.D.Digester.digest_of leaf_text c.handle.result c.args.self.now c.handle.new.self (act_of c.args.act) c.handle.ensures.outcome c.handle.ensures.next
+returns-clause-told g c = told_on g.D.Digester.digest_of leaf_text c.handle.result c.args.self.now c.handle.new.self (act_of c.args.act)
+    c.handle.ensures.outcome c.handle.ensures.next
 
 pub returns-clause-stands : goal.returns-clause-stands
 returns-clause-stands g c =
@@ -15,7 +16,8 @@ returns-clause-stands g c =
     let w : WorldState = c.args.self.now in
     let v : WorldState = c.handle.new.self in
     let act = act_of c.args.act in
-    on_ok c.handle.result (v ≡ next_world H leaf_text w act) ((begun : Begun) (acts : List WorldAct) → StandsForActs H leaf_text begun acts w → StandsForActs H leaf_text begun (acts ++ act ∷ []) v) c.handle.ensures.next
+    on_ok c.handle.result (v ≡ next_world H leaf_text w act) ((begun : Begun) (acts : List WorldAct) → StandsForActs H leaf_text begun acts w
+    → StandsForActs H leaf_text begun (acts ++ act ∷ []) v) c.handle.ensures.next
     (λ is. stands_on H leaf_text w v act c.check_bytes.ensures is)
 
 pub returns-clause-branches : goal.returns-clause-branches
@@ -24,8 +26,10 @@ returns-clause-branches g c =
     let w : WorldState = c.args.self.now in
     let v : WorldState = c.handle.new.self in
     let act = act_of c.args.act in
-    on_ok c.handle.result (v ≡ next_world H leaf_text w act) ((begun : Begun) (acts : List WorldAct) → StandsForActs H leaf_text begun acts w → AreOnBranches H leaf_text begun (acts ++ act ∷ []) v) c.handle.ensures.next
+    on_ok c.handle.result (v ≡ next_world H leaf_text w act) ((begun : Begun) (acts : List WorldAct) → StandsForActs H leaf_text begun acts w
+    → AreOnBranches H leaf_text begun (acts ++ act ∷ []) v) c.handle.ensures.next
     (λ is. branches_on H leaf_text g.met.D.Digester.has_32_bytes w v act c.check_bytes.ensures is)
 
 pub returns-clause-accepted : goal.returns-clause-accepted
-returns-clause-accepted g c = λ begun acts stands. never_against g.D.Digester.digest_of leaf_text g.met.D.Digester.has_32_bytes c.args.self.now begun acts stands
+returns-clause-accepted g c = λ begun acts stands. never_against g.D.Digester.digest_of leaf_text g.met.D.Digester.has_32_bytes c.args.self.now begun
+    acts stands

@@ -10,8 +10,10 @@ returns-in_err-line c =
 
 pub invariant_of-self : goal.invariant_of-self
 invariant_of-self c =
-    (taken c.self.inside.text.now c.in_ok-line.rest.now c.in_ok-line.line c.self.invariant (sym c.first_line.ensures ∙ ap line_and_rest c.in_ok-line.was)).1
+    (taken c.self.inside.text.now c.in_ok-line.rest.now c.in_ok-line.line c.self.invariant
+    (sym c.first_line.ensures ∙ ap line_and_rest c.in_ok-line.was)).1
 
 pub returns : goal.returns
 returns c =
-    sym c.self.view_is ∙ (taken c.self.inside.text.now c.in_ok-line.rest.now c.in_ok-line.line c.self.invariant (sym c.first_line.ensures ∙ ap line_and_rest c.in_ok-line.was)).0
+    sym c.self.view_is ∙ (taken c.self.inside.text.now c.in_ok-line.rest.now c.in_ok-line.line c.self.invariant
+    (sym c.first_line.ensures ∙ ap line_and_rest c.in_ok-line.was)).0

@@ -6,7 +6,28 @@ use Rattle.hex.proofs.HexLemmas.{IsAscii-encode_with}
 use Rattle.report_lines.proofs.hash_text.PlainTextDisplay.fmt.Goals as goal
 
 digits_are_ascii : IsAscii lower_digits
-digits_are_ascii = IsAscii-from_all lower_digits (lit< tt, (lit< tt, (lit< tt, (lit< tt, (lit< tt, (lit< tt, (lit< tt, (lit< tt, (lit< tt, (lit< tt, (lit< tt, (lit< tt, (lit< tt, (lit< tt, (lit< tt, (lit< tt, tt))))))))))))))))
+digits_are_ascii = IsAscii-from_all lower_digits (
+  lit< tt,
+  (
+    lit< tt,
+    (
+      lit< tt,
+      (
+        lit< tt,
+        (
+          lit< tt,
+          (
+            lit< tt,
+            (
+              lit< tt,
+              (lit< tt, (lit< tt, (lit< tt, (lit< tt, (lit< tt, (lit< tt, (lit< tt, (lit< tt, (lit< tt, tt))))))))),
+            ),
+          ),
+        ),
+      ),
+    ),
+  ),
+)
 
 pub ascii_text-requires : goal.ascii_text-requires
 ascii_text-requires g c = subst IsAscii (sym c.plain_digits-digits.ensures) (IsAscii-encode_with lower_digits _ digits_are_ascii)

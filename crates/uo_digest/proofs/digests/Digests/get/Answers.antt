@@ -14,4 +14,5 @@ slice_bounds-from_bytes-end c = let within = digest_within _ c.self.invariant _ 
 pub returns : goal.returns
 returns c =
     let size : 32 * c.args.i + 32 - 32 * c.args.i ≡ 32 = omega arith in
-    digest_index _ c.self.invariant _ _ c.self.view_is c.requires _ (c.from_bytes.ensures ∙ ap (λ n. take n (drop (32 * c.args.i) c.self.inside.bytes.now)) size)
+    digest_index _ c.self.invariant _ _ c.self.view_is c.requires _
+    (c.from_bytes.ensures ∙ ap (λ n. take n (drop (32 * c.args.i) c.self.inside.bytes.now)) size)
