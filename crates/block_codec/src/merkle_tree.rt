@@ -1,13 +1,14 @@
 //! The merkle tree over the ids of a block's transactions.
-ghost use Rattle.std.specs.Prelude.{◌≡◌, ◌*◌, ◌<◌, ◌^◌, [], length, drop, IfOk, IfSome, IfNone};
+ghost use Rattle.std.specs.Prelude.{◌≡◌, ◌+◌, ◌*◌, ◌≤◌, ◌<◌, ◌^◌, ◌++◌, List, [], length, drop, IfOk, IfSome, IfNone};
+ghost use Rattle.uo_digest.specs.declared.digest.Digest.{Digest as Digested};
 ghost use Rattle.block_codec.specs.Block.{txids_of};
 ghost use Rattle.block_codec.specs.Merkle.{hash_over, paired, repeats_from, merkle_of, IsMerkle};
-ghost use Rattle.block_codec.specs.Pairs.{HasFirst, IsAbove, TellsRepeat};
+ghost use Rattle.block_codec.specs.Pairs.{hashes_over, HasFirst, IsAbove, IsLifted, TellsRepeat};
 
 use crate::block_view::BlockView;
 use std::alloc::Global;
 use uo_base::NoMemory;
-use uo_digest::{Digest, Sha256dStream};
+use uo_digest::{Digest, Sha256dStream, sha256d_pairs};
 
 /// What the tree over a list of ids comes to.
 #[derive(Clone, Copy, Debug, PartialEq, Eq)]
@@ -42,13 +43,45 @@ fn hash_above(level: &[Digest], pair: usize) -> Digest
     }
 }
 
-/// Puts the level above in the place of a level, whatever is repeated.
+/// Eight pairs of a level, from a place on.
+fn pairs_from(level: &[Digest], place: usize) -> [(Digest, Digest); 8]
+    requires { place + 16 ≤ length level.now }
+    ensures { paired (drop place level.now) ≡ hashes_over result ++ paired (drop (place + 16) level.now) }
+{
+    [
+        (level[place], level[place + 1]),
+        (level[place + 2], level[place + 3]),
+        (level[place + 4], level[place + 5]),
+        (level[place + 6], level[place + 7]),
+        (level[place + 8], level[place + 9]),
+        (level[place + 10], level[place + 11]),
+        (level[place + 12], level[place + 13]),
+        (level[place + 14], level[place + 15]),
+    ]
+}
+
+/// Puts the hashes over eight pairs, from one on, in the places of that many at the front of a level.
+fn lift_eight(hashes: &mut [Digest], pair: usize)
+    requires { 2 * pair + 16 ≤ length hashes.old }
+    ensures { (start : List Digested) → IsLifted start hashes.old pair → IsLifted start hashes.new (pair + 8) }
+{
+    let pairs = pairs_from(hashes, 2 * pair);
+    let mut above = [pairs[0].0; 8];
+    sha256d_pairs(&pairs, &mut above);
+    hashes[pair..pair + 8].copy_from_slice(&above);
+}
+
+/// Puts the level above in the place of a level, whatever is repeated: eight hashes at a time, and the rest alone.
 pub(crate) fn lift(hashes: &mut Vec<Digest>)
     requires { length hashes.old.items < 2 ^ 32 }
     ensures { hashes.new.items ≡ paired hashes.old.items }
 {
     let count = hashes.len().div_ceil(2);
-    for pair in 0..count {
+    let eights = hashes.len() / 16;
+    'eights: for eight in 0..eights {
+        lift_eight(hashes, 8 * eight);
+    }
+    'rest: for pair in 8 * eights..count {
         hashes[pair] = hash_above(hashes, pair);
     }
     hashes.truncate(count);

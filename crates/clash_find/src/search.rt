@@ -20,7 +20,7 @@ use forest_place::Place;
 use leaf_record::Record;
 use node_rules::{full_hashes, targets_of};
 use output_index::Outputs;
-use proof_shape::Targets;
+use proof_shape::{Survey, Targets};
 use proof_verify::evaluate_covered;
 use proof_wire::MessageView;
 use std::alloc::Global;
@@ -29,6 +29,29 @@ use uo_base::NoMemory;
 use uo_digest::{Digest, Digester, Steps};
 
 // Evaluates the proof, and compares the texts at the covered places where the forest's roots are those that it comes to.
+fn search_over<D: Digester, L: Ledger>(
+    alloc: Global,
+    forest: &Forest<D>,
+    outputs: &Outputs,
+    targets: &Survey,
+    leaves: &[Record],
+    hashes: &[Digest],
+    steps: &mut Steps<L>,
+) -> Result<Option<Clash>, NoMemory>
+    requires entries { targets.now.leaves ≡ length forest.now.entries }
+    requires leaves { length leaves.now ≡ length targets.now.targets }
+    requires hashes { length hashes.now ≡ length (need targets.now.leaves targets.now.targets) }
+    ensures { IfOk result (λ clash. IsSearched D.digest_of forest.now.entries outputs.now targets.now.targets leaves.now hashes.now clash) }
+{
+    let digests = digests_of::<D, L>(alloc, leaves, steps)?;
+    let items = evaluate_covered::<D, L>(alloc, targets, &digests, hashes, steps)?;
+    if !roots_agree(forest, &items) {
+        return Ok(None);
+    }
+    first_clash(alloc, forest, outputs, leaves, &items)
+}
+
+// The same of targets that are named.
 fn search<D: Digester, L: Ledger>(
     alloc: Global,
     forest: &Forest<D>,
@@ -43,12 +66,15 @@ fn search<D: Digester, L: Ledger>(
     requires hashes { length hashes.now ≡ length (need targets.now.leaves targets.now.targets) }
     ensures { IfOk result (λ clash. IsSearched D.digest_of forest.now.entries outputs.now targets.now.targets leaves.now hashes.now clash) }
 {
-    let digests = digests_of::<D, L>(alloc, leaves, steps)?;
-    let items = evaluate_covered::<D, L>(alloc, targets.survey(), &digests, hashes, steps)?;
-    if !roots_agree(forest, &items) {
-        return Ok(None);
-    }
-    first_clash(alloc, forest, outputs, leaves, &items)
+    search_over(
+        alloc,
+        forest,
+        outputs,
+        targets.survey(),
+        leaves,
+        hashes,
+        steps,
+    )
 }
 
 /// Two different texts with one digest, where the roots of the forest accept a proof of these targets, with this leaf for each

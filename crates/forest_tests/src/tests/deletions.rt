@@ -7,7 +7,7 @@ mod steps;
 use crate::digest;
 use forest_place::Place;
 use forest_roots::Roots;
-use proof_shape::Targets;
+use proof_shape::{Survey, Targets};
 use proof_verify::{CoveredPlace, Made, ProofFault, Scratch, check_and_delete, evaluate_covered};
 use std::alloc::Global;
 use std::marker::Brand;
@@ -157,12 +157,12 @@ fn is_covered(item: &CoveredPlace, row: u8, made: Made, byte: u8) -> bool {
 
 // The second of four leaves, and what its proof comes to at each place above it.
 fn covers_of_four<L: Ledger>(rt: &impl Abort, alloc: Global, steps: &mut Steps<L>) {
-    let Ok(targets) = Targets::new(alloc, 4, &[1]) else {
+    let Ok(Some(targets)) = Survey::of(alloc, 4, &[1]) else {
         panic!(rt; "no targets")
     };
-    assert!(rt; targets.len() == 1 && targets.needed().len() == 2);
+    assert!(rt; targets.places().len() == 1 && targets.needed().len() == 2);
     let hashes = [digest(1), digest(12)];
-    let Ok(items) = evaluate_covered::<XorFold, L>(alloc, targets.survey(), &[digest(2)], &hashes, steps)
+    let Ok(items) = evaluate_covered::<XorFold, L>(alloc, &targets, &[digest(2)], &hashes, steps)
     else {
         panic!(rt; "no memory")
     };

@@ -3,7 +3,7 @@ ghost use Rattle.std.specs.Prelude.{◌^◌, ◌<◌};
 ghost use Rattle.forest_place.specs.Forest.{InForest};
 
 use forest_place::{Place, place_of, sibling};
-use proof_shape::{ShapeFault, Targets};
+use proof_shape::{ShapeFault, Survey, Targets};
 use std::alloc::Global;
 use std::process::Abort;
 use std::test::Fail;
@@ -30,6 +30,8 @@ fn judges_positions(rt: HostRuntime) {
     for (n, positions, want) in &LISTS {
         assert!(rt; *n < 1 << 40 && positions.len() < 1 << 32);
         assert!(rt; Targets::new(rt.alloc(), *n, positions).err() == *want);
+        let survey = Survey::of(rt.alloc(), *n, positions);
+        assert!(rt; matches!(survey, Ok(Some(_))) == want.is_none());
     }
 }
 

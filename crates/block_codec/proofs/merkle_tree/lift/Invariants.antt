@@ -1,5 +1,9 @@
-use Rattle.block_codec.proofs.PairLaws.{Lifted}
+use Rattle.std.proofs.Common.{◌*◌}
+use Rattle.block_codec.specs.Pairs.{IsLifted}
 use Rattle.block_codec.proofs.merkle_tree.lift.Given as goal
 
-abbrev pub invariant-loop-pair : goal.invariant-loop-pair
-invariant-loop-pair l = Lifted l.fn.hashes.items l.hashes.items l.pair
+abbrev pub invariant-eights : goal.invariant-eights
+invariant-eights l = IsLifted l.fn.hashes.items l.hashes.items (8 * l.eight)
+
+abbrev pub invariant-rest : goal.invariant-rest
+invariant-rest l = IsLifted l.fn.hashes.items l.hashes.items l.pair
