@@ -12,7 +12,7 @@ eights-preserved c =
     let before = subst (λ now. IsLifted c.args.hashes.now.items now (8 * c.eights.eight)) (sym c.deref_mut.ensures.value) c.eights.invariant in
     let lifted = c.lift_eight.ensures _ before in
     let whole = lent_whole c.lift_eight.new.hashes c.eights.hashes.items c.eights.hashes.len (lifted.len ∙ sym c.eights.invariant.len)
-        c.eights.hashes.ok.0 in
+    c.eights.hashes.ok.0 in
     rw (← next) (subst (λ now. IsLifted c.args.hashes.now.items now (8 * c.eights.eight + 8)) (sym whole) lifted)
 
 pub rest-preserved : goal.rest-preserved
