@@ -53,9 +53,11 @@ def write_feed(path, outputs):
 def run(words, wanted):
     """Seconds of processor time."""
     with open(os.devnull, "wb") as nothing:
-        _, status, usage = os.wait4(subprocess.Popen(words, stdin=subprocess.DEVNULL, stdout=nothing).pid, 0)
-    if os.waitstatus_to_exitcode(status) != wanted:
-        sys.exit(f"status {os.waitstatus_to_exitcode(status)} of {words}")
+        child = subprocess.Popen(words, stdin=subprocess.DEVNULL, stdout=nothing)
+        _, status, usage = os.wait4(child.pid, 0)
+    child.returncode = os.waitstatus_to_exitcode(status)
+    if child.returncode != wanted:
+        sys.exit(f"status {child.returncode} of {words}")
     return usage.ru_utime + usage.ru_stime
 
 
