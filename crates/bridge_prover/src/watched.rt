@@ -122,7 +122,8 @@ fn targets_at(alloc: Global, n: u64, positions: &[u64]) -> Result<Survey, NoMemo
     requires there { HasTargetsBy FixedPosition n positions.now }
     ensures { IfOk result (λ t. (t.leaves ≡ n) × (map (place_by FixedPosition n) positions.now ≡ map Some t.targets)) }
 {
-    match Survey::named(alloc, Naming::FixedPosition, n, positions)? {
+    let found = Survey::named(alloc, Naming::FixedPosition, n, positions)?;
+    match found {
         Some(targets) => Ok(targets),
         None => unreachable!(),
     }

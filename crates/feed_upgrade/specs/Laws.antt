@@ -6,7 +6,7 @@ use Rattle.uo_digest.specs.declared.digest.Digest.{Digest}
 use Rattle.leaf_record.specs.Leaf.{Leaf}
 use Rattle.feed_frame.specs.Events.{events_of}
 use Rattle.feed_frame.specs.FeedText.{feed_text, HasEvents}
-use Rattle.node_rules.specs.Machine.{ChainEvent, event_in}
+use Rattle.node_rules.specs.Machine.{event_in}
 use Rattle.node_rules.specs.Machine as Chain
 use Rattle.node_rules.specs.Reading.{message_in}
 use Rattle.block_codec.specs.Block.{Block}

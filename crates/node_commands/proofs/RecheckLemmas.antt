@@ -1,9 +1,9 @@
 -- What `recheck` answers: at the first forged event what an auditor shows, and else what it says of the ticket.
 use Rattle.std.proofs.Common.{◌≡◌, ◌⊎◌, inl, inr, ℕ, suc, ◌+◌, ◌<◌, ◌≤◌, ◌^◌, Bool, true, false, cond, List, [], ◌∷◌, ◌++◌, length, map, Option, Some}
 use Rattle.std.proofs.Common.{None, Result, Ok, Err, IfOk, OnOk, IsErrOf, is_err, refl, sym, ap, ap₂, ◌∙◌, subst, arith, append-nil}
-use Rattle.std.specs.Prelude.{not, is_none, nat_lt, if◌then◌else◌}
+use Rattle.std.specs.Prelude.{not, is_none, if◌then◌else◌}
 use Rattle.std.specs.List.{AllByRecursion}
-use Rattle.std.proofs.lemmas.Bool.{false≢true, lt-ltb, le-ltb}
+use Rattle.std.proofs.lemmas.Bool.{lt-ltb, le-ltb}
 use Rattle.std.proofs.lemmas.List.{length-map, map-append}
 use Rattle.uo_base.specs.declared.event.Limits.{Limits}
 use Rattle.uo_base.specs.declared.event.Net.{Net}
@@ -33,11 +33,10 @@ use Rattle.feed_run.specs.declared.status.Status.TheVariants as Statuses
 use Rattle.node_rules.specs.Fitting.{EventFits}
 use Rattle.node_rules.specs.Reading.{read}
 use Rattle.node_rules.specs.Judging.{Rules}
-use Rattle.node_rules.specs.Machine.{ChainEvent, BlockCame, State, start, chain_of, full_judge, event_in, never_stops, verdict_before}
+use Rattle.node_rules.specs.Machine.{ChainEvent, BlockCame, State, start, full_judge, event_in, never_stops, verdict_before}
 use Rattle.node_rules.proofs.Fitting.{read_event_fits}
 use Rattle.compact_node.specs.Throughout.{full_verdicts, full_after}
 use Rattle.bridge_prover.specs.Bridge.{BridgeState}
-use Rattle.bridge_prover.specs.Standing.{Stands}
 use Rattle.bridge_prover.specs.Full.{history_of, judged_on}
 use Rattle.bridge_prover.specs.Watched.{scripts_of}
 use Rattle.bridge_prover.proofs.Historied.{is_history, newest_history}
@@ -49,16 +48,13 @@ use Rattle.audit_replay.specs.Laws.{verdicts_on, ends_at, audit_after, shown_or,
 use Rattle.audit_replay.proofs.Auditing.{next_is_audit, fresh_is_audit}
 use Rattle.audit_replay.proofs.Showing.{fresh_shows_forged}
 use Rattle.audit_replay.proofs.Throughout.{fresh_is_full}
-use Rattle.ticket_check.specs.Tickets.{Ticket}
-use Rattle.ticket_check.specs.Reading.{ticket_in}
-use Rattle.ticket_check.specs.declared.fault.TicketFault.{TicketFault}
 use Rattle.ticket_check.specs.declared.checked.Checked.{Checked}
 use Rattle.ticket_check.specs.declared.checked.Checked.TheVariants as Said
 use Rattle.ticket_check.specs.Checking.{said_of, rechecked_by, recheck_of, IsRechecked}
 use Rattle.ticket_check.proofs.CheckLaws.{rechecked_is_right}
 use Rattle.ticket_check.proofs.TicketLaws.{ticket_fits}
 use Rattle.node_commands.specs.declared.bad_input.BadInput.{BadInput}
-use Rattle.node_commands.specs.Answers.{bad_end, last_of, answer_with, served, served_feed}
+use Rattle.node_commands.specs.Answers.{bad_end, last_of, answer_with, served_feed}
 use Rattle.node_commands.specs.Auditor.{clash_text, end_unless}
 use Rattle.node_commands.specs.Follow.{rules_of}
 use Rattle.node_commands.specs.Forging.{level_behind, AreTrueTo, IsForgedBehind}

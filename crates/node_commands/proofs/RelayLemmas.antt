@@ -3,7 +3,7 @@ use Rattle.std.proofs.Common.{◌≡◌, ℕ, zero, suc, ◌+◌, ◌<◌, ◌�
 use Rattle.std.proofs.Common.{Result, Ok, Err, IfOk, OnOk, IsErr, IsErrOf, IsErrAnd, is_err, inr, refl, sym, ap, ap₂, subst, ◌∙◌, arith, append_assoc}
 use Rattle.std.proofs.Common.{append-nil}
 use Rattle.std.specs.Prelude.{is_none, option_map, drop, slice_get, IfSome}
-use Rattle.std.specs.List.{AllByRecursion, flat_map, list_any}
+use Rattle.std.specs.List.{AllByRecursion, list_any}
 use Rattle.std.specs.Io.KnownBytes.{Appends}
 use Rattle.std.proofs.KnownBytes.{Appends-nil}
 use Rattle.std.proofs.lemmas.Bool.{lt-ltb, le-ltb}
@@ -40,7 +40,7 @@ use Rattle.relay_script.specs.Reading.{IsTaken, script_in}
 use Rattle.report_lines.specs.declared.line.Line as Lines
 use Rattle.report_lines.specs.declared.line.Line.TheVariants as Line
 use Rattle.report_lines.specs.Lines.{whole_line}
-use Rattle.node_commands.specs.Answers.{bad_end, last_of, answer_with}
+use Rattle.node_commands.specs.Answers.{bad_end, last_of}
 use Rattle.node_commands.specs.Relayer.{outcome_line, outcome_lines, is_undone, acts_of, script_acts, outcomes_of, world_behind, node_lines}
 use Rattle.node_commands.specs.Relayer.{relay_end, relay_answer, RelayState, fresh_relay, turn_of, behind_bridge, own_act, acted, relayed, next_relay}
 use Rattle.node_commands.specs.Relayer.{turn_lines, relay_last, relay_machine, relayed_feed, IsLineTaken, IsPlayed, node_line}

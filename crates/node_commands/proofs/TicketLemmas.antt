@@ -1,6 +1,6 @@
 -- What `ticket`, `check` and `recheck` give, and what it means.
-use Rattle.std.proofs.Common.{◌≡◌, ◌⊎◌, inl, inr, ℕ, ◌<◌, ◌≤◌, ◌^◌, Bool, true, false, List, [], ◌∷◌, ◌++◌, length, map, Option, Some, None, Result}
-use Rattle.std.proofs.Common.{Ok, Err, IfOk, OnOk, IsErrOf, is_err, refl, sym, ap, subst, ◌∙◌, arith, append-nil, cond}
+use Rattle.std.proofs.Common.{◌≡◌, inl, inr, ℕ, ◌<◌, ◌≤◌, ◌^◌, Bool, true, false, List, [], length, Option, Some, None, Result}
+use Rattle.std.proofs.Common.{Ok, Err, IfOk, OnOk, IsErrOf, is_err, refl, sym, ap, subst, arith}
 use Rattle.std.specs.Prelude.{◌↔◌, IfSome, nat_lt, if◌then◌else◌}
 use Rattle.std.specs.Io.KnownBytes.{Appends}
 use Rattle.std.proofs.KnownBytes.{Appends-nil}
@@ -9,22 +9,20 @@ use Rattle.uo_base.specs.declared.event.Limits.{Limits}
 use Rattle.uo_base.specs.declared.event.Net.{Net}
 use Rattle.uo_base.specs.FeedEvent.{FeedEvent}
 use Rattle.uo_base.specs.Moved.{AppendsPart, LosesFront}
-use Rattle.uo_base.specs.Told.{Tells, IsLonger}
+use Rattle.uo_base.specs.Told.{Tells}
 use Rattle.uo_base.proofs.PortLemmas.{AppendsPart-none, told_text, Tells-told_text}
 use Rattle.uo_digest.specs.declared.digest.Digest.{Digest}
-use Rattle.leaf_record.specs.Leaf.{leaf_text}
 use Rattle.feed_frame.specs.Events.{events_of, settled_of}
 use Rattle.feed_frame.specs.Streamed.{WritesTaken, KeepsUp}
 use Rattle.feed_run.specs.Answer.{Answer}
 use Rattle.feed_run.specs.declared.status.Status.{Status}
 use Rattle.feed_run.specs.declared.status.Status.TheVariants as Statuses
 use Rattle.feed_run.specs.declared.stop.Stop.{Stop}
-use Rattle.node_rules.specs.Machine.{Level, State}
+use Rattle.node_rules.specs.Machine.{Level}
 use Rattle.compact_node.specs.Node.{NodeState}
 use Rattle.report_lines.specs.declared.line.Line.TheVariants.{LimitFeed}
 use Rattle.ticket_check.specs.Tickets.{Ticket}
 use Rattle.ticket_check.specs.Judging.{TicketRight}
-use Rattle.ticket_check.specs.Written.{ticket_of}
 use Rattle.ticket_check.specs.Reading.{ticket_in}
 use Rattle.ticket_check.specs.declared.fault.TicketFault.{TicketFault}
 use Rattle.ticket_check.specs.declared.fault.TicketFault.TheVariants as Fault
@@ -35,14 +33,13 @@ use Rattle.ticket_check.specs.declared.checked.Checked.TheVariants as Said
 use Rattle.ticket_check.specs.Checking.{live_of, said_by, said_of, verdict_over, checked_by, check_of}
 use Rattle.ticket_check.proofs.KeptTickets.{kept_tickets_are_right}
 use Rattle.ticket_check.proofs.CheckLaws.{checked_is_accepted, live_is_right}
-use Rattle.node_commands.specs.declared.bad_input.BadInput.{BadInput}
 use Rattle.node_commands.specs.Answers.{said}
 use Rattle.node_commands.specs.Meaning.{IsEnd}
 use Rattle.node_commands.specs.Checking.{check_answer, ChecksText}
 use Rattle.node_commands.specs.Runs.{Serves, status_in}
 use Rattle.node_commands.specs.Starting.{Start, IsStart}
 use Rattle.node_commands.specs.Ticketing.{ticketed, TicketIsRight}
-use Rattle.node_commands.specs.Tickets.{told_as, reached_by, IsStateAt}
+use Rattle.node_commands.specs.Tickets.{told_as, reached_by}
 use Rattle.node_commands.proofs.ServeLemmas.{failed-so, write-failed}
 use Rattle.node_commands.proofs.StartLemmas.{back_at, no_bad}
 

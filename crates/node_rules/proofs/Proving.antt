@@ -20,7 +20,7 @@ use Rattle.node_rules.specs.Fitting.{AreEventBytes, StateFits}
 use Rattle.node_rules.specs.Messages.{Message}
 use Rattle.node_rules.specs.Reading.{read, message_in, handed_in}
 use Rattle.node_rules.specs.Judging.{Rules, own, refusal, message_of, written}
-use Rattle.node_rules.specs.Machine.{ChainEvent, Level, State, start, chain_of, event_in, own_judge, by_refusal, step, is_made, with_message}
+use Rattle.node_rules.specs.Machine.{ChainEvent, State, start, chain_of, event_in, own_judge, by_refusal, step, is_made, with_message}
 use Rattle.node_rules.specs.Machine.{proof_feed}
 use Rattle.node_rules.specs.Machine as Chain
 use Rattle.node_rules.specs.Proving.{written_text, text_beside, passed_on, proved_events, IsShortMessage, CanBeWritten}

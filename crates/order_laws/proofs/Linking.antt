@@ -13,7 +13,7 @@ use Rattle.block_rules.specs.declared.refusal.Refusal.TheVariants as Why
 use Rattle.block_rules.specs.Blocks.{external, new_records}
 use Rattle.node_rules.specs.Judging.{Rules, refusal, compact, own}
 use Rattle.node_rules.specs.Machine as Chain
-use Rattle.node_rules.specs.Machine.{State, chain_of, event_in, own_judge, step, by_evidence, by_refusal, verdicts, verdict_by, verdict_before}
+use Rattle.node_rules.specs.Machine.{State, chain_of, event_in, own_judge, by_refusal, verdicts, verdict_by, verdict_before}
 use Rattle.node_rules.specs.Reading.{nothing}
 use Rattle.compact_node.specs.Node.{NodeState, refusal_on, node_with, node_by, view_over}
 use Rattle.compact_node.specs.Throughout.{verdicts_on}

@@ -1,4 +1,4 @@
-use Rattle.std.proofs.Common.{inl, inr, subst}
+use Rattle.std.proofs.Common.{subst}
 use Rattle.uo_base.proofs.PortLemmas.{told_text, Tells-told_text}
 use Rattle.node_commands.specs.Starting.{IsStartOf}
 use Rattle.node_commands.specs.Checking.{checking}

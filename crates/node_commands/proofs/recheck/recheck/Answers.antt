@@ -1,5 +1,4 @@
 use Rattle.std.proofs.Common.{Ok, Err, inl, subst, ◌∙◌, ap₂}
-use Rattle.bridge_prover.specs.Watched.{scripts_of}
 use Rattle.uo_base.proofs.PortLemmas.{told_text, Tells-told_text}
 use Rattle.node_commands.specs.Rechecking.{Rechecked, IsTicketText, fresh_rechecker, rechecker_of, rechecking}
 use Rattle.node_commands.specs.Watching.{IsListOf}

@@ -1,4 +1,4 @@
-use Rattle.std.proofs.Common.{Ok, Err, inl, sym, ap, ap₂, subst, ◌∙◌}
+use Rattle.std.proofs.Common.{Ok, Err, inl, ap, ap₂, subst, ◌∙◌}
 use Rattle.uo_base.proofs.PortLemmas.{told_text, Tells-told_text}
 use Rattle.bridge_prover.specs.Watched.{scripts_of}
 use Rattle.feed_run.specs.declared.status.Status.TheVariants.{Prior}

@@ -1,8 +1,7 @@
-use Rattle.std.proofs.Common.{◌++◌, sym, ap, ◌∙◌}
+use Rattle.std.proofs.Common.{sym, ap, ◌∙◌}
 use Rattle.std.specs.Prelude.{option_map}
 use Rattle.uo_base.specs.FeedEvent.{event_of}
 use Rattle.relay_core.specs.Acts.{act_of}
-use Rattle.node_commands.specs.Relayer.{next_relay, turn_lines}
 use Rattle.node_commands.proofs.RelayLemmas.{ok-then, turning-own, turning-bridge, turning-none}
 use Rattle.node_commands.proofs.relayer.Relayer.play_turn.Goals as goal
 
