@@ -319,4 +319,5 @@ def main():
             print(f"{what}{'' if isinstance(value, str) else f' ({len(value)} bytes)'}\n  {spelled(value)}")
 
 
-main()
+if __name__ == "__main__":
+    main()

@@ -1,17 +1,17 @@
-//! Tests of the commands: the one call `run` over ports in memory.
+//! Tests of the commands: what of the one call `run` the built program can not be asked, over ports in memory.
 //!
 //! They stand in a crate of their own, so that neither the commands nor the program is proved a second time for them.
 #![tactic(auto)]
 
-ghost use Rattle.std.specs.Prelude.{◌≡◌, ◌+◌, ◌<◌, ◌^◌};
+ghost use Rattle.std.specs.Prelude.{◌≡◌, ◌<◌, if◌then◌else◌, ◌==◌};
 
 #[cfg(test)]
 mod tests;
 
-/// Where the next frame of a feed begins, behind the one at this place whose body has so many bytes.
-pub fn next_frame(at: usize, length: u32) -> usize
-    requires { at < 2 ^ 32 }
-    ensures { result ≡ at + 8 + length }
+/// As many bytes as a port moves in one call: so many, and one where that is none.
+pub fn piece_of(size: usize) -> usize
+    ensures exact { result ≡ (if size == 0 then 1 else size) }
+    ensures some { 0 < result }
 {
-    at + 8 + length as usize
+    if size == 0 { 1 } else { size }
 }

@@ -1,8 +1,7 @@
-//! Blocks behind any other, of outputs that anyone can spend, and what a node says of one.
+//! Blocks behind any other, of outputs that anyone can spend.
 ghost use Rattle.std.specs.Prelude.{IfOk};
 ghost use Rattle.tx_codec.specs.Transaction.{IsWritable};
 
-use block_rules::{Refusal, Verdict};
 use block_samples::{Sample, SampleFault, block_behind, coinbase, legacy_tx};
 use std::alloc::Global;
 use tx_codec::{InView, OutView, Tx};
@@ -56,31 +55,4 @@ pub fn block_paying(
         txs.push(tx_of(alloc, sketch)?)?;
     }
     block_behind(alloc, prev, &txs)
-}
-
-/// What a block comes to.
-#[derive(Clone, Copy)]
-pub enum End {
-    /// It is accepted, and so many entries were ever added behind it.
-    Accepted(u64),
-    /// It is refused.
-    Refused(Refusal),
-}
-
-impl End {
-    /// The verdict on the block of this height and hash.
-    pub fn verdict(self, height: u32, hash: Digest) -> Verdict {
-        match self {
-            End::Accepted(leaves) => Verdict::Accepted {
-                height,
-                hash,
-                leaves,
-            },
-            End::Refused(why) => Verdict::Refused {
-                height,
-                hash: Some(hash),
-                why,
-            },
-        }
-    }
 }

@@ -1,10 +1,9 @@
 //! What a node stores, spelled by hand.
 ghost use Rattle.std.specs.Prelude.{◌≡◌, ◌<◌};
 
-use super::follow;
-use crate::End;
-use block_samples::{GENESIS, GENESIS_HASH};
-use compact_node::Node;
+use super::{Compact, follow};
+use block_rules::Verdict;
+use block_samples::GENESIS;
 use leaf_cache::Watch;
 use std::alloc::Global;
 use std::marker::Brand;
@@ -12,7 +11,7 @@ use std::process::Abort;
 use std::sync::ledger::{Blank, Ledger};
 use std::test::Fail;
 use uo_base::{Limits, MemSink, Net, SinkFault};
-use uo_digest::{Digest, Sha512t256, Steps};
+use uo_digest::Steps;
 
 /// `UTXS`, version 2, the main network, no block, no script, and one level of 42 zero bytes.
 const START: [u8; 54] = [
@@ -48,26 +47,41 @@ const ROWS: [Row; 4] = [
     Row(true, &[4], Err(SinkFault::Failed), 54, &FIRST),
 ];
 
+/// What is read of the text is a node on the same chain, with the same roots, which keeps as many levels.
+fn check_read<L: Ledger>(
+    rt: &impl Abort,
+    alloc: Global,
+    node: &Compact,
+    text: &[u8],
+    steps: &mut Steps<L>,
+) -> Result<(), Fail> {
+    let limits = Limits::standard();
+    match Compact::read_state(alloc, text, limits, steps) {
+        Ok(read) => {
+            assert!(rt; read.chain() == node.chain() && read.net() == node.net());
+            assert!(rt; read.kept_levels() == node.kept_levels());
+            assert!(rt; read.roots().leaves() == node.roots().leaves());
+            Ok(())
+        }
+        Err(_) => Err("a state".into()),
+    }
+}
+
 fn check_row<L: Ledger>(rt: &impl Abort, alloc: Global, row: &Row, blank: Blank) -> Result<(), Fail>
     requires name { blank.name ≡ L.name }
     requires parts { blank.parts ≡ L.parts }
     requires some { 0 < blank.parts }
 {
     let mut steps = Steps::<L>::new(blank);
-    let mut node = Node::<Sha512t256>::new(
-        alloc,
-        Net::Main,
-        Limits::standard(),
-        Watch::empty(alloc),
-    )?;
+    let mut node = Compact::new(alloc, Net::Main, Limits::standard(), Watch::empty(alloc))?;
     if row.0 {
         let verdict = follow(&mut node, &GENESIS, None, &mut steps)?;
-        assert_eq!(rt; verdict, End::Accepted(0).verdict(0, Digest(GENESIS_HASH)));
+        assert!(rt; matches!(verdict, Verdict::Accepted { .. }));
     }
     let mut sink = MemSink::new(alloc, 16, Vec::from_slice(alloc, row.1)?);
-    assert_eq!(rt; node.write_state(&mut sink), row.2);
+    assert!(rt; node.write_state(&mut sink) == row.2);
     assert!(rt; Some(sink.held()) == row.4.get(..row.3));
-    Ok(())
+    check_read(rt, alloc, &node, row.4, &mut steps)
 }
 
 /// A node with no block, one with the first block, and a sink that fails in mid-stream, within the newest level and before the

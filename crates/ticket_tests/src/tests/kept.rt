@@ -72,10 +72,10 @@ fn written(alloc: Global, node: &Compact, number: u64) -> Result<Option<Vec<u8>>
     }
 }
 
-/// Whether the text is the ticket of an output of this transaction.
-fn names(text: &[u8], txid: Digest) -> bool {
+/// Whether a ticket names this transaction.
+fn has_id(text: &[u8], txid: &Digest) -> bool {
     let id = txid.0;
-    text.get(45..77) == Some(&id[..])
+    text.get(45..77) == Some(id.as_slice())
 }
 
 /// What is said of a ticket: whether it is live.
@@ -91,7 +91,7 @@ fn is_live<L: Ledger>(
             txid,
             index: 0,
             amount: 5_000_000_000,
-        } if names(text, txid) => Ok(true),
+        } if has_id(text, &txid) => Ok(true),
         _ => Err("another answer".into()),
     }
 }

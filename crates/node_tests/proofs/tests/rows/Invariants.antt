@@ -1,4 +1,0 @@
-use Rattle.node_tests.proofs.tests.rows.Given as goal
-
-abbrev pub ghosts-check_row : goal.ghosts-check_row
-ghosts-check_row g a = record { name = a.blank.name; parts = a.blank.parts }
