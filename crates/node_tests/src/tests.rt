@@ -76,10 +76,8 @@ fn pass<L: Ledger>(
     if block.len() > 4_000_000 {
         return Err("a short block".into());
     }
-    let event = Event::Block {
-        block,
-        message: None,
-    };
+    let message = None;
+    let event = Event::Block { block, message };
     let full = court.bridge.step(event, steps)?;
     let lean = court.lean.step(event, steps)?;
     assert!(rt; full.verdict == lean.verdict);
