@@ -10,7 +10,7 @@ use std::sync::ledger::{Blank, Ledger};
 use std::test::Fail;
 use ticket_check::{Checked, check_ticket, write_ticket};
 use uo_base::{Event, Limits, Net};
-use uo_digest::{Sha512t256, Steps};
+use uo_digest::{Digest, Sha512t256, Steps};
 
 type Compact = Node<Sha512t256>;
 
@@ -72,6 +72,12 @@ fn written(alloc: Global, node: &Compact, number: u64) -> Result<Option<Vec<u8>>
     }
 }
 
+/// Whether a ticket names this transaction.
+fn has_id(text: &[u8], txid: &Digest) -> bool {
+    let id = txid.0;
+    text.get(45..77) == Some(id.as_slice())
+}
+
 /// What is said of a ticket: whether it is live.
 fn is_live<L: Ledger>(
     alloc: Global,
@@ -85,7 +91,7 @@ fn is_live<L: Ledger>(
             txid,
             index: 0,
             amount: 5_000_000_000,
-        } if text.get(45..77) == Some(&txid.0[..]) => Ok(true),
+        } if has_id(text, &txid) => Ok(true),
         _ => Err("another answer".into()),
     }
 }
