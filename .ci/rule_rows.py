@@ -5,6 +5,7 @@ wanted was worked out by hand.
 """
 import struct
 
+from follower import NotSo, read_block
 from told_chain import FULL, MAGIC, SUBSIDY, Chain, Coin, block, hash_of, message, printed, proof
 from worked_bytes import compact, frame, merkle_root, sha256d
 
@@ -407,6 +408,30 @@ def ask_no_blocks(room, genesis):
     first_refused(room, "texts that are no block", texts, *["block"] * len(texts))
 
 
+def ask_changed(room, genesis):
+    """A transaction with stacks of which each byte takes each value in turn: the follower in Python says which texts are a block. Where one is, the
+    merkle root is another one, or that of the header, and then the transaction is no coinbase."""
+    inputs = b"".join(bytes([7]) * 32 + struct.pack("<I", index) + b"\1\x51" + b"\xff\xff\xff\xfe" for index in range(2))
+    plain = b"\2\0\0\0\2" + inputs + b"\1" + struct.pack("<Q", 1) + b"\1\x51" + struct.pack("<I", 17)
+    whole = plain[:4] + b"\0\1" + plain[4:-4] + b"\0\2\0\2\xab\xab" + plain[-4:]
+    header = genesis[8:44] + sha256d(plain) + genesis[76:88] + b"\1"
+    bodies, reasons = [], []
+    for at in range(len(whole)):
+        for byte in range(256):
+            bodies.append(header + whole[:at] + bytes([byte]) + whole[at + 1 :])
+            reasons.append(reason_of(bodies[-1]))
+    assert set(reasons) == {"block", "merkle root", "coinbase 0"}
+    first_refused(room, "each byte of a transaction changed", bodies, *reasons)
+
+
+def reason_of(body):
+    try:
+        header, transactions = read_block(body)
+    except NotSo:
+        return "block"
+    return "coinbase 0" if merkle_root([one.txid for one in transactions]) == header[36:68] else "merkle root"
+
+
 # ---- messages
 
 
@@ -414,7 +439,8 @@ SHORT = [
     # bytes, and what is said where nothing is spent and where one output is
     ("", "message form", "message form"), ("09", "message version 9", "message version 9"), ("03000000", "message version 3", "message version 3"),
     ("01020000", "message form", "message form"), ("01010000", None, "spends 0 1"), ("01000000", None, "spends 0 1"),
-    ("02", "message form", "message form"), ("02020000", "message form", "message form"), ("02010000", None, "spends 0 1"), ("02000000", None, "spends 0 1"),
+    ("02", "message form", "message form"), ("02020000", "message form", "message form"), ("02010000", None, "spends 0 1"),
+    ("02000000", None, "spends 0 1"),
 ]
 # A version, the entries, the numbers of a message, and what is wrong with them. Beside the first of 64 six hashes are needed, beside the last of four
 # two. Row 2 begins there by fixed position.
@@ -462,4 +488,5 @@ def ask_rules(room, must, genesis):
     ask_witnesses(room)
     ask_sizes(room, genesis)
     ask_no_blocks(room, genesis)
+    ask_changed(room, genesis)
     ask_messages(room)
