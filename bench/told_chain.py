@@ -140,10 +140,11 @@ class Chain:
         """A block behind which there are so many entries. It spends entries by number, and makes outputs: transaction, index, amount, script."""
         height, hash_ = len(self.hashes), self.put(txs)
         self.past.append((self.coins[:], self.leaves[:]))
+        ids = {tx: sha256d(tx) for tx in txs}
         for number in spent:
             self.leaves[number] = None
         for tx, index, amount, script in made if height else []:
-            coin = Coin(sha256d(tx), index, hash_, 2 * height + (tx == txs[0]), amount, script)
+            coin = Coin(ids[tx], index, hash_, 2 * height + (tx == txs[0]), amount, script)
             self.coins.append(coin)
             self.leaves.append(coin.leaf())
         self.hashes.append(hash_)

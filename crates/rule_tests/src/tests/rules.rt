@@ -1,10 +1,7 @@
-//! Blocks that each rule refuses, and their neighbours that pass.
-mod build;
-mod money;
-mod shape;
-mod witness;
-
-use block_rules::{RuleFault, internal_is_latest, new_is_paid, new_is_unspent, subsidy};
+//! What is issued at a height, and what is said where there is no memory.
+use block_rules::{
+    RuleFault, internal_is_latest, new_is_paid, new_is_unspent, subsidy, witness_height,
+};
 use std::alloc::AllocError;
 use std::test::Fail;
 use uo_base::Net;
@@ -30,6 +27,7 @@ fn subsidies(rt: HostRuntime) {
     for (net, height, issued) in ISSUED {
         assert!(rt; subsidy(height, net) == issued);
     }
+    assert!(rt; witness_height(Net::Main) == 481_824 && witness_height(Net::Regtest) == 0);
     internal_is_latest();
     new_is_unspent();
     new_is_paid();

@@ -1,11 +1,9 @@
 //! Transactions that were published, and ones of unusual sizes, in both forms.
 mod built;
-mod plain;
 mod published;
 
 use built::{BUILT, Built, text_of};
 use genesis_block::GENESIS;
-use plain::plain_len;
 use published::{FIRST_COINBASE, Ids, PUBLISHED};
 use std::alloc::Global;
 use std::process::Abort;
@@ -133,41 +131,5 @@ fn parts(rt: HostRuntime) -> Result<(), Fail> {
     check_stacks(&rt, &tx);
     check_items(&rt, tx.items(1));
     one_tx();
-    Ok(())
-}
-
-/// The reader and a plain one agree on what a text begins with.
-fn check_agrees(rt: &impl Abort, text: &[u8]) {
-    assert!(rt; text.len() < 1_000_000);
-    let mut at = Cursor::new(text);
-    let read = read_tx(&mut at).map(|tx| tx.bytes().len());
-    assert!(rt; read == plain_len(text));
-    assert!(rt; at.rest().len() == text.len() - read.unwrap_or(0).min(text.len()));
-}
-
-/// Each byte takes each value in turn.
-fn check_changes(rt: &impl Abort, text: &mut [u8]) {
-    for place in 0..text.len() {
-        let was = text[place];
-        for byte in 0..=255 {
-            text[place] = byte;
-            check_agrees(rt, text);
-        }
-        text[place] = was;
-    }
-}
-
-#[test]
-fn every_byte_changed(rt: HostRuntime) -> Result<(), Fail> {
-    let row = Built {
-        inputs: 2,
-        script: 1,
-        outputs: 1,
-        items: &[0, 2],
-        txid: &[0; 64],
-        wtxid: &[0; 64],
-    };
-    let mut text = text_of(rt.alloc(), &row)?;
-    check_changes(&rt, &mut text);
     Ok(())
 }

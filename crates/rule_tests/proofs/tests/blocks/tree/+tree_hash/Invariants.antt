@@ -1,4 +1,0 @@
-use Rattle.rule_tests.proofs.tests.blocks.tree.+tree_hash.Given as goal
-
-abbrev pub decreases-tree_hash : goal.decreases-tree_hash
-decreases-tree_hash l = l.height
