@@ -2,7 +2,8 @@
 """Counts the instructions that a block takes: count_instructions.py 'PROGRAM WORD..' ['PROGRAM WORD..' ..]
 or count_instructions.py versions 'PROGRAM WORD..'
 
-Each command is given `--feed FILE` besides, over feeds of coinbase blocks and of blocks that spend by proofs. A block takes the
+Each command is given `--feed FILE` besides, over feeds of coinbase blocks and of blocks that spend by proofs. The messages of these are of version 2
+for the first command, and of version 1 for the others, since the plain follower reads that alone. A block takes the
 difference between two feeds of which one begins the other, divided by the blocks between them. Counted by callgrind of valgrind
 (a package of Debian's), on one thread and without the system's own work: the same on every run, whatever else the machine does. A
 program that asks for the processor's instructions for hashes is told by valgrind that there are none for SHA-256.
@@ -45,13 +46,16 @@ def counted(command, feed):
 
 
 def feeds(room):
-    """The name of each kind of block, two feeds, and how many such blocks are between them."""
+    """The name of each kind of block, a feed and a longer one, the latter with older messages too, and how many such blocks are between them."""
     shorter, longer = room / "shorter", room / "longer"
     for name, words, frame, few, many in MADE:
         for file, blocks in ((shorter, few), (longer, many)):
             make(file, BENCH / "make_feed", str(frame * blocks), *words)
-        yield name, shorter, longer, many - few
-    yield from spending(room)
+        yield name, shorter, longer, longer, many - few
+    older = room / "older"
+    for name, shorter, longer, blocks in spending(room):
+        write_older(longer, older)
+        yield name, shorter, longer, older, blocks
 
 
 def spending(room):
@@ -65,15 +69,21 @@ def spending(room):
 
 
 def by_commands(commands, room):
-    for name, shorter, longer, blocks in feeds(room):
-        yield name, [(counted(command, longer) - counted(command, shorter)) / blocks for command in commands]
+    for name, shorter, longer, older, blocks in feeds(room):
+        read = [longer, *[older] * (len(commands) - 1)]
+        yield name, [(counted(command, feed) - counted(command, shorter)) / blocks for command, feed in zip(commands, read)]
+
+
+def write_older(longer, older):
+    """The same feed with messages of version 1."""
+    with open(longer, "rb") as feed, open(older, "wb") as out:
+        subprocess.run([BENCH / "first_version.py"], stdin=feed, stdout=out, check=True)
 
 
 def by_versions(command, room):
     older = room / "older"
     for name, shorter, longer, blocks in spending(room):
-        with open(longer, "rb") as feed, open(older, "wb") as out:
-            subprocess.run([BENCH / "first_version.py"], stdin=feed, stdout=out, check=True)
+        write_older(longer, older)
         before = counted(command, shorter)
         yield name, [(counted(command, feed) - before) / blocks for feed in (longer, older)]
 
