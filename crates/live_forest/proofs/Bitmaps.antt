@@ -1,0 +1,124 @@
+-- Sets that are the bits of a number.
+use Rattle.std.proofs.Common.{◌≡◌, ◌≢◌, ℕ, zero, suc, ◌+◌, ◌-◌, ◌*◌, ◌/◌, ◌%◌, ◌^◌, ◌<◌, ◌≤◌, true, false, refl, sym, ap, ap₂, ◌∙◌, subst, ⊎_elim, arith}
+use Rattle.std.proofs.Common.{pow-suc, mod-eq_of_lt}
+use Rattle.std.specs.Prelude.{◌==◌, ◌||◌, not, if◌then◌else◌, bit_and, bit_or}
+use Rattle.std.specs.Int.{w128, bit_at, bit_not}
+use Rattle.std.proofs.lemmas.Bool.{cases_lt, cases_eq, eq-eqb, ne_eqb}
+use Rattle.std.proofs.lemmas.Nat.{pow_pos, shr-shr, mod-pow-add, mod_below, and_le_l, and_mask, ones_cat, ones-le, one_shl, pow_below}
+use Rattle.std.proofs.lemmas.Nat.Bits.{bit_at_set_same, bit_at_set_other, bit_at_clear_same, bit_at_clear_other, bit_at_above, ones_shr}
+use lib.Count.{ones}
+use Rattle.forest_place.specs.Forest.{InForest}
+use Rattle.forest_place.proofs.Slots.{in_forest_iff}
+use Rattle.live_forest.specs.Sets.{is_bit, has_part, rank, IsWith, IsWithout}
+
+one_or_none : (b : ℕ) → b < 2 → (b == 1) ≡ not (b == 0)
+one_or_none zero h = refl
+one_or_none (suc zero) h = refl
+one_or_none (suc (suc b)) h = elim (let z : ⊥ = omega arith in z) [ ]
+
+ones_bit : (b : ℕ) → b < 2 → ones b ≡ (if b == 1 then 1 else 0)
+unfolding ones
+ones_bit zero h = refl
+ones_bit (suc zero) h = refl
+ones_bit (suc (suc b)) h = elim (let z : ⊥ = omega arith in z) [ ]
+
+-- how many bits there are below one
+pub rank_is : (n i : ℕ) → rank (is_bit n) i ≡ ones (n % 2 ^ i)
+rank_is n zero = let few : ones (n % 1) ≤ 0 = ones-le 0 (n % 1) (omega arith) in omega arith
+rank_is n (suc i) =
+    let e : 1 + i ≡ suc i = omega arith in
+    let parts : n % 2 ^ (1 + i) ≡ n / 2 ^ i % 2 * 2 ^ i + n % 2 ^ i = mod-pow-add n 1 i in
+    let counted = ones_cat i (n / 2 ^ i % 2) (n % 2 ^ i) (mod_below n (2 ^ i) (pow_pos i)) in
+    let low = rank_is n i in
+    let bit = ones_bit (n / 2 ^ i % 2) (omega arith) in
+    let all : ones (n % 2 ^ suc i) ≡ ones (n / 2 ^ i % 2) + ones (n % 2 ^ i) = ap (λ k. ones (n % 2 ^ k)) (sym e) ∙ ap ones parts ∙ counted in
+    omega (arith, all, low, bit)
+
+is_some_number : (n : ℕ) → 0 < n → not (n == 0) ≡ true
+is_some_number n some = ap not (ne_eqb n 0 (λ e. omega (arith, e, some)))
+
+is_no_number : (n : ℕ) → n ≡ 0 → not (n == 0) ≡ false
+is_no_number n none = ap not (eq-eqb n 0 none)
+
+-- a number in two parts is 0 where both are
+either : (low high power whole : ℕ) → 0 < power → whole ≡ high * power + low → (not (low == 0) || not (high == 0)) ≡ not (whole == 0)
+either low high power whole some e =
+    ⊎_elim
+    (λ l. ap (λ b. b || not (high == 0)) (is_no_number low l) ∙ ⊎_elim
+    (λ h. is_no_number high h ∙ sym (is_no_number whole (e ∙ ap₂ (λ x y. x * power + y) h l ∙ (let z : 0 * power + 0 ≡ 0 = omega arith in z))))
+    (λ h.
+    let more : power ≤ high * power = by_high high (λ z. h z) in
+    is_some_number high (omega (arith, h)) ∙ sym (is_some_number whole (omega (arith, e, more, some)))) (cases_eq high 0))
+    (λ l.
+    ap (λ b. b || not (high == 0)) (is_some_number low (omega (arith, l))) ∙ sym (is_some_number whole (omega (arith, l, e))))
+    (cases_eq low 0)
+  where
+    by_high : (h : ℕ) → (h ≡ 0 → ⊥) → power ≤ h * power
+    by_high zero ne = absurd (ne refl)
+    by_high (suc h) ne = omega arith
+
+-- a part has a bit where the bits of its range are not all 0
+pub has_part_is : (n row off : ℕ) → has_part (is_bit n) row off ≡ not (n / 2 ^ (off * 2 ^ row) % 2 ^ 2 ^ row == 0)
+has_part_is n zero off =
+    let e : off ≡ off * 1 = omega arith in
+    let small : n / 2 ^ off % 2 < 2 = omega arith in
+    one_or_none (n / 2 ^ off % 2) small ∙ ap (λ k. not (n / 2 ^ k % 2 == 0)) e
+has_part_is n (suc row) off =
+    let w = 2 ^ row in
+    let a = off * 2 ^ suc row in
+    let double : 2 ^ suc row ≡ w * 2 = pow-suc 2 row in
+    let two : w * 2 ≡ w + w = omega arith in
+    let begin : a ≡ off * (w * 2) = ap (λ x. off * x) double in
+    let left : 2 * off * w ≡ a = omega (arith, begin) in
+    let right : (2 * off + 1) * w ≡ a + w = omega (arith, begin) in
+    let x = n / 2 ^ a in
+    let whole : x % 2 ^ 2 ^ suc row ≡ (x / 2 ^ w % 2 ^ w) * 2 ^ w + x % 2 ^ w = ap (λ k. x % 2 ^ k) (double ∙ two) ∙ mod-pow-add x w w in
+    ap₂ (λ p q. p || q)
+    (has_part_is n row (2 * off) ∙ ap (λ k. not (n / 2 ^ k % 2 ^ w == 0)) left)
+    (has_part_is n row (2 * off + 1) ∙ ap (λ k. not (n / 2 ^ k % 2 ^ w == 0)) right ∙ ap (λ y. not (y % 2 ^ w == 0)) (sym (shr-shr n a w)))
+    ∙ either (x % 2 ^ w) (x / 2 ^ w % 2 ^ w) (2 ^ w) (x % 2 ^ 2 ^ suc row) (pow_pos w) whole
+
+-- as the code works it out
+pub part_bits : (x width : ℕ) → width ≤ 128 → bit_and x ((2 ^ 128 - 1) / 2 ^ (128 - width)) ≡ x % 2 ^ width
+part_bits x width h =
+    let le : 128 - width ≤ 128 = omega arith in
+    let e : 128 - (128 - width) ≡ width = omega arith in
+    ap (bit_and x) (ones_shr 128 (128 - width) le ∙ ap (λ k. 2 ^ k - 1) e) ∙ and_mask x width
+
+pub rank_bits : (n i : ℕ) → i < 128 → ones (bit_and n (1 * 2 ^ i % 2 ^ 128 - 1)) ≡ rank (is_bit n) i
+rank_bits n i h = ap (λ k. ones (bit_and n (k - 1))) (one_shl i 128 h) ∙ ap ones (and_mask n i) ∙ sym (rank_is n i)
+
+pub with_is : (n i : ℕ) → i < 128 → IsWith (is_bit n) (is_bit (bit_or n (1 * 2 ^ i % 2 ^ 128))) i
+with_is n i h = record {
+  here = ap (λ x. x == 1) (bit_at_set_same w128 n i h);
+  others = λ j ne. ap (λ x. x == 1) (bit_at_set_other w128 n i h j ne);
+}
+
+pub without_is : (n i : ℕ) → n < 2 ^ 128 → i < 128 → IsWithout (is_bit n) (is_bit (bit_and n (2 ^ 128 - 1 - 1 * 2 ^ i % 2 ^ 128))) i
+without_is n i few h = record {
+  here = ap (λ x. x == 1) (bit_at_clear_same w128 n i h);
+  others = λ j ne.
+      ⊎_elim
+      (λ low. ap (λ x. x == 1) (bit_at_clear_other w128 n i h j low ne))
+      (λ high. ap (λ x. x == 1) (bit_at_above _ 128 j (below n _ few) high ∙ sym (bit_at_above n 128 j few high)))
+      (cases_lt j 128);
+}
+  where
+    below : (a b : ℕ) → a < 2 ^ 128 → bit_and a b < 2 ^ 128
+    below a b lt = let le = and_le_l a b in omega (arith, le, lt)
+
+-- a part ends within the 128 numbers
+pub part_ends : (row off : ℕ) → row ≤ 7 → InForest 128 row off → (off + 1) * 2 ^ row ≤ 128
+part_ends row off low h = (in_forest_iff 128 row off).0 h
+
+pub has_some_bits : (n row off : ℕ) → row ≤ 7 → InForest 128 row off
+    → not (bit_and (n / 2 ^ (off * 2 ^ row % 2 ^ 64)) ((2 ^ 128 - 1) / 2 ^ (128 - 1 * 2 ^ row % 2 ^ 32)) == 0) ≡ has_part (is_bit n) row off
+has_some_bits n row off low h =
+    let ends = part_ends row off low h in
+    let few : off * 2 ^ row < 2 ^ 64 = omega (arith, ends) in
+    let begin : off * 2 ^ row % 2 ^ 64 ≡ off * 2 ^ row = mod-eq_of_lt few in
+    let lt : row < 32 = omega arith in
+    let width : 1 * 2 ^ row % 2 ^ 32 ≡ 2 ^ row = one_shl row 32 lt in
+    let wide : 2 ^ row ≤ 128 = omega (arith, ends) in
+    ap₂ (λ a b. not (bit_and (n / 2 ^ a) ((2 ^ 128 - 1) / 2 ^ (128 - b)) == 0)) begin width
+    ∙ ap (λ x. not (x == 0)) (part_bits (n / 2 ^ (off * 2 ^ row)) (2 ^ row) wide) ∙ sym (has_part_is n row off)

@@ -1,0 +1,47 @@
+//! A set of numbers below 128, as the bits of a number.
+ghost use Rattle.std.specs.Prelude.{◌≡◌, ◌≢◌, ℕ, ◌+◌, ◌/◌, ◌%◌, ◌^◌, ◌<◌, ◌≤◌, true, false};
+ghost use Rattle.forest_place.specs.Forest.{InForest};
+ghost use Rattle.live_forest.specs.Sets.{is_bit, has_part, rank as rank_of, IsWith, IsWithout};
+
+/// Whether the set has a number.
+pub(crate) fn has(bits: u128, number: u64) -> bool
+    requires { number < 128 }
+    ensures { result ≡ is_bit bits number }
+{
+    (bits >> number) % 2 == 1
+}
+
+/// Whether the set has one of the 2^row numbers from off * 2^row on.
+pub(crate) fn has_some(bits: u128, row: u8, off: u64) -> bool
+    requires row { row ≤ 7 }
+    requires within { InForest 128 row off }
+    ensures { result ≡ has_part (is_bit bits) row off }
+{
+    let width: u32 = 1 << row;
+    let start = off << row;
+    (bits >> start) & (u128::MAX >> (128 - width)) != 0
+}
+
+/// How many numbers below one the set has.
+pub(crate) fn rank(bits: u128, number: u64) -> usize
+    requires { number < 128 }
+    ensures { result ≡ rank_of (is_bit bits) number }
+{
+    (bits & ((1 << number) - 1)).count_ones() as usize
+}
+
+/// The set with a number.
+pub(crate) fn with(bits: u128, number: u64) -> u128
+    requires { number < 128 }
+    ensures { IsWith (is_bit bits) (is_bit result) number }
+{
+    bits | 1 << number
+}
+
+/// The set without a number.
+pub(crate) fn without(bits: u128, number: u64) -> u128
+    requires { number < 128 }
+    ensures { IsWithout (is_bit bits) (is_bit result) number }
+{
+    bits & !(1 << number)
+}
