@@ -1,1 +1,3 @@
 pub mod Bitmaps
+pub mod Ranks
+pub mod Telling

@@ -2,3 +2,6 @@
 #![tactic(auto)]
 
 mod bits;
+mod cell;
+mod least;
+mod page;

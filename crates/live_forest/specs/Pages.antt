@@ -1,0 +1,86 @@
+-- A page: what is kept for the parts of 128 numbers. A part is among the 2^row numbers from off * 2^row on.
+use Rattle.std.specs.Prelude.{◌≡◌, ◌≢◌, ℕ, zero, suc, ◌+◌, ◌-◌, ◌*◌, ◌/◌, ◌^◌, ◌≤◌, Bool, true, false, List, [], length, get_or, Option, Some, None, is_some}
+use Rattle.uo_digest.specs.declared.digest.Digest.{Digest}
+use Rattle.forest_place.specs.declared.place.Place.{Place}
+use Rattle.live_forest.specs.declared.cell.Cell.{Cell}
+use Rattle.live_forest.specs.Sets.{is_bit, has_part, rank}
+
+-- the numbers that have a cell, those of them that are live, and the cells in the order of their numbers
+pub record PageState : Type 0 where
+  pub listed : ℕ
+  pub live : ℕ
+  pub cells : List Cell
+
+-- a cell for each listed number, and what is live is listed
+pub record IsPage (p : PageState) : Type 0 where
+  pub full : length p.cells ≡ rank (is_bit p.listed) 128
+  pub within : (i : ℕ) → is_bit p.live i ≡ true → is_bit p.listed i ≡ true
+
+-- a digest and a cell of nothing
+abbrev pub no_digest : Digest
+no_digest = record { 0 = [] }
+
+abbrev pub no_cell : Cell
+no_cell = record { leaf = no_digest; gap = no_digest }
+
+-- what the cell at an index has of its number, and of the part in which that number meets the one before it
+abbrev pub leaf_in : List Cell → ℕ → Digest
+leaf_in cells k = (get_or cells k no_cell).leaf
+
+abbrev pub gap_in : List Cell → ℕ → Digest
+gap_in cells k = (get_or cells k no_cell).gap
+
+-- where the halves of the part (row + 1, off) meet: the first number of the right one
+abbrev pub middle : ℕ → ℕ → ℕ
+middle row off = (2 * off + 1) * 2 ^ row
+
+-- both halves of the part (row + 1, off) have a number of the set
+pub record IsBranch (is_in : ℕ → Bool) (row off : ℕ) : Type 0 where
+  pub left : has_part is_in row (2 * off) ≡ true
+  pub right : has_part is_in row (2 * off + 1) ≡ true
+
+-- something, where it is there
+abbrev pub when : Bool → Digest → Option Digest
+when false d = None
+when true d = Some d
+
+-- a part's own, where both halves have a listed number; else what one half has
+abbrev pub of_halves : Bool → Bool → Option Digest → Option Digest → Option Digest → Option Digest
+of_halves false is_right own left right = right
+of_halves true false own left right = left
+of_halves true true own left right = own
+
+-- what is kept for a part, where something of it is live: that of its one listed number, or, where both halves have listed numbers, that of the gap
+-- between them. What cells have goes by the count of listed numbers before
+abbrev pub kept_by : (listed live : ℕ → Bool) (leaf gap : ℕ → Digest) → ℕ → ℕ → Option Digest
+kept_by listed live leaf gap zero off = when (live off) (leaf (rank listed off))
+kept_by listed live leaf gap (suc row) off = of_halves (has_part listed row (2 * off)) (has_part listed row (2 * off + 1))
+    (when (has_part live (suc row) off) (gap (rank listed (middle row off))))
+    (kept_by listed live leaf gap row (2 * off)) (kept_by listed live leaf gap row (2 * off + 1))
+
+-- what a page keeps for a part
+abbrev pub told : PageState → ℕ → ℕ → Option Digest
+told p row off = kept_by (is_bit p.listed) (is_bit p.live) (leaf_in p.cells) (gap_in p.cells) row off
+
+-- the smallest part that has the same listed numbers
+pub record IsLeast (listed : ℕ → Bool) (row off : ℕ) (q : Place) : Type 0 where
+  pub low : q.row ≤ row
+  pub up : q.off / 2 ^ (row - q.row) ≡ off
+  pub same : (live : ℕ → Bool) (leaf gap : ℕ → Digest) → kept_by listed live leaf gap row off ≡ kept_by listed live leaf gap q.row q.off
+  pub split : (r : ℕ) → q.row ≡ suc r → IsBranch listed r q.off
+
+-- this is kept for a number from now on, and for each part without it what was kept
+pub record IsEntryPut (p p' : PageState) (number : ℕ) (entry : Option Digest) : Type 0 where
+  pub here : told p' 0 number ≡ entry
+  pub others : (r o : ℕ) → number / 2 ^ r ≢ o → told p' r o ≡ told p r o
+
+-- what is kept of two halves is what one of them has, where the other has nothing
+pub record IsOfHalves (left right own : Option Digest) : Type 0 where
+  pub no_left : left ≡ None → own ≡ right
+  pub no_right : right ≡ None → own ≡ left
+  pub both : is_some left ≡ true → is_some right ≡ true → is_some own ≡ true
+
+-- this is kept for the part of the row above that has a number from now on, and what was kept for each part that is neither this nor above it
+pub record IsPartPut (p p' : PageState) (row number : ℕ) (own : Option Digest) : Type 0 where
+  pub here : told p' (suc row) (number / 2 ^ suc row) ≡ own
+  pub others : (r o : ℕ) → (suc row ≤ r → number / 2 ^ r ≢ o) → told p' r o ≡ told p r o

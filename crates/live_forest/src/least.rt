@@ -1,0 +1,46 @@
+//! The smallest part with the same numbers.
+ghost use Rattle.std.specs.Prelude.{◌≡◌, ◌↔◌, suc, ◌+◌, ◌*◌, ◌^◌, ◌<◌, ◌≤◌, true};
+ghost use Rattle.forest_place.specs.Forest.{InForest};
+ghost use Rattle.live_forest.specs.Sets.{is_bit};
+ghost use Rattle.live_forest.specs.Pages.{IsLeast, middle as middle_of, IsBranch};
+
+use crate::bits::has_some;
+use forest_place::Place;
+
+/// The smallest part that has the same listed numbers.
+pub(crate) fn least(listed: u128, row: u8, off: u64) -> Place
+    requires row { row ≤ 7 }
+    requires within { InForest 128 row off }
+    ensures { IsLeast (is_bit listed) row off result }
+{
+    if row == 0 {
+        return Place { row, off };
+    }
+    let left = has_some(listed, row - 1, 2 * off);
+    let right = has_some(listed, row - 1, 2 * off + 1);
+    if !left {
+        least(listed, row - 1, 2 * off + 1)
+    } else if !right {
+        least(listed, row - 1, 2 * off)
+    } else {
+        Place { row, off }
+    }
+}
+
+/// Where the halves of a part of the row above meet.
+pub(crate) fn middle(row: u8, off: u64) -> u64
+    requires row { row < 7 }
+    requires within { middle_of row off < 128 }
+    ensures { result ≡ middle_of row off }
+{
+    (2 * off + 1) << row
+}
+
+/// Whether both halves of a part of the row above have listed numbers.
+pub(crate) fn is_branch(listed: u128, row: u8, off: u64) -> bool
+    requires row { row < 7 }
+    requires within { InForest 128 (suc row) off }
+    ensures { (result ≡ true) ↔ IsBranch (is_bit listed) row off }
+{
+    has_some(listed, row, 2 * off) && has_some(listed, row, 2 * off + 1)
+}

@@ -1,0 +1,112 @@
+//! A page: what is kept for the parts of 128 numbers.
+ghost use Rattle.std.specs.Prelude.{◌≡◌, ◌≢◌, ℕ, suc, ◌+◌, ◌*◌, ◌/◌, ◌^◌, ◌<◌, ◌≤◌, [], length, get_or, None, true, false, is_some};
+ghost use Rattle.forest_place.specs.Forest.{InForest};
+ghost use Rattle.live_forest.specs.Sets.{is_bit, has_part, rank as rank_of};
+ghost use Rattle.live_forest.specs.Pages.{PageState, told, leaf_in, gap_in, middle as middle_of, IsBranch, IsEntryPut, IsPartPut, IsOfHalves};
+
+use crate::bits::{has, has_some, rank, with, without};
+use crate::cell::Cell;
+use crate::least::{is_branch, least, middle};
+use forest_place::Place;
+use std::alloc::{AllocError, Global};
+use std::marker::Model;
+use uo_digest::Digest;
+
+/// What is kept for the parts of 128 numbers, of those that are listed alone: a cell for each, in their order.
+///
+/// Between two listed numbers next to each other there is one part that has them in its two halves, and each part with listed numbers in
+/// both halves is that of one such gap. So the digest of a part lies in the cell of the first listed number of its right half.
+#[derive(Drop)]
+pub(crate) struct Page {
+    listed: u128,
+    live: u128,
+    cells: Vec<Cell>,
+}
+
+impl Model for Page {
+    ghost use Rattle.live_forest.specs.Pages.{PageState, IsPage};
+
+    ghost Value = { PageState };
+
+    ghost view = { λ s. record { listed = s.listed; live = s.live; cells = s.cells.items } };
+
+    ghost invariant = { λ s. IsPage (record { listed = s.listed; live = s.live; cells = s.cells.items }) };
+}
+
+// The digest of the smallest part with some listed numbers.
+fn digest_of(listed: u128, cells: &[Cell], part: Place) -> Digest
+    requires row { part.row ≤ 7 }
+    requires leaf { part.row ≡ 0 → (part.off < 128) × (rank_of (is_bit listed) part.off < length cells.now) }
+    requires gap { (r : ℕ) → part.row ≡ suc r → (middle_of r part.off < 128) × (rank_of (is_bit listed) (middle_of r part.off) < length cells.now) }
+    ensures leaf { part.row ≡ 0 → result ≡ leaf_in cells.now (rank_of (is_bit listed) part.off) }
+    ensures gap { (r : ℕ) → part.row ≡ suc r → result ≡ gap_in cells.now (rank_of (is_bit listed) (middle_of r part.off)) }
+{
+    if part.row == 0 {
+        cells[rank(listed, part.off)].leaf
+    } else {
+        cells[rank(listed, middle(part.row - 1, part.off))].gap
+    }
+}
+
+impl Page {
+    /// No number is listed.
+    pub fn new(alloc: Global) -> Self
+        ensures listed { result.listed ≡ 0 }
+        ensures live { result.live ≡ 0 }
+    {
+        Page {
+            listed: 0,
+            live: 0,
+            cells: Vec::new(alloc),
+        }
+    }
+
+    /// What is kept for a part.
+    pub fn part(&self, row: u8, off: u64) -> Option<Digest>
+        requires row { row ≤ 7 }
+        requires within { InForest 128 row off }
+        ensures { result ≡ told self.now row off }
+    {
+        if !has_some(self.live, row, off) {
+            return None;
+        }
+        Some(digest_of(self.listed, &self.cells, least(self.listed, row, off)))
+    }
+
+    /// Keeps an entry, live or not.
+    pub fn put_entry(&mut self, number: u64, entry: Option<Digest>)
+        requires number { number < 128 }
+        requires listed { is_bit self.old.listed number ≡ true }
+        ensures put { IsEntryPut self.old self.new number entry }
+        ensures listed { self.new.listed ≡ self.old.listed }
+    {
+        match entry {
+            None => self.live = without(self.live, number),
+            Some(digest) => {
+                let cell = &mut self.cells[rank(self.listed, number)];
+                cell.leaf = digest;
+                self.live = with(self.live, number);
+            }
+        }
+    }
+
+    /// Keeps this for the part of the row above that has a listed number, where its halves have been told.
+    pub fn put_part(&mut self, row: u8, number: u64, own: Option<Digest>)
+        requires number { number < 128 }
+        requires row { row < 7 }
+        requires listed { is_bit self.old.listed number ≡ true }
+        requires halves { let off = number / 2 ^ suc row in IsOfHalves (told self.old row (2 * off)) (told self.old row (2 * off + 1)) own }
+        ensures put { IsPartPut self.old self.new row number own }
+        ensures listed { self.new.listed ≡ self.old.listed }
+    {
+        let off = number >> (row + 1);
+        if !is_branch(self.listed, row, off) {
+            return;
+        }
+        let Some(digest) = own else {
+            return;
+        };
+        let cell = &mut self.cells[rank(self.listed, middle(row, off))];
+        cell.gap = digest;
+    }
+}
