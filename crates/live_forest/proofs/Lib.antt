@@ -1,3 +1,4 @@
 pub mod Bitmaps
 pub mod Ranks
 pub mod Telling
+pub mod Letting

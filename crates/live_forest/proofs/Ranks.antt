@@ -197,3 +197,38 @@ part_with s i (suc row) h =
   where
     by_parity : (n : ℕ) → (n % 2 ≡ 0) ⊎ (n % 2 ≡ 1)
     by_parity n = ⊎_elim (λ e. inl e) (λ ne. inr (omega (arith, ne))) (cases_eq (n % 2) 0)
+
+-- ---- sets that differ at one number
+
+-- up to there the counts are the same
+pub rank_low : (s t : ℕ → Bool) (number : ℕ) → ((i : ℕ) → i ≢ number → t i ≡ s i) → (j : ℕ) → j ≤ number → rank t j ≡ rank s j
+rank_low s t number same zero le = refl
+rank_low s t number same (suc j) le =
+    let other : j ≢ number = λ e. let z : ⊥ = omega (arith, e) in z in
+    ap₂ (λ n b. n + (if b then 1 else 0)) (rank_low s t number same j (omega arith)) (same j other)
+
+-- behind it the set that has it counts one more
+pub rank_high : (s t : ℕ → Bool) (number : ℕ) → ((i : ℕ) → i ≢ number → t i ≡ s i) → s number ≡ false → t number ≡ true → (j : ℕ) → number < j
+    → rank t j ≡ rank s j + 1
+rank_high s t number same out come zero lt = absurd (omega arith)
+rank_high s t number same out come (suc j) lt =
+    ⊎_elim
+    (λ e.
+    let low = rank_low s t number same j (omega (arith, e)) in
+    omega (arith, low, rank-in t j (ap t e ∙ come), rank-out s j (ap s e ∙ out)))
+    (λ ne.
+    let before = rank_high s t number same out come j (omega (arith, ne)) in
+    let step : rank t (suc j) ≡ rank t j + (if s j then 1 else 0) = ap (λ b. rank t j + (if b then 1 else 0)) (same j ne) in
+    omega (arith, before, step))
+    (cases_eq j number)
+
+-- nothing is counted behind the last number of a set
+pub rank_most : (s : ℕ → Bool) (last : ℕ) → ((i : ℕ) → s i ≡ true → i < last) → (j : ℕ) → rank s j ≤ rank s last
+rank_most s last below zero = omega arith
+rank_most s last below (suc j) =
+    ⊎_elim
+    (λ low. rank_rises s (suc j) last low)
+    (λ high.
+    let out : s j ≡ false = ⊎_elim (λ e. absurd (omega (arith, below j e, high))) (λ e. e) (cases_Bool (s j)) in
+    omega (arith, rank_most s last below j, rank-out s j out))
+    (cases_lt j last)

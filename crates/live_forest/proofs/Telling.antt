@@ -51,7 +51,7 @@ none_told p row off page none = none_is (told p row off) (some_told p row off pa
 
 -- ---- two pages with the same of some parts, and of those beneath them
 
-when_same : (b c : Bool) (d e : Digest) → c ≡ b → (b ≡ true → e ≡ d) → when c e ≡ when b d
+pub when_same : (b c : Bool) (d e : Digest) → c ≡ b → (b ≡ true → e ≡ d) → when c e ≡ when b d
 when_same true c d e is same = ap₂ when is (same refl)
 when_same false c d e is same = ap (λ x. when x e) is
 
@@ -248,7 +248,7 @@ module _ (p : PageState) (page : IsPage p) where
 -- ---- an entry is put
 
 -- the parts without a number
-half_without : (number r o k : ℕ) → number / 2 ^ suc r ≢ o → k / 2 ≡ o → number / 2 ^ r ≢ k
+pub half_without : (number r o k : ℕ) → number / 2 ^ suc r ≢ o → k / 2 ≡ o → number / 2 ^ r ≢ k
 half_without number r o k other half e = other (parts-suc number r ∙ ap (λ x. x / 2) e ∙ half)
 
 pub entry_gone : (p : PageState) (live' number : ℕ) → IsWithout (is_bit p.live) (is_bit live') number

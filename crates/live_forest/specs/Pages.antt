@@ -1,7 +1,9 @@
 -- A page: what is kept for the parts of 128 numbers. A part is among the 2^row numbers from off * 2^row on.
-use Rattle.std.specs.Prelude.{◌≡◌, ◌≢◌, ℕ, zero, suc, ◌+◌, ◌-◌, ◌*◌, ◌/◌, ◌^◌, ◌≤◌, Bool, true, false, List, [], length, get_or, Option, Some, None, is_some}
+use Rattle.std.specs.Prelude.{◌≡◌, ◌≢◌, ℕ, zero, suc, ◌+◌, ◌-◌, ◌*◌, ◌/◌, ◌%◌, ◌^◌, ◌<◌, ◌≤◌, ◌⊎◌, Bool, true, false, List, [], length, get_or, Option, Some, None}
+use Rattle.std.specs.Prelude.{is_some, if◌then◌else◌}
 use Rattle.uo_digest.specs.declared.digest.Digest.{Digest}
 use Rattle.forest_place.specs.declared.place.Place.{Place}
+use Rattle.forest_place.specs.Forest.{InForest, sibling_off}
 use Rattle.live_forest.specs.declared.cell.Cell.{Cell}
 use Rattle.live_forest.specs.Sets.{is_bit, has_part, rank}
 
@@ -84,3 +86,28 @@ pub record IsOfHalves (left right own : Option Digest) : Type 0 where
 pub record IsPartPut (p p' : PageState) (row number : ℕ) (own : Option Digest) : Type 0 where
   pub here : told p' (suc row) (number / 2 ^ suc row) ≡ own
   pub others : (r o : ℕ) → (suc row ≤ r → number / 2 ^ r ≢ o) → told p' r o ≡ told p r o
+
+-- ---- a cell is taken out
+
+-- the lowest part with the number in which another number of the set is in the other half: the halves are of this row
+pub record IsNearest (is_in : ℕ → Bool) (number row : ℕ) : Type 0 where
+  pub none : (r : ℕ) → r < row → has_part is_in r (sibling_off (number / 2 ^ r)) ≡ false
+  pub some : has_part is_in row (sibling_off (number / 2 ^ row)) ≡ true
+
+-- whether there is such a part among those of 128 numbers, and the number is in its left half
+pub record MeetsNext (is_in : ℕ → Bool) (number : ℕ) (next : Bool) : Type 0 where
+  pub left : next ≡ true → (row : ℕ) × (row < 7) × IsNearest is_in number row × (number / 2 ^ row % 2 ≡ 0)
+  pub other : next ≡ false → ((row : ℕ) × (row < 7) × IsNearest is_in number row × (number / 2 ^ row % 2 ≡ 1))
+      ⊎ ((row : ℕ) → row < 7 → has_part is_in row (sibling_off (number / 2 ^ row)) ≡ false)
+
+-- the cell at an index is out; where the gap behind it is the one that goes, the next cell has the one before it
+pub record IsTakenOut (old new : List Cell) (k : ℕ) (next : Bool) : Type 0 where
+  pub len : length new + 1 ≡ length old
+  pub front : (j : ℕ) → j < k → (leaf_in new j ≡ leaf_in old j) × (gap_in new j ≡ gap_in old j)
+  pub leaves : (j : ℕ) → k ≤ j → leaf_in new j ≡ leaf_in old (j + 1)
+  pub gaps : (j : ℕ) → k < j → gap_in new j ≡ gap_in old (j + 1)
+  pub gap : gap_in new k ≡ (if next then gap_in old k else gap_in old (k + 1))
+
+-- what is kept for the whole parts of n numbers is what their halves have
+pub record AreOfHalves (p : PageState) (n : ℕ) : Type 0 where
+  pub is : (row off : ℕ) → InForest n (suc row) off → IsOfHalves (told p row (2 * off)) (told p row (2 * off + 1)) (told p (suc row) off)

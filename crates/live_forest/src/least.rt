@@ -2,10 +2,10 @@
 ghost use Rattle.std.specs.Prelude.{◌≡◌, ◌↔◌, suc, ◌+◌, ◌*◌, ◌^◌, ◌<◌, ◌≤◌, true};
 ghost use Rattle.forest_place.specs.Forest.{InForest};
 ghost use Rattle.live_forest.specs.Sets.{is_bit};
-ghost use Rattle.live_forest.specs.Pages.{IsLeast, middle as middle_of, IsBranch};
+ghost use Rattle.live_forest.specs.Pages.{IsLeast, middle as middle_of, IsBranch, MeetsNext};
 
 use crate::bits::has_some;
-use forest_place::Place;
+use forest_place::{Place, sibling};
 
 /// The smallest part that has the same listed numbers.
 pub(crate) fn least(listed: u128, row: u8, off: u64) -> Place
@@ -43,4 +43,19 @@ pub(crate) fn is_branch(listed: u128, row: u8, off: u64) -> bool
     ensures { (result ≡ true) ↔ IsBranch (is_bit listed) row off }
 {
     has_some(listed, row, 2 * off) && has_some(listed, row, 2 * off + 1)
+}
+
+/// Whether the nearest listed number of others, by the parts that have both, comes after a number.
+pub(crate) fn meets_next(listed: u128, number: u64) -> bool
+    requires { number < 128 }
+    ensures { MeetsNext (is_bit listed) number result }
+{
+    for row in 0..7u8 {
+        let off = number >> row;
+        let beside = sibling(Place { row, off });
+        if has_some(listed, row, beside.off) {
+            return off % 2 == 0;
+        }
+    }
+    false
 }

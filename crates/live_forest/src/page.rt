@@ -1,12 +1,13 @@
 //! A page: what is kept for the parts of 128 numbers.
-ghost use Rattle.std.specs.Prelude.{◌≡◌, ◌≢◌, ℕ, suc, ◌+◌, ◌*◌, ◌/◌, ◌^◌, ◌<◌, ◌≤◌, [], length, get_or, None, true, false, is_some};
+ghost use Rattle.std.specs.Prelude.{◌≡◌, ◌≢◌, ℕ, suc, ◌+◌, ◌*◌, ◌/◌, ◌^◌, ◌<◌, ◌≤◌, [], length, get_or, None, true, false, is_some, OnOk, OnErr};
 ghost use Rattle.forest_place.specs.Forest.{InForest};
-ghost use Rattle.live_forest.specs.Sets.{is_bit, has_part, rank as rank_of};
+ghost use Rattle.live_forest.specs.Sets.{is_bit, has_part, rank as rank_of, IsWith, IsWithout};
 ghost use Rattle.live_forest.specs.Pages.{PageState, told, leaf_in, gap_in, middle as middle_of, IsBranch, IsEntryPut, IsPartPut, IsOfHalves};
+ghost use Rattle.live_forest.specs.Pages.{AreOfHalves, IsTakenOut};
 
 use crate::bits::{has, has_some, rank, with, without};
 use crate::cell::Cell;
-use crate::least::{is_branch, least, middle};
+use crate::least::{is_branch, least, meets_next, middle};
 use forest_place::Place;
 use std::alloc::{AllocError, Global};
 use std::marker::Model;
@@ -46,6 +47,20 @@ fn digest_of(listed: u128, cells: &[Cell], part: Place) -> Digest
     } else {
         cells[rank(listed, middle(part.row - 1, part.off))].gap
     }
+}
+
+// Takes out a cell. Where the gap behind it is the one that goes, the gap before it stays, with the next cell.
+fn take_out(cells: &mut Vec<Cell>, k: usize, next: bool)
+    requires within { k < length cells.old.items }
+    requires next { next ≡ true → k + 1 < length cells.old.items }
+    ensures { IsTakenOut cells.old.items cells.new.items k next }
+{
+    let out = cells.remove(k);
+    if !next {
+        return;
+    }
+    let cell = &mut cells[k];
+    cell.gap = out.gap;
 }
 
 impl Page {
@@ -108,5 +123,38 @@ impl Page {
         };
         let cell = &mut self.cells[rank(self.listed, middle(row, off))];
         cell.gap = digest;
+    }
+
+    /// Lists a number behind all that are. It is not live.
+    pub fn list(&mut self, number: u64) -> Result<(), AllocError>
+        requires number { number < 128 }
+        requires last { (i : ℕ) → is_bit self.old.listed i ≡ true → i < number }
+        ensures ok { OnOk result (IsWith (is_bit self.old.listed) (is_bit self.new.listed) number) }
+        ensures err { OnErr result (self.new.listed ≡ self.old.listed) }
+        ensures live { self.new.live ≡ self.old.live }
+        ensures same { (r o : ℕ) → number / 2 ^ r ≢ o → told self.new r o ≡ told self.old r o }
+    {
+        self.cells.push(Cell {
+            leaf: Digest([0; 32]),
+            gap: Digest([0; 32]),
+        })?;
+        self.listed = with(self.listed, number);
+        Ok(())
+    }
+
+    /// Takes the cell of a number that is not live. What is kept for the whole parts of the first `n` numbers stays.
+    pub fn let_go(&mut self, n: u64, number: u64)
+        requires few { n ≤ 128 }
+        requires number { number < 128 }
+        requires listed { is_bit self.old.listed number ≡ true }
+        requires spent { is_bit self.old.live number ≡ false }
+        requires halves { AreOfHalves self.old n }
+        ensures same { (r o : ℕ) → InForest n r o → told self.new r o ≡ told self.old r o }
+        ensures listed { IsWithout (is_bit self.old.listed) (is_bit self.new.listed) number }
+        ensures live { self.new.live ≡ self.old.live }
+    {
+        let next = meets_next(self.listed, number);
+        take_out(&mut self.cells, rank(self.listed, number), next);
+        self.listed = without(self.listed, number);
     }
 }
