@@ -2,3 +2,5 @@ pub mod Bitmaps
 pub mod Ranks
 pub mod Telling
 pub mod Letting
+pub mod Seams
+pub mod Storing

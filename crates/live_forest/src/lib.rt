@@ -5,3 +5,4 @@ mod bits;
 mod cell;
 mod least;
 mod page;
+mod store;

@@ -1,5 +1,5 @@
 //! A page: what is kept for the parts of 128 numbers.
-ghost use Rattle.std.specs.Prelude.{◌≡◌, ◌≢◌, ℕ, suc, ◌+◌, ◌*◌, ◌/◌, ◌^◌, ◌<◌, ◌≤◌, [], length, get_or, None, true, false, is_some, OnOk, OnErr};
+ghost use Rattle.std.specs.Prelude.{◌≡◌, ◌≢◌, ℕ, suc, ◌+◌, ◌*◌, ◌/◌, ◌^◌, ◌<◌, ◌≤◌, [], length, get_or, None, true, false, is_some, OnOk, OnErr, IfOk};
 ghost use Rattle.forest_place.specs.Forest.{InForest};
 ghost use Rattle.live_forest.specs.Sets.{is_bit, has_part, rank as rank_of, IsWith, IsWithout};
 ghost use Rattle.live_forest.specs.Pages.{PageState, told, leaf_in, gap_in, middle as middle_of, IsBranch, IsEntryPut, IsPartPut, IsOfHalves};
@@ -64,16 +64,15 @@ fn take_out(cells: &mut Vec<Cell>, k: usize, next: bool)
 }
 
 impl Page {
-    /// No number is listed.
-    pub fn new(alloc: Global) -> Self
-        ensures listed { result.listed ≡ 0 }
-        ensures live { result.live ≡ 0 }
+    /// No number is listed. There is room for all.
+    pub fn new(alloc: Global) -> Result<Self, AllocError>
+        ensures { IfOk result (λ page. (page.listed ≡ 0) × (page.live ≡ 0)) }
     {
-        Page {
+        Ok(Page {
             listed: 0,
             live: 0,
-            cells: Vec::new(alloc),
-        }
+            cells: Vec::with_capacity(alloc, 128)?,
+        })
     }
 
     /// What is kept for a part.
