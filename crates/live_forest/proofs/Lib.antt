@@ -4,3 +4,9 @@ pub mod Telling
 pub mod Letting
 pub mod Seams
 pub mod Storing
+pub mod Entries
+pub mod Ones
+pub mod Counting
+pub mod Undoing
+pub mod Filling
+pub mod Refreshing

@@ -5,4 +5,5 @@ mod bits;
 mod cell;
 mod least;
 mod page;
+mod refresh;
 mod store;
