@@ -3,9 +3,9 @@ use Rattle.std.proofs.Common.{◌≡◌, ◌≢◌, ℕ, zero, suc, ◌+◌, ◌
 use Rattle.std.proofs.Common.{pow-suc, mod-eq_of_lt}
 use Rattle.std.specs.Prelude.{◌==◌, ◌||◌, not, if◌then◌else◌, bit_and, bit_or}
 use Rattle.std.specs.Int.{w128, bit_at, bit_not}
-use Rattle.std.proofs.lemmas.Bool.{cases_lt, cases_eq, eq-eqb, ne_eqb}
+use Rattle.std.proofs.lemmas.Bool.{cases_lt, cases_eq, eq-eqb, ne_eqb, false≢true}
 use Rattle.std.proofs.lemmas.Nat.{pow_pos, shr-shr, mod-pow-add, mod_below, and_le_l, and_mask, ones_cat, ones-le, one_shl, pow_below}
-use Rattle.std.proofs.lemmas.Nat.Bits.{bit_at_set_same, bit_at_set_other, bit_at_clear_same, bit_at_clear_other, bit_at_above, ones_shr}
+use Rattle.std.proofs.lemmas.Nat.Bits.{bit_at_set_same, bit_at_set_other, bit_at_clear_same, bit_at_clear_other, bit_at_above, bit_at-zero, ones_shr}
 use lib.Count.{ones}
 use Rattle.forest_place.specs.Forest.{InForest}
 use Rattle.forest_place.proofs.Slots.{in_forest_iff}
@@ -122,3 +122,14 @@ has_some_bits n row off low h =
     let wide : 2 ^ row ≤ 128 = omega (arith, ends) in
     ap₂ (λ a b. not (bit_and (n / 2 ^ a) ((2 ^ 128 - 1) / 2 ^ (128 - b)) == 0)) begin width
     ∙ ap (λ x. not (x == 0)) (part_bits (n / 2 ^ (off * 2 ^ row)) (2 ^ row) wide) ∙ sym (has_part_is n row off)
+
+-- a number has no bits but its own
+pub last_below : (n number : ℕ) → n < 2 ^ 128 → ((i : ℕ) → i < 128 → is_bit n i ≡ true → i < number) → (i : ℕ) → is_bit n i ≡ true → i < number
+last_below n number few last i e =
+    ⊎_elim
+    (λ low. last i low e)
+    (λ high. absurd (false≢true (ap (λ x. x == 1) (sym (bit_at_above n 128 i few high)) ∙ e)))
+    (cases_lt i 128)
+
+pub no_bits : (i : ℕ) → is_bit 0 i ≡ false
+no_bits i = ap (λ x. x == 1) (bit_at-zero i)

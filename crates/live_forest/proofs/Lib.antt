@@ -10,3 +10,6 @@ pub mod Counting
 pub mod Undoing
 pub mod Filling
 pub mod Refreshing
+pub mod Lengthening
+pub mod Forgetting
+pub mod Holding

@@ -120,7 +120,7 @@ met_here number next row off other r here there lt e =
     let k : suc (r - 1) ≡ r = omega arith in
     subst (λ x. number / 2 ^ x ≡ next / 2 ^ x) k (met_above number next row off other (r - 1) here there (omega arith) e)
 
-joined_halves : (H : List ℕ → Digest) (left right own : Option Digest) → own ≡ join_digests H left right → IsOfHalves left right own
+pub joined_halves : (H : List ℕ → Digest) (left right own : Option Digest) → own ≡ join_digests H left right → IsOfHalves left right own
 joined_halves H None right own e = record {
   no_left = λ _. e;
   no_right = λ z. e ∙ z;

@@ -16,7 +16,7 @@ use Rattle.live_forest.proofs.Seams.{seam_one, seam_high}
 -- ---- pages and rows
 
 -- the row of a page's parts and the rest of its rows
-whole_page : (row : ℕ) → row ≤ 7 → 2 ^ (7 - row) * 2 ^ row ≡ 128
+pub whole_page : (row : ℕ) → row ≤ 7 → 2 ^ (7 - row) * 2 ^ row ≡ 128
 whole_page row low =
     let e : 7 - row + row ≡ 7 = omega arith in
     sym (ap (λ k. 2 ^ k) (sym e) ∙ pow-add 2 (7 - row) row)
@@ -47,7 +47,7 @@ inner_of_part i row low =
     let e : 7 - row + row ≡ 7 = omega arith in
     sym (ap (λ k. i % 2 ^ k / 2 ^ row) (sym e) ∙ field_of i (7 - row) row)
 
-same_part : (a b k : ℕ) → a / 2 ^ k ≡ b / 2 ^ k → a % 2 ^ k ≡ b % 2 ^ k → a ≡ b
+pub same_part : (a b k : ℕ) → a / 2 ^ k ≡ b / 2 ^ k → a % 2 ^ k ≡ b % 2 ^ k → a ≡ b
 same_part a b k p q = sym (shr_split a k) ∙ ap₂ (λ x y. x * 2 ^ k + y) p q ∙ shr_split b k
 
 -- a part without the entry is on another page, or a part of its page without it

@@ -6,3 +6,4 @@ pub mod Sets
 pub mod Pages
 pub mod Stores
 pub mod Parts
+pub mod Holding

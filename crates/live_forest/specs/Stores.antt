@@ -56,3 +56,20 @@ pub record IsPartKept (s s' : StoreState) (row number : ℕ) (own : Option Diges
 pub record HasRoomOf (s s' : StoreState) : Type 0 where
   pub len : s'.len ≡ s.len
   pub listed : (i : ℕ) → is_listed s'.pages i ≡ is_listed s.pages i
+
+-- there may be more pages, of which nothing has a cell
+pub record ArePages (old new : List PageState) : Type 0 where
+  pub more : length old ≤ length new
+  pub same : (row off : ℕ) → paged new row off ≡ paged old row off
+  pub listed : (i : ℕ) → is_listed new i ≡ is_listed old i
+
+-- there is room for more entries, each with a cell, and what was kept for the parts of those before stays
+pub record IsLonger (s s' : StoreState) : Type 0 where
+  pub len : s.len ≤ s'.len
+  pub same : (row off : ℕ) → InForest s.len row off → stored s' row off ≡ stored s row off
+  pub listed : (i : ℕ) → i < s.len → is_listed s'.pages i ≡ is_listed s.pages i
+  pub free : (i : ℕ) → s.len ≤ i → i < s'.len → is_listed s'.pages i ≡ true
+
+-- what is kept for the whole parts of n entries is what their halves have
+pub record AreStoredOfHalves (s : StoreState) (n : ℕ) : Type 0 where
+  pub is : (row off : ℕ) → InForest n (suc row) off → IsOfHalves (stored s row (2 * off)) (stored s row (2 * off + 1)) (stored s (suc row) off)

@@ -2,8 +2,14 @@
 #![tactic(auto)]
 
 mod bits;
+mod blocks;
 mod cell;
+mod forest;
+mod laws;
 mod least;
 mod page;
 mod refresh;
 mod store;
+
+pub use forest::Forest;
+pub use laws::undoing_gives_back;

@@ -75,6 +75,14 @@ impl Page {
         })
     }
 
+    /// Whether a number has a cell.
+    pub fn is_listed(&self, number: u64) -> bool
+        requires { number < 128 }
+        ensures { result ≡ is_bit self.now.listed number }
+    {
+        has(self.listed, number)
+    }
+
     /// What is kept for a part.
     pub fn part(&self, row: u8, off: u64) -> Option<Digest>
         requires row { row ≤ 7 }
@@ -127,7 +135,7 @@ impl Page {
     /// Lists a number behind all that are. It is not live.
     pub fn list(&mut self, number: u64) -> Result<(), AllocError>
         requires number { number < 128 }
-        requires last { (i : ℕ) → is_bit self.old.listed i ≡ true → i < number }
+        requires last { (i : ℕ) → i < 128 → is_bit self.old.listed i ≡ true → i < number }
         ensures ok { OnOk result (IsWith (is_bit self.old.listed) (is_bit self.new.listed) number) }
         ensures err { OnErr result (self.new.listed ≡ self.old.listed) }
         ensures live { self.new.live ≡ self.old.live }

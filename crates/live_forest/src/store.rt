@@ -2,7 +2,9 @@
 ghost use Rattle.std.specs.Prelude.{◌≡◌, ◌≢◌, ℕ, suc, ◌+◌, ◌-◌, ◌*◌, ◌/◌, ◌%◌, ◌^◌, ◌<◌, ◌≤◌, [], length, get_or, set, None, true, OnOk, OnErr, max};
 ghost use Rattle.forest_place.specs.Forest.{InForest};
 ghost use Rattle.live_forest.specs.Pages.{IsOfHalves};
-ghost use Rattle.live_forest.specs.Stores.{seam as seam_of, stored, paged, is_listed, IsEntryKept, IsPartKept, HasRoomOf, page_at};
+ghost use Rattle.live_forest.specs.Stores.{seam as seam_of, stored, paged, is_listed, IsEntryKept, IsPartKept, HasRoomOf};
+ghost use Rattle.live_forest.specs.Stores.{ArePages, IsLonger, AreStoredOfHalves};
+ghost use Rattle.live_forest.specs.Sets.{IsWithout};
 
 use crate::page::Page;
 use std::alloc::{AllocError, Global};
@@ -40,6 +42,48 @@ fn seam(row: u8, off: u64) -> usize
 {
     let odd = off % 2;
     (((off + 1 - odd) << (row + 1)) + odd - 1) as usize
+}
+
+// Makes a list at least so long, by entries that are not live.
+fn lengthen_list(list: &mut Vec<Option<Digest>>, len: usize) -> Result<(), AllocError>
+    ensures ok { OnOk result (len ≤ length list.new.items) }
+    ensures longer { length list.old.items ≤ length list.new.items }
+    ensures front { (i : ℕ) → i < length list.old.items → get_or list.new.items i None ≡ get_or list.old.items i None }
+{
+    if list.len() < len {
+        list.resize(len, None)?;
+    }
+    Ok(())
+}
+
+// Sees to it that there is a page at an index.
+fn have_page(pages: &mut Vec<Page>, k: usize) -> Result<(), AllocError>
+    requires { k ≤ length pages.old.items }
+    ensures ok { OnOk result (k < length pages.new.items) }
+    ensures same { ArePages pages.old.items pages.new.items }
+{
+    if k < pages.len() {
+        return Ok(());
+    }
+    let alloc = *pages.allocator();
+    let page = Page::new(alloc)?;
+    pages.push(page)?;
+    Ok(())
+}
+
+// How many of the first `n` entries are among the 128 from one on.
+fn count_in(n: u64, first: u64) -> u64
+    ensures few { result ≤ 128 }
+    ensures within { 0 < result → first + result ≤ n }
+    ensures all { result < 128 → n ≤ first + result }
+{
+    if n <= first {
+        0
+    } else if n - first < 128 {
+        n - first
+    } else {
+        128
+    }
 }
 
 impl Store {
@@ -103,5 +147,75 @@ impl Store {
         } else {
             self.high[seam(row - PAGE_ROW, number >> (row + 1))] = own;
         }
+    }
+
+    /// Whether an entry has a cell, of those that there is room for.
+    pub fn is_listed(&self, number: u64) -> bool
+        requires { number < self.now.len }
+        ensures { result ≡ is_listed self.now.pages number }
+    {
+        self.pages[(number >> PAGE_ROW) as usize].is_listed(number % 128)
+    }
+
+    // Makes room in the list of the parts of pages.
+    fn lengthen_high(&mut self, entries: u64) -> Result<(), AllocError>
+        ensures ok { OnOk result (entries / 128 ≤ length self.new.high) }
+        ensures len { self.new.len ≡ self.old.len }
+        ensures longer { IsLonger self.old self.new }
+    {
+        lengthen_list(&mut self.high, (entries >> PAGE_ROW) as usize)
+    }
+
+    // Makes room for one more entry.
+    fn list_next(&mut self) -> Result<(), AllocError>
+        requires small { self.old.len + 1 < 2 ^ 64 }
+        requires high { (self.old.len + 1) / 128 ≤ length self.old.high }
+        ensures ok { OnOk result (self.new.len ≡ self.old.len + 1) }
+        ensures err { OnErr result (self.new.len ≡ self.old.len) }
+        ensures high { self.new.high ≡ self.old.high }
+        ensures longer { IsLonger self.old self.new }
+    {
+        let number = self.len;
+        let k = (number >> PAGE_ROW) as usize;
+        have_page(&mut self.pages, k)?;
+        let page = &mut self.pages[k];
+        page.list(number % 128)?;
+        self.len += 1;
+        Ok(())
+    }
+
+    // Makes room for so many entries, where the list of the parts of pages has it.
+    fn list_upto(&mut self, entries: u64) -> Result<(), AllocError>
+        requires { entries / 128 ≤ length self.old.high }
+        ensures ok { OnOk result (self.new.len ≡ max self.old.len entries) }
+        ensures longer { IsLonger self.old self.new }
+    {
+        'entries: while self.len() < entries {
+            self.list_next()?;
+        }
+        Ok(())
+    }
+
+    /// Makes room for at least so many entries. What is kept for the parts stays.
+    pub fn lengthen(&mut self, entries: u64) -> Result<(), AllocError>
+        ensures ok { OnOk result (self.new.len ≡ max self.old.len entries) }
+        ensures longer { IsLonger self.old self.new }
+    {
+        self.lengthen_high(entries)?;
+        self.list_upto(entries)
+    }
+
+    /// Takes the cell of an entry that is not live. What is kept for the parts of the first `n` entries stays.
+    pub fn let_go(&mut self, n: u64, number: u64)
+        requires listed { is_listed self.old.pages number ≡ true }
+        requires spent { stored self.old 0 number ≡ None }
+        requires halves { AreStoredOfHalves self.old n }
+        ensures same { (row off : ℕ) → InForest n row off → stored self.new row off ≡ stored self.old row off }
+        ensures len { self.new.len ≡ self.old.len }
+        ensures listed { IsWithout (is_listed self.old.pages) (is_listed self.new.pages) number }
+    {
+        let count = count_in(n, number - number % 128);
+        let page = &mut self.pages[(number >> PAGE_ROW) as usize];
+        page.let_go(count, number % 128);
     }
 }
