@@ -39,7 +39,7 @@ some_kept listed live leaf gap (suc row) off sub =
     (some_kept listed live leaf gap row (2 * off) sub) (some_kept listed live leaf gap row (2 * off + 1) sub)
     (part_none live listed row (2 * off) sub) (part_none live listed row (2 * off + 1) sub)
 
-none_is : (x : Option Digest) → is_some x ≡ false → x ≡ None
+pub none_is : (x : Option Digest) → is_some x ≡ false → x ≡ None
 none_is None e = refl
 none_is (Some d) e = absurd (true≢false e)
 

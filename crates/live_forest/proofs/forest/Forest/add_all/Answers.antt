@@ -1,4 +1,4 @@
-use Rattle.std.proofs.Common.{◌≡◌, ◌+◌, ◌^◌, ◌<◌, length, take, map, get_or, Some, ◌++◌, ◌∷◌, [], sym, ap, ◌∙◌, arith, append_assoc}
+use Rattle.std.proofs.Common.{◌≡◌, ◌+◌, ◌^◌, ◌<◌, length, take, map, get_or, Some, true, ◌++◌, ◌∷◌, [], sym, ap, ◌∙◌, arith, append_assoc}
 use Rattle.std.proofs.lemmas.List.{map_more, length_push}
 use Rattle.std.proofs.lemmas.Nat.{ones-le}
 use Rattle.uo_digest.specs.declared.digest.Digest.{Digest}
@@ -18,6 +18,9 @@ loop-digest-preserved g c =
     record {
       entries = done ∙ ap (λ z. z ++ Some x ∷ []) c.loop-digest.invariant.entries ∙ append_assoc first (map Some (take k xs)) (Some x ∷ [])
           ∙ ap (λ z. first ++ z) (sym (map_more Some xs k none lt));
+      held = c.add.ensures.held ∙ ap (λ z. z ++ true ∷ []) c.loop-digest.invariant.held
+          ∙ append_assoc c.args.self.now.held (map (λ _. true) (take k xs)) (true ∷ [])
+          ∙ ap (λ z. c.args.self.now.held ++ z) (sym (map_more (λ _. true) xs k none lt));
       count = omega (arith, long, c.loop-digest.invariant.count);
       spare = omega (arith, c.add.ensures.spare, c.loop-digest.invariant.spare);
       cost = omega (arith, c.add.ensures.few, c.loop-digest.invariant.cost);
