@@ -16,7 +16,7 @@ use Rattle.live_forest.specs.Sets.{IsWithout}
 use Rattle.live_forest.specs.Stores.{StoreState, stored, is_listed, HasRoomOf, IsLonger, AreStoredOfHalves}
 use Rattle.live_forest.specs.Parts.{leaves_of, part_digest, AreParts}
 use Rattle.live_forest.specs.Holding.{held_of, IsForest}
-use Rattle.live_forest.specs.State.{is_live, is_held}
+use Rattle.live_forest.specs.State.{is_live, is_held, held_without}
 use Rattle.live_forest.proofs.Entries.{content-take}
 use Rattle.live_forest.proofs.Refreshing.{digest-leaf, digest-joined, joined_halves, length-leaves_of, leaves_of-at}
 
@@ -296,3 +296,8 @@ held_gone count number s low gone =
     ∙ get_or-set_same (held_of count s) number false false (omega (arith, low, length-held_of count s))))
     (λ ne. sym (get_or-set_other (held_of count s) number i false false ne))
     (cases_eq i number))
+
+-- one more is let go
+pub held_without-push : (is : List ℕ) (i : ℕ) (held : List Bool) → held_without (is ++ i ∷ []) held ≡ set (held_without is held) i false
+held_without-push [] i held = refl
+held_without-push (j ∷ is) i held = held_without-push is i (set held j false)

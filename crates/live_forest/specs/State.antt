@@ -1,5 +1,5 @@
 -- What the contracts see of the forest.
-use Rattle.std.specs.Prelude.{ℕ, Bool, false, List, length, get_or, Option, Some, None, is_some}
+use Rattle.std.specs.Prelude.{ℕ, Bool, false, List, [], ◌∷◌, length, get_or, set, Option, Some, None, is_some}
 use Rattle.std.specs.List.{count_by, range_with_len}
 use Rattle.uo_digest.specs.declared.digest.Digest.{Digest}
 use Rattle.forest_model.specs.Content.{Tree, leaf, inner}
@@ -20,6 +20,11 @@ is_live es i = is_some (get_or es i None)
 -- the entry is held
 abbrev pub is_held : List Bool → ℕ → Bool
 is_held held i = get_or held i false
+
+-- what is held, without these entries
+abbrev pub held_without : List ℕ → List Bool → List Bool
+held_without [] held = held
+held_without (i ∷ is) held = held_without is (set held i false)
 
 -- the number of the entry that a tree is, if it is one alone
 abbrev pub leaf_number : Option Tree → Option ℕ

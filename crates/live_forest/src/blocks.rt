@@ -1,8 +1,8 @@
 //! What a block does to the forest, and how it is undone.
-ghost use Rattle.std.specs.Prelude.{◌≡◌, ◌+◌, ◌*◌, ◌^◌, ◌<◌, ◌≤◌, ◌++◌, length, map, replicate, Some, true, All};
+ghost use Rattle.std.specs.Prelude.{◌≡◌, ◌+◌, ◌*◌, ◌^◌, ◌<◌, ◌≤◌, ◌++◌, length, map, replicate, Some, true, false, All};
 ghost use Rattle.forest_place.specs.Position.{rows as rows_of};
 ghost use Rattle.forest_model.specs.Deletion.{entries_without};
-ghost use Rattle.live_forest.specs.State.{is_live};
+ghost use Rattle.live_forest.specs.State.{is_live, held_without};
 
 use crate::Forest;
 use std::sync::ledger::Ledger;
@@ -35,5 +35,18 @@ impl<D: Digester> Forest<D> {
     {
         self.remove_all(spent, steps);
         self.add_all(added, steps);
+    }
+
+    /// Lets spent entries go: they can not be made live again, and their room is free.
+    pub fn forget_all(&mut self, spent: &[u64])
+        requires given { All (λ i. i < length self.old.entries) spent.now }
+        requires spent { All (λ i. is_live self.old.entries i ≡ false) spent.now }
+        ensures entries { self.new.entries ≡ self.old.entries }
+        ensures spare { self.new.spare ≡ self.old.spare }
+        ensures held { self.new.held ≡ held_without spent.now self.old.held }
+    {
+        for number in spent {
+            self.forget(*number);
+        }
     }
 }

@@ -63,6 +63,20 @@ fn take_out(cells: &mut Vec<Cell>, k: usize, next: bool)
     cell.gap = out.gap;
 }
 
+// Gives room back that is more than an eighth and two cells. Where there is no memory for fewer cells, the room stays.
+fn shrink(cells: &mut Vec<Cell>)
+    ensures { cells.new.items ≡ cells.old.items }
+{
+    let len = cells.len();
+    if cells.capacity().saturating_sub(len) <= 2 + len / 8 {
+        return;
+    }
+    let alloc = *cells.allocator();
+    if let Ok(fewer) = Vec::from_slice(alloc, cells) {
+        *cells = fewer;
+    }
+}
+
 impl Page {
     /// No number is listed. There is room for all.
     pub fn new(alloc: Global) -> Result<Self, AllocError>
@@ -162,6 +176,7 @@ impl Page {
     {
         let next = meets_next(self.listed, number);
         take_out(&mut self.cells, rank(self.listed, number), next);
+        shrink(&mut self.cells);
         self.listed = without(self.listed, number);
     }
 }

@@ -24,8 +24,9 @@ invariant_of-self c =
     let listed : is_bit p.listed c.args.number ≡ true = ap (λ x. is_bit x.listed c.args.number) c.self.view_is ∙ c.requires.listed in
     let spent : is_bit p.live c.args.number ≡ false = ap (λ x. is_bit x.live c.args.number) c.self.view_is ∙ c.requires.spent in
     let out = subst (λ k. IsTakenOut p.cells c.take_out.new.cells.items k c.meets_next-next.result) c.rank.ensures c.take_out.ensures in
-    page_less p c.without-self-inside.result c.args.number c.take_out.new.cells.items c.meets_next-next.result c.self.invariant c.requires.number listed
-    spent c.without-self-inside.ensures c.meets_next-next.ensures out
+    let left = subst (λ xs. IsTakenOut p.cells xs (rank (is_bit p.listed) c.args.number) c.meets_next-next.result) (sym c.shrink.ensures) out in
+    page_less p c.without-self-inside.result c.args.number c.shrink.new.cells.items c.meets_next-next.result c.self.invariant c.requires.number listed
+    spent c.without-self-inside.ensures c.meets_next-next.ensures left
 
 pub returns-clause-same : goal.returns-clause-same
 returns-clause-same c =
@@ -33,7 +34,8 @@ returns-clause-same c =
     let listed : is_bit p.listed c.args.number ≡ true = ap (λ x. is_bit x.listed c.args.number) c.self.view_is ∙ c.requires.listed in
     let spent : is_bit p.live c.args.number ≡ false = ap (λ x. is_bit x.live c.args.number) c.self.view_is ∙ c.requires.spent in
     let out = subst (λ k. IsTakenOut p.cells c.take_out.new.cells.items k c.meets_next-next.result) c.rank.ensures c.take_out.ensures in
+    let left = subst (λ xs. IsTakenOut p.cells xs (rank (is_bit p.listed) c.args.number) c.meets_next-next.result) (sym c.shrink.ensures) out in
     let halves : AreOfHalves p c.args.n = subst (λ x. AreOfHalves x c.args.n) (sym c.self.view_is) c.requires.halves in
     λ r o h. rw (← c.self.view_is)
-    (told_less p c.without-self-inside.result c.args.number c.take_out.new.cells.items c.meets_next-next.result c.self.invariant c.requires.number listed
-    spent c.without-self-inside.ensures c.meets_next-next.ensures out c.args.n c.requires.few halves r o h)
+    (told_less p c.without-self-inside.result c.args.number c.shrink.new.cells.items c.meets_next-next.result c.self.invariant c.requires.number listed
+    spent c.without-self-inside.ensures c.meets_next-next.ensures left c.args.n c.requires.few halves r o h)
