@@ -13,3 +13,15 @@ pub mod Refreshing
 pub mod Lengthening
 pub mod Forgetting
 pub mod Holding
+pub mod Seeking
+pub mod Ascending
+pub mod Walking
+pub mod Placing
+pub mod Noting
+pub mod Covering
+pub mod Parting
+pub mod Beneath
+pub mod Descending
+pub mod Following
+pub mod Slotted
+pub mod Nodes

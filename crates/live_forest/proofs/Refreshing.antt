@@ -14,7 +14,7 @@ use Rattle.forest_place.proofs.Parts.{parts-suc, InForest-down, InForest-left, I
 use Rattle.forest_place.proofs.Siblings.{sibling_cases, sibling_within}
 use Rattle.live_forest.specs.Pages.{IsOfHalves}
 use Rattle.live_forest.specs.Stores.{StoreState, stored, IsEntryKept, IsPartKept, HasRoomOf}
-use Rattle.live_forest.specs.Parts.{leaves_of, part_digest, AreParts, ArePartsBut, AreBeside, pairs, digests_to}
+use Rattle.live_forest.specs.Parts.{leaves_of, kept, part_digest, AreParts, ArePartsBut, AreBeside, pairs, digests_to}
 use Rattle.live_forest.proofs.Entries.{content-set_other, parts_before, path_below}
 
 pub digest-joined : (H : List ℕ → Digest) (x y : Option Tree)
@@ -26,6 +26,11 @@ digest-joined H (Some l) (Some r) = refl
 pub digest-leaf : (H : List ℕ → Digest) (off : ℕ) (x : Option Digest) → x ≡ option_map (digest_of H) (option_map (leaf off) x)
 digest-leaf H off None = refl
 digest-leaf H off (Some d) = refl
+
+-- what is kept for a part is its digest
+pub kept_right : (H : List ℕ → Digest) (n : ℕ) (leaves : List (Option Digest)) (s : StoreState) (row off : ℕ) → AreParts H n leaves s
+    → InForest n row off → kept leaves s row off ≡ part_digest H leaves row off
+kept_right H n leaves s row off right h = right.is row off h
 
 -- where a part further up is in the forest, so is the next one
 row_open : (n number row off r : ℕ) → off ≡ number / 2 ^ row → row < r → InForest n r (number / 2 ^ r) → off / 2 < n / 2 ^ row / 2

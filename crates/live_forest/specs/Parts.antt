@@ -1,5 +1,5 @@
 -- What the store keeps for the parts of the entries: the digest of what each has live.
-use Rattle.std.specs.Prelude.{◌≡◌, ◌≢◌, ℕ, zero, suc, ◌+◌, ◌*◌, ◌/◌, ◌^◌, ◌<◌, ◌≤◌, List, get_or, map, Option, Some, None, option_map}
+use Rattle.std.specs.Prelude.{◌≡◌, ◌≢◌, ℕ, zero, suc, ◌+◌, ◌*◌, ◌/◌, ◌^◌, ◌<◌, ◌≤◌, List, get_or, map, take, Option, Some, None, option_map}
 use Rattle.std.specs.List.{range_with_len}
 use Rattle.uo_digest.specs.declared.digest.Digest.{Digest}
 use Rattle.forest_model.specs.Content.{content, digest_of}
@@ -9,6 +9,14 @@ use Rattle.live_forest.specs.Stores.{StoreState, stored}
 -- what is kept for all entries that there is room for
 abbrev pub leaves_of : StoreState → List (Option Digest)
 leaves_of s = map (λ i. stored s 0 i) (range_with_len 0 s.len)
+
+-- the first n of them
+abbrev pub entries_in : ℕ → StoreState → List (Option Digest)
+entries_in n s = take n (leaves_of s)
+
+-- the digest that is kept for a part of some entries
+abbrev pub kept : List (Option Digest) → StoreState → ℕ → ℕ → Option Digest
+kept es s row off = stored s row off
 
 -- the digest of what a part has live, if it has something
 abbrev pub part_digest : (List ℕ → Digest) → List (Option Digest) → ℕ → ℕ → Option Digest

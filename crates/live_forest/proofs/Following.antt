@@ -1,0 +1,262 @@
+-- The way down to one entry, as a loop: at each part what is noted later, with what was noted so far, is what is beneath the first place.
+use Rattle.std.proofs.Common.{◌≡◌, ◌≢◌, ℕ, ◌+◌, ◌-◌, ◌*◌, ◌/◌, ◌%◌, ◌^◌, ◌<◌, true, false, List, [], ◌∷◌, ◌++◌, length, Option, Some, None, refl, sym}
+use Rattle.std.proofs.Common.{ap, ap₂, ◌∙◌, subst, ⊎_elim, ◌⊎◌, inl, inr, arith}
+use Rattle.std.specs.Prelude.{nat_le, option_map}
+use Rattle.std.specs.List.{filter_map}
+use Rattle.std.proofs.lemmas.Bool.{le-leb, lt-leb, cases_lt}
+use Rattle.uo_digest.specs.declared.digest.Digest.{Digest}
+use Rattle.forest_place.specs.declared.place.Place.{Place}
+use Rattle.forest_place.specs.Forest.{InForest, sibling_off}
+use Rattle.forest_place.proofs.Siblings.{sibling_cases, sibling_half, sibling_twice}
+use Rattle.forest_model.specs.Content.{Tree, content, digest_of}
+use Rattle.forest_model.specs.Standing.{tree_at}
+use Rattle.forest_model.specs.Deletion.{StandAt}
+use Rattle.forest_model.proofs.Deleting.{is_spent}
+use Rattle.live_forest.specs.declared.batch.Sibling.{Sibling}
+use Rattle.live_forest.specs.Stores.{StoreState}
+use Rattle.live_forest.specs.Parts.{AreParts, kept}
+use Rattle.live_forest.specs.State.{is_live}
+use Rattle.live_forest.specs.Proving.{standing, beneath, list_of, AreMore, AreOfPart}
+use Rattle.live_forest.proofs.Refreshing.{kept_right}
+use Rattle.live_forest.proofs.Seeking.{within_left, within_right, alike}
+use Rattle.live_forest.proofs.Noting.{stands_left, stands_right, stand_both}
+use Rattle.live_forest.proofs.Parting.{head_spent}
+use Rattle.live_forest.proofs.Beneath.{beneath_above, covered_top, more_nothing, more_one, by_order}
+use Rattle.live_forest.proofs.Covering.{covered}
+use Rattle.live_forest.proofs.Descending.{half_of, not_in, in_part, way_none, way_one, way_left, way_right, AreHalved, way_low, way_high, way_both}
+use Rattle.live_forest.proofs.Descending.{way_across}
+
+-- two halves of a part
+pub record ArePair (part half other : Place) : Type 0 where
+  pub some : 0 < part.row
+  pub row : half.row ≡ part.row - 1
+  pub same : other.row ≡ half.row
+  pub off : half.off / 2 ≡ part.off
+  pub beside : other.off ≡ sibling_off half.off
+
+pub pair_of : (part half other : Place) (o : ℕ) → 0 < part.row → half ≡ record { row = part.row - 1; off = 2 * part.off + o % 2 }
+    → other.row ≡ half.row → other.off ≡ sibling_off half.off → ArePair part half other
+pair_of part half other o some is same beside =
+    let off = ap (λ (p : Place). p.off) is in
+    record { some = some; row = ap (λ (p : Place). p.row) is; same = same; off = omega (arith, off); beside = beside }
+
+-- the half that has an entry of the part
+pub own_half : (at half : Place) (x : ℕ) → 0 < at.row → half ≡ record { row = at.row - 1; off = 2 * at.off + x / 2 ^ (at.row - 1) % 2 }
+    → x / 2 ^ at.row ≡ at.off → x / 2 ^ half.row ≡ half.off
+own_half at half x some is inside =
+    let row = ap (λ (p : Place). p.row) is in
+    let off = ap (λ (p : Place). p.off) is in
+    let up = half_of x half.row at some row in
+    let side : x / 2 ^ half.row % 2 ≡ x / 2 ^ (at.row - 1) % 2 = ap (λ r. x / 2 ^ r % 2) row in
+    omega (arith, off, up, inside, side)
+
+-- something is kept for each part that has a live entry
+pub own_kept : (H : List ℕ → Digest) (es : List (Option Digest)) (parts : StoreState) → AreParts H (length es) es parts → (row off i : ℕ)
+    → InForest (length es) row off → is_live es i ≡ true → i / 2 ^ row ≡ off → (d : Digest) × (Some d ≡ kept es parts row off)
+own_kept H es parts right row off i within live here = by (content es row off) refl
+  where
+    by : (x : Option Tree) → content es row off ≡ x → (d : Digest) × (Some d ≡ kept es parts row off)
+    by None e = absurd (not_in es row off i e live here)
+    by (Some t) e = (digest_of H t, sym (kept_right H (length es) es parts row off right within ∙ ap (option_map (digest_of H)) e))
+
+-- which of them is on which side
+pub sides : (part half other : Place) → ArePair part half other → ((half.off ≡ 2 * part.off) × (other.off ≡ 2 * part.off + 1))
+    ⊎ ((half.off ≡ 2 * part.off + 1) × (other.off ≡ 2 * part.off))
+sides part half other p = ⊎_elim (λ a. inl (omega (arith, a, p.off), omega (arith, a, p.off, p.beside)))
+    (λ a. inr (omega (arith, a, p.off), omega (arith, a, p.off, p.beside))) (sibling_cases half.off)
+
+pub other_pair : (part half other : Place) → ArePair part half other → ArePair part other half
+other_pair part half other p = record {
+  some = p.some;
+  row = p.same ∙ p.row;
+  same = sym p.same;
+  off = ap (λ o. o / 2) p.beside ∙ (sibling_half half.off ∙ p.off);
+  beside = sym (ap sibling_off p.beside ∙ sibling_twice half.off);
+}
+
+pub half_within : (n : ℕ) (part half other : Place) → ArePair part half other → InForest n part.row part.off → InForest n half.row half.off
+half_within n part half other p h =
+    ⊎_elim
+    (λ a. rw (p.row, a.0) (within_left n part.row part.off p.some h))
+    (λ a. rw (p.row, a.0) (within_right n part.row part.off p.some h))
+    (sides part half other p)
+
+-- the tree of a part is that of its half where the other has nothing
+pub half_stands : (H : List ℕ → Digest) (es : List (Option Digest)) (parts : StoreState) (right : AreParts H (length es) es parts)
+    (part half other q : Place) → ArePair part half other → InForest (length es) part.row part.off
+    → tree_at es q.row q.off ≡ content es part.row part.off → None ≡ kept es parts other.row other.off
+    → tree_at es q.row q.off ≡ content es half.row half.off
+half_stands H es parts right part half other q p h s none =
+    ⊎_elim
+    (λ a. stands_left H es parts right part.row part.off q p.some h s (none ∙ ap₂ (kept es parts) (p.same ∙ p.row) a.1)
+    ∙ sym (ap₂ (content es) p.row a.0))
+    (λ a. stands_right H es parts right part.row part.off q p.some h s (none ∙ ap₂ (kept es parts) (p.same ∙ p.row) a.1)
+    ∙ sym (ap₂ (content es) p.row a.0))
+    (sides part half other p)
+
+-- a part with something in both halves stands above them
+pub record StandBeneath (es : List (Option Digest)) (half other below beside : Place) : Type 0 where
+  pub half_there : tree_at es below.row below.off ≡ content es half.row half.off
+  pub other_there : tree_at es beside.row beside.off ≡ content es other.row other.off
+
+pub high_above : (H : List ℕ → Digest) (es : List (Option Digest)) (parts : StoreState) (right : AreParts H (length es) es parts)
+    (part half other q : Place) (x y : Digest) → ArePair part half other → InForest (length es) part.row part.off
+    → tree_at es q.row q.off ≡ content es part.row part.off → Some x ≡ kept es parts half.row half.off → Some y ≡ kept es parts other.row other.off
+    → 0 < q.row
+high_above H es parts right part half other q x y p h s e f =
+    ⊎_elim
+    (λ a. (stand_both H es parts right part.row part.off q x y p.some h s (e ∙ ap₂ (kept es parts) p.row a.0)
+    (f ∙ ap₂ (kept es parts) (p.same ∙ p.row) a.1)).high)
+    (λ a. (stand_both H es parts right part.row part.off q y x p.some h s (f ∙ ap₂ (kept es parts) (p.same ∙ p.row) a.1)
+    (e ∙ ap₂ (kept es parts) p.row a.0)).high)
+    (sides part half other p)
+
+pub stand_beneath : (H : List ℕ → Digest) (es : List (Option Digest)) (parts : StoreState) (right : AreParts H (length es) es parts)
+    (part half other q below beside : Place) (x y : Digest) → ArePair part half other → ArePair q below beside → below.off % 2 ≡ half.off % 2
+    → InForest (length es) part.row part.off → tree_at es q.row q.off ≡ content es part.row part.off → Some x ≡ kept es parts half.row half.off
+    → Some y ≡ kept es parts other.row other.off → StandBeneath es half other below beside
+stand_beneath H es parts right part half other q below beside x y p b alike h s e f =
+    ⊎_elim
+    (λ a.
+    let two = stand_both H es parts right part.row part.off q x y p.some h s (e ∙ ap₂ (kept es parts) p.row a.0)
+    (f ∙ ap₂ (kept es parts) (p.same ∙ p.row) a.1) in
+    let under : below.off ≡ 2 * q.off = omega (arith, a.0, alike, b.off) in
+    let over : beside.off ≡ 2 * q.off + 1 = ⊎_elim (λ d. d.1) (λ d. absurd (omega (arith, d.0, under))) (sides q below beside b) in
+    record {
+      half_there = ap₂ (tree_at es) b.row under ∙ (two.low ∙ sym (ap₂ (content es) p.row a.0));
+      other_there = ap₂ (tree_at es) (b.same ∙ b.row) over ∙ (two.above ∙ sym (ap₂ (content es) (p.same ∙ p.row) a.1));
+    })
+    (λ a.
+    let two = stand_both H es parts right part.row part.off q y x p.some h s (f ∙ ap₂ (kept es parts) (p.same ∙ p.row) a.1)
+    (e ∙ ap₂ (kept es parts) p.row a.0) in
+    let under : below.off ≡ 2 * q.off + 1 = omega (arith, a.0, alike, b.off) in
+    let over : beside.off ≡ 2 * q.off = ⊎_elim (λ d. absurd (omega (arith, d.0, under))) (λ d. d.1) (sides q below beside b) in
+    record {
+      half_there = ap₂ (tree_at es) b.row under ∙ (two.above ∙ sym (ap₂ (content es) p.row a.0));
+      other_there = ap₂ (tree_at es) (b.same ∙ b.row) over ∙ (two.low ∙ sym (ap₂ (content es) (p.same ∙ p.row) a.1));
+    })
+    (sides part half other p)
+
+-- ---- what is noted on the way
+
+-- the part has these numbers of all, and what is noted from here on is all that is noted beneath the first place
+pub record IsOn (H : List ℕ → Digest) (es : List (Option Digest)) (ts : List Place) (all : List ℕ) (top part q : Place) (numbers : List ℕ)
+    (first rows : List (List Sibling)) : Type 0 where
+  pub has : AreOfPart es ts all part q numbers
+  pub more : (last : List (List Sibling)) → AreMore H es ts q rows last → AreMore H es ts top first last
+
+module _ (H : List ℕ → Digest) (es : List (Option Digest)) (ts : List Place) (all : List ℕ) (at : StandAt es ts all) (top part half other q : Place)
+    (numbers : List ℕ) (first rows : List (List Sibling)) (p : ArePair part half other) (o : IsOn H es ts all top part q numbers first rows) where
+  -- the other half has nothing
+  pub on_half : content es other.row other.off ≡ None → IsOn H es ts all top half q numbers first rows
+  on_half none = record {
+    has = ⊎_elim
+        (λ a. way_left es ts all at part half q numbers p.some p.row a.0 (ap₂ (content es) (sym p.same) (sym a.1) ∙ none) o.has)
+        (λ a. way_right es ts all at part half q numbers p.some p.row a.0 (ap₂ (content es) (sym p.same) (sym a.1) ∙ none) o.has)
+        (sides part half other p);
+    more = o.more;
+  }
+
+module _ (H : List ℕ → Digest) (es : List (Option Digest)) (ts : List Place) (all : List ℕ) (at : StandAt es ts all)
+    (top part half other q below beside : Place) (x : ℕ) (first rows mid : List (List Sibling)) (p : ArePair part half other)
+    (b : ArePair q below beside) (side : half.off % 2 ≡ x / 2 ^ half.row % 2) (alike : below.off % 2 ≡ half.off % 2)
+    (there : InForest (length es) q.row q.off) (stands : tree_at es q.row q.off ≡ content es part.row part.off)
+    (s : StandBeneath es half other below beside) (here : list_of mid beside.row ≡ list_of rows beside.row
+    ++ filter_map (standing H es) (beside ∷ [])) (others : (row : ℕ) → row ≢ beside.row → list_of mid row ≡ list_of rows row)
+    (o : IsOn H es ts all top part q (x ∷ []) first rows) where
+  its : (is_spent all x ≡ true) × (x / 2 ^ part.row ≡ part.off)
+  its = in_part es ts all at part q (x ∷ []) x o.has (head_spent x [])
+
+  in_half : x / 2 ^ half.row ≡ half.off
+  in_half = let up = half_of x half.row part p.some p.row in omega (arith, up, its.1, side, p.off)
+
+  within_beside : InForest (length es) beside.row beside.off
+  within_beside = half_within (length es) q beside below (other_pair q below beside b) there
+
+  -- what is beside has none of them, and is noted alone
+  noted : AreOfPart es ts all other beside [] → AreMore H es ts beside rows mid
+  noted none = let way = way_none es ts all at H other beside [] refl within_beside s.other_there none in
+      more_one H es ts beside rows mid way.0 way.1 here others
+
+  apart : AreOfPart es ts all other beside [] → (row : ℕ) → (beneath H es ts below row ≡ []) ⊎ (beneath H es ts beside row ≡ [])
+  apart none row =
+      let way = way_none es ts all at H other beside [] refl within_beside s.other_there none in
+      let c = covered es ts all at half.row half.off below x s.half_there its.0 in_half in
+      ⊎_elim
+      (λ low. inl (⊎_elim
+      (λ over. beneath_above H es ts below row over)
+      (λ under. let e : row ≡ below.row = omega (arith, low, under) in
+      subst (λ r. beneath H es ts below r ≡ []) (sym e) (covered_top H es ts below c.0 c.1))
+      (cases_lt below.row row)))
+      (λ under. inr (way.1 row (omega (arith, under, b.same))))
+      (by_order below.row row)
+
+  -- both halves have something
+  pub on_both : IsOn H es ts all top half below (x ∷ []) first mid
+  on_both =
+      ⊎_elim
+      (λ a.
+      let under : below.off ≡ 2 * q.off = omega (arith, a.0, alike, b.off) in
+      let over : beside.off ≡ 2 * q.off + 1 = ⊎_elim (λ d. d.1) (λ d. absurd (omega (arith, d.0, under))) (sides q below beside b) in
+      let halved : AreHalved es ts all at part q half other below beside =
+      record {
+        some = p.some;
+        high = b.some;
+        there = there;
+        left_row = p.row;
+        left_off = a.0;
+        right_row = p.same ∙ p.row;
+        right_off = a.1;
+        under_row = b.row;
+        under_off = under;
+        beside_row = b.same ∙ b.row;
+        beside_off = over;
+        left_stands = s.half_there;
+        right_stands =
+            s.other_there;
+      } in
+      let yes : nat_le (x / 2 ^ half.row) half.off ≡ true = le-leb _ _ (omega (arith, in_half)) in
+      let low = way_low es ts all at part q half other below beside (x ∷ []) halved o.has (x ∷ []) x (rw yes refl) (head_spent x []) in
+      let none = way_high es ts all at part q half other below beside (x ∷ []) halved o.has [] x (rw yes refl) (head_spent x []) in
+      record {
+        has = low;
+        more = λ last one. o.more last (way_across es ts all at part q half other below beside (x ∷ []) halved o.has H x rows mid
+            last stands (head_spent x []) (apart none) (noted none) one);
+      })
+      (λ a.
+      let under : below.off ≡ 2 * q.off + 1 = omega (arith, a.0, alike, b.off) in
+      let over : beside.off ≡ 2 * q.off = ⊎_elim (λ d. absurd (omega (arith, d.0, under))) (λ d. d.1) (sides q below beside b) in
+      let halved : AreHalved es ts all at part q other half beside below =
+      record {
+        some = p.some;
+        high = b.some;
+        there = there;
+        left_row = p.same ∙ p.row;
+        left_off = a.1;
+        right_row = p.row;
+        right_off = a.0;
+        under_row = b.same ∙ b.row;
+        under_off = over;
+        beside_row = b.row;
+        beside_off = under;
+        left_stands = s.other_there;
+        right_stands =
+            s.half_there;
+      } in
+      let no : nat_le (x / 2 ^ other.row) other.off ≡ false =
+      lt-leb _ _ (let e : x / 2 ^ other.row ≡ half.off = ap (λ r. x / 2 ^ r) p.same ∙ in_half in omega (arith, e, a)) in
+      let none = way_low es ts all at part q other half beside below (x ∷ []) halved o.has [] x (rw no refl) (head_spent x []) in
+      let high = way_high es ts all at part q other half beside below (x ∷ []) halved o.has (x ∷ []) x (rw no refl) (head_spent x []) in
+      record {
+        has = high;
+        more = λ last one. o.more last (way_both es ts all at part q other half beside below (x ∷ []) halved o.has H x rows mid
+            last stands (head_spent x []) (noted none) one);
+      })
+      (sides part half other p)
+
+-- at the entry nothing more is noted
+pub on_entry : (H : List ℕ → Digest) (es : List (Option Digest)) (ts : List Place) (all : List ℕ) → StandAt es ts all
+    → (top part q : Place) (x : ℕ) (first rows : List (List Sibling)) → part.row ≡ 0 → tree_at es q.row q.off ≡ content es part.row part.off
+    → IsOn H es ts all top part q (x ∷ []) first rows → AreMore H es ts top first rows
+on_entry H es ts all at top part q x first rows one stands o =
+    o.more rows (more_nothing H es ts q rows (way_one es ts all at H part q (x ∷ []) x one (head_spent x []) stands o.has))

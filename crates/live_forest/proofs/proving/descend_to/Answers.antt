@@ -1,0 +1,156 @@
+use Rattle.std.proofs.Common.{◌≡◌, ◌/◌, ◌%◌, ◌^◌, ◌++◌, length, Some, None, sym, ap, ◌∙◌, arith}
+use Rattle.forest_place.specs.declared.place.Place.{Place}
+use Rattle.forest_place.proofs.Positions.{row_small}
+use Rattle.forest_model.specs.Content.{content}
+use Rattle.live_forest.specs.Parts.{kept}
+use Rattle.live_forest.specs.Proving.{list_of}
+use Rattle.live_forest.proofs.Seeking.{alike, tree_none}
+use Rattle.live_forest.proofs.Noting.{there, digest_here, rows_stay}
+use Rattle.live_forest.proofs.Beneath.{noted_is}
+use Rattle.live_forest.proofs.Placing.{entry_here, place_pushed}
+use Rattle.live_forest.proofs.Following.{own_half, own_kept, pair_of, other_pair, half_within, half_stands, high_above, stand_beneath, on_half}
+use Rattle.live_forest.proofs.Following.{on_both, on_entry}
+use Rattle.live_forest.specs.Parts.{entries_in}
+use Rattle.live_forest.proofs.proving.descend_to.Goals as goal
+
+pub overflow_shr-number : goal.overflow_shr-number
+overflow_shr-number g c =
+    let row = row_small (length (entries_in c.args.n c.args.store.now)) c.way.at.row c.way.at.off 40 c.way.invariant.within c.requires.small in
+    omega (arith, row)
+
+pub part_in-requires-clause-within : goal.part_in-requires-clause-within
+part_in-requires-clause-within g c =
+    let H = g.D.Digester.digest_of in
+    let es = (entries_in c.args.n c.args.store.now) in
+    let parts = c.args.store.now in
+    let at = c.way.at in
+    let q = c.way.above in
+    let half = c.child-half.result in
+    let other = c.sibling-other.result in
+    let pair = pair_of at half other _ (omega (arith, c.way-test.true)) c.child-half.ensures c.sibling-other.ensures.row
+    c.sibling-other.ensures.off in
+    half_within (length es) at other half (other_pair at half other pair) c.way.invariant.within
+
+pub way-preserved-in-None : goal.way-preserved-in-None
+way-preserved-in-None g c =
+    let H = g.D.Digester.digest_of in
+    let es = (entries_in c.args.n c.args.store.now) in
+    let parts = c.args.store.now in
+    let at = c.way.at in
+    let q = c.way.above in
+    let half = c.child-half.result in
+    let other = c.sibling-other.result in
+    let pair = pair_of at half other _ (omega (arith, c.way-test.true)) c.child-half.ensures c.sibling-other.ensures.row
+    c.sibling-other.ensures.off in
+    let inside = own_half at half c.args.number (omega (arith, c.way-test.true)) c.child-half.ensures c.way.invariant.inside in
+    let none : None ≡ kept es parts other.row other.off = c.in-None.ensures in
+    let nothing : content es other.row other.off ≡ None = tree_none es parts (alike H es parts c.requires.right) other.row other.off
+    (half_within (length es) at other half (other_pair at half other pair) c.way.invariant.within) none in
+    record {
+      within = half_within (length es) at half other pair c.way.invariant.within;
+      stands = half_stands H es parts c.requires.right at half other q pair c.way.invariant.within c.way.invariant.stands none;
+      there = c.way.invariant.there;
+      inside = inside;
+      wide = c.way.invariant.wide;
+      on = λ ts all s w. on_half H es ts all s c.args.place at half other q _ _ _ pair (c.way.invariant.on ts all s w) nothing;
+    }
+
+pub child-below-requires-clause-row : goal.child-below-requires-clause-row
+child-below-requires-clause-row g c =
+    let H = g.D.Digester.digest_of in
+    let es = (entries_in c.args.n c.args.store.now) in
+    let parts = c.args.store.now in
+    let at = c.way.at in
+    let q = c.way.above in
+    let half = c.child-half.result in
+    let other = c.sibling-other.result in
+    let pair = pair_of at half other _ (omega (arith, c.way-test.true)) c.child-half.ensures c.sibling-other.ensures.row
+    c.sibling-other.ensures.off in
+    let inside = own_half at half c.args.number (omega (arith, c.way-test.true)) c.child-half.ensures c.way.invariant.inside in
+    let one = own_kept H es parts c.requires.right half.row half.off c.args.number (half_within (length es) at half other pair c.way.invariant.within)
+    (c.requires.inside 0 0 (omega arith)).0 inside in
+    let two : Some c.in-Some.digest ≡ kept es parts other.row other.off = c.in-Some.ensures in
+    let above = high_above H es parts c.requires.right at half other q one.0 c.in-Some.digest pair c.way.invariant.within c.way.invariant.stands one.1
+    two in
+    above
+
+pub put-requires : goal.put-requires
+put-requires g c =
+    let H = g.D.Digester.digest_of in
+    let es = (entries_in c.args.n c.args.store.now) in
+    let parts = c.args.store.now in
+    let at = c.way.at in
+    let q = c.way.above in
+    let half = c.child-half.result in
+    let other = c.sibling-other.result in
+    let pair = pair_of at half other _ (omega (arith, c.way-test.true)) c.child-half.ensures c.sibling-other.ensures.row
+    c.sibling-other.ensures.off in
+    let inside = own_half at half c.args.number (omega (arith, c.way-test.true)) c.child-half.ensures c.way.invariant.inside in
+    let one = own_kept H es parts c.requires.right half.row half.off c.args.number (half_within (length es) at half other pair c.way.invariant.within)
+    (c.requires.inside 0 0 (omega arith)).0 inside in
+    let two : Some c.in-Some.digest ≡ kept es parts other.row other.off = c.in-Some.ensures in
+    let above = high_above H es parts c.requires.right at half other q one.0 c.in-Some.digest pair c.way.invariant.within c.way.invariant.stands one.1
+    two in
+    let below = c.child-below.result in
+    let beside = c.sibling.result in
+    let under = pair_of q below beside _ above c.child-below.ensures c.sibling.ensures.row c.sibling.ensures.off in
+    let alike : below.off % 2 ≡ half.off % 2 = let off = ap (λ (p : Place). p.off) c.child-below.ensures in omega (arith, off) in
+    let beneath = stand_beneath H es parts c.requires.right at half other q below beside one.0 c.in-Some.digest pair under alike
+    c.way.invariant.within c.way.invariant.stands one.1 two in
+    let there' = there H es parts c.requires.right other.row other.off beside c.in-Some.digest
+    (half_within (length es) at other half (other_pair at half other pair) c.way.invariant.within) beneath.other_there two in
+    c.way.invariant.wide.is beside.row beside.off there'
+
+pub way-preserved : goal.way-preserved
+way-preserved g c =
+    let H = g.D.Digester.digest_of in
+    let es = (entries_in c.args.n c.args.store.now) in
+    let parts = c.args.store.now in
+    let at = c.way.at in
+    let q = c.way.above in
+    let half = c.child-half.result in
+    let other = c.sibling-other.result in
+    let pair = pair_of at half other _ (omega (arith, c.way-test.true)) c.child-half.ensures c.sibling-other.ensures.row
+    c.sibling-other.ensures.off in
+    let inside = own_half at half c.args.number (omega (arith, c.way-test.true)) c.child-half.ensures c.way.invariant.inside in
+    let one = own_kept H es parts c.requires.right half.row half.off c.args.number (half_within (length es) at half other pair c.way.invariant.within)
+    (c.requires.inside 0 0 (omega arith)).0 inside in
+    let two : Some c.in-Some.digest ≡ kept es parts other.row other.off = c.in-Some.ensures in
+    let above = high_above H es parts c.requires.right at half other q one.0 c.in-Some.digest pair c.way.invariant.within c.way.invariant.stands one.1
+    two in
+    let below = c.child-below.result in
+    let beside = c.sibling.result in
+    let under = pair_of q below beside _ above c.child-below.ensures c.sibling.ensures.row c.sibling.ensures.off in
+    let alike : below.off % 2 ≡ half.off % 2 = let off = ap (λ (p : Place). p.off) c.child-below.ensures in omega (arith, off) in
+    let beneath = stand_beneath H es parts c.requires.right at half other q below beside one.0 c.in-Some.digest pair under alike
+    c.way.invariant.within c.way.invariant.stands one.1 two in
+    let within' = half_within (length es) at other half (other_pair at half other pair) c.way.invariant.within in
+    let noted = c.in_ok-put-in-Some.ensures.here ∙ ap (λ xs. list_of c.way.rows.items beside.row ++ xs)
+    (sym (noted_is H es beside c.in-Some.digest
+    (digest_here H es parts c.requires.right other.row other.off beside c.in-Some.digest within' beneath.other_there two))) in
+    let side : half.off % 2 ≡ c.args.number / 2 ^ half.row % 2 = let row = ap (λ (p : Place). p.row) c.child-half.ensures in
+    let off = ap (λ (p : Place). p.off) c.child-half.ensures in omega (arith, off, ap (λ r. c.args.number / 2 ^ r % 2) row) in
+    record {
+      within = half_within (length es) at half other pair c.way.invariant.within;
+      stands = beneath.half_there;
+      there = half_within (length es) q below beside under c.way.invariant.there;
+      inside = inside;
+      wide = rows_stay (length es) c.way.rows.items c.put.new.rows.items c.put.ensures.len c.way.invariant.wide;
+      on = λ ts all s w. on_both H es ts all s c.args.place at half other q below beside c.args.number _ _ _ pair under side alike
+          c.way.invariant.there c.way.invariant.stands beneath noted c.put.ensures.others (c.way.invariant.on ts all s w);
+    }
+
+pub returns-in_err-put-in-Some-clause-wide : goal.returns-in_err-put-in-Some-clause-wide
+returns-in_err-put-in-Some-clause-wide g c =
+    rows_stay (length (entries_in c.args.n c.args.store.now)) c.way.rows.items c.put.new.rows.items c.put.ensures.len c.way.invariant.wide
+
+pub returns-clause-noted : goal.returns-clause-noted
+returns-clause-noted g c = λ ts all s w. on_entry g.D.Digester.digest_of (entries_in c.args.n c.args.store.now) ts all s c.args.place c.way.at c.way.above c.args.number _
+    _ (omega (arith, c.way-test.false)) c.way.invariant.stands (c.way.invariant.on ts all s w)
+
+pub returns-clause-places : goal.returns-clause-places
+returns-clause-places g c =
+    let es = (entries_in c.args.n c.args.store.now) in
+    let here = entry_here es c.args.number c.way.at c.way.above (omega (arith, c.way-test.false)) (c.requires.inside 0 0 (omega arith)).0
+    c.way.invariant.inside c.way.invariant.stands in
+    place_pushed es c.args.number c.way.above c.args.places.now.items c.push.new.self.items c.in_ok-push.ensures.items here

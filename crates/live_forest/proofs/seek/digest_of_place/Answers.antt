@@ -1,0 +1,14 @@
+use Rattle.std.proofs.Common.{length, sym, ap}
+use Rattle.std.specs.Prelude.{option_map}
+use Rattle.forest_model.specs.Content.{digest_of}
+use Rattle.live_forest.specs.Parts.{entries_in}
+use Rattle.live_forest.proofs.Seeking.{alike, outside}
+use Rattle.live_forest.proofs.Walking.{not_within}
+use Rattle.live_forest.proofs.seek.digest_of_place.Goals as goal
+
+pub returns-then-not-is_within : goal.returns-then-not-is_within
+returns-then-not-is_within g c =
+    let H = g.D.Digester.digest_of in
+    let es = entries_in c.args.n c.args.store.now in
+    ap (option_map (digest_of H)) (sym (outside es c.args.store.now (alike H es c.args.store.now c.requires.right) c.args.row c.args.off
+    (not_within _ _ c.if-not-is_within.true c.is_within.ensures)))

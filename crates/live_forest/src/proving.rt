@@ -1,0 +1,335 @@
+//! What proves entries: the digests that stand beside the ways down to them, all of them from one walk down. It goes through each part once,
+//! and where it reads the halves of one does not hang on what another has.
+ghost use Rattle.std.specs.Prelude.{◌≡◌, ◌≢◌, ℕ, List, suc, ◌++◌, ◌∷◌, ◌/◌, ◌^◌, ◌<◌, ◌≤◌, [], true, length, filter, map, take, drop, not, nat_le};
+ghost use Rattle.std.specs.Prelude.{Some, All, IfOk, OnOk, OnErr};
+ghost use Rattle.std.specs.List.{filter_map, flat_map};
+ghost use Rattle.std.specs.List.Sorted.{IsNonDecreasing};
+ghost use Rattle.forest_place.specs.Forest.{InForest};
+ghost use Rattle.forest_place.specs.declared.place.Place.{Place};
+ghost use Rattle.forest_model.specs.Content.{content};
+ghost use Rattle.forest_model.specs.Deletion.{StandAt};
+ghost use Rattle.forest_model.specs.Standing.{tree_at};
+ghost use Rattle.forest_model.specs.EntryPlace.{entry_place};
+ghost use Rattle.live_forest.specs.Parts.{entries_in, AreParts};
+ghost use Rattle.live_forest.specs.Proving.{places_of, standing, proof_of, in_row, list_of, HasRows, HasPlaces, AreIn, AreBehind, AreMore};
+ghost use Rattle.live_forest.specs.Proving.{AreOfPart, AreFrom, behind};
+ghost use Rattle.live_forest.specs.State.{is_live};
+
+use crate::seen::part_in;
+use crate::batch::{BatchProof, Sibling};
+use crate::store::Store;
+use crate::seek::child;
+use forest_place::{Place, children, sibling};
+use smallvec::SmallVec;
+use std::alloc::{AllocError, Global};
+use std::marker::Model;
+use uo_digest::{Digest, Digester};
+
+/// So many rows has a forest at most.
+const ROWS: usize = 40;
+
+/// So many digests lie in a row itself.
+const IN_ROW: usize = 2;
+
+/// Siblings that stand in one row, from left to right. The first two lie in it, so that a block which spends little asks for no memory row by row.
+#[derive(Drop)]
+pub struct Row {
+    list: SmallVec<Sibling, IN_ROW>,
+}
+
+impl Model for Row {
+    ghost use Rattle.std.specs.Prelude.{List};
+    ghost use Rattle.live_forest.specs.declared.batch.Sibling.{Sibling};
+
+    ghost Value = { List Sibling };
+
+    ghost view = { λ r. r.list.items };
+}
+
+impl Row {
+    // No digest, and room for so many.
+    fn with_room(alloc: Global, room: usize) -> Result<Self, AllocError>
+        ensures { IfOk result (λ row. row ≡ []) }
+    {
+        let mut list = SmallVec::new(alloc);
+        if room > IN_ROW {
+            list.reserve(room)?;
+        }
+        Ok(Row { list })
+    }
+
+    fn push(&mut self, sibling: Sibling) -> Result<(), AllocError>
+        ensures ok { OnOk result (self.new ≡ self.old ++ sibling ∷ []) }
+        ensures err { OnErr result (self.new ≡ self.old) }
+    {
+        self.list.push(sibling)?;
+        Ok(())
+    }
+
+    /// The siblings.
+    pub fn as_slice(&self) -> &[Sibling]
+        ensures { result.now ≡ self.now }
+    {
+        self.list.as_slice()
+    }
+}
+
+// No digest in any row that a forest over n entries has, and room for so many in each.
+fn no_rows(alloc: Global, n: u64, room: usize) -> Result<Vec<Row>, AllocError>
+    requires { n < 2 ^ 40 }
+    ensures wide { IfOk result (λ rows. HasRows n rows.items) }
+    ensures none { IfOk result (λ rows. (row : ℕ) → list_of rows.items row ≡ []) }
+{
+    let mut rows = Vec::with_capacity(alloc, ROWS)?;
+    let mut row: u8 = 0;
+    while n >> row > 0 {
+        rows.push(Row::with_room(alloc, room)?)?;
+        row += 1;
+    }
+    Ok(rows)
+}
+
+// How many of the numbers, which rise, lie in parts of a row up to this one.
+fn count_upto(numbers: &[u64], row: u8, off: u64) -> usize
+    requires row { row < 40 }
+    requires rise { IsNonDecreasing numbers.now }
+    ensures upto { take result numbers.now ≡ filter (λ i. nat_le (i / 2 ^ row) off) numbers.now }
+    ensures beyond { drop result numbers.now ≡ filter (λ i. not (nat_le (i / 2 ^ row) off)) numbers.now }
+    ensures within { result ≤ length numbers.now }
+{
+    let mut count = 0;
+    while count < numbers.len() && numbers[count] >> row <= off {
+        count += 1;
+    }
+    count
+}
+
+// Puts a sibling to those of its row.
+fn put(rows: &mut Vec<Row>, sibling: Sibling) -> Result<(), AllocError>
+    requires { sibling.place.row < length rows.old.items }
+    ensures here { OnOk result (list_of rows.new.items sibling.place.row ≡ list_of rows.old.items sibling.place.row ++ sibling ∷ []) }
+    ensures others { (row : ℕ) → row ≢ sibling.place.row → list_of rows.new.items row ≡ list_of rows.old.items row }
+    ensures len { length rows.new.items ≡ length rows.old.items }
+{
+    rows[sibling.place.row as usize].push(sibling)
+}
+
+// Notes the digest of a part at the place at which its tree stands, if it has something.
+fn note<D: Digester>(
+    store: &Store,
+    n: u64,
+    part: Place,
+    place: Place,
+    rows: &mut Vec<Row>,
+) -> Result<(), AllocError>
+    requires small { length (entries_in n store.now) < 2 ^ 40 }
+    requires room { n ≤ store.now.len }
+    requires right { AreParts D.digest_of (length (entries_in n store.now)) (entries_in n store.now) store.now }
+    requires within { InForest (length (entries_in n store.now)) part.row part.off }
+    requires stands { tree_at (entries_in n store.now) place.row place.off ≡ content (entries_in n store.now) part.row part.off }
+    requires wide { HasRows (length (entries_in n store.now)) rows.old.items }
+    ensures wide { HasRows (length (entries_in n store.now)) rows.new.items }
+    ensures here { OnOk result (list_of rows.new.items place.row ≡ list_of rows.old.items place.row
+        ++ filter_map (standing D.digest_of (entries_in n store.now)) (place ∷ [])) }
+    ensures others { (row : ℕ) → row ≢ place.row → list_of rows.new.items row ≡ list_of rows.old.items row }
+{
+    match part_in(store, n, part.row, part.off) {
+        Some(digest) => put(rows, Sibling { place, digest }),
+        None => Ok(()),
+    }
+}
+
+// Goes down from a part to one entry, and does what `descend` does for that one, in a loop: on the way to one entry no read waits for another.
+// The half that has the entry has something, so only the other one is looked at.
+fn descend_to<D: Digester>(
+    store: &Store,
+    n: u64,
+    part: Place,
+    place: Place,
+    number: u64,
+    rows: &mut Vec<Row>,
+    places: &mut Vec<Place>,
+) -> Result<(), AllocError>
+    requires small { length (entries_in n store.now) < 2 ^ 40 }
+    requires room { n ≤ store.now.len }
+    requires right { AreParts D.digest_of (length (entries_in n store.now)) (entries_in n store.now) store.now }
+    requires within { InForest (length (entries_in n store.now)) part.row part.off }
+    requires stands { tree_at (entries_in n store.now) place.row place.off ≡ content (entries_in n store.now) part.row part.off }
+    requires there { InForest (length (entries_in n store.now)) place.row place.off }
+    requires inside { AreIn (entries_in n store.now) part.row part.off (number ∷ []) }
+    requires wide { HasRows (length (entries_in n store.now)) rows.old.items }
+    ensures wide { HasRows (length (entries_in n store.now)) rows.new.items }
+    ensures places { OnOk result (HasPlaces (entries_in n store.now) (number ∷ []) places.old.items places.new.items) }
+    ensures noted { OnOk result ((ts : List Place) (all : List ℕ) → StandAt (entries_in n store.now) ts all → AreOfPart (entries_in n store.now) ts all part place (number ∷ [])
+        → AreMore D.digest_of (entries_in n store.now) ts place rows.old.items rows.new.items) }
+{
+    let mut at = part;
+    let mut above = place;
+    'way: while at.row > 0 {
+        let half = child(at, number >> (at.row - 1));
+        let other = sibling(half);
+        match part_in(store, n, other.row, other.off) {
+            None => at = half,
+            Some(digest) => {
+                let below = child(above, half.off);
+                let beside = Sibling {
+                    place: sibling(below),
+                    digest,
+                };
+                put(rows, beside)?;
+                at = half;
+                above = below;
+            }
+        }
+    }
+    places.push(above)?;
+    Ok(())
+}
+
+// Adds the place once for each of these numbers.
+fn push_each(places: &mut Vec<Place>, place: Place, numbers: &[u64]) -> Result<(), AllocError>
+    ensures { OnOk result (map Some places.new.items ≡ map Some places.old.items ++ map (λ _. Some place) numbers.now) }
+{
+    for _ in numbers {
+        places.push(place)?;
+    }
+    Ok(())
+}
+
+// Goes down from a part, which has these entries and whose tree stands at this place, to the entries, and notes what is beside the way.
+fn descend<D: Digester>(
+    store: &Store,
+    n: u64,
+    part: Place,
+    place: Place,
+    numbers: &[u64],
+    rows: &mut Vec<Row>,
+    places: &mut Vec<Place>,
+) -> Result<(), AllocError>
+    requires small { length (entries_in n store.now) < 2 ^ 40 }
+    requires room { n ≤ store.now.len }
+    requires right { AreParts D.digest_of (length (entries_in n store.now)) (entries_in n store.now) store.now }
+    requires within { InForest (length (entries_in n store.now)) part.row part.off }
+    requires stands { tree_at (entries_in n store.now) place.row place.off ≡ content (entries_in n store.now) part.row part.off }
+    requires there { InForest (length (entries_in n store.now)) place.row place.off }
+    requires rise { IsNonDecreasing numbers.now }
+    requires inside { AreIn (entries_in n store.now) part.row part.off numbers.now }
+    requires wide { HasRows (length (entries_in n store.now)) rows.old.items }
+    ensures wide { HasRows (length (entries_in n store.now)) rows.new.items }
+    ensures places { OnOk result (HasPlaces (entries_in n store.now) numbers.now places.old.items places.new.items) }
+
+    // Whatever all entries are of which it has these.
+    ensures noted { OnOk result ((ts : List Place) (all : List ℕ) → StandAt (entries_in n store.now) ts all → AreOfPart (entries_in n store.now) ts all part place numbers.now
+        → AreMore D.digest_of (entries_in n store.now) ts place rows.old.items rows.new.items) }
+{
+    if numbers.is_empty() {
+        return note::<D>(store, n, part, place, rows);
+    }
+    if numbers.len() == 1 {
+        return descend_to::<D>(store, n, part, place, numbers[0], rows, places);
+    }
+    if part.row == 0 {
+        return push_each(places, place, numbers);
+    }
+    let (left, right) = children(part);
+    match part_in(store, n, left.row, left.off) {
+        None => descend::<D>(store, n, right, place, numbers, rows, places),
+        Some(_) => match part_in(store, n, right.row, right.off) {
+            None => descend::<D>(store, n, left, place, numbers, rows, places),
+            Some(_) => {
+                let (low, high) = numbers.split_at(count_upto(numbers, left.row, left.off));
+                let (below_left, below_right) = children(place);
+                descend::<D>(store, n, left, below_left, low, rows, places)?;
+                descend::<D>(store, n, right, below_right, high, rows, places)
+            }
+        },
+    }
+}
+
+// Goes down from the root of a row, if it has one and some of these numbers, and answers the numbers behind them.
+fn descend_from<'a, D: Digester>(
+    store: &Store,
+    n: u64,
+    row: u8,
+    numbers: &'a [u64],
+    rows: &mut Vec<Row>,
+    places: &mut Vec<Place>,
+) -> Result<&'a [u64], AllocError>
+    requires small { length (entries_in n store.now) < 2 ^ 40 }
+    requires room { n ≤ store.now.len }
+    requires right { AreParts D.digest_of (length (entries_in n store.now)) (entries_in n store.now) store.now }
+    requires row { row < 40 }
+    requires rise { IsNonDecreasing numbers.now }
+    requires later { AreBehind (entries_in n store.now) (suc row) numbers.now }
+    requires wide { HasRows (length (entries_in n store.now)) rows.old.items }
+    ensures wide { HasRows (length (entries_in n store.now)) rows.new.items }
+    ensures rise { IfOk result (λ numbers. IsNonDecreasing numbers.now) }
+    ensures later { IfOk result (λ left. AreBehind (entries_in n store.now) row left.now) }
+    ensures places { IfOk result (λ left. (here : List ℕ) × (here ++ left.now ≡ numbers.now)
+        × HasPlaces (entries_in n store.now) here places.old.items places.new.items) }
+    ensures behind { IfOk result (λ left. (all : List ℕ) → numbers.now ≡ behind (length (entries_in n store.now)) (suc row) all
+        → left.now ≡ behind (length (entries_in n store.now)) row all) }
+    ensures noted { OnOk result ((ts : List Place) (all : List ℕ) → StandAt (entries_in n store.now) ts all
+        → numbers.now ≡ behind (length (entries_in n store.now)) (suc row) all → AreFrom D.digest_of (entries_in n store.now) ts (suc row) rows.old.items
+        → AreFrom D.digest_of (entries_in n store.now) ts row rows.new.items) }
+{
+    let count = n >> row;
+    if count % 2 == 0 {
+        return Ok(numbers);
+    }
+    let root = Place {
+        row,
+        off: count - 1,
+    };
+    let (here, behind) = numbers.split_at(count_upto(numbers, row, root.off));
+    if !here.is_empty() {
+        descend::<D>(store, n, root, root, here, rows, places)?;
+    }
+    Ok(behind)
+}
+
+// What stands beside the ways down to these entries, by rows. Where they stand is put to the places.
+fn rows_of<D: Digester>(
+    alloc: Global,
+    store: &Store,
+    n: u64,
+    numbers: &[u64],
+    places: &mut Vec<Place>,
+) -> Result<Vec<Row>, AllocError>
+    requires small { length (entries_in n store.now) < 2 ^ 40 }
+    requires room { n ≤ store.now.len }
+    requires right { AreParts D.digest_of (length (entries_in n store.now)) (entries_in n store.now) store.now }
+    requires live { All (λ i. is_live (entries_in n store.now) i ≡ true) numbers.now }
+    requires rise { IsNonDecreasing numbers.now }
+    ensures wide { IfOk result (λ rows. HasRows (length (entries_in n store.now)) rows.items) }
+    ensures places { OnOk result (HasPlaces (entries_in n store.now) numbers.now places.old.items places.new.items) }
+    ensures are { IfOk result (λ rows. (row : ℕ)
+        → list_of rows.items row ≡ in_row D.digest_of (entries_in n store.now) (places_of (entries_in n store.now) numbers.now) row 0 (length (entries_in n store.now) / 2 ^ row)) }
+{
+    let mut rows = no_rows(alloc, n, numbers.len())?;
+    let mut left = numbers;
+    for row in 0..40u8 {
+        left = descend_from::<D>(store, n, 39 - row, left, &mut rows, places)?;
+    }
+    Ok(rows)
+}
+
+// Where these entries stand, which rise, and what proves them.
+pub(crate) fn proof_of_entries<D: Digester>(
+    alloc: Global,
+    store: &Store,
+    n: u64,
+    numbers: &[u64],
+) -> Result<BatchProof, AllocError>
+    requires small { length (entries_in n store.now) < 2 ^ 40 }
+    requires room { n ≤ store.now.len }
+    requires right { AreParts D.digest_of (length (entries_in n store.now)) (entries_in n store.now) store.now }
+    requires live { All (λ i. is_live (entries_in n store.now) i ≡ true) numbers.now }
+    requires rise { IsNonDecreasing numbers.now }
+    ensures places { IfOk result (λ b. map Some b.places.items ≡ map (entry_place (entries_in n store.now)) numbers.now) }
+    ensures siblings { IfOk result (λ b. flat_map (λ row. row) b.rows.items ≡ proof_of D.digest_of (entries_in n store.now) numbers.now) }
+{
+    let mut places = Vec::with_capacity(alloc, numbers.len())?;
+    let rows = rows_of::<D>(alloc, store, n, numbers, &mut places)?;
+    Ok(BatchProof { places, rows })
+}

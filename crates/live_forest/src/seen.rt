@@ -1,0 +1,40 @@
+//! What the look-ups read: the parts of the first `n` entries.
+ghost use Rattle.std.specs.Prelude.{◌≡◌, ◌↔◌, ◌^◌, ◌<◌, ◌≤◌, length, IsTrue};
+ghost use Rattle.forest_place.specs.Forest.{InForest, is_root as is_root_at};
+ghost use Rattle.live_forest.specs.Parts.{entries_in, kept};
+
+use crate::store::Store;
+use forest_place::Place;
+use uo_digest::Digest;
+
+/// The digest that is kept for a part.
+pub(crate) fn part_in(store: &Store, n: u64, row: u8, off: u64) -> Option<Digest>
+    requires small { length (entries_in n store.now) < 2 ^ 40 }
+    requires room { n ≤ store.now.len }
+    requires within { InForest (length (entries_in n store.now)) row off }
+    ensures { result ≡ kept (entries_in n store.now) store.now row off }
+{
+    store.part(n, row, off)
+}
+
+/// Whether a place of the forest is a slot's root.
+pub(crate) fn is_root(store: &Store, n: u64, place: Place) -> bool
+    requires small { length (entries_in n store.now) < 2 ^ 40 }
+    requires room { n ≤ store.now.len }
+    requires within { InForest (length (entries_in n store.now)) place.row place.off }
+    ensures { result ≡ is_root_at (length (entries_in n store.now)) place.row place.off }
+{
+    forest_place::is_root(n, place)
+}
+
+/// Whether the forest has the place.
+pub(crate) fn is_within(store: &Store, n: u64, place: Place) -> bool
+    requires small { length (entries_in n store.now) < 2 ^ 40 }
+    requires room { n ≤ store.now.len }
+    ensures { IsTrue result ↔ InForest (length (entries_in n store.now)) place.row place.off }
+{
+    if place.row >= 40 {
+        return false;
+    }
+    place.off < n >> place.row
+}
