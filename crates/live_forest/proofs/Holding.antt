@@ -14,7 +14,7 @@ use Rattle.forest_place.proofs.Parts.{InForest-left, InForest-right}
 use Rattle.forest_place.proofs.Slots.{in_forest_iff}
 use Rattle.live_forest.specs.Sets.{IsWithout}
 use Rattle.live_forest.specs.Stores.{StoreState, stored, is_listed, HasRoomOf, IsLonger, AreStoredOfHalves}
-use Rattle.live_forest.specs.Parts.{leaves_of, part_digest, AreParts}
+use Rattle.live_forest.specs.Parts.{leaves_of, entries_in, kept, part_digest, AreParts}
 use Rattle.live_forest.specs.Holding.{held_of, IsForest}
 use Rattle.live_forest.specs.State.{is_live, is_held, held_without}
 use Rattle.live_forest.proofs.Entries.{content-take}
@@ -301,3 +301,20 @@ held_gone count number s low gone =
 pub held_without-push : (is : List ℕ) (i : ℕ) (held : List Bool) → held_without (is ++ i ∷ []) held ≡ set (held_without is held) i false
 held_without-push [] i held = refl
 held_without-push (j ∷ is) i held = held_without-push is i (set held j false)
+
+-- the look-ups see the entries and their parts
+pub parts_seen : (H : List ℕ → Digest) (count room : ℕ) (s : StoreState) → IsForest H count room s
+    → AreParts H (length (entries_in count s)) (entries_in count s) s
+parts_seen H count room s forest =
+    let long : length (entries_in count s) ≡ count = length-entries count s (omega (arith, forest.room, forest.longer)) in
+    record {
+      is = λ row off h.
+          let within : InForest count row off = subst (λ m. InForest m row off) long h in
+          forest.right.is row off within ∙ ap (option_map (digest_of H)) (sym (content-take (leaves_of s) count row off within));
+    }
+
+-- what is live is kept for its number
+pub live_kept : (H : List ℕ → Digest) (count room : ℕ) (s : StoreState) (i : ℕ) → IsForest H count room s → i < count
+    → is_live (entries_in count s) i ≡ true → kept (entries_in count s) s 0 i ≡ None → ⊥
+live_kept H count room s i forest low live none =
+    false≢true (sym (ap is_some none) ∙ sym (live_is count s i (omega (arith, forest.room, forest.longer)) low) ∙ live)

@@ -187,8 +187,7 @@ half_inner j off side small =
     let double : 2 ^ suc j ≡ w * 2 = pow-suc 2 j in
     let below = mod_below off w (pow_pos j) in
     let parts : 2 * off + side ≡ off / w * (w * 2) + (2 * (off % w) + side) = omega (arith, shr_split off j) in
-    let lt : 2 * (off % w) + side < w * 2 = omega (arith, below, small) in
-    (
+    let lt : 2 * (off % w) + side < w * 2 = omega (arith, below, small) in (
       ap (λ k. (2 * off + side) / k) double ∙ ap (λ x. x / (w * 2)) parts ∙ div-mul-add (off / w) (w * 2) (2 * (off % w) + side) lt,
       ap (λ k. (2 * off + side) % k) double ∙ ap (λ x. x % (w * 2)) parts ∙ mod-mul-add (off / w) (w * 2) (2 * (off % w) + side) lt,
     )
@@ -209,7 +208,7 @@ half_stored s row number side low small =
 pub halves_inner : (s : StoreState) (row number : ℕ) (own : Option Digest) → row < 7
     → IsOfHalves (stored s row (2 * (number / 2 ^ suc row))) (stored s row (2 * (number / 2 ^ suc row) + 1)) own
     → IsOfHalves (told (page_at s.pages (number / 128)) row (2 * (number % 128 / 2 ^ suc row)))
-      (told (page_at s.pages (number / 128)) row (2 * (number % 128 / 2 ^ suc row) + 1)) own
+    (told (page_at s.pages (number / 128)) row (2 * (number % 128 / 2 ^ suc row) + 1)) own
 halves_inner s row number own low halves =
     let off = number / 2 ^ suc row in
     let p = page_at s.pages (number / 128) in

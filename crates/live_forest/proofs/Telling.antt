@@ -258,13 +258,13 @@ entry_gone p live' number gone = record {
   others = alike (λ r o. number / 2 ^ r ≢ o) (is_bit p.listed) (is_bit p.listed) (is_bit p.live) (is_bit live') (leaf_in p.cells) (leaf_in p.cells)
       (gap_in p.cells) (gap_in p.cells)
       (record {
-    left = λ r o other. half_without number r o (2 * o) other (omega arith);
-    right = λ r o other. half_without number r o (2 * o + 1) other (omega arith);
-    of_listed = λ r o other. refl;
-    of_live = λ r o other. part_other (is_bit p.live) (is_bit live') number r o gone.others other;
-    leaves = λ o other live. refl;
-    gaps = λ r o other b. refl;
-  });
+        left = λ r o other. half_without number r o (2 * o) other (omega arith);
+        right = λ r o other. half_without number r o (2 * o + 1) other (omega arith);
+        of_listed = λ r o other. refl;
+        of_live = λ r o other. part_other (is_bit p.live) (is_bit live') number r o gone.others other;
+        leaves = λ o other live. refl;
+        gaps = λ r o other b. refl;
+      });
 }
 
 leaf_written : (cells : List Cell) (k : ℕ) (c : Cell) → k < length cells → leaf_in (set cells k c) k ≡ c.leaf
@@ -299,16 +299,16 @@ entry_come p live' number k c page low listed at gap come =
       others = alike (λ r o. number / 2 ^ r ≢ o) (is_bit p.listed) (is_bit p.listed) (is_bit p.live) (is_bit live') (leaf_in p.cells)
           (leaf_in (set p.cells k c)) (gap_in p.cells) (gap_in (set p.cells k c))
           (record {
-        left = λ r o other. half_without number r o (2 * o) other (omega arith);
-        right = λ r o other. half_without number r o (2 * o + 1) other (omega arith);
-        of_listed = λ r o other. refl;
-        of_live = λ r o other. part_other (is_bit p.live) (is_bit live') number r o come.others other;
-        leaves = λ o other live.
-            leaf_beside p.cells k (rank (is_bit p.listed) o) c
-            (λ e. other (let z : number / 1 ≡ number = omega arith in
-            z ∙ sym (rank_one (is_bit p.listed) o number (page.within o live) listed (e ∙ at))));
-        gaps = λ r o other b. gap_left p.cells k (rank (is_bit p.listed) (middle r o)) c inside gap;
-      });
+            left = λ r o other. half_without number r o (2 * o) other (omega arith);
+            right = λ r o other. half_without number r o (2 * o + 1) other (omega arith);
+            of_listed = λ r o other. refl;
+            of_live = λ r o other. part_other (is_bit p.live) (is_bit live') number r o come.others other;
+            leaves = λ o other live.
+                leaf_beside p.cells k (rank (is_bit p.listed) o) c
+                (λ e. other (let z : number / 1 ≡ number = omega arith in
+                z ∙ sym (rank_one (is_bit p.listed) o number (page.within o live) listed (e ∙ at))));
+            gaps = λ r o other b. gap_left p.cells k (rank (is_bit p.listed) (middle r o)) c inside gap;
+          });
     }
 
 pub page_gone : (p : PageState) (live' number : ℕ) → IsPage p → IsWithout (is_bit p.live) (is_bit live') number
@@ -356,17 +356,17 @@ part_written p row number k c page h b at leaf live =
       others = alike (λ r o. suc row ≤ r → number / 2 ^ r ≢ o) s s (is_bit p.live) (is_bit p.live) (leaf_in p.cells)
           (leaf_in (set p.cells k c)) (gap_in p.cells) (gap_in (set p.cells k c))
           (record {
-        left = λ r o but. half_but row number r o (2 * o) but (omega arith);
-        right = λ r o but. half_but row number r o (2 * o + 1) but (omega arith);
-        of_listed = λ r o but. refl;
-        of_live = λ r o but. refl;
-        leaves = λ o but some. leaf_left p.cells k (rank s o) c inside leaf;
-        gaps = λ r o but other.
-            gap_beside p.cells k (rank s (middle r o)) c
-            (λ e.
-            let one = branch_one s r o row off other b (e ∙ at) in
-            but (omega (arith, one.0)) (ap (λ x. number / 2 ^ suc x) one.0 ∙ sym one.1));
-      });
+            left = λ r o but. half_but row number r o (2 * o) but (omega arith);
+            right = λ r o but. half_but row number r o (2 * o + 1) but (omega arith);
+            of_listed = λ r o but. refl;
+            of_live = λ r o but. refl;
+            leaves = λ o but some. leaf_left p.cells k (rank s o) c inside leaf;
+            gaps = λ r o but other.
+                gap_beside p.cells k (rank s (middle r o)) c
+                (λ e.
+                let one = branch_one s r o row off other b (e ∙ at) in
+                but (omega (arith, one.0)) (ap (λ x. number / 2 ^ suc x) one.0 ∙ sym one.1));
+          });
     }
 
 pub page_written : (p : PageState) (cells : List Cell) → IsPage p → length cells ≡ length p.cells

@@ -1,16 +1,26 @@
 //! The forest over all entries.
 ghost use Rattle.std.specs.Prelude.{◌≡◌, ℕ, ◌+◌, ◌*◌, ◌^◌, ◌<◌, ◌≤◌, ◌++◌, [], ◌∷◌, length, take, set, get_or, IsTrue, Some, None, MatchOption};
-ghost use Rattle.std.specs.Prelude.{OnOk, OnErr, max, count_ones, All, true, false};
+ghost use Rattle.std.specs.Prelude.{OnOk, OnErr, IfOk, map, max, option_map, count_ones, All, true, false};
+ghost use Rattle.std.specs.List.{flat_map};
+ghost use Rattle.std.specs.List.Sorted.{IsNonDecreasing};
 ghost use Rattle.forest_place.specs.Forest.{is_slot};
 ghost use Rattle.forest_place.specs.Position.{rows as rows_of};
 ghost use Rattle.forest_model.specs.Deletion.{entries_without};
-ghost use Rattle.forest_model.specs.Standing.{root as root_of};
+ghost use Rattle.forest_model.specs.Content.{leaf};
+ghost use Rattle.forest_model.specs.Standing.{root as root_of, tree_at, digest_at as digest_at_of};
+ghost use Rattle.forest_model.specs.EntryPlace.{entry_place};
 ghost use Rattle.forest_roots.specs.Stump.{Stump, StandsFor};
 ghost use Rattle.forest_roots.specs.Joined.{addition_steps as steps_of_roots};
-ghost use Rattle.live_forest.specs.State.{is_live, is_held, addition_steps};
+ghost use Rattle.live_forest.specs.Proving.{proof_of};
+ghost use Rattle.live_forest.specs.State.{is_live, is_held, addition_steps, leaf_number};
 
+use crate::batch::BatchProof;
+use crate::proving::proof_of_entries;
 use crate::refresh::{empty_all, put, put_next};
+use crate::seek::{digest_of_place, number_of_place, place_from};
 use crate::store::Store;
+use crate::walk::digests_of_places;
+use forest_place::Place;
 use forest_roots::Roots;
 use std::alloc::Global;
 use std::marker::{Model, PhantomData};
@@ -189,6 +199,60 @@ impl<D: Digester> Forest<D> {
         if self.store.is_listed(number) {
             self.store.let_go(self.count, number);
         }
+    }
+
+    /// The place at which a live entry stands.
+    pub fn place(&self, number: u64) -> Place
+        requires { IsTrue (is_live self.now.entries number) }
+        ensures stands { tree_at self.now.entries result.row result.off ≡ option_map (leaf number) (get_or self.now.entries number None) }
+        ensures is { entry_place self.now.entries number ≡ Some result }
+    {
+        place_from(
+            &self.store,
+            self.count,
+            Place {
+                row: 0,
+                off: number,
+            },
+        )
+    }
+
+    /// The digest of the node that stands at a place. None where none stands there, as at each place outside the forest.
+    pub fn digest_at(&self, place: Place) -> Option<Digest>
+        ensures { result ≡ digest_at_of D.digest_of self.now.entries place.row place.off }
+    {
+        digest_of_place::<D>(&self.store, self.count, place.row, place.off)
+    }
+
+    /// The digests of the nodes that stand at these places, as `digest_at` answers them. Both lists had better ascend by position: then each
+    /// place whose parent is among `above`, with the places above that, takes a step from there in place of a walk from the root.
+    pub fn digests_at(
+        &self,
+        alloc: Global,
+        above: &[Place],
+        places: &[Place],
+    ) -> Result<Vec<Option<Digest>>, NoMemory>
+        ensures { IfOk result (λ digests. digests.items ≡ map (λ p. digest_at_of D.digest_of self.now.entries p.row p.off) places.now) }
+    {
+        Ok(digests_of_places::<D>(alloc, &self.store, self.count, above, places)?)
+    }
+
+    /// Where these live entries stand, whose numbers rise, and what proves them: the siblings that their places need, row by row, each with the
+    /// digest that stands there. All of it is read on one way down, which forks where the entries part.
+    pub fn proof_of(&self, alloc: Global, numbers: &[u64]) -> Result<BatchProof, NoMemory>
+        requires live { All (λ i. is_live self.now.entries i ≡ true) numbers.now }
+        requires rise { IsNonDecreasing numbers.now }
+        ensures places { IfOk result (λ b. map Some b.places.items ≡ map (entry_place self.now.entries) numbers.now) }
+        ensures siblings { IfOk result (λ b. flat_map (λ row. row) b.rows.items ≡ proof_of D.digest_of self.now.entries numbers.now) }
+    {
+        Ok(proof_of_entries::<D>(alloc, &self.store, self.count, numbers)?)
+    }
+
+    /// The number of the live entry that stands at a place. None where none stands there.
+    pub fn number_at(&self, place: Place) -> Option<u64>
+        ensures { result ≡ leaf_number (tree_at self.now.entries place.row place.off) }
+    {
+        number_of_place(&self.store, self.count, place.row, place.off)
     }
 
     /// The root of a slot, which is `Some(None)` where it is empty. `None` where `row` is no slot.

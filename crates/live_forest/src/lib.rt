@@ -1,4 +1,17 @@
-//! The forest over all entries that were ever added, which takes room for those alone that are live or may come back.
+//! The whole forest over all entries that were ever added, each live or spent, which takes room for those alone that are live or may be again.
+//!
+//! The layers, from the bottom up:
+//!
+//! - `bits`: a set of numbers below 128, as the bits of a number.
+//! - `page` and `least`: what is kept for the parts of 128 entries. Those that are live or may be again are *listed*, and have a cell each, of 64
+//!   bytes: the digest of the entry, and that of the one part whose halves meet between it and the listed entry before it. So a part is found by
+//!   counting bits, and a page of k listed entries takes 64 + 64 k bytes.
+//! - `store`: all pages, and a list of the digests of the parts of several pages, of 33 bytes a page.
+//! - `refresh`: an entry is written, and the parts above it are made right.
+//! - `seen`, `seek`, `walk`, `proving`: what stands at a place, and what proves entries. They ask the store what it keeps for a part.
+//! - `forest` and `blocks`: [`Forest`], which is seen as the list of all entries.
+//!
+//! `Forest::reserve` alone takes memory: it makes the cells of the entries to come. `Forest::forget` gives room back.
 #![tactic(auto)]
 
 mod batch;

@@ -15,10 +15,10 @@ ghost use Rattle.live_forest.specs.Proving.{places_of, standing, proof_of, in_ro
 ghost use Rattle.live_forest.specs.Proving.{AreOfPart, AreFrom, behind};
 ghost use Rattle.live_forest.specs.State.{is_live};
 
-use crate::seen::part_in;
 use crate::batch::{BatchProof, Sibling};
-use crate::store::Store;
 use crate::seek::child;
+use crate::seen::part_in;
+use crate::store::Store;
 use forest_place::{Place, children, sibling};
 use smallvec::SmallVec;
 use std::alloc::{AllocError, Global};

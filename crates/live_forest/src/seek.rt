@@ -177,12 +177,7 @@ pub(crate) fn digest_of_place<D: Digester>(
 }
 
 // The number of the entry at a place of the forest.
-pub(crate) fn number_of_place(
-    store: &Store,
-    n: u64,
-    row: u8,
-    off: u64,
-) -> Option<u64>
+pub(crate) fn number_of_place(store: &Store, n: u64, row: u8, off: u64) -> Option<u64>
     requires small { length (entries_in n store.now) < 2 ^ 40 }
     requires room { n ≤ store.now.len }
     requires alike { AreAlike (entries_in n store.now) store.now }

@@ -1,17 +1,18 @@
 use Rattle.std.proofs.Common.{◌≡◌, suc, ◌+◌, ◌-◌, ◌++◌, [], length, refl, sym, ap, ◌∙◌, subst, arith}
 use Rattle.std.proofs.lemmas.List.{append-nil, append_assoc}
-use Rattle.live_forest.specs.Proving.{places_of, HasPlaces, AreBehind, AreFrom, behind}
+use Rattle.live_forest.specs.Proving.{places_of, HasRows, HasPlaces, AreBehind, AreFrom, behind}
 use Rattle.live_forest.proofs.Placing.{places_none, places_both}
 use Rattle.live_forest.proofs.Descending.{behind_all, behind_nothing}
 use Rattle.live_forest.proofs.Slotted.{all_behind, from_nothing, stand_there}
 use Rattle.live_forest.specs.Parts.{entries_in}
+use Rattle.live_forest.proofs.Holding.{length-entries}
 use Rattle.live_forest.proofs.proving.rows_of.Goals as goal
 
 pub loop-row-init : goal.loop-row-init
 loop-row-init g c =
     let es = (entries_in c.args.n c.args.store.now) in
     record {
-      wide = c.in_ok-rows.ensures.wide;
+      wide = subst (λ k. HasRows k c.in_ok-rows.rows.items) (sym (length-entries c.args.n c.args.store.now c.requires.room)) c.in_ok-rows.ensures.wide;
       rise = c.requires.rise;
       placed = ([], refl, places_none es c.args.places.now.items);
       later = behind_all es c.args.numbers.now c.requires.small c.requires.live;
@@ -62,3 +63,6 @@ returns-clause-places g c =
     (subst (λ k. AreBehind es k c.loop-row.left.now) e c.loop-row.invariant.later) in
     let all : was.0 ≡ c.args.numbers.now = sym (append-nil was.0) ∙ (ap (λ xs. was.0 ++ xs) (sym none) ∙ was.1) in
     subst (λ xs. HasPlaces es xs c.args.places.now.items c.loop-row.places.items) all was.2
+
+pub no_rows-requires : goal.no_rows-requires
+no_rows-requires g c = omega (arith, length-entries c.args.n c.args.store.now c.requires.room, c.requires.small)
