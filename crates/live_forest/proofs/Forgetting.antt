@@ -1,17 +1,16 @@
 -- The cell of an entry is taken out.
-use Rattle.std.proofs.Common.{◌≡◌, ◌≢◌, ℕ, zero, suc, ◌+◌, ◌-◌, ◌*◌, ◌/◌, ◌%◌, ◌^◌, ◌<◌, ◌≤◌, Bool, true, false, refl, sym, ap, ap₂, ◌∙◌, subst, ⊎_elim, arith}
-use Rattle.std.proofs.Common.{pow-suc, List, length, get_or, set, Option, Some, None}
+use Rattle.std.proofs.Common.{◌≡◌, ◌≢◌, ℕ, suc, ◌+◌, ◌-◌, ◌*◌, ◌/◌, ◌%◌, ◌^◌, ◌<◌, ◌≤◌, false, refl, sym, ap, ap₂, ◌∙◌, subst, ⊎_elim, arith}
+use Rattle.std.proofs.Common.{pow-suc, length, set, None}
 use Rattle.std.specs.Prelude.{is_some}
 use Rattle.std.proofs.lemmas.Bool.{cases_eq, cases_lt, cases_Bool, true≢false}
 use Rattle.std.proofs.lemmas.List.{get_or-set_same, get_or-set_other, length-set}
 use Rattle.std.proofs.lemmas.Nat.{pow_pos, shr_split, mod_below, mul-le, div-mul-add, mod-mul-add}
-use Rattle.uo_digest.specs.declared.digest.Digest.{Digest}
 use Rattle.forest_place.specs.Forest.{InForest}
 use Rattle.forest_place.proofs.Slots.{in_forest_iff}
 use Rattle.forest_place.proofs.Positions.{row_small}
 use Rattle.live_forest.specs.Sets.{is_bit, rank, IsWithout}
 use Rattle.live_forest.specs.Pages.{PageState, told, leaf_in, when, IsOfHalves, AreOfHalves}
-use Rattle.live_forest.specs.Stores.{StoreState, no_page, page_at, paged, stored, is_listed, IsStore, AreStoredOfHalves}
+use Rattle.live_forest.specs.Stores.{StoreState, no_page, page_at, stored, is_listed, IsStore, AreStoredOfHalves}
 use Rattle.live_forest.proofs.Storing.{whole_page, rest_rows, stored_low, stored_by, same_part}
 
 -- an entry that is kept as nothing is not live

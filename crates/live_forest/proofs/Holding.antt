@@ -1,6 +1,6 @@
 -- What a forest keeps, from one step to the next.
-use Rattle.std.proofs.Common.{◌≡◌, ◌≢◌, ℕ, zero, suc, ◌+◌, ◌-◌, ◌*◌, ◌/◌, ◌%◌, ◌^◌, ◌<◌, ◌≤◌, Bool, true, false, refl, sym, ap, ap₂, ◌∙◌, subst, ⊎_elim, arith}
-use Rattle.std.proofs.Common.{List, [], ◌∷◌, ◌++◌, length, get_or, set, take, map, Option, Some, None}
+use Rattle.std.proofs.Common.{◌≡◌, ℕ, zero, suc, ◌+◌, ◌*◌, ◌^◌, ◌<◌, ◌≤◌, Bool, true, false, refl, sym, ap, ap₂, ◌∙◌, subst, ⊎_elim, arith}
+use Rattle.std.proofs.Common.{List, [], ◌∷◌, ◌++◌, length, get_or, set, take, map, Option, None}
 use Rattle.std.specs.Prelude.{is_some, option_map}
 use Rattle.std.specs.List.{range_with_len}
 use Rattle.std.proofs.lemmas.Bool.{cases_eq, cases_lt, true≢false, false≢true}
@@ -14,11 +14,11 @@ use Rattle.forest_place.proofs.Parts.{InForest-left, InForest-right}
 use Rattle.forest_place.proofs.Slots.{in_forest_iff}
 use Rattle.live_forest.specs.Sets.{IsWithout}
 use Rattle.live_forest.specs.Stores.{StoreState, stored, is_listed, HasRoomOf, IsLonger, AreStoredOfHalves}
-use Rattle.live_forest.specs.Parts.{leaves_of, entries_in, kept, part_digest, AreParts}
+use Rattle.live_forest.specs.Parts.{leaves_of, entries_in, kept, AreParts}
 use Rattle.live_forest.specs.Holding.{held_of, IsForest}
 use Rattle.live_forest.specs.State.{is_live, is_held, held_without}
 use Rattle.live_forest.proofs.Entries.{content-take}
-use Rattle.live_forest.proofs.Refreshing.{digest-leaf, digest-joined, joined_halves, length-leaves_of, leaves_of-at}
+use Rattle.live_forest.proofs.Refreshing.{digest-joined, joined_halves, length-leaves_of, leaves_of-at}
 
 -- ---- lists
 

@@ -1,16 +1,15 @@
 -- Room for more entries.
-use Rattle.std.proofs.Common.{◌≡◌, ◌≢◌, ℕ, zero, suc, ◌+◌, ◌-◌, ◌*◌, ◌/◌, ◌%◌, ◌^◌, ◌<◌, ◌≤◌, Bool, true, false, refl, sym, ap, ap₂, ◌∙◌, subst, ⊎_elim, arith}
-use Rattle.std.proofs.Common.{inl, inr, ◌⊎◌, List, [], ◌∷◌, ◌++◌, length, get_or, set, Option, Some, None, length-append}
+use Rattle.std.proofs.Common.{◌≡◌, ◌≢◌, ℕ, zero, suc, ◌+◌, ◌-◌, ◌*◌, ◌/◌, ◌%◌, ◌^◌, ◌<◌, ◌≤◌, Bool, true, false, refl, sym, ap, ap₂, ◌∙◌, ⊎_elim, arith}
+use Rattle.std.proofs.Common.{inl, inr, ◌⊎◌, List, [], ◌∷◌, ◌++◌, length, get_or, set, Option, None, length-append}
 use Rattle.std.specs.Prelude.{◌||◌}
-use Rattle.std.proofs.lemmas.Bool.{cases_eq, cases_lt, true≢false}
+use Rattle.std.proofs.lemmas.Bool.{cases_eq, cases_lt}
 use Rattle.std.proofs.lemmas.List.{get_or-set_same, get_or-set_other, length-set, get_or_append_left, get_or-append_right, get_or_past}
-use Rattle.std.proofs.lemmas.Nat.{mod_below, pow_pos}
 use Rattle.uo_digest.specs.declared.digest.Digest.{Digest}
 use Rattle.forest_place.specs.Forest.{InForest}
 use Rattle.forest_place.proofs.Slots.{in_forest_iff}
 use Rattle.live_forest.specs.Sets.{is_bit, has_part, rank, IsWith}
-use Rattle.live_forest.specs.Pages.{PageState, told, kept_by, leaf_in, gap_in, middle, when, of_halves}
-use Rattle.live_forest.specs.Stores.{StoreState, no_page, page_at, seam, paged, stored, is_listed, IsStore, ArePages, IsLonger}
+use Rattle.live_forest.specs.Pages.{PageState, told, leaf_in, gap_in, middle, when, of_halves}
+use Rattle.live_forest.specs.Stores.{StoreState, no_page, page_at, seam, stored, is_listed, IsStore, ArePages, IsLonger}
 use Rattle.live_forest.proofs.Bitmaps.{no_bits}
 use Rattle.live_forest.proofs.Seams.{seam_high}
 use Rattle.live_forest.proofs.Storing.{other_inner, stored_by, same_part}

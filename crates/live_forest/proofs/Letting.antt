@@ -1,6 +1,6 @@
 -- A number gets a cell, and its cell is taken out.
 use Rattle.std.proofs.Common.{◌≡◌, ◌≢◌, ℕ, zero, suc, ◌+◌, ◌-◌, ◌*◌, ◌/◌, ◌%◌, ◌^◌, ◌<◌, ◌≤◌, Bool, true, false, refl, sym, ap, ap₂, ◌∙◌, subst, ⊎_elim, arith}
-use Rattle.std.proofs.Common.{pow-suc, inl, inr, ◌⊎◌, List, [], ◌∷◌, ◌++◌, length, get_or, set, Option, Some, None, length-append}
+use Rattle.std.proofs.Common.{pow-suc, List, [], ◌∷◌, ◌++◌, length, get_or, set, Option, None, length-append}
 use Rattle.std.specs.Prelude.{◌||◌, if◌then◌else◌}
 use Rattle.std.specs.List.{remove}
 use Rattle.std.proofs.lemmas.Bool.{cases_Bool, cases_eq, cases_lt, true≢false}
@@ -14,7 +14,7 @@ use Rattle.forest_place.proofs.Positions.{row_small}
 use Rattle.forest_place.proofs.Siblings.{sibling_cases}
 use Rattle.live_forest.specs.declared.cell.Cell.{Cell}
 use Rattle.live_forest.specs.Sets.{is_bit, has_part, rank, IsWith, IsWithout}
-use Rattle.live_forest.specs.Pages.{PageState, IsPage, no_cell, leaf_in, gap_in, middle, IsBranch, when, of_halves, kept_by, told, IsOfHalves}
+use Rattle.live_forest.specs.Pages.{PageState, IsPage, no_cell, leaf_in, gap_in, middle, IsBranch, when, of_halves, told, IsOfHalves}
 use Rattle.live_forest.specs.Pages.{IsNearest, MeetsNext, IsTakenOut, AreOfHalves}
 use Rattle.live_forest.proofs.Ranks.{rank_above, rank_rises, part_rank, right_rank, left_rank, part_other, part_subset, part_none, rank_low, rank_high}
 use Rattle.live_forest.proofs.Ranks.{rank_most}

@@ -2,10 +2,10 @@
 use Rattle.std.proofs.Common.{◌≡◌, ◌≢◌, ℕ, zero, suc, ◌+◌, ◌-◌, ◌*◌, ◌/◌, ◌%◌, ◌^◌, ◌<◌, ◌≤◌, Bool, true, false, refl, sym, ap, ap₂, ◌∙◌, subst, ⊎_elim, arith}
 use Rattle.std.proofs.Common.{pow-suc, inl, inr, ◌⊎◌}
 use Rattle.std.specs.Prelude.{◌||◌, if◌then◌else◌}
-use Rattle.std.proofs.lemmas.Bool.{cases_order, cases_lt, cases_eq, cases_Bool, or_cases, or_left, or_right, or_from, or_parts, true≢false}
+use Rattle.std.proofs.lemmas.Bool.{cases_order, cases_lt, cases_eq, cases_Bool, or_cases, or_left, or_right, true≢false}
 use Rattle.std.proofs.lemmas.Nat.{pow_pos, pow-add, mul-le, same_from_place}
 use Rattle.forest_place.proofs.Parts.{parts-suc}
-use Rattle.live_forest.specs.Sets.{has_part, rank, IsWith, IsWithout}
+use Rattle.live_forest.specs.Sets.{has_part, rank}
 use Rattle.live_forest.specs.Pages.{middle, IsBranch}
 
 pub rank-in : (s : ℕ → Bool) (i : ℕ) → s i ≡ true → rank s (suc i) ≡ rank s i + 1

@@ -1,6 +1,6 @@
 -- What is kept for parts over all pages, and what of it a write changes.
-use Rattle.std.proofs.Common.{◌≡◌, ◌≢◌, ℕ, zero, suc, ◌+◌, ◌-◌, ◌*◌, ◌/◌, ◌%◌, ◌^◌, ◌<◌, ◌≤◌, Bool, true, false, refl, sym, ap, ap₂, ◌∙◌, subst, ⊎_elim, arith}
-use Rattle.std.proofs.Common.{pow-suc, List, length, get_or, set, Option, Some, None}
+use Rattle.std.proofs.Common.{◌≡◌, ◌≢◌, ℕ, suc, ◌+◌, ◌-◌, ◌*◌, ◌/◌, ◌%◌, ◌^◌, ◌<◌, ◌≤◌, true, refl, sym, ap, ap₂, ◌∙◌, subst, ⊎_elim, arith}
+use Rattle.std.proofs.Common.{pow-suc, List, length, get_or, set, Option, None}
 use Rattle.std.specs.Prelude.{if◌then◌else◌}
 use Rattle.std.proofs.lemmas.Bool.{cases_eq, cases_lt, lt-ltb, le-ltb}
 use Rattle.std.proofs.lemmas.List.{get_or-set_same, get_or-set_other, length-set}
@@ -11,7 +11,7 @@ use Rattle.forest_place.proofs.Slots.{in_forest_iff}
 use Rattle.live_forest.specs.Sets.{is_bit}
 use Rattle.live_forest.specs.Pages.{PageState, told, IsEntryPut, IsPartPut, IsOfHalves}
 use Rattle.live_forest.specs.Stores.{StoreState, no_page, page_at, seam, paged, stored, is_listed, IsStore, IsEntryKept, IsPartKept, HasRoomOf}
-use Rattle.live_forest.proofs.Seams.{seam_one, seam_high}
+use Rattle.live_forest.proofs.Seams.{seam_one}
 
 -- ---- pages and rows
 

@@ -1,8 +1,8 @@
 -- What a page keeps for parts, and what of it a write changes.
-use Rattle.std.proofs.Common.{◌≡◌, ◌≢◌, ℕ, zero, suc, ◌+◌, ◌-◌, ◌*◌, ◌/◌, ◌%◌, ◌^◌, ◌<◌, ◌≤◌, Bool, true, false, refl, sym, ap, ap₂, ◌∙◌, subst, ⊎_elim, arith}
-use Rattle.std.proofs.Common.{pow-suc, List, length, get_or, set, Option, Some, None}
+use Rattle.std.proofs.Common.{◌≡◌, ◌≢◌, ℕ, zero, suc, ◌+◌, ◌-◌, ◌*◌, ◌/◌, ◌^◌, ◌<◌, ◌≤◌, Bool, true, false, refl, sym, ap, ap₂, ◌∙◌, subst, ⊎_elim, arith}
+use Rattle.std.proofs.Common.{pow-suc, List, length, set, Option, Some, None}
 use Rattle.std.specs.Prelude.{◌||◌, is_some}
-use Rattle.std.proofs.lemmas.Bool.{cases_Bool, cases_eq, or_left, or_right, or_from, true≢false}
+use Rattle.std.proofs.lemmas.Bool.{cases_Bool, cases_eq, or_left, true≢false}
 use Rattle.std.proofs.lemmas.List.{get_or-set_same, get_or-set_other}
 use Rattle.std.proofs.lemmas.Nat.{pow_pos, shr-shr}
 use Rattle.uo_digest.specs.declared.digest.Digest.{Digest}
@@ -14,7 +14,7 @@ use Rattle.live_forest.specs.declared.cell.Cell.{Cell}
 use Rattle.live_forest.specs.Sets.{is_bit, has_part, rank, IsWith, IsWithout}
 use Rattle.live_forest.specs.Pages.{PageState, IsPage, no_cell, leaf_in, gap_in, middle, IsBranch, when, of_halves, kept_by, told, IsLeast, IsEntryPut, IsOfHalves}
 use Rattle.live_forest.specs.Pages.{IsPartPut}
-use Rattle.live_forest.proofs.Ranks.{rank_above, rank_rises, rank_one, right_rank, branch_one, part_other, part_subset, part_none}
+use Rattle.live_forest.proofs.Ranks.{rank_above, rank_rises, rank_one, right_rank, branch_one, part_other, part_none}
 
 -- ---- that something is kept
 

@@ -1,4 +1,3 @@
-use Rattle.std.proofs.Common.{◌<◌, ◌^◌, arith}
 use Rattle.live_forest.proofs.Bitmaps.{without_is}
 use Rattle.live_forest.proofs.bits.without.Goals as goal
 

@@ -1,5 +1,5 @@
 use Rattle.std.proofs.Common.{suc, ◌/◌, ◌^◌, sym, subst, arith}
-use Rattle.forest_place.specs.Forest.{InForest, sibling_off}
+use Rattle.forest_place.specs.Forest.{InForest}
 use Rattle.forest_place.proofs.Parts.{parts-suc, InForest-down, not_root-down}
 use Rattle.forest_place.proofs.Siblings.{sibling_within}
 use Rattle.live_forest.proofs.Telling.{page_within}

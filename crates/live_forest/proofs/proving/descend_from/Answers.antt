@@ -12,7 +12,6 @@ use Rattle.live_forest.proofs.Slotted.{from_same, from_more, behind_even, slot_h
 use Rattle.live_forest.proofs.proving.descend_from.Goals.{then-not-is_empty+in_ok-descend, else-not-is_empty}
 use Rattle.std.specs.List.Sorted.{IsNonDecreasing}
 use Rattle.std.proofs.lemmas.List.Sorted.{IsNonDecreasingBy-take, IsNonDecreasingBy-drop}
-use Rattle.forest_place.specs.Forest.{InForest}
 use Rattle.live_forest.specs.Parts.{entries_in}
 use Rattle.live_forest.proofs.Holding.{length-entries}
 use Rattle.live_forest.proofs.proving.descend_from.Goals as goal

@@ -1,4 +1,4 @@
-use Rattle.std.proofs.Common.{length, sym, ◌∙◌}
+use Rattle.std.proofs.Common.{length}
 use Rattle.live_forest.proofs.Noting.{there, digest_here, rows_stay}
 use Rattle.live_forest.proofs.Beneath.{noted_here}
 use Rattle.live_forest.specs.Parts.{entries_in}

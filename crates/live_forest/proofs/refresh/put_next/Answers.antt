@@ -1,4 +1,4 @@
-use Rattle.std.proofs.Common.{◌<◌, ◌+◌, Some, sym, ◌∙◌, subst, arith}
+use Rattle.std.proofs.Common.{◌+◌, Some, sym, ◌∙◌, subst, arith}
 use Rattle.live_forest.specs.Parts.{leaves_of, AreParts, ArePartsBut, IsClimbed}
 use Rattle.live_forest.proofs.Refreshing.{but_added, leaves_put, length-leaves_of, room_kept}
 use Rattle.live_forest.proofs.refresh.put_next.Goals as goal

@@ -1,4 +1,4 @@
-use Rattle.std.proofs.Common.{◌<◌, ◌≤◌, set, sym, ap, ◌∙◌, subst, arith}
+use Rattle.std.proofs.Common.{◌<◌, sym, ◌∙◌, subst, arith}
 use Rattle.live_forest.specs.Parts.{leaves_of, ArePartsBut}
 use Rattle.live_forest.proofs.Refreshing.{but_written, leaves_put, length-leaves_of, room_kept}
 use Rattle.live_forest.proofs.Counting.{climbed_few}

@@ -1,4 +1,4 @@
-use Rattle.std.proofs.Common.{length, sym, ap}
+use Rattle.std.proofs.Common.{sym, ap}
 use Rattle.std.specs.Prelude.{option_map}
 use Rattle.forest_model.specs.Content.{digest_of}
 use Rattle.live_forest.specs.Parts.{entries_in}

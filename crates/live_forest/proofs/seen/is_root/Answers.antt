@@ -1,4 +1,4 @@
-use Rattle.std.proofs.Common.{◌^◌, ◌<◌, sym, ap, ◌∙◌, subst, arith}
+use Rattle.std.proofs.Common.{sym, ap, ◌∙◌, subst, arith}
 use Rattle.forest_place.specs.Forest.{InForest, is_root}
 use Rattle.live_forest.proofs.Holding.{length-entries}
 use Rattle.live_forest.proofs.seen.is_root.Goals as goal

@@ -1,4 +1,4 @@
-use Rattle.std.proofs.Common.{◌^◌, ◌<◌, subst, arith}
+use Rattle.std.proofs.Common.{subst, arith}
 use Rattle.forest_place.specs.Forest.{InForest}
 use Rattle.live_forest.proofs.Holding.{length-entries}
 use Rattle.live_forest.proofs.seen.part_in.Goals as goal

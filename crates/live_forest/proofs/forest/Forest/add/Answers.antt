@@ -1,9 +1,6 @@
-use Rattle.std.proofs.Common.{◌≡◌, ◌≢◌, ℕ, suc, ◌+◌, ◌-◌, ◌*◌, ◌/◌, ◌%◌, ◌^◌, ◌<◌, ◌≤◌, true, false, List, [], ◌∷◌, ◌++◌, length, take, set, get_or, Some, None, refl, sym, ap, ◌∙◌, subst, arith}
+use Rattle.std.proofs.Common.{◌≡◌, suc, ◌+◌, ◌<◌, ◌≤◌, true, [], ◌∷◌, ◌++◌, length, take, Some, sym, ap, ◌∙◌, subst, arith}
 use Rattle.live_forest.specs.Parts.{leaves_of}
 use Rattle.live_forest.specs.Holding.{held_of}
-use Rattle.live_forest.specs.Stores.{stored, is_listed}
-use Rattle.live_forest.specs.State.{is_live, is_held}
-use Rattle.std.specs.Prelude.{is_some}
 use Rattle.live_forest.proofs.Holding.{length-entries, take_next, forest_added, held_more, held_same}
 use Rattle.std.specs.Prelude.{count_ones}
 use Rattle.std.proofs.lemmas.List.{length_push}

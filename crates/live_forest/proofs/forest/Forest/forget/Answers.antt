@@ -1,8 +1,8 @@
-use Rattle.std.proofs.Common.{◌≡◌, ◌≢◌, ℕ, suc, ◌+◌, ◌-◌, ◌*◌, ◌/◌, ◌%◌, ◌^◌, ◌<◌, ◌≤◌, true, false, List, [], ◌∷◌, ◌++◌, length, take, set, get_or, Some, None, refl, sym, ap, ◌∙◌, subst, arith}
+use Rattle.std.proofs.Common.{◌≡◌, ◌<◌, ◌≤◌, false, length, take, set, sym, ap, ◌∙◌, arith}
 use Rattle.live_forest.specs.Parts.{leaves_of}
 use Rattle.live_forest.specs.Holding.{held_of}
-use Rattle.live_forest.specs.Stores.{stored, is_listed}
-use Rattle.live_forest.specs.State.{is_live, is_held}
+use Rattle.live_forest.specs.Stores.{stored}
+use Rattle.live_forest.specs.State.{is_live}
 use Rattle.std.specs.Prelude.{is_some}
 use Rattle.live_forest.proofs.Holding.{length-entries, live_is, of_halves_stored, forest_less, entries_left, held_less, held_gone}
 use Rattle.live_forest.proofs.Telling.{none_is}

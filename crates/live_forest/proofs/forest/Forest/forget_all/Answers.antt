@@ -1,6 +1,6 @@
-use Rattle.std.proofs.Common.{◌<◌, ◌≡◌, length, take, get_or, set, false, sym, ap, ◌∙◌, subst}
+use Rattle.std.proofs.Common.{◌<◌, length, take, get_or, set, false, sym, ap, ◌∙◌}
 use Rattle.std.proofs.lemmas.List.{take_more}
-use Rattle.live_forest.specs.State.{is_live, held_without}
+use Rattle.live_forest.specs.State.{held_without}
 use Rattle.live_forest.proofs.Holding.{held_without-push}
 use Rattle.live_forest.proofs.forest.Forest.forget_all.Goals as goal
 

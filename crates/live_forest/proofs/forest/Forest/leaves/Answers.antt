@@ -1,9 +1,6 @@
-use Rattle.std.proofs.Common.{◌≡◌, ◌≢◌, ℕ, suc, ◌+◌, ◌-◌, ◌*◌, ◌/◌, ◌%◌, ◌^◌, ◌<◌, ◌≤◌, true, false, List, [], ◌∷◌, ◌++◌, length, take, set, get_or, Some, None, refl, sym, ap, ◌∙◌, subst, arith}
+use Rattle.std.proofs.Common.{◌≡◌, ◌≤◌, length, take, sym, ap, ◌∙◌, arith}
 use Rattle.live_forest.specs.Parts.{leaves_of}
 use Rattle.live_forest.specs.Holding.{held_of}
-use Rattle.live_forest.specs.Stores.{stored, is_listed}
-use Rattle.live_forest.specs.State.{is_live, is_held}
-use Rattle.std.specs.Prelude.{is_some}
 use Rattle.live_forest.proofs.Holding.{length-entries, length-held_of}
 use Rattle.live_forest.proofs.forest.Forest.leaves.Goals as goal
 

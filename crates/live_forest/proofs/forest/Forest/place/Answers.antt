@@ -1,10 +1,9 @@
-use Rattle.std.proofs.Common.{◌≡◌, ◌≤◌, ◌<◌, length, true, ap, sym, ◌∙◌, subst, arith}
-use Rattle.forest_place.specs.Forest.{InForest}
+use Rattle.std.proofs.Common.{◌≡◌, ◌≤◌, true, ap, ◌∙◌, subst, arith}
 use Rattle.forest_model.specs.Content.{content}
 use Rattle.forest_model.specs.Standing.{tree_at}
 use Rattle.live_forest.specs.Parts.{entries_in}
 use Rattle.live_forest.specs.State.{is_live}
-use Rattle.live_forest.proofs.Holding.{parts_seen, live_low, live_kept, length-entries}
+use Rattle.live_forest.proofs.Holding.{parts_seen, live_low, live_kept}
 use Rattle.live_forest.proofs.Seeking.{alike, entry_place-stands}
 use Rattle.live_forest.proofs.forest.Forest.place.Goals as goal
 

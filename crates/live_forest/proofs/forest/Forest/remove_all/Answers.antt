@@ -1,9 +1,6 @@
-use Rattle.std.proofs.Common.{◌≡◌, ◌≢◌, ℕ, suc, ◌+◌, ◌-◌, ◌*◌, ◌/◌, ◌%◌, ◌^◌, ◌<◌, ◌≤◌, true, false, List, [], ◌∷◌, ◌++◌, length, take, set, get_or, Some, None, refl, sym, ap, ◌∙◌, subst, arith}
+use Rattle.std.proofs.Common.{◌≡◌, ◌*◌, ◌≤◌, true, length, take, get_or, sym, ap, ◌∙◌, arith}
 use Rattle.live_forest.specs.Parts.{leaves_of}
-use Rattle.live_forest.specs.Holding.{held_of}
-use Rattle.live_forest.specs.Stores.{stored, is_listed}
-use Rattle.live_forest.specs.State.{is_live, is_held}
-use Rattle.std.specs.Prelude.{is_some}
+use Rattle.live_forest.specs.State.{is_live}
 use Rattle.live_forest.proofs.Holding.{length-entries, live_low, live_is, take_without, forest_emptied}
 use Rattle.forest_place.specs.Position.{rows}
 use Rattle.forest_model.specs.Deletion.{entries_without}

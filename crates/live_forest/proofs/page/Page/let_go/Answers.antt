@@ -1,4 +1,4 @@
-use Rattle.std.proofs.Common.{◌≡◌, ◌<◌, ◌+◌, length, true, false, sym, ap, ◌∙◌, subst, arith}
+use Rattle.std.proofs.Common.{◌≡◌, true, false, sym, ap, ◌∙◌, subst, arith}
 use Rattle.live_forest.specs.Sets.{is_bit, rank}
 use Rattle.live_forest.specs.Pages.{PageState, IsTakenOut, AreOfHalves}
 use Rattle.live_forest.proofs.Telling.{entry_index}

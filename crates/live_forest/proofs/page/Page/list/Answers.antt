@@ -1,6 +1,6 @@
-use Rattle.std.proofs.Common.{◌≡◌, ℕ, ◌<◌, ◌++◌, ◌∷◌, [], true, ap, ◌∙◌, subst, sym}
+use Rattle.std.proofs.Common.{◌≡◌, ℕ, ◌<◌, true, ap, ◌∙◌, sym}
 use Rattle.live_forest.specs.Sets.{is_bit}
-use Rattle.live_forest.specs.Pages.{PageState, IsPage, told}
+use Rattle.live_forest.specs.Pages.{PageState}
 use Rattle.live_forest.proofs.Bitmaps.{last_below}
 use Rattle.live_forest.proofs.Letting.{page_more, told_more}
 use Rattle.live_forest.proofs.page.Page.list.Goals as goal

@@ -1,10 +1,9 @@
-use Rattle.std.proofs.Common.{◌≡◌, ◌<◌, ◌/◌, ◌^◌, suc, ◌+◌, ◌*◌, length, true, None, sym, ap, ◌∙◌, subst, arith}
+use Rattle.std.proofs.Common.{◌≡◌, ◌<◌, ◌/◌, ◌^◌, suc, ◌+◌, ◌*◌, length, true, sym, ap, ◌∙◌, subst, arith}
 use Rattle.std.specs.Prelude.{is_some}
 use Rattle.std.proofs.lemmas.Bool.{true≢false}
 use Rattle.std.proofs.lemmas.List.{get_or_default}
-use Rattle.forest_place.specs.Forest.{InForest}
 use Rattle.live_forest.specs.Sets.{is_bit, has_part, rank}
-use Rattle.live_forest.specs.Pages.{PageState, leaf_in, no_cell, IsBranch, IsOfHalves, IsPartPut, told, middle}
+use Rattle.live_forest.specs.Pages.{PageState, leaf_in, no_cell, IsBranch, IsOfHalves, told, middle}
 use Rattle.live_forest.proofs.Telling.{gap_index, page_within, above_is, middle_low, part_written, part_stays, part_empty, own_live}
 use Rattle.live_forest.proofs.page.Page.put_part.Goals as goal
 

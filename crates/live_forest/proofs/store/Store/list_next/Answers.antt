@@ -1,4 +1,4 @@
-use Rattle.std.proofs.Common.{◌<◌, ◌/◌, ◌%◌, length, sym, ap, ◌∙◌, subst}
+use Rattle.std.proofs.Common.{◌/◌, ◌%◌, sym, ap, ◌∙◌, subst}
 use Rattle.std.proofs.lemmas.List.{get_or_default}
 use Rattle.live_forest.specs.Sets.{is_bit, IsWith}
 use Rattle.live_forest.specs.Pages.{told}

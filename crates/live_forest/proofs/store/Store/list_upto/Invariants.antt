@@ -1,4 +1,4 @@
-use Rattle.std.proofs.Common.{◌≡◌, ◌≤◌, ◌-◌, ◌/◌, length}
+use Rattle.std.proofs.Common.{◌≤◌, ◌-◌, ◌/◌, length}
 use Rattle.std.specs.Prelude.{max}
 use Rattle.live_forest.specs.Stores.{IsLonger}
 use Rattle.live_forest.proofs.store.Store.list_upto.Given as goal

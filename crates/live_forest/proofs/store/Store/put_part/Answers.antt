@@ -1,9 +1,8 @@
 use Rattle.std.proofs.Common.{◌≡◌, ◌<◌, ◌≤◌, suc, ◌+◌, ◌-◌, ◌*◌, ◌/◌, ◌%◌, ◌^◌, length, set, sym, ap, ap₂, ◌∙◌, subst, arith}
 use Rattle.std.proofs.lemmas.List.{get_or_default}
-use Rattle.forest_place.specs.Forest.{InForest}
 use Rattle.forest_place.proofs.Positions.{row_small}
-use Rattle.live_forest.specs.Pages.{PageState, IsPartPut, IsOfHalves, told}
-use Rattle.live_forest.specs.Stores.{StoreState, no_page, page_at, seam, stored, is_listed, IsPartKept}
+use Rattle.live_forest.specs.Pages.{IsPartPut, IsOfHalves, told}
+use Rattle.live_forest.specs.Stores.{StoreState, no_page, seam, is_listed, IsPartKept}
 use Rattle.live_forest.proofs.Telling.{above_is}
 use Rattle.live_forest.proofs.Seams.{seam_high}
 use Rattle.live_forest.proofs.Storing.{halves_inner, store_written, room_written, part_kept_low, part_kept_high, page_listed}
