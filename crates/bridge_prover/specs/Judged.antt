@@ -9,6 +9,7 @@ use Rattle.forest_model.specs.Standing.{digest_at}
 use Rattle.block_codec.specs.Block.{Block}
 use Rattle.leaf_record.specs.Leaf.{Leaf, Rest}
 use Rattle.leaf_record.specs.History.{somes}
+use Rattle.forest_place.specs.Places.{is_before_place}
 use Rattle.proof_wire.specs.BlockProof.{BlockProof, spends_of}
 use Rattle.block_rules.specs.Blocks.{external}
 use Rattle.block_rules.specs.declared.chain.Found.{Found}
@@ -17,7 +18,6 @@ use Rattle.block_rules.specs.declared.refusal.Refusal.{Refusal}
 use Rattle.block_rules.specs.Money.{found_of}
 use Rattle.block_rules.specs.Steps.{first_of}
 use Rattle.cache_model.specs.Known.{is_known}
-use Rattle.cache_model.specs.Undo.{is_before_place}
 use Rattle.node_rules.specs.Messages.{Message, sent, targets}
 use Rattle.node_rules.specs.Proving.{written_text}
 use Rattle.bridge_forest.specs.State as forest
