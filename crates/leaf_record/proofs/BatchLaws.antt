@@ -1,9 +1,9 @@
 -- Texts that are put one behind the other, cut apart again, and digested.
-use Rattle.std.proofs.Common.{◌≡◌, ℕ, ◌+◌, ◌-◌, ◌<◌, ◌≤◌, List, [], ◌∷◌, ◌++◌, length, map, take, drop, set, get_or, sum, Some, refl, sym, ap, ap₂, ◌∙◌}
+use Rattle.std.proofs.Common.{◌≡◌, ℕ, ◌+◌, ◌-◌, ◌<◌, ◌≤◌, List, [], ◌∷◌, ◌++◌, length, map, take, drop, set, get_or, sum, Some, refl, sym, ap, ap₂, ◌∙◌, subst}
 use Rattle.std.proofs.Common.{append_assoc, arith}
 use Rattle.std.specs.Prelude.{slice_get}
 use Rattle.std.specs.Borrow.{Bor}
-use Rattle.std.specs.List.{flat_map}
+use Rattle.std.specs.List.{flat_map, AllByRecursion}
 use Rattle.std.proofs.lemmas.List.{length-append, length-take-le, length-drop, take-append-drop, take_at, drop_at, get_or-drop, drop_more, take_more}
 use Rattle.std.proofs.lemmas.List.{take_more_set, flat_map_more, map_push}
 use Rattle.std.proofs.lemmas.List.Concat.{length-flat_map}
@@ -13,9 +13,20 @@ use Rattle.std.proofs.Math.Seq.{take-add, take-append_seam}
 use Rattle.std.proofs.lemmas.Grind.{common_steps}
 use Rattle.uo_digest.specs.declared.digest.Digest.{Digest}
 use Rattle.uo_digest.specs.Batches.{AreGiven}
-use Rattle.leaf_record.specs.Leaf.{Leaf, tag, output_text, leaf_text}
+use Rattle.leaf_record.specs.Leaf.{Leaf, LeafFits, tag, output_text, leaf_text}
 use Rattle.leaf_record.specs.Batches.{parts_of}
 use Rattle.leaf_record.proofs.LeafLaws.{behind_tags}
+
+-- ---- each leaf fits
+
+all_both : (xs ys : List Leaf) → AllByRecursion LeafFits xs → AllByRecursion LeafFits ys → AllByRecursion LeafFits (xs ++ ys)
+all_both [] ys first second = second
+all_both (x ∷ xs) ys first second = (first.0, all_both xs ys first.1 second)
+
+pub fit_on : (leaves : List Leaf) (from n : ℕ) → AllByRecursion LeafFits (take from leaves) → AllByRecursion LeafFits (take n (drop from leaves))
+    → AllByRecursion LeafFits (take (from + n) leaves)
+fit_on leaves from n first second =
+    subst (AllByRecursion LeafFits) (sym (take-add from n leaves)) (all_both (take from leaves) (take n (drop from leaves)) first second)
 
 -- ---- texts are put
 
@@ -23,6 +34,7 @@ use Rattle.leaf_record.proofs.LeafLaws.{behind_tags}
 pub record IsPutting (leaves : List Leaf) (from : ℕ) (room lengths : List ℕ) (count end : ℕ) : Type 0 where
   pub sizes : take count lengths ≡ map (λ leaf. length (output_text leaf)) (take count (drop from leaves))
   pub texts : take end room ≡ flat_map output_text (take count (drop from leaves))
+  pub fit : AllByRecursion LeafFits (take count (drop from leaves))
   pub within : end ≤ length room
   pub begins : count ≡ 0 → end ≡ 0
 
@@ -39,12 +51,17 @@ goes_on room new text end next within put le =
     omega (arith, ap length put, length-take-le next new le, length-take-le end room within, length-append (take end room) text)
 
 pub putting_more : {leaves : List Leaf} {from : ℕ} {room lengths : List ℕ} {count end : ℕ} (leaf : Leaf) (new : List ℕ) (next : ℕ)
-    → IsPutting leaves from room lengths count end → slice_get leaves (from + count) ≡ Some leaf → count < length lengths
+    → IsPutting leaves from room lengths count end → slice_get leaves (from + count) ≡ Some leaf → LeafFits leaf → count < length lengths
     → take next new ≡ take end room ++ output_text leaf → next ≤ length new → IsPutting leaves from new (set lengths count (next - end)) (count + 1) next
-putting_more {leaves} {from} {room} {lengths} {count} {end} leaf new next p is lt put le =
+putting_more {leaves} {from} {room} {lengths} {count} {end} leaf new next p is fits lt put le =
     let one = one_more leaves from count leaf is in
-    let size : next - end ≡ length (output_text leaf) = omega (arith, ap length put, length-take-le next new le, length-take-le end room p.within,
-        length-append (take end room) (output_text leaf)) in
+    let size : next - end ≡ length (output_text leaf) = omega (
+      arith,
+      ap length put,
+      length-take-le next new le,
+      length-take-le end room p.within,
+      length-append (take end room) (output_text leaf),
+    ) in
     record {
       sizes = take_more_set lengths count (next - end) lt
           ∙ ap₂ (λ (ns : List ℕ) (n : ℕ). ns ++ n ∷ []) p.sizes size
@@ -54,6 +71,7 @@ putting_more {leaves} {from} {room} {lengths} {count} {end} leaf new next p is l
           ∙ ap (λ (t : List ℕ). t ++ output_text leaf) p.texts
           ∙ flat_map_more output_text [] (take count (drop from leaves)) leaf
           ∙ ap (flat_map output_text) (sym one);
+      fit = subst (AllByRecursion LeafFits) (sym one) (all_both (take count (drop from leaves)) (leaf ∷ []) p.fit (fits, tt));
       within = le;
       begins = λ e. absurd (omega (arith, e));
     }
@@ -80,8 +98,15 @@ module _ {leaves : List Leaf} {from : ℕ} {room lengths : List ℕ} {count end 
   pub put_within : sum (take count lengths) ≤ length room
   put_within =
       let put = take count (drop from leaves) in
-      omega (arith, ap sum p.sizes, sum-map (λ leaf. length (output_text leaf)) put, length-flat_map output_text put, ap length p.texts,
-      length-take-le end room p.within, p.within)
+      omega (
+        arith,
+        ap sum p.sizes,
+        sum-map (λ leaf. length (output_text leaf)) put,
+        length-flat_map output_text put,
+        ap length p.texts,
+        length-take-le end room p.within,
+        p.within,
+      )
 
 pub cut_more : (ns : List ℕ) (parts : List (Bor (List ℕ))) (i : ℕ) (part : Bor (List ℕ)) (left behind : List ℕ) (whole : List (List ℕ))
     → map (λ (part : Bor (List ℕ)). part.now) (take i parts) ++ parts_of (drop i ns) left ≡ whole → i < length ns → i < length parts

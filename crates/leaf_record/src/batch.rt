@@ -1,8 +1,9 @@
 //! The digests of many leaves. The texts of some of them are made one behind the other and then digested side by side.
 ghost use Rattle.std.specs.Prelude.{◌≡◌, ℕ, ◌+◌, ◌≤◌, ◌<◌, ◌++◌, List, length, map, take, drop, sum, IfOk};
 ghost use Rattle.std.specs.Borrow.{Bor};
+ghost use Rattle.std.specs.List.{AllByRecursion};
 ghost use Rattle.uo_digest.specs.Batches.{AreGiven};
-ghost use Rattle.leaf_record.specs.Leaf.{tag, output_text, leaf_text};
+ghost use Rattle.leaf_record.specs.Leaf.{LeafFits, tag, output_text, leaf_text};
 ghost use Rattle.leaf_record.specs.Batches.{parts_of};
 
 use crate::leaf::{LeafBuf, MAX_LEAF_TEXT, fill};
@@ -29,6 +30,7 @@ fn put_texts<S: Leaves>(
     ensures within { from + result ≤ length (S.leaves leaves.now) }
     ensures room { sum (take result lengths.new) ≤ length room.new }
     ensures texts { parts_of (take result lengths.new) room.new ≡ map output_text (take result (drop from (S.leaves leaves.now))) }
+    ensures fits { AllByRecursion LeafFits (take result (drop from (S.leaves leaves.now))) }
     ensures len { length room.new ≡ length room.old }
 {
     let most = (leaves.count() - from).min(MOST);
@@ -76,12 +78,18 @@ fn digest_batch<D: Digester, L: Ledger, S: Leaves>(
     ensures some { 0 < result }
     ensures within { from + result ≤ length (S.leaves leaves.now) }
     ensures given { AreGiven (λ leaf. D.digest_of (leaf_text leaf)) (S.leaves leaves.now) out.new (from + result) }
+    ensures fits { AllByRecursion LeafFits (take result (drop from (S.leaves leaves.now))) }
     ensures steps { steps.new ≡ steps.old + result }
 {
     let mut lengths = [0; MOST];
     let count = put_texts(leaves, from, room, &mut lengths);
     let texts = cut(room, lengths.split_at(count).0);
-    D::digest_each_behind(tags, texts.split_at(count).0, &mut out[from..from + count], steps);
+    D::digest_each_behind(
+        tags,
+        texts.split_at(count).0,
+        &mut out[from..from + count],
+        steps,
+    );
     count
 }
 
@@ -97,6 +105,7 @@ fn digest_all<D: Digester, L: Ledger, S: Leaves>(
     requires tags { D.holds tags.now (tag ++ tag) }
     requires count { length out.old ≡ length (S.leaves leaves.now) }
     ensures value { out.new ≡ map (λ leaf. D.digest_of (leaf_text leaf)) (S.leaves leaves.now) }
+    ensures fits { AllByRecursion LeafFits (S.leaves leaves.now) }
     ensures steps { steps.new ≡ steps.old + length (S.leaves leaves.now) }
 {
     let mut from = 0;
@@ -114,6 +123,8 @@ pub fn leaf_digests<D: Digester, L: Ledger, S: Leaves>(
 ) -> Result<Vec<Digest>, AllocError>
     ensures value { IfOk result (λ digests. digests.items ≡ map (λ leaf. D.digest_of (leaf_text leaf)) (S.leaves leaves.now)) }
     ensures steps { IfOk result (λ digests. steps.new ≡ steps.old + length (S.leaves leaves.now)) }
+    // Each of them has a text.
+    ensures fits { IfOk result (λ digests. AllByRecursion LeafFits (S.leaves leaves.now)) }
     ensures most { steps.new ≤ steps.old + length (S.leaves leaves.now) }
     // The room stays as large as it was.
     ensures room { buf.new ≡ buf.old }
