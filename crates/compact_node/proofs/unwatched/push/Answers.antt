@@ -1,4 +1,4 @@
-use Rattle.compact_node.proofs.Additions.{is_with_leaf}
+use Rattle.forest_roots.proofs.Additions.{is_with_leaf}
 use Rattle.compact_node.proofs.unwatched.push.Goals as goal
 
 pub returns-clause-roots : goal.returns-clause-roots
