@@ -1,10 +1,10 @@
 -- Many additions, a row of nodes after the other.
-use Rattle.std.proofs.Common.{◌≡◌, ℕ, zero, suc, ◌+◌, ◌-◌, ◌*◌, ◌/◌, ◌%◌, ◌^◌, ◌<◌, ◌≤◌, Bool, true, false, cond, List, [], ◌∷◌, ◌++◌, length, map, take, drop, set}
-use Rattle.std.proofs.Common.{get_or, Option, Some, None, refl, sym, ap, ap₂, ◌∙◌, subst, arith, append_assoc, append-nil, length-set, eq-eqb, ne_eqb}
+use Rattle.std.proofs.Common.{◌≡◌, ℕ, zero, suc, ◌+◌, ◌*◌, ◌/◌, ◌%◌, ◌^◌, ◌<◌, ◌≤◌, Bool, true, false, cond, List, [], ◌∷◌, ◌++◌, length, map, take, drop, set}
+use Rattle.std.proofs.Common.{get_or, Option, Some, None, refl, sym, ap, ap₂, ◌∙◌, subst, arith, append_assoc, length-set, eq-eqb, ne_eqb}
 use Rattle.std.specs.Prelude.{◌==◌, ◌&&◌, count_ones}
 use Rattle.std.specs.List.{range_with_len}
 use Rattle.std.specs.Int.Count.{ones_step}
-use Rattle.std.proofs.lemmas.Bool.{eqb-true, eqb-false, false≢true}
+use Rattle.std.proofs.lemmas.Bool.{eqb-true, eqb-false}
 use Rattle.std.proofs.lemmas.List.{take_more_set, take_all, drop-set-lt, take-append-drop, take-append-le, length-take-le, ext_get_or}
 use Rattle.std.proofs.Math.Seq.{drop-cons, length_front}
 use Rattle.uo_digest.specs.declared.digest.Digest.{Digest}
@@ -13,7 +13,7 @@ use Rattle.forest_place.proofs.Parts.{parts-suc}
 use Rattle.forest_place.proofs.Positions.{row_small}
 use Rattle.forest_model.specs.Content.{pair}
 use Rattle.forest_model.specs.Addition.{all_slots, join_root, carried_digest}
-use Rattle.forest_roots.specs.Stump.{Stump, root_in, IsStump}
+use Rattle.forest_roots.specs.Stump.{Stump, IsStump}
 use Rattle.forest_roots.specs.After.{root_with, with_leaf, with_leaves}
 use Rattle.forest_roots.specs.Rows.{neighbours, odd_one, digests_over, risen, staying, count_risen}
 use Rattle.forest_roots.proofs.Additions.{row_at, rows_long, with_leaves-stump}

@@ -1,13 +1,12 @@
 -- Nodes of a row that are paired.
-use Rattle.std.proofs.Common.{◌≡◌, ℕ, zero, suc, ◌+◌, ◌-◌, ◌*◌, ◌/◌, ◌%◌, ◌<◌, ◌≤◌, true, List, [], ◌∷◌, ◌++◌, length, map, take, drop, set, get_or}
-use Rattle.std.proofs.Common.{Option, Some, None, refl, sym, ap, ap₂, ◌∙◌, arith, append_assoc, append-nil, length-set}
-use Rattle.std.proofs.lemmas.List.{take_more_set, take_all, drop-set-lt, drop_all, drop-drop, map-append}
+use Rattle.std.proofs.Common.{◌≡◌, ℕ, zero, suc, ◌+◌, ◌-◌, ◌*◌, ◌/◌, ◌%◌, ◌<◌, ◌≤◌, List, [], ◌∷◌, ◌++◌, length, take, drop, set, get_or}
+use Rattle.std.proofs.Common.{Option, Some, None, refl, sym, ap, ◌∙◌, arith, append_assoc, append-nil, length-set}
+use Rattle.std.proofs.lemmas.List.{take_more_set, take_all, drop_all, drop-drop, map-append}
 use Rattle.std.proofs.Math.Seq.{drop-cons, take-append_seam}
 use Rattle.std.proofs.lemmas.Slice.{drop-append-drop}
 use Rattle.std.proofs.lemmas.Grind.{common_steps}
 use Rattle.uo_digest.specs.declared.digest.Digest.{Digest}
-use Rattle.forest_model.specs.Addition.{join_root}
-use Rattle.forest_roots.specs.Rows.{neighbours, odd_one, digests_over, risen, staying, IsLifted}
+use Rattle.forest_roots.specs.Rows.{neighbours, odd_one, digests_over, IsLifted}
 
 -- ---- the last node
 
@@ -102,9 +101,6 @@ module _ (H : List ℕ → Digest) where
             ∙ sym (append_assoc (take i now) above (digests_over H (neighbours (drop (2 * (i + some)) now))))
             ∙ rw (behind, parted, taken, left) refl;
       }
-
-  pub lifted-start : (start : List Digest) → IsLifted H start start 0
-  lifted-start start = record { len = refl; above = refl }
 
   pub lifted-end : (start now : List Digest) (i : ℕ) → length start / 2 ≤ i → IsLifted H start now i → take i now ≡ digests_over H (neighbours start)
   lifted-end start now i end r =

@@ -1,7 +1,6 @@
 -- Nodes that go up from a row together: neighbours are paired.
-use Rattle.std.specs.Prelude.{◌≡◌, ℕ, ◌+◌, ◌*◌, ◌/◌, Bool, true, false, List, [], ◌∷◌, ◌++◌, length, map, take, drop, is_some, if◌then◌else◌, Option, Some, None}
+use Rattle.std.specs.Prelude.{◌≡◌, ℕ, ◌+◌, ◌*◌, ◌/◌, Bool, true, false, List, [], ◌∷◌, ◌++◌, length, map, take, drop, if◌then◌else◌, Option, Some, None}
 use Rattle.uo_digest.specs.declared.digest.Digest.{Digest}
-use Rattle.forest_model.specs.Content.{pair}
 use Rattle.forest_model.specs.Addition.{join_root}
 
 -- each node at an even place with its right neighbour, where it has one

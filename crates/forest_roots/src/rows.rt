@@ -138,7 +138,12 @@ impl<D: Digester> Roots<D> {
         while count > 0 {
             prove!(row < 40);
             let slot = (self.count >> row) % 2 == 1;
-            self.slots[row] = raise_row::<D, L>(slot, self.slots[row], &mut digests[..count], steps);
+            self.slots[row] = raise_row::<D, L>(
+                slot,
+                self.slots[row],
+                &mut digests[..count],
+                steps,
+            );
             count = count_above(slot, count);
             row += 1;
         }

@@ -1,5 +1,5 @@
-use Rattle.std.proofs.Common.{◌≡◌, ◌/◌, length, take, ap, sym, ◌∙◌, arith}
-use Rattle.forest_roots.proofs.RowLaws.{lifted-start, lifted-end}
+use Rattle.std.proofs.Common.{◌≡◌, ◌/◌, length, take, ap, ◌∙◌, arith}
+use Rattle.forest_roots.proofs.RowLaws.{lifted-end}
 use Rattle.forest_roots.proofs.rows.lift.Goals as goal
 
 pub returns-clause-lifted : goal.returns-clause-lifted
