@@ -21,7 +21,7 @@ use Rattle.cache_update.specs.Marks.{Fits}
 use Rattle.compact_node.specs.After.{with_leaf, with_leaves, kept_with, held_with, kept_with_all, held_with_all}
 use Rattle.compact_node.specs.Judged.{watched_leaf}
 use Rattle.compact_node.specs.Marked.{GoesOn}
-use Rattle.compact_node.proofs.Additions.{with_leaf-leaves}
+use Rattle.forest_roots.proofs.Additions.{with_leaf-leaves}
 use Rattle.node_rules.proofs.ClaimedLeaves.{got-map}
 use Rattle.compact_node.proofs.Taking.{IsAppending, appending_begins, appended_once, take_one}
 

@@ -13,7 +13,7 @@ use Rattle.block_rules.specs.declared.chain.Chain.{Chain}
 use Rattle.compact_node.specs.After.{with_leaves, kept_with_all, held_with_all}
 use Rattle.compact_node.specs.Node.{LevelState}
 use Rattle.compact_node.specs.Judged.{level_grown}
-use Rattle.compact_node.proofs.Additions.{with_leaves-leaves}
+use Rattle.forest_roots.proofs.Additions.{with_leaves-leaves}
 
 pub grown_level : (H : List ℕ → Digest) (text : Leaf → List ℕ) (scripts : List (List ℕ)) (l : LevelState) (hash : Digest) (n : ℕ) (ts : List Place)
     (pairs : List (Place × Digest)) (g : Stump) (new : List Leaf) (chain : Chain) (count : ℕ) (roots grown : Stump) (ks : List Kept)

@@ -33,7 +33,7 @@ use Rattle.node_rules.specs.Machine.{ChainEvent, BlockCame, RollbackCame, StrayC
 use Rattle.compact_node.specs.After.{without, held_without, changes_of, with_leaf, with_leaves, kept_with, held_with, kept_with_all, held_with_all}
 use Rattle.compact_node.specs.Node.{NodeState, IsNode, LevelState, IsLevel, AreOlder, back_from, gone_back, level_with, view_over, refusal_on}
 use Rattle.compact_node.specs.Node.{places_spent, hashes_spent, roots_spent, kept_spent, held_spent, roots_after, node_with, node_by, next_node}
-use Rattle.compact_node.proofs.Additions.{with_leaf-leaves, with_leaf-adds, with_leaf-stump, with_leaves-leaves, with_leaves-stump}
+use Rattle.forest_roots.proofs.Additions.{with_leaf-leaves, with_leaf-adds, with_leaf-stump, with_leaves-leaves, with_leaves-stump}
 use Rattle.compact_node.proofs.Changes.{within_all}
 use Rattle.compact_node.proofs.Deletions.{without-leaves, without-slot, without-stump}
 

@@ -42,7 +42,7 @@ use Rattle.node_rules.proofs.Serving.{hash_of_all}
 use Rattle.node_rules.proofs.Spending.{entries-spent, right_stands}
 use Rattle.compact_node.specs.After.{held_without, changes_of, with_leaf, with_leaves, kept_with, held_with, kept_with_all, held_with_all}
 use Rattle.compact_node.specs.Node.{LevelState, view_over, places_spent, hashes_over, hashes_spent, roots_spent, kept_spent, held_spent}
-use Rattle.compact_node.proofs.Additions.{with_leaf-leaves, with_leaf-adds, with_leaf-stump}
+use Rattle.forest_roots.proofs.Additions.{with_leaf-leaves, with_leaf-adds, with_leaf-stump}
 use Rattle.compact_node.proofs.Changes.{changes_serve}
 use Rattle.compact_node.proofs.Deletions.{without-leaves, without-slot}
 
