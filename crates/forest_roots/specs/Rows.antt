@@ -1,5 +1,5 @@
 -- Nodes that go up from a row together: neighbours are paired.
-use Rattle.std.specs.Prelude.{◌≡◌, ℕ, ◌+◌, ◌*◌, ◌/◌, Bool, true, false, List, [], ◌∷◌, ◌++◌, length, map, take, drop, if◌then◌else◌, Option, Some, None}
+use Rattle.std.specs.Prelude.{◌≡◌, ℕ, ◌+◌, ◌-◌, ◌*◌, ◌/◌, Bool, true, false, List, [], ◌∷◌, ◌++◌, length, map, take, drop, is_some, if◌then◌else◌, Option, Some, None}
 use Rattle.uo_digest.specs.declared.digest.Digest.{Digest}
 use Rattle.forest_model.specs.Addition.{join_root}
 
@@ -34,6 +34,11 @@ staying true (d ∷ ds) = odd_one ds
 -- how many nodes n nodes of a row give in the next one
 abbrev pub count_risen : Bool → ℕ → ℕ
 count_risen slot n = (n + (if slot then 1 else 0)) / 2
+
+-- the digests that n nodes of a row take: one for each pair, and one where a root is joined that is not empty
+abbrev pub row_steps : Bool → Option Digest → ℕ → ℕ
+row_steps false root n = n / 2
+row_steps true root n = (if is_some root then 1 else 0) + (n - 1) / 2
 
 -- the digests over the first i pairs of a row stand at the front of the list, and what is left of the row behind these pairs
 pub record IsLifted (H : List ℕ → Digest) (start now : List Digest) (i : ℕ) : Type 0 where

@@ -1,7 +1,7 @@
 //! Many additions at once, a row of nodes after the other.
-ghost use Rattle.std.specs.Prelude.{◌≡◌, ◌+◌, ◌-◌, ◌*◌, ◌/◌, ◌^◌, ◌<◌, ◌≤◌, ◌++◌, true, List, length, take, drop, count_ones, is_some, if◌then◌else◌};
+ghost use Rattle.std.specs.Prelude.{◌≡◌, ◌+◌, ◌*◌, ◌/◌, ◌^◌, ◌<◌, ◌≤◌, ◌++◌, true, List, length, take, drop, count_ones};
 ghost use Rattle.uo_digest.specs.declared.digest.Digest.{Digest as Digested};
-ghost use Rattle.forest_roots.specs.Rows.{neighbours, odd_one, risen, staying, count_risen, IsLifted, digests_over};
+ghost use Rattle.forest_roots.specs.Rows.{neighbours, odd_one, risen, staying, count_risen, row_steps, IsLifted, digests_over};
 
 use crate::Roots;
 use crate::inner::join_root;
@@ -87,7 +87,7 @@ fn raise_joined<D: Digester, L: Ledger>(
     ensures above { take (count_risen true (length nodes.old)) nodes.new ≡ risen D.digest_of true root nodes.old }
     ensures stays { result ≡ staying true nodes.old }
     ensures len { length nodes.new ≡ length nodes.old }
-    ensures steps { steps.new ≡ steps.old + (if is_some root then 1 else 0) + (length nodes.old - 1) / 2 }
+    ensures steps { steps.new ≡ steps.old + row_steps true root (length nodes.old) }
 {
     let (first, others) = nodes.split_at_mut(1);
     first[0] = join_root::<D, L>(root, first[0], steps);
@@ -105,7 +105,7 @@ fn raise_row<D: Digester, L: Ledger>(
     ensures above { take (count_risen slot (length nodes.old)) nodes.new ≡ risen D.digest_of slot root nodes.old }
     ensures stays { result ≡ staying slot nodes.old }
     ensures len { length nodes.new ≡ length nodes.old }
-    ensures steps { steps.new ≤ steps.old + count_risen slot (length nodes.old) }
+    ensures steps { steps.new ≡ steps.old + row_steps slot root (length nodes.old) }
 {
     if slot {
         raise_joined::<D, L>(root, nodes, steps)
@@ -122,7 +122,7 @@ fn count_above(slot: bool, count: usize) -> usize
 }
 
 impl<D: Digester> Roots<D> {
-    ghost use Rattle.forest_roots.specs.After.{with_leaves};
+    ghost use Rattle.forest_roots.specs.After.{with_leaves, additions_steps};
 
     /// Adds these digests in their order, a row of nodes after the other, so that the nodes of a row are digested side by side.
     /// What the list holds then has no meaning.
@@ -130,6 +130,8 @@ impl<D: Digester> Roots<D> {
         requires { self.old.leaves + length digests.old < 2 ^ 40 }
         ensures roots { self.new ≡ with_leaves D.digest_of self.old digests.old }
         ensures len { length digests.new ≡ length digests.old }
+        // As many steps as these additions take one by one.
+        ensures counted { steps.new ≡ steps.old + additions_steps D.digest_of self.old digests.old }
         ensures few { steps.new + count_ones self.new.leaves ≤ steps.old + length digests.old + count_ones self.old.leaves }
     {
         let added = digests.len();

@@ -38,12 +38,12 @@ invariant_of-self g c =
     c.self.view_is c.self.invariant few (omega (arith, c.loop-count.invariant.same_count)) in
     rose.stump
 
-pub returns-clause-roots : goal.returns-clause-roots
-returns-clause-roots g c =
+pub returns : goal.returns
+returns g c =
     let leaves : c.self.inside.count ≡ c.args.self.now.leaves = ap (λ (f : Stump). f.leaves) c.self.view_is in
     let few : c.self.inside.count + length c.args.digests.now < 2 ^ 40 = omega (arith, leaves, c.requires) in
     let rose = rising_ends g.D.Digester.digest_of c.args.self.now c.self.inside.count c.self.inside.slots c.args.digests.now c.args.steps.now
     c.loop-count.row c.loop-count.self-inside.slots c.loop-count.digests c.loop-count.count c.loop-count.steps
     (c.loop-count.self-inside.count + length c.args.digests.now) c.loop-count.invariant.rising (λ some. omega (arith, some, c.loop-count-test.false))
     c.self.view_is c.self.invariant few (omega (arith, c.loop-count.invariant.same_count)) in
-    rose.are
+    record { roots = rose.are; len = c.loop-count.invariant.rising.long; counted = rose.counted; few = rose.few }
