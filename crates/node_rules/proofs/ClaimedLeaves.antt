@@ -27,6 +27,11 @@ claims-long [] (r ∷ rests) e = absurd (omega (arith, e))
 claims-long (x ∷ ext) [] e = absurd (omega (arith, e))
 claims-long (x ∷ ext) (r ∷ rests) e = ap suc (claims-long ext rests (omega (arith, e)))
 
+-- where it has a rest for each input
+pub message-long : (ext : List Outside) (m : Message) → length m.proof.spends ≡ length ext
+    → length (claimed (points_of ext) (rests_of m.proof.spends)) ≡ length ext
+message-long ext m e = claims-long ext (rests_of m.proof.spends) (length-map m.proof.spends (λ s. s.rest) ∙ e)
+
 -- the digest of the next one
 pub claim_next : (H : List ℕ → Digest) (text : Leaf → List ℕ) (ext : List Outside) (m : Message) (i : ℕ) (d : Outside) (rest : Rest) (leaf : Leaf)
     (digest : Digest) → i < length ext → slice_get (rests_of m.proof.spends) i ≡ Some rest →
@@ -41,7 +46,7 @@ pub leaves-long : (H : List ℕ → Digest) (text : Leaf → List ℕ) (ext : Li
     → length (leaves_of H text (points_of ext) m) ≡ length ext
 leaves-long H text ext m e =
     length-map (claimed (points_of ext) (rests_of m.proof.spends)) (λ leaf. H (text leaf))
-    ∙ claims-long ext (rests_of m.proof.spends) (length-map m.proof.spends (λ s. s.rest) ∙ e)
+    ∙ message-long ext m e
 
 -- all of them
 pub claims_all : (H : List ℕ → Digest) (text : Leaf → List ℕ) (ext : List Outside) (m : Message) (i : ℕ) (leaves : List Digest)

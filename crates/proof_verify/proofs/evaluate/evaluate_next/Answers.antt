@@ -57,7 +57,8 @@ returns-clause-more g c =
 pub returns-clause-nodes : goal.returns-clause-nodes
 returns-clause-nodes g c =
     evaluated_on g.D.Digester.digest_of c.args.origins.now c.args.leaves.now c.args.hashes.now c.args.made c.next_batch-batch.result.now
-    c.args.nodes.now c.split_at_mut-below.result.0.now c.evaluate_batch.new.nodes c.split_at_mut-below.result.1.now c.requires.can c.requires.left c.requires.made
+    c.args.nodes.now c.split_at_mut-below.result.0.now c.evaluate_batch.new.nodes c.split_at_mut-below.result.1.now
+    c.requires.can c.requires.left c.requires.made
     c.next_batch-batch.ensures c.split_at_mut-below.ensures.front c.evaluate_batch.ensures.nodes c.split_at_mut-below.ensures.back_len
 
 pub returns-clause-steps : goal.returns-clause-steps
