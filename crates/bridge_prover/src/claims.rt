@@ -7,7 +7,8 @@ ghost use Rattle.node_rules.specs.Messages.{points_of};
 ghost use Rattle.node_rules.specs.Accepting.{leaves_of};
 
 use block_rules::{Found, Outside};
-use leaf_record::{LeafBuf, RestView, leaf_digest};
+use leaf_record::{LeafBuf, RestView, leaf_digests};
+use node_rules::MessageLeaves;
 use proof_wire::MessageView;
 use std::alloc::{AllocError, Global};
 use std::sync::ledger::Ledger;
@@ -50,11 +51,6 @@ pub(crate) fn claimed_leaves<D: Digester, L: Ledger>(
     requires { length message.now.proof.spends ≡ length external.now }
     ensures { IfOk result (λ leaves. leaves.items ≡ leaves_of D.digest_of leaf_text (points_of external.now) message.now) }
 {
-    let mut leaves = Vec::with_capacity(alloc, external.len())?;
-    for i in 0..external.len() {
-        let at = external[i];
-        let leaf = message.rest(i as u64).with_outpoint(at.txid, at.index);
-        leaves.push(leaf_digest::<D, L>(room, &leaf, steps))?;
-    }
-    Ok(leaves)
+    let claims = MessageLeaves::new(external, message);
+    leaf_digests(alloc, room, &claims, steps)
 }

@@ -2,7 +2,7 @@
 ghost use Rattle.std.specs.Prelude.{◌≡◌, ◌<◌, List, length, slice_get, Some};
 ghost use Rattle.leaf_record.specs.Leaf.{Leaf};
 
-use crate::record::RecordView;
+use crate::record::{Record, RecordView};
 
 /// Leaves that are asked for by their index.
 pub trait Leaves {
@@ -17,4 +17,16 @@ pub trait Leaves {
     fn leaf(&self, index: usize) -> RecordView<'_>
         requires { index < length (leaves self.now) }
         ensures { slice_get (leaves self.now) index ≡ Some result };
+}
+
+impl<'s> Leaves for &'s [Record] {
+    ghost leaves = { λ records. records.now };
+
+    fn count(&self) -> usize {
+        self.len()
+    }
+
+    fn leaf(&self, index: usize) -> RecordView<'_> {
+        self[index].view()
+    }
 }
