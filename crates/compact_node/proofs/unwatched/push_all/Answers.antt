@@ -8,7 +8,7 @@ use Rattle.compact_node.proofs.unwatched.push_all.Goals as goal
 
 pub loop-i-init : goal.loop-i-init
 loop-i-init g c = record {
-  appending = appending_begins g.D.Digester.digest_of leaf_text c.args.roots.now c.args.steps.now c.args.spends.now.new;
+  appending = appending_begins g.D.Digester.digest_of c.args.roots.now c.args.steps.now c.args.spends.now.new;
   within = omega arith;
 }
 
@@ -17,7 +17,7 @@ push-requires g c = omega (arith, c.requires, c.loop-i.invariant.appending.count
 
 pub loop-i-preserved : goal.loop-i-preserved
 loop-i-preserved g c = record {
-  appending = appended_once _ _ _ _ _ _ _ _ c.loop-i.invariant.appending c.new_output-leaf.result c.leaf_digest-digest.result c.push.new.roots
+  appending = appended_once _ _ _ _ _ _ _ c.loop-i.invariant.appending c.new_output-leaf.result c.leaf_digest-digest.result c.push.new.roots
       c.leaf_digest-digest.new.steps c.push.new.steps
       c.new_output-leaf.ensures c.leaf_digest-digest.ensures.value c.push.ensures.roots c.leaf_digest-digest.ensures.step c.push.ensures.steps;
   within = omega (arith, c.loop-i-test.true, c.new_count-i-end.ensures);
