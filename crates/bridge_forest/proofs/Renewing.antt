@@ -5,15 +5,16 @@ use Rattle.std.specs.Prelude.{option_map}
 use Rattle.std.proofs.lemmas.Bool.{cases_eq}
 use Rattle.std.proofs.lemmas.List.{get_or-set_same, get_or-set_other, length-set}
 use Rattle.uo_digest.specs.declared.digest.Digest.{Digest}
-use Rattle.forest_model.specs.Content.{content, digest_of, join_digests}
+use Rattle.forest_model.specs.Content.{content, digest_of}
 use Rattle.forest_model.specs.Deletion.{entries_without}
 use Rattle.forest_place.specs.Forest.{InForest}
-use Rattle.forest_place.proofs.Parts.{parts-suc, InForest-left, InForest-right}
-use Rattle.bridge_forest.specs.declared.renewal.Waiting.{Waiting}
+use Rattle.forest_place.proofs.Parts.{parts-suc}
+use Rattle.bridge_forest.specs.declared.waiting.Waiting.{Waiting}
 use Rattle.bridge_forest.specs.Parts.{PartLists, stored, IsPut, kept, part_digest, AreParts}
 use Rattle.bridge_forest.specs.Rows.{HasDigest, part_above, HasNoneOf, AreBelow, AreUpto, pair_digest, Waits, HasRoom, AreWaiting, AreTaken, KeepsDigests}
+use Rattle.bridge_forest.specs.Rows.{IsRenewed}
 use Rattle.bridge_forest.proofs.Entries.{content-set_other}
-use Rattle.bridge_forest.proofs.Refreshing.{digest-leaf, joined_right}
+use Rattle.bridge_forest.proofs.Refreshing.{digest-leaf}
 
 -- ---- lists of entries
 
@@ -42,7 +43,7 @@ untouched (i ∷ is) es row o none =
     ∙ untouched is es row o (λ k lt. none (suc k) (omega (arith, lt)))
 
 -- above a row without parts is none that has one
-none_above : (n row k : ℕ) → n / 2 ^ row ≡ 0 → n / 2 ^ (k + row) ≡ 0
+pub none_above : (n row k : ℕ) → n / 2 ^ row ≡ 0 → n / 2 ^ (k + row) ≡ 0
 none_above n row zero none = let e : 0 + row ≡ row = omega arith in ap (λ x. n / 2 ^ x) e ∙ none
 none_above n row (suc k) none =
     let e : suc k + row ≡ suc (k + row) = omega arith in
@@ -54,14 +55,6 @@ module _ (H : List ℕ → Digest) (n : ℕ) (leaves : List (Option Digest)) whe
       → kept leaves parts row off ≡ part_digest H leaves row off
   half_right parts ns zero off below h = digest-leaf H off (get_or leaves off None)
   half_right parts ns (suc row) off below h = below.is row off h (λ le. absurd (omega (arith, le)))
-
-  -- and that of the part above is joined from both
-  pub above_right : (parts : PartLists) (ns : List ℕ) (row off : ℕ) (left right digest : Option Digest) → AreBelow H n leaves parts ns row
-      → InForest n (suc row) off → left ≡ kept leaves parts row (2 * off) → right ≡ kept leaves parts row (2 * off + 1)
-      → digest ≡ join_digests H left right → digest ≡ part_digest H leaves (suc row) off
-  above_right parts ns row off left right digest below within le re de =
-      joined_right H leaves row off left right digest (le ∙ half_right parts ns row (2 * off) below (InForest-left n row off within))
-      (re ∙ half_right parts ns row (2 * off + 1) below (InForest-right n row off within)) de
 
   -- where a part gets its digest, the others keep theirs
   pub put_keeps : (parts parts' : PartLists) (row off : ℕ) (digest : Option Digest) → IsPut parts parts' row off digest
@@ -78,6 +71,56 @@ module _ (H : List ℕ → Digest) (n : ℕ) (leaves : List (Option Digest)) whe
   pub put_has : (parts parts' : PartLists) (row off : ℕ) (digest : Option Digest) → IsPut parts parts' row off digest
       → digest ≡ part_digest H leaves (suc row) off → HasDigest H leaves parts' row off
   put_has parts parts' row off digest put right = put.here ∙ right
+
+  -- a part is put
+  pub renewed_put : (parts parts' : PartLists) (row off : ℕ) (digest : Option Digest) (w : Waiting) → IsPut parts parts' row off digest
+      → digest ≡ part_digest H leaves (suc row) off → AreWaiting H n leaves row w → IsRenewed H n leaves row off parts parts' w w
+  renewed_put parts parts' row off digest w put right waiting = record {
+    here = inl (put.here ∙ right);
+    keeps = put_keeps parts parts' row off digest put right;
+    still = λ o waits. waits;
+    waiting = waiting;
+  }
+
+  -- or noted
+  pub renewed_noted : (parts : PartLists) (row off : ℕ) (l r : Digest) (w w' : Waiting) → w.count < 16 → w'.offs ≡ set w.offs w.count off
+      → w'.pairs ≡ set w.pairs w.count (l, r) → w'.count ≡ w.count + 1 → InForest n (suc row) off
+      → part_digest H leaves (suc row) off ≡ Some (pair_digest H (l, r)) → AreWaiting H n leaves row w
+      → IsRenewed H n leaves row off parts parts w w'
+  renewed_noted parts row off l r w w' one offs pairs count within right waiting =
+      let room = waiting.room in
+      let last : get_or w'.offs w.count 0 ≡ off = ap (λ (xs : List ℕ). get_or xs w.count 0) offs
+      ∙ get_or-set_same w.offs w.count off 0 (omega (arith, one, room.offs)) in
+      let old = λ (j : ℕ) (ne : j ≢ w.count). ap (λ (xs : List ℕ). get_or xs j 0) offs ∙ get_or-set_other w.offs w.count j off 0 ne in
+      record {
+        here = inr (w.count, (omega (arith, count), last));
+        keeps = λ r o has. has;
+        still = λ o waits. (waits.0, (omega (arith, count, waits.1.0), old waits.0 (λ e. omega (arith, e, waits.1.0)) ∙ waits.1.1));
+        waiting = record {
+          room = record {
+            offs = ap length offs ∙ length-set w.offs w.count off ∙ room.offs;
+            pairs = ap length pairs ∙ length-set w.pairs w.count (l, r) ∙ room.pairs;
+            few = omega (arith, count, one);
+          };
+          within = λ j lt.
+              ⊎_elim
+              (λ same. subst (λ o. InForest n (suc row) o) (sym (ap (λ k. get_or w'.offs k 0) same ∙ last)) within)
+              (λ ne. subst (λ o. InForest n (suc row) o) (sym (old j ne)) (waiting.within j (omega (arith, lt, count, ne))))
+              (cases_eq j w.count);
+          digest = λ j d lt.
+              ⊎_elim
+              (λ same.
+              ap (part_digest H leaves (suc row)) (ap (λ k. get_or w'.offs k 0) same ∙ last) ∙ right
+              ∙ ap (λ p. Some (pair_digest H p)) (sym (ap (λ k. get_or w'.pairs k d) same
+              ∙ ap (λ (xs : List (Digest × Digest)). get_or xs w.count d) pairs
+              ∙ get_or-set_same w.pairs w.count (l, r) d (omega (arith, one, room.pairs)))))
+              (λ ne.
+              ap (part_digest H leaves (suc row)) (old j ne) ∙ waiting.digest j d (omega (arith, lt, count, ne))
+              ∙ ap (λ p. Some (pair_digest H p)) (sym (ap (λ (xs : List (Digest × Digest)). get_or xs j d) pairs
+              ∙ get_or-set_other w.pairs w.count j (l, r) d ne)))
+              (cases_eq j w.count);
+        };
+      }
 
   below_kept : (parts parts' : PartLists) (ns : List ℕ) (row : ℕ) → KeepsDigests H leaves parts parts' → AreBelow H n leaves parts ns row
       → AreBelow H n leaves parts' ns row
@@ -138,66 +181,21 @@ module _ (H : List ℕ → Digest) (n : ℕ) (leaves : List (Option Digest)) whe
     waiting = taken.waiting;
   }
 
-  -- its part is put
-  pub taken_put : (parts parts' : PartLists) (ns : List ℕ) (row at : ℕ) (w : Waiting) (off : ℕ) (digest : Option Digest)
-      → off ≡ part_above ns row at → IsPut parts parts' row off digest → digest ≡ part_digest H leaves (suc row) off
-      → AreTaken H n leaves parts ns row at w → AreTaken H n leaves parts' ns row (at + 1) w
-  taken_put parts parts' ns row at w off digest is put right taken =
-      let keeps = put_keeps parts parts' row off digest put right in
-      record {
-        below = below_kept parts parts' ns row keeps taken.below;
-        done = λ k lt h.
-            ⊎_elim
-            (λ same. inl (subst (λ o. HasDigest H leaves parts' row o) (is ∙ ap (part_above ns row) (sym same)) (put.here ∙ right)))
-            (λ other. ⊎_elim (λ has. inl (keeps row (part_above ns row k) has)) (λ waits. inr waits) (taken.done k (omega (arith, lt, other)) h))
-            (cases_eq k at);
-        waiting = taken.waiting;
-      }
-
-  -- its part is noted
-  pub taken_noted : (parts : PartLists) (ns : List ℕ) (row at : ℕ) (w w' : Waiting) (off : ℕ) (l r : Digest) → w.count < 16
-      → w'.offs ≡ set w.offs w.count off → w'.pairs ≡ set w.pairs w.count (l, r) → w'.count ≡ w.count + 1 → off ≡ part_above ns row at
-      → InForest n (suc row) off → part_digest H leaves (suc row) off ≡ Some (pair_digest H (l, r))
-      → AreTaken H n leaves parts ns row at w → AreTaken H n leaves parts ns row (at + 1) w'
-  taken_noted parts ns row at w w' off l r one offs pairs count is within right taken =
-      let room = taken.waiting.room in
-      let last : get_or w'.offs w.count 0 ≡ off = ap (λ (xs : List ℕ). get_or xs w.count 0) offs
-      ∙ get_or-set_same w.offs w.count off 0 (omega (arith, one, room.offs)) in
-      let old = λ (j : ℕ) (ne : j ≢ w.count). ap (λ (xs : List ℕ). get_or xs j 0) offs ∙ get_or-set_other w.offs w.count j off 0 ne in
-      record {
-        below = taken.below;
-        done = λ k lt h.
-            ⊎_elim
-            (λ same. inr (w.count, (omega (arith, count), last ∙ is ∙ ap (part_above ns row) (sym same))))
-            (λ other. ⊎_elim
-            (λ has. inl has)
-            (λ waits. inr (waits.0, (omega (arith, count, waits.1.0), old waits.0 (λ e. omega (arith, e, waits.1.0)) ∙ waits.1.1)))
-            (taken.done k (omega (arith, lt, other)) h))
-            (cases_eq k at);
-        waiting = record {
-          room = record {
-            offs = ap length offs ∙ length-set w.offs w.count off ∙ room.offs;
-            pairs = ap length pairs ∙ length-set w.pairs w.count (l, r) ∙ room.pairs;
-            few = omega (arith, count, one);
-          };
-          within = λ j lt.
-              ⊎_elim
-              (λ same. subst (λ o. InForest n (suc row) o) (sym (ap (λ k. get_or w'.offs k 0) same ∙ last)) within)
-              (λ ne. subst (λ o. InForest n (suc row) o) (sym (old j ne)) (taken.waiting.within j (omega (arith, lt, count, ne))))
-              (cases_eq j w.count);
-          digest = λ j d lt.
-              ⊎_elim
-              (λ same.
-              ap (part_digest H leaves (suc row)) (ap (λ k. get_or w'.offs k 0) same ∙ last) ∙ right
-              ∙ ap (λ p. Some (pair_digest H p)) (sym (ap (λ k. get_or w'.pairs k d) same ∙ ap (λ (xs : List (Digest × Digest)). get_or xs w.count d) pairs
-              ∙ get_or-set_same w.pairs w.count (l, r) d (omega (arith, one, room.pairs)))))
-              (λ ne.
-              ap (part_digest H leaves (suc row)) (old j ne) ∙ taken.waiting.digest j d (omega (arith, lt, count, ne))
-              ∙ ap (λ p. Some (pair_digest H p)) (sym (ap (λ (xs : List (Digest × Digest)). get_or xs j d) pairs
-              ∙ get_or-set_other w.pairs w.count j (l, r) d ne)))
-              (cases_eq j w.count);
-        };
-      }
+  -- its part is made anew
+  pub taken_renewed : (parts parts' : PartLists) (ns : List ℕ) (row at : ℕ) (w w' : Waiting) (off : ℕ) → off ≡ part_above ns row at
+      → IsRenewed H n leaves row off parts parts' w w' → AreTaken H n leaves parts ns row at w → AreTaken H n leaves parts' ns row (at + 1) w'
+  taken_renewed parts parts' ns row at w w' off is renewed taken = record {
+    below = below_kept parts parts' ns row renewed.keeps taken.below;
+    done = λ k lt h.
+        ⊎_elim
+        (λ same. subst (λ o. HasDigest H leaves parts' row o ⊎ Waits w' o) (is ∙ ap (part_above ns row) (sym same)) renewed.here)
+        (λ other. ⊎_elim
+        (λ has. inl (renewed.keeps row (part_above ns row k) has))
+        (λ waits. inr (renewed.still (part_above ns row k) waits))
+        (taken.done k (omega (arith, lt, other)) h))
+        (cases_eq k at);
+    waiting = renewed.waiting;
+  }
 
   -- what waits has its digest
   pub taken_ends : (parts parts' : PartLists) (ns : List ℕ) (row at : ℕ) (w : Waiting) → KeepsDigests H leaves parts parts'

@@ -2,8 +2,8 @@
 use Rattle.std.specs.Prelude.{◌≡◌, ◌≢◌, ℕ, suc, ◌/◌, ◌^◌, ◌<◌, ◌≤◌, ◌++◌, List, length, get_or, Option, Some, ◌⊎◌}
 use Rattle.uo_digest.specs.declared.digest.Digest.{Digest}
 use Rattle.forest_place.specs.Forest.{InForest}
-use Rattle.bridge_forest.specs.declared.renewal.Waiting.{Waiting}
-use Rattle.bridge_forest.specs.Parts.{PartLists, stored, part_digest}
+use Rattle.bridge_forest.specs.declared.waiting.Waiting.{Waiting}
+use Rattle.bridge_forest.specs.Parts.{PartLists, stored, kept, part_digest}
 
 -- what is kept for the part (row + 1, off) is its digest
 abbrev pub HasDigest : (List ℕ → Digest) → List (Option Digest) → PartLists → ℕ → ℕ → Type 0
@@ -59,3 +59,33 @@ pub record AreTaken (H : List ℕ → Digest) (n : ℕ) (leaves : List (Option D
 -- what had its digest still has it
 abbrev pub KeepsDigests : (List ℕ → Digest) → List (Option Digest) → PartLists → PartLists → Type 0
 KeepsDigests H leaves parts parts' = (r o : ℕ) → HasDigest H leaves parts r o → HasDigest H leaves parts' r o
+
+-- the part (row + 1, off) is made anew: it has its digest or waits for it. What had its digest still has it, and what waited still waits
+pub record IsRenewed (H : List ℕ → Digest) (n : ℕ) (leaves : List (Option Digest)) (row off : ℕ) (parts parts' : PartLists) (w w' : Waiting)
+    : Type 0 where
+  pub here : HasDigest H leaves parts' row off ⊎ Waits w' off
+  pub keeps : KeepsDigests H leaves parts parts'
+  pub still : (o : ℕ) → Waits w o → Waits w' o
+  pub waiting : AreWaiting H n leaves row w'
+
+-- ---- entries that are added at the end
+
+-- each part up to a row has its digest, and so has each one above it that was whole before
+pub record AreGrown (H : List ℕ → Digest) (n : ℕ) (leaves : List (Option Digest)) (parts : PartLists) (before row : ℕ) : Type 0 where
+  pub is : (r o : ℕ) → InForest n (suc r) o → (row ≤ r → InForest before (suc r) o) → HasDigest H leaves parts r o
+
+-- each part of a row has its digest
+abbrev pub HasRow : (List ℕ → Digest) → ℕ → List (Option Digest) → PartLists → ℕ → Type 0
+HasRow H n leaves parts row = (off : ℕ) → InForest n row off → kept leaves parts row off ≡ part_digest H leaves row off
+
+-- in the row above each part from one on and before another has its digest or waits for it, and what had its digest before still has it
+pub record AreSpanned (H : List ℕ → Digest) (n : ℕ) (leaves : List (Option Digest)) (parts parts' : PartLists) (row from end : ℕ) (w : Waiting)
+    : Type 0 where
+  pub keeps : KeepsDigests H leaves parts parts'
+  pub done : (o : ℕ) → from ≤ o → o < end → HasDigest H leaves parts' row o ⊎ Waits w o
+  pub waiting : AreWaiting H n leaves row w
+
+-- and none waits
+pub record IsRowFilled (H : List ℕ → Digest) (leaves : List (Option Digest)) (parts parts' : PartLists) (row from end : ℕ) : Type 0 where
+  pub keeps : KeepsDigests H leaves parts parts'
+  pub done : (o : ℕ) → from ≤ o → o < end → HasDigest H leaves parts' row o
