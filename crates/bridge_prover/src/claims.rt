@@ -1,6 +1,5 @@
 //! What a message claims of a block's external inputs.
 ghost use Rattle.std.specs.Prelude.{◌≡◌, map, length, IfOk};
-ghost use Rattle.leaf_record.specs.Leaf.{leaf_text};
 ghost use Rattle.proof_wire.specs.BlockProof.{rests_of};
 ghost use Rattle.block_rules.specs.Money.{found_of};
 ghost use Rattle.node_rules.specs.Messages.{points_of};
@@ -49,7 +48,7 @@ pub(crate) fn claimed_leaves<D: Digester, L: Ledger>(
     steps: &mut Steps<L>,
 ) -> Result<Vec<Digest>, AllocError>
     requires { length message.now.proof.spends ≡ length external.now }
-    ensures { IfOk result (λ leaves. leaves.items ≡ leaves_of D.digest_of leaf_text (points_of external.now) message.now) }
+    ensures { IfOk result (λ leaves. leaves.items ≡ leaves_of D.digest_of (points_of external.now) message.now) }
 {
     let claims = MessageLeaves::new(external, message);
     leaf_digests(alloc, room, &claims, steps)

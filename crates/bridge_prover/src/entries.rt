@@ -49,7 +49,7 @@ fn restore<D: Digester, L: Ledger>(
 )
     requires given { number < length forest.old.entries }
     requires spent { is_live forest.old.entries number ≡ false }
-    ensures entries { forest.new.entries ≡ all_restored (restored_in D.digest_of leaf_text outputs.now (number ∷ [])) forest.old.entries }
+    ensures entries { forest.new.entries ≡ all_restored (restored_in D.digest_of outputs.now (number ∷ [])) forest.old.entries }
     ensures steps { steps.new ≤ steps.old + (rows (length forest.old.entries) + 1) }
 {
     match outputs.output(number) {
@@ -72,7 +72,7 @@ pub(crate) fn restore_all<D: Digester, L: Ledger>(
     requires given { All (λ i. i < length forest.old.entries) numbers.now }
     requires spent { All (λ i. is_live forest.old.entries i ≡ false) numbers.now }
     requires apart { AllPairs (λ i j. i ≢ j) numbers.now }
-    ensures entries { forest.new.entries ≡ all_restored (restored_in D.digest_of leaf_text outputs.now numbers.now) forest.old.entries }
+    ensures entries { forest.new.entries ≡ all_restored (restored_in D.digest_of outputs.now numbers.now) forest.old.entries }
     ensures steps { steps.new ≤ steps.old + length numbers.now * (rows (length forest.old.entries) + 1) }
 {
     for number in numbers {

@@ -138,8 +138,8 @@ fn append<D: Digester, L: Ledger>(
     requires count { mark.old.leaves ≡ roots.old.leaves }
     requires few { roots.old.leaves + length spends.now.new < 2 ^ 40 }
     ensures roots { roots.new ≡ with_leaves D.digest_of roots.old (map (λ leaf. D.digest_of (leaf_text leaf)) spends.now.new) }
-    ensures kept { cache.new.parts.kept ≡ kept_with_all D.digest_of leaf_text cache.old.watch roots.old spends.now.new cache.old.parts.kept }
-    ensures held { cache.new.parts.held ≡ held_with_all D.digest_of leaf_text cache.old.watch roots.old spends.now.new cache.old.parts.held }
+    ensures kept { cache.new.parts.kept ≡ kept_with_all D.digest_of cache.old.watch roots.old spends.now.new cache.old.parts.kept }
+    ensures held { cache.new.parts.held ≡ held_with_all D.digest_of cache.old.watch roots.old spends.now.new cache.old.parts.held }
     ensures watch { cache.new.watch ≡ cache.old.watch }
     ensures on { GoesOn mark.old cache.old.parts mark.new cache.new.parts }
     ensures steps { steps.new ≤ steps.old + length spends.now.new + 40 }
@@ -195,9 +195,9 @@ fn grow_watched<D: Digester, L: Ledger>(
     requires forest { IsOfForest roots.old.leaves cache.old.parts }
     requires few { roots.old.leaves + length spends.now.new < 2 ^ 40 }
     ensures roots { OnOk result (roots.new ≡ with_leaves D.digest_of roots.old (map (λ leaf. D.digest_of (leaf_text leaf)) spends.now.new)) }
-    ensures kept { OnOk result (cache.new.parts.kept ≡ kept_with_all D.digest_of leaf_text cache.old.watch roots.old spends.now.new
+    ensures kept { OnOk result (cache.new.parts.kept ≡ kept_with_all D.digest_of cache.old.watch roots.old spends.now.new
         (moved_leaves targets.now.leaves targets.now.targets cache.old.parts.kept)) }
-    ensures held { OnOk result (cache.new.parts.held ≡ held_with_all D.digest_of leaf_text cache.old.watch roots.old spends.now.new
+    ensures held { OnOk result (cache.new.parts.held ≡ held_with_all D.digest_of cache.old.watch roots.old spends.now.new
         (held_deleted targets.now.leaves targets.now.targets (pairs_within targets.now.leaves changes.now)
         (leaf_places (moved_leaves targets.now.leaves targets.now.targets cache.old.parts.kept)) cache.old.parts.held)) }
     ensures fits { IfOk result (λ mark. Fits mark cache.new.parts) }
@@ -240,9 +240,9 @@ pub(crate) fn grow<D: Digester, L: Ledger>(
     requires forest { IsOfForest roots.old.leaves cache.old.parts }
     requires few { roots.old.leaves + length spends.now.new < 2 ^ 40 }
     ensures roots { OnOk result (roots.new ≡ with_leaves D.digest_of roots.old (map (λ leaf. D.digest_of (leaf_text leaf)) spends.now.new)) }
-    ensures kept { OnOk result (cache.new.parts.kept ≡ kept_with_all D.digest_of leaf_text cache.old.watch roots.old spends.now.new
+    ensures kept { OnOk result (cache.new.parts.kept ≡ kept_with_all D.digest_of cache.old.watch roots.old spends.now.new
         (moved_leaves targets.now.leaves targets.now.targets cache.old.parts.kept)) }
-    ensures held { OnOk result (cache.new.parts.held ≡ held_with_all D.digest_of leaf_text cache.old.watch roots.old spends.now.new
+    ensures held { OnOk result (cache.new.parts.held ≡ held_with_all D.digest_of cache.old.watch roots.old spends.now.new
         (held_deleted targets.now.leaves targets.now.targets (pairs_within targets.now.leaves changes.now)
         (leaf_places (moved_leaves targets.now.leaves targets.now.targets cache.old.parts.kept)) cache.old.parts.held)) }
     ensures fits { IfOk result (λ mark. Fits mark cache.new.parts) }
