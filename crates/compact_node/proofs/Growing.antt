@@ -1,10 +1,10 @@
 -- The roots, the lists and the mark while a block adds its outputs.
-use Rattle.std.proofs.Common.{◌≡◌, ℕ, zero, suc, ◌+◌, ◌*◌, ◌<◌, ◌≤◌, ◌^◌, Bool, true, false, cond, List, [], ◌∷◌, ◌++◌, map, length, take, drop}
+use Rattle.std.proofs.Common.{◌≡◌, ℕ, zero, suc, ◌+◌, ◌<◌, ◌≤◌, ◌^◌, Bool, true, false, cond, List, [], ◌∷◌, ◌++◌, map, length, take, drop, get_or}
 use Rattle.std.proofs.Common.{Option, Some, None, is_some, refl, sym, ap, ap₂, ◌∙◌, arith}
 use Rattle.std.specs.Prelude.{slice_get, count_by, count_ones}
 use Rattle.std.proofs.lemmas.List.{length-map, take_all}
 use Rattle.std.proofs.lemmas.List.Sums.{sum_by-append}
-use Rattle.std.proofs.lemmas.Option.{same_Some}
+use Rattle.std.proofs.lemmas.Option.{same_Some, get_or_from_slice_get}
 use Rattle.std.proofs.lemmas.Nat.{ones-le}
 use Rattle.uo_digest.specs.declared.digest.Digest.{Digest}
 use Rattle.forest_place.specs.declared.place.Place.{Place}
@@ -65,6 +65,17 @@ count_more x xs = sum_by-append (λ (y : Option Leaf). cond (is_some y) 1 0) (x 
 count_one : (x : Option Leaf) → is_some x ≡ true → 0 < count_by is_some (x ∷ [])
 count_one (Some x) h = omega arith
 count_one None h = absurd (let z : false ≡ true = h in cc)
+
+-- an item at an index
+pub item_there : {X : Type 0} (xs : List X) (i : ℕ) → i < length xs → (x : X) × (slice_get xs i ≡ Some x)
+item_there [] i lt = absurd (omega (arith, lt))
+item_there (x ∷ xs) zero lt = (x, refl)
+item_there (x ∷ xs) (suc i) lt = item_there xs i (omega (arith, lt))
+
+-- and what a function gives of it
+pub got_of : {X Y : Type 0} (f : X → Y) (xs : List X) (ys : List Y) (i : ℕ) (x : X) (d : Y) → ys ≡ map f xs → slice_get xs i ≡ Some x
+    → get_or ys i d ≡ f x
+got_of f xs ys i x d are got = ap (λ zs. get_or zs i d) are ∙ get_or_from_slice_get (map f xs) i (f x) d (got-map f xs i x got)
 
 -- ---- one output more
 
@@ -145,21 +156,21 @@ module _ (H : List ℕ → Digest) (scripts : List (List ℕ)) (f : Stump) (p : 
       growing_few few = omega (arith, few, g.appending.counted, growing_within)
 
       -- what the addition makes
-      pub grown_once : (leaf : Leaf) (d : Digest) (roots' : Stump) (now' : Parted) (watch' : List (List ℕ)) (mark' : Mark) (after_leaf after : ℕ)
+      pub grown_once : (leaf : Leaf) (d : Digest) (roots' : Stump) (now' : Parted) (watch' : List (List ℕ)) (mark' : Mark) (after : ℕ)
           → slice_get new i ≡ Some leaf → d ≡ H (leaf_text leaf) →
-          roots' ≡ with_leaf H roots d → after_leaf ≡ steps + 1 → after + count_ones roots'.leaves ≤ after_leaf + 1 + count_ones roots.leaves →
+          roots' ≡ with_leaf H roots d → after + count_ones roots'.leaves ≤ steps + 1 + count_ones roots.leaves →
           now'.kept ≡ leaves_more (is_empty_of (joins_of H roots d)) roots.leaves (length (joins_of H roots d)) x d now.kept →
           now'.held ≡ added_by (joins_of H roots d) d roots.leaves (is_some x) now.held →
           watch' ≡ watch → GoesOn mark now mark' now' → mark'.leaves ≡ mark.leaves + 1 → mark'.adds + 1 ≡ mark.adds
           → mark'.watched + count_by is_some (x ∷ []) ≡ mark.watched →
           IsGrowing H scripts f p m start new (i + 1) later roots' now' watch' mark' after
-      grown_once leaf d roots' now' watch' mark' after_leaf after got digest added e le kept held same on leaves adds watched =
+      grown_once leaf d roots' now' watch' mark' after got digest added le kept held same on leaves adds watched =
           let w : x ≡ watched_leaf scripts leaf = same_Some x (watched_leaf scripts leaf)
           (sym next.0 ∙ got-map (watched_leaf scripts) new i leaf got) in
           let front = take_one new i leaf got in
           let digests = with_leaves H f (map (λ (l : Leaf). H (leaf_text l)) (take i new)) in
           record {
-            appending = appended_once H f start new i roots steps g.appending leaf d roots' after_leaf after got digest added e le;
+            appending = appended_once H f start new i roots steps g.appending leaf d roots' after got digest added le;
             within = let lt = growing_within in omega (arith, lt);
             rest = next.1;
             kept = kept
@@ -198,6 +209,6 @@ module _ (H : List ℕ → Digest) (scripts : List (List ℕ)) (f : Stump) (p : 
       pub grown_held : now.held ≡ held_with_all H scripts f new p.held
       grown_held = g.held ∙ ap (λ xs. held_with_all H scripts f xs p.held) all
 
-      pub grown_steps : f.leaves < 2 ^ 40 → steps ≤ start + 2 * length new + 40
+      pub grown_steps : f.leaves < 2 ^ 40 → steps ≤ start + length new + 40
       grown_steps few = let h = none_dropped (map (watched_leaf scripts) new) i (sym none ∙ g.rest) in
           omega (arith, g.appending.few, ones-le 40 f.leaves few, g.within)
