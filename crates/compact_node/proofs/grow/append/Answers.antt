@@ -57,8 +57,8 @@ loop-i-preserved g c =
       left = pending_on scripts new c.loop-i.i _ taken.1;
       growing = grown_once _ _ _ _ _ _ _ _ _ _ _ _ _ _ c.loop-i.invariant.growing _ _
           (head_taken scripts new c.loop-i.i at.0 c.take_watched-watched.result at.1 taken.0)
-          at.0 _ _ _ _ _ _ at.1 digest c.add.ensures.roots c.add.ensures.steps c.add.ensures.kept c.add.ensures.held c.add.ensures.watch c.add.ensures.on
-          c.add.ensures.leaves c.add.ensures.adds c.add.ensures.watched;
+          at.0 _ _ _ _ _ _ at.1 digest c.add.ensures.roots c.add.ensures.steps c.add.ensures.kept c.add.ensures.held c.add.ensures.watch
+          c.add.ensures.on c.add.ensures.leaves c.add.ensures.adds c.add.ensures.watched;
     }
 
 pub returns-clause-roots : goal.returns-clause-roots
