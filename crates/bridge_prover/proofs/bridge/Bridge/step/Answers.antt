@@ -1,7 +1,6 @@
 use Rattle.std.proofs.Common.{◌≡◌, ◌∙◌, length, Some, ap, subst, Ok}
 use Rattle.std.specs.Prelude.{option_map}
 use Rattle.uo_base.specs.FeedEvent.{event_of}
-use Rattle.leaf_record.specs.Leaf.{leaf_text}
 use Rattle.node_rules.specs.Laws.{kept_after}
 use Rattle.node_rules.specs.Machine.{event_in}
 use Rattle.bridge_prover.specs.Laws.{LevelsTold, SaysAsOwn}
@@ -33,7 +32,7 @@ returns-in-Block-clause-refines g c =
     stepped_block (λ p. p.verdict) (λ p. option_map (λ bytes. bytes.items) p.message) g.D.Digester.digest_of
     (λ e v m s'. SaysAsOwn g.D.Digester.digest_of s e v m s') s c.take_bytes.new.self c.args.event _ _ c.take_bytes.result
     (ap (λ x. event_in (event_of x)) c.in-Block.is)
-    (λ e. bridge_is_own g.D.Digester.digest_of leaf_text s e is) c.take_bytes.ensures.verdict c.take_bytes.ensures.message c.take_bytes.ensures.next
+    (λ e. bridge_is_own g.D.Digester.digest_of s e is) c.take_bytes.ensures.verdict c.take_bytes.ensures.message c.take_bytes.ensures.next
 
 pub returns-in-Rollback-clause-levels : goal.returns-in-Rollback-clause-levels
 returns-in-Rollback-clause-levels g c =
@@ -60,5 +59,5 @@ returns-in-Rollback-clause-refines g c =
     stepped {E = Unit {0}} (λ p. p.verdict) (λ p. option_map (λ bytes. bytes.items) p.message) g.D.Digester.digest_of
     (λ e v m s'. SaysAsOwn g.D.Digester.digest_of s e v m s') s c.roll_back.new.self c.args.event _ (Ok c.alone.result)
     (ap (λ x. event_in (event_of x)) c.in-Rollback.is)
-    (λ e. bridge_is_own g.D.Digester.digest_of leaf_text s e is) (c.alone.ensures.verdict ∙ c.roll_back.ensures.verdict)
+    (λ e. bridge_is_own g.D.Digester.digest_of s e is) (c.alone.ensures.verdict ∙ c.roll_back.ensures.verdict)
     (ap (option_map (λ bytes. bytes.items)) c.alone.ensures.message) c.roll_back.ensures.next
