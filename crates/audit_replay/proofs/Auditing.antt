@@ -3,7 +3,6 @@ use Rattle.std.proofs.Common.{◌≡◌, ℕ, Bool, true, false, List, [], ◌�
 use Rattle.uo_base.specs.declared.event.Limits.{Limits}
 use Rattle.uo_base.specs.declared.event.Net.{Net}
 use Rattle.uo_digest.specs.declared.digest.Digest.{Digest}
-use Rattle.leaf_record.specs.Leaf.{Leaf}
 use Rattle.block_rules.specs.declared.refusal.Refusal.{Refusal}
 use Rattle.block_rules.specs.declared.verdict.Verdict.{Verdict}
 use Rattle.node_rules.specs.Judging.{Rules}
@@ -21,64 +20,64 @@ use Rattle.bridge_prover.proofs.Refining.{fresh_is_bridge, fresh_stands}
 use Rattle.bridge_prover.proofs.Throughout.{kept_rules, kept_watch}
 use Rattle.audit_replay.specs.Audit.{IsAudit}
 
-module _ (H : List ℕ → Digest) (text : Leaf → List ℕ) where
+module _ (H : List ℕ → Digest) where
   -- the rules stay the same
-  pub judged_rules : (s : BridgeState) (e : ChainEvent) → (next_judged H text s e).rules ≡ s.rules
+  pub judged_rules : (s : BridgeState) (e : ChainEvent) → (next_judged H s e).rules ≡ s.rules
   judged_rules s (BlockCame None handed) = refl
-  judged_rules s (BlockCame (Some b) handed) = by (is_forged_on H text s b handed) (full_refusal_on H text s b handed)
+  judged_rules s (BlockCame (Some b) handed) = by (is_forged_on H s b handed) (full_refusal_on H s b handed)
     where
-      by : (f : Bool) (x : Option Refusal) → (kept_if f s (bridge_by x (after_shown H text s b handed) s)).rules ≡ s.rules
+      by : (f : Bool) (x : Option Refusal) → (kept_if f s (bridge_by x (after_shown H s b handed) s)).rules ≡ s.rules
       by true x = refl
       by false None = refl
       by false (Some why) = refl
-  judged_rules s (RollbackCame k) = kept_rules H text s (RollbackCame k)
+  judged_rules s (RollbackCame k) = kept_rules H s (RollbackCame k)
   judged_rules s StrayCame = refl
 
   -- and so do the scripts
-  pub judged_scripts : (s : BridgeState) (e : ChainEvent) → watched_by (next_judged H text s e) ≡ watched_by s
+  pub judged_scripts : (s : BridgeState) (e : ChainEvent) → watched_by (next_judged H s e) ≡ watched_by s
   judged_scripts s (BlockCame None handed) = refl
-  judged_scripts s (BlockCame (Some b) handed) = by (is_forged_on H text s b handed) (full_refusal_on H text s b handed)
+  judged_scripts s (BlockCame (Some b) handed) = by (is_forged_on H s b handed) (full_refusal_on H s b handed)
     where
-      by : (f : Bool) (x : Option Refusal) → watched_by (kept_if f s (bridge_by x (after_shown H text s b handed) s)) ≡ watched_by s
+      by : (f : Bool) (x : Option Refusal) → watched_by (kept_if f s (bridge_by x (after_shown H s b handed) s)) ≡ watched_by s
       by true x = refl
       by false None = refl
       by false (Some why) = refl
-  judged_scripts s (RollbackCame k) = ap scripts_of (kept_watch H text s (RollbackCame k))
+  judged_scripts s (RollbackCame k) = ap scripts_of (kept_watch H s (RollbackCame k))
   judged_scripts s StrayCame = refl
 
   -- at a forged event nothing changes
-  pub forged_stays : (s : BridgeState) (e : ChainEvent) → IsBridge H text s → judged_on H text s e ≡ None → next_judged H text s e ≡ s
-  forged_stays s e is none = subst (λ v. LevelsJudged s v (next_judged H text s e)) none (levels_judged H text s e is)
+  pub forged_stays : (s : BridgeState) (e : ChainEvent) → IsBridge H s → judged_on H s e ≡ None → next_judged H s e ≡ s
+  forged_stays s e is none = subst (λ v. LevelsJudged s v (next_judged H s e)) none (levels_judged H s e is)
 
-  pub next_is_audit : (s : BridgeState) (e : ChainEvent) → IsAudit H text s → EventFits e → IsAudit H text (next_judged H text s e)
-  next_is_audit s e a fits = by (judged_on H text s e) refl
+  pub next_is_audit : (s : BridgeState) (e : ChainEvent) → IsAudit H s → EventFits e → IsAudit H (next_judged H s e)
+  next_is_audit s e a fits = by (judged_on H s e) refl
     where
-      by : (v : Option Verdict) → judged_on H text s e ≡ v → IsAudit H text (next_judged H text s e)
-      by None none = subst (IsAudit H text) (sym (forged_stays s e a.is none)) a
+      by : (v : Option Verdict) → judged_on H s e ≡ v → IsAudit H (next_judged H s e)
+      by None none = subst (IsAudit H) (sym (forged_stays s e a.is none)) a
       by (Some v) some =
-          let o = full_outcome H text (watched_by s) s.rules a.levels e in
-          let full = bridge_is_full H text s e a.is a.levels a.stands in
-          let there : state_after s.rules (full_judge H text (watched_by s) s.rules) a.levels (e ∷ []) ≡ o.state =
+          let o = full_outcome H (watched_by s) s.rules a.levels e in
+          let full = bridge_is_full H s e a.is a.levels a.stands in
+          let there : state_after s.rules (full_judge H (watched_by s) s.rules) a.levels (e ∷ []) ≡ o.state =
           ap (λ x. goes_on x a.levels o.state) (full.0 ∙ some) in
           record {
-            is = next_judged_is_bridge H text s e a.is;
+            is = next_judged_is_bridge H s e a.is;
             levels = o.state;
             stands = full.1;
             fits = subst (λ r. StateFits r o.state) (sym (judged_rules s e))
-                (subst (StateFits s.rules) there (after_fits s.rules (full_judge H text (watched_by s) s.rules) a.levels (e ∷ []) (fits, tt) a.fits));
+                (subst (StateFits s.rules) there (after_fits s.rules (full_judge H (watched_by s) s.rules) a.levels (e ∷ []) (fits, tt) a.fits));
             sound = subst (λ r. IsSoundState r o.state) (sym (judged_rules s e))
-                (subst (IsSoundState s.rules) there (after_sound s.rules (full_judge H text (watched_by s) s.rules)
-                (full_judge-pays H text (watched_by s) s.rules) a.levels (e ∷ []) a.sound));
+                (subst (IsSoundState s.rules) there (after_sound s.rules (full_judge H (watched_by s) s.rules)
+                (full_judge-pays H (watched_by s) s.rules) a.levels (e ∷ []) a.sound));
           }
 
   pub fresh_is_audit : (net : Net) (limits : Limits) (watch : Option (List (List ℕ))) → limits.leaves < 2 ^ 40
-      → IsAudit H text (fresh_bridge net limits watch)
+      → IsAudit H (fresh_bridge net limits watch)
   fresh_is_audit net limits watch few =
       let rules : Rules = record { net = net; limits = limits } in
       record {
-        is = fresh_is_bridge H text net limits watch few;
+        is = fresh_is_bridge H net limits watch few;
         levels = start;
-        stands = fresh_stands H text net limits watch;
+        stands = fresh_stands H net limits watch;
         fits = start_fits rules;
         sound = start_sound rules;
       }

@@ -49,27 +49,27 @@ unjudged : (x : Bool) (v : Verdict) → unless_forged x v ≡ None → x ≡ tru
 unjudged true v e = refl
 unjudged false v e = absurd (none-some v (sym e))
 
-pub forged_by : (H : List ℕ → Digest) (s : BridgeState) (b : Block) (handed : Handed) → judged_on H leaf_text s (BlockCame (Some b) handed) ≡ None
-    → is_forged_on H leaf_text s b handed ≡ true
-forged_by H s b handed e = unjudged (is_forged_on H leaf_text s b handed) _ e
+pub forged_by : (H : List ℕ → Digest) (s : BridgeState) (b : Block) (handed : Handed) → judged_on H s (BlockCame (Some b) handed) ≡ None
+    → is_forged_on H s b handed ≡ true
+forged_by H s b handed e = unjudged (is_forged_on H s b handed) _ e
 
-module _ (H : List ℕ → Digest) (s : BridgeState) (a : IsAudit H leaf_text s) where
+module _ (H : List ℕ → Digest) (s : BridgeState) (a : IsAudit H s) where
   -- the bridge's forest and index are those of its history
   pub stands_for : StandForHistory H s.entries s.held (history_of s)
   stands_for =
       subst (StandForHistory H s.entries s.held)
-      (sym (is_history H leaf_text s a.levels.now.history (newest_history H leaf_text a.levels s a.is a.stands)))
+      (sym (is_history H s a.levels.now.history (newest_history H a.levels s a.is a.stands)))
       (record {
         entries_are = a.stands.entries;
         held = λ i leaf e. (there_is_live i leaf s.held a.levels.now.history a.is.rise a.stands.index e).1;
         fit = λ i leaf e. record_fits a.levels.now.history a.fits.0.records i leaf e;
       })
 
-  pub knowledge : (known : List (Place × Digest)) → AreKnown H leaf_text (watched_by s) (history_of s) known → IsKnowledge H s.entries (look known)
+  pub knowledge : (known : List (Place × Digest)) → AreKnown H (watched_by s) (history_of s) known → IsKnowledge H s.entries (look known)
   knowledge known are =
-      subst (λ es. IsKnowledge H es (look known)) (sym (own_history H leaf_text s a.is).entries_are)
-      (subst (IsKnowledge H (entries H leaf_text (history_of s))) (sym (same_known H leaf_text (watched_by s) (history_of s) known are))
-      (view_known H leaf_text (watched_by s) (history_of s)))
+      subst (λ es. IsKnowledge H es (look known)) (sym (own_history H s a.is).entries_are)
+      (subst (IsKnowledge H (entries H leaf_text (history_of s))) (sym (same_known H (watched_by s) (history_of s) known are))
+      (view_known H (watched_by s) (history_of s)))
 
 -- the block is shaped by the bridge's rules
 pub shaped_so : (s : BridgeState) (b : Block) (net : Net) (limits : Limits) (chain : Chain) (spends : BlockSpends) → net ≡ s.rules.net
@@ -87,13 +87,13 @@ few_shown ext handed m is passes few =
     eqb-true _ _ (unless-passed (length m.proof.spends == length ext) _ (each_passes (message_steps ext (read m)) 2 p)) in
     omega (arith, count, few)
 
-module _ (H : List ℕ → Digest) (s : BridgeState) (a : IsAudit H leaf_text s) (es : List (Option Digest)) (hs : List Held) (ee : es ≡ s.entries)
+module _ (H : List ℕ → Digest) (s : BridgeState) (a : IsAudit H s) (es : List (Option Digest)) (hs : List Held) (ee : es ≡ s.entries)
     (eh : hs ≡ s.held) where
   pub stands_here : StandForHistory H es hs (history_of s)
   stands_here = subst (λ h. StandForHistory H es h (history_of s)) (sym eh)
       (subst (λ e. StandForHistory H e s.held (history_of s)) (sym ee) (stands_for H s a))
 
-  pub knowledge_here : (known : List (Place × Digest)) → AreKnown H leaf_text (watched_by s) (history_of s) known → IsKnowledge H es (look known)
+  pub knowledge_here : (known : List (Place × Digest)) → AreKnown H (watched_by s) (history_of s) known → IsKnowledge H es (look known)
   knowledge_here known are = subst (λ e. IsKnowledge H e (look known)) (sym ee) (knowledge H s a known are)
 
   pub clash_here : (known : List (Place × Digest)) (ext : List Outside) (m : Message) (x : Option TextClash) → x ≡ clash_in H es hs (look known) ext m
@@ -101,7 +101,7 @@ module _ (H : List ℕ → Digest) (s : BridgeState) (a : IsAudit H leaf_text s)
   clash_here known ext m x e = subst (λ h. x ≡ clash_in H s.entries h (look known) ext m) eh
       (subst (λ l. x ≡ clash_in H l hs (look known) ext m) ee e)
 
-module _ (H : List ℕ → Digest) (s : BridgeState) (b : Block) (handed : Handed) (forged : is_forged_on H leaf_text s b handed ≡ true) where
+module _ (H : List ℕ → Digest) (s : BridgeState) (b : Block) (handed : Handed) (forged : is_forged_on H s b handed ≡ true) where
   abbrev ext : List Outside
   ext = external b s.chain.blocks
 
@@ -109,10 +109,10 @@ module _ (H : List ℕ → Digest) (s : BridgeState) (b : Block) (handed : Hande
   before = block_steps s.rules.net s.rules.limits s.chain b ++ message_steps ext handed
 
   abbrev accepted : Bool
-  accepted = is_accepted H leaf_text (view_of H leaf_text (watched_by s) (history_of s)) ext handed
+  accepted = is_accepted H (view_of H (watched_by s) (history_of s)) ext handed
 
   abbrev wrong : Bool
-  wrong = not (is_right_message H leaf_text (watched_by s) (history_of s) ext handed)
+  wrong = not (is_right_message H (watched_by s) (history_of s) ext handed)
 
   parts : (is_none (first_of before) ≡ true) × ((accepted && wrong) ≡ true)
   parts = and_parts (is_none (first_of before)) (accepted && wrong) forged
@@ -132,7 +132,7 @@ module _ (H : List ℕ → Digest) (s : BridgeState) (b : Block) (handed : Hande
 
   -- and there is a message
   pub message_there : handed ≡ nothing → ⊥
-  message_there e = false≢true (ap (is_accepted H leaf_text (view_of H leaf_text (watched_by s) (history_of s)) ext) (sym e)
+  message_there e = false≢true (ap (is_accepted H (view_of H (watched_by s) (history_of s)) ext) (sym e)
       ∙ (and_parts accepted wrong parts.1).0)
 
   -- as the calls on the way answer it
@@ -144,9 +144,9 @@ module _ (H : List ℕ → Digest) (s : BridgeState) (b : Block) (handed : Hande
       (subst (λ l. first_of (block_steps net l s.chain b) ≡ Some why) el
       (subst (λ x. first_of (block_steps net limits x b) ≡ Some why) ec (subst (λ f. ShapeJudged net limits chain b (Err f)) is h))))
 
-  module _ (m : Message) (is : handed ≡ read m) (known : List (Place × Digest)) (are : AreKnown H leaf_text (watched_by s) (history_of s) known) where
-    forged-read : is_forged_on H leaf_text s b (read m) ≡ true
-    forged-read = subst (λ h. is_forged_on H leaf_text s b h ≡ true) is forged
+  module _ (m : Message) (is : handed ≡ read m) (known : List (Place × Digest)) (are : AreKnown H (watched_by s) (history_of s) known) where
+    forged-read : is_forged_on H s b (read m) ≡ true
+    forged-read = subst (λ h. is_forged_on H s b h ≡ true) is forged
 
     passes-read : first_of (block_steps s.rules.net s.rules.limits s.chain b ++ message_steps ext (read m)) ≡ None
     passes-read = subst (λ h. first_of (block_steps s.rules.net s.rules.limits s.chain b ++ message_steps ext h) ≡ None) is passes
@@ -164,12 +164,12 @@ module _ (H : List ℕ → Digest) (s : BridgeState) (b : Block) (handed : Hande
     clash_shown ext' x c same answer some =
         let here = subst (λ y. IsAnswer H (history_of s) (look known) (points_of ext') m y) some answer in
         subst (λ h. IsClashOf H s b h c) (sym is)
-        (subst (λ k. IsClash H (history_of s) k (points_of ext) m c) (same_known H leaf_text (watched_by s) (history_of s) known are)
+        (subst (λ k. IsClash H (history_of s) k (points_of ext) m c) (same_known H (watched_by s) (history_of s) known are)
         (subst (λ l. IsClash H (history_of s) (look known) (points_of l) m c) same here.2))
 
     pub clash_which : (ext' : List Outside) (x : Option TextClash) (c : TextClash) → ext' ≡ ext → x ≡ clash_in H s.entries s.held (look known) ext' m
         → x ≡ Some c → clash_beside H s ext handed ≡ Some c
     clash_which ext' x c same which some =
         subst (λ h. clash_beside H s ext h ≡ Some c) (sym is)
-        (subst (λ k. clash_in H s.entries s.held k ext m ≡ Some c) (same_known H leaf_text (watched_by s) (history_of s) known are)
+        (subst (λ k. clash_in H s.entries s.held k ext m ≡ Some c) (same_known H (watched_by s) (history_of s) known are)
         (subst (λ l. clash_in H s.entries s.held (look known) l m ≡ Some c) same (sym which ∙ some)))

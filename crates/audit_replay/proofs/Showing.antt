@@ -104,17 +104,17 @@ nothing_said false v e = absurd cc
 -- what a forged event is made of
 record IsForgedSo (H : List ℕ → Digest) (scripts : List (List ℕ)) (us : History) (ext : List Outside) (m : Message) : Type 0 where
   count : length m.proof.spends ≡ length ext
-  accepted : proof_fault H leaf_text (record { n = length us; roots = root H (entries H leaf_text us); known = known_at H leaf_text scripts us })
+  accepted : proof_fault H (record { n = length us; roots = root H (entries H leaf_text us); known = known_at H scripts us })
       (points_of ext) m ≡ None
-  wrong : is_right H leaf_text us (known_at H leaf_text scripts us) (points_of ext) m ≡ false
+  wrong : is_right H us (known_at H scripts us) (points_of ext) m ≡ false
 
 forged_so : (H : List ℕ → Digest) (scripts : List (List ℕ)) (rules : Rules) (chain : Chain) (us : History) (b : Block) (m : Message)
-    → is_forged H leaf_text scripts rules chain us b (read m) ≡ true → IsForgedSo H scripts us (external b chain.blocks) m
+    → is_forged H scripts rules chain us b (read m) ≡ true → IsForgedSo H scripts us (external b chain.blocks) m
 forged_so H scripts rules chain us b m forged =
     let ext = external b chain.blocks in
-    let fault = proof_fault H leaf_text (record { n = length us; roots = root H (entries H leaf_text us); known = known_at H leaf_text scripts us })
+    let fault = proof_fault H (record { n = length us; roots = root H (entries H leaf_text us); known = known_at H scripts us })
     (points_of ext) m in
-    let right = is_right H leaf_text us (known_at H leaf_text scripts us) (points_of ext) m in
+    let right = is_right H us (known_at H scripts us) (points_of ext) m in
     let a = and_parts (is_none (first_of (block_steps rules.net rules.limits chain b ++ message_steps ext (read m)))) (is_none fault && not right)
     forged in
     let c = and_parts (is_none fault) (not right) a.1 in
@@ -131,9 +131,9 @@ module _ (H : List ℕ → Digest) (long : (x : List ℕ) → IsDigest (H x)) (s
   forging = BlockCame (Some b) (read m)
 
   abbrev IsForgedAt : Level → Type 0
-  IsForgedAt l = is_forged H leaf_text scripts rules (chain_of l) l.history b (read m) ≡ true
+  IsForgedAt l = is_forged H scripts rules (chain_of l) l.history b (read m) ≡ true
 
-  module _ (t : State) (s : BridgeState) (a : IsAudit H leaf_text s) (stands : Stands H leaf_text t s) (watched : watched_by s ≡ scripts)
+  module _ (t : State) (s : BridgeState) (a : IsAudit H s) (stands : Stands H t s) (watched : watched_by s ≡ scripts)
       (same : s.rules ≡ rules) (forged : IsForgedAt t.now) where
     abbrev us : History
     us = t.now.history
@@ -142,10 +142,10 @@ module _ (H : List ℕ → Digest) (long : (x : List ℕ) → IsDigest (H x)) (s
     ext = external b t.now.blocks
 
     abbrev known : ℕ → ℕ → Option Digest
-    known = known_at H leaf_text scripts us
+    known = known_at H scripts us
 
     history_is : history_of s ≡ us
-    history_is = is_history H leaf_text s us (newest_history H leaf_text t s a.is stands)
+    history_is = is_history H s us (newest_history H t s a.is stands)
 
     so : IsForgedSo H scripts us ext m
     so = forged_so H scripts rules (chain_of t.now) us b m forged
@@ -154,35 +154,35 @@ module _ (H : List ℕ → Digest) (long : (x : List ℕ) → IsDigest (H x)) (s
     stand = subst (StandForHistory H s.entries s.held) history_is (stands_for H s a)
 
     -- it is one to the bridge
-    forged_here : is_forged_on H leaf_text s b (read m) ≡ true
+    forged_here : is_forged_on H s b (read m) ≡ true
     forged_here =
-        ap (λ w. is_forged H leaf_text w s.rules s.chain (history_of s) b (read m)) watched
-        ∙ (ap (λ (r : Rules). is_forged H leaf_text scripts r s.chain (history_of s) b (read m)) same
-        ∙ (ap (λ (c : Chain). is_forged H leaf_text scripts rules c (history_of s) b (read m)) stands.chain
-        ∙ (ap (λ h. is_forged H leaf_text scripts rules (chain_of t.now) h b (read m)) history_is ∙ forged)))
+        ap (λ w. is_forged H w s.rules s.chain (history_of s) b (read m)) watched
+        ∙ (ap (λ (r : Rules). is_forged H scripts r s.chain (history_of s) b (read m)) same
+        ∙ (ap (λ (c : Chain). is_forged H scripts rules c (history_of s) b (read m)) stands.chain
+        ∙ (ap (λ h. is_forged H scripts rules (chain_of t.now) h b (read m)) history_is ∙ forged)))
 
-    unjudged : judged_on H leaf_text s forging ≡ None
-    unjudged = nothing_said (is_forged_on H leaf_text s b (read m)) _ forged_here
+    unjudged : judged_on H s forging ≡ None
+    unjudged = nothing_said (is_forged_on H s b (read m)) _ forged_here
 
     found_there : (x : TextClash) × (clash_in H (entries H leaf_text us) s.held known ext m ≡ Some x) × IsClash H us known (points_of ext) m x
     found_there =
         let at : length us ≡ length (entries H leaf_text us) = sym (length-map us (option_map (λ (r : Leaf). H (leaf_text r)))) in
         shows H long us s.held (subst (λ e. StandForHistory H e s.held us) stand.entries_are stand) ext m so.count
         (claims_fit ext m.proof.spends (external_fit b t.now.blocks block_fits) message_fits.spends) message_fits.hashes known
-        (view_known H leaf_text scripts us)
-        (subst (λ n. proof_fault H leaf_text (record { n = n; roots = root H (entries H leaf_text us); known = known }) (points_of ext) m ≡ None) at
+        (view_known H scripts us)
+        (subst (λ n. proof_fault H (record { n = n; roots = root H (entries H leaf_text us); known = known }) (points_of ext) m ≡ None) at
         so.accepted) so.wrong
 
     -- so two texts are found by it
     found_here : clash_on H s forging ≡ Some found_there.0
     unfolding found_there
     found_here =
-        ap (λ w. clash_in H s.entries s.held (known_at H leaf_text w (history_of s)) (external b s.chain.blocks) m) watched
-        ∙ (ap (λ h. clash_in H s.entries s.held (known_at H leaf_text scripts h) (external b s.chain.blocks) m) history_is
+        ap (λ w. clash_in H s.entries s.held (known_at H w (history_of s)) (external b s.chain.blocks) m) watched
+        ∙ (ap (λ h. clash_in H s.entries s.held (known_at H scripts h) (external b s.chain.blocks) m) history_is
         ∙ (ap (λ (c : Chain). clash_in H s.entries s.held known (external b c.blocks) m) stands.chain
         ∙ (ap (λ e. clash_in H e s.held known ext m) stand.entries_are ∙ found_there.1)))
 
-    shown_here : (later : Option TextClash) → AreShown H (shown_or (judged_on H leaf_text s forging) (clash_on H s forging) later) scripts t.now b m
+    shown_here : (later : Option TextClash) → AreShown H (shown_or (judged_on H s forging) (clash_on H s forging) later) scripts t.now b m
     shown_here later = record {
       clash = found_there.0;
       shows = ap (λ v. shown_or v (clash_on H s forging) later) unjudged ∙ found_here;
@@ -192,61 +192,61 @@ module _ (H : List ℕ → Digest) (long : (x : List ℕ) → IsDigest (H x)) (s
   -- ---- behind other events
 
   abbrev One : State → AuditState → ChainEvent → Type 0
-  One t s e = let o = full_outcome H leaf_text scripts rules t e in
-      (o.verdict ≡ judged_on H leaf_text s.bridge e) × Stands H leaf_text o.state (next_judged H leaf_text s.bridge e)
+  One t s e = let o = full_outcome H scripts rules t e in
+      (o.verdict ≡ judged_on H s.bridge e) × Stands H o.state (next_judged H s.bridge e)
 
-  one : (t : State) (s : AuditState) (e : ChainEvent) → s.bridge.rules ≡ rules → watched_by s.bridge ≡ scripts → IsAudit H leaf_text s.bridge
-      → Stands H leaf_text t s.bridge → One t s e
+  one : (t : State) (s : AuditState) (e : ChainEvent) → s.bridge.rules ≡ rules → watched_by s.bridge ≡ scripts → IsAudit H s.bridge
+      → Stands H t s.bridge → One t s e
   one t s e same watched a stands =
-      subst (λ r. let o = full_outcome H leaf_text scripts r t e in
-      (o.verdict ≡ judged_on H leaf_text s.bridge e) × Stands H leaf_text o.state (next_judged H leaf_text s.bridge e)) same
-      (subst (λ w. let o = full_outcome H leaf_text w s.bridge.rules t e in
-      (o.verdict ≡ judged_on H leaf_text s.bridge e) × Stands H leaf_text o.state (next_judged H leaf_text s.bridge e)) watched
-      (bridge_is_full H leaf_text s.bridge e a.is t stands))
+      subst (λ r. let o = full_outcome H scripts r t e in
+      (o.verdict ≡ judged_on H s.bridge e) × Stands H o.state (next_judged H s.bridge e)) same
+      (subst (λ w. let o = full_outcome H w s.bridge.rules t e in
+      (o.verdict ≡ judged_on H s.bridge e) × Stands H o.state (next_judged H s.bridge e)) watched
+      (bridge_is_full H s.bridge e a.is t stands))
 
   abbrev behind : State → List ChainEvent → State
-  behind t es = state_after rules (full_judge H leaf_text scripts rules) t es
+  behind t es = state_after rules (full_judge H scripts rules) t es
 
   shown_behind : (front later : List ChainEvent) (t : State) (s : AuditState) → s.bridge.rules ≡ rules → watched_by s.bridge ≡ scripts
-      → IsAudit H leaf_text s.bridge → Stands H leaf_text t s.bridge → AllByRecursion EventFits front
-      → never_stops rules (full_judge H leaf_text scripts rules) t front ≡ true → IsForgedAt (behind t front).now
+      → IsAudit H s.bridge → Stands H t s.bridge → AllByRecursion EventFits front
+      → never_stops rules (full_judge H scripts rules) t front ≡ true → IsForgedAt (behind t front).now
       → AreShown H (shown_on H s (front ++ forging ∷ later)) scripts (behind t front).now b m
   shown_behind [] later t s same watched a stands fit honest forged = shown_here t s.bridge a stands watched same forged _
   shown_behind (e ∷ front) later t s same watched a stands fit honest forged =
-      by (full_outcome H leaf_text scripts rules t e).verdict refl (one t s e same watched a stands)
-      (shown_behind front later (full_outcome H leaf_text scripts rules t e).state (next_audit H leaf_text s e)
-      (judged_rules H leaf_text s.bridge e ∙ same) (judged_scripts H leaf_text s.bridge e ∙ watched)
-      (next_is_audit H leaf_text s.bridge e a fit.0))
+      by (full_outcome H scripts rules t e).verdict refl (one t s e same watched a stands)
+      (shown_behind front later (full_outcome H scripts rules t e).state (next_audit H s e)
+      (judged_rules H s.bridge e ∙ same) (judged_scripts H s.bridge e ∙ watched)
+      (next_is_audit H s.bridge e a fit.0))
       honest forged
     where
-      by : (v : Option Verdict) → (full_outcome H leaf_text scripts rules t e).verdict ≡ v → One t s e
-          → (Stands H leaf_text (full_outcome H leaf_text scripts rules t e).state (next_judged H leaf_text s.bridge e)
+      by : (v : Option Verdict) → (full_outcome H scripts rules t e).verdict ≡ v → One t s e
+          → (Stands H (full_outcome H scripts rules t e).state (next_judged H s.bridge e)
           → AllByRecursion EventFits front
-          → never_stops rules (full_judge H leaf_text scripts rules) (full_outcome H leaf_text scripts rules t e).state front ≡ true
-          → IsForgedAt (behind (full_outcome H leaf_text scripts rules t e).state front).now
-          → AreShown H (shown_on H (next_audit H leaf_text s e) (front ++ forging ∷ later)) scripts
-          (behind (full_outcome H leaf_text scripts rules t e).state front).now b m)
-          → (is_some (full_outcome H leaf_text scripts rules t e).verdict
-          && never_stops rules (full_judge H leaf_text scripts rules) (full_outcome H leaf_text scripts rules t e).state front) ≡ true
-          → IsForgedAt (goes_on (full_outcome H leaf_text scripts rules t e).verdict t
-          (behind (full_outcome H leaf_text scripts rules t e).state front)).now
-          → AreShown H (shown_or (judged_on H leaf_text s.bridge e) (clash_on H s.bridge e)
-          (shown_on H (next_audit H leaf_text s e) (front ++ forging ∷ later))) scripts
-          (goes_on (full_outcome H leaf_text scripts rules t e).verdict t (behind (full_outcome H leaf_text scripts rules t e).state front)).now b m
+          → never_stops rules (full_judge H scripts rules) (full_outcome H scripts rules t e).state front ≡ true
+          → IsForgedAt (behind (full_outcome H scripts rules t e).state front).now
+          → AreShown H (shown_on H (next_audit H s e) (front ++ forging ∷ later)) scripts
+          (behind (full_outcome H scripts rules t e).state front).now b m)
+          → (is_some (full_outcome H scripts rules t e).verdict
+          && never_stops rules (full_judge H scripts rules) (full_outcome H scripts rules t e).state front) ≡ true
+          → IsForgedAt (goes_on (full_outcome H scripts rules t e).verdict t
+          (behind (full_outcome H scripts rules t e).state front)).now
+          → AreShown H (shown_or (judged_on H s.bridge e) (clash_on H s.bridge e)
+          (shown_on H (next_audit H s e) (front ++ forging ∷ later))) scripts
+          (goes_on (full_outcome H scripts rules t e).verdict t (behind (full_outcome H scripts rules t e).state front)).now b m
       by None none w go honest forged =
           absurd (false≢true (sym (ap (λ (x : Option Verdict). is_some x
-          && never_stops rules (full_judge H leaf_text scripts rules) (full_outcome H leaf_text scripts rules t e).state front) none) ∙ honest))
+          && never_stops rules (full_judge H scripts rules) (full_outcome H scripts rules t e).state front) none) ∙ honest))
       by (Some v) some w go honest forged =
-          let rest = behind (full_outcome H leaf_text scripts rules t e).state front in
-          let p = and_parts (is_some (full_outcome H leaf_text scripts rules t e).verdict) _ honest in
+          let rest = behind (full_outcome H scripts rules t e).state front in
+          let p = and_parts (is_some (full_outcome H scripts rules t e).verdict) _ honest in
           let shown = go w.1 fit.1 p.1 (subst (λ (x : Option Verdict). IsForgedAt (goes_on x t rest).now) some forged) in
-          subst (λ (x : Option Verdict). AreShown H (shown_or (judged_on H leaf_text s.bridge e) (clash_on H s.bridge e)
-          (shown_on H (next_audit H leaf_text s e) (front ++ forging ∷ later))) scripts (goes_on x t rest).now b m) (sym some)
+          subst (λ (x : Option Verdict). AreShown H (shown_or (judged_on H s.bridge e) (clash_on H s.bridge e)
+          (shown_on H (next_audit H s e) (front ++ forging ∷ later))) scripts (goes_on x t rest).now b m) (sym some)
           (subst (λ (x : Option Verdict). AreShown H (shown_or x (clash_on H s.bridge e)
-          (shown_on H (next_audit H leaf_text s e) (front ++ forging ∷ later))) scripts rest.now b m) (sym some ∙ w.0) shown)
+          (shown_on H (next_audit H s e) (front ++ forging ∷ later))) scripts rest.now b m) (sym some ∙ w.0) shown)
 
 pub fresh_shows_forged : FreshShowsForged
 fresh_shows_forged H long net limits scripts few front later b m fit block_fits message_fits honest forged =
     let rules : Rules = record { net = net; limits = limits } in
     shown_behind H long scripts rules b m block_fits message_fits front later start (fresh_audit net limits scripts) refl refl
-    (fresh_is_audit H leaf_text net limits (Some scripts) few) (fresh_stands H leaf_text net limits (Some scripts)) fit honest forged
+    (fresh_is_audit H net limits (Some scripts) few) (fresh_stands H net limits (Some scripts)) fit honest forged

@@ -160,7 +160,7 @@ module _ (H : List ℕ → Digest) (long : (x : List ℕ) → IsDigest (H x)) (u
     (ext : List Outside) (m : Message) (count : length m.proof.spends ≡ length ext) (claims_fit : AllByRecursion LeafFits (claims ext m))
     (hashes_fit : AllByRecursion IsDigest m.proof.hashes)
     (known : ℕ → ℕ → Option Digest) (view : IsKnowledge H (entries H leaf_text us) known)
-    (none : proof_fault H leaf_text (record { n = length (entries H leaf_text us); roots = root H (entries H leaf_text us); known = known })
+    (none : proof_fault H (record { n = length (entries H leaf_text us); roots = root H (entries H leaf_text us); known = known })
     (points_of ext) m ≡ None) where
   abbrev es : List (Option Digest)
   es = entries H leaf_text us
@@ -210,8 +210,8 @@ module _ (H : List ℕ → Digest) (long : (x : List ℕ) → IsDigest (H x)) (u
   points_count : length m.proof.spends ≡ length (points_of ext)
   points_count = count ∙ sym (length-map ext point_of)
 
-  acc : IsAccepted H n (root H es) ts k (leaves_of H leaf_text (points_of ext) m) hs × (named n m ≡ map Some ts)
-  acc = accepted H leaf_text (record { n = n; roots = root H es; known = known }) (points_of ext) m points_count none
+  acc : IsAccepted H n (root H es) ts k (leaves_of H (points_of ext) m) hs × (named n m ≡ map Some ts)
+  acc = accepted H (record { n = n; roots = root H es; known = known }) (points_of ext) m points_count none
 
   no_pair : (l : Leaf) → LeafFits l → length (leaf_text l) ≢ 64
   no_pair l f e = let w = (leaf_long l f).0 in absurd (omega (arith, w, e))
@@ -301,7 +301,7 @@ module _ (H : List ℕ → Digest) (long : (x : List ℕ) → IsDigest (H x)) (u
 
   root_is : (row : ℕ) (c : Cover) → is_slot n row ≡ true → cover ts row (root_off n row) ≡ Some c → root H es row ≡ Some (V c)
   root_is row c slot e =
-      acc.0.agrees row c slot e ∙ ap Some (value-same H (beside (H []) ts (leaves_of H leaf_text (points_of ext) m)) (λ r o. H (leaf_texts r o))
+      acc.0.agrees row c slot e ∙ ap Some (value-same H (beside (H []) ts (leaves_of H (points_of ext) m)) (λ r o. H (leaf_texts r o))
       hashes (leaves_are H leaf_text ts rs) c)
 
   abbrev RightBy : ℕ → Type 0
@@ -318,9 +318,9 @@ module _ (H : List ℕ → Digest) (long : (x : List ℕ) → IsDigest (H x)) (u
       let s : tree_at es row o ≡ Some w.0 = tree_at-root es row o top ∙ w.1 in
       (w.0, s, found H es text_of ts leaf_texts hashes long leaf_other each_entry (agree_at silent) row o c w.0 h e s (sym w.2)))
 
-  right_then : first_of (map shown_at (places n)) ≡ None → is_right H leaf_text us known (points_of ext) m ≡ true
+  right_then : first_of (map shown_at (places n)) ≡ None → is_right H us known (points_of ext) m ≡ true
   right_then silent =
-      (right_is_tested H leaf_text us known (points_of ext) m).1 (
+      (right_is_tested H us known (points_of ext) m).1 (
         to_us RightBy (right silent),
         to_us (λ j. named j m ≡ map Some (targets j m)) acc.1,
         points_count,
@@ -406,7 +406,7 @@ module _ (H : List ℕ → Digest) (long : (x : List ℕ) → IsDigest (H x)) (u
   shown_is p x h shows = let w = shown_as p x shows in is_clash p.row p.off w.beneath w.node x h w.covered w.stands w.digests w.made
 
   -- what is accepted and not right shows two texts
-  pub shows : is_right H leaf_text us known (points_of ext) m ≡ false → (x : TextClash) × (clash_in H es outputs known ext m ≡ Some x)
+  pub shows : is_right H us known (points_of ext) m ≡ false → (x : TextClash) × (clash_in H es outputs known ext m ≡ Some x)
       × IsClash H us known (points_of ext) m x
   shows wrong = by (first_of (map shown_at (places n))) refl
     where
@@ -442,7 +442,7 @@ module _ (H : List ℕ → Digest) (long : (x : List ℕ) → IsDigest (H x)) (u
       by_form (both l d) e w = w.1 l d refl
 
   -- it shows nothing
-  pub shows_none : is_right H leaf_text us known (points_of ext) m ≡ true → clash_in H es outputs known ext m ≡ None
+  pub shows_none : is_right H us known (points_of ext) m ≡ true → clash_in H es outputs known ext m ≡ None
   shows_none sound = in_whole ∙ by (first_of (map shown_at (places n))) refl
     where
       in_whole : clash_in H es outputs known ext m ≡ first_of (map shown_at (places n))
@@ -452,5 +452,5 @@ module _ (H : List ℕ → Digest) (long : (x : List ℕ) → IsDigest (H x)) (u
       by None e = refl
       by (Some x) e =
           let w = some-at shown_at (places n) x e in
-          let r = ((right_is_tested H leaf_text us known (points_of ext) m).0 sound).0 in
+          let r = ((right_is_tested H us known (points_of ext) m).0 sound).0 in
           absurd (never_shown (subst RightBy (sym same_length) r) w.0 x (places_had n w.0.row w.0.off w.1) w.2)

@@ -61,16 +61,16 @@ issued_fits net k blocks lt low = let a = issued_low net (suc k) in omega (arith
 
 -- ---- an auditor's
 
-pub live_most : (H : List ℕ → Digest) (text : Leaf → List ℕ) (s : BridgeState) → IsAudit H text s
+pub live_most : (H : List ℕ → Digest) (s : BridgeState) → IsAudit H s
     → supply (history_of s) ≤ issued s.rules.net s.chain.blocks
-live_most H text s a =
-    let level = supply_is_of_level H text a.levels s a.is a.stands in
+live_most H s a =
+    let level = supply_is_of_level H a.levels s a.is a.stands in
     let sound = a.sound.0 in
     omega (arith, level.0, level.1, sound)
 
-pub live_fits : (H : List ℕ → Digest) (text : Leaf → List ℕ) (s : BridgeState) → IsAudit H text s → (n : ℕ) → n < length s.entries
+pub live_fits : (H : List ℕ → Digest) (s : BridgeState) → IsAudit H s → (n : ℕ) → n < length s.entries
     → live_of s.held n + amount_at s.held n < 2 ^ 64
-live_fits H text s a n lt = by (length s.entries) lt (live_most H text s a)
+live_fits H s a n lt = by (length s.entries) lt (live_most H s a)
   where
     by : (m : ℕ) → n < m → live_of s.held m ≤ issued s.rules.net s.chain.blocks → live_of s.held n + amount_at s.held n < 2 ^ 64
     by zero lt most = absurd (omega (arith, lt))

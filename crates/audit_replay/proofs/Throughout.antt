@@ -2,7 +2,6 @@
 use Rattle.std.proofs.Common.{◌≡◌, ℕ, false, List, [], ◌∷◌, Option, Some, None, refl, sym, ap, ◌∙◌, subst}
 use Rattle.std.specs.Prelude.{not, ◌&&◌, is_some, is_none}
 use Rattle.uo_digest.specs.declared.digest.Digest.{Digest}
-use Rattle.leaf_record.specs.Leaf.{Leaf}
 use Rattle.leaf_record.specs.History.{supply}
 use Rattle.block_rules.specs.declared.chain.Chain.{Chain}
 use Rattle.block_rules.specs.declared.verdict.Verdict.{Verdict}
@@ -18,87 +17,87 @@ use Rattle.audit_replay.specs.Audit.{AuditState, fresh_audit, next_audit}
 use Rattle.audit_replay.specs.Laws.{verdicts_on, ends_at, audit_after, AuditsThroughout, AuditIsFullThroughout, FreshIsFull, SupplyIsOfLevel}
 use Rattle.audit_replay.proofs.Auditing.{judged_rules, judged_scripts, forged_stays}
 
-module _ (H : List ℕ → Digest) (text : Leaf → List ℕ) (scripts : List (List ℕ)) (rules : Rules) where
+module _ (H : List ℕ → Digest) (scripts : List (List ℕ)) (rules : Rules) where
   -- what is said of the first event, and of the later ones
-  module _ (t : State) (s : AuditState) (e : ChainEvent) (es : List ChainEvent) (is : IsBridge H text s.bridge) (stands : Stands H text t s.bridge)
-      (one : let o = full_outcome H text scripts rules t e in
-      (o.verdict ≡ judged_on H text s.bridge e) × Stands H text o.state (next_judged H text s.bridge e)) where
+  module _ (t : State) (s : AuditState) (e : ChainEvent) (es : List ChainEvent) (is : IsBridge H s.bridge) (stands : Stands H t s.bridge)
+      (one : let o = full_outcome H scripts rules t e in
+      (o.verdict ≡ judged_on H s.bridge e) × Stands H o.state (next_judged H s.bridge e)) where
     abbrev rest : State
-    rest = (full_outcome H text scripts rules t e).state
+    rest = (full_outcome H scripts rules t e).state
 
     abbrev next : AuditState
-    next = next_audit H text s e
+    next = next_audit H s e
 
     -- a forged event is the last
-    last : judged_on H text s.bridge e ≡ None → AuditsThroughout H text scripts rules t s (e ∷ es)
+    last : judged_on H s.bridge e ≡ None → AuditsThroughout H scripts rules t s (e ∷ es)
     last none =
         let stops = one.0 ∙ none in
         record {
-          said = ap (λ v. verdict_before v (verdicts_on H text next es)) none
-              ∙ sym (ap (λ v. verdict_before v (verdicts rules (full_judge H text scripts rules) rest es)) stops);
+          said = ap (λ v. verdict_before v (verdicts_on H next es)) none
+              ∙ sym (ap (λ v. verdict_before v (verdicts rules (full_judge H scripts rules) rest es)) stops);
           ended =
-              ap (λ (v : Option Verdict). (ends_at v next (audit_after H text next es)).ended) none
-              ∙ (ap is_none none ∙ sym (ap (λ v. not (is_some v && never_stops rules (full_judge H text scripts rules) rest es)) stops));
+              ap (λ (v : Option Verdict). (ends_at v next (audit_after H next es)).ended) none
+              ∙ (ap is_none none ∙ sym (ap (λ v. not (is_some v && never_stops rules (full_judge H scripts rules) rest es)) stops));
           stands =
-              subst (λ v. Stands H text (state_after rules (full_judge H text scripts rules) t (e ∷ es))
-              (ends_at v next (audit_after H text next es)).bridge) (sym none)
-              (subst (λ v. Stands H text (goes_on v t (state_after rules (full_judge H text scripts rules) rest es)) (next_judged H text s.bridge e))
+              subst (λ v. Stands H (state_after rules (full_judge H scripts rules) t (e ∷ es))
+              (ends_at v next (audit_after H next es)).bridge) (sym none)
+              (subst (λ v. Stands H (goes_on v t (state_after rules (full_judge H scripts rules) rest es)) (next_judged H s.bridge e))
               (sym stops)
-              (subst (Stands H text t) (sym (forged_stays H text s.bridge e is none)) stands));
+              (subst (Stands H t) (sym (forged_stays H s.bridge e is none)) stands));
         }
 
-    more : (v : Verdict) → judged_on H text s.bridge e ≡ Some v → AuditsThroughout H text scripts rules rest next es
-        → AuditsThroughout H text scripts rules t s (e ∷ es)
+    more : (v : Verdict) → judged_on H s.bridge e ≡ Some v → AuditsThroughout H scripts rules rest next es
+        → AuditsThroughout H scripts rules t s (e ∷ es)
     more v some later =
         let told = one.0 ∙ some in
         record {
           said =
-              ap (λ v. verdict_before v (verdicts_on H text next es)) some
-              ∙ (ap (λ vs. v ∷ vs) later.said ∙ sym (ap (λ v. verdict_before v (verdicts rules (full_judge H text scripts rules) rest es)) told));
+              ap (λ v. verdict_before v (verdicts_on H next es)) some
+              ∙ (ap (λ vs. v ∷ vs) later.said ∙ sym (ap (λ v. verdict_before v (verdicts rules (full_judge H scripts rules) rest es)) told));
           ended =
-              ap (λ (v : Option Verdict). (ends_at v next (audit_after H text next es)).ended) some
-              ∙ (later.ended ∙ sym (ap (λ v. not (is_some v && never_stops rules (full_judge H text scripts rules) rest es)) told));
+              ap (λ (v : Option Verdict). (ends_at v next (audit_after H next es)).ended) some
+              ∙ (later.ended ∙ sym (ap (λ v. not (is_some v && never_stops rules (full_judge H scripts rules) rest es)) told));
           stands =
-              subst (λ v. Stands H text (state_after rules (full_judge H text scripts rules) t (e ∷ es))
-              (ends_at v next (audit_after H text next es)).bridge) (sym some)
-              (subst (λ v. Stands H text (goes_on v t (state_after rules (full_judge H text scripts rules) rest es))
-              (audit_after H text next es).bridge) (sym told) later.stands);
+              subst (λ v. Stands H (state_after rules (full_judge H scripts rules) t (e ∷ es))
+              (ends_at v next (audit_after H next es)).bridge) (sym some)
+              (subst (λ v. Stands H (goes_on v t (state_after rules (full_judge H scripts rules) rest es))
+              (audit_after H next es).bridge) (sym told) later.stands);
         }
 
   abbrev One : State → AuditState → ChainEvent → Type 0
-  One t s e = let o = full_outcome H text scripts rules t e in
-      (o.verdict ≡ judged_on H text s.bridge e) × Stands H text o.state (next_judged H text s.bridge e)
+  One t s e = let o = full_outcome H scripts rules t e in
+      (o.verdict ≡ judged_on H s.bridge e) × Stands H o.state (next_judged H s.bridge e)
 
-  agrees : (events : List ChainEvent) (t : State) (s : AuditState) → s.bridge.rules ≡ rules → watched_by s.bridge ≡ scripts → IsBridge H text s.bridge
-      → Stands H text t s.bridge → s.ended ≡ false → AuditsThroughout H text scripts rules t s events
+  agrees : (events : List ChainEvent) (t : State) (s : AuditState) → s.bridge.rules ≡ rules → watched_by s.bridge ≡ scripts → IsBridge H s.bridge
+      → Stands H t s.bridge → s.ended ≡ false → AuditsThroughout H scripts rules t s events
   agrees [] t s same watched is stands going = record { said = refl; ended = going; stands = stands }
   agrees (e ∷ es) t s same watched is stands going =
-      let full = bridge_is_full H text s.bridge e is t stands in
+      let full = bridge_is_full H s.bridge e is t stands in
       let one : One t s e =
-      subst (λ r. let o = full_outcome H text scripts r t e in
-      (o.verdict ≡ judged_on H text s.bridge e) × Stands H text o.state (next_judged H text s.bridge e)) same
-      (subst (λ w. let o = full_outcome H text w s.bridge.rules t e in
-      (o.verdict ≡ judged_on H text s.bridge e) × Stands H text o.state (next_judged H text s.bridge e)) watched full) in
-      by one (judged_on H text s.bridge e) refl
-      (agrees es (full_outcome H text scripts rules t e).state (next_audit H text s e) (judged_rules H text s.bridge e ∙ same)
-      (judged_scripts H text s.bridge e ∙ watched) (next_judged_is_bridge H text s.bridge e is) one.1)
+      subst (λ r. let o = full_outcome H scripts r t e in
+      (o.verdict ≡ judged_on H s.bridge e) × Stands H o.state (next_judged H s.bridge e)) same
+      (subst (λ w. let o = full_outcome H w s.bridge.rules t e in
+      (o.verdict ≡ judged_on H s.bridge e) × Stands H o.state (next_judged H s.bridge e)) watched full) in
+      by one (judged_on H s.bridge e) refl
+      (agrees es (full_outcome H scripts rules t e).state (next_audit H s e) (judged_rules H s.bridge e ∙ same)
+      (judged_scripts H s.bridge e ∙ watched) (next_judged_is_bridge H s.bridge e is) one.1)
     where
-      by : One t s e → (v : Option Verdict) → judged_on H text s.bridge e ≡ v
-          → ((next_audit H text s e).ended ≡ false → AuditsThroughout H text scripts rules (full_outcome H text scripts rules t e).state
-          (next_audit H text s e) es) → AuditsThroughout H text scripts rules t s (e ∷ es)
+      by : One t s e → (v : Option Verdict) → judged_on H s.bridge e ≡ v
+          → ((next_audit H s e).ended ≡ false → AuditsThroughout H scripts rules (full_outcome H scripts rules t e).state
+          (next_audit H s e) es) → AuditsThroughout H scripts rules t s (e ∷ es)
       by one None none later = last t s e es is stands one none
       by one (Some v) some later = more t s e es is stands one v some (later (ap is_none some))
 
 pub audit_is_full_throughout : AuditIsFullThroughout
-audit_is_full_throughout H text t s events is stands going = agrees H text (watched_by s.bridge) s.bridge.rules events t s refl refl is stands going
+audit_is_full_throughout H t s events is stands going = agrees H (watched_by s.bridge) s.bridge.rules events t s refl refl is stands going
 
 pub fresh_is_full : FreshIsFull
-fresh_is_full H text net limits scripts few events =
-    audit_is_full_throughout H text start (fresh_audit net limits scripts) events (fresh_is_bridge H text net limits (Some scripts) few)
-    (fresh_stands H text net limits (Some scripts)) refl
+fresh_is_full H net limits scripts few events =
+    audit_is_full_throughout H start (fresh_audit net limits scripts) events (fresh_is_bridge H net limits (Some scripts) few)
+    (fresh_stands H net limits (Some scripts)) refl
 
 pub supply_is_of_level : SupplyIsOfLevel
-supply_is_of_level H text t s is stands = (
-  ap supply (is_history H text s t.now.history (newest_history H text t s is stands)),
+supply_is_of_level H t s is stands = (
+  ap supply (is_history H s t.now.history (newest_history H t s is stands)),
   ap (λ (c : Chain). issued s.rules.net c.blocks) stands.chain,
 )

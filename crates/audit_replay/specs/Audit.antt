@@ -4,7 +4,7 @@ use Rattle.uo_base.specs.declared.event.Limits.{Limits}
 use Rattle.uo_base.specs.declared.event.Net.{Net}
 use Rattle.uo_digest.specs.declared.digest.Digest.{Digest}
 use Rattle.block_codec.specs.Block.{Block}
-use Rattle.leaf_record.specs.Leaf.{Leaf, leaf_text}
+use Rattle.leaf_record.specs.Leaf.{Leaf}
 use Rattle.block_rules.specs.declared.chain.Outside.{Outside}
 use Rattle.block_rules.specs.declared.verdict.Verdict.{Verdict}
 use Rattle.block_rules.specs.Blocks.{external}
@@ -30,10 +30,10 @@ pub record AuditState : Type 0 where
   pub ended : Bool
 
 -- what holds of each auditor: it stands for some levels, on each of which every live output has a text, and no more is live than was issued
-pub record IsAudit (H : List ℕ → Digest) (text : Leaf → List ℕ) (s : BridgeState) : Type 0 where
-  pub is : IsBridge H text s
+pub record IsAudit (H : List ℕ → Digest) (s : BridgeState) : Type 0 where
+  pub is : IsBridge H s
   pub levels : State
-  pub stands : Stands H text levels s
+  pub stands : Stands H levels s
   pub fits : StateFits s.rules levels
   pub sound : IsSoundState s.rules levels
 
@@ -42,8 +42,8 @@ abbrev pub fresh_audit : Net → Limits → List (List ℕ) → AuditState
 fresh_audit net limits scripts = record { bridge = fresh_bridge net limits (Some scripts); ended = false }
 
 -- after an event: what the bridge keeps then, and at a forged one the end
-abbrev pub next_audit : (List ℕ → Digest) → (Leaf → List ℕ) → AuditState → ChainEvent → AuditState
-next_audit H text s e = record { bridge = next_judged H text s.bridge e; ended = is_none (judged_on H text s.bridge e) }
+abbrev pub next_audit : (List ℕ → Digest) → AuditState → ChainEvent → AuditState
+next_audit H s e = record { bridge = next_judged H s.bridge e; ended = is_none (judged_on H s.bridge e) }
 
 -- the verdict of a line, where it has one
 abbrev pub verdict_in : AuditLine → Option Verdict
@@ -54,7 +54,7 @@ verdict_in (Line.Clash c) = None
 abbrev pub IsClashOf : (List ℕ → Digest) → BridgeState → Block → Handed → TextClash → Type 0
 IsClashOf H s b nothing c = ⊥
 IsClashOf H s b (unread why) c = ⊥
-IsClashOf H s b (read m) c = IsClash H (history_of s) (known_at H leaf_text (watched_by s) (history_of s)) (points_of (external b s.chain.blocks)) m c
+IsClashOf H s b (read m) c = IsClash H (history_of s) (known_at H (watched_by s) (history_of s)) (points_of (external b s.chain.blocks)) m c
 
 abbrev pub ShowsClashOf : (List ℕ → Digest) → BridgeState → ChainEvent → TextClash → Type 0
 ShowsClashOf H s (BlockCame None handed) c = ⊥
@@ -66,7 +66,7 @@ ShowsClashOf H s StrayCame c = ⊥
 abbrev pub clash_beside : (List ℕ → Digest) → BridgeState → List Outside → Handed → Option TextClash
 clash_beside H s ext nothing = None
 clash_beside H s ext (unread why) = None
-clash_beside H s ext (read m) = clash_in H s.entries s.held (known_at H leaf_text (watched_by s) (history_of s)) ext m
+clash_beside H s ext (read m) = clash_in H s.entries s.held (known_at H (watched_by s) (history_of s)) ext m
 
 abbrev pub clash_on : (List ℕ → Digest) → BridgeState → ChainEvent → Option TextClash
 clash_on H s (BlockCame None handed) = None

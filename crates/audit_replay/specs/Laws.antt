@@ -1,4 +1,4 @@
--- What holds of auditors, whatever the digest function and the leaf text.
+-- What holds of auditors, whatever the digest function.
 use Rattle.std.specs.Prelude.{◌≡◌, ℕ, ◌<◌, ◌^◌, true, false, not, List, [], ◌∷◌, ◌++◌, Option, Some, None}
 use Rattle.std.specs.List.{AllByRecursion}
 use Rattle.uo_base.specs.declared.event.Limits.{Limits}
@@ -6,7 +6,6 @@ use Rattle.uo_base.specs.declared.event.Net.{Net}
 use Rattle.uo_digest.specs.declared.digest.Digest.{Digest}
 use Rattle.forest_model.specs.Content.{IsDigest}
 use Rattle.block_codec.specs.Block.{Block, BlockFits}
-use Rattle.leaf_record.specs.Leaf.{Leaf, leaf_text}
 use Rattle.leaf_record.specs.History.{supply}
 use Rattle.block_rules.specs.declared.verdict.Verdict.{Verdict}
 use Rattle.proof_wire.specs.BlockProof.{ProofFits}
@@ -27,38 +26,38 @@ use Rattle.audit_replay.specs.Audit.{AuditState, fresh_audit, next_audit, clash_
 
 -- ---- a list of events, of which none is judged behind a forged one
 
-abbrev pub verdicts_on : (List ℕ → Digest) → (Leaf → List ℕ) → AuditState → List ChainEvent → List Verdict
-verdicts_on H text s [] = []
-verdicts_on H text s (e ∷ es) = verdict_before (judged_on H text s.bridge e) (verdicts_on H text (next_audit H text s e) es)
+abbrev pub verdicts_on : (List ℕ → Digest) → AuditState → List ChainEvent → List Verdict
+verdicts_on H s [] = []
+verdicts_on H s (e ∷ es) = verdict_before (judged_on H s.bridge e) (verdicts_on H (next_audit H s e) es)
 
 -- the one that is next after an event, or the last where that was forged
 abbrev pub ends_at : Option Verdict → AuditState → AuditState → AuditState
 ends_at None next later = next
 ends_at (Some v) next later = later
 
-abbrev pub audit_after : (List ℕ → Digest) → (Leaf → List ℕ) → AuditState → List ChainEvent → AuditState
-audit_after H text s [] = s
-audit_after H text s (e ∷ es) = ends_at (judged_on H text s.bridge e) (next_audit H text s e) (audit_after H text (next_audit H text s e) es)
+abbrev pub audit_after : (List ℕ → Digest) → AuditState → List ChainEvent → AuditState
+audit_after H s [] = s
+audit_after H s (e ∷ es) = ends_at (judged_on H s.bridge e) (next_audit H s e) (audit_after H (next_audit H s e) es)
 
 -- the auditor says of each what the node says that holds every output, has ended exactly where that one has no verdict on one of them, which
 -- is the first forged one, and stands for what it holds then
-pub record AuditsThroughout (H : List ℕ → Digest) (text : Leaf → List ℕ) (scripts : List (List ℕ)) (rules : Rules) (t : State) (s : AuditState)
+pub record AuditsThroughout (H : List ℕ → Digest) (scripts : List (List ℕ)) (rules : Rules) (t : State) (s : AuditState)
     (events : List ChainEvent) : Type 0 where
-  pub said : verdicts_on H text s events ≡ verdicts rules (full_judge H text scripts rules) t events
-  pub ended : (audit_after H text s events).ended ≡ not (never_stops rules (full_judge H text scripts rules) t events)
-  pub stands : Stands H text (state_after rules (full_judge H text scripts rules) t events) (audit_after H text s events).bridge
+  pub said : verdicts_on H s events ≡ verdicts rules (full_judge H scripts rules) t events
+  pub ended : (audit_after H s events).ended ≡ not (never_stops rules (full_judge H scripts rules) t events)
+  pub stands : Stands H (state_after rules (full_judge H scripts rules) t events) (audit_after H s events).bridge
 
 -- each that stands for that node and has not ended does so
 abbrev pub AuditIsFullThroughout : Type 0
-AuditIsFullThroughout = (H : List ℕ → Digest) (text : Leaf → List ℕ) (t : State) (s : AuditState) (events : List ChainEvent)
-    → IsBridge H text s.bridge → Stands H text t s.bridge → s.ended ≡ false →
-    AuditsThroughout H text (watched_by s.bridge) s.bridge.rules t s events
+AuditIsFullThroughout = (H : List ℕ → Digest) (t : State) (s : AuditState) (events : List ChainEvent)
+    → IsBridge H s.bridge → Stands H t s.bridge → s.ended ≡ false →
+    AuditsThroughout H (watched_by s.bridge) s.bridge.rules t s events
 
 -- and each from its start
 abbrev pub FreshIsFull : Type 0
-FreshIsFull = (H : List ℕ → Digest) (text : Leaf → List ℕ) (net : Net) (limits : Limits) (scripts : List (List ℕ)) → limits.leaves < 2 ^ 40 →
+FreshIsFull = (H : List ℕ → Digest) (net : Net) (limits : Limits) (scripts : List (List ℕ)) → limits.leaves < 2 ^ 40 →
     let rules : Rules = record { net = net; limits = limits } in
-    (events : List ChainEvent) → AuditsThroughout H text scripts rules start (fresh_audit net limits scripts) events
+    (events : List ChainEvent) → AuditsThroughout H scripts rules start (fresh_audit net limits scripts) events
 
 -- ---- what is shown
 
@@ -69,14 +68,14 @@ shown_or (Some v) here later = later
 
 abbrev pub shown_on : (List ℕ → Digest) → AuditState → List ChainEvent → Option TextClash
 shown_on H s [] = None
-shown_on H s (e ∷ es) = shown_or (judged_on H leaf_text s.bridge e) (clash_on H s.bridge e) (shown_on H (next_audit H leaf_text s e) es)
+shown_on H s (e ∷ es) = shown_or (judged_on H s.bridge e) (clash_on H s.bridge e) (shown_on H (next_audit H s e) es)
 
 -- two texts are shown, and they are different and have one digest: one is that of a node of this history, and the proof in the message digests the
 -- other
 pub record AreShown (H : List ℕ → Digest) (shown : Option TextClash) (scripts : List (List ℕ)) (l : Level) (b : Block) (m : Message) : Type 0 where
   pub clash : TextClash
   pub shows : shown ≡ Some clash
-  pub is : IsClash H l.history (known_at H leaf_text scripts l.history) (points_of (external b l.blocks)) m clash
+  pub is : IsClash H l.history (known_at H scripts l.history) (points_of (external b l.blocks)) m clash
 
 -- where an event is forged to the node that holds every output, behind events of which none is, an auditor shows two such texts, whatever comes later
 abbrev pub FreshShowsForged : Type 0
@@ -84,14 +83,14 @@ FreshShowsForged = (H : List ℕ → Digest) → ((x : List ℕ) → IsDigest (H
     → limits.leaves < 2 ^ 40 →
     let rules : Rules = record { net = net; limits = limits } in
     (front later : List ChainEvent) (b : Block) (m : Message) → AllByRecursion EventFits front → BlockFits b → ProofFits m.proof →
-    let l = (state_after rules (full_judge H leaf_text scripts rules) start front).now in
-    never_stops rules (full_judge H leaf_text scripts rules) start front ≡ true →
-    is_forged H leaf_text scripts rules (chain_of l) l.history b (read m) ≡ true →
+    let l = (state_after rules (full_judge H scripts rules) start front).now in
+    never_stops rules (full_judge H scripts rules) start front ≡ true →
+    is_forged H scripts rules (chain_of l) l.history b (read m) ≡ true →
     AreShown H (shown_on H (fresh_audit net limits scripts) (front ++ BlockCame (Some b) (read m) ∷ later)) scripts l b m
 
 -- ---- value
 
 -- what is live and what was issued are those of the newest level
 abbrev pub SupplyIsOfLevel : Type 0
-SupplyIsOfLevel = (H : List ℕ → Digest) (text : Leaf → List ℕ) (t : State) (s : BridgeState) → IsBridge H text s → Stands H text t s →
+SupplyIsOfLevel = (H : List ℕ → Digest) (t : State) (s : BridgeState) → IsBridge H s → Stands H t s →
     (supply (history_of s) ≡ supply t.now.history) × (issued s.rules.net s.chain.blocks ≡ issued s.rules.net t.now.blocks)

@@ -1,6 +1,5 @@
 //! The auditor.
 ghost use Rattle.std.specs.Prelude.{◌≡◌, ◌<◌, ◌≤◌, ◌^◌, false, is_none, IfOk, OnOk, OnErr};
-ghost use Rattle.leaf_record.specs.Leaf.{leaf_text};
 ghost use Rattle.leaf_record.specs.History as history;
 ghost use Rattle.uo_base.specs.FeedEvent.{event_of};
 
@@ -34,14 +33,13 @@ pub struct Audit<D: Digester> {
 }
 
 impl<D: Digester> Model for Audit<D> {
-    ghost use Rattle.leaf_record.specs.Leaf.{leaf_text};
     ghost use Rattle.audit_replay.specs.Audit.{AuditState, IsAudit};
 
     ghost Value = { AuditState };
 
     ghost view = { λ a. record { bridge = a.bridge; ended = a.ended } };
 
-    ghost invariant = { λ a. IsAudit D.digest_of leaf_text a.bridge };
+    ghost invariant = { λ a. IsAudit D.digest_of a.bridge };
 }
 
 impl<D: Digester> Audit<D> {
@@ -80,7 +78,7 @@ impl<D: Digester> Audit<D> {
     /// The bridge, which holds every output. It stands for a history, of which each live output has a text.
     pub fn bridge(&self) -> &Bridge<D>
         ensures is { result.now ≡ self.now.bridge }
-        ensures audit { IsAudit D.digest_of leaf_text self.now.bridge }
+        ensures audit { IsAudit D.digest_of self.now.bridge }
     {
         &self.bridge
     }
@@ -105,14 +103,14 @@ impl<D: Digester> Audit<D> {
         requires short { IsShort (event_of event) }
 
         // No verdict, and so a clash, exactly where the event is forged.
-        ensures verdict { IfOk result (λ line. verdict_in line ≡ judged_on D.digest_of leaf_text self.old.bridge (event_in (event_of event.entry))) }
+        ensures verdict { IfOk result (λ line. verdict_in line ≡ judged_on D.digest_of self.old.bridge (event_in (event_of event.entry))) }
         ensures clash { IfOk result (λ line. ShowsClash D.digest_of self.old.bridge (event_in (event_of event.entry)) line) }
-        ensures next { OnOk result (self.new ≡ next_audit D.digest_of leaf_text self.old (event_in (event_of event.entry))) }
+        ensures next { OnOk result (self.new ≡ next_audit D.digest_of self.old (event_in (event_of event.entry))) }
         ensures stays { OnErr result (self.new ≡ self.old) }
 
         // Where it stands for what the node holds that holds every output, it says what that node says, and that the event is
         // forged where that one has no verdict, and stands for what that node holds then.
-        ensures refines { IfOk result (λ line. JudgesAsFull D.digest_of leaf_text self.old.bridge (event_in (event_of event.entry)) (verdict_in line)
+        ensures refines { IfOk result (λ line. JudgesAsFull D.digest_of self.old.bridge (event_in (event_of event.entry)) (verdict_in line)
             self.new.bridge) }
     {
         match self.bridge.judge(event, steps)? {

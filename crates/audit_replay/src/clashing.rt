@@ -1,7 +1,6 @@
 //! Two texts with one digest, at a forged event.
 ghost use Rattle.std.specs.Prelude.{◌≡◌, ◌<◌, ◌^◌, None, Some, length, option_copied, IfOk};
 ghost use Rattle.block_codec.specs.Reading.{block_in};
-ghost use Rattle.leaf_record.specs.Leaf.{leaf_text};
 ghost use Rattle.uo_base.specs.FeedEvent.{event_of};
 ghost use Rattle.node_rules.specs.Machine.{BlockCame, event_in};
 ghost use Rattle.node_rules.specs.Reading.{handed_in};
@@ -28,8 +27,8 @@ fn clash_of<D: Digester, L: Ledger>(
     message: Option<&[u8]>,
     steps: &mut Steps<L>,
 ) -> Result<Clash, NoMemory>
-    requires is { IsAudit D.digest_of leaf_text bridge.now }
-    requires forged { judged_on D.digest_of leaf_text bridge.now (BlockCame (Some block.now) (handed_in (option_copied message))) ≡ None }
+    requires is { IsAudit D.digest_of bridge.now }
+    requires forged { judged_on D.digest_of bridge.now (BlockCame (Some block.now) (handed_in (option_copied message))) ≡ None }
     ensures shows { IfOk result (λ clash. IsClashOf D.digest_of bridge.now block.now (handed_in (option_copied message.entry)) clash) }
     ensures which { IfOk result (λ clash. clash_beside D.digest_of bridge.now (external block.now bridge.now.chain.blocks)
         (handed_in (option_copied message.entry)) ≡ Some clash) }
@@ -70,9 +69,9 @@ pub(crate) fn clash_in<D: Digester, L: Ledger>(
     event: Event<'_>,
     steps: &mut Steps<L>,
 ) -> Result<Clash, NoMemory>
-    requires is { IsAudit D.digest_of leaf_text bridge.now }
+    requires is { IsAudit D.digest_of bridge.now }
     requires short { IsShort (event_of event) }
-    requires forged { judged_on D.digest_of leaf_text bridge.now (event_in (event_of event)) ≡ None }
+    requires forged { judged_on D.digest_of bridge.now (event_in (event_of event)) ≡ None }
     ensures shows { IfOk result (λ clash. ShowsClashOf D.digest_of bridge.now (event_in (event_of event.entry)) clash) }
     ensures which { IfOk result (λ clash. clash_on D.digest_of bridge.now (event_in (event_of event.entry)) ≡ Some clash) }
 {

@@ -1,6 +1,5 @@
 //! What is live, and what was issued.
 ghost use Rattle.std.specs.Prelude.{◌≡◌, ◌≤◌, ◌^◌};
-ghost use Rattle.leaf_record.specs.Leaf.{leaf_text};
 ghost use Rattle.leaf_record.specs.History.{supply};
 ghost use Rattle.node_rules.specs.Machine as machine;
 ghost use Rattle.bridge_prover.specs.Full.{history_of};
@@ -26,7 +25,7 @@ fn amount(outputs: &Outputs, number: u64) -> u64
 
 /// The sum of the amounts of all live outputs, in satoshi.
 pub(crate) fn live<D: Digester>(bridge: &Bridge<D>) -> u64
-    requires { IsAudit D.digest_of leaf_text bridge.now }
+    requires { IsAudit D.digest_of bridge.now }
     ensures is { result ≡ supply (history_of bridge.now) }
     ensures most { result ≤ machine.issued bridge.now.rules.net bridge.now.chain.blocks }
 {

@@ -1,7 +1,7 @@
 -- Up to the root over ids, whatever is repeated.
-use Rattle.std.proofs.Common.{◌≡◌, ℕ, suc, ◌+◌, ◌<◌, ◌≤◌, List, [], ◌∷◌, ◌++◌, length, map, drop, replicate, get_or, Option, Some, None, refl, sym}
-use Rattle.std.proofs.Common.{ap, ◌∙◌, arith}
-use Rattle.std.proofs.lemmas.List.{map-append, length-map}
+use Rattle.std.proofs.Common.{◌≡◌, ℕ, suc, ◌+◌, ◌-◌, ◌<◌, ◌≤◌, List, [], ◌∷◌, ◌++◌, length, map, take, drop, set, replicate, get_or}
+use Rattle.std.proofs.Common.{Option, Some, None, refl, sym, ap, ◌∙◌, arith}
+use Rattle.std.proofs.lemmas.List.{append-nil, map-append, length-map, length-drop, take_all, drop_all}
 use Rattle.std.specs.Option.{option_or}
 use Rattle.uo_digest.specs.declared.digest.Digest.{Digest}
 use Rattle.tx_codec.specs.Transaction.{Output, Transaction}
@@ -65,3 +65,18 @@ length-ids (coinbase ∷ txs) = ap suc (length-map txs wtxid_of)
 pub ids-behind : (txs : List Transaction) → 0 < length txs → record { 0 = replicate 32 0 } ∷ map wtxid_of (drop 1 txs) ≡ witness_ids txs
 ids-behind [] lt = absurd (omega arith)
 ids-behind (coinbase ∷ txs) lt = refl
+
+pub none_behind : (xs : List Digest) → drop (length xs - 1) (drop 1 xs) ≡ []
+none_behind xs = drop_all (length xs - 1) (drop 1 xs) (omega (arith, length-drop 1 xs))
+
+-- the ids behind the first one are put behind 32 zero bytes
+pub ids-put : (txs : List Transaction) (out part rest : List Digest) → 0 < length txs → length out ≡ length txs
+    → part ≡ map wtxid_of (take (length txs - 1) (drop 1 txs)) → rest ≡ []
+    → take 1 (set out 0 (record { 0 = replicate 32 0 })) ++ (part ++ rest) ≡ witness_ids txs
+ids-put [] out part rest some same is none = absurd (omega (arith, some))
+ids-put (coinbase ∷ txs) [] part rest some same is none = absurd (omega (arith, same))
+ids-put (coinbase ∷ txs) (d ∷ out) part rest some same is none =
+    let all : take (length (coinbase ∷ txs) - 1) txs ≡ txs = take_all (length (coinbase ∷ txs) - 1) txs (omega arith) in
+    let first : Digest = record { 0 = replicate 32 0 } in
+    ap (λ (l : List Digest). first ∷ (part ++ l)) none
+    ∙ ap (λ (l : List Digest). first ∷ l) (append-nil part ∙ is ∙ ap (map wtxid_of) all)

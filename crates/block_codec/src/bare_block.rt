@@ -6,6 +6,7 @@ ghost use Rattle.block_codec.specs.Block.{block_hash_of};
 
 use crate::block_view::BlockView;
 use crate::header::HeaderView;
+use crate::ids::put_txids;
 use std::alloc::{AllocError, Global};
 use std::marker::Model;
 use tx_codec::TxView;
@@ -63,16 +64,12 @@ impl<'a> BareBlock<'a> {
     }
 }
 
-fn id_of(tx: &TxView<'_>) -> Digest
-    ensures { result ≡ txid_of tx.now }
-{
-    tx.txid()
-}
-
 fn ids_of(alloc: Global, txs: &[TxView<'_>]) -> Result<Vec<Digest>, AllocError>
     ensures { IfOk result (λ ids. ids.items ≡ map txid_of txs.now) }
 {
-    txs.iter().map(|tx| id_of(tx)).collect(alloc)
+    let mut ids = vec![in alloc; Digest([0; 32]); txs.len()]?;
+    put_txids(txs, &mut ids);
+    Ok(ids)
 }
 
 // The hash of the header in front of a text.

@@ -10,6 +10,7 @@ mod bare_block;
 mod block_view;
 mod fault;
 mod header;
+mod ids;
 mod merkle_tree;
 mod reading;
 mod witness;

@@ -2,13 +2,13 @@
 ghost use Rattle.std.specs.Prelude.{◌≡◌, ◌+◌, ◌*◌, ◌≤◌, ◌<◌, ◌^◌, ◌++◌, List, [], length, drop, IfOk, IfSome, IfNone};
 ghost use Rattle.uo_digest.specs.declared.digest.Digest.{Digest as Digested};
 ghost use Rattle.block_codec.specs.Block.{txids_of};
-ghost use Rattle.block_codec.specs.Merkle.{hash_over, paired, repeats_from, merkle_of, IsMerkle};
+ghost use Rattle.block_codec.specs.Merkle.{paired, repeats_from, merkle_of, IsMerkle};
 ghost use Rattle.block_codec.specs.Pairs.{hashes_over, HasFirst, IsAbove, IsLifted, TellsRepeat};
 
 use crate::block_view::BlockView;
 use std::alloc::Global;
 use uo_base::NoMemory;
-use uo_digest::{Digest, Sha256dStream, sha256d_pairs};
+use uo_digest::{Digest, sha256d_pair, sha256d_pairs};
 
 /// What the tree over a list of ids comes to.
 #[derive(Clone, Copy, Debug, PartialEq, Eq)]
@@ -21,16 +21,6 @@ pub enum MerkleOutcome {
     Repeated { level: u8, place: u32 },
 }
 
-/// The hash over two hashes.
-fn hash_of_pair(left: &Digest, right: &Digest) -> Digest
-    ensures { result ≡ hash_over left.now right.now }
-{
-    let mut stream = Sha256dStream::new();
-    stream.update(&left.0);
-    stream.update(&right.0);
-    stream.finish()
-}
-
 /// The hash over the pair of a level that has this number, from 0.
 fn hash_above(level: &[Digest], pair: usize) -> Digest
     requires { 2 * pair < length level.now }
@@ -38,8 +28,8 @@ fn hash_above(level: &[Digest], pair: usize) -> Digest
 {
     let left = level[2 * pair];
     match level.get(2 * pair + 1) {
-        None => hash_of_pair(&left, &left),
-        Some(right) => hash_of_pair(&left, right),
+        None => sha256d_pair(left, left),
+        Some(right) => sha256d_pair(left, *right),
     }
 }
 

@@ -6,8 +6,10 @@ ghost use Rattle.block_codec.specs.Merkle.{merkle_root};
 ghost use Rattle.block_codec.specs.Witness.{commitment_in, commitment_of, witness_ids, witness_root_of};
 
 use crate::block_view::BlockView;
+use crate::ids::put_wtxids;
 use crate::merkle_tree::lift;
 use std::alloc::{AllocError, Global};
+use tx_codec::TxView;
 use uo_base::NoMemory;
 use uo_digest::Digest;
 
@@ -52,17 +54,24 @@ fn root_of(mut hashes: Vec<Digest>) -> Digest
     hashes[0]
 }
 
+// The ids with witnesses, in the places of those in `out`.
+fn put_witness_ids(txs: &[TxView<'_>], out: &mut [Digest])
+    requires some { 0 < length txs.now }
+    requires count { length out.old ≡ length txs.now }
+    ensures { out.new ≡ witness_ids txs.now }
+{
+    out[0] = Digest([0; 32]);
+    put_wtxids(&txs[1..], &mut out[1..]);
+}
+
 // The ids with witnesses, 32 zero bytes for the coinbase's.
 fn witness_ids(alloc: Global, block: &BlockView<'_>) -> Result<Vec<Digest>, AllocError>
     requires { 0 < length block.now.txs }
     ensures ids { IfOk result (λ ids. ids.items ≡ witness_ids block.now.txs) }
     ensures few { IfOk result (λ ids. length ids.items < 2 ^ 32) }
 {
-    let mut ids = Vec::with_capacity(alloc, block.tx_count() as usize)?;
-    ids.push(Digest([0; 32]))?;
-    for tx in &block.txs[1..] {
-        ids.push(tx.wtxid())?;
-    }
+    let mut ids = vec![in alloc; Digest([0; 32]); block.tx_count() as usize]?;
+    put_witness_ids(&block.txs, &mut ids);
     Ok(ids)
 }
 

@@ -37,6 +37,6 @@ pub use laws::{internal_is_latest, new_is_paid, new_is_unspent};
 pub use money::money_rules;
 pub use refusal::{ProofRefusal, Refusal, WitnessFault};
 pub use shape::shape_rules;
-pub use spends::Spends;
+pub use spends::{NewOutputs, Spends};
 pub use verdict::Verdict;
 pub use witness::witness_height;

@@ -4,7 +4,7 @@ ghost use Rattle.std.specs.Prelude.{◌≡◌, ◌<◌, length, slice_get, Some}
 use crate::chain::{Found, Outside};
 use crate::origins::Origins;
 use crate::output::OutputSlot;
-use leaf_record::RecordView;
+use leaf_record::{Leaves, RecordView};
 use std::marker::Model;
 use uo_base::Net;
 
@@ -90,5 +90,39 @@ impl<'a> Spends<'a> {
             Some(output) => self.origins.record(&output),
             None => unreachable!(),
         }
+    }
+
+    /// All of these records.
+    pub fn new_outputs(&self) -> NewOutputs<'_, 'a>
+        ensures { result ≡ self.now.new }
+    {
+        NewOutputs { spends: self }
+    }
+}
+
+/// The records that a block adds, in the order of its transactions and outputs; contracts see their list.
+#[derive(Drop)]
+pub struct NewOutputs<'s, 'a> {
+    spends: &'s Spends<'a>,
+}
+
+impl<'s, 'a> Model for NewOutputs<'s, 'a> {
+    ghost use Rattle.std.specs.Prelude.{List};
+    ghost use Rattle.leaf_record.specs.Leaf.{Leaf};
+
+    ghost Value = { List Leaf };
+
+    ghost view = { λ o. o.spends.now.new };
+}
+
+impl<'s, 'a> Leaves for NewOutputs<'s, 'a> {
+    ghost leaves = { λ outputs. outputs };
+
+    fn count(&self) -> usize {
+        self.spends.new_count() as usize
+    }
+
+    fn leaf(&self, index: usize) -> RecordView<'_> {
+        self.spends.new_output(index as u64)
     }
 }

@@ -18,8 +18,7 @@ ghost use Rattle.bridge_forest.specs.State.{is_live};
 use crate::arena::part_in;
 use crate::batch::{BatchProof, Sibling};
 use crate::parts::Parts;
-use crate::seek::child;
-use forest_place::{Place, children, sibling};
+use forest_place::{Place, child, children, sibling};
 use smallvec::SmallVec;
 use std::alloc::{AllocError, Global};
 use std::marker::Model;
@@ -171,12 +170,12 @@ fn descend_to<D: Digester>(
     let mut at = part;
     let mut above = place;
     'way: while at.row > 0 {
-        let half = child(at, number >> (at.row - 1));
+        let half = child(at, (number >> (at.row - 1)) % 2);
         let other = sibling(half);
         match part_in(entries, parts, n, other.row, other.off) {
             None => at = half,
             Some(digest) => {
-                let below = child(above, half.off);
+                let below = child(above, half.off % 2);
                 let beside = Sibling {
                     place: sibling(below),
                     digest: *digest,

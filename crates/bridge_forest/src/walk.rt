@@ -1,5 +1,5 @@
 //! The digests at many places, each from what stands right above it: so all of them take one walk down from the roots.
-ghost use Rattle.std.specs.Prelude.{◌≡◌, ◌↔◌, ◌^◌, ◌<◌, ◌≤◌, length, map, None, IsTrue, MatchOption, IfOk};
+ghost use Rattle.std.specs.Prelude.{◌≡◌, ◌^◌, ◌<◌, ◌≤◌, length, map, None, MatchOption, IfOk};
 ghost use Rattle.std.specs.Bool.{OnTrue};
 ghost use Rattle.forest_place.specs.Forest.{InForest};
 ghost use Rattle.forest_model.specs.Standing.{tree_at, digest_at as digest_at_of};
@@ -8,21 +8,10 @@ ghost use Rattle.bridge_forest.specs.Parts.{AreParts};
 
 use crate::arena::part;
 use crate::parts::Parts;
-use crate::seek::{child, part_at, smallest};
-use forest_place::{Place, is_root, parent};
+use crate::seek::{part_at, smallest};
+use forest_place::{Place, child, is_root, is_within, parent};
 use std::alloc::{AllocError, Global};
 use uo_digest::{Digest, Digester};
-
-// Whether the forest over `n` entries has the place.
-fn is_within(n: u64, place: Place) -> bool
-    requires { n < 2 ^ 40 }
-    ensures { IsTrue result ↔ InForest n place.row place.off }
-{
-    if place.row >= 40 {
-        return false;
-    }
-    place.off < n >> place.row
-}
 
 // Whether one place comes before the place above another.
 fn is_before_parent(place: Place, other: Place) -> bool {
@@ -92,7 +81,7 @@ fn part_by(
     if node.row == 0 {
         None
     } else {
-        Some(child(node, place.off))
+        Some(child(node, place.off % 2))
     }
 }
 

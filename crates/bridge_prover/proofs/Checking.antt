@@ -16,7 +16,7 @@ use Rattle.proof_shape.specs.Targeted.{Targeted}
 use Rattle.proof_verify.specs.declared.fault.ProofFault.{ProofFault}
 use Rattle.proof_verify.specs.declared.fault.ProofFault.TheVariants as Fault
 use Rattle.proof_verify.specs.Verified.{IsProofFault, IsDeleted}
-use Rattle.leaf_record.specs.Leaf.{Outpoint, Leaf}
+use Rattle.leaf_record.specs.Leaf.{Outpoint, leaf_text}
 use Rattle.leaf_record.specs.History.{somes, History}
 use Rattle.proof_wire.specs.BlockProof.{targets_of}
 use Rattle.block_rules.specs.declared.chain.Outside.{Outside}
@@ -106,14 +106,14 @@ hashes_told m t known (Why.Overspend x) h = absurd h
 hashes_told m t known (Why.Subsidy c a) h = absurd h
 
 -- roots matter in slots alone
-same_in_slots : (H : List ℕ → Digest) (text : Leaf → List ℕ) (points : List Outpoint) (m : Message) (n : ℕ) (f g : ℕ → Option Digest)
+same_in_slots : (H : List ℕ → Digest) (points : List Outpoint) (m : Message) (n : ℕ) (f g : ℕ → Option Digest)
     (known : ℕ → ℕ → Option Digest) → ((row : ℕ) → is_slot n row ≡ true → f row ≡ g row) →
-    proof_fault H text (record { n = n; roots = f; known = known }) points m
-    ≡ proof_fault H text (record { n = n; roots = g; known = known }) points m
-same_in_slots H text points m n f g known h =
+    proof_fault H (record { n = n; roots = f; known = known }) points m
+    ≡ proof_fault H (record { n = n; roots = g; known = known }) points m
+same_in_slots H points m n f g known h =
     let ts = targets n m in
     let wanted = length (asked n ts (known_to m.lean known)) in
-    let value = λ (c : Cover). evaluation H n ts (known_to m.lean known) (leaves_of H text points m) m.proof.hashes c in
+    let value = λ (c : Cover). evaluation H n ts (known_to m.lean known) (leaves_of H points m) m.proof.hashes c in
     ap₂ (λ (x y : Option ProofRefusal). first_of
     (shape_fault n [] 0 (named n m) ∷ unless (length m.proof.hashes == wanted) (Proof.HashCount wanted (length m.proof.hashes)) ∷ x ∷ y ∷ []))
     (slots_alike (λ row c. empty_root (f row) row) (λ row c. empty_root (g row) row) n ts n (λ row c s. ap (λ x. empty_root x row) (h row s)))
@@ -123,7 +123,7 @@ same_in_slots H text points m n f g known h =
 targeted : (t : Targeted) (n : ℕ) (ts : List Place) → t.leaves ≡ n → t.targets ≡ ts → t ≡ record { leaves = n; targets = ts }
 targeted t n ts a b = ap₂ (λ (k : ℕ) (ps : List Place). let x : Targeted = record { leaves = k; targets = ps } in x) a b
 
-module _ (H : List ℕ → Digest) (text : Leaf → List ℕ) (es : List (Option Digest)) (known : ℕ → ℕ → Option Digest) (ext : List Outside)
+module _ (H : List ℕ → Digest) (es : List (Option Digest)) (known : ℕ → ℕ → Option Digest) (ext : List Outside)
     (m : Message) where
   abbrev view : View
   view = record { n = length es; roots = root H es; known = known }
@@ -137,12 +137,12 @@ module _ (H : List ℕ → Digest) (text : Leaf → List ℕ) (es : List (Option
       unless (length m.proof.hashes == wanted) (Proof.HashCount wanted (length m.proof.hashes))
       ∷ first_slot (λ row c. empty_root (root H es row) row) n ts n
       ∷ first_slot (λ row c. root_differs (root H es row)
-      (evaluation H n ts (known_to m.lean known) (leaves_of H text (points_of ext) m) m.proof.hashes c) row) n ts n
+      (evaluation H n ts (known_to m.lean known) (leaves_of H (points_of ext) m) m.proof.hashes c) row) n ts n
       ∷ []
       )
 
   pub misplaced : (n : ℕ) (fault : RuleFault) → n ≡ length es → TargetsJudged n m (Err fault)
-      → IsFirst (option_map Why.Proof (fault_in H text es known ext m)) fault
+      → IsFirst (option_map Why.Proof (fault_in H es known ext m)) fault
   misplaced n NoMemory same h = tt
   misplaced n (Refused why) same h =
       let w = targets_told n m why h in
@@ -157,13 +157,13 @@ module _ (H : List ℕ → Digest) (text : Leaf → List ℕ) (es : List (Option
     same_targets : t ≡ record { leaves = length es; targets = targets (length es) m }
     same_targets = targeted t (length es) (targets (length es) m) is_named.leaves targets-are
 
-    pub miscounted : (fault : RuleFault) → HashesJudged m t known (Err fault) → IsFirst (option_map Why.Proof (fault_in H text es known ext m)) fault
+    pub miscounted : (fault : RuleFault) → HashesJudged m t known (Err fault) → IsFirst (option_map Why.Proof (fault_in H es known ext m)) fault
     miscounted NoMemory h = tt
     miscounted (Refused why) h =
         let w = hashes_told m t known why h in
         let o = subst (λ (x : Targeted). IsOtherCount m x known w.want w.got) same_targets w.other in
         ap (option_map Why.Proof)
-        (count_told H text view (points_of ext) m is_named.passes (λ e. o.differ (o.got_is ∙ (e ∙ sym o.want_is)))
+        (count_told H view (points_of ext) m is_named.passes (λ e. o.differ (o.got_is ∙ (e ∙ sym o.want_is)))
         ∙ ap₂ (λ (a b : ℕ). Some (Proof.HashCount a b)) (sym o.want_is) (sym o.got_is))
         ∙ ap Some (sym w.told)
 
@@ -172,9 +172,9 @@ module _ (H : List ℕ → Digest) (text : Leaf → List ℕ) (es : List (Option
         ∙ (length-map (targets_of m.proof.spends) (place_by m.naming (length es)) ∙ length-map m.proof.spends (λ s. s.target)))
 
     -- there is a leaf for each target
-    pub leaf_each : (leaves : List Digest) → leaves ≡ leaves_of H text (points_of ext) m → length m.proof.spends ≡ length ext
+    pub leaf_each : (leaves : List Digest) → leaves ≡ leaves_of H (points_of ext) m → length m.proof.spends ≡ length ext
         → length leaves ≡ length t.targets
-    leaf_each leaves e count = ap length e ∙ (leaves-long H text ext m count ∙ (sym count ∙ sym as_many))
+    leaf_each leaves e count = ap length e ∙ (leaves-long H ext m count ∙ (sym count ∙ sym as_many))
 
     module _ (f : Stump) (stands : StandsFor H es f) (hashes : List Digest) (full : AreHashes m t known hashes) where
       abbrev p : Message
@@ -187,7 +187,7 @@ module _ (H : List ℕ → Digest) (text : Leaf → List ℕ) (es : List (Option
       ts = targets f.leaves m
 
       abbrev leaves : List Digest
-      leaves = leaves_of H text (points_of ext) m
+      leaves = leaves_of H (points_of ext) m
 
       named-here : AreNamed f.leaves m t
       named-here = subst (λ n. AreNamed n m t) (sym stands.leaves) is_named
@@ -199,29 +199,29 @@ module _ (H : List ℕ → Digest) (text : Leaf → List ℕ) (es : List (Option
       full-here = subst (λ (x : Targeted). AreHashes m x known hashes) (targeted t f.leaves ts named-here.leaves targets-here) full
 
       -- the fault is that of the same proof in full, over the roots
-      fault-here : fault_in H text es known ext m ≡ proof_fault H text seen (points_of ext) p
+      fault-here : fault_in H es known ext m ≡ proof_fault H seen (points_of ext) p
       fault-here =
-          ap (λ k. proof_fault H text (record { n = k; roots = root H es; known = known }) (points_of ext) m) (sym stands.leaves)
-          ∙ (same_in_slots H text (points_of ext) m f.leaves (root H es) (root_in f) known (λ row s. sym (stands.roots row s))
-          ∙ same_fault H text seen (points_of ext) m hashes full-here)
+          ap (λ k. proof_fault H (record { n = k; roots = root H es; known = known }) (points_of ext) m) (sym stands.leaves)
+          ∙ (same_in_slots H (points_of ext) m f.leaves (root H es) (root_in f) known (λ row s. sym (stands.roots row s))
+          ∙ same_fault H seen (points_of ext) m hashes full-here)
 
       all_asked : length (asked f.leaves ts nothing_known) ≡ length (need f.leaves ts)
       all_asked = ap length (asked_all f.leaves ts)
 
       fault_is : (fault : ProofFault) → IsProofFault H f ts leaves hashes fault
-          → proof_fault H text seen (points_of ext) p ≡ Some (proof_refusal fault)
+          → proof_fault H seen (points_of ext) p ≡ Some (proof_refusal fault)
       fault_is (Fault.HashCount want got) (wanted, given, other) =
           let w : length (asked f.leaves ts nothing_known) ≡ want = all_asked ∙ sym wanted in
-          count_told H text seen (points_of ext) p named-here.passes (λ e. other (given ∙ (e ∙ w)))
+          count_told H seen (points_of ext) p named-here.passes (λ e. other (given ∙ (e ∙ w)))
           ∙ ap₂ (λ (a b : ℕ). Some (Proof.HashCount a b)) w (sym given)
       fault_is (Fault.EmptyRoot row) (count, greatest) =
-          empty_told H text seen (points_of ext) p named-here.passes row (count ∙ sym all_asked) greatest
+          empty_told H seen (points_of ext) p named-here.passes row (count ∙ sym all_asked) greatest
       fault_is (Fault.RootDiffers row had computed) (count, never, greatest, was, is) =
-          other_told H text seen (points_of ext) p named-here.passes row (count ∙ sym all_asked) never greatest
+          other_told H seen (points_of ext) p named-here.passes row (count ∙ sym all_asked) never greatest
 
       pub refused_by : (fault : ProofFault) (leaves' hashes' : List Digest) → leaves' ≡ leaves → hashes' ≡ hashes
           → IsProofFault H f t.targets leaves' hashes' fault →
-          option_map Why.Proof (fault_in H text es known ext m) ≡ Some (Why.Proof (proof_refusal fault))
+          option_map Why.Proof (fault_in H es known ext m) ≡ Some (Why.Proof (proof_refusal fault))
       refused_by fault leaves' hashes' e h is =
           ap (option_map Why.Proof) (fault-here ∙ fault_is fault
           (subst (λ xs. IsProofFault H f xs leaves hashes fault) targets-here
@@ -229,26 +229,26 @@ module _ (H : List ℕ → Digest) (text : Leaf → List ℕ) (es : List (Option
           (subst (λ xs. IsProofFault H f t.targets leaves' xs fault) h is))))
 
       pub checked_by : (tells : Bool) (leaves' hashes' : List Digest) (pairs : List (Place × Digest)) (g : Stump) → leaves' ≡ leaves
-          → hashes' ≡ hashes → IsDeleted tells H f t.targets leaves' hashes' pairs g → IsChecked H text es known ext m t hashes
+          → hashes' ≡ hashes → IsDeleted tells H f t.targets leaves' hashes' pairs g → IsChecked H es known ext m t hashes
       checked_by tells leaves' hashes' pairs g e h d =
           let named_all : named f.leaves m ≡ map Some ts = named-here.places ∙ ap (map Some) targets-here in
           let accepted : IsAccepted H f.leaves (root_in f) ts nothing_known leaves hashes =
           subst (λ xs. IsAccepted H f.leaves (root_in f) xs nothing_known leaves hashes) targets-here
           (subst (λ xs. IsAccepted H f.leaves (root_in f) t.targets nothing_known xs hashes) e
           (subst (λ xs. IsAccepted H f.leaves (root_in f) t.targets nothing_known leaves' xs) h d.accepted)) in
-          record { passes = fault-here ∙ passes H text seen (points_of ext) p accepted named_all; named = is_named; full = full }
+          record { passes = fault-here ∙ passes H seen (points_of ext) p accepted named_all; named = is_named; full = full }
 
 -- ---- by a history
 
-pub same_known : (H : List ℕ → Digest) (text : Leaf → List ℕ) (scripts : List (List ℕ)) (us : History) (known : List (Place × Digest))
-    → AreKnown H text scripts us known → look known ≡ known_at H text scripts us
-same_known H text scripts us known k = fun_ext (λ row. fun_ext (λ off. k.each row off))
+pub same_known : (H : List ℕ → Digest) (scripts : List (List ℕ)) (us : History) (known : List (Place × Digest))
+    → AreKnown H scripts us known → look known ≡ known_at H scripts us
+same_known H scripts us known k = fun_ext (λ row. fun_ext (λ off. k.each row off))
 
-pub fault_same : (H : List ℕ → Digest) (text : Leaf → List ℕ) (scripts : List (List ℕ)) (es : List (Option Digest)) (us : History)
-    (known : List (Place × Digest)) (ext : List Outside) (m : Message) → es ≡ entries H text us → AreKnown H text scripts us known →
-    fault_in H text es (look known) ext m ≡ proof_fault H text (view_of H text scripts us) (points_of ext) m
-fault_same H text scripts es us known ext m e k =
-    ap (λ x. fault_in H text x (look known) ext m) e
-    ∙ (ap (λ x. fault_in H text (entries H text us) x ext m) (same_known H text scripts us known k)
-    ∙ ap (λ n. proof_fault H text (record { n = n; roots = root H (entries H text us); known = known_at H text scripts us }) (points_of ext) m)
-    (length-map us (option_map (λ r. H (text r)))))
+pub fault_same : (H : List ℕ → Digest) (scripts : List (List ℕ)) (es : List (Option Digest)) (us : History)
+    (known : List (Place × Digest)) (ext : List Outside) (m : Message) → es ≡ entries H leaf_text us → AreKnown H scripts us known →
+    fault_in H es (look known) ext m ≡ proof_fault H (view_of H scripts us) (points_of ext) m
+fault_same H scripts es us known ext m e k =
+    ap (λ x. fault_in H x (look known) ext m) e
+    ∙ (ap (λ x. fault_in H (entries H leaf_text us) x ext m) (same_known H scripts us known k)
+    ∙ ap (λ n. proof_fault H (record { n = n; roots = root H (entries H leaf_text us); known = known_at H scripts us }) (points_of ext) m)
+    (length-map us (option_map (λ r. H (leaf_text r)))))

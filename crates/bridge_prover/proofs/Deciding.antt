@@ -93,8 +93,8 @@ module _ (s : BridgeState) (b : Block) where
         block_passes e = none-both before (evidence.steps ++ on_money) shaped.passes
             (none-both evidence.steps on_money none_missing (ap first_of (sym same_money) ∙ e))
 
-module _ (H : List ℕ → Digest) (text : Leaf → List ℕ) (s : BridgeState) (b : Block) (spends : BlockSpends) (numbers : List ℕ) (outputs : List Found)
-    (rests : List Rest) (is : IsBridge H text s) (shaped : IsShaped s.rules.net s.rules.limits s.chain b spends)
+module _ (H : List ℕ → Digest) (s : BridgeState) (b : Block) (spends : BlockSpends) (numbers : List ℕ) (outputs : List Found)
+    (rests : List Rest) (is : IsBridge H s) (shaped : IsShaped s.rules.net s.rules.limits s.chain b spends)
     (known : AreFound s.held spends.external numbers outputs rests) where
   pub money_refused_by : (why : Refusal) → first_of (money_steps spends outputs) ≡ Some why → refusal_on s b ≡ Some why
   money_refused_by why e = money_refused s b spends shaped numbers known.each known.passes outputs known.are why e
@@ -124,24 +124,24 @@ module _ (H : List ℕ → Digest) (text : Leaf → List ℕ) (s : BridgeState) 
     pub passes_by : refusal_on s b ≡ None
     passes_by = block_passes s b spends shaped numbers known.each known.passes outputs known.are paid
 
-    pub ready_by : BlockFits b → (hash : Digest) → IsReady H text s hash numbers spends.new
+    pub ready_by : BlockFits b → (hash : Digest) → IsReady H s hash numbers spends.new
     ready_by fits hash =
         let few = external_few s.rules.net s.rules.limits s.chain b spends fits shaped in
         let count = number_count in
         let same = ap length (same_external s b spends shaped) in
-        subst (IsReady H text s hash numbers) (sym (ap (λ (x : BlockSpends). x.new) shaped.spends))
-        (ready H text s b is passes_by hash numbers (numbers_are s b spends shaped numbers known.each known.passes) (omega (arith, few, count, same)))
+        subst (IsReady H s hash numbers) (sym (ap (λ (x : BlockSpends). x.new) shaped.spends))
+        (ready H s b is passes_by hash numbers (numbers_are s b spends shaped numbers known.each known.passes) (omega (arith, few, count, same)))
 
     pub proved_by : (hash : Digest) (message : Option (List ℕ)) (t : BridgeState) → hash ≡ block_hash_of b
-        → message ≡ written_text spends.external (message_by H s.watch s.entries s.held numbers) → t ≡ bridge_with H text s hash numbers spends.new
-        → IsProved H text s b message t
+        → message ≡ written_text spends.external (message_by H s.watch s.entries s.held numbers) → t ≡ bridge_with H s hash numbers spends.new
+        → IsProved H s b message t
     proved_by hash message t at says next =
         let are = numbers_are s b spends shaped numbers known.each known.passes in
         record {
           passes = passes_by;
           says = says ∙ ap₂ (λ ext ns. written_text ext (message_by H s.watch s.entries s.held ns)) (same_external s b spends shaped) are;
-          next = next ∙ (ap₂ (λ h ns. bridge_with H text s h ns spends.new) at are
-              ∙ ap (bridge_with H text s (block_hash_of b) (own_in s.held (external b s.chain.blocks)).numbers)
+          next = next ∙ (ap₂ (λ h ns. bridge_with H s h ns spends.new) at are
+              ∙ ap (bridge_with H s (block_hash_of b) (own_in s.held (external b s.chain.blocks)).numbers)
               (ap (λ (x : BlockSpends). x.new) shaped.spends));
         }
 

@@ -4,7 +4,7 @@ use Rattle.std.specs.Prelude.{◌==◌, option_map}
 use Rattle.std.specs.List.Sorted.{IsPermutation}
 use Rattle.std.proofs.lemmas.Bool.{false≢true}
 use Rattle.uo_digest.specs.declared.digest.Digest.{Digest}
-use Rattle.leaf_record.specs.Leaf.{Leaf, Rest}
+use Rattle.leaf_record.specs.Leaf.{Rest}
 use Rattle.block_rules.specs.declared.chain.Outside.{Outside}
 use Rattle.proof_wire.specs.BlockProof.{message_text}
 use Rattle.node_rules.specs.Proving.{written_text}
@@ -25,7 +25,7 @@ module _ (s : BridgeState) (rests : List Rest) where
   draft_some [] d some is = absurd (false≢true (sym some))
   draft_some (at ∷ ext) d some is = is
 
-module _ (H : List ℕ → Digest) (text : Leaf → List ℕ) (s : BridgeState) (numbers spent : List ℕ) (rests : List Rest)
+module _ (H : List ℕ → Digest) (s : BridgeState) (numbers spent : List ℕ) (rests : List Rest)
     (held : All (λ i. is_held_live i s.held ≡ true) numbers) (shown : rests ≡ map (λ leaf. leaf.rest) (leaves_in s.held numbers)) where
   pub draft_fits : (ext : List Outside) (draft : Option Draft) → IsDraftOf s ext rests draft → IsDraft s.entries numbers draft
   draft_fits [] draft is = rw is tt
@@ -35,7 +35,7 @@ module _ (H : List ℕ → Digest) (text : Leaf → List ℕ) (s : BridgeState) 
   module _ (few : length s.entries ≤ 2 ^ 40) (live : All (λ i. is_live s.entries i ≡ true) numbers) (perm : IsPermutation numbers spent) where
     message_is : (d : Draft) → IsDraftIn s rests d → drafted H s.entries numbers spent d ≡ message_by H s.watch s.entries s.held numbers
     message_is d is = whole_proof H s.entries few s.held d.kept.targets d.lean numbers spent d.rests live held perm (is.rests ∙ shown)
-        ∙ message_told H text s d.kept.targets is.kept d.lean is.lean numbers
+        ∙ message_told H s d.kept.targets is.kept d.lean is.lean numbers
 
     pub draft_told : (ext : List Outside) (draft : Option Draft) → IsDraftOf s ext rests draft
         → option_map (λ d. message_text (drafted H s.entries numbers spent d)) draft

@@ -8,7 +8,7 @@ use Rattle.std.proofs.lemmas.Option.{none-some, same_Some}
 use Rattle.uo_digest.specs.declared.digest.Digest.{Digest}
 use Rattle.forest_place.specs.declared.place.Place.{Place}
 use Rattle.cache_model.specs.Lists.{AscendByPlace}
-use Rattle.leaf_record.specs.Leaf.{Leaf}
+use Rattle.leaf_record.specs.Leaf.{Leaf, leaf_text}
 use Rattle.leaf_record.specs.History.{History}
 use Rattle.node_rules.specs.Machine.{State}
 use Rattle.node_rules.proofs.Righting.{got}
@@ -55,27 +55,27 @@ module _ (hs : List Held) (us : History) (rise : NumbersRise hs) (index : IsInde
   pub held-history : map (live_leaf hs) (range_with_len 0 (length us)) ≡ us
   held-history = by-index (live_leaf hs) us 0 (λ i lt. ap (live_leaf hs) (let e : 0 + i ≡ i = omega arith in e) ∙ live-leaf i)
 
-pub is_history : (H : List ℕ → Digest) (text : Leaf → List ℕ) (s : BridgeState) (us : History) → IsHistory H text s.entries s.held us
+pub is_history : (H : List ℕ → Digest) (s : BridgeState) (us : History) → IsHistory H s.entries s.held us
     → history_of s ≡ us
-is_history H text s us is =
-    ap (λ n. map (live_leaf s.held) (range_with_len 0 n)) (ap length is.entries_are ∙ length-map us (option_map (λ r. H (text r))))
+is_history H s us is =
+    ap (λ n. map (live_leaf s.held) (range_with_len 0 n)) (ap length is.entries_are ∙ length-map us (option_map (λ r. H (leaf_text r))))
     ∙ held-history s.held us is.rise is.index
 
-pub newest_history : (H : List ℕ → Digest) (text : Leaf → List ℕ) (t : State) (s : BridgeState) → IsBridge H text s → Stands H text t s
-    → IsHistory H text s.entries s.held t.now.history
-newest_history H text t s is stands = record { entries_are = stands.entries; index = stands.index; rise = is.rise }
+pub newest_history : (H : List ℕ → Digest) (t : State) (s : BridgeState) → IsBridge H s → Stands H t s
+    → IsHistory H s.entries s.held t.now.history
+newest_history H t s is stands = record { entries_are = stands.entries; index = stands.index; rise = is.rise }
 
 -- and one that the bridge has
-pub own_history : (H : List ℕ → Digest) (text : Leaf → List ℕ) (s : BridgeState) → IsBridge H text s
-    → IsHistory H text s.entries s.held (history_of s)
-own_history H text s is =
-    let have = newest_history H text is.levels s is is.stands in
-    subst (IsHistory H text s.entries s.held) (sym (is_history H text s is.levels.now.history have)) have
+pub own_history : (H : List ℕ → Digest) (s : BridgeState) → IsBridge H s
+    → IsHistory H s.entries s.held (history_of s)
+own_history H s is =
+    let have = newest_history H is.levels s is is.stands in
+    subst (IsHistory H s.entries s.held) (sym (is_history H s is.levels.now.history have)) have
 
 -- what it knows is what is known under its history
-pub known_so : (H : List ℕ → Digest) (text : Leaf → List ℕ) (s : BridgeState) (known : List (Place × Digest)) → IsBridge H text s
-    → KnowsAsOwn H text s known → AscendByPlace known → AreKnown H text (watched_by s) (history_of s) known
-known_so H text s known is own ascends =
-    subst (λ us. AreKnown H text (watched_by s) us known)
-    (sym (is_history H text s is.levels.now.history (newest_history H text is.levels s is is.stands)))
+pub known_so : (H : List ℕ → Digest) (s : BridgeState) (known : List (Place × Digest)) → IsBridge H s
+    → KnowsAsOwn H s known → AscendByPlace known → AreKnown H (watched_by s) (history_of s) known
+known_so H s known is own ascends =
+    subst (λ us. AreKnown H (watched_by s) us known)
+    (sym (is_history H s is.levels.now.history (newest_history H is.levels s is is.stands)))
     (record { each = own is.levels is.stands; ascend = ascends })

@@ -14,7 +14,7 @@ use Rattle.forest_model.specs.EntryPlace.{entry_place}
 use Rattle.forest_model.specs.Evaluation.{asked}
 use Rattle.forest_model.specs.Right.{entries}
 use Rattle.forest_model.specs.Standing.{digest_at}
-use Rattle.leaf_record.specs.Leaf.{Leaf}
+use Rattle.leaf_record.specs.Leaf.{leaf_text}
 use Rattle.leaf_record.specs.History.{History, somes}
 use Rattle.cache_model.specs.Known.{is_known, kept, kept_places}
 use Rattle.cache_model.specs.Cache.{held}
@@ -43,43 +43,43 @@ use Rattle.bridge_prover.proofs.Rising.{all_mapped}
 
 -- ---- by the history
 
-module _ (H : List ℕ → Digest) (text : Leaf → List ℕ) (hs : List Held) (us : History) (index : IsIndexOf hs us) where
-  long : length (entries H text us) ≡ length us
-  long = length-map us (option_map (λ r. H (text r)))
+module _ (H : List ℕ → Digest) (hs : List Held) (us : History) (index : IsIndexOf hs us) where
+  long : length (entries H leaf_text us) ≡ length us
+  long = length-map us (option_map (λ r. H (leaf_text r)))
 
-  places_same : (scripts : List (List ℕ)) → places_in (entries H text us) (kept_in scripts hs) ≡ kept_places H text scripts us
-  places_same scripts = ap (places_in (entries H text us)) (kept_same scripts hs us index)
-      ∙ somes-found (entry_place (entries H text us)) (kept scripts us)
+  places_same : (scripts : List (List ℕ)) → places_in (entries H leaf_text us) (kept_in scripts hs) ≡ kept_places H scripts us
+  places_same scripts = ap (places_in (entries H leaf_text us)) (kept_same scripts hs us index)
+      ∙ somes-found (entry_place (entries H leaf_text us)) (kept scripts us)
 
-  pub known_same : (watch : Option (List (List ℕ))) → known_in H watch (entries H text us) hs ≡ known_for H text watch us
+  pub known_same : (watch : Option (List (List ℕ))) → known_in H watch (entries H leaf_text us) hs ≡ known_for H watch us
   known_same None = refl
   known_same (Some scripts) =
       let by : ℕ → List Place → ℕ → ℕ → Option Digest =
-      λ n ps row off. if is_known n ps (record { row = row; off = off }) then digest_at H (entries H text us) row off else None in
+      λ n ps row off. if is_known n ps (record { row = row; off = off }) then digest_at H (entries H leaf_text us) row off else None in
       ap₂ by long (places_same scripts)
 
-  list_same : (scripts : List (List ℕ)) → IsCacheOf H text scripts us (kept_leaves H text scripts us) (known_list H scripts (entries H text us) hs)
-  list_same scripts = record { of_kept = refl; of_held = ap (held H (entries H text us)) (places_same scripts) }
+  list_same : (scripts : List (List ℕ)) → IsCacheOf H scripts us (kept_leaves H scripts us) (known_list H scripts (entries H leaf_text us) hs)
+  list_same scripts = record { of_kept = refl; of_held = ap (held H (entries H leaf_text us)) (places_same scripts) }
 
-module _ (H : List ℕ → Digest) (text : Leaf → List ℕ) (s : BridgeState) (t : State) (stands : Stands H text t s) where
+module _ (H : List ℕ → Digest) (s : BridgeState) (t : State) (stands : Stands H t s) where
   -- it is that of a cache
-  as_cache : IsCacheOf H text (scripts_of s.watch) t.now.history (kept_leaves H text (scripts_of s.watch) t.now.history)
+  as_cache : IsCacheOf H (scripts_of s.watch) t.now.history (kept_leaves H (scripts_of s.watch) t.now.history)
       (known_list H (scripts_of s.watch) s.entries s.held)
   as_cache =
       let us = t.now.history in
       let scripts = scripts_of s.watch in
-      subst (λ es. IsCacheOf H text scripts us (kept_leaves H text scripts us) (known_list H scripts es s.held)) (sym stands.entries)
-      (list_same H text s.held us stands.index scripts)
+      subst (λ es. IsCacheOf H scripts us (kept_leaves H scripts us) (known_list H scripts es s.held)) (sym stands.entries)
+      (list_same H s.held us stands.index scripts)
 
 pub known_is_own : KnownIsOwn
-known_is_own H text s is = (
-  λ t stands row off. known_is H text (scripts_of s.watch) t.now.history _ _ (as_cache H text s t stands) row off,
-  (is_ordered H text (scripts_of s.watch) is.levels.now.history _ _ (as_cache H text s is.levels is.stands)).1,
+known_is_own H s is = (
+  λ t stands row off. known_is H (scripts_of s.watch) t.now.history _ _ (as_cache H s t stands) row off,
+  (is_ordered H (scripts_of s.watch) is.levels.now.history _ _ (as_cache H s is.levels is.stands)).1,
 )
 
 -- ---- what the calls ask for
 
-module _ (H : List ℕ → Digest) (text : Leaf → List ℕ) (s : BridgeState) (is : IsBridge H text s) where
+module _ (H : List ℕ → Digest) (s : BridgeState) (is : IsBridge H s) where
   -- what is live in the index is live in the forest
   pub lives_stand : (i : ℕ) → is_live i s.held ≡ true → forest.is_live s.entries i ≡ true
   lives_stand i live =
@@ -92,8 +92,8 @@ module _ (H : List ℕ → Digest) (text : Leaf → List ℕ) (s : BridgeState) 
       by None h e = absurd (false≢true h)
       by (Some x) h e =
           ap (λ es. is_some (get_or es i None)) is.stands.entries
-          ∙ ap is_some (got_entry (λ r. H (text r)) is.levels.now.history i
-          ∙ ap (option_map (λ r. H (text r))) (got_back is.levels.now.history i x.leaf (sym e)))
+          ∙ ap is_some (got_entry (λ r. H (leaf_text r)) is.levels.now.history i
+          ∙ ap (option_map (λ r. H (leaf_text r))) (got_back is.levels.now.history i x.leaf (sym e)))
 
   module _ (numbers : List ℕ) (noted : numbers ≡ noted_in (scripts_of s.watch) s.held) where
     pub lives_are : filter (λ i. is_live i s.held) numbers ≡ kept_in (scripts_of s.watch) s.held
@@ -182,16 +182,16 @@ module _ (H : List ℕ → Digest) (es : List (Option Digest)) where
 
 -- ---- what the calls answer
 
-module _ (H : List ℕ → Digest) (text : Leaf → List ℕ) (s : BridgeState) where
+module _ (H : List ℕ → Digest) (s : BridgeState) where
   -- the targets of what is watched
-  pub kept_found : {E : Type 0} (inner : BridgeState) → inner ≡ s → IsBridge H text inner → (numbers : List ℕ)
+  pub kept_found : {E : Type 0} (inner : BridgeState) → inner ≡ s → IsBridge H inner → (numbers : List ℕ)
       → numbers ≡ noted_in (scripts_of inner.watch) inner.held → (r : Result Targeted E) →
       IfOk r (λ t. t.targets ≡ places_in inner.entries (filter (λ i. is_live i inner.held) numbers))
       → IfOk r (λ t. t.targets ≡ places_in s.entries (kept_in (scripts_of s.watch) s.held))
   kept_found inner same is numbers noted r =
       IfOk-weaker r (λ (t : Targeted). t.targets ≡ places_in inner.entries (filter (λ i. is_live i inner.held) numbers))
       (λ (t : Targeted). t.targets ≡ places_in s.entries (kept_in (scripts_of s.watch) s.held))
-      (λ (t : Targeted) e. e ∙ (ap (places_in inner.entries) (lives_are H text inner is numbers noted)
+      (λ (t : Targeted) e. e ∙ (ap (places_in inner.entries) (lives_are H inner is numbers noted)
       ∙ ap (λ (x : BridgeState). places_in x.entries (kept_in (scripts_of x.watch) x.held)) same))
 
   -- the message

@@ -10,7 +10,7 @@ use Rattle.std.proofs.lemmas.List.Elements.{filter_map-append}
 use Rattle.uo_digest.specs.declared.digest.Digest.{Digest}
 use Rattle.forest_place.specs.declared.place.Place.{Place}
 use Rattle.forest_place.specs.Forest.{InForest, is_root, sibling_off}
-use Rattle.forest_place.specs.Places.{is_at, has_place, places, IsBefore, IsAscending}
+use Rattle.forest_place.specs.Places.{is_at, has_place, places, IsBefore, IsAscending, is_before_place}
 use Rattle.forest_place.proofs.Listed.{is_at-same, filter_has, filter_had, places_have, places_had}
 use Rattle.forest_place.proofs.Ascending.{ascending-filter, places_ascending, same_ascending}
 use Rattle.forest_model.specs.Cover.{cover, is_needed, need}
@@ -18,7 +18,6 @@ use Rattle.forest_model.specs.Standing.{digest_at}
 use Rattle.forest_model.proofs.Lists.{need_had}
 use Rattle.cache_model.specs.Known.{is_known}
 use Rattle.cache_model.specs.Cache.{held}
-use Rattle.cache_model.specs.Undo.{is_before_place}
 use Rattle.proof_shape.specs.Survey.{IsCoverOf}
 use Rattle.proof_shape.proofs.Needing.{ascending_from_rises}
 use Rattle.proof_shape.proofs.Ordered.{has_at}

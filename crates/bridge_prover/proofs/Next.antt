@@ -10,7 +10,7 @@ use Rattle.uo_digest.specs.declared.digest.Digest.{Digest}
 use Rattle.forest_model.specs.Right.{entries}
 use Rattle.forest_model.specs.Deletion.{entries_without}
 use Rattle.block_codec.specs.Block.{Block}
-use Rattle.leaf_record.specs.Leaf.{Leaf}
+use Rattle.leaf_record.specs.Leaf.{Leaf, leaf_text}
 use Rattle.leaf_record.specs.History.{History, spent}
 use Rattle.block_rules.specs.declared.chain.Chain.{Chain}
 use Rattle.block_rules.specs.declared.refusal.Refusal.TheVariants as Why
@@ -40,13 +40,13 @@ use Rattle.bridge_prover.proofs.Giving.{length-spent, length-after, differ_from,
 use Rattle.bridge_prover.proofs.Giving.{give_forgotten, spent_there, index-forgotten}
 
 -- the bridge stands for these levels, and its index is in order
-pub record IsAt (H : List ℕ → Digest) (text : Leaf → List ℕ) (t : State) (s : BridgeState) : Type 0 where
-  pub stands : Stands H text t s
+pub record IsAt (H : List ℕ → Digest) (t : State) (s : BridgeState) : Type 0 where
+  pub stands : Stands H t s
   pub below : IsAbove s.chain.leaves s.held
   pub rise : NumbersRise s.held
 
-pub at_level : (H : List ℕ → Digest) (text : Leaf → List ℕ) (t : State) (s : BridgeState) → IsBridge H text s → Stands H text t s → IsAt H text t s
-at_level H text t s is stands = record { stands = stands; below = is.below; rise = is.rise }
+pub at_level : (H : List ℕ → Digest) (t : State) (s : BridgeState) → IsBridge H s → Stands H t s → IsAt H t s
+at_level H t s is stands = record { stands = stands; below = is.below; rise = is.rise }
 
 -- ---- lists
 
@@ -101,10 +101,10 @@ map_twice f g [] = refl
 map_twice f g (x ∷ xs) = ap (λ ys. g (f x) ∷ ys) (map_twice f g xs)
 
 -- the entries after a block
-pub entries-then : (H : List ℕ → Digest) (text : Leaf → List ℕ) (us : History) (ns : List ℕ) (new : List Leaf)
-    → entries_without ns (entries H text us) ++ map Some (map (λ leaf. H (text leaf)) new) ≡ entries H text (history_after us ns new)
-entries-then H text us ns new = ap (λ xs. entries_without ns (entries H text us) ++ xs) (sym (map_twice (λ leaf. H (text leaf)) Some new))
-    ∙ sym (entries-after H text us ns new)
+pub entries-then : (H : List ℕ → Digest) (us : History) (ns : List ℕ) (new : List Leaf)
+    → entries_without ns (entries H leaf_text us) ++ map Some (map (λ leaf. H (leaf_text leaf)) new) ≡ entries H leaf_text (history_after us ns new)
+entries-then H us ns new = ap (λ xs. entries_without ns (entries H leaf_text us) ++ xs) (sym (map_twice (λ leaf. H (leaf_text leaf)) Some new))
+    ∙ sym (entries-after H us ns new)
 
 -- ---- the room for a block
 
@@ -124,7 +124,7 @@ room rules chain b e h = room_before rules chain b
 
 -- ---- a block that spends some live entries, and adds some
 
-module _ (H : List ℕ → Digest) (text : Leaf → List ℕ) (t : State) (s : BridgeState) (at : IsAt H text t s) (ns : List ℕ) (new : List Leaf)
+module _ (H : List ℕ → Digest) (t : State) (s : BridgeState) (at : IsAt H t s) (ns : List ℕ) (new : List Leaf)
     (live : AllByRecursion (IsLiveIn t.now.history) ns) (differ : AllPairs (λ i j. i ≢ j) ns) where
   abbrev us : History
   us = t.now.history
@@ -169,7 +169,7 @@ module _ (H : List ℕ → Digest) (text : Leaf → List ℕ) (t : State) (s : B
     level = record { blocks = suc t.now.blocks; tip = hash; history = after }
 
     abbrev then : BridgeState
-    then = bridge_with H text s hash ns new
+    then = bridge_with H s hash ns new
 
     back : Undoes (record_of s.chain ns) level t.now
     back = record { chain = at.stands.chain; next = refl; new = new; after = refl; live = live; apart = differ }
@@ -181,35 +181,35 @@ module _ (H : List ℕ → Digest) (text : Leaf → List ℕ) (t : State) (s : B
       give_held s.held held (length us) (λ i leaf lt e. still i leaf e) t.now t.older s.undo (omega arith) at.stands.undo,
     )
 
-    stands-then : Stands H text (record { now = level; older = take 100 (t.now ∷ t.older) }) then
+    stands-then : Stands H (record { now = level; older = take 100 (t.now ∷ t.older) }) then
     stands-then = record {
       chain = ap (λ (c : Chain). (let d : Chain = record { blocks = suc c.blocks; tip = hash; leaves = c.leaves + length new } in d)) at.stands.chain
           ∙ ap (λ n. (let d : Chain = record { blocks = suc t.now.blocks; tip = hash; leaves = n } in d)) (sym (length-after us ns new));
-      entries = ap (λ es. entries_without ns es ++ map Some (map (λ leaf. H (text leaf)) new)) at.stands.entries ∙ entries-then H text us ns new;
+      entries = ap (λ es. entries_without ns es ++ map Some (map (λ leaf. H (leaf_text leaf)) new)) at.stands.entries ∙ entries-then H us ns new;
       index = index-forgotten (dropped s.undo) held after rise old_spent (differ_from (dropped s.undo) old.1) index;
       undo = give_forgotten (dropped s.undo) held level (take 100 (t.now ∷ t.older)) (take 100 (record_of s.chain ns ∷ s.undo)) old_gone
           (give_taken 100 held level (t.now ∷ t.older) (record_of s.chain ns ∷ s.undo) all_back);
     }
 
-    pub at-then : IsAt H text (record { now = level; older = take 100 (t.now ∷ t.older) }) then
+    pub at-then : IsAt H (record { now = level; older = take 100 (t.now ∷ t.older) }) then
     at-then = record {
       stands = stands-then;
       below = above-forgotten _ (dropped s.undo) held (above-spent _ ns _ (above-numbered s.chain.leaves new s.held at.below));
       rise = rise-forgotten (dropped s.undo) held rise;
     }
 
-module _ (H : List ℕ → Digest) (text : Leaf → List ℕ) (s : BridgeState) (is : IsBridge H text s) (ns : List ℕ) (new : List Leaf)
+module _ (H : List ℕ → Digest) (s : BridgeState) (is : IsBridge H s) (ns : List ℕ) (new : List Leaf)
     (live : AllByRecursion (IsLiveIn is.levels.now.history) ns) (differ : AllPairs (λ i j. i ≢ j) ns)
     (fits : (s.chain.blocks < 2 ^ 31) × (s.chain.leaves + length new ≤ s.rules.limits.leaves)) (hash : Digest) where
   abbrev t : State
   t = is.levels
 
-  abbrev here : IsAt H text t s
-  here = at_level H text t s is is.stands
+  abbrev here : IsAt H t s
+  here = at_level H t s is is.stands
 
-  pub there : IsBridge H text (bridge_with H text s hash ns new)
+  pub there : IsBridge H (bridge_with H s hash ns new)
   there =
-      let at = at-then H text t s here ns new live differ hash in
+      let at = at-then H t s here ns new live differ hash in
       record {
         low = omega (arith, fits.0);
         within = fits.1;
@@ -229,11 +229,11 @@ module _ (H : List ℕ → Digest) (text : Leaf → List ℕ) (s : BridgeState) 
   live-entries =
       let us = t.now.history in
       subst (λ es. AllByRecursion (λ n. forest.is_live es n ≡ true) ns) (sym is.stands.entries)
-      (all_mapped (IsLiveIn us) (λ n. forest.is_live (entries H text us) n ≡ true)
-      (λ n w. ap is_some (got_entry (λ r. H (text r)) us n ∙ ap (option_map (λ r. H (text r))) (got_back us n w.0 w.1))) ns live)
+      (all_mapped (IsLiveIn us) (λ n. forest.is_live (entries H leaf_text us) n ≡ true)
+      (λ n w. ap is_some (got_entry (λ r. H (leaf_text r)) us n ∙ ap (option_map (λ r. H (leaf_text r))) (got_back us n w.0 w.1))) ns live)
 
   -- it may be taken
-  pub can_take : length ns < 2 ^ 32 → IsReady H text s hash ns new
+  pub can_take : length ns < 2 ^ 32 → IsReady H s hash ns new
   can_take short = record {
     live = all_index _ _ live-entries;
     held = all_index _ _ live-held;
@@ -242,27 +242,27 @@ module _ (H : List ℕ → Digest) (text : Leaf → List ℕ) (s : BridgeState) 
     counted = ap length is.stands.entries ∙ (length-map t.now.history _ ∙ sym (ap (λ (c : Chain). c.leaves) is.stands.chain));
     few = omega (arith, fits.1, is.few);
     low = fits.0;
-    old = all_index _ _ (old_spent H text t s here ns new live differ);
-    old_apart = (old H text t s here ns new live differ).1;
+    old = all_index _ _ (old_spent H t s here ns new live differ);
+    old_apart = (old H t s here ns new live differ).1;
     next = there;
   }
 
 -- ---- a block that breaks no rule
 
-module _ (H : List ℕ → Digest) (text : Leaf → List ℕ) (t : State) (s : BridgeState) (at : IsAt H text t s) (b : Block)
+module _ (H : List ℕ → Digest) (t : State) (s : BridgeState) (at : IsAt H t s) (b : Block)
     (passes : refusal s.rules s.chain b (own t.now.history (external b s.chain.blocks)) ≡ None) where
   pub own_live : AllByRecursion (IsLiveIn t.now.history) (own t.now.history (external b s.chain.blocks)).numbers
-  own_live = live_each s.held t.now.history at.rise at.stands.index H text s.rules s.chain b passes
+  own_live = live_each s.held t.now.history at.rise at.stands.index H s.rules s.chain b passes
 
   pub own_apart : AllPairs (λ i j. i ≢ j) (own t.now.history (external b s.chain.blocks)).numbers
-  own_apart = apart s.held t.now.history at.rise at.stands.index H text s.rules s.chain b passes
+  own_apart = apart s.held t.now.history at.rise at.stands.index H s.rules s.chain b passes
 
-module _ (H : List ℕ → Digest) (text : Leaf → List ℕ) (s : BridgeState) (b : Block) (is : IsBridge H text s) (passes : refusal_on s b ≡ None) where
+module _ (H : List ℕ → Digest) (s : BridgeState) (b : Block) (is : IsBridge H s) (passes : refusal_on s b ≡ None) where
   abbrev was : State
   was = is.levels
 
-  abbrev stood : IsAt H text was s
-  stood = at_level H text was s is is.stands
+  abbrev stood : IsAt H was s
+  stood = at_level H was s is is.stands
 
   same : own_in s.held (external b s.chain.blocks) ≡ own was.now.history (external b s.chain.blocks)
   same = own_same s.held was.now.history is.rise is.stands.index (external b s.chain.blocks)
@@ -278,24 +278,24 @@ module _ (H : List ℕ → Digest) (text : Leaf → List ℕ) (s : BridgeState) 
 
   -- a block that passes may be taken
   pub ready : (hash : Digest) (numbers' : List ℕ) → numbers' ≡ (own_in s.held (external b s.chain.blocks)).numbers → length numbers' < 2 ^ 32
-      → IsReady H text s hash numbers' (new_records b s.chain.blocks)
+      → IsReady H s hash numbers' (new_records b s.chain.blocks)
   ready hash numbers' e short =
       let ns = (own was.now.history (external b s.chain.blocks)).numbers in
       let short' : length ns < 2 ^ 32 = subst (λ xs. length xs < 2 ^ 32) (e ∙ numbers) short in
-      subst (λ xs. IsReady H text s hash xs (new_records b s.chain.blocks)) (sym (e ∙ numbers))
-      (can_take H text s is ns (new_records b s.chain.blocks) (own_live H text was s stood b by_history) (own_apart H text was s stood b by_history)
+      subst (λ xs. IsReady H s hash xs (new_records b s.chain.blocks)) (sym (e ∙ numbers))
+      (can_take H s is ns (new_records b s.chain.blocks) (own_live H was s stood b by_history) (own_apart H was s stood b by_history)
       fits hash short')
 
-  pub next_is : (hash : Digest) → IsBridge H text
-      (bridge_with H text s hash (own_in s.held (external b s.chain.blocks)).numbers (new_records b s.chain.blocks))
+  pub next_is : (hash : Digest) → IsBridge H
+      (bridge_with H s hash (own_in s.held (external b s.chain.blocks)).numbers (new_records b s.chain.blocks))
   next_is hash =
-      subst (λ xs. IsBridge H text (bridge_with H text s hash xs (new_records b s.chain.blocks))) (sym numbers)
-      (there H text s is (own was.now.history (external b s.chain.blocks)).numbers (new_records b s.chain.blocks)
-      (own_live H text was s stood b by_history) (own_apart H text was s stood b by_history) fits hash)
+      subst (λ xs. IsBridge H (bridge_with H s hash xs (new_records b s.chain.blocks))) (sym numbers)
+      (there H s is (own was.now.history (external b s.chain.blocks)).numbers (new_records b s.chain.blocks)
+      (own_live H was s stood b by_history) (own_apart H was s stood b by_history) fits hash)
 
 -- what the calls leave that take a block is again what a bridge keeps
-module _ (H : List ℕ → Digest) (text : Leaf → List ℕ) (inner s : BridgeState) (same : inner ≡ s) (hash : Digest) (ns : List ℕ) (new : List Leaf)
-    (next : IsBridge H text (bridge_with H text s hash ns new)) where
+module _ (H : List ℕ → Digest) (inner s : BridgeState) (same : inner ≡ s) (hash : Digest) (ns : List ℕ) (new : List Leaf)
+    (next : IsBridge H (bridge_with H s hash ns new)) where
   abbrev made : ℕ → ℕ → List (Option Digest) → List Held → List UndoRecord → BridgeState
   made blocks count es hs undo = record {
     rules = inner.rules;
@@ -308,21 +308,21 @@ module _ (H : List ℕ → Digest) (text : Leaf → List ℕ) (inner s : BridgeS
   }
 
   pub extended_is : (count : ℕ) (es : List (Option Digest)) (hs : List Held) (undo : List UndoRecord) → count ≡ length new
-      → es ≡ (bridge_with H text inner hash ns new).entries → hs ≡ (bridge_with H text inner hash ns new).held
-      → undo ≡ (bridge_with H text inner hash ns new).undo →
-      made (inner.chain.blocks + 1) count es hs undo ≡ bridge_with H text s hash ns new
+      → es ≡ (bridge_with H inner hash ns new).entries → hs ≡ (bridge_with H inner hash ns new).held
+      → undo ≡ (bridge_with H inner hash ns new).undo →
+      made (inner.chain.blocks + 1) count es hs undo ≡ bridge_with H s hash ns new
   extended_is count es hs undo c e h u =
       let blocks : inner.chain.blocks + 1 ≡ suc inner.chain.blocks = omega arith in
-      let after = bridge_with H text inner hash ns new in
+      let after = bridge_with H inner hash ns new in
       let whole : made (inner.chain.blocks + 1) count es hs undo ≡ after =
       ap (λ n. made n count es hs undo) blocks ∙ (ap (λ n. made (suc inner.chain.blocks) n es hs undo) c
       ∙ (ap (λ x. made (suc inner.chain.blocks) (length new) x hs undo) e
       ∙ (ap (λ x. made (suc inner.chain.blocks) (length new) after.entries x undo) h
       ∙ ap (λ x. made (suc inner.chain.blocks) (length new) after.entries after.held x) u))) in
-      whole ∙ ap (λ (x : BridgeState). bridge_with H text x hash ns new) same
+      whole ∙ ap (λ (x : BridgeState). bridge_with H x hash ns new) same
 
   pub extended_like : (count : ℕ) (es : List (Option Digest)) (hs : List Held) (undo : List UndoRecord) → count ≡ length new
-      → es ≡ (bridge_with H text inner hash ns new).entries → hs ≡ (bridge_with H text inner hash ns new).held
-      → undo ≡ (bridge_with H text inner hash ns new).undo →
-      IsBridge H text (made (inner.chain.blocks + 1) count es hs undo)
-  extended_like count es hs undo c e h u = subst (IsBridge H text) (sym (extended_is count es hs undo c e h u)) next
+      → es ≡ (bridge_with H inner hash ns new).entries → hs ≡ (bridge_with H inner hash ns new).held
+      → undo ≡ (bridge_with H inner hash ns new).undo →
+      IsBridge H (made (inner.chain.blocks + 1) count es hs undo)
+  extended_like count es hs undo c e h u = subst (IsBridge H) (sym (extended_is count es hs undo c e h u)) next

@@ -16,7 +16,7 @@ use Rattle.forest_model.specs.Evaluation.{asked}
 use Rattle.forest_model.specs.Right.{entries}
 use Rattle.forest_model.proofs.Lists.{need_ascending}
 use Rattle.forest_model.proofs.Unique.{tree_at-leaves}
-use Rattle.leaf_record.specs.Leaf.{Rest, Leaf}
+use Rattle.leaf_record.specs.Leaf.{Rest, Leaf, leaf_text}
 use Rattle.leaf_record.specs.History.{somes, History}
 use Rattle.proof_wire.specs.BlockProof.{rests_of}
 use Rattle.proof_shape.specs.Targeted.{Targeted}
@@ -169,15 +169,15 @@ module _ (f there : Place → Option Digest) (knows : (p : Place) (d : Digest) �
 
 -- ---- by the history
 
-module _ (H : List ℕ → Digest) (text : Leaf → List ℕ) (hs : List Held) (us : History) (rise : NumbersRise hs) (index : IsIndexOf hs us) where
+module _ (H : List ℕ → Digest) (hs : List Held) (us : History) (rise : NumbersRise hs) (index : IsIndexOf hs us) where
   abbrev es : List (Option Digest)
-  es = entries H text us
+  es = entries H leaf_text us
 
   -- the output of a live entry is the one that is held
   leaf-same : (i : ℕ) (d : Digest) → get_or es i None ≡ Some d → leaf_at i hs ≡ get_or us i None
-  leaf-same i d e = by (get_or us i None) refl (sym (got_entry (λ r. H (text r)) us i) ∙ e)
+  leaf-same i d e = by (get_or us i None) refl (sym (got_entry (λ r. H (leaf_text r)) us i) ∙ e)
     where
-      by : (u : Option Leaf) → get_or us i None ≡ u → option_map (λ r. H (text r)) u ≡ Some d → leaf_at i hs ≡ u
+      by : (u : Option Leaf) → get_or us i None ≡ u → option_map (λ r. H (leaf_text r)) u ≡ Some d → leaf_at i hs ≡ u
       by None e f = absurd (none-some d f)
       by (Some r) e f = (there_is_live i r hs us rise index (got us i r e)).1
 
@@ -185,7 +185,7 @@ module _ (H : List ℕ → Digest) (text : Leaf → List ℕ) (hs : List Held) (
   is_some-if i true = refl
   is_some-if i false = refl
 
-  shown-same : (p : Place) (claim : Leaf) → is_some (shown_at es hs p claim) ≡ stands_for H text us (Some p) claim
+  shown-same : (p : Place) (claim : Leaf) → is_some (shown_at es hs p claim) ≡ stands_for H us (Some p) claim
   shown-same p claim = by (tree_at es p.row p.off) refl
     where
       by : (x : Option Tree) → tree_at es p.row p.off ≡ x → is_some (shown_by hs claim (leaf_number x)) ≡ is_live us claim (leaf_number x)
@@ -203,7 +203,7 @@ module _ (H : List ℕ → Digest) (text : Leaf → List ℕ) (hs : List Held) (
   shown-number claim i (Some j) e = if-some i j (is_leaf claim (leaf_at j hs)) e
 
   all-shown : (ts : List Place) (claims : List Leaf) (ns : List ℕ) → length ts ≡ length claims → map Some ns ≡ shown_all es hs ts claims →
-      (all_stand H text us (map Some ts) claims ≡ true) × (ns ≡ somes (map (entry_number_at es) ts))
+      (all_stand H us (map Some ts) claims ≡ true) × (ns ≡ somes (map (entry_number_at es) ts))
   all-shown [] [] [] long e = (refl, refl)
   all-shown [] [] (n ∷ ns) long e = absurd (cc)
   all-shown [] (c ∷ claims) ns long e = absurd (omega (arith, long))
@@ -214,7 +214,7 @@ module _ (H : List ℕ → Digest) (text : Leaf → List ℕ) (hs : List Held) (
       let tail : map Some ns ≡ shown_all es hs ts claims = cc in
       let rest = all-shown ts claims ns (omega (arith, long)) tail in
       let number : entry_number_at es p ≡ Some n = shown-number c n (entry_number_at es p) (sym head) in (
-        and_from (stands_for H text us (Some p) c) (all_stand H text us (map Some ts) claims) (sym (shown-same p c) ∙ ap is_some (sym head)) rest.0,
+        and_from (stands_for H us (Some p) c) (all_stand H us (map Some ts) claims) (sym (shown-same p c) ∙ ap is_some (sym head)) rest.0,
         ap (λ xs. n ∷ xs) rest.1 ∙ ap (λ x. somes (x ∷ map (entry_number_at es) ts)) (sym number),
       )
 
@@ -223,12 +223,12 @@ module _ (H : List ℕ → Digest) (text : Leaf → List ℕ) (hs : List Held) (
   and-false false b e = refl
 
   one-missing : (ts : List Place) (claims : List Leaf) (i : ℕ) → slice_get (shown_all es hs ts claims) i ≡ Some None → length ts ≡ length claims
-      → all_stand H text us (map Some ts) claims ≡ false
+      → all_stand H us (map Some ts) claims ≡ false
   one-missing [] claims i e long = absurd (none-some None e)
   one-missing (p ∷ ts) [] i e long = absurd (none-some None e)
   one-missing (p ∷ ts) (c ∷ claims) zero e long =
-      ap (λ x. x && all_stand H text us (map Some ts) claims) (sym (shown-same p c) ∙ ap is_some (same_Some _ None e))
-  one-missing (p ∷ ts) (c ∷ claims) (suc i) e long = and-false (stands_for H text us (Some p) c) _ (one-missing ts claims i e (omega (arith, long)))
+      ap (λ x. x && all_stand H us (map Some ts) claims) (sym (shown-same p c) ∙ ap is_some (same_Some _ None e))
+  one-missing (p ∷ ts) (c ∷ claims) (suc i) e long = and-false (stands_for H us (Some p) c) _ (one-missing ts claims i e (omega (arith, long)))
 
   module _ (ext : List Outside) (m : Message) (t : Targeted) (count : length m.proof.spends ≡ length ext) (are : AreNamed (length us) m t)
       (scripts : List (List ℕ)) where
@@ -239,7 +239,7 @@ module _ (H : List ℕ → Digest) (text : Leaf → List ℕ) (hs : List Held) (
     shown = shown_all es hs t.targets claims
 
     abbrev known : ℕ → ℕ → Option Digest
-    known = known_to m.lean (known_at H text scripts us)
+    known = known_to m.lean (known_at H scripts us)
 
     abbrev stands : Place → Option Digest
     stands p = digest_at H es p.row p.off
@@ -251,11 +251,11 @@ module _ (H : List ℕ → Digest) (text : Leaf → List ℕ) (hs : List Held) (
     targets-are : targets (length us) m ≡ t.targets
     targets-are = ap somes are.places ∙ somes-map t.targets
 
-    right-is : is_right_message H text scripts us ext (read m)
-        ≡ (all_stand H text us (map Some t.targets) claims && same_digests m.proof.hashes given)
+    right-is : is_right_message H scripts us ext (read m)
+        ≡ (all_stand H us (map Some t.targets) claims && same_digests m.proof.hashes given)
     right-is =
         ap₂ (λ (a b : Bool). a && b) (eq-eqb (length m.proof.spends) (length (points_of ext)) (count ∙ sym (length-map ext point_of)))
-        (ap (λ xs. all_stand H text us xs claims && same_digests m.proof.hashes given) are.places)
+        (ap (λ xs. all_stand H us xs claims && same_digests m.proof.hashes given) are.places)
 
     long : length t.targets ≡ length claims
     long =
@@ -263,15 +263,15 @@ module _ (H : List ℕ → Digest) (text : Leaf → List ℕ) (hs : List Held) (
         ∙ (length-map _ _ ∙ (length-map m.proof.spends (λ s. s.target)
         ∙ (count ∙ sym (claims-long ext (rests_of m.proof.spends) (length-map m.proof.spends (λ s. s.rest) ∙ count))))))
 
-    pub entry-missing : (i : ℕ) → slice_get shown i ≡ Some None → is_right_message H text scripts us ext (read m) ≡ false
+    pub entry-missing : (i : ℕ) → slice_get shown i ≡ Some None → is_right_message H scripts us ext (read m) ≡ false
     entry-missing i e = right-is ∙ ap (λ b. b && same_digests m.proof.hashes given) (one-missing t.targets claims i e long)
 
-    module _ (hashes : List Digest) (full : AreHashes m t (known_at H text scripts us) hashes) where
+    module _ (hashes : List Digest) (full : AreHashes m t (known_at H scripts us) hashes) where
       abbrev f : Place → Option Digest
       f p = known p.row p.off
 
       knows : (p : Place) (d : Digest) → f p ≡ Some d → stands p ≡ Some d
-      knows p d e = known_is H text scripts us m.lean p.row p.off d e
+      knows p d e = known_is H scripts us m.lean p.row p.off d e
 
       hashes-are : hashes ≡ filled m.proof.hashes 0 (map f (need t.leaves t.targets))
       hashes-are = full.hashes_are H ∙ sym (filled_is (H []) f (need t.leaves t.targets) m.proof.hashes 0
@@ -289,14 +289,14 @@ module _ (H : List ℕ → Digest) (text : Leaf → List ℕ) (hs : List Held) (
           (e ∙ sym (ap (map stands) asked-are))
 
       pub is-right : (ns : List ℕ) → map Some ns ≡ shown → map Some hashes ≡ map stands (need t.leaves t.targets)
-          → (is_right_message H text scripts us ext (read m) ≡ true) × (ns ≡ judging.entries_shown H text us (read m))
+          → (is_right_message H scripts us ext (read m) ≡ true) × (ns ≡ judging.entries_shown H us (read m))
       is-right ns e there =
           let all = all-shown t.targets claims ns long e in (
             right-is ∙ and_from _ _ all.0 (subst (λ xs. same_digests m.proof.hashes xs ≡ true) (all-given there) (digests_back m.proof.hashes)),
             all.1 ∙ ap (λ ts. somes (map (entry_number_at es) ts)) (sym targets-are),
           )
 
-      pub hash-missing : (map Some hashes ≡ map stands (need t.leaves t.targets) → ⊥) → is_right_message H text scripts us ext (read m) ≡ false
+      pub hash-missing : (map Some hashes ≡ map stands (need t.leaves t.targets) → ⊥) → is_right_message H scripts us ext (read m) ≡ false
       hash-missing differ = right-is ∙ and-false _ _ (by (same_digests m.proof.hashes given) refl)
         where
           by : (b : Bool) → same_digests m.proof.hashes given ≡ b → same_digests m.proof.hashes given ≡ false
@@ -305,37 +305,37 @@ module _ (H : List ℕ → Digest) (text : Leaf → List ℕ) (hs : List Held) (
 
 -- ---- as the calls answer it
 
-module _ (H : List ℕ → Digest) (text : Leaf → List ℕ) (es' : List (Option Digest)) (hs : List Held) (us : History) (scripts : List (List ℕ))
-    (h : IsHistory H text es' hs us) (ext : List Outside) (m : Message) (t : Targeted)
+module _ (H : List ℕ → Digest) (es' : List (Option Digest)) (hs : List Held) (us : History) (scripts : List (List ℕ))
+    (h : IsHistory H es' hs us) (ext : List Outside) (m : Message) (t : Targeted)
     (count : length m.proof.spends ≡ length ext) (are : AreNamed (length es') m t) (places : List Place) (at : places ≡ t.targets) where
   entries-long : length es' ≡ length us
-  entries-long = ap length h.entries_are ∙ length-map us (option_map (λ r. H (text r)))
+  entries-long = ap length h.entries_are ∙ length-map us (option_map (λ r. H (leaf_text r)))
 
   named-so : AreNamed (length us) m t
   named-so = subst (λ n. AreNamed n m t) entries-long are
 
   shown-so : shown_all es' hs places (claimed (points_of ext) (rests_of m.proof.spends))
-      ≡ shown_all (entries H text us) hs t.targets (claimed (points_of ext) (rests_of m.proof.spends))
+      ≡ shown_all (entries H leaf_text us) hs t.targets (claimed (points_of ext) (rests_of m.proof.spends))
   shown-so = ap₂ (λ x ps. shown_all x hs ps (claimed (points_of ext) (rests_of m.proof.spends))) h.entries_are at
 
   pub none_shown : (x : Option (Vec ℕ)) → x ≡ None → AreShown (shown_all es' hs places (claimed (points_of ext) (rests_of m.proof.spends))) x
-      → is_right_message H text scripts us ext (read m) ≡ false
+      → is_right_message H scripts us ext (read m) ≡ false
   none_shown x e a =
       let b = subst (AreShown (shown_all es' hs places (claimed (points_of ext) (rests_of m.proof.spends)))) e a in
-      entry-missing H text hs us h.rise h.index ext m t count named-so scripts b.0 (ap (λ xs. slice_get xs b.0) (sym shown-so) ∙ b.1)
+      entry-missing H hs us h.rise h.index ext m t count named-so scripts b.0 (ap (λ xs. slice_get xs b.0) (sym shown-so) ∙ b.1)
 
-  module _ (hashes : List Digest) (full : AreHashes m t (known_at H text scripts us) hashes) (needed : List Place)
+  module _ (hashes : List Digest) (full : AreHashes m t (known_at H scripts us) hashes) (needed : List Place)
       (need_is : needed ≡ need t.leaves t.targets) where
-    there-so : map (λ p. digest_at H es' p.row p.off) needed ≡ map (λ p. digest_at H (entries H text us) p.row p.off) (need t.leaves t.targets)
+    there-so : map (λ p. digest_at H es' p.row p.off) needed ≡ map (λ p. digest_at H (entries H leaf_text us) p.row p.off) (need t.leaves t.targets)
     there-so = ap₂ (λ x ps. map (λ p. digest_at H x p.row p.off) ps) h.entries_are need_is
 
-    pub hash_wrong : (map Some hashes ≡ map (λ p. digest_at H es' p.row p.off) needed → ⊥) → is_right_message H text scripts us ext (read m) ≡ false
-    hash_wrong differ = hash-missing H text hs us h.rise h.index ext m t count named-so scripts hashes full (λ e. differ (e ∙ sym there-so))
+    pub hash_wrong : (map Some hashes ≡ map (λ p. digest_at H es' p.row p.off) needed → ⊥) → is_right_message H scripts us ext (read m) ≡ false
+    hash_wrong differ = hash-missing H hs us h.rise h.index ext m t count named-so scripts hashes full (λ e. differ (e ∙ sym there-so))
 
     pub all_right : (x : Option (Vec ℕ)) (numbers : Vec ℕ) → x ≡ Some numbers
         → AreShown (shown_all es' hs places (claimed (points_of ext) (rests_of m.proof.spends))) x
         → map Some hashes ≡ map (λ p. digest_at H es' p.row p.off) needed →
-        IsShown H text scripts us ext m (Some numbers)
+        IsShown H scripts us ext m (Some numbers)
     all_right x numbers e a stand =
         let b = subst (AreShown (shown_all es' hs places (claimed (points_of ext) (rests_of m.proof.spends)))) e a in
-        is-right H text hs us h.rise h.index ext m t count named-so scripts hashes full numbers.items (b ∙ shown-so) (stand ∙ there-so)
+        is-right H hs us h.rise h.index ext m t count named-so scripts hashes full numbers.items (b ∙ shown-so) (stand ∙ there-so)

@@ -11,7 +11,6 @@ use Rattle.uo_digest.specs.declared.digest.Digest.{Digest}
 use Rattle.forest_place.specs.declared.place.Place.{Place}
 use Rattle.forest_model.specs.Cover.{need}
 use Rattle.block_codec.specs.Block.{Block, BlockFits, block_hash_of}
-use Rattle.leaf_record.specs.Leaf.{Leaf}
 use Rattle.leaf_record.specs.History.{History}
 use Rattle.proof_wire.specs.BlockProof.{rests_of}
 use Rattle.proof_shape.specs.Targeted.{Targeted}
@@ -69,7 +68,7 @@ each_long us [] (n ∷ ns) s = absurd s
 each_long us (i ∷ is) [] s = absurd s
 each_long us (i ∷ is) (n ∷ ns) s = let e = each_long us is ns s.1 in omega (arith, e)
 
-module _ (H : List ℕ → Digest) (text : Leaf → List ℕ) (s : BridgeState) (b : Block) (handed : Handed) where
+module _ (H : List ℕ → Digest) (s : BridgeState) (b : Block) (handed : Handed) where
   abbrev before : List (Option Refusal)
   before = block_steps s.rules.net s.rules.limits s.chain b
 
@@ -81,47 +80,47 @@ module _ (H : List ℕ → Digest) (text : Leaf → List ℕ) (s : BridgeState) 
 
   module _ (us : History) where
     abbrev by_view : Evidence
-    by_view = compact H text (view_of H text scripts us) ext handed
+    by_view = compact H (view_of H scripts us) ext handed
 
     abbrev by_all : Evidence
-    by_all = full H text scripts us ext handed
+    by_all = full H scripts us ext handed
 
     abbrev on_money : List (Option Refusal)
     on_money = money_steps (spends_of s.rules.net s.chain.blocks b) (found_by handed)
 
     abbrev forged : Bool
-    forged = is_forged H text scripts s.rules s.chain us b handed
+    forged = is_forged H scripts s.rules s.chain us b handed
 
     -- what is right is not forged
-    pub honest : is_right_message H text scripts us ext handed ≡ true → forged ≡ false
+    pub honest : is_right_message H scripts us ext handed ≡ true → forged ≡ false
     honest right = and-false (is_none (first_of (before ++ message_steps ext handed))) _
-        (and-false (is_accepted H text (view_of H text scripts us) ext handed) _ (ap not right))
+        (and-false (is_accepted H (view_of H scripts us) ext handed) _ (ap not right))
 
     by_all_passes : forged ≡ false → first_of before ≡ None → first_of by_view.steps ≡ None → first_of on_money ≡ None
         → refusal s.rules s.chain b by_all ≡ None
-    by_all_passes f shape steps money = view_judges H text scripts us s.rules s.chain b handed f
+    by_all_passes f shape steps money = view_judges H scripts us s.rules s.chain b handed f
         ∙ none-both before (by_view.steps ++ on_money) shape (none-both by_view.steps on_money steps money)
 
     by_money : (why : Refusal) → forged ≡ false → first_of before ≡ None → first_of by_view.steps ≡ None → first_of on_money ≡ Some why
         → refusal s.rules s.chain b by_all ≡ Some why
     by_money why f shape steps money =
-        view_judges H text scripts us s.rules s.chain b handed f ∙ first-behind before (by_view.steps ++ on_money) (Refused why) shape
+        view_judges H scripts us s.rules s.chain b handed f ∙ first-behind before (by_view.steps ++ on_money) (Refused why) shape
         (first-behind by_view.steps on_money (Refused why) steps money)
 
     by_step : (why : Refusal) → forged ≡ false → first_of before ≡ None → first_of by_view.steps ≡ Some why
         → refusal s.rules s.chain b by_all ≡ Some why
     by_step why f shape steps =
-        view_judges H text scripts us s.rules s.chain b handed f
+        view_judges H scripts us s.rules s.chain b handed f
         ∙ first-behind before (by_view.steps ++ on_money) (Refused why) shape (first-in by_view.steps on_money (Refused why) steps)
 
     by_shape : (why : Refusal) → forged ≡ false → first_of before ≡ Some why → refusal s.rules s.chain b by_all ≡ Some why
-    by_shape why f shape = view_judges H text scripts us s.rules s.chain b handed f ∙ first-in before (by_view.steps ++ on_money) (Refused why) shape
+    by_shape why f shape = view_judges H scripts us s.rules s.chain b handed f ∙ first-in before (by_view.steps ++ on_money) (Refused why) shape
 
   -- a block that does not pass by itself is not forged
   shape_honest : (us : History) (why : Refusal) → first_of before ≡ Some why → forged us ≡ false
   shape_honest us why e =
       let first : first_of (before ++ message_steps ext handed) ≡ Some why = first-in before (message_steps ext handed) (Refused why) e in
-      ap (λ x. is_none x && (is_accepted H text (view_of H text scripts us) ext handed && not (is_right_message H text scripts us ext handed))) first
+      ap (λ x. is_none x && (is_accepted H (view_of H scripts us) ext handed && not (is_right_message H scripts us ext handed))) first
 
 option_or-none : (x : Option Refusal) (why : Refusal) → option_or x None ≡ Some why → x ≡ Some why
 option_or-none None why e = e
@@ -131,25 +130,25 @@ mapped-none : (x : Option ProofRefusal) → option_map Why.Proof x ≡ None → 
 mapped-none None e = refl
 mapped-none (Some f) e = absurd (none-some _ (sym e))
 
-module _ (H : List ℕ → Digest) (text : Leaf → List ℕ) (s : BridgeState) (b : Block) (us : History)
+module _ (H : List ℕ → Digest) (s : BridgeState) (b : Block) (us : History)
     (shape : first_of (block_steps s.rules.net s.rules.limits s.chain b) ≡ None) where
   -- nor is one whose message the roots do not accept
   pub refused_honest : (handed : Handed) (why : Refusal) → first_of
-      (compact H text (view_of H text (watched_by s) us) (external b s.chain.blocks) handed).steps ≡ Some why
-      → is_forged H text (watched_by s) s.rules s.chain us b handed ≡ false
-  refused_honest nothing why e = and-false (is_none (first_of (before H text s b nothing ++ message_steps (external b s.chain.blocks) nothing))) _
+      (compact H (view_of H (watched_by s) us) (external b s.chain.blocks) handed).steps ≡ Some why
+      → is_forged H (watched_by s) s.rules s.chain us b handed ≡ false
+  refused_honest nothing why e = and-false (is_none (first_of (before H s b nothing ++ message_steps (external b s.chain.blocks) nothing))) _
       refl
   refused_honest (unread f) why e = and-false
-      (is_none (first_of (before H text s b (unread f) ++ message_steps (external b s.chain.blocks) (unread f)))) _ refl
-  refused_honest (read m) why e = by (proof_fault H text (view_of H text (watched_by s) us) (points_of (external b s.chain.blocks)) m) refl e
+      (is_none (first_of (before H s b (unread f) ++ message_steps (external b s.chain.blocks) (unread f)))) _ refl
+  refused_honest (read m) why e = by (proof_fault H (view_of H (watched_by s) us) (points_of (external b s.chain.blocks)) m) refl e
     where
       ahead : List (Option Refusal)
       ahead = block_steps s.rules.net s.rules.limits s.chain b ++ message_steps (external b s.chain.blocks) (read m)
 
       right : Bool
-      right = is_right_message H text (watched_by s) us (external b s.chain.blocks) (read m)
+      right = is_right_message H (watched_by s) us (external b s.chain.blocks) (read m)
 
-      by : (fault : Option ProofRefusal) → proof_fault H text (view_of H text (watched_by s) us) (points_of (external b s.chain.blocks)) m ≡ fault →
+      by : (fault : Option ProofRefusal) → proof_fault H (view_of H (watched_by s) us) (points_of (external b s.chain.blocks)) m ≡ fault →
           first_of (message_steps (external b s.chain.blocks) (read m) ++ (option_map Why.Proof fault ∷ [])) ≡ Some why
           → (is_none (first_of ahead) && (is_none fault && not right)) ≡ false
       by None is e =
@@ -160,15 +159,15 @@ module _ (H : List ℕ → Digest) (text : Leaf → List ℕ) (s : BridgeState) 
       by (Some fault) is e = and-false (is_none (first_of ahead)) _ refl
 
   -- one that the roots accept and that is not right is
-  pub wrong_forged : (handed : Handed) → IsWrongOf H text (watched_by s) us (external b s.chain.blocks) handed
-      → is_forged H text (watched_by s) s.rules s.chain us b handed ≡ true
+  pub wrong_forged : (handed : Handed) → IsWrongOf H (watched_by s) us (external b s.chain.blocks) handed
+      → is_forged H (watched_by s) s.rules s.chain us b handed ≡ true
   wrong_forged nothing w = absurd (false≢true (sym w.wrong))
   wrong_forged (unread why) w = absurd (false≢true (sym w.wrong))
   wrong_forged (read m) w =
       let ms = message_steps (external b s.chain.blocks) (read m) in
-      let parts = append_passes ms (view_step H text (view_of H text (watched_by s) us) (external b s.chain.blocks) (read m) ∷ []) w.passes in
-      let fault : proof_fault H text (view_of H text (watched_by s) us) (points_of (external b s.chain.blocks)) m ≡ None =
-      mapped-none _ (each_passes (view_step H text (view_of H text (watched_by s) us) (external b s.chain.blocks) (read m) ∷ []) 0 parts.1) in
+      let parts = append_passes ms (view_step H (view_of H (watched_by s) us) (external b s.chain.blocks) (read m) ∷ []) w.passes in
+      let fault : proof_fault H (view_of H (watched_by s) us) (points_of (external b s.chain.blocks)) m ≡ None =
+      mapped-none _ (each_passes (view_step H (view_of H (watched_by s) us) (external b s.chain.blocks) (read m) ∷ []) 0 parts.1) in
       let first = none-both (block_steps s.rules.net s.rules.limits s.chain b) ms shape parts.0 in
       forged-so _ _ _ first fault w.wrong
     where
@@ -176,12 +175,12 @@ module _ (H : List ℕ → Digest) (text : Leaf → List ℕ) (s : BridgeState) 
           → (is_none x && (is_none fault && not right)) ≡ true
       forged-so x fault right e f g = rw (e, f, g) refl
 
-module _ (H : List ℕ → Digest) (text : Leaf → List ℕ) (s : BridgeState) (b : Block) (handed : Handed) where
+module _ (H : List ℕ → Digest) (s : BridgeState) (b : Block) (handed : Handed) where
   -- a block that does not pass by itself
-  pub unshaped : (fault : RuleFault) → ShapeJudged s.rules.net s.rules.limits s.chain b (Err fault) → IsNotTaken H text s b handed fault
+  pub unshaped : (fault : RuleFault) → ShapeJudged s.rules.net s.rules.limits s.chain b (Err fault) → IsNotTaken H s b handed fault
   unshaped (Refused why) e =
-      let f = shape_honest H text s b handed (history_of s) why e in
-      (f, by_shape H text s b handed (history_of s) why f e)
+      let f = shape_honest H s b handed (history_of s) why e in
+      (f, by_shape H s b handed (history_of s) why f e)
   unshaped NoMemory e = tt
 
   module _ (spends : BlockSpends) (shaped : IsShaped s.rules.net s.rules.limits s.chain b spends) where
@@ -189,77 +188,77 @@ module _ (H : List ℕ → Digest) (text : Leaf → List ℕ) (s : BridgeState) 
     same_external = ap (λ (x : BlockSpends). x.external) shaped.spends
 
     -- a message that is not accepted
-    pub not_shown : (fault : RuleFault) → AreNotTaken H text s spends.external handed fault → IsNotTaken H text s b handed fault
+    pub not_shown : (fault : RuleFault) → AreNotTaken H s spends.external handed fault → IsNotTaken H s b handed fault
     not_shown NoMemory a = tt
     not_shown (Refused why) a =
         let us = history_of s in
-        let first : first_of (compact H text (view_of H text (watched_by s) us) (external b s.chain.blocks) handed).steps ≡ Some why =
-        subst (λ ext. first_of (compact H text (view_of H text (watched_by s) us) ext handed).steps ≡ Some why) same_external a in
-        let f = refused_honest H text s b us shaped.passes handed why first in
-        (f, by_step H text s b handed us why f shaped.passes first)
+        let first : first_of (compact H (view_of H (watched_by s) us) (external b s.chain.blocks) handed).steps ≡ Some why =
+        subst (λ ext. first_of (compact H (view_of H (watched_by s) us) ext handed).steps ≡ Some why) same_external a in
+        let f = refused_honest H s b us shaped.passes handed why first in
+        (f, by_step H s b handed us why f shaped.passes first)
 
     -- one that is accepted and not right
-    pub caught : (t : BridgeState) → AreRight H text s spends.external handed None → t ≡ s → IsCaught H text s b handed t
+    pub caught : (t : BridgeState) → AreRight H s spends.external handed None → t ≡ s → IsCaught H s b handed t
     caught t a same =
         let us = history_of s in
-        let wrong : IsWrongOf H text (watched_by s) us (external b s.chain.blocks) handed =
-        subst (λ ext. IsWrongOf H text (watched_by s) us ext handed) same_external a in
-        record { forged = wrong_forged H text s b us shaped.passes handed wrong; next = same }
+        let wrong : IsWrongOf H (watched_by s) us (external b s.chain.blocks) handed =
+        subst (λ ext. IsWrongOf H (watched_by s) us ext handed) same_external a in
+        record { forged = wrong_forged H s b us shaped.passes handed wrong; next = same }
 
     -- and one that is right
-    module _ (shown : Shown) (are : AreRight H text s spends.external handed (Some shown)) where
-      right_so : IsRightOf H text (watched_by s) (history_of s) (external b s.chain.blocks) handed shown
-      right_so = subst (λ ext. IsRightOf H text (watched_by s) (history_of s) ext handed shown) same_external are
+    module _ (shown : Shown) (are : AreRight H s spends.external handed (Some shown)) where
+      right_so : IsRightOf H (watched_by s) (history_of s) (external b s.chain.blocks) handed shown
+      right_so = subst (λ ext. IsRightOf H (watched_by s) (history_of s) ext handed shown) same_external are
 
       pub found_many : length shown.found.items ≡ length spends.external
       found_many =
           let ext = external b s.chain.blocks in
-          let by_view = view_step H text (view_of H text (watched_by s) (history_of s)) ext handed ∷ [] in
+          let by_view = view_step H (view_of H (watched_by s) (history_of s)) ext handed ∷ [] in
           let passes : first_of (message_steps ext handed) ≡ None = (append_passes (message_steps ext handed) by_view right_so.passes).0 in
           ap length right_so.found ∙ (found_long ext handed passes ∙ ap length (sym same_external))
 
-      same_money : money_steps spends shown.found.items ≡ on_money H text s b handed (history_of s)
+      same_money : money_steps spends shown.found.items ≡ on_money H s b handed (history_of s)
       same_money = ap₂ money_steps shaped.spends right_so.found
 
-      not_forged : is_forged H text (watched_by s) s.rules s.chain (history_of s) b handed ≡ false
-      not_forged = honest H text s b handed (history_of s) right_so.right
+      not_forged : is_forged H (watched_by s) s.rules s.chain (history_of s) b handed ≡ false
+      not_forged = honest H s b handed (history_of s) right_so.right
 
-      pub unpaid : (why : Refusal) → first_of (money_steps spends shown.found.items) ≡ Some why → IsNotTaken H text s b handed (Refused why)
+      pub unpaid : (why : Refusal) → first_of (money_steps spends shown.found.items) ≡ Some why → IsNotTaken H s b handed (Refused why)
       unpaid why e = (
         not_forged,
-        by_money H text s b handed (history_of s) why not_forged shaped.passes right_so.passes
+        by_money H s b handed (history_of s) why not_forged shaped.passes right_so.passes
             (ap first_of (sym same_money) ∙ e),
       )
 
       module _ (paid : first_of (money_steps spends shown.found.items) ≡ None) where
-        accepted : refusal s.rules s.chain b (by_all H text s b handed (history_of s)) ≡ None
-        accepted = by_all_passes H text s b handed (history_of s) not_forged shaped.passes right_so.passes (ap first_of (sym same_money) ∙ paid)
+        accepted : refusal s.rules s.chain b (by_all H s b handed (history_of s)) ≡ None
+        accepted = by_all_passes H s b handed (history_of s) not_forged shaped.passes right_so.passes (ap first_of (sym same_money) ∙ paid)
 
-        pub shown_ready : IsBridge H text s → BlockFits b → (hash : Digest) → IsReady H text s hash shown.numbers.items spends.new
+        pub shown_ready : IsBridge H s → BlockFits b → (hash : Digest) → IsReady H s hash shown.numbers.items spends.new
         shown_ready is fits hash =
             let us = is.levels.now.history in
-            let same : history_of s ≡ us = is_history H text s us (newest_history H text is.levels s is is.stands) in
-            let passes : refusal s.rules s.chain b (by_all H text s b handed us) ≡ None =
-            subst (λ h. refusal s.rules s.chain b (by_all H text s b handed h) ≡ None) same accepted in
-            let e = by_all H text s b handed us in
+            let same : history_of s ≡ us = is_history H s us (newest_history H is.levels s is is.stands) in
+            let passes : refusal s.rules s.chain b (by_all H s b handed us) ≡ None =
+            subst (λ h. refusal s.rules s.chain b (by_all H s b handed h) ≡ None) same accepted in
+            let e = by_all H s b handed us in
             let each = once us s.rules s.chain b e passes
-            (full_pays H text us (watched_by s) (external b s.chain.blocks) handed (middle us s.rules s.chain b e passes).1) in
+            (full_pays H us (watched_by s) (external b s.chain.blocks) handed (middle us s.rules s.chain b e passes).1) in
             let few = external_few s.rules.net s.rules.limits s.chain b spends fits shaped in
             let long = each_long us (external b s.chain.blocks) e.numbers each.0 in
             let many = ap length same_external in
-            subst (λ ns. IsReady H text s hash ns spends.new) (sym (right_so.numbers ∙ ap (λ h. entries_shown H text h handed) same))
-            (subst (IsReady H text s hash e.numbers) (sym (ap (λ (x : BlockSpends). x.new) shaped.spends))
-            (can_take H text s is e.numbers (new_records b s.chain.blocks) (each_live us (external b s.chain.blocks) e.numbers each.0) each.1
+            subst (λ ns. IsReady H s hash ns spends.new) (sym (right_so.numbers ∙ ap (λ h. entries_shown H h handed) same))
+            (subst (IsReady H s hash e.numbers) (sym (ap (λ (x : BlockSpends). x.new) shaped.spends))
+            (can_take H s is e.numbers (new_records b s.chain.blocks) (each_live us (external b s.chain.blocks) e.numbers each.0) each.1
             (room s.rules s.chain b e passes) hash (omega (arith, few, long, many))))
 
-        pub gone : (hash : Digest) (t : BridgeState) → hash ≡ block_hash_of b → t ≡ bridge_with H text s hash shown.numbers.items spends.new
-            → IsGone H text s b handed t
+        pub gone : (hash : Digest) (t : BridgeState) → hash ≡ block_hash_of b → t ≡ bridge_with H s hash shown.numbers.items spends.new
+            → IsGone H s b handed t
         gone hash t at next =
             record {
               honest = not_forged;
               passes = accepted;
-              next = next ∙ (ap₂ (λ h ns. bridge_with H text s h ns spends.new) at right_so.numbers
-                  ∙ ap (bridge_with H text s (block_hash_of b) (entries_shown H text (history_of s) handed))
+              next = next ∙ (ap₂ (λ h ns. bridge_with H s h ns spends.new) at right_so.numbers
+                  ∙ ap (bridge_with H s (block_hash_of b) (entries_shown H (history_of s) handed))
                   (ap (λ (x : BlockSpends). x.new) shaped.spends));
             }
 
@@ -271,35 +270,35 @@ err_weaker P Q (Err e) f h = f e h
 
 -- ---- what stands beside a block
 
-module _ (H : List ℕ → Digest) (text : Leaf → List ℕ) (v : View) (ext : List Outside) where
+module _ (H : List ℕ → Digest) (v : View) (ext : List Outside) where
   -- what was handed in is refused
   pub unread_first : (bytes : Option (List ℕ)) (fault : RuleFault) → MessageJudged ext bytes (Err fault)
-      → IsFirst (first_of (compact H text v ext (handed_in bytes)).steps) fault
-  unread_first bytes (Refused why) e = first-in (message_steps ext (handed_in bytes)) (view_step H text v ext (handed_in bytes) ∷ []) (Refused why) e
+      → IsFirst (first_of (compact H v ext (handed_in bytes)).steps) fault
+  unread_first bytes (Refused why) e = first-in (message_steps ext (handed_in bytes)) (view_step H v ext (handed_in bytes) ∷ []) (Refused why) e
   unread_first bytes NoMemory e = tt
 
   -- or the proof of a message
   pub proof_first : (handed : Handed) (m : Message) (fault : RuleFault) → handed ≡ read m → first_of (message_steps ext handed) ≡ None
-      → IsFirst (option_map Why.Proof (proof_fault H text v (points_of ext) m)) fault → IsFirst (first_of (compact H text v ext handed).steps) fault
+      → IsFirst (option_map Why.Proof (proof_fault H v (points_of ext) m)) fault → IsFirst (first_of (compact H v ext handed).steps) fault
   proof_first handed m NoMemory is passes e = tt
   proof_first handed m (Refused why) is passes e =
-      first-behind (message_steps ext handed) (view_step H text v ext handed ∷ []) (Refused why) passes
-      (ap (λ h. first_of (view_step H text v ext h ∷ [])) is ∙ ap (λ x. option_or x None) e)
+      first-behind (message_steps ext handed) (view_step H v ext handed ∷ []) (Refused why) passes
+      (ap (λ h. first_of (view_step H v ext h ∷ [])) is ∙ ap (λ x. option_or x None) e)
 
-module _ (H : List ℕ → Digest) (text : Leaf → List ℕ) (s : BridgeState) (ext : List Outside) where
+module _ (H : List ℕ → Digest) (s : BridgeState) (ext : List Outside) where
   abbrev seen : View
-  seen = view_of H text (watched_by s) (history_of s)
+  seen = view_of H (watched_by s) (history_of s)
 
-  read_right : (m : Message) (shown : Option Shown) → first_of (message_steps ext (read m)) ≡ None → IsAcceptedBy H text s ext m shown
-      → AreRight H text s ext (read m) shown
+  read_right : (m : Message) (shown : Option Shown) → first_of (message_steps ext (read m)) ≡ None → IsAcceptedBy H s ext m shown
+      → AreRight H s ext (read m) shown
   read_right m None passes a = record {
-    passes = none-both (message_steps ext (read m)) (view_step H text seen ext (read m) ∷ []) passes
+    passes = none-both (message_steps ext (read m)) (view_step H seen ext (read m) ∷ []) passes
         (ap (λ x. option_or (option_map Why.Proof x) None) a.0);
     wrong = a.1;
   }
   read_right m (Some shown) passes a =
       record {
-        passes = none-both (message_steps ext (read m)) (view_step H text seen ext (read m) ∷ []) passes
+        passes = none-both (message_steps ext (read m)) (view_step H seen ext (read m) ∷ []) passes
             (ap (λ x. option_or (option_map Why.Proof x) None) a.passes);
         right = a.right;
         numbers = a.numbers;
@@ -308,54 +307,54 @@ module _ (H : List ℕ → Digest) (text : Leaf → List ℕ) (s : BridgeState) 
 
   -- a message that was read
   pub message_right : (handed : Handed) (m : Message) (shown : Option Shown) → handed ≡ read m → first_of (message_steps ext handed) ≡ None
-      → IsAcceptedBy H text s ext m shown → AreRight H text s ext handed shown
+      → IsAcceptedBy H s ext m shown → AreRight H s ext handed shown
   message_right handed m shown is passes a =
-      subst (λ h. AreRight H text s ext h shown) (sym is) (read_right m shown (subst (λ h. first_of (message_steps ext h) ≡ None) is passes) a)
+      subst (λ h. AreRight H s ext h shown) (sym is) (read_right m shown (subst (λ h. first_of (message_steps ext h) ≡ None) is passes) a)
 
   -- and nothing at all
   pub nothing_right : (handed : Handed) (shown : Shown) → handed ≡ nothing → first_of (message_steps ext handed) ≡ None → shown.numbers.items ≡ []
-      → shown.found.items ≡ [] → AreRight H text s ext handed (Some shown)
+      → shown.found.items ≡ [] → AreRight H s ext handed (Some shown)
   nothing_right handed shown is passes numbers found =
-      subst (λ h. IsRightOf H text (watched_by s) (history_of s) ext h shown) (sym is)
+      subst (λ h. IsRightOf H (watched_by s) (history_of s) ext h shown) (sym is)
       (let p : first_of (message_steps ext nothing) ≡ None = subst (λ h. first_of (message_steps ext h) ≡ None) is passes in
       record { passes = none-both (message_steps ext nothing) (None ∷ []) p refl; right = refl; numbers = numbers; found = found })
 
 -- ---- a message, by forest and index
 
-module _ (H : List ℕ → Digest) (text : Leaf → List ℕ) (s : BridgeState) (is : IsBridge H text s) (ext : List Outside) (m : Message)
-    (known : List (Place × Digest)) (are : AreKnown H text (watched_by s) (history_of s) known) where
-  here : IsHistory H text s.entries s.held (history_of s)
-  here = own_history H text s is
+module _ (H : List ℕ → Digest) (s : BridgeState) (is : IsBridge H s) (ext : List Outside) (m : Message)
+    (known : List (Place × Digest)) (are : AreKnown H (watched_by s) (history_of s) known) where
+  here : IsHistory H s.entries s.held (history_of s)
+  here = own_history H s is
 
-  fault-same : fault_in H text s.entries (look known) ext m ≡ fault_for H text s ext m
-  fault-same = fault_same H text (watched_by s) s.entries (history_of s) known ext m here.entries_are are
+  fault-same : fault_in H s.entries (look known) ext m ≡ fault_for H s ext m
+  fault-same = fault_same H (watched_by s) s.entries (history_of s) known ext m here.entries_are are
 
-  pub refused_for : (fault : RuleFault) → IsFirst (option_map Why.Proof (fault_in H text s.entries (look known) ext m)) fault
-      → IsFirst (option_map Why.Proof (fault_for H text s ext m)) fault
+  pub refused_for : (fault : RuleFault) → IsFirst (option_map Why.Proof (fault_in H s.entries (look known) ext m)) fault
+      → IsFirst (option_map Why.Proof (fault_for H s ext m)) fault
   refused_for (Refused why) e = ap (option_map Why.Proof) (sym fault-same) ∙ e
   refused_for NoMemory e = tt
 
-  module _ (t : Targeted) (hashes : List Digest) (checked : IsChecked H text s.entries (look known) ext m t hashes) where
+  module _ (t : Targeted) (hashes : List Digest) (checked : IsChecked H s.entries (look known) ext m t hashes) where
     pub hashes_many : (hashes' : List Digest) → hashes' ≡ hashes → length hashes' ≡ length (need t.leaves t.targets)
     hashes_many hashes' e = ap length (e ∙ checked.full.hashes_are H) ∙ length-map (need t.leaves t.targets) _
 
-    shown-so : (hashes' : List Digest) (numbers : Option (Vec ℕ)) → hashes' ≡ hashes → IsShownBy H text s.entries s.held ext m t hashes' numbers
-        → IsShown H text (watched_by s) (history_of s) ext m numbers
+    shown-so : (hashes' : List Digest) (numbers : Option (Vec ℕ)) → hashes' ≡ hashes → IsShownBy H s.entries s.held ext m t hashes' numbers
+        → IsShown H (watched_by s) (history_of s) ext m numbers
     shown-so hashes' numbers e by =
         by (history_of s) (watched_by s) here
-        (subst (λ xs. AreHashes m t (known_at H text (watched_by s) (history_of s)) xs) (sym e)
-        (subst (λ k. AreHashes m t k hashes) (same_known H text (watched_by s) (history_of s) known are) checked.full))
+        (subst (λ xs. AreHashes m t (known_at H (watched_by s) (history_of s)) xs) (sym e)
+        (subst (λ k. AreHashes m t k hashes) (same_known H (watched_by s) (history_of s) known are) checked.full))
 
     pub accepted_right : (hashes' : List Digest) (x : Option (Vec ℕ)) (numbers : Vec ℕ) (shown : Shown) → hashes' ≡ hashes
-        → IsShownBy H text s.entries s.held ext m t hashes' x → x ≡ Some numbers → shown.numbers.items ≡ numbers.items →
-        shown.found.items ≡ map found_of (rests_of m.proof.spends) → IsAcceptedBy H text s ext m (Some shown)
+        → IsShownBy H s.entries s.held ext m t hashes' x → x ≡ Some numbers → shown.numbers.items ≡ numbers.items →
+        shown.found.items ≡ map found_of (rests_of m.proof.spends) → IsAcceptedBy H s ext m (Some shown)
     accepted_right hashes' x numbers shown e by at same found =
-        let w = subst (IsShown H text (watched_by s) (history_of s) ext m) at (shown-so hashes' x e by) in
+        let w = subst (IsShown H (watched_by s) (history_of s) ext m) at (shown-so hashes' x e by) in
         record { passes = sym fault-same ∙ checked.passes; right = w.0; numbers = same ∙ w.1; found = found }
 
-    pub accepted_wrong : (hashes' : List Digest) (x : Option (Vec ℕ)) → hashes' ≡ hashes → IsShownBy H text s.entries s.held ext m t hashes' x
-        → x ≡ None → IsAcceptedBy H text s ext m None
+    pub accepted_wrong : (hashes' : List Digest) (x : Option (Vec ℕ)) → hashes' ≡ hashes → IsShownBy H s.entries s.held ext m t hashes' x
+        → x ≡ None → IsAcceptedBy H s ext m None
     accepted_wrong hashes' x e by at = (
       sym fault-same ∙ checked.passes,
-      subst (IsShown H text (watched_by s) (history_of s) ext m) at (shown-so hashes' x e by),
+      subst (IsShown H (watched_by s) (history_of s) ext m) at (shown-so hashes' x e by),
     )

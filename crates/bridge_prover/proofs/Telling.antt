@@ -11,7 +11,6 @@ use Rattle.uo_base.specs.FeedEvent.{event_of}
 use Rattle.uo_digest.specs.declared.digest.Digest.{Digest}
 use Rattle.forest_place.specs.Position.{rows}
 use Rattle.forest_place.proofs.Positions.{rows_fit, rows_least}
-use Rattle.leaf_record.specs.Leaf.{Leaf}
 use Rattle.block_codec.specs.Block.{Block, block_hash_of}
 use Rattle.block_rules.specs.Blocks.{external, new_records}
 use Rattle.block_rules.specs.declared.chain.Chain.{Chain}
@@ -40,17 +39,17 @@ drop_none : {X : Type 0} (k : ℕ) → drop k (let none : List X = [] in none) �
 drop_none zero = refl
 drop_none (suc k) = refl
 
-module _ (H : List ℕ → Digest) (text : Leaf → List ℕ) where
+module _ (H : List ℕ → Digest) where
   -- ---- back by k blocks
 
-  undo-back : (k : ℕ) (s : BridgeState) → (gone_back H text k s).undo ≡ drop k s.undo
+  undo-back : (k : ℕ) (s : BridgeState) → (gone_back H k s).undo ≡ drop k s.undo
   undo-back zero s = refl
   undo-back (suc k) s = by s.undo refl (undo-back k)
     where
-      by : (us : List UndoRecord) → s.undo ≡ us → ((r : BridgeState) → (gone_back H text k r).undo ≡ drop k r.undo)
-          → (gone_back H text k (undone_by H text us s)).undo ≡ drop (suc k) us
+      by : (us : List UndoRecord) → s.undo ≡ us → ((r : BridgeState) → (gone_back H k r).undo ≡ drop k r.undo)
+          → (gone_back H k (undone_by H us s)).undo ≡ drop (suc k) us
       by [] e later = later s ∙ (ap (drop k) e ∙ drop_none k)
-      by (u ∷ us) e later = later (undone_by H text (u ∷ us) s)
+      by (u ∷ us) e later = later (undone_by H (u ∷ us) s)
 
   chains-back : (k : ℕ) (chain : Chain) (us : List UndoRecord) → k ≤ length us
       → chain_back k chain us ∷ map chain_before (drop k us) ≡ drop k (chain ∷ map chain_before us)
@@ -66,24 +65,24 @@ module _ (H : List ℕ → Digest) (text : Leaf → List ℕ) where
   levels-back (suc k) hs now (l ∷ ls) (u ∷ us) le g = let e = levels-back k hs l ls us (omega (arith, le)) g.2 in let n = g.0.next in
       omega (arith, e, n)
 
-  blocks-back : (k : ℕ) (s : BridgeState) → IsBridge H text s → k ≤ length s.undo → (gone_back H text k s).chain.blocks + k ≡ s.chain.blocks
+  blocks-back : (k : ℕ) (s : BridgeState) → IsBridge H s → k ≤ length s.undo → (gone_back H k s).chain.blocks + k ≡ s.chain.blocks
   blocks-back k s is le =
       let t = is.levels in
-      let long = give_long H text s.held t.now t.older s.undo is.stands.undo in
+      let long = give_long H s.held t.now t.older s.undo is.stands.undo in
       let few : k ≤ length t.older = omega (arith, le, long) in
-      let there = at-back H text k t.now t.older s few (at_level H text t s is is.stands) in
-      let back : (gone_back H text k s).chain.blocks ≡ (back k t.now t.older).now.blocks = ap (λ (c : Chain). c.blocks) there.stands.chain in
+      let there = at-back H k t.now t.older s few (at_level H t s is is.stands) in
+      let back : (gone_back H k s).chain.blocks ≡ (back k t.now t.older).now.blocks = ap (λ (c : Chain). c.blocks) there.stands.chain in
       let now : s.chain.blocks ≡ t.now.blocks = ap (λ (c : Chain). c.blocks) is.stands.chain in
       let fewer = levels-back k s.held t.now t.older s.undo few is.stands.undo in
       omega (arith, back, now, fewer)
 
   -- one block more
-  pub back-more : (k : ℕ) (s : BridgeState) → undone_by H text (gone_back H text k s).undo (gone_back H text k s) ≡ gone_back H text (k + 1) s
-  back-more k s = from k s ∙ ap (λ n. gone_back H text n s) (let e : suc k ≡ k + 1 = omega arith in e)
+  pub back-more : (k : ℕ) (s : BridgeState) → undone_by H (gone_back H k s).undo (gone_back H k s) ≡ gone_back H (k + 1) s
+  back-more k s = from k s ∙ ap (λ n. gone_back H n s) (let e : suc k ≡ k + 1 = omega arith in e)
     where
-      from : (k : ℕ) (r : BridgeState) → undone_by H text (gone_back H text k r).undo (gone_back H text k r) ≡ gone_back H text (suc k) r
+      from : (k : ℕ) (r : BridgeState) → undone_by H (gone_back H k r).undo (gone_back H k r) ≡ gone_back H (suc k) r
       from zero r = refl
-      from (suc k) r = from k (undone_by H text r.undo r)
+      from (suc k) r = from k (undone_by H r.undo r)
 
   -- ---- its cost
 
@@ -96,16 +95,16 @@ module _ (H : List ℕ → Digest) (text : Leaf → List ℕ) where
       let e = spent-more k us in
       omega (arith, all, front, e)
 
-  entries-fewer : (us : List UndoRecord) (s : BridgeState) → length (undone_by H text us s).entries ≤ length s.entries
+  entries-fewer : (us : List UndoRecord) (s : BridgeState) → length (undone_by H us s).entries ≤ length s.entries
   entries-fewer [] s = omega arith
   entries-fewer (u ∷ us) s =
-      let a = length-restored (restored_in H text s.held u.spent) (take u.leaves s.entries) in
+      let a = length-restored (restored_in H s.held u.spent) (take u.leaves s.entries) in
       let b = length-take u.leaves s.entries in
       omega (arith, a, b)
 
-  entries-back : (k : ℕ) (s : BridgeState) → length (gone_back H text k s).entries ≤ length s.entries
+  entries-back : (k : ℕ) (s : BridgeState) → length (gone_back H k s).entries ≤ length s.entries
   entries-back zero s = omega arith
-  entries-back (suc k) s = let a = entries-back k (undone_by H text s.undo s) in let b = entries-fewer s.undo s in omega (arith, a, b)
+  entries-back (suc k) s = let a = entries-back k (undone_by H s.undo s) in let b = entries-fewer s.undo s in omega (arith, a, b)
 
   rows_more : (n m : ℕ) → n ≤ m → rows n ≤ rows m
   rows_more n m le = let f = rows_fit m in rows_least n (rows m) (omega (arith, f, le))
@@ -118,7 +117,7 @@ module _ (H : List ℕ → Digest) (text : Leaf → List ℕ) where
       let r = rows (length s.entries) in
       let few : length front ≤ length s.entries = (let a = ap length f in let b = length-take u.leaves s.entries in omega (arith, a, b)) in
       let low : rows (length front) + 1 ≤ r + 1 = (let m = rows_more _ _ few in omega (arith, m)) in
-      let is : spent_by 1 s.undo ≡ length u.spent = ap (spent_by 1) (head_of H text u s.undo e)
+      let is : spent_by 1 s.undo ≡ length u.spent = ap (spent_by 1) (head_of H u s.undo e)
       ∙ (let z = sum_by-cons (λ (u : UndoRecord). length u.spent) u [] in omega (arith, z)) in
       let count : length ns ≡ spent_by 1 s.undo = ap length n ∙ sym is in
       let le' : after ≤ here + spent_by 1 s.undo * (rows (length front) + 1) = subst (λ x. after ≤ here + x * (rows (length front) + 1)) count le in
@@ -126,14 +125,14 @@ module _ (H : List ℕ → Digest) (text : Leaf → List ℕ) where
       omega (arith, same, le', bound)
 
   pub cost-more : (k : ℕ) (s : BridgeState) (before here after : ℕ) → here ≤ before + spent_by k s.undo * (rows (length s.entries) + 1) →
-      after ≤ here + spent_by 1 (gone_back H text k s).undo * (rows (length (gone_back H text k s).entries) + 1)
+      after ≤ here + spent_by 1 (gone_back H k s).undo * (rows (length (gone_back H k s).entries) + 1)
       → after ≤ before + spent_by (k + 1) s.undo * (rows (length s.entries) + 1)
   cost-more k s before here after first one =
       let r = rows (length s.entries) in
-      let q = rows (length (gone_back H text k s).entries) in
+      let q = rows (length (gone_back H k s).entries) in
       let low : q + 1 ≤ r + 1 = (let m = rows_more _ _ (entries-back k s) in omega (arith, m)) in
       let n = spent_by 1 (drop k s.undo) in
-      let is : spent_by 1 (gone_back H text k s).undo ≡ n = ap (spent_by 1) (undo-back k s) in
+      let is : spent_by 1 (gone_back H k s).undo ≡ n = ap (spent_by 1) (undo-back k s) in
       let one' : after ≤ here + n * (q + 1) = subst (λ x. after ≤ here + x * (q + 1)) is one in
       let bound : n * (q + 1) ≤ n * (r + 1) = mul-le-mul_left n low in
       let all : spent_by (k + 1) s.undo ≡ spent_by k s.undo + n = ap (λ x. spent_by x s.undo) (let e : k + 1 ≡ suc k = omega arith in e)
@@ -144,28 +143,28 @@ module _ (H : List ℕ → Digest) (text : Leaf → List ℕ) where
 
   -- ---- what a verdict tells
 
-  pub next_kept : (s : BridgeState) (e : ChainEvent) → length (next_bridge H text s e).undo ≡ kept_after (Some (verdict_on s e)) (length s.undo)
+  pub next_kept : (s : BridgeState) (e : ChainEvent) → length (next_bridge H s e).undo ≡ kept_after (Some (verdict_on s e)) (length s.undo)
   next_kept s (BlockCame None handed) = refl
   next_kept s (BlockCame (Some b) handed) = by (refusal_on s b)
     where
-      by : (x : Option Refusal) → length (bridge_by x (after_block H text s b) s).undo
+      by : (x : Option Refusal) → length (bridge_by x (after_block H s b) s).undo
           ≡ kept_after (Some (verdict_by s.chain b (length (new_records b s.chain.blocks)) x)) (length s.undo)
       by None = length-take 100 (record_of s.chain (own_in s.held (external b s.chain.blocks)).numbers ∷ s.undo)
       by (Some why) = refl
   next_kept s (RollbackCame k) = by_test (nat_le k (length s.undo)) refl
     where
       by_test : (t : Bool) → nat_le k (length s.undo) ≡ t
-          → length (next_bridge H text s (RollbackCame k)).undo ≡ kept_after (Some (verdict_on s (RollbackCame k))) (length s.undo)
+          → length (next_bridge H s (RollbackCame k)).undo ≡ kept_after (Some (verdict_on s (RollbackCame k))) (length s.undo)
       by_test true e = rw e (ap length (undo-back k s) ∙ length-drop k s.undo)
       by_test false e = rw e refl
   next_kept s StrayCame = refl
 
-  pub levels_told : (s : BridgeState) (e : ChainEvent) → IsBridge H text s → LevelsTold s (verdict_on s e) (next_bridge H text s e)
+  pub levels_told : (s : BridgeState) (e : ChainEvent) → IsBridge H s → LevelsTold s (verdict_on s e) (next_bridge H s e)
   levels_told s (BlockCame None handed) is = (refl, refl)
   levels_told s (BlockCame (Some b) handed) is = by (refusal_on s b)
     where
       by : (x : Option Refusal) → LevelsTold s (verdict_by s.chain b (length (new_records b s.chain.blocks)) x)
-          (bridge_by x (after_block H text s b) s)
+          (bridge_by x (after_block H s b) s)
       by None = (
         refl,
         ap (λ cs. (let c : Chain = record {
@@ -179,10 +178,10 @@ module _ (H : List ℕ → Digest) (text : Leaf → List ℕ) where
       by (Some why) = (refl, refl)
   levels_told s (RollbackCame k) is = by_test (nat_le k (length s.undo)) refl
     where
-      by_test : (t : Bool) → nat_le k (length s.undo) ≡ t → LevelsTold s (verdict_on s (RollbackCame k)) (next_bridge H text s (RollbackCame k))
+      by_test : (t : Bool) → nat_le k (length s.undo) ≡ t → LevelsTold s (verdict_on s (RollbackCame k)) (next_bridge H s (RollbackCame k))
       by_test true e =
           let few = leb-true k (length s.undo) e in
-          let chain = chain-back H text k s in
+          let chain = chain-back H k s in
           rw e (
             few,
             ap₂ (λ (c : Chain) us. c ∷ map chain_before us) chain (undo-back k s) ∙ chains-back k s.chain s.undo few,
@@ -195,18 +194,18 @@ module _ (H : List ℕ → Digest) (text : Leaf → List ℕ) where
   levels_told s StrayCame is = refl
 
 -- what holds of what is said of each event, passed on and kept then, holds of what a step answers and leaves. The equation only names the event
-pub stepped : {E P : Type 0} (said_by : P → Verdict) (passed_by : P → Option (List ℕ)) (H : List ℕ → Digest) (text : Leaf → List ℕ) (Q : ChainEvent
+pub stepped : {E P : Type 0} (said_by : P → Verdict) (passed_by : P → Option (List ℕ)) (H : List ℕ → Digest) (Q : ChainEvent
     → Verdict → Option (List ℕ) → BridgeState → Type 0)
     (s s' : BridgeState) (event : Event) (e : ChainEvent) (result : Result P E) → event_in (event_of event) ≡ e
-    → ((x : ChainEvent) → Q x (verdict_on s x) (message_on H s x) (next_bridge H text s x)) →
-    IfOk result (λ p. said_by p ≡ verdict_on s e) → IfOk result (λ p. passed_by p ≡ message_on H s e) → OnOk result (s' ≡ next_bridge H text s e)
+    → ((x : ChainEvent) → Q x (verdict_on s x) (message_on H s x) (next_bridge H s x)) →
+    IfOk result (λ p. said_by p ≡ verdict_on s e) → IfOk result (λ p. passed_by p ≡ message_on H s e) → OnOk result (s' ≡ next_bridge H s e)
     → IfOk result (λ p. Q (event_in (event_of event)) (said_by p) (passed_by p) s')
-stepped said_by passed_by H text Q s s' event e (Ok p) same q said passed next =
+stepped said_by passed_by H Q s s' event e (Ok p) same q said passed next =
     subst (λ x. Q x (said_by p) (passed_by p) s') (sym same)
     (subst (λ x. Q e x (passed_by p) s') (sym said)
     (subst (λ x. Q e (verdict_on s e) x s') (sym passed)
     (subst (Q e (verdict_on s e) (message_on H s e)) (sym next) (q e))))
-stepped said_by passed_by H text Q s s' event e (Err fault) same q said passed next = tt
+stepped said_by passed_by H Q s s' event e (Err fault) same q said passed next = tt
 
 -- what stands beside a block is not looked at
 verdict_any : (s : BridgeState) (x : Option Block) (handed : Handed) → verdict_on s (BlockCame x nothing) ≡ verdict_on s (BlockCame x handed)
@@ -218,20 +217,20 @@ message_any : (H : List ℕ → Digest) (s : BridgeState) (x : Option Block) (ha
 message_any H s None handed = refl
 message_any H s (Some b) handed = refl
 
-next_any : (H : List ℕ → Digest) (text : Leaf → List ℕ) (s : BridgeState) (x : Option Block) (handed : Handed)
-    → next_bridge H text s (BlockCame x nothing) ≡ next_bridge H text s (BlockCame x handed)
-next_any H text s None handed = refl
-next_any H text s (Some b) handed = refl
+next_any : (H : List ℕ → Digest) (s : BridgeState) (x : Option Block) (handed : Handed)
+    → next_bridge H s (BlockCame x nothing) ≡ next_bridge H s (BlockCame x handed)
+next_any H s None handed = refl
+next_any H s (Some b) handed = refl
 
-pub stepped_block : {E P : Type 0} (said_by : P → Verdict) (passed_by : P → Option (List ℕ)) (H : List ℕ → Digest) (text : Leaf → List ℕ)
+pub stepped_block : {E P : Type 0} (said_by : P → Verdict) (passed_by : P → Option (List ℕ)) (H : List ℕ → Digest)
     (Q : ChainEvent → Verdict → Option (List ℕ) → BridgeState → Type 0)
     (s s' : BridgeState) (event : Event) (b : Option Block) (handed : Handed) (result : Result P E) → event_in (event_of event) ≡ BlockCame b handed
-    → ((x : ChainEvent) → Q x (verdict_on s x) (message_on H s x) (next_bridge H text s x)) →
+    → ((x : ChainEvent) → Q x (verdict_on s x) (message_on H s x) (next_bridge H s x)) →
     IfOk result (λ p. said_by p ≡ verdict_on s (BlockCame b nothing)) → IfOk result (λ p. passed_by p ≡ message_on H s (BlockCame b nothing))
-    → OnOk result (s' ≡ next_bridge H text s (BlockCame b nothing)) →
+    → OnOk result (s' ≡ next_bridge H s (BlockCame b nothing)) →
     IfOk result (λ p. Q (event_in (event_of event)) (said_by p) (passed_by p) s')
-stepped_block said_by passed_by H text Q s s' event b handed result same q said passed next =
-    stepped said_by passed_by H text Q s s' event (BlockCame b handed) result same q
+stepped_block said_by passed_by H Q s s' event b handed result same q said passed next =
+    stepped said_by passed_by H Q s s' event (BlockCame b handed) result same q
     (subst (λ v. IfOk result (λ p. said_by p ≡ v)) (verdict_any s b handed) said)
     (subst (λ v. IfOk result (λ p. passed_by p ≡ v)) (message_any H s b handed) passed)
-    (subst (λ y. OnOk result (s' ≡ y)) (next_any H text s b handed) next)
+    (subst (λ y. OnOk result (s' ≡ y)) (next_any H s b handed) next)

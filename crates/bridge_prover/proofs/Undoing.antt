@@ -8,7 +8,7 @@ use Rattle.std.proofs.lemmas.Option.{same_Some, slice_get_within}
 use Rattle.uo_digest.specs.declared.digest.Digest.{Digest}
 use Rattle.forest_model.specs.Right.{entries}
 use Rattle.forest_model.specs.Deletion.{entries_without}
-use Rattle.leaf_record.specs.Leaf.{Leaf}
+use Rattle.leaf_record.specs.Leaf.{Leaf, leaf_text}
 use Rattle.leaf_record.specs.History.{History, somes, spent}
 use Rattle.block_rules.specs.declared.chain.Chain.{Chain}
 use Rattle.node_rules.specs.Machine.{Level}
@@ -64,18 +64,18 @@ index-cut (leaf ∷ new) hs us a i =
 
 -- ---- the entries with what is live again
 
-module _ (H : List ℕ → Digest) (text : Leaf → List ℕ) (hs : List Held) (us : History) (held : AreHeld hs us) where
+module _ (H : List ℕ → Digest) (hs : List Held) (us : History) (held : AreHeld hs us) where
   abbrev IsRight : ℕ × Digest → Type 0
-  IsRight p = get_or (entries H text us) p.0 None ≡ Some p.1
+  IsRight p = get_or (entries H leaf_text us) p.0 None ≡ Some p.1
 
   abbrev restored : List ℕ → List (ℕ × Digest)
-  restored ns = restored_in H text hs ns
+  restored ns = restored_in H hs ns
 
-  here : (n : ℕ) (leaf : Leaf) → slice_get us n ≡ Some (Some leaf) → get_or (entries H text us) n None ≡ Some (H (text leaf))
-  here n leaf e = got_entry (λ r. H (text r)) us n ∙ ap (option_map (λ r. H (text r))) (got_back us n leaf e)
+  here : (n : ℕ) (leaf : Leaf) → slice_get us n ≡ Some (Some leaf) → get_or (entries H leaf_text us) n None ≡ Some (H (leaf_text leaf))
+  here n leaf e = got_entry (λ r. H (leaf_text r)) us n ∙ ap (option_map (λ r. H (leaf_text r))) (got_back us n leaf e)
 
-  one : (n : ℕ) (ns : List ℕ) (leaf : Leaf) → leaf_at n hs ≡ Some leaf → restored (n ∷ ns) ≡ (n, H (text leaf)) ∷ restored ns
-  one n ns leaf e = ap (λ x. somes (option_map (restored_at H text n) x ∷ map (λ m. option_map (restored_at H text m) (leaf_at m hs)) ns)) e
+  one : (n : ℕ) (ns : List ℕ) (leaf : Leaf) → leaf_at n hs ≡ Some leaf → restored (n ∷ ns) ≡ (n, H (leaf_text leaf)) ∷ restored ns
+  one n ns leaf e = ap (λ x. somes (option_map (restored_at H n) x ∷ map (λ m. option_map (restored_at H m) (leaf_at m hs)) ns)) e
 
   all_right : (ns : List ℕ) → AllByRecursion (IsLiveIn us) ns → AllByRecursion IsRight (restored ns)
   all_right [] a = tt
@@ -95,12 +95,12 @@ module _ (H : List ℕ → Digest) (text : Leaf → List ℕ) (hs : List Held) (
 
 -- ---- the newest block
 
-module _ (H : List ℕ → Digest) (text : Leaf → List ℕ) (s : BridgeState) (now older : Level) (ls : List Level) (u : UndoRecord)
+module _ (H : List ℕ → Digest) (s : BridgeState) (now older : Level) (ls : List Level) (u : UndoRecord)
     (us : List UndoRecord) where
   -- what is known before it is undone
   pub record IsLast : Type 0 where
     pub counted : s.chain.leaves ≡ length now.history
-    pub entries_are : s.entries ≡ entries H text now.history
+    pub entries_are : s.entries ≡ entries H leaf_text now.history
     pub index : IsIndexOf s.held now.history
     pub below : IsAbove s.chain.leaves s.held
     pub rise : NumbersRise s.held
@@ -146,21 +146,21 @@ module _ (H : List ℕ → Digest) (text : Leaf → List ℕ) (s : BridgeState) 
         })
         u.spent w.live (spent_gone u.spent older.history w.live)
 
-    entries_back : all_restored (restored_in H text s.held u.spent) (take u.leaves s.entries) ≡ entries H text older.history
+    entries_back : all_restored (restored_in H s.held u.spent) (take u.leaves s.entries) ≡ entries H leaf_text older.history
     entries_back =
-        let es = entries H text older.history in
-        let added = map Some (map (λ leaf. H (text leaf)) w.new) in
+        let es = entries H leaf_text older.history in
+        let added = map Some (map (λ leaf. H (leaf_text leaf)) w.new) in
         let all : s.entries ≡ entries_without u.spent es ++ added =
-        k.entries_are ∙ (ap (entries H text) w.after ∙ sym (entries-then H text older.history u.spent w.new)) in
-        let count : u.leaves ≡ length es = leaves ∙ sym (length-map older.history (option_map (λ r. H (text r)))) in
-        ap (all_restored (restored_in H text s.held u.spent)) (ap (take u.leaves) all ∙ ap (λ n. take n (entries_without u.spent es ++ added)) count)
-        ∙ undone es added u.spent (restored_in H text s.held u.spent) (all_right H text s.held older.history k.held u.spent w.live)
-        (all_restored_has H text s.held older.history k.held u.spent w.live)
+        k.entries_are ∙ (ap (entries H leaf_text) w.after ∙ sym (entries-then H older.history u.spent w.new)) in
+        let count : u.leaves ≡ length es = leaves ∙ sym (length-map older.history (option_map (λ r. H (leaf_text r)))) in
+        ap (all_restored (restored_in H s.held u.spent)) (ap (take u.leaves) all ∙ ap (λ n. take n (entries_without u.spent es ++ added)) count)
+        ∙ undone es added u.spent (restored_in H s.held u.spent) (all_right H s.held older.history k.held u.spent w.live)
+        (all_restored_has H s.held older.history k.held u.spent w.live)
 
     abbrev then : BridgeState
-    then = undone_by H text (u ∷ us) s
+    then = undone_by H (u ∷ us) s
 
-    pub at-undone : IsAt H text (record { now = older; older = ls }) then
+    pub at-undone : IsAt H (record { now = older; older = ls }) then
     at-undone = record {
       stands = record {
         chain = w.chain;
@@ -184,8 +184,8 @@ module _ (H : List ℕ → Digest) (text : Leaf → List ℕ) (s : BridgeState) 
     entries_long : length s.entries ≡ s.chain.leaves
     entries_long = ap length k.entries_are ∙ (length-map now.history _ ∙ sym k.counted)
 
-    entry_at : (i : ℕ) → get_or s.entries i None ≡ option_map (λ r. H (text r)) (get_or now.history i None)
-    entry_at i = ap (λ es. get_or es i None) k.entries_are ∙ got_entry (λ r. H (text r)) now.history i
+    entry_at : (i : ℕ) → get_or s.entries i None ≡ option_map (λ r. H (leaf_text r)) (get_or now.history i None)
+    entry_at i = ap (λ es. get_or es i None) k.entries_are ∙ got_entry (λ r. H (leaf_text r)) now.history i
 
     few : u.leaves ≤ length s.entries
     few = omega (arith, entries_long, k.counted, long, leaves)
@@ -193,12 +193,12 @@ module _ (H : List ℕ → Digest) (text : Leaf → List ℕ) (s : BridgeState) 
     front_long : length (take u.leaves s.entries) ≡ u.leaves
     front_long = let e = length-take u.leaves s.entries in omega (arith, e, few)
 
-    pub can_undo : CanUndo H text s u
+    pub can_undo : CanUndo H s u
     can_undo = record {
       below = few;
       counted = entries_long;
       added = λ i le lt. let l = all_live i le (omega (arith, lt, entries_long)) in
-          ap is_some (entry_at i ∙ ap (option_map (λ r. H (text r))) (got_back now.history i l.0 l.1));
+          ap is_some (entry_at i ∙ ap (option_map (λ r. H (leaf_text r))) (got_back now.history i l.0 l.1));
       added_held = λ i le lt. let l = all_live i le lt in (there_is_live i l.0 s.held now.history k.rise k.index l.1).0;
       given = all_index _ _ (all_mapped (WasLive left older.history) (λ n. n < length (take u.leaves s.entries))
           (λ n v. let below = slice_get_within older.history n (Some v.leaf) v.live in omega (arith, below, leaves, front_long)) u.spent was_live);
@@ -206,7 +206,7 @@ module _ (H : List ℕ → Digest) (text : Leaf → List ℕ) (s : BridgeState) 
           (λ n v gone.
           let below = slice_get_within older.history n (Some v.leaf) v.live in
           ap is_some (get_or-take u.leaves s.entries n None (omega (arith, below, leaves))
-          ∙ (entry_at n ∙ ap (option_map (λ r. H (text r))) (got_none now.history n gone))))
+          ∙ (entry_at n ∙ ap (option_map (λ r. H (leaf_text r))) (got_none now.history n gone))))
           u.spent was_live (subst (λ x. AllByRecursion (IsGone x) u.spent) (sym w.after) (all_gone older.history u.spent w.new w.live)));
       spent_held = all_index _ _ (all_mapped (WasLive left older.history) (λ n. is_spent n left ≡ true) (λ n v. v.spent) u.spent was_live);
       apart = w.apart;

@@ -10,7 +10,7 @@ use Rattle.forest_model.specs.EntryPlace.{entry_place}
 use Rattle.forest_model.specs.Evaluation.{asked}
 use Rattle.forest_model.specs.Deletion.{entries_without}
 use Rattle.block_codec.specs.Block.{Block, block_hash_of}
-use Rattle.leaf_record.specs.Leaf.{Leaf}
+use Rattle.leaf_record.specs.Leaf.{Leaf, leaf_text}
 use Rattle.leaf_record.specs.History.{somes}
 use Rattle.proof_wire.specs.BlockProof.{Spend, BlockProof}
 use Rattle.block_rules.specs.declared.chain.Chain.{Chain}
@@ -83,18 +83,18 @@ abbrev pub dropped : List UndoRecord → List ℕ
 dropped undo = unwrap_or (option_map (λ u. u.spent) (slice_get undo 99)) []
 
 -- an accepted block that spends these entries and adds these outputs
-abbrev pub bridge_with : (List ℕ → Digest) → (Leaf → List ℕ) → BridgeState → Digest → List ℕ → List Leaf → BridgeState
-bridge_with H text s hash numbers new = record {
+abbrev pub bridge_with : (List ℕ → Digest) → BridgeState → Digest → List ℕ → List Leaf → BridgeState
+bridge_with H s hash numbers new = record {
   rules = s.rules;
   watch = s.watch;
   chain = record { blocks = suc s.chain.blocks; tip = hash; leaves = s.chain.leaves + length new };
-  entries = entries_without numbers s.entries ++ map Some (map (λ leaf. H (text leaf)) new);
+  entries = entries_without numbers s.entries ++ map Some (map (λ leaf. H (leaf_text leaf)) new);
   held = forgotten_in (dropped s.undo) (spent_in numbers (s.held ++ numbered s.chain.leaves new));
   undo = take 100 (record_of s.chain numbers ∷ s.undo);
 }
 
-abbrev pub after_block : (List ℕ → Digest) → (Leaf → List ℕ) → BridgeState → Block → BridgeState
-after_block H text s b = bridge_with H text s (block_hash_of b) (own_in s.held (external b s.chain.blocks)).numbers (new_records b s.chain.blocks)
+abbrev pub after_block : (List ℕ → Digest) → BridgeState → Block → BridgeState
+after_block H s b = bridge_with H s (block_hash_of b) (own_in s.held (external b s.chain.blocks)).numbers (new_records b s.chain.blocks)
 
 abbrev pub bridge_by : Option Refusal → BridgeState → BridgeState → BridgeState
 bridge_by None with_block s = with_block
@@ -103,35 +103,35 @@ bridge_by (Some why) with_block s = s
 -- ---- and once blocks are undone
 
 -- an entry with the digest of its output
-abbrev pub restored_at : (List ℕ → Digest) → (Leaf → List ℕ) → ℕ → Leaf → ℕ × Digest
-restored_at H text n leaf = (n, H (text leaf))
+abbrev pub restored_at : (List ℕ → Digest) → ℕ → Leaf → ℕ × Digest
+restored_at H n leaf = (n, H (leaf_text leaf))
 
 -- those of these numbers that are held
-abbrev pub restored_in : (List ℕ → Digest) → (Leaf → List ℕ) → List Held → List ℕ → List (ℕ × Digest)
-restored_in H text hs numbers = somes (map (λ n. option_map (restored_at H text n) (leaf_at n hs)) numbers)
+abbrev pub restored_in : (List ℕ → Digest) → List Held → List ℕ → List (ℕ × Digest)
+restored_in H hs numbers = somes (map (λ n. option_map (restored_at H n) (leaf_at n hs)) numbers)
 
 -- the newest block undone: what it added is gone, and what it spent is live again
-abbrev pub undone_by : (List ℕ → Digest) → (Leaf → List ℕ) → List UndoRecord → BridgeState → BridgeState
-undone_by H text [] s = s
-undone_by H text (u ∷ older) s = record {
+abbrev pub undone_by : (List ℕ → Digest) → List UndoRecord → BridgeState → BridgeState
+undone_by H [] s = s
+undone_by H (u ∷ older) s = record {
   rules = s.rules;
   watch = s.watch;
   chain = chain_before u;
-  entries = all_restored (restored_in H text s.held u.spent) (take u.leaves s.entries);
+  entries = all_restored (restored_in H s.held u.spent) (take u.leaves s.entries);
   held = unspent_in u.spent (cut_in u.leaves s.held);
   undo = older;
 }
 
 -- the k newest, one after the other
-abbrev pub gone_back : (List ℕ → Digest) → (Leaf → List ℕ) → ℕ → BridgeState → BridgeState
-gone_back H text zero s = s
-gone_back H text (suc k) s = gone_back H text k (undone_by H text s.undo s)
+abbrev pub gone_back : (List ℕ → Digest) → ℕ → BridgeState → BridgeState
+gone_back H zero s = s
+gone_back H (suc k) s = gone_back H k (undone_by H s.undo s)
 
-abbrev pub next_bridge : (List ℕ → Digest) → (Leaf → List ℕ) → BridgeState → ChainEvent → BridgeState
-next_bridge H text s (BlockCame None handed) = s
-next_bridge H text s (BlockCame (Some b) handed) = bridge_by (refusal_on s b) (after_block H text s b) s
-next_bridge H text s (RollbackCame k) = if nat_le k (length s.undo) then gone_back H text k s else s
-next_bridge H text s StrayCame = s
+abbrev pub next_bridge : (List ℕ → Digest) → BridgeState → ChainEvent → BridgeState
+next_bridge H s (BlockCame None handed) = s
+next_bridge H s (BlockCame (Some b) handed) = bridge_by (refusal_on s b) (after_block H s b) s
+next_bridge H s (RollbackCame k) = if nat_le k (length s.undo) then gone_back H k s else s
+next_bridge H s StrayCame = s
 
 -- ---- what it passes on beside an accepted block: nothing where nothing is spent from outside
 

@@ -33,42 +33,42 @@ live_leaf hs i = if is_live i hs then leaf_at i hs else None
 abbrev pub history_of : BridgeState → History
 history_of s = map (live_leaf s.held) (range_with_len 0 (length s.entries))
 
-abbrev pub is_forged_on : (List ℕ → Digest) → (Leaf → List ℕ) → BridgeState → Block → Handed → Bool
-is_forged_on H text s b handed = is_forged H text (watched_by s) s.rules s.chain (history_of s) b handed
+abbrev pub is_forged_on : (List ℕ → Digest) → BridgeState → Block → Handed → Bool
+is_forged_on H s b handed = is_forged H (watched_by s) s.rules s.chain (history_of s) b handed
 
-abbrev pub full_on : (List ℕ → Digest) → (Leaf → List ℕ) → BridgeState → Block → Handed → Evidence
-full_on H text s b handed = full H text (watched_by s) (history_of s) (external b s.chain.blocks) handed
+abbrev pub full_on : (List ℕ → Digest) → BridgeState → Block → Handed → Evidence
+full_on H s b handed = full H (watched_by s) (history_of s) (external b s.chain.blocks) handed
 
-abbrev pub full_refusal_on : (List ℕ → Digest) → (Leaf → List ℕ) → BridgeState → Block → Handed → Option Refusal
-full_refusal_on H text s b handed = refusal s.rules s.chain b (full_on H text s b handed)
+abbrev pub full_refusal_on : (List ℕ → Digest) → BridgeState → Block → Handed → Option Refusal
+full_refusal_on H s b handed = refusal s.rules s.chain b (full_on H s b handed)
 
 -- nothing where the event is forged
 abbrev pub unless_forged : Bool → Verdict → Option Verdict
 unless_forged true v = None
 unless_forged false v = Some v
 
-abbrev pub judged_on : (List ℕ → Digest) → (Leaf → List ℕ) → BridgeState → ChainEvent → Option Verdict
-judged_on H text s (BlockCame None handed) = Some (Refused s.chain.blocks None Why.Block)
-judged_on H text s (BlockCame (Some b) handed) =
-    unless_forged (is_forged_on H text s b handed) (verdict_by s.chain b (length (new_records b s.chain.blocks)) (full_refusal_on H text s b handed))
-judged_on H text s (RollbackCame k) = Some (verdict_on s (RollbackCame k))
-judged_on H text s StrayCame = Some Stray
+abbrev pub judged_on : (List ℕ → Digest) → BridgeState → ChainEvent → Option Verdict
+judged_on H s (BlockCame None handed) = Some (Refused s.chain.blocks None Why.Block)
+judged_on H s (BlockCame (Some b) handed) =
+    unless_forged (is_forged_on H s b handed) (verdict_by s.chain b (length (new_records b s.chain.blocks)) (full_refusal_on H s b handed))
+judged_on H s (RollbackCame k) = Some (verdict_on s (RollbackCame k))
+judged_on H s StrayCame = Some Stray
 
 -- an accepted block spends the entries at the targets
-abbrev pub after_shown : (List ℕ → Digest) → (Leaf → List ℕ) → BridgeState → Block → Handed → BridgeState
-after_shown H text s b handed = bridge_with H text s (block_hash_of b) (full_on H text s b handed).numbers (new_records b s.chain.blocks)
+abbrev pub after_shown : (List ℕ → Digest) → BridgeState → Block → Handed → BridgeState
+after_shown H s b handed = bridge_with H s (block_hash_of b) (full_on H s b handed).numbers (new_records b s.chain.blocks)
 
 -- at a forged event nothing changes
 abbrev pub kept_if : Bool → BridgeState → BridgeState → BridgeState
 kept_if true s t = s
 kept_if false s t = t
 
-abbrev pub next_judged : (List ℕ → Digest) → (Leaf → List ℕ) → BridgeState → ChainEvent → BridgeState
-next_judged H text s (BlockCame None handed) = s
-next_judged H text s (BlockCame (Some b) handed) =
-    kept_if (is_forged_on H text s b handed) s (bridge_by (full_refusal_on H text s b handed) (after_shown H text s b handed) s)
-next_judged H text s (RollbackCame k) = next_bridge H text s (RollbackCame k)
-next_judged H text s StrayCame = s
+abbrev pub next_judged : (List ℕ → Digest) → BridgeState → ChainEvent → BridgeState
+next_judged H s (BlockCame None handed) = s
+next_judged H s (BlockCame (Some b) handed) =
+    kept_if (is_forged_on H s b handed) s (bridge_by (full_refusal_on H s b handed) (after_shown H s b handed) s)
+next_judged H s (RollbackCame k) = next_bridge H s (RollbackCame k)
+next_judged H s StrayCame = s
 
 -- the verdict that is answered
 abbrev pub verdict_in : Judged → Option Verdict
@@ -76,19 +76,19 @@ verdict_in (Said.Verdict v) = Some v
 verdict_in Said.Forged = None
 
 -- where s stands for what that node holds, that node says v of the event, nothing where it is forged, and s' stands for what it holds then
-abbrev pub JudgesAsFull : (List ℕ → Digest) → (Leaf → List ℕ) → BridgeState → ChainEvent → Option Verdict → BridgeState → Type 0
-JudgesAsFull H text s e v s' = (t : State) → Stands H text t s → let o = full_outcome H text (watched_by s) s.rules t e in
-    (o.verdict ≡ v) × Stands H text o.state s'
+abbrev pub JudgesAsFull : (List ℕ → Digest) → BridgeState → ChainEvent → Option Verdict → BridgeState → Type 0
+JudgesAsFull H s e v s' = (t : State) → Stands H t s → let o = full_outcome H (watched_by s) s.rules t e in
+    (o.verdict ≡ v) × Stands H o.state s'
 
 -- a bridge does
 abbrev pub BridgeIsFull : Type 0
-BridgeIsFull = (H : List ℕ → Digest) (text : Leaf → List ℕ) (s : BridgeState) (e : ChainEvent) → IsBridge H text s
-    → JudgesAsFull H text s e (judged_on H text s e) (next_judged H text s e)
+BridgeIsFull = (H : List ℕ → Digest) (s : BridgeState) (e : ChainEvent) → IsBridge H s
+    → JudgesAsFull H s e (judged_on H s e) (next_judged H s e)
 
 -- and it stays a bridge
 abbrev pub NextJudgedIsBridge : Type 0
-NextJudgedIsBridge = (H : List ℕ → Digest) (text : Leaf → List ℕ) (s : BridgeState) (e : ChainEvent) → IsBridge H text s
-    → IsBridge H text (next_judged H text s e)
+NextJudgedIsBridge = (H : List ℕ → Digest) (s : BridgeState) (e : ChainEvent) → IsBridge H s
+    → IsBridge H (next_judged H s e)
 
 -- what is said tells of the levels; at a forged event nothing changes
 abbrev pub LevelsJudged : BridgeState → Option Verdict → BridgeState → Type 0

@@ -9,6 +9,7 @@ use Rattle.forest_model.specs.Standing.{digest_at}
 use Rattle.block_codec.specs.Block.{Block}
 use Rattle.leaf_record.specs.Leaf.{Leaf, Rest}
 use Rattle.leaf_record.specs.History.{somes}
+use Rattle.forest_place.specs.Places.{is_before_place}
 use Rattle.proof_wire.specs.BlockProof.{BlockProof, spends_of}
 use Rattle.block_rules.specs.Blocks.{external}
 use Rattle.block_rules.specs.declared.chain.Found.{Found}
@@ -17,7 +18,6 @@ use Rattle.block_rules.specs.declared.refusal.Refusal.{Refusal}
 use Rattle.block_rules.specs.Money.{found_of}
 use Rattle.block_rules.specs.Steps.{first_of}
 use Rattle.cache_model.specs.Known.{is_known}
-use Rattle.cache_model.specs.Undo.{is_before_place}
 use Rattle.node_rules.specs.Messages.{Message, sent, targets}
 use Rattle.node_rules.specs.Proving.{written_text}
 use Rattle.bridge_forest.specs.State as forest
@@ -92,7 +92,7 @@ merged (x ∷ xs) ys = merged_under x (merged xs) ys
 
 -- all that has to hold so that a block may be taken which spends these entries: they are live and different, there is room, what can be forgotten
 -- then is spent, and what the bridge keeps then is again what a bridge keeps
-pub record IsReady (H : List ℕ → Digest) (text : Leaf → List ℕ) (s : BridgeState) (hash : Digest) (numbers : List ℕ) (new : List Leaf) : Type 0 where
+pub record IsReady (H : List ℕ → Digest) (s : BridgeState) (hash : Digest) (numbers : List ℕ) (new : List Leaf) : Type 0 where
   pub live : All (λ i. forest.is_live s.entries i ≡ true) numbers
   pub held : All (λ i. is_live i s.held ≡ true) numbers
   pub apart : AllPairs (λ i j. i ≢ j) numbers
@@ -102,18 +102,18 @@ pub record IsReady (H : List ℕ → Digest) (text : Leaf → List ℕ) (s : Bri
   pub low : s.chain.blocks < 2 ^ 31
   pub old : All (λ i. is_spent i (spent_in numbers (s.held ++ numbered s.chain.leaves new)) ≡ true) (dropped s.undo)
   pub old_apart : AllPairs (λ i j. i ≢ j) (dropped s.undo)
-  pub next : IsBridge H text (bridge_with H text s hash numbers new)
+  pub next : IsBridge H (bridge_with H s hash numbers new)
 
 -- no step fails, this is what is passed on, and this is what the bridge keeps then
-pub record IsProved (H : List ℕ → Digest) (text : Leaf → List ℕ) (s : BridgeState) (b : Block) (message : Option (List ℕ)) (t : BridgeState) : Type
+pub record IsProved (H : List ℕ → Digest) (s : BridgeState) (b : Block) (message : Option (List ℕ)) (t : BridgeState) : Type
     0 where
   pub passes : refusal_on s b ≡ None
   pub says : message ≡ written_text (external b s.chain.blocks)
       (message_by H s.watch s.entries s.held (own_in s.held (external b s.chain.blocks)).numbers)
-  pub next : t ≡ after_block H text s b
+  pub next : t ≡ after_block H s b
 
 -- all that has to hold so that the newest block can be undone: what it added is live, and what it spent is spent
-pub record CanUndo (H : List ℕ → Digest) (text : Leaf → List ℕ) (s : BridgeState) (u : UndoRecord) : Type 0 where
+pub record CanUndo (H : List ℕ → Digest) (s : BridgeState) (u : UndoRecord) : Type 0 where
   pub below : u.leaves ≤ length s.entries
   pub counted : length s.entries ≡ s.chain.leaves
   pub added : (i : ℕ) → u.leaves ≤ i → i < length s.entries → forest.is_live s.entries i ≡ true

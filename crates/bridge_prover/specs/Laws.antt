@@ -1,9 +1,8 @@
--- What holds of bridges, whatever the digest function and the leaf text.
+-- What holds of bridges, whatever the digest function.
 use Rattle.std.specs.Prelude.{◌≡◌, ℕ, suc, ◌+◌, ◌<◌, ◌≤◌, ◌^◌, List, ◌∷◌, map, take, drop, length, Option, Some, None, if◌then◌else◌}
 use Rattle.uo_base.specs.declared.event.Limits.{Limits}
 use Rattle.uo_base.specs.declared.event.Net.{Net}
 use Rattle.uo_digest.specs.declared.digest.Digest.{Digest}
-use Rattle.leaf_record.specs.Leaf.{Leaf}
 use Rattle.forest_place.specs.declared.place.Place.{Place}
 use Rattle.cache_model.specs.Cache.{look}
 use Rattle.cache_model.specs.Known.{known_at}
@@ -24,54 +23,54 @@ abbrev pub own_outcome : Rules → State → ChainEvent → Outcome
 own_outcome rules t e = step rules own_judge t e
 
 -- the bytes of its message beside an event, where it accepts a block that spends from outside: in full, or lean for one with this watch list
-abbrev pub text_by : (List ℕ → Digest) → (Leaf → List ℕ) → Option (List (List ℕ)) → Level → ChainEvent → Option (List ℕ)
-text_by H text watch l (BlockCame b handed) = text_beside H text watch l b
-text_by H text watch l (RollbackCame k) = None
-text_by H text watch l StrayCame = None
+abbrev pub text_by : (List ℕ → Digest) → Option (List (List ℕ)) → Level → ChainEvent → Option (List ℕ)
+text_by H watch l (BlockCame b handed) = text_beside H watch l b
+text_by H watch l (RollbackCame k) = None
+text_by H watch l StrayCame = None
 
-abbrev pub own_text : (List ℕ → Digest) → (Leaf → List ℕ) → Option (List (List ℕ)) → Rules → State → ChainEvent → Option (List ℕ)
-own_text H text watch rules t e = if is_made (own_outcome rules t e).verdict then text_by H text watch t.now e else None
+abbrev pub own_text : (List ℕ → Digest) → Option (List (List ℕ)) → Rules → State → ChainEvent → Option (List ℕ)
+own_text H watch rules t e = if is_made (own_outcome rules t e).verdict then text_by H watch t.now e else None
 
 -- that node says v of the event and passes the message on beside it, and s stands for what it holds then
-pub record IsAsOwn (H : List ℕ → Digest) (text : Leaf → List ℕ) (watch : Option (List (List ℕ))) (rules : Rules) (t : State) (e : ChainEvent)
+pub record IsAsOwn (H : List ℕ → Digest) (watch : Option (List (List ℕ))) (rules : Rules) (t : State) (e : ChainEvent)
     (v : Verdict) (message : Option (List ℕ)) (s : BridgeState) : Type 0 where
   pub said : (own_outcome rules t e).verdict ≡ Some v
-  pub passed : message ≡ own_text H text watch rules t e
-  pub stands : Stands H text (own_outcome rules t e).state s
+  pub passed : message ≡ own_text H watch rules t e
+  pub stands : Stands H (own_outcome rules t e).state s
 
 -- where s stands for what that node holds, it is so
-abbrev pub SaysAsOwn : (List ℕ → Digest) → (Leaf → List ℕ) → BridgeState → ChainEvent → Verdict → Option (List ℕ) → BridgeState → Type 0
-SaysAsOwn H text s e v message s' = (t : State) → Stands H text t s → IsAsOwn H text s.watch s.rules t e v message s'
+abbrev pub SaysAsOwn : (List ℕ → Digest) → BridgeState → ChainEvent → Verdict → Option (List ℕ) → BridgeState → Type 0
+SaysAsOwn H s e v message s' = (t : State) → Stands H t s → IsAsOwn H s.watch s.rules t e v message s'
 
 -- a bridge does
 abbrev pub BridgeIsOwn : Type 0
-BridgeIsOwn = (H : List ℕ → Digest) (text : Leaf → List ℕ) (s : BridgeState) (e : ChainEvent) → IsBridge H text s →
-    SaysAsOwn H text s e (verdict_on s e) (message_on H s e) (next_bridge H text s e)
+BridgeIsOwn = (H : List ℕ → Digest) (s : BridgeState) (e : ChainEvent) → IsBridge H s →
+    SaysAsOwn H s e (verdict_on s e) (message_on H s e) (next_bridge H s e)
 
 -- where s stands for what the proving node holds, this is what is known there to one with its watch list
-abbrev pub KnowsAsOwn : (List ℕ → Digest) → (Leaf → List ℕ) → BridgeState → List (Place × Digest) → Type 0
-KnowsAsOwn H text s known = (t : State) → Stands H text t s → (row off : ℕ)
-    → look known row off ≡ known_at H text (scripts_of s.watch) t.now.history row off
+abbrev pub KnowsAsOwn : (List ℕ → Digest) → BridgeState → List (Place × Digest) → Type 0
+KnowsAsOwn H s known = (t : State) → Stands H t s → (row off : ℕ)
+    → look known row off ≡ known_at H (scripts_of s.watch) t.now.history row off
 
 -- what a bridge knows is that, each place once, in ascending order
 abbrev pub KnownIsOwn : Type 0
-KnownIsOwn = (H : List ℕ → Digest) (text : Leaf → List ℕ) (s : BridgeState) → IsBridge H text s →
+KnownIsOwn = (H : List ℕ → Digest) (s : BridgeState) → IsBridge H s →
     let known = known_list H (scripts_of s.watch) s.entries s.held in
-    KnowsAsOwn H text s known × AscendByPlace known
+    KnowsAsOwn H s known × AscendByPlace known
 
 -- at the start it stands for it
 abbrev pub FreshStands : Type 0
-FreshStands = (H : List ℕ → Digest) (text : Leaf → List ℕ) (net : Net) (limits : Limits) (watch : Option (List (List ℕ)))
-    → Stands H text start (fresh_bridge net limits watch)
+FreshStands = (H : List ℕ → Digest) (net : Net) (limits : Limits) (watch : Option (List (List ℕ)))
+    → Stands H start (fresh_bridge net limits watch)
 
 -- and a bridge stays one
 abbrev pub FreshIsBridge : Type 0
-FreshIsBridge = (H : List ℕ → Digest) (text : Leaf → List ℕ) (net : Net) (limits : Limits) (watch : Option (List (List ℕ))) → limits.leaves < 2 ^ 40
-    → IsBridge H text (fresh_bridge net limits watch)
+FreshIsBridge = (H : List ℕ → Digest) (net : Net) (limits : Limits) (watch : Option (List (List ℕ))) → limits.leaves < 2 ^ 40
+    → IsBridge H (fresh_bridge net limits watch)
 
 abbrev pub NextIsBridge : Type 0
-NextIsBridge = (H : List ℕ → Digest) (text : Leaf → List ℕ) (s : BridgeState) (e : ChainEvent) → IsBridge H text s
-    → IsBridge H text (next_bridge H text s e)
+NextIsBridge = (H : List ℕ → Digest) (s : BridgeState) (e : ChainEvent) → IsBridge H s
+    → IsBridge H (next_bridge H s e)
 
 -- the chains of the levels that it can go back to, the newest first
 abbrev pub chains_of : BridgeState → List Chain
@@ -95,5 +94,5 @@ LevelsTold s (TooDeep asked kept) s' = (kept ≡ length s.undo) × (kept < asked
 LevelsTold s Stray s' = s' ≡ s
 
 abbrev pub VerdictsTellLevels : Type 0
-VerdictsTellLevels = (H : List ℕ → Digest) (text : Leaf → List ℕ) (s : BridgeState) (e : ChainEvent) → IsBridge H text s
-    → LevelsTold s (verdict_on s e) (next_bridge H text s e)
+VerdictsTellLevels = (H : List ℕ → Digest) (s : BridgeState) (e : ChainEvent) → IsBridge H s
+    → LevelsTold s (verdict_on s e) (next_bridge H s e)

@@ -3,7 +3,7 @@ use Rattle.std.specs.Prelude.{◌≡◌, ◌≢◌, ℕ, suc, ◌<◌, ◌≤◌
 use Rattle.std.specs.List.{AllByRecursion}
 use Rattle.uo_digest.specs.declared.digest.Digest.{Digest}
 use Rattle.forest_model.specs.Right.{entries}
-use Rattle.leaf_record.specs.Leaf.{Leaf}
+use Rattle.leaf_record.specs.Leaf.{Leaf, leaf_text}
 use Rattle.leaf_record.specs.History.{History}
 use Rattle.node_rules.specs.Judging.{history_after}
 use Rattle.node_rules.specs.Machine.{Level, State, chain_of}
@@ -39,14 +39,14 @@ GiveBack hs newer (older ∷ levels) (u ∷ undo) = Undoes u newer older × AreH
 
 -- the bridge stands for what the machine holds: chain, entries and live outputs are those of the newest level, and its records give back the
 -- older ones
-pub record Stands (H : List ℕ → Digest) (text : Leaf → List ℕ) (t : State) (s : BridgeState) : Type 0 where
+pub record Stands (H : List ℕ → Digest) (t : State) (s : BridgeState) : Type 0 where
   pub chain : s.chain ≡ chain_of t.now
-  pub entries : s.entries ≡ entries H text t.now.history
+  pub entries : s.entries ≡ entries H leaf_text t.now.history
   pub index : IsIndexOf s.held t.now.history
   pub undo : GiveBack s.held t.now t.older s.undo
 
 -- what holds of each bridge: it stands for some levels
-pub record IsBridge (H : List ℕ → Digest) (text : Leaf → List ℕ) (s : BridgeState) : Type 0 where
+pub record IsBridge (H : List ℕ → Digest) (s : BridgeState) : Type 0 where
   pub low : s.chain.blocks ≤ 2 ^ 31
   pub within : s.chain.leaves ≤ s.rules.limits.leaves
   pub few : s.rules.limits.leaves < 2 ^ 40
@@ -54,4 +54,4 @@ pub record IsBridge (H : List ℕ → Digest) (text : Leaf → List ℕ) (s : Br
   pub rise : NumbersRise s.held
   pub kept : length s.undo ≤ 100
   pub levels : State
-  pub stands : Stands H text levels s
+  pub stands : Stands H levels s

@@ -1,6 +1,5 @@
 //! Whether the roots of the forest accept the proof in a message.
 ghost use Rattle.std.specs.Prelude.{◌≡◌, ◌^◌, ◌<◌, length, option_map, IfOk, IfErr};
-ghost use Rattle.leaf_record.specs.Leaf.{leaf_text};
 ghost use Rattle.block_rules.specs.declared.refusal.Refusal.TheVariants as Why;
 ghost use Rattle.cache_model.specs.Cache.{look};
 ghost use Rattle.cache_model.specs.Lists.{AscendByPlace};
@@ -41,10 +40,10 @@ pub(crate) fn check_proof<D: Digester, L: Ledger>(
     requires shown { length message.now.proof.spends ≡ length external.now }
     requires few { length external.now < 2 ^ 32 }
     requires ascends { AscendByPlace known.now }
-    ensures ok { IfOk result (λ checked. IsChecked D.digest_of leaf_text forest.now.entries (look known.now) external.now message.now checked.targets
+    ensures ok { IfOk result (λ checked. IsChecked D.digest_of forest.now.entries (look known.now) external.now message.now checked.targets
         checked.hashes.items) }
     ensures err { IfErr result (λ fault. IsFirst
-        (option_map Why.Proof (fault_in D.digest_of leaf_text forest.now.entries (look known.now) external.now message.now)) fault) }
+        (option_map Why.Proof (fault_in D.digest_of forest.now.entries (look known.now) external.now message.now)) fault) }
 {
     let targets = targets_of(alloc, forest.leaves(), message)?;
     let hashes = full_hashes(alloc, message, &targets, known)?;

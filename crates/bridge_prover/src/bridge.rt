@@ -2,7 +2,6 @@
 ghost use Rattle.std.specs.Prelude.{◌≡◌, ◌+◌, ◌*◌, ◌<◌, ◌≤◌, ◌^◌, true, [], map, length, option_map, None, Some, IfOk, IfErr, OnOk, OnErr, All};
 ghost use Rattle.block_codec.specs.Reading.{block_in};
 ghost use Rattle.forest_place.specs.Position.{rows};
-ghost use Rattle.leaf_record.specs.Leaf.{leaf_text};
 ghost use Rattle.uo_base.specs.FeedEvent.{event_of};
 
 mod judge;
@@ -58,7 +57,6 @@ pub struct Bridge<D: Digester> {
 
 impl<D: Digester> Model for Bridge<D> {
     ghost use Rattle.std.specs.Prelude.{◌≡◌};
-    ghost use Rattle.leaf_record.specs.Leaf.{leaf_text};
     ghost use Rattle.node_rules.specs.Judging.{Rules};
     ghost use Rattle.bridge_prover.specs.Bridge.{BridgeState};
     ghost use Rattle.bridge_prover.specs.Standing.{IsBridge};
@@ -75,7 +73,7 @@ impl<D: Digester> Model for Bridge<D> {
       undo = s.undo;
     } };
 
-    ghost invariant = { λ s. IsBridge D.digest_of leaf_text (record {
+    ghost invariant = { λ s. IsBridge D.digest_of (record {
       rules = record { net = s.net; limits = s.limits };
       watch = s.watch;
       chain =
@@ -141,7 +139,7 @@ impl<D: Digester> Bridge<D> {
     /// The blocks that were accepted.
     pub fn chain(&self) -> Chain
         ensures is { result ≡ self.now.chain }
-        ensures bridge { IsBridge D.digest_of leaf_text self.now }
+        ensures bridge { IsBridge D.digest_of self.now }
     {
         self.chain
     }
@@ -189,7 +187,7 @@ impl<D: Digester> Bridge<D> {
         ensures ascends { IfOk result (λ known. AscendByPlace known.items) }
 
         // Where the bridge stands for what the proving node holds, it is what is known there.
-        ensures own { IfOk result (λ known. KnowsAsOwn D.digest_of leaf_text self.now known.items) }
+        ensures own { IfOk result (λ known. KnowsAsOwn D.digest_of self.now known.items) }
     {
         let kept = self.kept()?;
         self.hashes_at(&kept)
@@ -209,7 +207,7 @@ impl<D: Digester> Bridge<D> {
         // Some exactly where a block was accepted that spends from outside.
         ensures message { IfOk result (λ p. option_map (λ bytes. bytes.items) p.message
             ≡ message_on D.digest_of self.old (event_in (event_of event.entry))) }
-        ensures next { OnOk result (self.new ≡ next_bridge D.digest_of leaf_text self.old (event_in (event_of event.entry))) }
+        ensures next { OnOk result (self.new ≡ next_bridge D.digest_of self.old (event_in (event_of event.entry))) }
         ensures stays { OnErr result (self.new ≡ self.old) }
 
         // Which levels it can go back to then, and how many.
@@ -218,7 +216,7 @@ impl<D: Digester> Bridge<D> {
 
         // Where it stands for what the proving node holds, it says what that node says, passes on what that one passes on, and
         // stands for what that node holds then.
-        ensures refines { IfOk result (λ p. SaysAsOwn D.digest_of leaf_text self.old (event_in (event_of event.entry)) p.verdict
+        ensures refines { IfOk result (λ p. SaysAsOwn D.digest_of self.old (event_in (event_of event.entry)) p.verdict
             (option_map (λ bytes. bytes.items) p.message) self.new) }
         ensures steps { steps.new ≤ steps.old + most_steps self.old (event_in (event_of event.entry)) }
     {
@@ -234,7 +232,7 @@ impl<D: Digester> Bridge<D> {
     // Undoes so many blocks, where as many can be undone.
     fn roll_back<L: Ledger>(&mut self, count: u32, steps: &mut Steps<L>) -> Verdict
         ensures verdict { result ≡ verdict_on self.old (RollbackCame count) }
-        ensures next { self.new ≡ next_bridge D.digest_of leaf_text self.old (RollbackCame count) }
+        ensures next { self.new ≡ next_bridge D.digest_of self.old (RollbackCame count) }
         ensures steps { steps.new ≤ steps.old + most_steps self.old (RollbackCame count) }
     {
         let kept = self.kept_levels();
@@ -253,7 +251,7 @@ impl<D: Digester> Bridge<D> {
     }
 
     fn go_back<L: Ledger>(&mut self, count: u32, steps: &mut Steps<L>)
-        ensures next { self.new ≡ gone_back D.digest_of leaf_text count self.old }
+        ensures next { self.new ≡ gone_back D.digest_of count self.old }
         ensures steps { steps.new ≤ steps.old + spent_by count self.old.undo * (rows (length self.old.entries) + 1) }
     {
         for _ in 0..count {
@@ -263,7 +261,7 @@ impl<D: Digester> Bridge<D> {
 
     // The newest block, if one can be undone, is undone. This takes no memory.
     fn go_one_back<L: Ledger>(&mut self, steps: &mut Steps<L>)
-        ensures next { self.new ≡ undone_by D.digest_of leaf_text self.old.undo self.old }
+        ensures next { self.new ≡ undone_by D.digest_of self.old.undo self.old }
         ensures steps { steps.new ≤ steps.old + spent_by 1 self.old.undo * (rows (length self.old.entries) + 1) }
     {
         let Some(undo) = self.undo.pop() else {
@@ -291,7 +289,7 @@ impl<D: Digester> Bridge<D> {
     fn kept(&self) -> Result<Survey, NoMemory>
         ensures leaves { IfOk result (λ t. t.leaves ≡ length self.now.entries) }
         ensures targets { IfOk result (λ t. t.targets ≡ places_in self.now.entries (kept_in (scripts_of self.now.watch) self.now.held)) }
-        ensures bridge { IsBridge D.digest_of leaf_text self.now }
+        ensures bridge { IsBridge D.digest_of self.now }
     {
         kept_targets::<D>(self.alloc, &self.forest, &self.outputs, &self.noted)
     }
@@ -326,11 +324,11 @@ impl<D: Digester> Bridge<D> {
         rests: Rests,
         steps: &mut Steps<L>,
     ) -> Result<Option<Vec<u8>>, NoMemory>
-        requires ready { IsReady D.digest_of leaf_text self.old hash numbers.items spends.now.new }
+        requires ready { IsReady D.digest_of self.old hash numbers.items spends.now.new }
         requires rests { rests ≡ map (λ leaf. leaf.rest) (leaves_in self.old.held numbers.items) }
         ensures says { IfOk result (λ m. option_map (λ bytes. bytes.items) m
             ≡ written_text spends.now.external (message_by D.digest_of self.old.watch self.old.entries self.old.held numbers.items)) }
-        ensures next { OnOk result (self.new ≡ bridge_with D.digest_of leaf_text self.old hash numbers.items spends.now.new) }
+        ensures next { OnOk result (self.new ≡ bridge_with D.digest_of self.old hash numbers.items spends.now.new) }
         ensures stays { OnErr result (self.new ≡ self.old) }
         ensures steps { steps.new ≤ steps.old + length numbers.items * rows (length self.old.entries) + 2 * length spends.now.new + 40 }
     {
@@ -347,8 +345,8 @@ impl<D: Digester> Bridge<D> {
         numbers: Vec<u64>,
         steps: &mut Steps<L>,
     ) -> Result<(), NoMemory>
-        requires { IsReady D.digest_of leaf_text self.old hash numbers.items spends.now.new }
-        ensures next { OnOk result (self.new ≡ bridge_with D.digest_of leaf_text self.old hash numbers.items spends.now.new) }
+        requires { IsReady D.digest_of self.old hash numbers.items spends.now.new }
+        ensures next { OnOk result (self.new ≡ bridge_with D.digest_of self.old hash numbers.items spends.now.new) }
         ensures stays { OnErr result (self.new ≡ self.old) }
         ensures steps { steps.new ≤ steps.old + length numbers.items * rows (length self.old.entries) + 2 * length spends.now.new + 40 }
     {
@@ -369,13 +367,13 @@ impl<D: Digester> Bridge<D> {
         draft: Option<Draft>,
         steps: &mut Steps<L>,
     ) -> Result<Option<Vec<u8>>, NoMemory>
-        requires ready { IsReady D.digest_of leaf_text self.old hash numbers.items spends.now.new }
+        requires ready { IsReady D.digest_of self.old hash numbers.items spends.now.new }
         requires same { IsPermutation numbers.items spent.now }
         requires rise { IsNonDecreasing spent.now }
         requires draft { IsDraft self.old.entries numbers.items draft }
         ensures says { IfOk result (λ m. option_map (λ bytes. bytes.items) m
             ≡ option_map (λ d. message_text (drafted D.digest_of self.old.entries numbers.items spent.now d)) draft) }
-        ensures next { OnOk result (self.new ≡ bridge_with D.digest_of leaf_text self.old hash numbers.items spends.now.new) }
+        ensures next { OnOk result (self.new ≡ bridge_with D.digest_of self.old hash numbers.items spends.now.new) }
         ensures stays { OnErr result (self.new ≡ self.old) }
         ensures steps { steps.new ≤ steps.old + length numbers.items * rows (length self.old.entries) + 2 * length spends.now.new + 40 }
     {
@@ -412,7 +410,7 @@ impl<D: Digester> Bridge<D> {
         steps: &mut Steps<L>,
     ) -> Result<Option<Vec<u8>>, RuleFault>
         requires { hash ≡ block_hash_of block.now }
-        ensures ok { IfOk result (λ m. IsProved D.digest_of leaf_text self.old block.now (option_map (λ bytes. bytes.items) m) self.new) }
+        ensures ok { IfOk result (λ m. IsProved D.digest_of self.old block.now (option_map (λ bytes. bytes.items) m) self.new) }
         ensures err { IfErr result (λ fault. IsFirst (refusal_on self.old block.now) fault) }
         ensures stays { OnErr result (self.new ≡ self.old) }
         ensures steps { steps.new ≤ steps.old + most_steps self.old (BlockCame (Some block.now) nothing) }
@@ -437,7 +435,7 @@ impl<D: Digester> Bridge<D> {
     // Asks the rules on the block alone.
     fn shape<'b>(&self, block: &BlockView<'b>) -> Result<Spends<'b>, RuleFault>
         ensures judged { ShapeJudged self.now.rules.net self.now.rules.limits self.now.chain block.now result }
-        ensures bridge { IsBridge D.digest_of leaf_text self.now }
+        ensures bridge { IsBridge D.digest_of self.now }
     {
         shape_rules(self.alloc, block, &self.chain, self.net, self.limits)
     }
@@ -459,7 +457,7 @@ impl<D: Digester> Bridge<D> {
         ensures verdict { IfOk result (λ p. p.verdict ≡ verdict_on self.old (BlockCame (Some block.now) nothing)) }
         ensures message { IfOk result (λ p. option_map (λ bytes. bytes.items) p.message
             ≡ message_on D.digest_of self.old (BlockCame (Some block.now) nothing)) }
-        ensures next { OnOk result (self.new ≡ next_bridge D.digest_of leaf_text self.old (BlockCame (Some block.now) nothing)) }
+        ensures next { OnOk result (self.new ≡ next_bridge D.digest_of self.old (BlockCame (Some block.now) nothing)) }
         ensures stays { OnErr result (self.new ≡ self.old) }
         ensures steps { steps.new ≤ steps.old + most_steps self.old (BlockCame (Some block.now) nothing) }
     {
@@ -488,7 +486,7 @@ impl<D: Digester> Bridge<D> {
         ensures verdict { IfOk result (λ p. p.verdict ≡ verdict_on self.old (BlockCame (block_in bytes.now) nothing)) }
         ensures message { IfOk result (λ p. option_map (λ bytes. bytes.items) p.message
             ≡ message_on D.digest_of self.old (BlockCame (block_in bytes.now) nothing)) }
-        ensures next { OnOk result (self.new ≡ next_bridge D.digest_of leaf_text self.old (BlockCame (block_in bytes.now) nothing)) }
+        ensures next { OnOk result (self.new ≡ next_bridge D.digest_of self.old (BlockCame (block_in bytes.now) nothing)) }
         ensures stays { OnErr result (self.new ≡ self.old) }
         ensures steps { steps.new ≤ steps.old + most_steps self.old (BlockCame (block_in bytes.now) nothing) }
     {

@@ -1,13 +1,13 @@
 //! What a message claims of a block's external inputs.
 ghost use Rattle.std.specs.Prelude.{◌≡◌, map, length, IfOk};
-ghost use Rattle.leaf_record.specs.Leaf.{leaf_text};
 ghost use Rattle.proof_wire.specs.BlockProof.{rests_of};
 ghost use Rattle.block_rules.specs.Money.{found_of};
 ghost use Rattle.node_rules.specs.Messages.{points_of};
 ghost use Rattle.node_rules.specs.Accepting.{leaves_of};
 
 use block_rules::{Found, Outside};
-use leaf_record::{LeafBuf, RestView, leaf_digest};
+use leaf_record::{LeafBuf, RestView, leaf_digests};
+use node_rules::MessageLeaves;
 use proof_wire::MessageView;
 use std::alloc::{AllocError, Global};
 use std::sync::ledger::Ledger;
@@ -48,13 +48,8 @@ pub(crate) fn claimed_leaves<D: Digester, L: Ledger>(
     steps: &mut Steps<L>,
 ) -> Result<Vec<Digest>, AllocError>
     requires { length message.now.proof.spends ≡ length external.now }
-    ensures { IfOk result (λ leaves. leaves.items ≡ leaves_of D.digest_of leaf_text (points_of external.now) message.now) }
+    ensures { IfOk result (λ leaves. leaves.items ≡ leaves_of D.digest_of (points_of external.now) message.now) }
 {
-    let mut leaves = Vec::with_capacity(alloc, external.len())?;
-    for i in 0..external.len() {
-        let at = external[i];
-        let leaf = message.rest(i as u64).with_outpoint(at.txid, at.index);
-        leaves.push(leaf_digest::<D, L>(room, &leaf, steps))?;
-    }
-    Ok(leaves)
+    let claims = MessageLeaves::new(external, message);
+    leaf_digests(alloc, room, &claims, steps)
 }

@@ -9,7 +9,7 @@ ghost use Rattle.bridge_prover.specs.Bridge.{restored_in};
 
 use block_rules::Spends;
 use bridge_forest::Forest;
-use leaf_record::{LeafBuf, leaf_digest};
+use leaf_record::{LeafBuf, leaf_digest, leaf_digests};
 use output_index::Outputs;
 use std::alloc::{AllocError, Global};
 use std::sync::ledger::Ledger;
@@ -25,12 +25,8 @@ pub(crate) fn digests_of<D: Digester, L: Ledger>(
     ensures digests { IfOk result (λ digests. digests.items ≡ map (λ leaf. D.digest_of (leaf_text leaf)) spends.now.new) }
     ensures steps { steps.new ≤ steps.old + length spends.now.new }
 {
-    let mut digests = Vec::with_capacity(alloc, spends.new_count() as usize)?;
-    for i in 0..spends.new_count() {
-        let leaf = spends.new_output(i);
-        digests.push(leaf_digest::<D, L>(room, &leaf, steps))?;
-    }
-    Ok(digests)
+    let outputs = spends.new_outputs();
+    leaf_digests(alloc, room, &outputs, steps)
 }
 
 // These numbers in ascending order, in which a forest spends them by the fewest digests.
@@ -53,7 +49,7 @@ fn restore<D: Digester, L: Ledger>(
 )
     requires given { number < length forest.old.entries }
     requires spent { is_live forest.old.entries number ≡ false }
-    ensures entries { forest.new.entries ≡ all_restored (restored_in D.digest_of leaf_text outputs.now (number ∷ [])) forest.old.entries }
+    ensures entries { forest.new.entries ≡ all_restored (restored_in D.digest_of outputs.now (number ∷ [])) forest.old.entries }
     ensures steps { steps.new ≤ steps.old + (rows (length forest.old.entries) + 1) }
 {
     match outputs.output(number) {
@@ -76,7 +72,7 @@ pub(crate) fn restore_all<D: Digester, L: Ledger>(
     requires given { All (λ i. i < length forest.old.entries) numbers.now }
     requires spent { All (λ i. is_live forest.old.entries i ≡ false) numbers.now }
     requires apart { AllPairs (λ i j. i ≢ j) numbers.now }
-    ensures entries { forest.new.entries ≡ all_restored (restored_in D.digest_of leaf_text outputs.now numbers.now) forest.old.entries }
+    ensures entries { forest.new.entries ≡ all_restored (restored_in D.digest_of outputs.now numbers.now) forest.old.entries }
     ensures steps { steps.new ≤ steps.old + length numbers.now * (rows (length forest.old.entries) + 1) }
 {
     for number in numbers {

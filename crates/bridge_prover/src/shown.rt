@@ -1,7 +1,6 @@
 //! What the message beside a block shows: the entries at its targets, where they are what it says.
 ghost use Rattle.std.specs.Prelude.{◌≡◌, ◌↔◌, length, Some, IfOk, IsTrue};
 ghost use Rattle.forest_model.specs.Cover.{need};
-ghost use Rattle.leaf_record.specs.Leaf.{leaf_text};
 ghost use Rattle.proof_wire.specs.BlockProof.{rests_of};
 ghost use Rattle.node_rules.specs.Messages.{points_of, claimed};
 ghost use Rattle.node_rules.specs.Right.{same_leaf};
@@ -111,7 +110,7 @@ pub(crate) fn right_entries<D: Digester>(
     requires count { length message.now.proof.spends ≡ length external.now }
     requires named { AreNamed (length forest.now.entries) message.now targets.now }
     requires many { length hashes.now ≡ length (need targets.now.leaves targets.now.targets) }
-    ensures { IfOk result (λ numbers. IsShownBy D.digest_of leaf_text forest.now.entries outputs.now external.now message.now targets.now hashes.now
+    ensures { IfOk result (λ numbers. IsShownBy D.digest_of forest.now.entries outputs.now external.now message.now targets.now hashes.now
         numbers) }
 {
     let Some(numbers) = entries_shown(alloc, forest, outputs, external, message, targets.places())?

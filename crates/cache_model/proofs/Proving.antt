@@ -18,6 +18,7 @@ use Rattle.forest_model.proofs.Climbs.{tree_at-forest}
 use Rattle.forest_model.proofs.EntryPlaces.{entry_place-leaf}
 use Rattle.forest_model.proofs.Lists.{need_had}
 use Rattle.forest_model.proofs.Living.{needed_stands}
+use Rattle.leaf_record.specs.Leaf.{leaf_text}
 use Rattle.cache_model.specs.Cache.{held, look}
 use Rattle.forest_model.specs.Right.{entries}
 use Rattle.cache_model.specs.declared.kept.Kept.{Kept}
@@ -82,23 +83,24 @@ found_from {X = X} f i (x ∷ xs) v e = by_first (f x) refl e (found_from f i xs
         (cases_Bool (is_same_number i y.number))
 
 pub proof_climbed : ProofIsClimbed
-proof_climbed H text scripts us ks hs number hashes few s e = by_found (find is_same_number leaf_key number ks) refl e
+proof_climbed H scripts us ks hs number hashes few s e = by_found (find is_same_number leaf_key number ks) refl e
   where
     by_found : (x : Option Kept) → find is_same_number leaf_key number ks ≡ x
         → option_map (λ (p : Place). beside_way (40 - p.row) hs p.row p.off) (option_map (λ (k : Kept). k.place) x) ≡ Some hashes
-        → IsProofOf H (entries H text us) number hashes
+        → IsProofOf H (entries H leaf_text us) number hashes
     by_found None g e = absurd (none-some hashes e)
     by_found (Some k) g e =
-        let from = found_from (leaf_at H text scripts us) number (numbers (length us)) k
-        (ap (find is_same_number leaf_key number) (sym (s.of_kept ∙ leaves_are H text scripts us)) ∙ g) in
-        let is = there (λ leaf. H (text leaf)) from.0 (get_or us from.0 None) (watched_place (entries H text us) (watch scripts us) from.0) k
+        let from = found_from (leaf_at H scripts us) number (numbers (length us)) k
+        (ap (find is_same_number leaf_key number) (sym (s.of_kept ∙ leaves_are H scripts us)) ∙ g) in
+        let is = there (λ leaf. H (leaf_text leaf)) from.0 (get_or us from.0 None) (watched_place (entries H leaf_text us) (watch scripts us) from.0)
+        k
         from.1 in
-        let kept = place_kept (entries H text us) (watch scripts us) from.0 k.place is.1 in
+        let kept = place_kept (entries H leaf_text us) (watch scripts us) from.0 k.place is.1 in
         let same : from.0 ≡ number = sym is.0 ∙ found_key is_same_number is_before_number leaf_key number_order number ks k g in
-        let all : hs ≡ held H (entries H text us) (watched_places (entries H text us) (watch scripts us)) =
-        s.of_held ∙ ap (held H (entries H text us)) (sym (places_are H text scripts us)) in
-        let proof = climbed H (entries H text us) (watch scripts us) from.0 kept.0 k.place kept.1
-        (subst (λ n. n < 2 ^ 40) (sym (same_count H text us)) few) in
-        subst (λ (n : ℕ). IsProofOf H (entries H text us) n hashes) same
-        (subst (IsProofOf H (entries H text us) from.0) (same_Some (beside_way (40 - k.place.row) hs k.place.row k.place.off) hashes e)
-        (subst (λ xs. IsProofOf H (entries H text us) from.0 (beside_way (40 - k.place.row) xs k.place.row k.place.off)) (sym all) proof))
+        let all : hs ≡ held H (entries H leaf_text us) (watched_places (entries H leaf_text us) (watch scripts us)) =
+        s.of_held ∙ ap (held H (entries H leaf_text us)) (sym (places_are H scripts us)) in
+        let proof = climbed H (entries H leaf_text us) (watch scripts us) from.0 kept.0 k.place kept.1
+        (subst (λ n. n < 2 ^ 40) (sym (same_count H us)) few) in
+        subst (λ (n : ℕ). IsProofOf H (entries H leaf_text us) n hashes) same
+        (subst (IsProofOf H (entries H leaf_text us) from.0) (same_Some (beside_way (40 - k.place.row) hs k.place.row k.place.off) hashes e)
+        (subst (λ xs. IsProofOf H (entries H leaf_text us) from.0 (beside_way (40 - k.place.row) xs k.place.row k.place.off)) (sym all) proof))

@@ -7,7 +7,7 @@ use Rattle.forest_model.specs.Standing.{digest_at}
 use Rattle.forest_model.specs.EntryPlace.{entry_place}
 use Rattle.forest_model.specs.Cover.{need}
 use Rattle.forest_model.specs.Right.{entries}
-use Rattle.leaf_record.specs.Leaf.{Leaf}
+use Rattle.leaf_record.specs.Leaf.{leaf_text}
 use Rattle.leaf_record.specs.History.{History}
 use Rattle.cache_model.specs.declared.kept.Kept.{Kept}
 use Rattle.cache_model.specs.Cache.{look}
@@ -40,6 +40,6 @@ pub record IsProofOf (H : List ℕ → Digest) (es : List (Option Digest)) (numb
 
 -- what is held on the way up of a kept entry is its proof
 abbrev pub ProofIsClimbed : Type 0
-ProofIsClimbed = (H : List ℕ → Digest) (text : Leaf → List ℕ) (scripts : List (List ℕ)) (us : History) (ks : List Kept) (hs : List (Place × Digest))
+ProofIsClimbed = (H : List ℕ → Digest) (scripts : List (List ℕ)) (us : History) (ks : List Kept) (hs : List (Place × Digest))
     (number : ℕ) (hashes : List Digest) →
-    length us < 2 ^ 40 → IsCacheOf H text scripts us ks hs → proof_in ks hs number ≡ Some hashes → IsProofOf H (entries H text us) number hashes
+    length us < 2 ^ 40 → IsCacheOf H scripts us ks hs → proof_in ks hs number ≡ Some hashes → IsProofOf H (entries H leaf_text us) number hashes

@@ -4,9 +4,10 @@ use Rattle.std.proofs.lemmas.Option.{none-some, same_Some}
 use Rattle.uo_digest.specs.declared.digest.Digest.{Digest}
 use Rattle.forest_place.specs.declared.place.Place.{Place}
 use Rattle.forest_place.specs.Forest.{InForest}
+use Rattle.forest_place.specs.Places.{is_before_place}
 use Rattle.cache_model.specs.declared.kept.Kept.{Kept}
 use Rattle.cache_model.specs.Lists.{AscendByNumber, AscendByPlace}
-use Rattle.cache_model.specs.Undo.{KeepKeys, held_key, is_same_place, is_before_place}
+use Rattle.cache_model.specs.Undo.{KeepKeys, held_key, is_same_place}
 use Rattle.cache_model.proofs.Undoing.{place_order, undone}
 use Rattle.leaf_cache.specs.Parted.{Parted, IsParted}
 use Rattle.cache_update.specs.Given.{digest_was, digest_none, undo_digests, held_given}

@@ -11,11 +11,11 @@ use Rattle.std.proofs.lemmas.Slice.Eq.{bytes_eq-Decides}
 use Rattle.uo_digest.specs.declared.digest.Digest.{Digest}
 use Rattle.uo_digest.proofs.DigestLaws.{digest_is}
 use Rattle.forest_place.specs.declared.place.Place.{Place}
-use Rattle.forest_place.specs.Places.{is_at, has_place}
+use Rattle.forest_place.specs.Places.{is_at, has_place, is_before_place}
 use Rattle.forest_place.proofs.Listed.{is_at-same, same_from_is_at}
 use Rattle.cache_model.specs.Cache.{look}
 use Rattle.cache_model.specs.Lists.{AscendByPlace}
-use Rattle.cache_model.specs.Undo.{find, undo, had, held_key, is_same_place, is_before_place}
+use Rattle.cache_model.specs.Undo.{find, undo, had, held_key, is_same_place}
 use Rattle.cache_model.proofs.Logs.{formers, formers_keep, formers_give}
 use Rattle.cache_model.proofs.Undoing.{place_order, undo_gives}
 use Rattle.cache_model.proofs.Stepping.{find_is}

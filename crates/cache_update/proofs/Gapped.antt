@@ -6,10 +6,11 @@ use Rattle.std.proofs.lemmas.List.{append-nil, append_assoc, length-append, leng
 use Rattle.std.proofs.lemmas.List.{take_more, take_more_set, drop_more, drop_all, get_or-take, get_or-drop, get_or_default}
 use Rattle.uo_digest.specs.declared.digest.Digest.{Digest}
 use Rattle.forest_place.specs.declared.place.Place.{Place}
+use Rattle.forest_place.specs.Places.{is_before_place}
 use Rattle.cache_model.specs.Lists.{AscendByPlace}
 use Rattle.cache_model.specs.Search.{IsSplit}
 use Rattle.cache_model.specs.Steps.{put}
-use Rattle.cache_model.specs.Undo.{change, held_key, is_same_place, is_before_place}
+use Rattle.cache_model.specs.Undo.{change, held_key, is_same_place}
 use Rattle.cache_model.proofs.Searching.{IsNarrowed, narrowed-start, narrowed-up, narrowed-down, narrowed-end, change_at, change_end}
 use Rattle.cache_model.proofs.Undoing.{place_order}
 use Rattle.cache_update.specs.Gaps.{IsGap, around, EndsBefore}

@@ -11,7 +11,7 @@ use Rattle.uo_digest.specs.declared.digest.Digest.{Digest}
 use Rattle.leaf_record.specs.Leaf.{Leaf}
 use Rattle.forest_place.specs.declared.place.Place.{Place}
 use Rattle.forest_place.specs.Forest.{InForest, is_slot}
-use Rattle.forest_place.specs.Places.{is_at, has_place, IsDistinct as HasNoRepeat}
+use Rattle.forest_place.specs.Places.{is_at, has_place, IsDistinct as HasNoRepeat, is_before_place}
 use Rattle.forest_place.proofs.Counted.{few_made}
 use Rattle.forest_place.proofs.Listed.{same_from_is_at}
 use Rattle.forest_place.proofs.Parts.{row_below}
@@ -24,7 +24,7 @@ use Rattle.proof_shape.specs.Survey.{IsCoverOf}
 use Rattle.cache_model.specs.declared.kept.Kept.{Kept}
 use Rattle.cache_model.specs.Known.{is_known}
 use Rattle.cache_model.specs.Lists.{AscendByPlace, leaf_key, raised_leaves, leaves_more}
-use Rattle.cache_model.specs.Undo.{find, is_same_place, is_before_place, held_key, is_same_number, is_before_number}
+use Rattle.cache_model.specs.Undo.{find, is_same_place, held_key, is_same_number, is_before_number}
 use Rattle.cache_model.proofs.Undoing.{place_order}
 use Rattle.cache_update.specs.Given.{entry_was, entry_stood, entry_none, digest_was, digest_none, undo_entries, undo_digests, kept_given, held_given}
 use Rattle.cache_update.proofs.Undone.{undo_short, undo_no_longer}

@@ -6,7 +6,7 @@ use Rattle.std.proofs.lemmas.Bool.{cases_Bool, or_cases, and_parts, false≢true
 use Rattle.std.proofs.lemmas.List.Elements.{All-nil, All-cons, All-head, All-tail}
 use Rattle.std.proofs.lemmas.Option.{none-some, same_Some}
 use Rattle.uo_digest.specs.declared.digest.Digest.{Digest}
-use Rattle.leaf_record.specs.Leaf.{Leaf}
+use Rattle.leaf_record.specs.Leaf.{Leaf, leaf_text}
 use Rattle.leaf_record.specs.History.{History}
 use Rattle.forest_place.specs.declared.place.Place.{Place}
 use Rattle.forest_place.specs.Forest.{is_slot, root_off, IsSlotOf}
@@ -128,10 +128,10 @@ module _ (es : List (Option Digest)) where
         none-some _ (sym (nothing_beneath es k q.row q.off _ _ s) ∙ low.stands));
   }
 
-module _ (H : List ℕ → Digest) (text : Leaf → List ℕ) (scripts : List (List ℕ)) (us : History) (f : Stump) (ks : List Kept)
-    (hs : List (Place × Digest)) (standing : StandsFor H (entries H text us) f) (s : IsCacheOf H text scripts us ks hs) where
+module _ (H : List ℕ → Digest) (scripts : List (List ℕ)) (us : History) (f : Stump) (ks : List Kept)
+    (hs : List (Place × Digest)) (standing : StandsFor H (entries H leaf_text us) f) (s : IsCacheOf H scripts us ks hs) where
   abbrev es : List (Option Digest)
-  es = entries H text us
+  es = entries H leaf_text us
 
   count : f.leaves ≡ length es
   count = standing.leaves
@@ -140,22 +140,22 @@ module _ (H : List ℕ → Digest) (text : Leaf → List ℕ) (scripts : List (L
   IsOne k = Stands es k × (k.number < length es)
 
   as_one : (i : ℕ) (x : Option Leaf) (y : Option Place) (k : Kept) → get_or us i None ≡ x → entry_place es i ≡ y
-      → kept_leaf_of (λ r. H (text r)) i x y ≡ Some k → IsOne k
+      → kept_leaf_of (λ r. H (leaf_text r)) i x y ≡ Some k → IsOne k
   as_one i None y k a b e = absurd (none-some k e)
   as_one i (Some r) None k a b e = absurd (none-some k e)
   as_one i (Some r) (Some p) k a b e =
-      let live : get_or es i None ≡ Some (H (text r)) = entry_at H text us i ∙ ap (option_map (λ x. H (text x))) a in
-      let w = entry_found es i (H (text r)) live in
+      let live : get_or es i None ≡ Some (H (leaf_text r)) = entry_at H us i ∙ ap (option_map (λ x. H (leaf_text x))) a in
+      let w = entry_found es i (H (leaf_text r)) live in
       let same : w.0 ≡ p = same_Some w.0 p (sym w.1 ∙ b) in
       subst IsOne (same_Some _ k e) (
-        subst (λ (q : Place). tree_at es q.row q.off ≡ Some (leaf i (H (text r)))) same w.2,
-        live_within es i (H (text r)) live,
+        subst (λ (q : Place). tree_at es q.row q.off ≡ Some (leaf i (H (leaf_text r)))) same w.2,
+        live_within es i (H (leaf_text r)) live,
       )
 
   each_one : All IsOne ks
   each_one =
       subst (All IsOne) (sym s.of_kept)
-      (passed (λ (i : ℕ). Unit {0}) IsOne (kept_leaf H text us) (λ i k u e. as_one i (get_or us i None) (entry_place es i) k refl refl e)
+      (passed (λ (i : ℕ). Unit {0}) IsOne (kept_leaf H us) (λ i k u e. as_one i (get_or us i None) (entry_place es i) k refl refl e)
       (kept scripts us) (any (kept scripts us)))
     where
       any : (xs : List ℕ) → All (λ (i : ℕ). Unit {0}) xs
@@ -177,15 +177,15 @@ module _ (H : List ℕ → Digest) (text : Leaf → List ℕ) (scripts : List (L
   held_within : All (IsHeldIn (length es)) hs
   held_within =
       subst (All (IsHeldIn (length es))) (sym s.of_held)
-      (passed (IsPlaceIn (length es)) (IsHeldIn (length es)) (held_at (digest_at H es) (length es) (kept_places H text scripts us))
-      (λ p x h e. subst (IsPlaceIn (length es)) (sym (held_at_some (digest_at H es) (length es) (kept_places H text scripts us) p x e).0) h)
+      (passed (IsPlaceIn (length es)) (IsHeldIn (length es)) (held_at (digest_at H es) (length es) (kept_places H scripts us))
+      (λ p x h e. subst (IsPlaceIn (length es)) (sym (held_at_some (digest_at H es) (length es) (kept_places H scripts us) p x e).0) h)
       (places (length es)) (each_from (IsPlaceIn (length es)) (places (length es)) (λ q h. places_had (length es) q.row q.off h)))
 
   pub of_its_roots : AreOfRoots f ks hs
   of_its_roots = record {
     numbers = weaker IsOne (λ (k : Kept). k.number < f.leaves) (λ k one. subst (λ n. k.number < n) (sym count) one.1) ks each_one;
     shape = subst (λ n. HasShape n (leaf_places ks)) (sym count)
-        (shape es ks (is_ordered H text scripts us ks hs s).0 (weaker IsOne (Stands es) (λ k one. one.0) ks each_one));
+        (shape es ks (is_ordered H scripts us ks hs s).0 (weaker IsOne (Stands es) (λ k one. one.0) ks each_one));
     rooted = weaker IsOne (λ (k : Kept). IsRooted f k.place) rooted ks each_one;
     held = subst (λ n. All (IsHeldIn n) hs) (sym count) held_within;
   }

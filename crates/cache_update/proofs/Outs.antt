@@ -7,10 +7,11 @@ use Rattle.std.proofs.lemmas.List.{drop_all, take_all}
 use Rattle.std.proofs.lemmas.Option.{none-some, same_Some}
 use Rattle.uo_digest.specs.declared.digest.Digest.{Digest}
 use Rattle.forest_place.specs.declared.place.Place.{Place}
+use Rattle.forest_place.specs.Places.{is_before_place}
 use Rattle.cache_model.specs.declared.kept.Kept.{Kept}
 use Rattle.cache_model.specs.Lists.{AscendByPlace, AscendByNumber, leaf_key}
 use Rattle.cache_model.specs.Search.{IsSplit}
-use Rattle.cache_model.specs.Undo.{change, held_key, is_same_place, is_before_place, is_same_number, is_before_number}
+use Rattle.cache_model.specs.Undo.{change, held_key, is_same_place, is_same_number, is_before_number}
 use Rattle.cache_model.proofs.Undoing.{place_order, number_order, change_ascends}
 use Rattle.cache_model.proofs.Searching.{change_at, change_before, change_end}
 use Rattle.cache_update.specs.Given.{at_place}

@@ -12,7 +12,7 @@ use Rattle.uo_digest.specs.declared.digest.Digest.{Digest}
 use Rattle.leaf_record.specs.Leaf.{Leaf}
 use Rattle.forest_place.specs.declared.place.Place.{Place}
 use Rattle.forest_place.specs.Forest.{is_slot, root_off, IsSlotOf}
-use Rattle.forest_place.specs.Places.{has_place}
+use Rattle.forest_place.specs.Places.{has_place, is_within}
 use Rattle.forest_place.proofs.Listed.{place}
 use Rattle.forest_place.proofs.Parts.{InForest-root, is_root-root_off}
 use Rattle.forest_model.specs.Content.{join_digests}
@@ -33,7 +33,7 @@ use Rattle.cache_model.specs.Steps.{held_deleted, put_all, moving, staying}
 use Rattle.cache_model.proofs.Raising.{raised-same, slot_from}
 use Rattle.cache_update.specs.Beside.{IsRooted, AreOfRoots}
 use Rattle.cache_update.specs.Joins.{is_empty_of, added_by}
-use Rattle.cache_update.specs.Marks.{is_within, pairs_within}
+use Rattle.cache_update.specs.Marks.{pairs_within}
 use Rattle.cache_update.proofs.Apart.{GoesWithRoot, with_root, free_apart}
 use Rattle.cache_update.proofs.Going.{moved_up, moved_halves, moved_roots, moved_root_is, stays, rise, IsMet, carried, raised_up, raised_halves}
 use Rattle.cache_update.proofs.Going.{raised_roots, root_in_made, last_in_made, root_beside_last}

@@ -7,9 +7,10 @@ use Rattle.std.proofs.lemmas.Bool.{cases_Bool, cases_eq, cases_lt, and_parts, tr
 use Rattle.std.proofs.lemmas.List.{get_or_default}
 use Rattle.uo_digest.specs.declared.digest.Digest.{Digest}
 use Rattle.forest_place.specs.declared.place.Place.{Place}
+use Rattle.forest_place.specs.Places.{is_before_place}
 use Rattle.cache_model.specs.Lists.{AscendByPlace}
 use Rattle.cache_model.specs.Search.{IsSplit}
-use Rattle.cache_model.specs.Undo.{is_same_place, is_before_place, held_key}
+use Rattle.cache_model.specs.Undo.{is_same_place, held_key}
 use Rattle.cache_model.proofs.Searching.{IsNarrowed, narrowed-up, narrowed-down, narrowed-end, rises}
 use Rattle.cache_model.proofs.Undoing.{place_order}
 use Rattle.cache_update.specs.Descent.{NoneBefore}

@@ -11,7 +11,7 @@ use Rattle.uo_digest.specs.declared.digest.Digest.{Digest}
 use Rattle.leaf_record.specs.Leaf.{Leaf}
 use Rattle.forest_place.specs.declared.place.Place.{Place}
 use Rattle.forest_place.specs.Forest.{InForest, is_root}
-use Rattle.forest_place.specs.Places.{is_at}
+use Rattle.forest_place.specs.Places.{is_at, is_within, is_before_place}
 use Rattle.forest_place.proofs.Listed.{place, same_from_is_at}
 use Rattle.forest_place.proofs.Parts.{row_below, InForest-up}
 use Rattle.forest_place.proofs.Slots.{in_forest_iff}
@@ -24,10 +24,10 @@ use Rattle.cache_model.specs.Cache.{child, raised, raised_held, noted, is_root_h
 use Rattle.cache_model.specs.Known.{is_known}
 use Rattle.cache_model.specs.Lists.{moved_leaf, moved_leaves, raised_leaves, leaves_more}
 use Rattle.cache_model.specs.Steps.{put, put_all, staying, moving, destined}
-use Rattle.cache_model.specs.Undo.{is_same_place, is_before_place}
+use Rattle.cache_model.specs.Undo.{is_same_place}
 use Rattle.cache_model.proofs.Raising.{raised-step, raised-joined, raised-same}
 use Rattle.cache_update.specs.Joins.{is_empty_of, root_of, carried_to, shown_by, added_by}
-use Rattle.cache_update.specs.Marks.{IsKnownIn, is_within, is_pair_known}
+use Rattle.cache_update.specs.Marks.{IsKnownIn, is_pair_known}
 use Rattle.cache_update.proofs.Moves.{IsAt, goes_within, child_within}
 
 abbrev pub IsHeldIn : ℕ → Place × Digest → Type 0

@@ -3,8 +3,8 @@ use Rattle.std.specs.Prelude.{◌≡◌, ℕ, ◌+◌, ◌-◌, ◌/◌, ◌^◌
 use Rattle.uo_digest.specs.declared.digest.Digest.{Digest}
 use Rattle.forest_place.specs.declared.place.Place.{Place}
 use Rattle.forest_place.specs.Forest.{is_root, sibling_off}
+use Rattle.forest_place.specs.Places.{is_before_place}
 use Rattle.forest_model.specs.Deletion.{is_gone, moved}
-use Rattle.cache_model.specs.Undo.{is_before_place}
 
 -- q stands right above p, and neither p nor its sibling is gone
 pub record IsStayingAbove (n : ℕ) (ts : List Place) (p q : Place) : Type 0 where

@@ -2,10 +2,11 @@
 use Rattle.std.specs.Prelude.{◌≡◌, ℕ, ◌<◌, ◌≤◌, not, Bool, true, false, List, length, get_or, Option, Some, None, is_some, bytes_eq, if◌then◌else◌}
 use Rattle.uo_digest.specs.declared.digest.Digest.{Digest}
 use Rattle.forest_place.specs.declared.place.Place.{Place}
+use Rattle.forest_place.specs.Places.{is_before_place}
 use Rattle.cache_model.specs.declared.kept.Kept.{Kept}
 use Rattle.cache_model.specs.Cache.{look}
 use Rattle.cache_model.specs.Climbed.{kept_place}
-use Rattle.cache_model.specs.Undo.{is_same_place, is_before_place}
+use Rattle.cache_model.specs.Undo.{is_same_place}
 
 abbrev pub is_digest : Option Digest → Digest → Bool
 is_digest None d = false

@@ -2,7 +2,7 @@
 use Rattle.std.specs.Prelude.{◌≡◌, ℕ, ◌-◌, ◌<◌, ◌≤◌, true, List, ◌++◌, take, drop, length, get_or}
 use Rattle.uo_digest.specs.declared.digest.Digest.{Digest}
 use Rattle.forest_place.specs.declared.place.Place.{Place}
-use Rattle.cache_model.specs.Undo.{is_before_place}
+use Rattle.forest_place.specs.Places.{is_before_place}
 
 -- the gap is some of these cells
 pub record IsGap (from to : ℕ) (cells : List (Place × Digest)) : Type 0 where

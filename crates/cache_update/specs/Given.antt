@@ -2,9 +2,10 @@
 use Rattle.std.specs.Prelude.{ℕ, List, map, Option, Some, None, option_map}
 use Rattle.uo_digest.specs.declared.digest.Digest.{Digest}
 use Rattle.forest_place.specs.declared.place.Place.{Place}
+use Rattle.forest_place.specs.Places.{is_before_place}
 use Rattle.cache_model.specs.declared.kept.Kept.{Kept}
 use Rattle.cache_model.specs.Lists.{leaf_key}
-use Rattle.cache_model.specs.Undo.{undo, had, held_key, is_same_place, is_before_place, is_same_number, is_before_number}
+use Rattle.cache_model.specs.Undo.{undo, had, held_key, is_same_place, is_same_number, is_before_number}
 
 -- the changes of the kept entries: one that was kept, one that stood elsewhere, and one that was not kept
 abbrev pub entry_was : Kept → ℕ × (Option Kept → Option Kept)

@@ -1,10 +1,11 @@
 -- What a mark gives back over a cache, and when it fits one.
-use Rattle.std.specs.Prelude.{◌≡◌, ℕ, ◌+◌, ◌*◌, ◌<◌, ◌≤◌, Bool, true, ◌||◌, ◌&&◌, nat_lt, ◌/◌, ◌^◌, List, [], map, filter, length, Option, Some, None}
+use Rattle.std.specs.Prelude.{◌≡◌, ℕ, ◌+◌, ◌*◌, ◌<◌, ◌≤◌, Bool, true, ◌||◌, ◌&&◌, List, [], map, filter, length, Option, Some, None}
 use Rattle.std.specs.Prelude.{is_some, count_ones, Box, vec_len, vec_capacity, All}
 use Rattle.std.specs.List.{list_any}
 use Rattle.std.specs.declared.alloc.Global.{Global}
 use Rattle.uo_digest.specs.declared.digest.Digest.{Digest}
 use Rattle.forest_place.specs.declared.place.Place.{Place}
+use Rattle.forest_place.specs.Places.{is_within}
 use Rattle.forest_place.specs.Forest.{InForest}
 use Rattle.proof_shape.specs.Targeted.{Targeted}
 use Rattle.cache_model.specs.declared.kept.Kept.{Kept}
@@ -119,11 +120,7 @@ IsUnusedIn t m p (Some r) = IsUnused t m p r.value
 abbrev pub WasBegun : Targeted → Mark → Parted → Type 0
 WasBegun t m p = IsUnusedIn t m p m.room
 
--- whether the forest over n entries has the place
-abbrev pub is_within : ℕ → Place → Bool
-is_within n p = nat_lt p.off (n / 2 ^ p.row)
-
--- and it is known where kept entries stand at these places
+-- whether the place is one of the forest over n entries, and known where kept entries stand at these places
 abbrev pub is_pair_known : ℕ → List Place → Place → Bool
 is_pair_known n ps p = is_within n p && is_known n ps p
 

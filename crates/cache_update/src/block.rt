@@ -2,7 +2,7 @@
 ghost use Rattle.std.specs.Prelude.{◌≡◌, ℕ, List, Option, ◌+◌, ◌<◌, ◌≤◌, ◌^◌, ◌∷◌, ◌++◌, [], true, false, length, map, is_some, Some, None};
 ghost use Rattle.std.specs.Prelude.{if◌then◌else◌, vec_len, vec_capacity};
 ghost use Rattle.uo_digest.specs.declared.digest.Digest.{Digest as Digested};
-ghost use Rattle.leaf_record.specs.Leaf.{Leaf};
+ghost use Rattle.leaf_record.specs.Leaf.{Leaf, leaf_text};
 ghost use Rattle.leaf_record.specs.History.{History, spent};
 ghost use Rattle.forest_place.specs.Forest.{is_slot};
 ghost use Rattle.forest_model.specs.Standing.{digest_at};
@@ -144,12 +144,12 @@ pub fn after_delete<D>(
     ensures watch { cache.new.watch ≡ cache.old.watch }
 
     // Where the cache stands for a history, the targets are places of live entries and the changes are those of right hashes.
-    ensures stands { (H : List ℕ → Digested) (text : Leaf → List ℕ) (scripts : List (List ℕ)) (us : History) (numbers : List ℕ)
+    ensures stands { (H : List ℕ → Digested) (scripts : List (List ℕ)) (us : History) (numbers : List ℕ)
         (hashes : List Digested) →
-        length us ≡ targets.now.leaves → StandAt (entries H text us) targets.now.targets numbers →
-        map Some hashes ≡ map (λ p. digest_at H (entries H text us) p.row p.off) (need (length us) targets.now.targets) →
-        AreChanges H (length us) targets.now.targets hashes changes.now → IsCacheOf H text scripts us cache.old.parts.kept cache.old.parts.held →
-        IsCacheOf H text scripts (spent numbers us) cache.new.parts.kept cache.new.parts.held }
+        length us ≡ targets.now.leaves → StandAt (entries H leaf_text us) targets.now.targets numbers →
+        map Some hashes ≡ map (λ p. digest_at H (entries H leaf_text us) p.row p.off) (need (length us) targets.now.targets) →
+        AreChanges H (length us) targets.now.targets hashes changes.now → IsCacheOf H scripts us cache.old.parts.kept cache.old.parts.held →
+        IsCacheOf H scripts (spent numbers us) cache.new.parts.kept cache.new.parts.held }
 
     ensures fits { Fits mark.new cache.new.parts }
     ensures kept_back { kept_back mark.new cache.new.parts.kept ≡ kept_back mark.old cache.old.parts.kept }
@@ -184,11 +184,11 @@ pub fn after_add<D>(
     ensures watch { cache.new.watch ≡ cache.old.watch }
 
     // Where the cache stands for a history, and roots that stand for it joined these.
-    ensures stands { (H : List ℕ → Digested) (text : Leaf → List ℕ) (scripts : List (List ℕ)) (us : History) (u : Leaf) (f : Stump) →
-        length us ≡ n → StandsFor H (entries H text us) f → digest ≡ H (text u) → joins.now ≡ joins_of H f (H (text u))
+    ensures stands { (H : List ℕ → Digested) (scripts : List (List ℕ)) (us : History) (u : Leaf) (f : Stump) →
+        length us ≡ n → StandsFor H (entries H leaf_text us) f → digest ≡ H (leaf_text u) → joins.now ≡ joins_of H f (H (leaf_text u))
         → is_slot n (length joins.now) ≡ false →
-        leaf ≡ (if is_watched scripts (Some u) then Some u else None) → IsCacheOf H text scripts us cache.old.parts.kept cache.old.parts.held →
-        IsCacheOf H text scripts (us ++ Some u ∷ []) cache.new.parts.kept cache.new.parts.held }
+        leaf ≡ (if is_watched scripts (Some u) then Some u else None) → IsCacheOf H scripts us cache.old.parts.kept cache.old.parts.held →
+        IsCacheOf H scripts (us ++ Some u ∷ []) cache.new.parts.kept cache.new.parts.held }
 
     ensures fits { Fits mark.new cache.new.parts }
     ensures kept_back { kept_back mark.new cache.new.parts.kept ≡ kept_back mark.old cache.old.parts.kept }

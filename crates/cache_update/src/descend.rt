@@ -4,18 +4,18 @@ ghost use Rattle.std.specs.Prelude.{◌≡◌, ℕ, List, ◌+◌, ◌<◌, ◌�
 ghost use Rattle.std.specs.Bool.{OnTrue, OnFalse};
 ghost use Rattle.forest_place.specs.declared.place.Place.{Place as Placed};
 ghost use Rattle.forest_place.specs.Forest.{InForest, is_root as is_root_of, sibling_off};
-ghost use Rattle.forest_place.specs.Places.{place_in};
+ghost use Rattle.forest_place.specs.Places.{place_in, is_before_place};
 ghost use Rattle.forest_model.specs.Deletion.{is_gone, moved, child_place};
 ghost use Rattle.proof_shape.specs.Survey.{up};
 ghost use Rattle.proof_shape.specs.Targeted.{NoneGonePast};
 ghost use Rattle.cache_model.specs.Lists.{AscendByPlace};
 ghost use Rattle.cache_model.specs.Search.{IsSplit};
-ghost use Rattle.cache_model.specs.Undo.{is_before_place, held_key};
+ghost use Rattle.cache_model.specs.Undo.{held_key};
 ghost use Rattle.cache_update.specs.Descent.{IsStayingAbove, NoneBefore, StandsBeneath, TellGoals};
 
 use crate::known::covered_near;
-use crate::put::{is_before, is_same};
-use forest_place::{Place, is_root, parent, position, sibling};
+use crate::put::is_same;
+use forest_place::{Place, is_before, is_root, parent, position, sibling};
 use leaf_cache::index_of_place;
 use proof_shape::{Targets, child_of};
 use uo_digest::Digest;

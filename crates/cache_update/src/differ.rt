@@ -1,14 +1,15 @@
 //! What differs between the lists of two caches.
 ghost use Rattle.std.specs.Prelude.{◌≡◌, ◌+◌, ◌<◌, ◌≤◌, ◌++◌, length, filter_map, vec_len, vec_capacity};
 ghost use Rattle.std.specs.Option.{option_to_list};
+ghost use Rattle.forest_place.specs.Places.{is_before_place};
 ghost use Rattle.cache_model.specs.Lists.{AscendByPlace, AscendByNumber};
 ghost use Rattle.cache_model.specs.Cache.{look};
 ghost use Rattle.cache_model.specs.Search.{IsSplit};
-ghost use Rattle.cache_model.specs.Undo.{is_before_place, held_key};
+ghost use Rattle.cache_model.specs.Undo.{held_key};
 ghost use Rattle.cache_update.specs.Differences.{AreBefore, lost as lost_of, gained as gained_of, moved_since};
 
-use crate::put::{is_before, is_same};
-use forest_place::Place;
+use crate::put::is_same;
+use forest_place::{Place, is_before};
 use leaf_cache::{Kept, place_of};
 use uo_digest::Digest;
 

@@ -1,14 +1,15 @@
 //! An ascending list with a gap, which goes to where the list is changed. Changes from the end of a list to its front so move each element once.
 ghost use Rattle.std.specs.Prelude.{◌≡◌, ◌+◌, ◌<◌, ◌≤◌, ◌⊎◌, true, false, None, length, take, get_or, vec_len, vec_capacity};
 ghost use Rattle.std.specs.Bool.{OnTrue, OnFalse};
+ghost use Rattle.forest_place.specs.Places.{is_before_place};
 ghost use Rattle.cache_model.specs.Lists.{AscendByPlace};
 ghost use Rattle.cache_model.specs.Search.{IsSplit};
 ghost use Rattle.cache_model.specs.Steps.{put as put_of};
-ghost use Rattle.cache_model.specs.Undo.{change, held_key, is_same_place, is_before_place};
+ghost use Rattle.cache_model.specs.Undo.{change, held_key, is_same_place};
 ghost use Rattle.cache_update.specs.Gaps.{EndsBefore, IsGap, around};
 
-use crate::put::{append, is_before, is_same};
-use forest_place::Place;
+use crate::put::{append, is_same};
+use forest_place::{Place, is_before};
 use uo_digest::Digest;
 
 /// The indices at which a gap begins and ends. What stands in between means nothing.

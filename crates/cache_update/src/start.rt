@@ -14,9 +14,8 @@ ghost use Rattle.cache_update.specs.Marks.{AreOfForest, Fits, WasBegun, HoldKnow
 
 use crate::descend::{goal_at, tell_goals};
 use crate::fault::BeginFault;
-use crate::known::is_within;
 use crate::mark::{Mark, Room, Scratch};
-use forest_place::{Place, position};
+use forest_place::{Place, is_within, position};
 use leaf_cache::{Cache, Kept, Parts};
 use proof_shape::{Survey, Targets};
 use std::alloc::Global;

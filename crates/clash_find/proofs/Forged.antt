@@ -4,7 +4,6 @@ use Rattle.std.specs.Prelude.{not, ◌&&◌, is_none, is_some}
 use Rattle.std.proofs.Math.Path.{fun_ext}
 use Rattle.uo_digest.specs.declared.digest.Digest.{Digest}
 use Rattle.block_codec.specs.Block.{Block}
-use Rattle.leaf_record.specs.Leaf.{leaf_text}
 use Rattle.leaf_record.specs.History.{History}
 use Rattle.block_rules.specs.declared.chain.Chain.{Chain}
 use Rattle.block_rules.specs.declared.refusal.ProofRefusal.{ProofRefusal}
@@ -23,13 +22,13 @@ use Rattle.clash_find.specs.Answers.{view_over, IsAnswer}
 module _ (H : List ℕ → Digest) (us : History) (scripts : List (List ℕ)) (rules : Rules) (chain : Chain) (b : Block) (m : Message)
     (passes : first_of (block_steps rules.net rules.limits chain b ++ message_steps (external b chain.blocks) (read m)) ≡ None) where
   abbrev known : ℕ → ℕ → Option Digest
-  known = known_at H leaf_text scripts us
+  known = known_at H scripts us
 
   abbrev fault : Option ProofRefusal
-  fault = proof_fault H leaf_text (view_over H us known) (points_of (external b chain.blocks)) m
+  fault = proof_fault H (view_over H us known) (points_of (external b chain.blocks)) m
 
   abbrev right : Bool
-  right = is_right H leaf_text us known (points_of (external b chain.blocks)) m
+  right = is_right H us known (points_of (external b chain.blocks)) m
 
   by_answer : (r : Option TextClash) → IsAnswer H us known (points_of (external b chain.blocks)) m r → (is_none fault && not right) ≡ is_some r
   by_answer None a = by_fault fault refl
@@ -40,7 +39,7 @@ module _ (H : List ℕ → Digest) (us : History) (scripts : List (List ℕ)) (r
   by_answer (Some c) (none, wrong, clash) = rw (none, wrong) refl
 
   pub forged_is : (k : ℕ → ℕ → Option Digest) → ((row off : ℕ) → k row off ≡ known row off) → (r : Option TextClash)
-      → IsAnswer H us k (points_of (external b chain.blocks)) m r → is_forged H leaf_text scripts rules chain us b (read m) ≡ is_some r
+      → IsAnswer H us k (points_of (external b chain.blocks)) m r → is_forged H scripts rules chain us b (read m) ≡ is_some r
   forged_is k same r a =
       let e : k ≡ known = fun_ext (λ row. fun_ext (λ off. same row off)) in
       rw passes (by_answer r (subst (λ (f : ℕ → ℕ → Option Digest). IsAnswer H us f (points_of (external b chain.blocks)) m r) e a))

@@ -55,7 +55,7 @@ module _ (H : List ℕ → Digest) (long : (x : List ℕ) → IsDigest (H x)) (o
   points_count = count ∙ sym (length-map ext point_of)
 
   abbrev fault_over : ℕ → (ℕ → Option Digest) → Option ProofRefusal
-  fault_over n roots = proof_fault H leaf_text (record { n = n; roots = roots; known = known }) points m
+  fault_over n roots = proof_fault H (record { n = n; roots = roots; known = known }) points m
 
   abbrev clash_by : List (Option Digest) → Option ProofRefusal → Option TextClash
   clash_by es x = if is_none x then first_of (map (clash_at H es outputs known ext m) (places (length es))) else None
@@ -127,10 +127,10 @@ module _ (H : List ℕ → Digest) (long : (x : List ℕ) → IsDigest (H x)) (o
     Accepts = IsAccepted H n (root H es) ts k (digests_of H rs) hs
 
     no_fault : Accepts → fault_over n (root H es) ≡ None
-    no_fault a = passes H leaf_text (record { n = n; roots = root H es; known = known }) points m a all
+    no_fault a = passes H (record { n = n; roots = root H es; known = known }) points m a all
 
     taken : fault_over n (root H es) ≡ None → Accepts
-    taken e = (accepted H leaf_text (record { n = n; roots = root H es; known = known }) points m points_count e).0
+    taken e = (accepted H (record { n = n; roots = root H es; known = known }) points m points_count e).0
 
     abbrev RightBy : ℕ → Type 0
     RightBy j = IsRight H leaf_text us (targets j m) k rs hs
@@ -144,7 +144,7 @@ module _ (H : List ℕ → Digest) (long : (x : List ℕ) → IsDigest (H x)) (o
             (λ none. absurd (differs H long us outputs held fit ts rs k hs w.searched.items ready f.0
             (taken (subst (λ j. fault_over j (root H es) ≡ None) (sym same_length) none))))
         by true None f =
-            λ none. (right_is_tested H leaf_text us known points m).1 (
+            λ none. (right_is_tested H us known points m).1 (
               subst RightBy same_length (right H long us outputs held fit ts rs k hs w.searched.items ready f.0 f.1),
               subst (λ j. named j m ≡ map Some (targets j m)) same_length all,
               points_count,
@@ -153,7 +153,7 @@ module _ (H : List ℕ → Digest) (long : (x : List ℕ) → IsDigest (H x)) (o
             let s = some_found H long us outputs held fit ts rs k hs w.searched.items ready (lean_view es view m.lean) c f.1 in (
               subst (λ j. fault_over j (root H es) ≡ None) same_length
                   (no_fault (accepts H long us outputs held fit ts rs k hs w.searched.items ready f.0)),
-              false_from_ne_true _ (λ tested. s.0 (subst RightBy (sym same_length) ((right_is_tested H leaf_text us known points m).0 tested).0)),
+              false_from_ne_true _ (λ tested. s.0 (subst RightBy (sym same_length) ((right_is_tested H us known points m).0 tested).0)),
               record {
                 of_forest = s.1.of_forest;
                 of_proof = subst (λ j. IsValueText H leaf_text (length us) (targets j m) k rs hs c.second) same_length s.1.of_proof;

@@ -5,7 +5,6 @@ use Rattle.std.proofs.lemmas.Option.{none-some}
 use Rattle.uo_digest.specs.declared.digest.Digest.{Digest}
 use Rattle.forest_place.specs.declared.place.Place.{Place}
 use Rattle.forest_model.specs.Cover.{need}
-use Rattle.leaf_record.specs.Leaf.{leaf_text}
 use Rattle.leaf_record.specs.History.{somes}
 use Rattle.proof_shape.specs.Targeted.{Targeted}
 use Rattle.block_rules.specs.declared.chain.Outside.{Outside}
@@ -85,15 +84,15 @@ module _ (H : List ℕ → Digest) (n : ℕ) (ext : List Outside) (m : Message) 
   abbrev view : View
   view = record { n = n; roots = roots; known = known }
 
-  pub no_shape : (why : Refusal) → TargetsJudged n m (Err (Refused why)) → proof_fault H leaf_text view (points_of ext) m ≢ None
+  pub no_shape : (why : Refusal) → TargetsJudged n m (Err (Refused why)) → proof_fault H view (points_of ext) m ≢ None
   no_shape why h e = targets_refused n m why h (option_or-none (shape_fault n [] 0 (named n m)) _ e).0
 
   pub no_count : (t : Targeted) (why : Refusal) → length m.proof.spends ≡ length ext → AreNamed n m t → HashesJudged m t known (Err (Refused why))
-      → proof_fault H leaf_text view (points_of ext) m ≢ None
+      → proof_fault H view (points_of ext) m ≢ None
   no_count t why count a h e =
       let w = hashes_refused m t known why h in
       let o = subst (λ (x : Targeted). IsOtherCount m x known w.0 w.1) (targets_are n m t a) w.2 in
-      let acc = accepted H leaf_text view (points_of ext) m (count ∙ sym (length-map ext point_of)) e in
+      let acc = accepted H view (points_of ext) m (count ∙ sym (length-map ext point_of)) e in
       o.differ (o.got_is ∙ (acc.0.one_hash_each ∙ sym o.want_is))
 
 -- ---- what the calls on the way ask for, and what they give

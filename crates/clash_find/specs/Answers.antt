@@ -61,7 +61,7 @@ pub record IsClash (H : List ℕ → Digest) (us : History) (known : ℕ → ℕ
 
 -- nothing exactly where the message is not accepted or is right, and else a clash
 abbrev pub IsAnswer : (List ℕ → Digest) → History → (ℕ → ℕ → Option Digest) → List Outpoint → Message → Option TextClash → Type 0
-IsAnswer H us known points m None = proof_fault H leaf_text (view_over H us known) points m ≡ None → is_right H leaf_text us known points m ≡ true
+IsAnswer H us known points m None = proof_fault H (view_over H us known) points m ≡ None → is_right H us known points m ≡ true
 IsAnswer H us known points m (Some c) =
-    (proof_fault H leaf_text (view_over H us known) points m ≡ None) × (is_right H leaf_text us known points m ≡ false)
+    (proof_fault H (view_over H us known) points m ≡ None) × (is_right H us known points m ≡ false)
     × IsClash H us known points m c

@@ -82,5 +82,5 @@ clash_at H es outputs known ext m p = pair_at H es outputs (targets (length es) 
 -- nothing where the roots do not accept the message
 abbrev pub clash_in : (List ℕ → Digest) → List (Option Digest) → List Held → (ℕ → ℕ → Option Digest) → List Outside → Message → Option TextClash
 clash_in H es outputs known ext m =
-    if is_none (proof_fault H leaf_text (record { n = length es; roots = root H es; known = known }) (points_of ext) m) then first_of
+    if is_none (proof_fault H (record { n = length es; roots = root H es; known = known }) (points_of ext) m) then first_of
     (map (clash_at H es outputs known ext m) (places (length es))) else None

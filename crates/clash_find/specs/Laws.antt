@@ -2,7 +2,6 @@
 use Rattle.std.specs.Prelude.{◌≡◌, ℕ, List, ◌++◌, Option, None, is_some}
 use Rattle.uo_digest.specs.declared.digest.Digest.{Digest}
 use Rattle.block_codec.specs.Block.{Block}
-use Rattle.leaf_record.specs.Leaf.{leaf_text}
 use Rattle.leaf_record.specs.History.{History}
 use Rattle.block_rules.specs.declared.chain.Chain.{Chain}
 use Rattle.block_rules.specs.Steps.{first_of}
@@ -21,6 +20,6 @@ abbrev pub FoundExactlyWhereForged : Type 0
 FoundExactlyWhereForged = (H : List ℕ → Digest) (us : History) (scripts : List (List ℕ)) (rules : Rules) (chain : Chain) (b : Block) (m : Message)
     (known : ℕ → ℕ → Option Digest) (answer : Option TextClash) →
     first_of (block_steps rules.net rules.limits chain b ++ message_steps (external b chain.blocks) (read m)) ≡ None →
-    ((row off : ℕ) → known row off ≡ known_at H leaf_text scripts us row off) →
+    ((row off : ℕ) → known row off ≡ known_at H scripts us row off) →
     IsAnswer H us known (points_of (external b chain.blocks)) m answer →
-    is_forged H leaf_text scripts rules chain us b (read m) ≡ is_some answer
+    is_forged H scripts rules chain us b (read m) ≡ is_some answer

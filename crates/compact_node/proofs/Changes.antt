@@ -9,7 +9,7 @@ use Rattle.std.proofs.lemmas.List.Elements.{All-nil, All-cons, All-contains_itse
 use Rattle.uo_digest.specs.declared.digest.Digest.{Digest}
 use Rattle.forest_place.specs.declared.place.Place.{Place}
 use Rattle.forest_place.specs.Forest.{InForest}
-use Rattle.forest_place.specs.Places.{is_at, has_place, places, IsBefore, IsAscending}
+use Rattle.forest_place.specs.Places.{is_at, has_place, places, IsBefore, IsAscending, is_within, is_before_place}
 use Rattle.forest_place.proofs.Listed.{place, is_at-same, same_from_is_at, filter_has, filter_had, places_have, places_had}
 use Rattle.forest_model.specs.Standing.{digest_at}
 use Rattle.forest_model.specs.Cover.{cover, is_needed}
@@ -23,12 +23,12 @@ use Rattle.cache_model.specs.Cache.{look, ArePairs, HasPairs, IsPairOf}
 use Rattle.cache_model.specs.declared.kept.Kept.{Kept}
 use Rattle.cache_model.specs.Lists.{AscendByPlace, leaf_places, moved_leaves}
 use Rattle.cache_model.specs.Steps.{held_deleted, put_all}
-use Rattle.cache_model.specs.Undo.{find, is_same_place, is_before_place, held_key}
+use Rattle.cache_model.specs.Undo.{find, is_same_place, held_key}
 use Rattle.cache_model.proofs.Looking.{pairs_serve}
 use Rattle.cache_model.proofs.Stepping.{same_look, put_all_table, put_all_only, put_all_each, find_is}
 use Rattle.cache_model.proofs.Tables.{same_options, look_has, look_all}
 use Rattle.cache_model.proofs.Undoing.{place_order}
-use Rattle.cache_update.specs.Marks.{is_within, pairs_within}
+use Rattle.cache_update.specs.Marks.{pairs_within}
 use Rattle.cache_update.proofs.Idle.{none_deleted}
 use Rattle.cache_update.proofs.Moves.{goes_within}
 use Rattle.cache_update.proofs.Passes.{filter_all}

@@ -18,7 +18,6 @@ use Rattle.proof_shape.specs.Targeted.{Targeted}
 use Rattle.proof_verify.specs.declared.fault.ProofFault.{ProofFault}
 use Rattle.proof_verify.specs.declared.fault.ProofFault.TheVariants as Found
 use Rattle.proof_verify.specs.Verified.{IsProofFault, IsDeleted, AreRootsAfter}
-use Rattle.leaf_record.specs.Leaf.{Leaf}
 use Rattle.leaf_record.specs.History.{somes}
 use Rattle.proof_wire.specs.BlockProof.{BlockProof, targets_of}
 use Rattle.block_rules.specs.declared.chain.Found.{Found as FoundOutput}
@@ -78,9 +77,9 @@ need-none n = filter-none (is_needed n []) (places n) (λ p. needed-none n p.row
 
 -- ---- what targets and hashes are refused for
 
-module _ (H : List ℕ → Digest) (text : Leaf → List ℕ) (v : View) (ext : List Outside) (m : Message) where
+module _ (H : List ℕ → Digest) (v : View) (ext : List Outside) (m : Message) where
   abbrev fault : Option ProofRefusal
-  fault = proof_fault H text v (points_of ext) m
+  fault = proof_fault H v (points_of ext) m
 
   abbrev IsFaulted : RuleFault → Type 0
   IsFaulted e = IsFirst (option_map Why.Proof fault) e
@@ -116,7 +115,7 @@ module _ (H : List ℕ → Digest) (text : Leaf → List ℕ) (v : View) (ext : 
         let e = targets_are v.n m t judged in
         let wanted : want ≡ length (asked v.n (targets v.n m) (known_to m.lean v.known)) =
         o.want_is ∙ ap (λ (x : Targeted). length (asked x.leaves x.targets (known_to m.lean v.known))) e in
-        count_told H text v (points_of ext) m judged.passes (λ same. o.differ (o.got_is ∙ (same ∙ sym wanted)))
+        count_told H v (points_of ext) m judged.passes (λ same. o.differ (o.got_is ∙ (same ∙ sym wanted)))
         ∙ ap₂ (λ a b. Some (Fault.HashCount a b)) (sym wanted) (sym o.got_is)
 
     pub hashes_told : (e : RuleFault) → HashesJudged m t v.known (Err e) → IsFaulted e
@@ -148,7 +147,7 @@ module _ (H : List ℕ → Digest) (text : Leaf → List ℕ) (v : View) (ext : 
 
 -- ---- the check of the proof of a message that was read, over roots and held digests
 
-module _ (H : List ℕ → Digest) (text : Leaf → List ℕ) (f : Stump) (hs : List (Place × Digest)) (ext : List Outside) (m : Message) (t : Targeted)
+module _ (H : List ℕ → Digest) (f : Stump) (hs : List (Place × Digest)) (ext : List Outside) (m : Message) (t : Targeted)
     (leaves hashes : List Digest) where
   abbrev v : View
   v = view_by f hs
@@ -163,7 +162,7 @@ module _ (H : List ℕ → Digest) (text : Leaf → List ℕ) (f : Stump) (hs : 
   abbrev full : Message
   full = in_full m hashes
 
-  module _ (c : IsFilledOut H text v ext m t leaves hashes) where
+  module _ (c : IsFilledOut H v ext m t leaves hashes) where
     same_targets : t ≡ record { leaves = f.leaves; targets = ts }
     same_targets = targets_are f.leaves m t c.named
 
@@ -172,7 +171,7 @@ module _ (H : List ℕ → Digest) (text : Leaf → List ℕ) (f : Stump) (hs : 
         (λ (x : Targeted). map (λ q. hash_of H x.leaves x.targets (known_to m.lean v.known) p.hashes q.row q.off) (need x.leaves x.targets))
         same_targets
 
-    same_leaves : leaves ≡ leaves_of H text (points_of ext) full
+    same_leaves : leaves ≡ leaves_of H (points_of ext) full
     same_leaves = c.leaves_are
 
     read_count : length t.targets ≡ length ext
@@ -182,37 +181,37 @@ module _ (H : List ℕ → Digest) (text : Leaf → List ℕ) (f : Stump) (hs : 
         ∙ (length-map p.spends (λ s. s.target) ∙ c.count)))
 
     read_leaves : length leaves ≡ length t.targets
-    read_leaves = ap length same_leaves ∙ (leaves-long H text ext full c.count ∙ sym read_count)
+    read_leaves = ap length same_leaves ∙ (leaves-long H ext full c.count ∙ sym read_count)
 
     -- it is judged as in full
-    serves : proof_fault H text v (points_of ext) m ≡ proof_fault H text v (points_of ext) full
-    serves = same_fault H text v (points_of ext) m hashes (subst (λ x. AreHashes m x v.known hashes) same_targets c.filled)
+    serves : proof_fault H v (points_of ext) m ≡ proof_fault H v (points_of ext) full
+    serves = same_fault H v (points_of ext) m hashes (subst (λ x. AreHashes m x v.known hashes) same_targets c.filled)
 
     all_asked : length (asked f.leaves ts nothing_known) ≡ length (need f.leaves ts)
     all_asked = ap length (filter-all (need f.leaves ts))
 
     -- a fault of the proof is that of the message
     full_fault : (fault : ProofFault) → IsProofFault H f ts leaves hashes fault
-        → proof_fault H text v (points_of ext) full ≡ Some (proof_refusal fault)
+        → proof_fault H v (points_of ext) full ≡ Some (proof_refusal fault)
     full_fault (Found.HashCount want got) (wanted, given, other) =
         let w : length (asked f.leaves ts nothing_known) ≡ want = all_asked ∙ sym wanted in
-        count_told H text v (points_of ext) full c.named.passes (λ e. other (given ∙ (e ∙ w)))
+        count_told H v (points_of ext) full c.named.passes (λ e. other (given ∙ (e ∙ w)))
         ∙ ap₂ (λ a b. Some (Fault.HashCount a b)) w (sym given)
     full_fault (Found.EmptyRoot row) (count, greatest) =
-        empty_told H text v (points_of ext) full c.named.passes row (count ∙ sym all_asked) greatest
+        empty_told H v (points_of ext) full c.named.passes row (count ∙ sym all_asked) greatest
     full_fault (Found.RootDiffers row had computed) (count, never, greatest, was, is) =
-        other_told H text v (points_of ext) full c.named.passes row (count ∙ sym all_asked) never
+        other_told H v (points_of ext) full c.named.passes row (count ∙ sym all_asked) never
         (subst (λ xs. IsGreatest f.leaves ts (λ row c. root_in f row ≢ Some (evaluation H f.leaves ts nothing_known xs hashes c)) row) same_leaves
         greatest)
 
     read_fault : (fault : ProofFault) → IsProofFault H f t.targets leaves hashes fault
-        → proof_fault H text v (points_of ext) m ≡ Some (proof_refusal fault)
+        → proof_fault H v (points_of ext) m ≡ Some (proof_refusal fault)
     read_fault fault is = serves ∙ full_fault fault (subst (λ (x : Targeted). IsProofFault H f x.targets leaves hashes fault) same_targets is)
 
-    read_passes : IsAccepted H f.leaves (root_in f) t.targets nothing_known leaves hashes → proof_fault H text v (points_of ext) m ≡ None
+    read_passes : IsAccepted H f.leaves (root_in f) t.targets nothing_known leaves hashes → proof_fault H v (points_of ext) m ≡ None
     read_passes a =
         serves
-        ∙ passes H text v (points_of ext) full
+        ∙ passes H v (points_of ext) full
         (subst (λ xs. IsAccepted H f.leaves (root_in f) ts nothing_known xs hashes) same_leaves
         (subst (λ (x : Targeted). IsAccepted H f.leaves (root_in f) x.targets nothing_known leaves hashes) same_targets a))
         (named_all f.leaves m t c.named)
@@ -234,28 +233,28 @@ nothing_wrong H f (Found.RootDiffers row had computed) (count, never, greatest, 
     none-some greatest.beneath (sym (cover-none row (root_off f.leaves row)) ∙ greatest.covered)
 
 -- the steps on the message pass, and this is left of the roots
-pub record IsTaken (H : List ℕ → Digest) (text : Leaf → List ℕ) (v : View) (f : Stump) (ext : List Outside) (handed : Handed) (g : Stump) : Type
+pub record IsTaken (H : List ℕ → Digest) (v : View) (f : Stump) (ext : List Outside) (handed : Handed) (g : Stump) : Type
     0 where
-  pub passes : first_of (steps_over H text v ext handed) ≡ None
+  pub passes : first_of (steps_over H v ext handed) ≡ None
   pub roots : g ≡ without H f (places_spent f.leaves handed) (hashes_spent H v handed)
 
-module _ (H : List ℕ → Digest) (text : Leaf → List ℕ) (f : Stump) (hs : List (Place × Digest)) (ext : List Outside) (found : List FoundOutput)
+module _ (H : List ℕ → Digest) (f : Stump) (hs : List (Place × Digest)) (ext : List Outside) (found : List FoundOutput)
     (t : Targeted) (leaves hashes : List Digest) where
   abbrev view : View
   view = view_by f hs
 
   abbrev IsClaimed : Handed → Type 0
-  IsClaimed handed = IsClaim H text view ext handed found t leaves hashes
+  IsClaimed handed = IsClaim H view ext handed found t leaves hashes
 
   pub claim_targets : (handed : Handed) → IsClaimed handed → t ≡ record { leaves = f.leaves; targets = places_spent f.leaves handed }
   claim_targets nothing c = c.claims.0
   claim_targets (unread why) c = absurd c.claims
-  claim_targets (read m) c = same_targets H text f hs ext m t leaves hashes c.claims
+  claim_targets (read m) c = same_targets H f hs ext m t leaves hashes c.claims
 
   claim_hashes : (handed : Handed) → IsClaimed handed → hashes ≡ hashes_spent H view handed
   claim_hashes nothing c = c.claims.2
   claim_hashes (unread why) c = absurd c.claims
-  claim_hashes (read m) c = read_hashes H text f hs ext m t leaves hashes c.claims
+  claim_hashes (read m) c = read_hashes H f hs ext m t leaves hashes c.claims
 
   -- what holds of the targets and the hashes of a claim holds of what is spent
   pub claim_is : (handed : Handed) → IsClaimed handed → (X : List Place → List Digest → Type 0) → X t.targets hashes
@@ -266,37 +265,37 @@ module _ (H : List ℕ → Digest) (text : Leaf → List ℕ) (f : Stump) (hs : 
   pub claim_leaves : (handed : Handed) → IsClaimed handed → length leaves ≡ length t.targets
   claim_leaves nothing c = ap length c.claims.1 ∙ sym (ap (λ (x : Targeted). length x.targets) c.claims.0)
   claim_leaves (unread why) c = absurd c.claims
-  claim_leaves (read m) c = read_leaves H text f hs ext m t leaves hashes c.claims
+  claim_leaves (read m) c = read_leaves H f hs ext m t leaves hashes c.claims
 
   pub claim_few : (handed : Handed) → IsClaimed handed → length t.targets ≤ length ext
   claim_few nothing c = let e = ap (λ (x : Targeted). length x.targets) c.claims.0 in omega (arith, e)
   claim_few (unread why) c = absurd c.claims
-  claim_few (read m) c = let e = read_count H text f hs ext m t leaves hashes c.claims in omega (arith, e)
+  claim_few (read m) c = let e = read_count H f hs ext m t leaves hashes c.claims in omega (arith, e)
 
   -- a fault of the proof is the first step that fails
   pub claim_refused : (handed : Handed) → IsClaimed handed → (fault : ProofFault) → IsProofFault H f t.targets leaves hashes fault
-      → first_of (steps_over H text view ext handed) ≡ Some (Why.Proof (proof_refusal fault))
+      → first_of (steps_over H view ext handed) ≡ Some (Why.Proof (proof_refusal fault))
   claim_refused nothing c fault is =
       absurd (nothing_wrong H f fault
       (subst (λ xs. IsProofFault H f [] [] xs fault) c.claims.2 (subst (λ xs. IsProofFault H f [] xs hashes fault) c.claims.1
       (subst (λ (x : Targeted). IsProofFault H f x.targets leaves hashes fault) c.claims.0 is))))
   claim_refused (unread why) c fault is = absurd c.claims
   claim_refused (read m) c fault is =
-      first-append (message_steps ext (read m)) (view_step H text view ext (read m)) c.passes
-      ∙ alone (view_step H text view ext (read m)) (Why.Proof (proof_refusal fault))
-      (ap (option_map Why.Proof) (read_fault H text f hs ext m t leaves hashes c.claims fault is))
+      first-append (message_steps ext (read m)) (view_step H view ext (read m)) c.passes
+      ∙ alone (view_step H view ext (read m)) (Why.Proof (proof_refusal fault))
+      (ap (option_map Why.Proof) (read_fault H f hs ext m t leaves hashes c.claims fault is))
 
   claim_passes : (handed : Handed) → IsClaimed handed → IsAccepted H f.leaves (root_in f) t.targets nothing_known leaves hashes
-      → first_of (steps_over H text view ext handed) ≡ None
-  claim_passes nothing c a = first-append (message_steps ext nothing) (view_step H text view ext nothing) c.passes
+      → first_of (steps_over H view ext handed) ≡ None
+  claim_passes nothing c a = first-append (message_steps ext nothing) (view_step H view ext nothing) c.passes
   claim_passes (unread why) c a = absurd c.claims
   claim_passes (read m) c a =
-      first-append (message_steps ext (read m)) (view_step H text view ext (read m)) c.passes
-      ∙ ap (λ z. option_or z None) (ap (option_map Why.Proof) (read_passes H text f hs ext m t leaves hashes c.claims a))
+      first-append (message_steps ext (read m)) (view_step H view ext (read m)) c.passes
+      ∙ ap (λ z. option_or z None) (ap (option_map Why.Proof) (read_passes H f hs ext m t leaves hashes c.claims a))
 
   -- an accepted proof deletes what was handed in
   pub claim_taken : (handed : Handed) → IsClaimed handed → (tells : Bool) (pairs : List (Place × Digest)) (g : Stump) → IsStump f → IsStump g
-      → IsDeleted tells H f t.targets leaves hashes pairs g → IsTaken H text view f ext handed g
+      → IsDeleted tells H f t.targets leaves hashes pairs g → IsTaken H view f ext handed g
   claim_taken handed c tells pairs g s u d = record {
     passes = claim_passes handed c d.accepted;
     roots = is_without H f (places_spent f.leaves handed) (hashes_spent H view handed) g s u
@@ -318,24 +317,24 @@ module _ (H : List ℕ → Digest) (text : Leaf → List ℕ) (f : Stump) (hs : 
 -- ---- what claims are refused for
 
 -- or that on its proof
-proof_first : (H : List ℕ → Digest) (text : Leaf → List ℕ) (v : View) (ext : List Outside) (bytes : Option (List ℕ)) (m : Message) (fault : RuleFault)
+proof_first : (H : List ℕ → Digest) (v : View) (ext : List Outside) (bytes : Option (List ℕ)) (m : Message) (fault : RuleFault)
     → IsMessageRead ext bytes (Some m) →
-    IsFirst (option_map Why.Proof (proof_fault H text v (points_of ext) m)) fault
-    → IsFirst (first_of (steps_over H text v ext (handed_in bytes))) fault
-proof_first H text v ext bytes m fault judged e =
-    first-behind (message_steps ext (handed_in bytes)) (view_step H text v ext (handed_in bytes) ∷ []) fault judged.passes
-    (only (view_step H text v ext (handed_in bytes)) fault (subst (λ h. IsFirst (view_step H text v ext h) fault) (sym judged.is) e))
+    IsFirst (option_map Why.Proof (proof_fault H v (points_of ext) m)) fault
+    → IsFirst (first_of (steps_over H v ext (handed_in bytes))) fault
+proof_first H v ext bytes m fault judged e =
+    first-behind (message_steps ext (handed_in bytes)) (view_step H v ext (handed_in bytes) ∷ []) fault judged.passes
+    (only (view_step H v ext (handed_in bytes)) fault (subst (λ h. IsFirst (view_step H v ext h) fault) (sym judged.is) e))
   where
     only : (x : Option Refusal) (fault : RuleFault) → IsFirst x fault → IsFirst (first_of (x ∷ [])) fault
     only x (Refused why) e = ap (λ z. option_or z None) e
     only x NoMemory e = tt
 
-pub proof_errs : {T : Type 0} (H : List ℕ → Digest) (text : Leaf → List ℕ) (v : View) (ext ext' : List Outside) (bytes : Option (List ℕ))
+pub proof_errs : {T : Type 0} (H : List ℕ → Digest) (v : View) (ext ext' : List Outside) (bytes : Option (List ℕ))
     (message : Option Message) (m : Message) (result : Result T RuleFault) →
     IsMessageRead ext bytes message → message ≡ Some m → ext' ≡ ext
-    → IfErr result (λ fault. IsFirst (option_map Why.Proof (proof_fault H text v (points_of ext') m)) fault) →
-    IfErr result (λ fault. IsFirst (first_of (steps_over H text v ext (handed_in bytes))) fault)
-proof_errs H text v ext ext' bytes message m (Ok x) judged is same e = tt
-proof_errs H text v ext ext' bytes message m (Err fault) judged is same e =
-    proof_first H text v ext bytes m fault (subst (λ x. IsMessageRead ext bytes x) is judged)
-    (subst (λ x. IsFirst (option_map Why.Proof (proof_fault H text v (points_of x) m)) fault) same e)
+    → IfErr result (λ fault. IsFirst (option_map Why.Proof (proof_fault H v (points_of ext') m)) fault) →
+    IfErr result (λ fault. IsFirst (first_of (steps_over H v ext (handed_in bytes))) fault)
+proof_errs H v ext ext' bytes message m (Ok x) judged is same e = tt
+proof_errs H v ext ext' bytes message m (Err fault) judged is same e =
+    proof_first H v ext bytes m fault (subst (λ x. IsMessageRead ext bytes x) is judged)
+    (subst (λ x. IsFirst (option_map Why.Proof (proof_fault H v (points_of x) m)) fault) same e)

@@ -7,7 +7,6 @@ use Rattle.std.proofs.lemmas.List.{length-take}
 use Rattle.uo_base.specs.declared.event.Event.{Event}
 use Rattle.uo_base.specs.FeedEvent.{event_of}
 use Rattle.uo_digest.specs.declared.digest.Digest.{Digest}
-use Rattle.leaf_record.specs.Leaf.{Leaf}
 use Rattle.block_rules.specs.Blocks.{new_records}
 use Rattle.block_rules.specs.declared.refusal.Refusal.{Refusal}
 use Rattle.block_rules.specs.declared.verdict.Verdict.{Verdict}
@@ -40,40 +39,40 @@ module _ (rules : Rules) (scripts : List (List ℕ)) where
 
 -- ---- one event, and all of a list
 
-module _ (H : List ℕ → Digest) (text : Leaf → List ℕ) where
-  pub next_kept : (s : NodeState) (e : ChainEvent) → length (next_node H text s e).older ≡ kept_after (Some (verdict_on H text s e)) (length s.older)
+module _ (H : List ℕ → Digest) where
+  pub next_kept : (s : NodeState) (e : ChainEvent) → length (next_node H s e).older ≡ kept_after (Some (verdict_on H s e)) (length s.older)
   next_kept s (BlockCame None handed) = refl
-  next_kept s (BlockCame (Some b) handed) = by (refusal_on H text s b handed)
+  next_kept s (BlockCame (Some b) handed) = by (refusal_on H s b handed)
     where
       by : (x : Option Refusal) →
-          length (node_by x (node_with H text s b handed) s).older
+          length (node_by x (node_with H s b handed) s).older
           ≡ kept_after (Some (verdict_by s.newest.chain b (length (new_records b s.newest.chain.blocks)) x)) (length s.older)
       by None = length-take 100 (s.newest ∷ s.older)
       by (Some why) = refl
   next_kept s (RollbackCame k) = by_test (nat_le k (length s.older)) refl
     where
       by_test : (t : Bool) → nat_le k (length s.older) ≡ t
-          → length (next_node H text s (RollbackCame k)).older ≡ kept_after (Some (verdict_on H text s (RollbackCame k))) (length s.older)
+          → length (next_node H s (RollbackCame k)).older ≡ kept_after (Some (verdict_on H s (RollbackCame k))) (length s.older)
       by_test true e = rw e (back-kept s.rules s.scripts k s.newest s.older (leb-true k (length s.older) e))
       by_test false e = rw e refl
   next_kept s StrayCame = refl
 
   pub kept_throughout : (s : NodeState) (events : List ChainEvent)
-      → length (node_after H text s events).older ≡ kept_by (verdicts_on H text s events) (length s.older)
+      → length (node_after H s events).older ≡ kept_by (verdicts_on H s events) (length s.older)
   kept_throughout s [] = refl
-  kept_throughout s (e ∷ es) = kept_throughout (next_node H text s e) es ∙ ap (kept_by (verdicts_on H text (next_node H text s e) es)) (next_kept s e)
+  kept_throughout s (e ∷ es) = kept_throughout (next_node H s e) es ∙ ap (kept_by (verdicts_on H (next_node H s e) es)) (next_kept s e)
 
-  pub levels_told : (s : NodeState) (e : ChainEvent) → IsNode s → LevelsTold s (verdict_on H text s e) (next_node H text s e)
+  pub levels_told : (s : NodeState) (e : ChainEvent) → IsNode s → LevelsTold s (verdict_on H s e) (next_node H s e)
   levels_told s (BlockCame None handed) is = (refl, refl)
-  levels_told s (BlockCame (Some b) handed) is = by (refusal_on H text s b handed)
+  levels_told s (BlockCame (Some b) handed) is = by (refusal_on H s b handed)
     where
       by : (x : Option Refusal) → LevelsTold s (verdict_by s.newest.chain b (length (new_records b s.newest.chain.blocks)) x)
-          (node_by x (node_with H text s b handed) s)
+          (node_by x (node_with H s b handed) s)
       by None = (refl, refl, refl)
       by (Some why) = (refl, refl)
   levels_told s (RollbackCame k) is = by_test (nat_le k (length s.older)) refl
     where
-      by_test : (t : Bool) → nat_le k (length s.older) ≡ t → LevelsTold s (verdict_on H text s (RollbackCame k)) (next_node H text s (RollbackCame k))
+      by_test : (t : Bool) → nat_le k (length s.older) ≡ t → LevelsTold s (verdict_on H s (RollbackCame k)) (next_node H s (RollbackCame k))
       by_test true e =
           let few = leb-true k (length s.older) e in
           rw e (
@@ -88,9 +87,9 @@ module _ (H : List ℕ → Digest) (text : Leaf → List ℕ) where
   levels_told s StrayCame is = refl
 
 -- what holds of the verdict on each event and of what is kept then holds of what a step answers and leaves. The equation only names the event
-pub stepped : {E : Type 0} (H : List ℕ → Digest) (text : Leaf → List ℕ) (P : Verdict → NodeState → Type 0) (s s' : NodeState) (event : Event)
+pub stepped : {E : Type 0} (H : List ℕ → Digest) (P : Verdict → NodeState → Type 0) (s s' : NodeState) (event : Event)
     (e : ChainEvent) (result : Result Verdict E) → event_in (event_of event) ≡ e →
-    ((x : ChainEvent) → P (verdict_on H text s x) (next_node H text s x)) → IfOk result (λ v. v ≡ verdict_on H text s e)
-    → OnOk result (s' ≡ next_node H text s e) → IfOk result (λ v. P v s')
-stepped H text P s s' event e (Ok v) same p said next = subst (λ x. P x s') (sym said) (subst (P (verdict_on H text s e)) (sym next) (p e))
-stepped H text P s s' event e (Err fault) same p said next = tt
+    ((x : ChainEvent) → P (verdict_on H s x) (next_node H s x)) → IfOk result (λ v. v ≡ verdict_on H s e)
+    → OnOk result (s' ≡ next_node H s e) → IfOk result (λ v. P v s')
+stepped H P s s' event e (Ok v) same p said next = subst (λ x. P x s') (sym said) (subst (P (verdict_on H s e)) (sym next) (p e))
+stepped H P s s' event e (Err fault) same p said next = tt

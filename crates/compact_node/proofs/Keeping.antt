@@ -11,7 +11,7 @@ use Rattle.forest_roots.specs.Joined.{IsAdded, joins_of}
 use Rattle.forest_roots.proofs.Added.{stands_added}
 use Rattle.proof_verify.specs.Verified.{AreRootsAfter}
 use Rattle.block_codec.specs.Block.{Block}
-use Rattle.leaf_record.specs.Leaf.{Leaf}
+use Rattle.leaf_record.specs.Leaf.{Leaf, leaf_text}
 use Rattle.cache_model.specs.declared.kept.Kept.{Kept}
 use Rattle.cache_model.specs.Known.{is_watched}
 use Rattle.cache_model.specs.Lists.{moved_leaves, leaf_places, leaves_more}
@@ -33,7 +33,7 @@ use Rattle.node_rules.specs.Machine.{ChainEvent, BlockCame, RollbackCame, StrayC
 use Rattle.compact_node.specs.After.{without, held_without, changes_of, with_leaf, with_leaves, kept_with, held_with, kept_with_all, held_with_all}
 use Rattle.compact_node.specs.Node.{NodeState, IsNode, LevelState, IsLevel, AreOlder, back_from, gone_back, level_with, view_over, refusal_on}
 use Rattle.compact_node.specs.Node.{places_spent, hashes_spent, roots_spent, kept_spent, held_spent, roots_after, node_with, node_by, next_node}
-use Rattle.compact_node.proofs.Additions.{with_leaf-leaves, with_leaf-adds, with_leaf-stump, with_leaves-leaves, with_leaves-stump}
+use Rattle.forest_roots.proofs.Additions.{with_leaf-leaves, with_leaf-adds, with_leaf-stump, with_leaves-leaves, with_leaves-stump}
 use Rattle.compact_node.proofs.Changes.{within_all}
 use Rattle.compact_node.proofs.Deletions.{without-leaves, without-slot, without-stump}
 
@@ -62,11 +62,11 @@ watched_is : (u : Leaf) (b : Bool) → is_some (cond b (Some u) (let none : Opti
 watched_is u true = refl
 watched_is u false = refl
 
-module _ (H : List ℕ → Digest) (text : Leaf → List ℕ) (scripts : List (List ℕ)) where
+module _ (H : List ℕ → Digest) (scripts : List (List ℕ)) where
   with_of_roots : (f : Stump) (leaf : Leaf) (ks : List Kept) (hs : List (Place × Digest)) → IsStump f → suc f.leaves < 2 ^ 40 → AreOfRoots f ks hs →
-      AreOfRoots (with_leaf H f (H (text leaf))) (kept_with H text scripts f leaf ks) (held_with H text scripts f leaf hs)
+      AreOfRoots (with_leaf H f (H (leaf_text leaf))) (kept_with H scripts f leaf ks) (held_with H scripts f leaf hs)
   with_of_roots f leaf ks hs s few a =
-      let d = H (text leaf) in
+      let d = H (leaf_text leaf) in
       let n : (with_leaf H f d).leaves ≡ f.leaves + 1 = with_leaf-leaves H f d ∙ (let e : suc f.leaves ≡ f.leaves + 1 = omega arith in e) in
       let adds = with_leaf-adds H f d s few in
       let added : IsAdded H f d (with_leaf H f d) =
@@ -78,12 +78,12 @@ module _ (H : List ℕ → Digest) (text : Leaf → List ℕ) (scripts : List (L
 
   with_all_of_roots : (new : List Leaf) (f : Stump) (ks : List Kept) (hs : List (Place × Digest)) → IsStump f → f.leaves + length new < 2 ^ 40
       → AreOfRoots f ks hs →
-      AreOfRoots (with_leaves H f (map (λ leaf. H (text leaf)) new)) (kept_with_all H text scripts f new ks) (held_with_all H text scripts f new hs)
+      AreOfRoots (with_leaves H f (map (λ leaf. H (leaf_text leaf)) new)) (kept_with_all H scripts f new ks) (held_with_all H scripts f new hs)
   with_all_of_roots [] f ks hs s few a = a
   with_all_of_roots (leaf ∷ new) f ks hs s few a =
-      let d = H (text leaf) in
+      let d = H (leaf_text leaf) in
       let more : suc f.leaves < 2 ^ 40 = omega (arith, few) in
-      with_all_of_roots new (with_leaf H f d) (kept_with H text scripts f leaf ks) (held_with H text scripts f leaf hs) (with_leaf-stump H f d s more)
+      with_all_of_roots new (with_leaf H f d) (kept_with H scripts f leaf ks) (held_with H scripts f leaf hs) (with_leaf-stump H f d s more)
       (omega (arith, few, with_leaf-leaves H f d))
       (with_of_roots f leaf ks hs s more a)
 
@@ -146,30 +146,30 @@ back-more k s = from k s.newest s.older ∙ ap (λ n. back_from s.rules s.script
 
 -- ---- a block
 
-module _ (H : List ℕ → Digest) (text : Leaf → List ℕ) (s : NodeState) (is : IsNode s) (b : Block) (handed : Handed)
-    (passes : refusal_on H text s b handed ≡ None) where
+module _ (H : List ℕ → Digest) (s : NodeState) (is : IsNode s) (b : Block) (handed : Handed)
+    (passes : refusal_on H s b handed ≡ None) where
   abbrev new : List Leaf
   new = new_records b s.newest.chain.blocks
 
   abbrev evidence : Evidence
-  evidence = compact H text (view_over s.newest) (external b s.newest.chain.blocks) handed
+  evidence = compact H (view_over s.newest) (external b s.newest.chain.blocks) handed
 
   abbrev digests : List Digest
-  digests = map (λ leaf. H (text leaf)) new
+  digests = map (λ leaf. H (leaf_text leaf)) new
 
   long : length digests ≡ length new
-  long = length-map new (λ leaf. H (text leaf))
+  long = length-map new (λ leaf. H (leaf_text leaf))
 
   pub few : (roots_spent H s.newest handed).leaves + length new < 2 ^ 40
   few = omega (arith, spent-leaves H s.newest handed, is.newest.counted, is.few, (room s b evidence passes).1)
 
-  pub after-leaves : (roots_after H text s.newest b handed).leaves ≡ s.newest.chain.leaves + length new
+  pub after-leaves : (roots_after H s.newest b handed).leaves ≡ s.newest.chain.leaves + length new
   after-leaves = with_leaves-leaves H (roots_spent H s.newest handed) digests ∙ omega (arith, long, spent-leaves H s.newest handed, is.newest.counted)
 
-  level-with : IsLevel s.rules (level_with H text s.scripts s.newest b handed)
+  level-with : IsLevel s.rules (level_with H s.scripts s.newest b handed)
   level-with = record {
     stump = with_leaves-stump H (roots_spent H s.newest handed) digests (spent-stump H s.newest handed is.newest.stump) (omega (arith, few, long));
-    lists = with_all_of_roots H text s.scripts new (roots_spent H s.newest handed) (kept_spent s.newest handed) (held_spent H s.newest handed)
+    lists = with_all_of_roots H s.scripts new (roots_spent H s.newest handed) (kept_spent s.newest handed) (held_spent H s.newest handed)
         (spent-stump H s.newest handed is.newest.stump) few
         (without_of_roots H s.newest.roots (places_spent s.newest.roots.leaves handed) (hashes_spent H (view_over s.newest) handed) s.newest.kept
         s.newest.held is.newest.stump is.newest.lists);
@@ -178,11 +178,11 @@ module _ (H : List ℕ → Digest) (text : Leaf → List ℕ) (s : NodeState) (i
     bare = λ (none : suc s.newest.chain.blocks ≡ 0). absurd (omega (arith, none));
   }
 
-  pub node-with : IsNode (node_with H text s b handed)
+  pub node-with : IsNode (node_with H s b handed)
   node-with = record {
     low = omega (arith, (room s b evidence passes).0);
     newest = level-with;
-    older = older-taken s.rules 100 (level_with H text s.scripts s.newest b handed).chain (s.newest ∷ s.older)
+    older = older-taken s.rules 100 (level_with H s.scripts s.newest b handed).chain (s.newest ∷ s.older)
         (refl, omega arith, is.newest, is.older);
     kept = length-take_le 100 (s.newest ∷ s.older);
     few = is.few;
@@ -190,12 +190,12 @@ module _ (H : List ℕ → Digest) (text : Leaf → List ℕ) (s : NodeState) (i
   }
 
 -- a node stays one
-pub next_is_node : (H : List ℕ → Digest) (text : Leaf → List ℕ) (s : NodeState) (e : ChainEvent) → IsNode s → IsNode (next_node H text s e)
-next_is_node H text s (BlockCame None handed) is = is
-next_is_node H text s (BlockCame (Some b) handed) is = by_case (refusal_on H text s b handed) refl
+pub next_is_node : (H : List ℕ → Digest) (s : NodeState) (e : ChainEvent) → IsNode s → IsNode (next_node H s e)
+next_is_node H s (BlockCame None handed) is = is
+next_is_node H s (BlockCame (Some b) handed) is = by_case (refusal_on H s b handed) refl
   where
-    by_case : (x : Option Refusal) → refusal_on H text s b handed ≡ x → IsNode (node_by x (node_with H text s b handed) s)
-    by_case None h = node-with H text s is b handed h
+    by_case : (x : Option Refusal) → refusal_on H s b handed ≡ x → IsNode (node_by x (node_with H s b handed) s)
+    by_case None h = node-with H s is b handed h
     by_case (Some why) h = is
-next_is_node H text s (RollbackCame k) is = ⊎_elim (λ t. rw t (back_is_node k s is)) (λ t. rw t is) (cases_Bool (nat_le k (length s.older)))
-next_is_node H text s StrayCame is = is
+next_is_node H s (RollbackCame k) is = ⊎_elim (λ t. rw t (back_is_node k s is)) (λ t. rw t is) (cases_Bool (nat_le k (length s.older)))
+next_is_node H s StrayCame is = is

@@ -19,7 +19,7 @@ use Rattle.forest_model.proofs.Right.{hash_right}
 use Rattle.forest_roots.specs.Stump.{Stump, IsStump, StandsFor, root_in}
 use Rattle.forest_roots.specs.Joined.{joins_of}
 use Rattle.forest_roots.proofs.Added.{stands_added}
-use Rattle.leaf_record.specs.Leaf.{Leaf}
+use Rattle.leaf_record.specs.Leaf.{Leaf, leaf_text}
 use Rattle.leaf_record.specs.History.{History, spent, added}
 use Rattle.block_rules.specs.declared.chain.Outside.{Outside}
 use Rattle.cache_model.specs.declared.kept.Kept.{Kept}
@@ -42,7 +42,7 @@ use Rattle.node_rules.proofs.Serving.{hash_of_all}
 use Rattle.node_rules.proofs.Spending.{entries-spent, right_stands}
 use Rattle.compact_node.specs.After.{held_without, changes_of, with_leaf, with_leaves, kept_with, held_with, kept_with_all, held_with_all}
 use Rattle.compact_node.specs.Node.{LevelState, view_over, places_spent, hashes_over, hashes_spent, roots_spent, kept_spent, held_spent}
-use Rattle.compact_node.proofs.Additions.{with_leaf-leaves, with_leaf-adds, with_leaf-stump}
+use Rattle.forest_roots.proofs.Additions.{with_leaf-leaves, with_leaf-adds, with_leaf-stump}
 use Rattle.compact_node.proofs.Changes.{changes_serve}
 use Rattle.compact_node.proofs.Deletions.{without-leaves, without-slot}
 
@@ -77,52 +77,52 @@ pub length-without : (numbers : List ℕ) (es : List (Option Digest)) → length
 length-without [] es = refl
 length-without (n ∷ ns) es = length-set (entries_without ns es) n None ∙ length-without ns es
 
-module _ (H : List ℕ → Digest) (text : Leaf → List ℕ) (scripts : List (List ℕ)) (us : History) where
+module _ (H : List ℕ → Digest) (scripts : List (List ℕ)) (us : History) where
   abbrev es : List (Option Digest)
-  es = entries H text us
+  es = entries H leaf_text us
 
   count : length es ≡ length us
-  count = same_count H text us
+  count = same_count H us
 
   abbrev hashes_by : ℕ → (ℕ → ℕ → Option Digest) → Message → List Digest
   hashes_by n known m = hashes_over H (record { n = n; roots = λ row. None; known = known }) m
 
-  message_right : (points : List Outside) (m : Message) → is_right H text us (known_at H text scripts us) (points_of points) m ≡ true
-      → AreRight H es (targets (length us) m) (hashes_by (length us) (known_at H text scripts us) m)
+  message_right : (points : List Outside) (m : Message) → is_right H us (known_at H scripts us) (points_of points) m ≡ true
+      → AreRight H es (targets (length us) m) (hashes_by (length us) (known_at H scripts us) m)
   message_right points m h r o within needed =
       let ts = targets (length us) m in
-      let known = known_to m.lean (known_at H text scripts us) in
-      let shown = ((right_is_tested H text us (known_at H text scripts us) (points_of points) m).0 h).0.shown in
+      let known = known_to m.lean (known_at H scripts us) in
+      let shown = ((right_is_tested H us (known_at H scripts us) (points_of points) m).0 h).0.shown in
       let shown' : map Some m.proof.hashes ≡ map (λ p. digest_at H es p.row p.off) (asked (length es) ts known) =
       subst (λ k. map Some m.proof.hashes ≡ map (λ p. digest_at H es p.row p.off) (asked k ts known)) (sym count) shown in
-      let here = hash_right H es ts known m.proof.hashes (knowledge H text scripts us m.lean) shown' r o within needed in
-      let all : hashes_by (length us) (known_at H text scripts us) m ≡ map (λ (p : Place). hash_of H (length es) ts known m.proof.hashes p.row p.off)
+      let here = hash_right H es ts known m.proof.hashes (knowledge H scripts us m.lean) shown' r o within needed in
+      let all : hashes_by (length us) (known_at H scripts us) m ≡ map (λ (p : Place). hash_of H (length es) ts known m.proof.hashes p.row p.off)
       (need (length es) ts) = ap (λ k. map (λ (p : Place). hash_of H k ts known m.proof.hashes p.row p.off) (need k ts)) (sym count) in
       ap Some (sym (hash_of_all H (length es) ts (λ r o. hash_of H (length es) ts known m.proof.hashes r o)
-      (hashes_by (length us) (known_at H text scripts us) m) all r o within needed)) ∙ here
+      (hashes_by (length us) (known_at H scripts us) m) all r o within needed)) ∙ here
 
-  module _ (l : LevelState) (stands : StandsFor H es l.roots) (cache : IsCacheOf H text scripts us l.kept l.held) (ext : List Outside) where
+  module _ (l : LevelState) (stands : StandsFor H es l.roots) (cache : IsCacheOf H scripts us l.kept l.held) (ext : List Outside) where
     pub as_long : l.roots.leaves ≡ length us
     as_long = stands.leaves ∙ count
 
-    pub knows : look l.held ≡ known_at H text scripts us
-    knows = fun_ext (λ row. fun_ext (λ off. known_is H text scripts us l.kept l.held cache row off))
+    pub knows : look l.held ≡ known_at H scripts us
+    knows = fun_ext (λ row. fun_ext (λ off. known_is H scripts us l.kept l.held cache row off))
 
-    spending : (handed : Handed) → is_right_message H text scripts us ext handed ≡ true
-        → IsSpending H es (places_spent l.roots.leaves handed) (entries_shown H text us handed) (hashes_spent H (view_over l) handed)
+    spending : (handed : Handed) → is_right_message H scripts us ext handed ≡ true
+        → IsSpending H es (places_spent l.roots.leaves handed) (entries_shown H us handed) (hashes_spent H (view_over l) handed)
     spending nothing h = record { at = tt; right = λ r o within needed. absurd (false≢true (sym (needed-none (length es) r o) ∙ needed)) }
     spending (unread why) h = record { at = tt; right = λ r o within needed. absurd (false≢true (sym (needed-none (length es) r o) ∙ needed)) }
     spending (read m) h =
-        let base : IsSpending H es (targets (length us) m) (entries_shown H text us (read m)) (hashes_by (length us) (known_at H text scripts us) m) =
+        let base : IsSpending H es (targets (length us) m) (entries_shown H us (read m)) (hashes_by (length us) (known_at H scripts us) m) =
         record {
-          at = right_stands H text us scripts (points_of ext) m h;
+          at = right_stands H us scripts (points_of ext) m h;
           right = message_right ext m h;
         } in
-        subst (λ k. IsSpending H es (targets l.roots.leaves m) (entries_shown H text us (read m)) (hashes_by l.roots.leaves k m)) (sym knows)
-        (subst (λ n. IsSpending H es (targets n m) (entries_shown H text us (read m)) (hashes_by n (known_at H text scripts us) m)) (sym as_long)
+        subst (λ k. IsSpending H es (targets l.roots.leaves m) (entries_shown H us (read m)) (hashes_by l.roots.leaves k m)) (sym knows)
+        (subst (λ n. IsSpending H es (targets n m) (entries_shown H us (read m)) (hashes_by n (known_at H scripts us) m)) (sym as_long)
         base)
 
-    module _ (stump : IsStump l.roots) (handed : Handed) (right : is_right_message H text scripts us ext handed ≡ true) where
+    module _ (stump : IsStump l.roots) (handed : Handed) (right : is_right_message H scripts us ext handed ≡ true) where
       abbrev ts : List Place
       ts = places_spent l.roots.leaves handed
 
@@ -130,12 +130,12 @@ module _ (H : List ℕ → Digest) (text : Leaf → List ℕ) (scripts : List (L
       hashes = hashes_spent H (view_over l) handed
 
       abbrev numbers : List ℕ
-      numbers = entries_shown H text us handed
+      numbers = entries_shown H us handed
 
       is : IsSpending H es ts numbers hashes
       is = spending handed right
 
-      pub roots_left : StandsFor H (entries H text (spent numbers us)) (roots_spent H l handed)
+      pub roots_left : StandsFor H (entries H leaf_text (spent numbers us)) (roots_spent H l handed)
       roots_left =
           let f = l.roots in
           let after = λ (n : ℕ) (old : Option Digest) (row : ℕ). root_after H (hash_of H n ts nothing_known hashes) old
@@ -150,15 +150,15 @@ module _ (H : List ℕ → Digest) (text : Leaf → List ℕ) (scripts : List (L
                 ∙ sym (roots_after es ts numbers is.at H (hash_of H (length es) ts nothing_known hashes) is.right row
                 (ap (λ n. is_slot n row) (sym stands.leaves) ∙ slot'))));
           } in
-          subst (λ xs. StandsFor H xs (roots_spent H l handed)) (sym (entries-spent H text numbers us)) base
+          subst (λ xs. StandsFor H xs (roots_spent H l handed)) (sym (entries-spent H numbers us)) base
 
-      pub lists_left : IsCacheOf H text scripts (spent numbers us) (kept_spent l handed) (held_spent H l handed)
+      pub lists_left : IsCacheOf H scripts (spent numbers us) (kept_spent l handed) (held_spent H l handed)
       lists_left =
           let pairs : ArePairs H (length us) ts (entries_without numbers es) (changes_of H (length us) ts hashes) =
           subst (λ n. ArePairs H n ts (entries_without numbers es) (changes_of H n ts hashes)) count
           (changes_serve H es ts numbers hashes is.at is.right) in
-          subst (λ n. IsCacheOf H text scripts (spent numbers us) (moved_leaves n ts l.kept) (held_without H n ts hashes l.kept l.held)) (sym as_long)
-          (left_cache H text scripts us ts numbers (changes_of H (length us) ts hashes) l.kept l.held is.at pairs cache)
+          subst (λ n. IsCacheOf H scripts (spent numbers us) (moved_leaves n ts l.kept) (held_without H n ts hashes l.kept l.held)) (sym as_long)
+          (left_cache H scripts us ts numbers (changes_of H (length us) ts hashes) l.kept l.held is.at pairs cache)
 
 -- ---- what is added
 
@@ -172,42 +172,42 @@ watched_is : (u : Leaf) (b : Bool) → is_some (cond b (Some u) (let none : Opti
 watched_is u true = refl
 watched_is u false = refl
 
-module _ (H : List ℕ → Digest) (text : Leaf → List ℕ) (scripts : List (List ℕ)) where
+module _ (H : List ℕ → Digest) (scripts : List (List ℕ)) where
   -- roots and lists are those of this history
   pub record StandFor (us : History) (f : Stump) (ks : List Kept) (hs : List (Place × Digest)) : Type 0 where
-    pub roots : StandsFor H (entries H text us) f
-    pub cache : IsCacheOf H text scripts us ks hs
+    pub roots : StandsFor H (entries H leaf_text us) f
+    pub cache : IsCacheOf H scripts us ks hs
 
   with_one : (us : History) (f : Stump) (leaf : Leaf) (ks : List Kept) (hs : List (Place × Digest)) → IsStump f → suc f.leaves < 2 ^ 40
       → StandFor us f ks hs →
-      StandFor (us ++ Some leaf ∷ []) (with_leaf H f (H (text leaf))) (kept_with H text scripts f leaf ks) (held_with H text scripts f leaf hs)
+      StandFor (us ++ Some leaf ∷ []) (with_leaf H f (H (leaf_text leaf))) (kept_with H scripts f leaf ks) (held_with H scripts f leaf hs)
   with_one us f leaf ks hs s few a =
-      let d = H (text leaf) in
+      let d = H (leaf_text leaf) in
       let js = joins_of H f d in
-      let n : length us ≡ f.leaves = sym (a.roots.leaves ∙ same_count H text us) in
-      let more : entries H text us ++ Some d ∷ [] ≡ entries H text (us ++ Some leaf ∷ []) =
-      sym (map-append (option_map (λ r. H (text r))) us (Some leaf ∷ [])) in
+      let n : length us ≡ f.leaves = sym (a.roots.leaves ∙ same_count H us) in
+      let more : entries H leaf_text us ++ Some d ∷ [] ≡ entries H leaf_text (us ++ Some leaf ∷ []) =
+      sym (map-append (option_map (λ r. H (leaf_text r))) us (Some leaf ∷ [])) in
       record {
         roots = subst (λ xs. StandsFor H xs (with_leaf H f d)) more
-            (stands_added H (entries H text us) d f (with_leaf H f d) a.roots (with_leaf-leaves H f d) (with_leaf-adds H f d s few));
-        cache = added_stands_by H text scripts us leaf f js f.leaves d (cond (is_watched scripts (Some leaf)) (Some leaf) None) ks
-            (kept_with H text scripts f leaf ks) hs (held_with H text scripts f leaf hs) n a.roots refl
+            (stands_added H (entries H leaf_text us) d f (with_leaf H f d) a.roots (with_leaf-leaves H f d) (with_leaf-adds H f d s few));
+        cache = added_stands_by H scripts us leaf f js f.leaves d (cond (is_watched scripts (Some leaf)) (Some leaf) None) ks
+            (kept_with H scripts f leaf ks) hs (held_with H scripts f leaf hs) n a.roots refl
             refl (joins_end H f d) (joins_slots H f d js f.leaves refl refl) refl a.cache refl
             (ap (λ b. added_by js d f.leaves b hs) (sym (watched_is leaf (is_watched scripts (Some leaf)))));
       }
 
   pub with_all : (new : List Leaf) (us : History) (f : Stump) (ks : List Kept) (hs : List (Place × Digest)) → IsStump f
       → f.leaves + length new < 2 ^ 40 → StandFor us f ks hs →
-      StandFor (added new us) (with_leaves H f (map (λ leaf. H (text leaf)) new)) (kept_with_all H text scripts f new ks)
-      (held_with_all H text scripts f new hs)
+      StandFor (added new us) (with_leaves H f (map (λ leaf. H (leaf_text leaf)) new)) (kept_with_all H scripts f new ks)
+      (held_with_all H scripts f new hs)
   with_all [] us f ks hs s few a = rw append-nil a
   with_all (leaf ∷ new) us f ks hs s few a =
-      let d = H (text leaf) in
+      let d = H (leaf_text leaf) in
       let more : suc f.leaves < 2 ^ 40 = omega (arith, few) in
-      subst (λ xs. StandFor xs (with_leaves H (with_leaf H f d) (map (λ leaf. H (text leaf)) new))
-      (kept_with_all H text scripts (with_leaf H f d) new (kept_with H text scripts f leaf ks))
-      (held_with_all H text scripts (with_leaf H f d) new (held_with H text scripts f leaf hs)))
+      subst (λ xs. StandFor xs (with_leaves H (with_leaf H f d) (map (λ leaf. H (leaf_text leaf)) new))
+      (kept_with_all H scripts (with_leaf H f d) new (kept_with H scripts f leaf ks))
+      (held_with_all H scripts (with_leaf H f d) new (held_with H scripts f leaf hs)))
       (append_assoc us (Some leaf ∷ []) (map Some new))
-      (with_all new (us ++ Some leaf ∷ []) (with_leaf H f d) (kept_with H text scripts f leaf ks) (held_with H text scripts f leaf hs)
+      (with_all new (us ++ Some leaf ∷ []) (with_leaf H f d) (kept_with H scripts f leaf ks) (held_with H scripts f leaf hs)
       (with_leaf-stump H f d s more) (omega (arith, few, with_leaf-leaves H f d))
       (with_one us f leaf ks hs s more a))

@@ -4,7 +4,6 @@ use Rattle.std.specs.List.{AllByRecursion}
 use Rattle.uo_base.specs.declared.event.Net.{Net}
 use Rattle.uo_digest.specs.declared.digest.Digest.{Digest}
 use Rattle.uo_digest.specs.Reading.{IsDigest}
-use Rattle.leaf_record.specs.Leaf.{Leaf, leaf_text}
 use Rattle.leaf_cache.specs.Watched.{AreWatched}
 use Rattle.node_rules.specs.Machine.{State}
 use Rattle.state_text.specs.declared.fault.StateFault.{StateFault}
@@ -49,14 +48,14 @@ UnlessNoMemory P (Err NoMemory) = Unit {0}
 
 -- a node that stands for what a node holds that holds every output stores what that one stores
 abbrev pub StandingIsWritten : Type 0
-StandingIsWritten = (H : List ℕ → Digest) (t : State) (s : NodeState) → IsNode s → Stands H leaf_text t s
+StandingIsWritten = (H : List ℕ → Digest) (t : State) (s : NodeState) → IsNode s → Stands H t s
     → stored_state s ≡ state_of H s.rules.net s.scripts t
 
 -- what is read from a text of what that one stores, in either version, stands for it, in the same network, with the same scripts
 pub record IsBack (H : List ℕ → Digest) (net : Net) (scripts : List (List ℕ)) (t : State) (s : NodeState) : Type 0 where
   pub net_is : s.rules.net ≡ net
   pub scripts_are : s.scripts ≡ scripts
-  pub stands : Stands H leaf_text t s
+  pub stands : Stands H t s
 
 abbrev pub WrittenComesBack : Type 0
 WrittenComesBack = (H : List ℕ → Digest) (net : Net) (scripts : List (List ℕ)) (t : State) (text : List ℕ) (s : NodeState)
@@ -65,6 +64,6 @@ WrittenComesBack = (H : List ℕ → Digest) (net : Net) (scripts : List (List �
 
 -- two nodes that stand for the same are the same, so a run that was stopped goes on as if it had not been
 abbrev pub OneNodeStands : Type 0
-OneNodeStands = (H : List ℕ → Digest) (text : Leaf → List ℕ) (t : State) (r s : NodeState) → IsNode r → IsNode s → r.rules ≡ s.rules
+OneNodeStands = (H : List ℕ → Digest) (t : State) (r s : NodeState) → IsNode r → IsNode s → r.rules ≡ s.rules
     → r.scripts ≡ s.scripts →
-    Stands H text t r → Stands H text t s → r ≡ s
+    Stands H t r → Stands H t s → r ≡ s

@@ -21,7 +21,7 @@ use block_rules::Spends;
 use cache_update::{BeginFault, Mark, after_add, after_delete, begin};
 use forest_roots::{Joins, Roots};
 use leaf_cache::{Cache, Watch};
-use leaf_record::{LeafBuf, Record, RecordView, leaf_digest};
+use leaf_record::{LeafBuf, Record, RecordView, leaf_digests};
 use proof_shape::Targets;
 use proof_verify::Changes;
 use std::alloc::Global;
@@ -119,36 +119,36 @@ fn add<D: Digester, L: Ledger>(
     after_add(cache, mark, n, digest, joins, leaf);
 }
 
-// Adds the block's new records, in their order. Of those that are watched the records are in `leaves`.
+// Adds the block's new records, which have these digests, in their order. Of those that are watched the records are in `leaves`.
 fn append<D: Digester, L: Ledger>(
     cache: &mut Cache<D>,
     mark: &mut Mark,
     roots: &mut Roots<D>,
-    room: &mut LeafBuf<D>,
     joins: &mut Joins,
     spends: &Spends<'_>,
+    digests: &[Digest],
     leaves: Vec<(u64, Record)>,
     steps: &mut Steps<L>,
 )
     requires fits { Fits mark.old cache.old.parts }
+    requires digests { digests.now ≡ map (λ leaf. D.digest_of (leaf_text leaf)) spends.now.new }
     requires leaves { leaves.items ≡ pending cache.old.watch 0 spends.now.new }
     requires adds { mark.old.adds ≡ length spends.now.new }
     requires watched { mark.old.watched ≡ length leaves.items }
     requires count { mark.old.leaves ≡ roots.old.leaves }
     requires few { roots.old.leaves + length spends.now.new < 2 ^ 40 }
     ensures roots { roots.new ≡ with_leaves D.digest_of roots.old (map (λ leaf. D.digest_of (leaf_text leaf)) spends.now.new) }
-    ensures kept { cache.new.parts.kept ≡ kept_with_all D.digest_of leaf_text cache.old.watch roots.old spends.now.new cache.old.parts.kept }
-    ensures held { cache.new.parts.held ≡ held_with_all D.digest_of leaf_text cache.old.watch roots.old spends.now.new cache.old.parts.held }
+    ensures kept { cache.new.parts.kept ≡ kept_with_all D.digest_of cache.old.watch roots.old spends.now.new cache.old.parts.kept }
+    ensures held { cache.new.parts.held ≡ held_with_all D.digest_of cache.old.watch roots.old spends.now.new cache.old.parts.held }
     ensures watch { cache.new.watch ≡ cache.old.watch }
     ensures on { GoesOn mark.old cache.old.parts mark.new cache.new.parts }
-    ensures steps { steps.new ≤ steps.old + 2 * length spends.now.new + 40 }
+    ensures steps { steps.new ≤ steps.old + length spends.now.new + 40 }
 {
     let _count = roots.leaves();
     let mut left = leaves;
     for i in 0..spends.new_count() {
-        let leaf = spends.new_output(i);
-        let digest = leaf_digest::<D, L>(room, &leaf, steps);
         let watched = take_watched(&mut left, i);
+        let digest = digests[i as usize];
         add(cache, mark, roots, joins, digest, watched, steps);
     }
 }
@@ -195,9 +195,9 @@ fn grow_watched<D: Digester, L: Ledger>(
     requires forest { IsOfForest roots.old.leaves cache.old.parts }
     requires few { roots.old.leaves + length spends.now.new < 2 ^ 40 }
     ensures roots { OnOk result (roots.new ≡ with_leaves D.digest_of roots.old (map (λ leaf. D.digest_of (leaf_text leaf)) spends.now.new)) }
-    ensures kept { OnOk result (cache.new.parts.kept ≡ kept_with_all D.digest_of leaf_text cache.old.watch roots.old spends.now.new
+    ensures kept { OnOk result (cache.new.parts.kept ≡ kept_with_all D.digest_of cache.old.watch roots.old spends.now.new
         (moved_leaves targets.now.leaves targets.now.targets cache.old.parts.kept)) }
-    ensures held { OnOk result (cache.new.parts.held ≡ held_with_all D.digest_of leaf_text cache.old.watch roots.old spends.now.new
+    ensures held { OnOk result (cache.new.parts.held ≡ held_with_all D.digest_of cache.old.watch roots.old spends.now.new
         (held_deleted targets.now.leaves targets.now.targets (pairs_within targets.now.leaves changes.now)
         (leaf_places (moved_leaves targets.now.leaves targets.now.targets cache.old.parts.kept)) cache.old.parts.held)) }
     ensures fits { IfOk result (λ mark. Fits mark cache.new.parts) }
@@ -209,11 +209,15 @@ fn grow_watched<D: Digester, L: Ledger>(
     ensures held_room { cache.old.parts.held_room ≤ cache.new.parts.held_room }
     ensures steps { steps.new ≤ steps.old + 2 * length spends.now.new + 40 }
 {
+    let outputs = spends.new_outputs();
+    let digests = leaf_digests(alloc, room, &outputs, steps)?;
     let leaves = watched_in(alloc, cache.watch(), spends)?;
     let watched = leaves.len() as u64;
     let mut mark = begin_block(alloc, cache, targets, spends.new_count(), watched)?;
     after_delete(cache, &mut mark, targets, changes);
-    append(cache, &mut mark, roots, room, joins, spends, leaves, steps);
+    append(
+        cache, &mut mark, roots, joins, spends, &digests, leaves, steps,
+    );
     mark.shrink();
     Ok(mark)
 }
@@ -236,9 +240,9 @@ pub(crate) fn grow<D: Digester, L: Ledger>(
     requires forest { IsOfForest roots.old.leaves cache.old.parts }
     requires few { roots.old.leaves + length spends.now.new < 2 ^ 40 }
     ensures roots { OnOk result (roots.new ≡ with_leaves D.digest_of roots.old (map (λ leaf. D.digest_of (leaf_text leaf)) spends.now.new)) }
-    ensures kept { OnOk result (cache.new.parts.kept ≡ kept_with_all D.digest_of leaf_text cache.old.watch roots.old spends.now.new
+    ensures kept { OnOk result (cache.new.parts.kept ≡ kept_with_all D.digest_of cache.old.watch roots.old spends.now.new
         (moved_leaves targets.now.leaves targets.now.targets cache.old.parts.kept)) }
-    ensures held { OnOk result (cache.new.parts.held ≡ held_with_all D.digest_of leaf_text cache.old.watch roots.old spends.now.new
+    ensures held { OnOk result (cache.new.parts.held ≡ held_with_all D.digest_of cache.old.watch roots.old spends.now.new
         (held_deleted targets.now.leaves targets.now.targets (pairs_within targets.now.leaves changes.now)
         (leaf_places (moved_leaves targets.now.leaves targets.now.targets cache.old.parts.kept)) cache.old.parts.held)) }
     ensures fits { IfOk result (λ mark. Fits mark cache.new.parts) }

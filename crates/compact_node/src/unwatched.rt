@@ -1,16 +1,16 @@
 //! What a block leaves of a node that watches nothing: its roots alone.
-ghost use Rattle.std.specs.Prelude.{◌≡◌, ◌+◌, ◌*◌, ◌<◌, ◌≤◌, ◌^◌, [], length, map, count_ones, IfOk, OnOk};
+ghost use Rattle.std.specs.Prelude.{◌≡◌, ◌+◌, ◌*◌, ◌<◌, ◌≤◌, ◌^◌, [], length, map, IfOk, OnOk};
 ghost use Rattle.std.specs.Bool.{OnTrue};
 ghost use Rattle.leaf_record.specs.Leaf.{leaf_text};
 ghost use Rattle.leaf_cache.specs.Parted.{HasNothing, HaveSameLists};
 ghost use Rattle.cache_update.specs.Marks.{Fits, kept_back, held_back};
-ghost use Rattle.compact_node.specs.After.{with_leaf, with_leaves};
+ghost use Rattle.compact_node.specs.After.{with_leaves};
 
 use block_rules::Spends;
 use cache_update::{Mark, unchanged};
 use forest_roots::Roots;
 use leaf_cache::Cache;
-use leaf_record::{LeafBuf, leaf_digest};
+use leaf_record::{LeafBuf, leaf_digests};
 use std::alloc::Global;
 use std::sync::ledger::Ledger;
 use uo_base::NoMemory;
@@ -23,35 +23,18 @@ pub(crate) fn watches_nothing<D>(cache: &Cache<D>) -> bool
     cache.watch().scripts() == 0 && cache.kept().is_empty() && cache.seen().held.is_empty()
 }
 
-// Adds an entry.
-fn push<D: Digester, L: Ledger>(roots: &mut Roots<D>, digest: Digest, steps: &mut Steps<L>)
-    requires { roots.old.leaves + 1 < 2 ^ 40 }
-    ensures roots { roots.new ≡ with_leaf D.digest_of roots.old digest }
-    ensures steps { steps.new + count_ones roots.new.leaves ≤ steps.old + 1 + count_ones roots.old.leaves }
-{
-    let _before = roots.leaves();
-    roots.push(digest, steps);
-    // That these are roots again.
-    let _after = roots.leaves();
-}
-
-// Adds the block's new records, in their order.
+// Adds entries, in their order.
 fn push_all<D: Digester, L: Ledger>(
     roots: &mut Roots<D>,
-    room: &mut LeafBuf<D>,
-    spends: &Spends<'_>,
+    mut digests: Vec<Digest>,
     steps: &mut Steps<L>,
 )
-    requires { roots.old.leaves + length spends.now.new < 2 ^ 40 }
-    ensures roots { roots.new ≡ with_leaves D.digest_of roots.old (map (λ leaf. D.digest_of (leaf_text leaf)) spends.now.new) }
-    ensures steps { steps.new ≤ steps.old + 2 * length spends.now.new + 40 }
+    requires { roots.old.leaves + length digests.items < 2 ^ 40 }
+    ensures roots { roots.new ≡ with_leaves D.digest_of roots.old digests.items }
+    ensures steps { steps.new ≤ steps.old + length digests.items + 40 }
 {
     let _count = roots.leaves();
-    for i in 0..spends.new_count() {
-        let leaf = spends.new_output(i);
-        let digest = leaf_digest::<D, L>(room, &leaf, steps);
-        push(roots, digest, steps);
-    }
+    roots.push_all(&mut digests, steps);
 }
 
 /// The roots behind a block, whose new records come: of these none is watched, and nothing is kept or held. The mark gives the cache
@@ -76,7 +59,9 @@ pub(crate) fn grow_unwatched<D: Digester, L: Ledger>(
     ensures held_room { cache.old.parts.held_room ≤ cache.new.parts.held_room }
     ensures steps { steps.new ≤ steps.old + 2 * length spends.now.new + 40 }
 {
+    let outputs = spends.new_outputs();
+    let digests = leaf_digests(alloc, room, &outputs, steps)?;
     let mark = unchanged(alloc, cache)?;
-    push_all(roots, room, spends, steps);
+    push_all(roots, digests, steps);
     Ok(mark)
 }

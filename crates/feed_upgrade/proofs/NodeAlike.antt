@@ -5,7 +5,7 @@ use Rattle.forest_place.specs.declared.place.Place.{Place}
 use Rattle.forest_model.specs.Cover.{need}
 use Rattle.forest_model.specs.Evaluation.{hash_of}
 use Rattle.block_codec.specs.Block.{Block, block_hash_of}
-use Rattle.leaf_record.specs.Leaf.{Leaf}
+use Rattle.leaf_record.specs.Leaf.{leaf_text}
 use Rattle.leaf_record.specs.History.{somes}
 use Rattle.block_rules.specs.Blocks.{external, new_records}
 use Rattle.cache_model.specs.Lists.{moved_leaves}
@@ -22,7 +22,7 @@ use Rattle.message_upgrade.proofs.Alike.{IsAlike, AreAlike, lifted, same_compact
 same_targets : (n : ℕ) (m k : Message) → IsAlike n m k → targets n m ≡ targets n k
 same_targets n m k alike = ap somes alike.places
 
-module _ (H : List ℕ → Digest) (text : Leaf → List ℕ) where
+module _ (H : List ℕ → Digest) where
   same_hashes : (v : View) (m k : Message) → IsAlike v.n m k → hashes_over H v m ≡ hashes_over H v k
   same_hashes v m k alike =
       let of = λ (ts : List Place) (lean : Bool) (hashes : List Digest). map (λ p. hash_of H v.n ts (known_to lean v.known) hashes p.row p.off)
@@ -41,13 +41,13 @@ module _ (H : List ℕ → Digest) (text : Leaf → List ℕ) where
         let f = without H l.roots ts hashes in
         let level : LevelState = record {
           chain = record { blocks = suc l.chain.blocks; tip = block_hash_of b; leaves = l.chain.leaves + length new };
-          roots = with_leaves H f (map (λ leaf. H (text leaf)) new);
-          kept = kept_with_all H text s.scripts f new (moved_leaves n ts l.kept);
-          held = held_with_all H text s.scripts f new (held_without H n ts hashes l.kept l.held);
+          roots = with_leaves H f (map (λ leaf. H (leaf_text leaf)) new);
+          kept = kept_with_all H s.scripts f new (moved_leaves n ts l.kept);
+          held = held_with_all H s.scripts f new (held_without H n ts hashes l.kept l.held);
         } in
         with_level level s
 
-    same_node : (handed other : Handed) → AreAlike s.newest.roots.leaves handed other → node_with H text s b handed ≡ node_with H text s b other
+    same_node : (handed other : Handed) → AreAlike s.newest.roots.leaves handed other → node_with H s b handed ≡ node_with H s b other
     same_node handed other alike =
         let n = s.newest.roots.leaves in
         let v = view_over s.newest in
@@ -55,20 +55,20 @@ module _ (H : List ℕ → Digest) (text : Leaf → List ℕ) where
         ∙ ap (λ (x : List Digest). node_of (places_spent n other) x) (lifted n (hashes_spent H v) (same_hashes v) handed other alike)
 
     same_next : (handed other : Handed) → AreAlike s.newest.roots.leaves handed other
-        → next_node H text s (BlockCame (Some b) handed) ≡ next_node H text s (BlockCame (Some b) other)
+        → next_node H s (BlockCame (Some b) handed) ≡ next_node H s (BlockCame (Some b) other)
     same_next handed other alike =
         let ext = external b s.newest.chain.blocks in
         let v = view_over s.newest in
-        ap (λ (x : Evidence). node_by (refusal s.rules s.newest.chain b x) (node_with H text s b handed) s)
-        (lifted v.n (compact H text v ext) (same_compact H text v ext) handed other alike)
-        ∙ ap (λ (x : NodeState). node_by (refusal_on H text s b other) x s) (same_node handed other alike)
+        ap (λ (x : Evidence). node_by (refusal s.rules s.newest.chain b x) (node_with H s b handed) s)
+        (lifted v.n (compact H v ext) (same_compact H v ext) handed other alike)
+        ∙ ap (λ (x : NodeState). node_by (refusal_on H s b other) x s) (same_node handed other alike)
 
   pub same_said : (s : NodeState) (b : Option Block) (handed other : Handed) → AreAlike s.newest.roots.leaves handed other
-      → verdict_on H text s (BlockCame b handed) ≡ verdict_on H text s (BlockCame b other)
+      → verdict_on H s (BlockCame b handed) ≡ verdict_on H s (BlockCame b other)
   same_said s None handed other alike = refl
-  same_said s (Some b) handed other alike = same_verdict H text s.rules s.newest.chain (view_over s.newest) b handed other alike
+  same_said s (Some b) handed other alike = same_verdict H s.rules s.newest.chain (view_over s.newest) b handed other alike
 
   pub same_kept : (s : NodeState) (b : Option Block) (handed other : Handed) → AreAlike s.newest.roots.leaves handed other
-      → next_node H text s (BlockCame b handed) ≡ next_node H text s (BlockCame b other)
+      → next_node H s (BlockCame b handed) ≡ next_node H s (BlockCame b other)
   same_kept s None handed other alike = refl
   same_kept s (Some b) handed other alike = same_next s b handed other alike

@@ -3,7 +3,6 @@ use Rattle.std.specs.Prelude.{◌≡◌, ℕ, ◌≤◌, List, length, map}
 use Rattle.uo_base.specs.declared.event.Net.{Net}
 use Rattle.uo_base.specs.Reading.{IsBytes}
 use Rattle.uo_digest.specs.declared.digest.Digest.{Digest}
-use Rattle.leaf_record.specs.Leaf.{Leaf}
 use Rattle.feed_frame.specs.Events.{events_of}
 use Rattle.feed_frame.specs.FeedText.{feed_text, HasEvents}
 use Rattle.node_rules.specs.Machine.{event_in}
@@ -18,29 +17,29 @@ use Rattle.feed_upgrade.specs.Upgraded.{upgraded_events}
 
 -- Of a block with a message and with that message upgraded a node says the same, with the details, and keeps the same then, also where the message is
 -- forged.
-pub record IsTakenAlike (H : List ℕ → Digest) (text : Leaf → List ℕ) (s : NodeState) (b : Option Block) (message : List ℕ) : Type 0 where
-  pub said : verdict_on H text s (Chain.BlockCame b (message_in (upgraded s.newest.chain.leaves message)))
-      ≡ verdict_on H text s (Chain.BlockCame b (message_in message))
-  pub kept : next_node H text s (Chain.BlockCame b (message_in (upgraded s.newest.chain.leaves message)))
-      ≡ next_node H text s (Chain.BlockCame b (message_in message))
+pub record IsTakenAlike (H : List ℕ → Digest) (s : NodeState) (b : Option Block) (message : List ℕ) : Type 0 where
+  pub said : verdict_on H s (Chain.BlockCame b (message_in (upgraded s.newest.chain.leaves message)))
+      ≡ verdict_on H s (Chain.BlockCame b (message_in message))
+  pub kept : next_node H s (Chain.BlockCame b (message_in (upgraded s.newest.chain.leaves message)))
+      ≡ next_node H s (Chain.BlockCame b (message_in message))
 
 abbrev pub UpgradedIsTakenAlike : Type 0
-UpgradedIsTakenAlike = (H : List ℕ → Digest) (text : Leaf → List ℕ) (s : NodeState) (b : Option Block) (message : List ℕ) → IsNode s → IsBytes message
-    → IsTakenAlike H text s b message
+UpgradedIsTakenAlike = (H : List ℕ → Digest) (s : NodeState) (b : Option Block) (message : List ℕ) → IsNode s → IsBytes message
+    → IsTakenAlike H s b message
 
 -- The events of a feed with the messages upgraded: their text is read as these events, it has no more bytes than the feed, and a node says of
 -- each what it says of the event of the feed, and keeps the same then.
-pub record IsFollowedAlike (H : List ℕ → Digest) (text : Leaf → List ℕ) (s : NodeState) (net : Net) (limit : ℕ) (feed : List ℕ) : Type 0 where
+pub record IsFollowedAlike (H : List ℕ → Digest) (s : NodeState) (net : Net) (limit : ℕ) (feed : List ℕ) : Type 0 where
   pub read :
-      let events = upgraded_events H text s (events_of net limit feed).events in
+      let events = upgraded_events H s (events_of net limit feed).events in
       HasEvents net limit (feed_text net events) events
-  pub no_longer : length (feed_text net (upgraded_events H text s (events_of net limit feed).events)) ≤ length feed
-  pub as_many : length (upgraded_events H text s (events_of net limit feed).events) ≡ length (events_of net limit feed).events
-  pub said : verdicts_on H text s (map event_in (upgraded_events H text s (events_of net limit feed).events))
-      ≡ verdicts_on H text s (map event_in (events_of net limit feed).events)
-  pub kept : node_after H text s (map event_in (upgraded_events H text s (events_of net limit feed).events))
-      ≡ node_after H text s (map event_in (events_of net limit feed).events)
+  pub no_longer : length (feed_text net (upgraded_events H s (events_of net limit feed).events)) ≤ length feed
+  pub as_many : length (upgraded_events H s (events_of net limit feed).events) ≡ length (events_of net limit feed).events
+  pub said : verdicts_on H s (map event_in (upgraded_events H s (events_of net limit feed).events))
+      ≡ verdicts_on H s (map event_in (events_of net limit feed).events)
+  pub kept : node_after H s (map event_in (upgraded_events H s (events_of net limit feed).events))
+      ≡ node_after H s (map event_in (events_of net limit feed).events)
 
 abbrev pub UpgradedIsFollowedAlike : Type 0
-UpgradedIsFollowedAlike = (H : List ℕ → Digest) (text : Leaf → List ℕ) (s : NodeState) (net : Net) (limit : ℕ) (feed : List ℕ) → IsNode s
-    → IsBytes feed → IsFollowedAlike H text s net limit feed
+UpgradedIsFollowedAlike = (H : List ℕ → Digest) (s : NodeState) (net : Net) (limit : ℕ) (feed : List ℕ) → IsNode s
+    → IsBytes feed → IsFollowedAlike H s net limit feed

@@ -2,16 +2,15 @@
 use Rattle.std.specs.Prelude.{ℕ, ◌+◌, List, [], ◌∷◌, Option, Some, None, if◌then◌else◌}
 use Rattle.uo_base.specs.FeedEvent.{FeedEvent, BlockCame, RollbackCame, StrayCame}
 use Rattle.uo_digest.specs.declared.digest.Digest.{Digest}
-use Rattle.leaf_record.specs.Leaf.{Leaf}
 use Rattle.node_rules.specs.Machine.{event_in}
 use Rattle.compact_node.specs.Node.{NodeState, next_node}
 use Rattle.message_upgrade.specs.Upgrade.{is_old, upgraded_event}
 
 -- each by the count of entries before it, of a node that follows the events
-abbrev pub upgraded_events : (List ℕ → Digest) → (Leaf → List ℕ) → NodeState → List FeedEvent → List FeedEvent
-upgraded_events H text s [] = []
-upgraded_events H text s (event ∷ events) =
-    upgraded_event s.newest.chain.leaves event ∷ upgraded_events H text (next_node H text s (event_in event)) events
+abbrev pub upgraded_events : (List ℕ → Digest) → NodeState → List FeedEvent → List FeedEvent
+upgraded_events H s [] = []
+upgraded_events H s (event ∷ events) =
+    upgraded_event s.newest.chain.leaves event ∷ upgraded_events H (next_node H s (event_in event)) events
 
 -- how many messages of version 1 stand beside the block of an event: one or none
 abbrev pub old_in : Option (List ℕ) → ℕ

@@ -3,7 +3,6 @@ use Rattle.std.specs.Prelude.{ℕ, ◌+◌, List, [], false}
 use Rattle.uo_base.specs.declared.event.Net.{Net}
 use Rattle.uo_base.specs.FeedEvent.{FeedEvent}
 use Rattle.uo_digest.specs.declared.digest.Digest.{Digest}
-use Rattle.leaf_record.specs.Leaf.{leaf_text}
 use Rattle.feed_frame.specs.FeedText.{event_text}
 use Rattle.feed_run.specs.Answer.{Answer}
 use Rattle.feed_run.specs.Machine.{Machine}
@@ -29,7 +28,7 @@ upgrader_of node = record { net = node.rules.net; node = node; events = 0; messa
 unfoldable pub next_upgrader : (List ℕ → Digest) → Upgrading → FeedEvent → Upgrading
 next_upgrader H u event = record {
   net = u.net;
-  node = next_node H leaf_text u.node (event_in event);
+  node = next_node H u.node (event_in event);
   events = u.events + 1;
   messages = u.messages + old_beside event;
 }

@@ -1,5 +1,5 @@
 -- Lists of places: what is in one, and the order of places.
-use Rattle.std.specs.Prelude.{◌≡◌, ℕ, zero, suc, ◌-◌, ◌/◌, ◌^◌, ◌<◌, Bool, true, false, ◌&&◌, ◌==◌, ◌⊎◌, List, [], ◌∷◌, ◌++◌, length, get_or}
+use Rattle.std.specs.Prelude.{◌≡◌, ℕ, zero, suc, ◌-◌, ◌/◌, ◌^◌, ◌<◌, Bool, true, false, nat_lt, ◌&&◌, ◌||◌, ◌==◌, ◌⊎◌, List, [], ◌∷◌, ◌++◌, length, get_or}
 use Rattle.std.specs.List.{list_any}
 use Rattle.forest_place.specs.declared.place.Place.{Place}
 use Rattle.forest_place.specs.Forest.{InForest}
@@ -15,6 +15,10 @@ has_place ps row off = list_any (is_at row off) ps
 -- all of them are places of the forest over n
 abbrev pub AreWithin : ℕ → List Place → Type 0
 AreWithin n ps = (r o : ℕ) → has_place ps r o ≡ true → InForest n r o
+
+-- whether the forest over n entries has the place
+abbrev pub is_within : ℕ → Place → Bool
+is_within n p = nat_lt p.off (n / 2 ^ p.row)
 
 -- the place at an index
 abbrev pub place_in : List Place → ℕ → Place
@@ -32,6 +36,10 @@ IsDistinct (p ∷ ps) = (has_place ps p.row p.off ≡ false) × IsDistinct ps
 -- p comes before q: in a lower row, or in its row at a lower offset
 abbrev pub IsBefore : Place → Place → Type 0
 IsBefore p q = (p.row < q.row) ⊎ ((p.row ≡ q.row) × (p.off < q.off))
+
+-- the same as a test
+abbrev pub is_before_place : Place → Place → Bool
+is_before_place p q = nat_lt p.row q.row || ((p.row == q.row) && nat_lt p.off q.off)
 
 -- each place comes before all later ones
 abbrev pub IsAscending : List Place → Type 0

@@ -13,4 +13,6 @@ pub use laws::{
 pub use lists::is_near;
 pub use naming::Naming;
 pub use numbering::{fixed_position, parent_position, place_of, place_of_fixed, position, rows};
-pub use place::{Place, children, is_root, parent, root_place, sibling, slot_of};
+pub use place::{
+    Place, child, children, is_before, is_root, is_within, parent, root_place, sibling, slot_of,
+};

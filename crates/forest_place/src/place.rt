@@ -1,5 +1,6 @@
 //! A place, and the places around it.
-ghost use Rattle.std.specs.Prelude.{◌≡◌, ◌+◌, ◌*◌, ◌/◌, ◌%◌, ◌^◌, ◌<◌, IsTrue, MatchOption};
+ghost use Rattle.std.specs.Prelude.{◌≡◌, ◌↔◌, ◌+◌, ◌-◌, ◌*◌, ◌/◌, ◌%◌, ◌^◌, ◌<◌, IsTrue, MatchOption};
+ghost use Rattle.forest_place.specs.Places.{IsBefore, is_before_place, is_within as is_place_of};
 ghost use Rattle.forest_place.specs.Forest.{InForest, IsSlotOf, is_slot, is_root as is_root_at, root_off, sibling_off};
 
 /// A row of the forest, counted from the leaves up, and an offset in it. Places are ordered as their positions are.
@@ -9,6 +10,23 @@ pub struct Place {
     pub row: u8,
     /// How many places of its row stand before it.
     pub off: u64,
+}
+
+/// Whether one place comes before another: in a lower row, or in its row at a lower offset.
+pub fn is_before(place: Place, other: Place) -> bool
+    ensures means { IsTrue result ↔ IsBefore place other }
+    ensures is { result ≡ is_before_place place other }
+{
+    place.row < other.row || (place.row == other.row && place.off < other.off)
+}
+
+/// Whether the forest over `n` entries has the place.
+pub fn is_within(n: u64, place: Place) -> bool
+    requires { n < 2 ^ 40 }
+    ensures means { IsTrue result ↔ InForest n place.row place.off }
+    ensures is { result ≡ is_place_of n place }
+{
+    place.row < 40 && place.off < n >> place.row
 }
 
 /// The row of the slot that has the place. `None` where the forest over `n` entries lacks it.
@@ -67,6 +85,19 @@ pub fn sibling(place: Place) -> Place
     Place {
         row: place.row,
         off: place.off ^ 1,
+    }
+}
+
+/// The place beneath on a side: 0 is the left one, 1 the right one.
+pub fn child(place: Place, side: u64) -> Place
+    requires row { 0 < place.row }
+    requires off { place.off < 2 ^ 40 }
+    requires side { side < 2 }
+    ensures { result ≡ record { row = place.row - 1; off = 2 * place.off + side } }
+{
+    Place {
+        row: place.row - 1,
+        off: 2 * place.off + side,
     }
 }
 

@@ -1,4 +1,8 @@
 pub mod Few
 pub mod Added
 pub mod One
+pub mod Additions
+pub mod RowLaws
+pub mod Carrying
+pub mod Rising
 pub mod Packing

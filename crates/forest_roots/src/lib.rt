@@ -6,6 +6,7 @@ mod joins;
 mod laws;
 mod packed;
 mod roots;
+mod rows;
 
 pub use inner::pair;
 pub use joins::{Join, Joins};

@@ -153,23 +153,4 @@ impl<D: Digester> Roots<D> {
         self.slots[row as usize] = Some(carried);
         self.count += 1;
     }
-
-    /// The same, where nobody asks what was joined.
-    pub fn push<L: Ledger>(&mut self, digest: Digest, steps: &mut Steps<L>)
-        requires { self.old.leaves + 1 < 2 ^ 40 }
-        ensures roots { IsAdded D.digest_of self.old digest self.new }
-        ensures counted { steps.new ≡ steps.old + addition_steps self.old }
-        ensures few { steps.new + count_ones self.new.leaves ≤ steps.old + 1 + count_ones self.old.leaves }
-    {
-        let mut carried = digest;
-        let mut row = 0;
-        while (self.count >> row) % 2 == 1 {
-            let left = self.slots[row];
-            self.slots[row] = None;
-            carried = join_root::<D, L>(left, carried, steps);
-            row += 1;
-        }
-        self.slots[row] = Some(carried);
-        self.count += 1;
-    }
 }

@@ -1,2 +1,3 @@
 pub mod LeafLaws
 pub mod HistoryLaws
+mod BatchLaws

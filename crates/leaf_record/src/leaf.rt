@@ -21,7 +21,10 @@ const TAG: [u8; 64] = [
 ];
 
 /// The most bytes that a leaf text has.
-const MAX_LEAF_TEXT: usize = 10_211;
+pub(crate) const MAX_LEAF_TEXT: usize = 10_211;
+
+/// Twice as many, so the texts of many usual leaves have room beside each other.
+const ROOM: usize = 20_422;
 
 fn put_tag(out: &mut Vec<u8>) -> Result<(), NoMemory>
     ensures ok { OnOk result (out.new.items ≡ out.old.items ++ tag) }
@@ -138,27 +141,27 @@ fn put_payload_at(room: &mut [u8], at: usize, code: u32, amount: u64, script: &[
     put_at(room, behind_count, script)
 }
 
-// What a leaf text says behind its tags, from the front of the room on. It is answered where that ends.
+// Puts what a leaf text says behind its tags into the room, from an index on. It is answered where that ends.
 #[tactic(auto, unfolding(crate::specs::Leaf::output_text))]
-fn fill(leaf: &RecordView<'_>, room: &mut [u8]) -> usize
-    requires { 10211 ≤ length room.old }
-    ensures text { take result room.new ≡ output_text leaf.now }
+pub(crate) fn fill(leaf: &RecordView<'_>, at: usize, room: &mut [u8]) -> usize
+    requires { at + 10211 ≤ length room.old }
+    ensures text { take result room.new ≡ take at room.old ++ output_text leaf.now }
     ensures within { result ≤ length room.new }
     ensures len { length room.new ≡ length room.old }
     ensures fits { LeafFits leaf.now }
 {
     let rest = leaf.rest();
-    let behind_block = put_at(room, 0, &rest.block.0);
+    let behind_block = put_at(room, at, &rest.block.0);
     let behind_txid = put_at(room, behind_block, &leaf.txid.0);
     let behind_index = put_at(room, behind_txid, &leaf.index.to_le_bytes());
     put_payload_at(room, behind_index, rest.code(), rest.amount, rest.script)
 }
 
-/// Room for one leaf text, and the two tags that all of them begin with, taken in once. Contracts see how many bytes it has room for.
+/// Room for leaf texts, and the two tags that all of them begin with, taken in once. Contracts see how many bytes it has room for.
 pub struct LeafBuf<D: Digester> {
     // Each byte of the room is there, so a text is put into it and nothing grows.
-    bytes: Vec<u8>,
-    tags: D::Front,
+    pub(crate) bytes: Vec<u8>,
+    pub(crate) tags: D::Front,
 }
 
 impl<D: Digester> Drop for LeafBuf<D> {
@@ -175,16 +178,16 @@ impl<D: Digester> Model for LeafBuf<D> {
 
     ghost view = { λ b. vec_capacity b.bytes };
 
-    ghost invariant = { λ b. (10211 ≤ vec_len b.bytes) × D.holds b.tags (tag ++ tag) };
+    ghost invariant = { λ b. (20422 ≤ vec_len b.bytes) × D.holds b.tags (tag ++ tag) };
 }
 
 // So many bytes, and no room for more.
 fn blank_text(alloc: Global) -> Result<Vec<u8>, NoMemory>
-    ensures len { IfOk result (λ bytes. vec_len bytes ≡ 10211) }
-    ensures capacity { IfOk result (λ bytes. vec_capacity bytes ≡ 10211) }
+    ensures len { IfOk result (λ bytes. vec_len bytes ≡ 20422) }
+    ensures capacity { IfOk result (λ bytes. vec_capacity bytes ≡ 20422) }
 {
-    let mut bytes = Vec::with_capacity(alloc, MAX_LEAF_TEXT)?;
-    for _ in 0..MAX_LEAF_TEXT {
+    let mut bytes = Vec::with_capacity(alloc, ROOM)?;
+    for _ in 0..ROOM {
         bytes.push_reserved(0);
     }
     Ok(bytes)
@@ -193,7 +196,7 @@ fn blank_text(alloc: Global) -> Result<Vec<u8>, NoMemory>
 impl<D: Digester> LeafBuf<D> {
     /// Takes the memory that digesting leaves needs.
     pub fn new(alloc: Global) -> Result<LeafBuf<D>, NoMemory>
-        ensures { IfOk result (λ room. room ≡ 10211) }
+        ensures { IfOk result (λ room. room ≡ 20422) }
     {
         let bytes = blank_text(alloc)?;
         let mut tags = Vec::new(alloc);
@@ -218,7 +221,7 @@ fn digest_in<D: Digester, L: Ledger>(
     ensures step { steps.new ≡ steps.old + 1 }
     ensures fits { LeafFits leaf.now }
 {
-    let end = fill(leaf, room);
+    let end = fill(leaf, 0, room);
     D::digest_behind(tags, &room[..end], steps)
 }
 

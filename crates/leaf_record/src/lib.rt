@@ -10,12 +10,16 @@
 //! at least 209 bytes, so it is never the text of an inner node of the forest, which has 64.
 #![tactic(auto)]
 
+mod batch;
 mod laws;
 mod leaf;
+mod leaves;
 mod record;
 mod rest;
 
+pub use batch::leaf_digests;
 pub use laws::{leaf_text_is_long, one_leaf, one_rest};
 pub use leaf::{LeafBuf, leaf_digest, leaf_text};
+pub use leaves::Leaves;
 pub use record::{MAX_SCRIPT, Record, RecordView, RestView};
 pub use rest::{read_rest, write_rest};

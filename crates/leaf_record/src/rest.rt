@@ -7,7 +7,7 @@ ghost use Rattle.leaf_record.specs.Leaf.{RestFits, longest_script, payload_text,
 ghost use Rattle.leaf_record.specs.Reading.{short_count_at, script_at, rest_at};
 
 use crate::record::{MAX_SCRIPT, RestView};
-use uo_base::{Cursor, NoMemory, put_compact};
+use uo_base::{Cursor, NoMemory, put_sized};
 use uo_digest::Digest;
 
 #[tactic(auto, unfolding(crate::specs::Reading::short_count_at))]
@@ -78,18 +78,6 @@ pub fn read_rest<'a>(at: &mut Cursor<'a>) -> Option<RestView<'a>>
     Some(rest)
 }
 
-/// Appends a script behind its length.
-fn put_script(script: &[u8], out: &mut Vec<u8>) -> Result<(), NoMemory>
-    ensures ok { OnOk result (out.new.items ≡ out.old.items ++ sized script.now) }
-    ensures err { OnErr result (Grew out.old.items out.new.items) }
-    ensures full { OnErr result (vec_capacity out.old < vec_len out.old + length (sized script.now)) }
-    ensures capacity { vec_capacity out.old ≤ vec_capacity out.new }
-{
-    put_compact(out, script.len() as u64)?;
-    out.extend_from_slice(script)?;
-    Ok(())
-}
-
 /// Appends code, amount and script.
 #[tactic(auto, unfolding(crate::specs::Leaf::payload_text))]
 pub(crate) fn put_payload(
@@ -105,7 +93,7 @@ pub(crate) fn put_payload(
 {
     out.extend_from_slice(&code.to_le_bytes())?;
     out.extend_from_slice(&amount.to_le_bytes())?;
-    put_script(script, out)?;
+    put_sized(out, script)?;
     Ok(())
 }
 

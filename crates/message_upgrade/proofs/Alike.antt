@@ -10,7 +10,7 @@ use Rattle.forest_model.specs.Standing.{digest_at}
 use Rattle.forest_model.specs.Right.{entries}
 use Rattle.block_codec.specs.Block.{Block}
 use Rattle.cache_model.specs.Known.{known_at}
-use Rattle.leaf_record.specs.Leaf.{Outpoint, Rest, Leaf}
+use Rattle.leaf_record.specs.Leaf.{Outpoint, Rest, leaf_text}
 use Rattle.leaf_record.specs.History.{somes, History}
 use Rattle.proof_wire.specs.BlockProof.{Spend, rests_of}
 use Rattle.block_rules.specs.declared.chain.Chain.{Chain}
@@ -54,7 +54,7 @@ lifted n f same (read m) other (k, e, alike) = same m k alike ∙ ap f (sym e)
 count : {n : ℕ} (m k : Message) → IsAlike n m k → length m.proof.spends ≡ length k.proof.spends
 count m k alike = sym (length-map m.proof.spends (λ (s : Spend). s.rest)) ∙ ap length alike.rests ∙ length-map k.proof.spends (λ (s : Spend). s.rest)
 
-module _ (H : List ℕ → Digest) (text : Leaf → List ℕ) where
+module _ (H : List ℕ → Digest) where
   -- ---- by a view
 
   module _ (v : View) (points : List Outpoint) where
@@ -63,7 +63,7 @@ module _ (H : List ℕ → Digest) (text : Leaf → List ℕ) where
         let ts = somes named in
         let known = known_to lean v.known in
         let wanted = length (asked v.n ts known) in
-        let leaves = map (λ leaf. H (text leaf)) (claimed points rests) in
+        let leaves = map (λ leaf. H (leaf_text leaf)) (claimed points rests) in
         first_of (
         shape_fault v.n [] 0 named
         ∷ unless (length hashes == wanted) (HashCount wanted (length hashes))
@@ -72,7 +72,7 @@ module _ (H : List ℕ → Digest) (text : Leaf → List ℕ) where
         ∷ []
         )
 
-    pub same_fault : (m k : Message) → IsAlike v.n m k → proof_fault H text v points m ≡ proof_fault H text v points k
+    pub same_fault : (m k : Message) → IsAlike v.n m k → proof_fault H v points m ≡ proof_fault H v points k
     same_fault m k alike =
         ap (λ (x : List (Option Place)). fault_of x m.lean (rests_of m.proof.spends) m.proof.hashes) alike.places
         ∙ ap (λ (x : Bool). fault_of (named v.n k) x (rests_of m.proof.spends) m.proof.hashes) alike.lean
@@ -85,19 +85,19 @@ module _ (H : List ℕ → Digest) (text : Leaf → List ℕ) where
   abbrev compact_of : List Outside → Option ProofRefusal → ℕ → List Rest → Evidence
   compact_of ext fault got rests = record { steps = steps_of ext got ++ (option_map Why.Proof fault ∷ []); found = map found_of rests; numbers = [] }
 
-  pub same_compact : (v : View) (ext : List Outside) (m k : Message) → IsAlike v.n m k → compact H text v ext (read m) ≡ compact H text v ext (read k)
+  pub same_compact : (v : View) (ext : List Outside) (m k : Message) → IsAlike v.n m k → compact H v ext (read m) ≡ compact H v ext (read k)
   same_compact v ext m k alike =
       ap (λ (x : Option ProofRefusal). compact_of ext x (length m.proof.spends) (rests_of m.proof.spends)) (same_fault v (points_of ext) m k alike)
-      ∙ ap (λ (x : ℕ). compact_of ext (proof_fault H text v (points_of ext) k) x (rests_of m.proof.spends)) (count m k alike)
-      ∙ ap (λ (x : List Rest). compact_of ext (proof_fault H text v (points_of ext) k) (length k.proof.spends) x) alike.rests
+      ∙ ap (λ (x : ℕ). compact_of ext (proof_fault H v (points_of ext) k) x (rests_of m.proof.spends)) (count m k alike)
+      ∙ ap (λ (x : List Rest). compact_of ext (proof_fault H v (points_of ext) k) (length k.proof.spends) x) alike.rests
 
   -- over a view the verdict is the same, with its details
   pub same_verdict : (rules : Rules) (chain : Chain) (v : View) (b : Block) (handed other : Handed) → AreAlike v.n handed other
-      → verdict_over H text rules chain v b handed ≡ verdict_over H text rules chain v b other
+      → verdict_over H rules chain v b handed ≡ verdict_over H rules chain v b other
   same_verdict rules chain v b handed other alike =
       let ext = external b chain.blocks in
       ap (λ (e : Evidence). verdict_by chain b (length (new_records b chain.blocks)) (refusal rules chain b e))
-      (lifted v.n (compact H text v ext) (same_compact v ext) handed other alike)
+      (lifted v.n (compact H v ext) (same_compact v ext) handed other alike)
 
   -- ---- by the whole history
 
@@ -105,13 +105,13 @@ module _ (H : List ℕ → Digest) (text : Leaf → List ℕ) where
     abbrev right_of : (ℕ → ℕ → Option Digest) → List Outpoint → ℕ → List (Option Place) → Bool → List Rest → List Digest → Bool
     right_of known points got named lean rests hashes =
         let n = length us in
-        let es = entries H text us in
+        let es = entries H leaf_text us in
         (got == length points)
-        && (all_stand H text us named (claimed points rests)
+        && (all_stand H us named (claimed points rests)
         && same_digests hashes (map (λ p. digest_at H es p.row p.off) (asked n (somes named) (known_to lean known))))
 
     same_right : (known : ℕ → ℕ → Option Digest) (points : List Outpoint) (m k : Message) → IsAlike (length us) m k
-        → is_right H text us known points m ≡ is_right H text us known points k
+        → is_right H us known points m ≡ is_right H us known points k
     same_right known points m k alike =
         ap (λ (x : ℕ). right_of known points x (named (length us) m) m.lean (rests_of m.proof.spends) m.proof.hashes) (count m k alike)
         ∙ ap (λ (x : List (Option Place)). right_of known points (length k.proof.spends) x m.lean (rests_of m.proof.spends) m.proof.hashes)
@@ -121,28 +121,28 @@ module _ (H : List ℕ → Digest) (text : Leaf → List ℕ) where
         ∙ ap (λ (x : List Digest). right_of known points (length k.proof.spends) (named (length us) k) k.lean (rests_of k.proof.spends) x)
         alike.hashes
 
-    same_shown : (m k : Message) → IsAlike (length us) m k → entries_shown H text us (read m) ≡ entries_shown H text us (read k)
-    same_shown m k alike = ap (λ (x : List (Option Place)). somes (map (entry_number_at (entries H text us)) (somes x))) alike.places
+    same_shown : (m k : Message) → IsAlike (length us) m k → entries_shown H us (read m) ≡ entries_shown H us (read k)
+    same_shown m k alike = ap (λ (x : List (Option Place)). somes (map (entry_number_at (entries H leaf_text us)) (somes x))) alike.places
 
     abbrev full_of : List Outside → Option ProofRefusal → Bool → ℕ → List Rest → List ℕ → Evidence
     full_of ext fault right got rests numbers =
         record { steps = steps_of ext got ++ (wrong_unless right fault ∷ []); found = map found_of rests; numbers = numbers }
 
     same_full : (scripts : List (List ℕ)) (ext : List Outside) (m k : Message) → IsAlike (length us) m k
-        → full H text scripts us ext (read m) ≡ full H text scripts us ext (read k)
+        → full H scripts us ext (read m) ≡ full H scripts us ext (read k)
     same_full scripts ext m k alike =
-        let known = known_at H text scripts us in
-        let v = view_of H text scripts us in
+        let known = known_at H scripts us in
+        let v = view_of H scripts us in
         let points = points_of ext in
-        ap (λ (x : Option ProofRefusal). full_of ext x (is_right H text us known points m) (length m.proof.spends) (rests_of m.proof.spends)
-        (entries_shown H text us (read m))) (same_fault v points m k alike)
-        ∙ ap (λ (x : Bool). full_of ext (proof_fault H text v points k) x (length m.proof.spends) (rests_of m.proof.spends)
-        (entries_shown H text us (read m))) (same_right known points m k alike)
-        ∙ ap (λ (x : ℕ). full_of ext (proof_fault H text v points k) (is_right H text us known points k) x (rests_of m.proof.spends)
-        (entries_shown H text us (read m))) (count m k alike)
-        ∙ ap (λ (x : List Rest). full_of ext (proof_fault H text v points k) (is_right H text us known points k) (length k.proof.spends) x
-        (entries_shown H text us (read m))) alike.rests
-        ∙ ap (λ (x : List ℕ). full_of ext (proof_fault H text v points k) (is_right H text us known points k) (length k.proof.spends)
+        ap (λ (x : Option ProofRefusal). full_of ext x (is_right H us known points m) (length m.proof.spends) (rests_of m.proof.spends)
+        (entries_shown H us (read m))) (same_fault v points m k alike)
+        ∙ ap (λ (x : Bool). full_of ext (proof_fault H v points k) x (length m.proof.spends) (rests_of m.proof.spends)
+        (entries_shown H us (read m))) (same_right known points m k alike)
+        ∙ ap (λ (x : ℕ). full_of ext (proof_fault H v points k) (is_right H us known points k) x (rests_of m.proof.spends)
+        (entries_shown H us (read m))) (count m k alike)
+        ∙ ap (λ (x : List Rest). full_of ext (proof_fault H v points k) (is_right H us known points k) (length k.proof.spends) x
+        (entries_shown H us (read m))) alike.rests
+        ∙ ap (λ (x : List ℕ). full_of ext (proof_fault H v points k) (is_right H us known points k) (length k.proof.spends)
         (rests_of k.proof.spends) x) (same_shown m k alike)
 
     abbrev forged_of : Rules → Chain → Block → List Outside → ℕ → Option ProofRefusal → Bool → Bool
@@ -152,51 +152,51 @@ module _ (H : List ℕ → Digest) (text : Leaf → List ℕ) where
     -- forgery is judged alike
     pub same_forged : (scripts : List (List ℕ)) (rules : Rules) (chain : Chain) (b : Block) (handed other : Handed)
         → AreAlike (length us) handed other
-        → is_forged H text scripts rules chain us b handed ≡ is_forged H text scripts rules chain us b other
-    same_forged scripts rules chain b handed other alike = lifted (length us) (is_forged H text scripts rules chain us b) of handed other alike
+        → is_forged H scripts rules chain us b handed ≡ is_forged H scripts rules chain us b other
+    same_forged scripts rules chain b handed other alike = lifted (length us) (is_forged H scripts rules chain us b) of handed other alike
       where
         of : (m k : Message) → IsAlike (length us) m k
-            → is_forged H text scripts rules chain us b (read m) ≡ is_forged H text scripts rules chain us b (read k)
+            → is_forged H scripts rules chain us b (read m) ≡ is_forged H scripts rules chain us b (read k)
         of m k alike =
             let ext = external b chain.blocks in
-            let known = known_at H text scripts us in
-            let v = view_of H text scripts us in
+            let known = known_at H scripts us in
+            let v = view_of H scripts us in
             let points = points_of ext in
-            ap (λ (x : ℕ). forged_of rules chain b ext x (proof_fault H text v points m) (is_right H text us known points m)) (count m k alike)
-            ∙ ap (λ (x : Option ProofRefusal). forged_of rules chain b ext (length k.proof.spends) x (is_right H text us known points m))
+            ap (λ (x : ℕ). forged_of rules chain b ext x (proof_fault H v points m) (is_right H us known points m)) (count m k alike)
+            ∙ ap (λ (x : Option ProofRefusal). forged_of rules chain b ext (length k.proof.spends) x (is_right H us known points m))
             (same_fault v points m k alike)
-            ∙ ap (λ (x : Bool). forged_of rules chain b ext (length k.proof.spends) (proof_fault H text v points k) x)
+            ∙ ap (λ (x : Bool). forged_of rules chain b ext (length k.proof.spends) (proof_fault H v points k) x)
             (same_right known points m k alike)
 
   -- ---- the machines
 
   module _ (scripts : List (List ℕ)) (rules : Rules) where
     pub same_full_judge : (l : Level) (b : Block) (handed other : Handed) → AreAlike (length l.history) handed other
-        → full_judge H text scripts rules l b handed ≡ full_judge H text scripts rules l b other
+        → full_judge H scripts rules l b handed ≡ full_judge H scripts rules l b other
     same_full_judge l b handed other alike =
         let us = l.history in
         let ext = external b l.blocks in
-        ap (λ (x : Bool). cond x None (Some (full H text scripts us ext handed))) (same_forged us scripts rules (chain_of l) b handed other alike)
-        ∙ ap (λ (x : Evidence). cond (is_forged H text scripts rules (chain_of l) us b other) None (Some x))
-        (lifted (length us) (full H text scripts us ext) (same_full us scripts ext) handed other alike)
+        ap (λ (x : Bool). cond x None (Some (full H scripts us ext handed))) (same_forged us scripts rules (chain_of l) b handed other alike)
+        ∙ ap (λ (x : Evidence). cond (is_forged H scripts rules (chain_of l) us b other) None (Some x))
+        (lifted (length us) (full H scripts us ext) (same_full us scripts ext) handed other alike)
 
     pub same_view_judge : (l : Level) (b : Block) (handed other : Handed) → AreAlike (length l.history) handed other
-        → view_judge H text scripts l b handed ≡ view_judge H text scripts l b other
+        → view_judge H scripts l b handed ≡ view_judge H scripts l b other
     same_view_judge l b handed other alike =
         let us = l.history in
         let ext = external b l.blocks in
-        let v = view_of H text scripts us in
-        ap (λ (x : Evidence). Some (record { steps = x.steps; found = x.found; numbers = entries_shown H text us handed }))
-        (lifted (length us) (compact H text v ext) (same_compact v ext) handed other alike)
-        ∙ ap (λ (x : List ℕ). Some (record (compact H text v ext other) { numbers = x }))
-        (lifted (length us) (entries_shown H text us) (same_shown us) handed other alike)
+        let v = view_of H scripts us in
+        ap (λ (x : Evidence). Some (record { steps = x.steps; found = x.found; numbers = entries_shown H us handed }))
+        (lifted (length us) (compact H v ext) (same_compact v ext) handed other alike)
+        ∙ ap (λ (x : List ℕ). Some (record (compact H v ext other) { numbers = x }))
+        (lifted (length us) (entries_shown H us) (same_shown us) handed other alike)
 
     pub same_full_step : (s : State) (b : Option Block) (handed other : Handed) → AreAlike (length s.now.history) handed other
-        → step rules (full_judge H text scripts rules) s (BlockCame b handed) ≡ step rules (full_judge H text scripts rules) s (BlockCame b other)
+        → step rules (full_judge H scripts rules) s (BlockCame b handed) ≡ step rules (full_judge H scripts rules) s (BlockCame b other)
     same_full_step s None handed other alike = refl
     same_full_step s (Some b) handed other alike = ap (by_evidence rules s b) (same_full_judge s.now b handed other alike)
 
     pub same_view_step : (s : State) (b : Option Block) (handed other : Handed) → AreAlike (length s.now.history) handed other
-        → step rules (view_judge H text scripts) s (BlockCame b handed) ≡ step rules (view_judge H text scripts) s (BlockCame b other)
+        → step rules (view_judge H scripts) s (BlockCame b handed) ≡ step rules (view_judge H scripts) s (BlockCame b other)
     same_view_step s None handed other alike = refl
     same_view_step s (Some b) handed other alike = ap (by_evidence rules s b) (same_view_judge s.now b handed other alike)

@@ -1,10 +1,9 @@
--- What holds of upgraded messages, whatever the digest function and the leaf text.
+-- What holds of upgraded messages, whatever the digest function.
 use Rattle.std.specs.Prelude.{◌≡◌, ℕ, ◌≤◌, ◌^◌, List, length, Option}
 use Rattle.uo_base.specs.Reading.{IsBytes}
 use Rattle.uo_digest.specs.declared.digest.Digest.{Digest}
 use Rattle.forest_place.specs.declared.naming.Naming.TheVariants.{Position}
 use Rattle.block_codec.specs.Block.{Block}
-use Rattle.leaf_record.specs.Leaf.{Leaf}
 use Rattle.leaf_record.specs.History.{History}
 use Rattle.block_rules.specs.declared.chain.Chain.{Chain}
 use Rattle.node_rules.specs.Messages.{Message, named}
@@ -24,24 +23,24 @@ UpgradedIsAsLong = (n : ℕ) (message : List ℕ) → IsBytes message → length
 
 -- Over a view the verdict is the same, with its details.
 abbrev pub UpgradedIsJudgedByView : Type 0
-UpgradedIsJudgedByView = (H : List ℕ → Digest) (text : Leaf → List ℕ) (rules : Rules) (chain : Chain) (v : View) (b : Block) (message : List ℕ)
+UpgradedIsJudgedByView = (H : List ℕ → Digest) (rules : Rules) (chain : Chain) (v : View) (b : Block) (message : List ℕ)
     → v.n ≤ 2 ^ 40 → IsBytes message →
-    verdict_over H text rules chain v b (message_in (upgraded v.n message)) ≡ verdict_over H text rules chain v b (message_in message)
+    verdict_over H rules chain v b (message_in (upgraded v.n message)) ≡ verdict_over H rules chain v b (message_in message)
 
 -- Over a history one is forged exactly where the other is.
 abbrev pub UpgradedIsForgedAlike : Type 0
-UpgradedIsForgedAlike = (H : List ℕ → Digest) (text : Leaf → List ℕ) (scripts : List (List ℕ)) (rules : Rules) (chain : Chain) (us : History)
+UpgradedIsForgedAlike = (H : List ℕ → Digest) (scripts : List (List ℕ)) (rules : Rules) (chain : Chain) (us : History)
     (b : Block) (message : List ℕ) →
     length us ≤ 2 ^ 40 → IsBytes message →
-    is_forged H text scripts rules chain us b (message_in (upgraded (length us) message))
-    ≡ is_forged H text scripts rules chain us b (message_in message)
+    is_forged H scripts rules chain us b (message_in (upgraded (length us) message))
+    ≡ is_forged H scripts rules chain us b (message_in message)
 
 -- And a machine that judges by histories, or by the views of them, says the same of both, and is left in the same state.
 abbrev pub UpgradedIsJudgedAlike : Type 0
-UpgradedIsJudgedAlike = (H : List ℕ → Digest) (text : Leaf → List ℕ) (scripts : List (List ℕ)) (rules : Rules) (s : State) (b : Option Block)
+UpgradedIsJudgedAlike = (H : List ℕ → Digest) (scripts : List (List ℕ)) (rules : Rules) (s : State) (b : Option Block)
     (message : List ℕ) →
     length s.now.history ≤ 2 ^ 40 → IsBytes message →
     let before = BlockCame b (message_in message) in
     let after = BlockCame b (message_in (upgraded (length s.now.history) message)) in
-    (step rules (full_judge H text scripts rules) s after ≡ step rules (full_judge H text scripts rules) s before)
-    × (step rules (view_judge H text scripts) s after ≡ step rules (view_judge H text scripts) s before)
+    (step rules (full_judge H scripts rules) s after ≡ step rules (full_judge H scripts rules) s before)
+    × (step rules (view_judge H scripts) s after ≡ step rules (view_judge H scripts) s before)

@@ -9,7 +9,6 @@ use Rattle.uo_base.specs.declared.event.Limits.{Limits}
 use Rattle.uo_base.specs.declared.event.Net.{Net}
 use Rattle.uo_base.specs.FeedEvent.{FeedEvent}
 use Rattle.uo_digest.specs.declared.digest.Digest.{Digest}
-use Rattle.leaf_record.specs.Leaf.{leaf_text}
 use Rattle.leaf_record.specs.History.{supply}
 use Rattle.block_rules.specs.declared.chain.Chain.{Chain}
 use Rattle.block_rules.specs.declared.verdict.Verdict.{Verdict}
@@ -47,7 +46,7 @@ use Rattle.node_commands.proofs.ServeLemmas.{Serves-same, Serves-quiet}
 
 -- what is printed of the auditor's answer is the line of the event
 pub audited-is : (H : List ℕ → Digest) (a : AuditorState) (event : FeedEvent) (line : AuditLine)
-    → verdict_in line ≡ judged_on H leaf_text a.audit.bridge (event_in event)
+    → verdict_in line ≡ judged_on H a.audit.bridge (event_in event)
     → ShowsClash H a.audit.bridge (event_in event) line → audited_text a.events line ≡ judged_line H a event
 unfolding judged_line judged_of
 audited-is H a event (Audited.Verdict verdict) says shows = ap (λ v. judged_text v a.events (clash_on H a.audit.bridge (event_in event))) says
@@ -85,14 +84,14 @@ module _ (H : List ℕ → Digest) where
   -- ---- the machine, by what an auditor says of a list of events
 
   abbrev told : AuditorState → List FeedEvent → List Verdict
-  told a events = verdicts_on H leaf_text a.audit (map event_in events)
+  told a events = verdicts_on H a.audit (map event_in events)
 
   abbrev shown : AuditorState → List FeedEvent → Option TextClash
   shown a events = shown_on H a.audit (map event_in events)
 
   record IsTold (a : AuditorState) (events : List FeedEvent) : Type 0 where
     said : said_by m a events ≡ flat_map line_of (told a events) ++ clash_text (a.events + length (told a events)) (shown a events)
-    audit : (left_by m a events).audit ≡ audit_after H leaf_text a.audit (map event_in events)
+    audit : (left_by m a events).audit ≡ audit_after H a.audit (map event_in events)
     counts : (left_by m a events).audit.ended ≡ false → (left_by m a events).events ≡ a.events + length events
     refusals : (left_by m a events).audit.ended ≡ false → (left_by m a events).refused ≡ (a.refused || list_any is_refused (told a events))
 
@@ -119,14 +118,14 @@ module _ (H : List ℕ → Digest) where
     last-told none =
         let stops : next.audit.ended ≡ true = ap is_none none in
         let left : left_by m a (event ∷ events) ≡ next = left-more ∙ left-over events next stops in
-        let later = verdicts_on H leaf_text next.audit (map event_in events) in
+        let later = verdicts_on H next.audit (map event_in events) in
         let rest = shown_on H next.audit (map event_in events) in
         let same : clash_text a.events here ≡ clash_text (a.events + 0) here =
         ap (λ k. clash_text k here) (let z : a.events ≡ a.events + 0 = omega arith in z) in
         record {
           said = said-more ∙ ap₂ (λ v w. judged_text v a.events here ++ w) none (said-over events next stops) ∙ append-nil (clash_text a.events here)
               ∙ same ∙ ap (λ v. lines_with v later rest) (sym none);
-          audit = ap (λ (s : AuditorState). s.audit) left ∙ ap (λ v. ends_at v next.audit (audit_after H leaf_text next.audit (map event_in events)))
+          audit = ap (λ (s : AuditorState). s.audit) left ∙ ap (λ v. ends_at v next.audit (audit_after H next.audit (map event_in events)))
               (sym none);
           counts = λ e. absurd (false≢true (sym e ∙ (ap (λ (s : AuditorState). s.audit.ended) left ∙ stops)));
           refusals = λ e. absurd (false≢true (sym e ∙ (ap (λ (s : AuditorState). s.audit.ended) left ∙ stops)));
@@ -135,7 +134,7 @@ module _ (H : List ℕ → Digest) where
     more-told : (v : Verdict) → judged_of H a event ≡ Some v → IsTold next events → IsTold a (event ∷ events)
     unfolding judged_of next_auditor judged_line
     more-told v some t =
-        let later = verdicts_on H leaf_text next.audit (map event_in events) in
+        let later = verdicts_on H next.audit (map event_in events) in
         let rest = shown_on H next.audit (map event_in events) in
         let ended = λ (e : (left_by m a (event ∷ events)).audit.ended ≡ false). sym (ap (λ (s : AuditorState). s.audit.ended) left-more) ∙ e in
         let count : (a.events + 1) + length later ≡ a.events + suc (length later) = omega arith in
@@ -147,7 +146,7 @@ module _ (H : List ℕ → Digest) where
               ∙ sym (append_assoc line (flat_map line_of later) (clash_text ((a.events + 1) + length later) rest))
               ∙ ap (λ k. (line ++ flat_map line_of later) ++ clash_text k rest) count ∙ ap (λ x. lines_with x later rest) (sym some);
           audit = ap (λ (s : AuditorState). s.audit) left-more ∙ t.audit
-              ∙ ap (λ x. ends_at x next.audit (audit_after H leaf_text next.audit (map event_in events))) (sym some);
+              ∙ ap (λ x. ends_at x next.audit (audit_after H next.audit (map event_in events))) (sym some);
           counts = λ e. ap (λ (s : AuditorState). s.events) left-more ∙ t.counts (ended e) ∙ events_count;
           refusals =
               λ e.
@@ -174,34 +173,34 @@ module _ (H : List ℕ → Digest) where
 
   -- ---- what an auditor keeps
 
-  after-rules : (es : List ChainEvent) (s : AuditState) → (audit_after H leaf_text s es).bridge.rules ≡ s.bridge.rules
+  after-rules : (es : List ChainEvent) (s : AuditState) → (audit_after H s es).bridge.rules ≡ s.bridge.rules
   after-rules [] s = refl
-  after-rules (e ∷ es) s = by (judged_on H leaf_text s.bridge e) (after-rules es (next_audit H leaf_text s e))
+  after-rules (e ∷ es) s = by (judged_on H s.bridge e) (after-rules es (next_audit H s e))
     where
-      by : (v : Option Verdict) → (audit_after H leaf_text (next_audit H leaf_text s e) es).bridge.rules ≡ (next_audit H leaf_text s e).bridge.rules
-          → (ends_at v (next_audit H leaf_text s e) (audit_after H leaf_text (next_audit H leaf_text s e) es)).bridge.rules ≡ s.bridge.rules
-      by None later = judged_rules H leaf_text s.bridge e
-      by (Some v) later = later ∙ judged_rules H leaf_text s.bridge e
+      by : (v : Option Verdict) → (audit_after H (next_audit H s e) es).bridge.rules ≡ (next_audit H s e).bridge.rules
+          → (ends_at v (next_audit H s e) (audit_after H (next_audit H s e) es)).bridge.rules ≡ s.bridge.rules
+      by None later = judged_rules H s.bridge e
+      by (Some v) later = later ∙ judged_rules H s.bridge e
 
-  after-bridge : (es : List ChainEvent) (s : AuditState) → IsBridge H leaf_text s.bridge → IsBridge H leaf_text (audit_after H leaf_text s es).bridge
+  after-bridge : (es : List ChainEvent) (s : AuditState) → IsBridge H s.bridge → IsBridge H (audit_after H s es).bridge
   after-bridge [] s is = is
-  after-bridge (e ∷ es) s is = by (judged_on H leaf_text s.bridge e)
-      (after-bridge es (next_audit H leaf_text s e) (next_judged_is_bridge H leaf_text s.bridge e is))
+  after-bridge (e ∷ es) s is = by (judged_on H s.bridge e)
+      (after-bridge es (next_audit H s e) (next_judged_is_bridge H s.bridge e is))
     where
-      by : (v : Option Verdict) → IsBridge H leaf_text (audit_after H leaf_text (next_audit H leaf_text s e) es).bridge
-          → IsBridge H leaf_text (ends_at v (next_audit H leaf_text s e) (audit_after H leaf_text (next_audit H leaf_text s e) es)).bridge
-      by None later = next_judged_is_bridge H leaf_text s.bridge e is
+      by : (v : Option Verdict) → IsBridge H (audit_after H (next_audit H s e) es).bridge
+          → IsBridge H (ends_at v (next_audit H s e) (audit_after H (next_audit H s e) es)).bridge
+      by None later = next_judged_is_bridge H s.bridge e is
       by (Some v) later = later
 
   -- nothing is shown where nothing is forged
-  pub shown-none : (es : List ChainEvent) (s : AuditState) → (audit_after H leaf_text s es).ended ≡ false → shown_on H s es ≡ None
+  pub shown-none : (es : List ChainEvent) (s : AuditState) → (audit_after H s es).ended ≡ false → shown_on H s es ≡ None
   shown-none [] s e = refl
-  shown-none (x ∷ es) s e = by (judged_on H leaf_text s.bridge x) refl (shown-none es (next_audit H leaf_text s x)) e
+  shown-none (x ∷ es) s e = by (judged_on H s.bridge x) refl (shown-none es (next_audit H s x)) e
     where
-      by : (v : Option Verdict) → judged_on H leaf_text s.bridge x ≡ v
-          → ((audit_after H leaf_text (next_audit H leaf_text s x) es).ended ≡ false → shown_on H (next_audit H leaf_text s x) es ≡ None)
-          → (ends_at v (next_audit H leaf_text s x) (audit_after H leaf_text (next_audit H leaf_text s x) es)).ended ≡ false
-          → shown_or v (clash_on H s.bridge x) (shown_on H (next_audit H leaf_text s x) es) ≡ None
+      by : (v : Option Verdict) → judged_on H s.bridge x ≡ v
+          → ((audit_after H (next_audit H s x) es).ended ≡ false → shown_on H (next_audit H s x) es ≡ None)
+          → (ends_at v (next_audit H s x) (audit_after H (next_audit H s x) es)).ended ≡ false
+          → shown_or v (clash_on H s.bridge x) (shown_on H (next_audit H s x) es) ≡ None
       by None none later e = absurd (false≢true (sym e ∙ ap is_none none))
       by (Some v) some later e = later e
 
@@ -224,16 +223,16 @@ module _ (H : List ℕ → Digest) where
     es = map event_in events
 
     abbrev verdicts : List Verdict
-    verdicts = full_verdicts H leaf_text scripts rules start es
+    verdicts = full_verdicts H scripts rules start es
 
     abbrev state : State
-    state = full_after H leaf_text scripts rules start es
+    state = full_after H scripts rules start es
 
     abbrev shows : Option TextClash
     shows = shown_on H fresh.audit es
 
     abbrev behind : AuditState
-    behind = audit_after H leaf_text fresh.audit es
+    behind = audit_after H fresh.audit es
 
     abbrev last : AuditorState
     last = left_by m fresh events
@@ -241,8 +240,8 @@ module _ (H : List ℕ → Digest) where
     abbrev whole : Answer
     whole = answer_with (flat_map line_of verdicts) [] (level_end (list_any is_refused verdicts) (length events) net state.now) ending
 
-    throughout : AuditsThroughout H leaf_text scripts rules start fresh.audit es
-    throughout = fresh_is_full H leaf_text net limits scripts few es
+    throughout : AuditsThroughout H scripts rules start fresh.audit es
+    throughout = fresh_is_full H net limits scripts few es
 
     t : IsTold fresh events
     t = is-told events fresh refl
@@ -252,7 +251,7 @@ module _ (H : List ℕ → Digest) where
         t.said ∙ ap (λ v. flat_map line_of v ++ clash_text (0 + length v) shows) throughout.said
         ∙ ap (λ k. flat_map line_of verdicts ++ clash_text k shows) (let z : 0 + length verdicts ≡ length verdicts = omega arith in z)
 
-    forged-is : behind.ended ≡ not (never_stops rules (full_judge H leaf_text scripts rules) start es)
+    forged-is : behind.ended ≡ not (never_stops rules (full_judge H scripts rules) start es)
     forged-is = throughout.ended
 
     ended-is : last.audit.ended ≡ behind.ended
@@ -275,8 +274,8 @@ module _ (H : List ℕ → Digest) where
     end-is : last.audit.ended ≡ false → end_by last.refused last.events last.audit
         ≡ level_end (list_any is_refused verdicts) (length events) net state.now
     end-is going =
-        let is = after-bridge es fresh.audit (fresh_is_bridge H leaf_text net limits (Some scripts) few) in
-        let value = supply_is_of_level H leaf_text state behind.bridge is throughout.stands in
+        let is = after-bridge es fresh.audit (fresh_is_bridge H net limits (Some scripts) few) in
+        let value = supply_is_of_level H state behind.bridge is throughout.stands in
         let rules_are = after-rules es fresh.audit in
         let count : 0 + length events ≡ length events = omega arith in
         let issued_is : issued behind.bridge.rules.net behind.bridge.chain.blocks ≡ issued net state.now.blocks =
@@ -288,7 +287,7 @@ module _ (H : List ℕ → Digest) where
         behind.bridge.chain) value.0
         ∙ ap₂ (λ x c. supply_end (list_any is_refused verdicts) (length events) (supply state.now.history) x c) issued_is throughout.stands.chain
 
-    answer-is : (b : Bool) → not (never_stops rules (full_judge H leaf_text scripts rules) start es) ≡ b
+    answer-is : (b : Bool) → not (never_stops rules (full_judge H scripts rules) start es) ≡ b
         → answer_unless b whole (flat_map line_of verdicts) (clash_text (length verdicts) shows) ≡ audit_answer H limits net scripts feed
     unfolding audit_answer
     answer-is b e = ap (λ x. answer_unless x whole (flat_map line_of verdicts) (clash_text (length verdicts) shows)) (sym e)

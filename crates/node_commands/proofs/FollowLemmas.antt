@@ -9,7 +9,6 @@ use Rattle.uo_base.specs.declared.event.Limits.{Limits}
 use Rattle.uo_base.specs.declared.event.Net.{Net}
 use Rattle.uo_base.specs.FeedEvent.{FeedEvent}
 use Rattle.uo_digest.specs.declared.digest.Digest.{Digest}
-use Rattle.leaf_record.specs.Leaf.{leaf_text}
 use Rattle.block_rules.specs.declared.verdict.Verdict.{Verdict}
 use Rattle.feed_frame.specs.Events.{events_of}
 use Rattle.feed_run.specs.declared.status.Status.{Status}
@@ -32,12 +31,12 @@ use Rattle.node_commands.specs.Machine.{Following, follower_of, event_line, told
 
 -- a node that some events led to, and that stands for a state, stores what a node stores that holds every output
 pub stores_full : (H : List ℕ → Digest) (node : NodeState) (es : List ChainEvent) (t : State) → IsNode node
-    → Stands H leaf_text t (node_after H leaf_text node es)
-    → stored_text (node_after H leaf_text node es) ≡ full_text H node.scripts node.rules t
+    → Stands H t (node_after H node es)
+    → stored_text (node_after H node es) ≡ full_text H node.scripts node.rules t
 stores_full H node es t is stands =
-    let told = told_after H leaf_text node es in
-    ap state_text (standing_is_written H t (node_after H leaf_text node es) (node_throughout H leaf_text node es is) stands)
-    ∙ ap (λ w. full_text H w (node_after H leaf_text node es).rules t) told.1 ∙ ap (λ r. full_text H node.scripts r t) told.0
+    let told = told_after H node es in
+    ap state_text (standing_is_written H t (node_after H node es) (node_throughout H node es is) stands)
+    ∙ ap (λ w. full_text H w (node_after H node es).rules t) told.1 ∙ ap (λ r. full_text H node.scripts r t) told.0
 
 -- ---- the machine of `follow`, by its verdicts
 
@@ -51,10 +50,10 @@ or_again false b c = refl
 
 module _ (H : List ℕ → Digest) where
   abbrev verdicts : Following → List FeedEvent → List Verdict
-  verdicts f events = verdicts_on H leaf_text f.node (map event_in events)
+  verdicts f events = verdicts_on H f.node (map event_in events)
 
   abbrev with : Following → List FeedEvent → (count : ℕ) → (refused : Bool) → Following
-  with f events count refused = record { node = node_after H leaf_text f.node (map event_in events); events = count; refused = refused }
+  with f events count refused = record { node = node_after H f.node (map event_in events); events = count; refused = refused }
 
   left-told : (events : List FeedEvent) (f : Following) → left_by (follow_machine H) f events
       ≡ with f events (f.events + length events) (f.refused || list_any is_refused (verdicts f events))
@@ -86,7 +85,7 @@ module _ (H : List ℕ → Digest) where
       let events = events_of node.rules.net node.rules.limits.bytes feed in
       let es = events.events in
       let said = flat_map line_of (verdicts f es) in
-      let last = node_after H leaf_text node (map event_in es) in
+      let last = node_after H node (map event_in es) in
       ap (λ l. answer_with l (sent_by m f es) (m.at_end (left_by m f es)) events.ending) (said-told es f)
       ∙ ap (λ w. answer_with said w (m.at_end (left_by m f es)) events.ending) (sent-none es f)
       ∙ ap (λ s. answer_with said [] (m.at_end s) events.ending) (left-told es f)
@@ -116,37 +115,37 @@ module _ (H : List ℕ → Digest) where
 
   -- ---- beside the node that holds every output
 
-  module _ (t : State) (node : NodeState) (is : IsNode node) (stands : Stands H leaf_text t node) (feed : List ℕ) where
+  module _ (t : State) (node : NodeState) (is : IsNode node) (stands : Stands H t node) (feed : List ℕ) where
     whole : AreTrue H node.scripts node.rules t (events_for node.rules feed).events
         → follow_answer H node feed ≡ full_answer H node.scripts node.rules t feed
     unfolding follow_answer full_answer
     whole honest =
         let events = events_for node.rules feed in
         let es = chain_events events in
-        let a = compact_is_full_throughout H leaf_text t node es is stands honest in
-        let last = node_after H leaf_text node es in
-        let full = full_verdicts H leaf_text node.scripts node.rules t es in
+        let a = compact_is_full_throughout H t node es is stands honest in
+        let last = node_after H node es in
+        let full = full_verdicts H node.scripts node.rules t es in
         ap (λ v. answer_told v last.newest.chain (stored_text last) events) a.said
         ∙ ap (λ c. answer_told full c (stored_text last) events) a.stands.newest.chain
-        ∙ ap (λ w. answer_told full (chain_of (full_after H leaf_text node.scripts node.rules t es).now) w events)
-        (stores_full H node es (full_after H leaf_text node.scripts node.rules t es) is a.stands)
+        ∙ ap (λ w. answer_told full (chain_of (full_after H node.scripts node.rules t es).now) w events)
+        (stores_full H node es (full_after H node.scripts node.rules t es) is a.stands)
 
     begins : (front later : List FeedEvent) → (events_for node.rules feed).events ≡ front ++ later → AreTrue H node.scripts node.rules t front
         → (rest : List ℕ) × ((follow_answer H node feed).report
-        ≡ flat_map line_of (full_verdicts H leaf_text node.scripts node.rules t (map event_in front)) ++ rest)
+        ≡ flat_map line_of (full_verdicts H node.scripts node.rules t (map event_in front)) ++ rest)
     unfolding follow_answer
     begins front later split honest =
         let events = events_for node.rules feed in
-        let a = compact_is_full_throughout H leaf_text t node (map event_in front) is stands honest in
-        let others = verdicts_on H leaf_text (node_after H leaf_text node (map event_in front)) (map event_in later) in
-        let said = verdicts_on H leaf_text node (chain_events events) in
-        let then = node_after H leaf_text node (chain_events events) in
+        let a = compact_is_full_throughout H t node (map event_in front) is stands honest in
+        let others = verdicts_on H (node_after H node (map event_in front)) (map event_in later) in
+        let said = verdicts_on H node (chain_events events) in
+        let then = node_after H node (chain_events events) in
         let last = last_of (end_by (list_any is_refused said) (length events.events) then.newest.chain (stored_text then)) (bad_end events.ending) in
-        let first = full_verdicts H leaf_text node.scripts node.rules t (map event_in front) in (
+        let first = full_verdicts H node.scripts node.rules t (map event_in front) in (
           flat_map line_of others ++ last.report,
-          ap (λ w. flat_map line_of (verdicts_on H leaf_text node (map event_in w)) ++ last.report) split
-              ∙ ap (λ w. flat_map line_of (verdicts_on H leaf_text node w) ++ last.report) (map-append event_in front later)
-              ∙ ap (λ w. flat_map line_of w ++ last.report) (verdicts_on-append H leaf_text node (map event_in front) (map event_in later)
+          ap (λ w. flat_map line_of (verdicts_on H node (map event_in w)) ++ last.report) split
+              ∙ ap (λ w. flat_map line_of (verdicts_on H node w) ++ last.report) (map-append event_in front later)
+              ∙ ap (λ w. flat_map line_of w ++ last.report) (verdicts_on-append H node (map event_in front) (map event_in later)
               ∙ ap (λ w. w ++ others) a.said)
               ∙ ap (λ w. w ++ last.report) (flat_map-append line_of first others)
               ∙ append_assoc (flat_map line_of first) (flat_map line_of others) last.report,
@@ -160,5 +159,5 @@ module _ (H : List ℕ → Digest) where
       → (list : Option (List (List ℕ))) (feed : List ℕ) → PrintsAsFull H limits net list feed
   prints-as-full limits net few short list feed =
       let scripts = unwrap_or list [] in
-      as-of-full start (fresh_for limits net list) (fresh-node H leaf_text net limits scripts few short) (fresh-stands H leaf_text net limits scripts)
+      as-of-full start (fresh_for limits net list) (fresh-node H net limits scripts few short) (fresh-stands H net limits scripts)
       feed

@@ -15,7 +15,6 @@ use Rattle.uo_digest.specs.declared.digest.Digest.{Digest}
 use Rattle.forest_model.specs.Content.{IsDigest}
 use Rattle.block_codec.specs.Block.{Block, BlockFits}
 use Rattle.block_codec.specs.Reading.{block_in}
-use Rattle.leaf_record.specs.Leaf.{leaf_text}
 use Rattle.proof_wire.specs.BlockProof.{ProofFits}
 use Rattle.block_rules.specs.declared.chain.Chain.{Chain}
 use Rattle.block_rules.specs.declared.refusal.Refusal.{Refusal}
@@ -52,68 +51,68 @@ use Rattle.feed_frame.proofs.FeedBytes.{IsMadeOfBytes, events_bytes}
 
 module _ (H : List ℕ → Digest) (scripts : List (List ℕ)) (rules : Rules) where
   -- it says something of each event before
-  pub all-told : (es : List ChainEvent) (t : State) → never_stops rules (full_judge H leaf_text scripts rules) t es ≡ true
-      → length (full_verdicts H leaf_text scripts rules t es) ≡ length es
+  pub all-told : (es : List ChainEvent) (t : State) → never_stops rules (full_judge H scripts rules) t es ≡ true
+      → length (full_verdicts H scripts rules t es) ≡ length es
   all-told [] t honest = refl
-  all-told (e ∷ es) t honest = by (step rules (full_judge H leaf_text scripts rules) t e).verdict honest
-      (all-told es (step rules (full_judge H leaf_text scripts rules) t e).state)
+  all-told (e ∷ es) t honest = by (step rules (full_judge H scripts rules) t e).verdict honest
+      (all-told es (step rules (full_judge H scripts rules) t e).state)
     where
-      by : (v : Option Verdict) → (is_some v && never_stops rules (full_judge H leaf_text scripts rules)
-          (step rules (full_judge H leaf_text scripts rules) t e).state es) ≡ true
-          → (never_stops rules (full_judge H leaf_text scripts rules) (step rules (full_judge H leaf_text scripts rules) t e).state es ≡ true
-          → length (full_verdicts H leaf_text scripts rules (step rules (full_judge H leaf_text scripts rules) t e).state es) ≡ length es)
-          → length (verdict_before v (full_verdicts H leaf_text scripts rules (step rules (full_judge H leaf_text scripts rules) t e).state es))
+      by : (v : Option Verdict) → (is_some v && never_stops rules (full_judge H scripts rules)
+          (step rules (full_judge H scripts rules) t e).state es) ≡ true
+          → (never_stops rules (full_judge H scripts rules) (step rules (full_judge H scripts rules) t e).state es ≡ true
+          → length (full_verdicts H scripts rules (step rules (full_judge H scripts rules) t e).state es) ≡ length es)
+          → length (verdict_before v (full_verdicts H scripts rules (step rules (full_judge H scripts rules) t e).state es))
           ≡ length (e ∷ es)
       by None honest later = absurd (false≢true honest)
       by (Some v) honest later = ap suc (later honest)
 
   -- and no more
   pub record Stops (t : State) (front later : List ChainEvent) (e : ChainEvent) : Type 0 where
-    pub said : full_verdicts H leaf_text scripts rules t (front ++ e ∷ later) ≡ full_verdicts H leaf_text scripts rules t front
-    pub stops : never_stops rules (full_judge H leaf_text scripts rules) t (front ++ e ∷ later) ≡ false
+    pub said : full_verdicts H scripts rules t (front ++ e ∷ later) ≡ full_verdicts H scripts rules t front
+    pub stops : never_stops rules (full_judge H scripts rules) t (front ++ e ∷ later) ≡ false
 
-  pub stops-at : (front later : List ChainEvent) (e : ChainEvent) (t : State) → never_stops rules (full_judge H leaf_text scripts rules) t front
+  pub stops-at : (front later : List ChainEvent) (e : ChainEvent) (t : State) → never_stops rules (full_judge H scripts rules) t front
       ≡ true
-      → (step rules (full_judge H leaf_text scripts rules) (full_after H leaf_text scripts rules t front) e).verdict ≡ None → Stops t front later e
+      → (step rules (full_judge H scripts rules) (full_after H scripts rules t front) e).verdict ≡ None → Stops t front later e
   stops-at [] later e t honest none = record {
-    said = ap (λ v. verdict_before v (full_verdicts H leaf_text scripts rules (step rules (full_judge H leaf_text scripts rules) t e).state later))
+    said = ap (λ v. verdict_before v (full_verdicts H scripts rules (step rules (full_judge H scripts rules) t e).state later))
         none;
-    stops = ap (λ v. is_some v && never_stops rules (full_judge H leaf_text scripts rules)
-        (step rules (full_judge H leaf_text scripts rules) t e).state later) none;
+    stops = ap (λ v. is_some v && never_stops rules (full_judge H scripts rules)
+        (step rules (full_judge H scripts rules) t e).state later) none;
   }
   stops-at (f ∷ front) later e t honest none =
-      by (step rules (full_judge H leaf_text scripts rules) t f).verdict refl honest none
-      (stops-at front later e (step rules (full_judge H leaf_text scripts rules) t f).state)
+      by (step rules (full_judge H scripts rules) t f).verdict refl honest none
+      (stops-at front later e (step rules (full_judge H scripts rules) t f).state)
     where
-      by : (v : Option Verdict) → (step rules (full_judge H leaf_text scripts rules) t f).verdict ≡ v
-          → (is_some v && never_stops rules (full_judge H leaf_text scripts rules) (step rules (full_judge H leaf_text scripts rules) t f).state
+      by : (v : Option Verdict) → (step rules (full_judge H scripts rules) t f).verdict ≡ v
+          → (is_some v && never_stops rules (full_judge H scripts rules) (step rules (full_judge H scripts rules) t f).state
           front) ≡ true
-          → (step rules (full_judge H leaf_text scripts rules) (goes_on v t
-          (full_after H leaf_text scripts rules (step rules (full_judge H leaf_text scripts rules) t f).state front)) e).verdict ≡ None
-          → (never_stops rules (full_judge H leaf_text scripts rules) (step rules (full_judge H leaf_text scripts rules) t f).state front ≡ true
-          → (step rules (full_judge H leaf_text scripts rules) (full_after H leaf_text scripts rules
-          (step rules (full_judge H leaf_text scripts rules) t f).state front) e).verdict ≡ None
-          → Stops (step rules (full_judge H leaf_text scripts rules) t f).state front later e)
+          → (step rules (full_judge H scripts rules) (goes_on v t
+          (full_after H scripts rules (step rules (full_judge H scripts rules) t f).state front)) e).verdict ≡ None
+          → (never_stops rules (full_judge H scripts rules) (step rules (full_judge H scripts rules) t f).state front ≡ true
+          → (step rules (full_judge H scripts rules) (full_after H scripts rules
+          (step rules (full_judge H scripts rules) t f).state front) e).verdict ≡ None
+          → Stops (step rules (full_judge H scripts rules) t f).state front later e)
           → Stops t (f ∷ front) later e
       by None is honest none go = absurd (false≢true honest)
       by (Some v) is honest none go =
           let w = go honest none in
           record {
             said =
-                ap (λ x. verdict_before x (full_verdicts H leaf_text scripts rules (step rules (full_judge H leaf_text scripts rules) t f).state
+                ap (λ x. verdict_before x (full_verdicts H scripts rules (step rules (full_judge H scripts rules) t f).state
                 (front ++ e ∷ later))) is ∙ ap (λ l. v ∷ l) w.said
-                ∙ sym (ap (λ x. verdict_before x (full_verdicts H leaf_text scripts rules
-                (step rules (full_judge H leaf_text scripts rules) t f).state front)) is);
-            stops = ap (λ x. is_some x && never_stops rules (full_judge H leaf_text scripts rules)
-                (step rules (full_judge H leaf_text scripts rules) t f).state (front ++ e ∷ later)) is ∙ w.stops;
+                ∙ sym (ap (λ x. verdict_before x (full_verdicts H scripts rules
+                (step rules (full_judge H scripts rules) t f).state front)) is);
+            stops = ap (λ x. is_some x && never_stops rules (full_judge H scripts rules)
+                (step rules (full_judge H scripts rules) t f).state (front ++ e ∷ later)) is ∙ w.stops;
           }
 
   -- it has no verdict on a forged one
-  pub no-verdict : (t : State) (b : Block) (handed : Handed) → is_forged H leaf_text scripts rules (chain_of t.now) t.now.history b handed ≡ true
-      → (step rules (full_judge H leaf_text scripts rules) t (BlockCame (Some b) handed)).verdict ≡ None
+  pub no-verdict : (t : State) (b : Block) (handed : Handed) → is_forged H scripts rules (chain_of t.now) t.now.history b handed ≡ true
+      → (step rules (full_judge H scripts rules) t (BlockCame (Some b) handed)).verdict ≡ None
   no-verdict t b handed forged =
       ap (λ (f : Bool). (by_evidence rules t b
-      (if f then None else Some (full H leaf_text scripts t.now.history (external b t.now.blocks) handed))).verdict) forged
+      (if f then None else Some (full H scripts t.now.history (external b t.now.blocks) handed))).verdict) forged
 
 -- ---- an event on which it has no verdict is forged
 
@@ -121,7 +120,7 @@ record IsForgedNow (H : List ℕ → Digest) (scripts : List (List ℕ)) (rules 
   block : Block
   message : Message
   is : e ≡ BlockCame (Some block) (read message)
-  forged : is_forged H leaf_text scripts rules (chain_of t.now) t.now.history block (read message) ≡ true
+  forged : is_forged H scripts rules (chain_of t.now) t.now.history block (read message) ≡ true
 
 module _ (H : List ℕ → Digest) (scripts : List (List ℕ)) (rules : Rules) where
   not_both : (x : Bool) → (x && false) ≡ true → ⊥
@@ -129,7 +128,7 @@ module _ (H : List ℕ → Digest) (scripts : List (List ℕ)) (rules : Rules) w
   not_both false e = false≢true e
 
   -- there is a message beside it
-  with-message : (t : State) (b : Block) (handed : Handed) → is_forged H leaf_text scripts rules (chain_of t.now) t.now.history b handed ≡ true
+  with-message : (t : State) (b : Block) (handed : Handed) → is_forged H scripts rules (chain_of t.now) t.now.history b handed ≡ true
       → IsForgedNow H scripts rules t (BlockCame (Some b) handed)
   with-message t b nothing e = absurd (not_both _ e)
   with-message t b (unread why) e = absurd (not_both _ e)
@@ -139,17 +138,17 @@ module _ (H : List ℕ → Digest) (scripts : List (List ℕ)) (rules : Rules) w
   judged t b evidence None e = none-some _ (sym e)
   judged t b evidence (Some why) e = none-some _ (sym e)
 
-  forged-here : (t : State) (e : ChainEvent) → (step rules (full_judge H leaf_text scripts rules) t e).verdict ≡ None
+  forged-here : (t : State) (e : ChainEvent) → (step rules (full_judge H scripts rules) t e).verdict ≡ None
       → IsForgedNow H scripts rules t e
   forged-here t (BlockCame None handed) none = absurd (none-some _ (sym none))
-  forged-here t (BlockCame (Some b) handed) none = by (is_forged H leaf_text scripts rules (chain_of t.now) t.now.history b handed) refl none
+  forged-here t (BlockCame (Some b) handed) none = by (is_forged H scripts rules (chain_of t.now) t.now.history b handed) refl none
     where
-      by : (f : Bool) → is_forged H leaf_text scripts rules (chain_of t.now) t.now.history b handed ≡ f
-          → (by_evidence rules t b (if f then None else Some (full H leaf_text scripts t.now.history (external b t.now.blocks) handed))).verdict
+      by : (f : Bool) → is_forged H scripts rules (chain_of t.now) t.now.history b handed ≡ f
+          → (by_evidence rules t b (if f then None else Some (full H scripts t.now.history (external b t.now.blocks) handed))).verdict
           ≡ None → IsForgedNow H scripts rules t (BlockCame (Some b) handed)
       by true forged none = with-message t b handed forged
       by false honest none =
-          let evidence = full H leaf_text scripts t.now.history (external b t.now.blocks) handed in
+          let evidence = full H scripts t.now.history (external b t.now.blocks) handed in
           absurd (judged t b evidence (refusal rules (chain_of t.now) b evidence) none)
   forged-here t (RollbackCame k) none = absurd (by (nat_le k (length t.older)) none)
     where
@@ -165,22 +164,22 @@ module _ (H : List ℕ → Digest) (scripts : List (List ℕ)) (rules : Rules) w
     event : FeedEvent
     later : List FeedEvent
     split : events ≡ front ++ event ∷ later
-    honest : never_stops rules (full_judge H leaf_text scripts rules) t (map event_in front) ≡ true
-    now : IsForgedNow H scripts rules (full_after H leaf_text scripts rules t (map event_in front)) (event_in event)
+    honest : never_stops rules (full_judge H scripts rules) t (map event_in front) ≡ true
+    now : IsForgedNow H scripts rules (full_after H scripts rules t (map event_in front)) (event_in event)
 
-  first-forged : (events : List FeedEvent) (t : State) → never_stops rules (full_judge H leaf_text scripts rules) t (map event_in events) ≡ false
+  first-forged : (events : List FeedEvent) (t : State) → never_stops rules (full_judge H scripts rules) t (map event_in events) ≡ false
       → HasForgedFrom t events
   first-forged [] t stops = absurd (false≢true (sym stops))
   first-forged (event ∷ events) t stops =
-      by (step rules (full_judge H leaf_text scripts rules) t (event_in event)).verdict refl stops
-      (first-forged events (step rules (full_judge H leaf_text scripts rules) t (event_in event)).state)
+      by (step rules (full_judge H scripts rules) t (event_in event)).verdict refl stops
+      (first-forged events (step rules (full_judge H scripts rules) t (event_in event)).state)
     where
-      by : (v : Option Verdict) → (step rules (full_judge H leaf_text scripts rules) t (event_in event)).verdict ≡ v
-          → (is_some v && never_stops rules (full_judge H leaf_text scripts rules)
-          (step rules (full_judge H leaf_text scripts rules) t (event_in event)).state (map event_in events)) ≡ false
-          → (never_stops rules (full_judge H leaf_text scripts rules) (step rules (full_judge H leaf_text scripts rules) t (event_in event)).state
+      by : (v : Option Verdict) → (step rules (full_judge H scripts rules) t (event_in event)).verdict ≡ v
+          → (is_some v && never_stops rules (full_judge H scripts rules)
+          (step rules (full_judge H scripts rules) t (event_in event)).state (map event_in events)) ≡ false
+          → (never_stops rules (full_judge H scripts rules) (step rules (full_judge H scripts rules) t (event_in event)).state
           (map event_in events) ≡ false
-          → HasForgedFrom (step rules (full_judge H leaf_text scripts rules) t (event_in event)).state events)
+          → HasForgedFrom (step rules (full_judge H scripts rules) t (event_in event)).state events)
           → HasForgedFrom t (event ∷ events)
       by None none stops go = record {
         front = [];
@@ -192,14 +191,14 @@ module _ (H : List ℕ → Digest) (scripts : List (List ℕ)) (rules : Rules) w
       }
       by (Some v) some stops go =
           let w = go stops in
-          let rest = (step rules (full_judge H leaf_text scripts rules) t (event_in event)).state in
+          let rest = (step rules (full_judge H scripts rules) t (event_in event)).state in
           record {
             front = event ∷ w.front;
             event = w.event;
             later = w.later;
             split = ap (λ l. event ∷ l) w.split;
-            honest = ap (λ x. is_some x && never_stops rules (full_judge H leaf_text scripts rules) rest (map event_in w.front)) some ∙ w.honest;
-            now = subst (λ x. IsForgedNow H scripts rules (goes_on x t (full_after H leaf_text scripts rules rest (map event_in w.front)))
+            honest = ap (λ x. is_some x && never_stops rules (full_judge H scripts rules) rest (map event_in w.front)) some ∙ w.honest;
+            now = subst (λ x. IsForgedNow H scripts rules (goes_on x t (full_after H scripts rules rest (map event_in w.front)))
                 (event_in w.event)) (sym some) w.now;
           }
 
@@ -272,7 +271,7 @@ module _ (H : List ℕ → Digest) (long : (x : List ℕ) → IsDigest (H x)) (l
       (level_end (list_any is_refused told) (length events) net (level_behind H limits net scripts events)) ending
 
   abbrev goes : Bool
-  goes = never_stops rules (full_judge H leaf_text scripts rules) start (map event_in events)
+  goes = never_stops rules (full_judge H scripts rules) start (map event_in events)
 
   abbrev told : List Verdict
   told = told_by H limits net scripts events
@@ -308,13 +307,13 @@ module _ (H : List ℕ → Digest) (long : (x : List ℕ) → IsDigest (H x)) (l
 
     stopped : Stops H scripts rules start (map event_in front) (map event_in later) forging
     stopped = stops-at H scripts rules (map event_in front) (map event_in later) forging start f.honest
-        (no-verdict H scripts rules (full_after H leaf_text scripts rules start (map event_in front)) f.block (read f.message) f.forged)
+        (no-verdict H scripts rules (full_after H scripts rules start (map event_in front)) f.block (read f.message) f.forged)
 
     abbrev before : List Verdict
     before = told_by H limits net scripts front
 
     told_is : told ≡ before
-    told_is = ap (full_verdicts H leaf_text scripts rules start) split_in ∙ stopped.said
+    told_is = ap (full_verdicts H scripts rules start) split_in ∙ stopped.said
 
     count_is : length before ≡ length front
     count_is = all-told H scripts rules (map event_in front) start f.honest ∙ length-map front event_in
@@ -325,7 +324,7 @@ module _ (H : List ℕ → Digest) (long : (x : List ℕ) → IsDigest (H x)) (l
       is = shown.is;
       answered =
           answer-is ∙ ap (λ b. answer_by b told (shown_on H (fresh_audit net limits scripts) (map event_in events)))
-          (ap (never_stops rules (full_judge H leaf_text scripts rules) start) split_in ∙ stopped.stops)
+          (ap (never_stops rules (full_judge H scripts rules) start) split_in ∙ stopped.stops)
           ∙ ap (λ l. answer_by false l (shown_on H (fresh_audit net limits scripts) (map event_in events))) told_is
           ∙ ap (answer_by false before) (ap (shown_on H (fresh_audit net limits scripts)) split_in ∙ shown.shows)
           ∙ ap (λ k. let a : Answer = record {
@@ -341,9 +340,9 @@ module _ (H : List ℕ → Digest) (long : (x : List ℕ) → IsDigest (H x)) (l
       let later = map event_in f.later in
       let forging = BlockCame (Some f.is.block) (read f.is.message) in
       let stopped = stops-at H scripts rules front later forging start f.is.honest
-      (no-verdict H scripts rules (full_after H leaf_text scripts rules start front) f.is.block (read f.is.message) f.is.forged) in
-      ap (λ l. never_stops rules (full_judge H leaf_text scripts rules) start (map event_in l)) f.split
-      ∙ ap (never_stops rules (full_judge H leaf_text scripts rules) start)
+      (no-verdict H scripts rules (full_after H scripts rules start front) f.is.block (read f.is.message) f.is.forged) in
+      ap (λ l. never_stops rules (full_judge H scripts rules) start (map event_in l)) f.split
+      ∙ ap (never_stops rules (full_judge H scripts rules) start)
       (map-append event_in f.front (f.event ∷ f.later) ∙ ap (λ x. front ++ x ∷ later) f.is.is)
       ∙ stopped.stops
 

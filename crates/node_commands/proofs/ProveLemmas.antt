@@ -7,7 +7,6 @@ use Rattle.uo_base.specs.declared.event.Limits.{Limits}
 use Rattle.uo_base.specs.declared.event.Net.{Net}
 use Rattle.uo_base.specs.FeedEvent.{FeedEvent, BlockCame, RollbackCame, StrayCame}
 use Rattle.uo_digest.specs.declared.digest.Digest.{Digest}
-use Rattle.leaf_record.specs.Leaf.{leaf_text}
 use Rattle.block_rules.specs.declared.verdict.Verdict.{Verdict}
 use Rattle.feed_frame.specs.Events.{events_of}
 use Rattle.feed_frame.specs.FeedText.{event_text, feed_text}
@@ -33,12 +32,12 @@ use Rattle.node_commands.proofs.ServeLemmas.{Serves-same}
 
 module _ (H : List ℕ → Digest) where
   abbrev verdicts : ProverState → List FeedEvent → List Verdict
-  verdicts p events = verdicts_on H leaf_text p.bridge (map event_in events)
+  verdicts p events = verdicts_on H p.bridge (map event_in events)
 
   abbrev with : ProverState → List FeedEvent → (count : ℕ) → (refused : Bool) → ProverState
   with p events count refused = record {
     net = p.net;
-    bridge = bridge_after H leaf_text p.bridge (map event_in events);
+    bridge = bridge_after H p.bridge (map event_in events);
     events = count;
     refused =
         refused;
@@ -73,14 +72,14 @@ module _ (H : List ℕ → Digest) where
   frames-if false net written passed later e = refl
 
   sent-told : (events : List FeedEvent) (p : ProverState)
-      → sent_by (prove_machine H) p events ≡ feed_text p.net (passed_by_bridge H leaf_text p.bridge events)
+      → sent_by (prove_machine H) p events ≡ feed_text p.net (passed_by_bridge H p.bridge events)
   unfolding next_prover proved_frames proved_of
   sent-told [] p = refl
   sent-told (event ∷ events) p =
       ap (λ w. proved_frames H p event ++ w) (sent-told events (next_prover H p event))
       ∙ frames-if (is_made (Some (verdict_on p.bridge (event_in event)))) p.net (beside (message_on H p.bridge (event_in event)) event)
       (passed_by H p.bridge event)
-      (passed_by_bridge H leaf_text (next_bridge H leaf_text p.bridge (event_in event)) events)
+      (passed_by_bridge H (next_bridge H p.bridge (event_in event)) events)
       (ap (event_text p.net) (sym (passed-beside p.bridge event)))
 
   module _ (limits : Limits) (net : Net) (watch : Option (List (List ℕ))) (few : limits.leaves < 2 ^ 40) where
@@ -93,8 +92,8 @@ module _ (H : List ℕ → Digest) where
         let rules = rules_of limits net in
         let events = events_of net limits.bytes feed in
         let es = events.events in
-        let t = fresh_proves_throughout H leaf_text net limits watch few es in
-        let bridge = bridge_after H leaf_text p.bridge (map event_in es) in
+        let t = fresh_proves_throughout H net limits watch few es in
+        let bridge = bridge_after H p.bridge (map event_in es) in
         let told = proving_verdicts rules es in
         let text = proving_text H watch rules es in
         let said = said-told es p ∙ ap (flat_map line_of) t.said in
@@ -110,14 +109,14 @@ module _ (H : List ℕ → Digest) where
     said-by : (events : List FeedEvent) → said_by (prove_machine H) (fresh_prover net limits watch) events
         ≡ flat_map line_of (proving_verdicts (rules_of limits net) events)
     said-by events =
-        let t = fresh_proves_throughout H leaf_text net limits watch few events in
+        let t = fresh_proves_throughout H net limits watch few events in
         said-told events (fresh_prover net limits watch) ∙ ap (flat_map line_of) t.said
 
     sent-by : (events : List FeedEvent) → sent_by (prove_machine H) (fresh_prover net limits watch) events
         ≡ proving_text H watch (rules_of limits net) events
     unfolding proving_text
     sent-by events =
-        let t = fresh_proves_throughout H leaf_text net limits watch few events in
+        let t = fresh_proves_throughout H net limits watch few events in
         sent-told events (fresh_prover net limits watch) ∙ ap (feed_text net) t.passed
 
     -- what a call over the machine gave is what it gave of the proving node
@@ -137,9 +136,9 @@ module _ (H : List ℕ → Digest) where
   -- ---- what is passed on is no longer than its frames may be
 
   after-more : (s : BridgeState) (es : List ChainEvent) (e : ChainEvent)
-      → bridge_after H leaf_text s (es ++ e ∷ []) ≡ next_bridge H leaf_text (bridge_after H leaf_text s es) e
+      → bridge_after H s (es ++ e ∷ []) ≡ next_bridge H (bridge_after H s es) e
   after-more s [] e = refl
-  after-more s (f ∷ es) e = after-more (next_bridge H leaf_text s f) es e
+  after-more s (f ∷ es) e = after-more (next_bridge H s f) es e
 
   all-more : (P : FeedEvent → Type 0) (es : List FeedEvent) (e : FeedEvent) → AllByRecursion P es → P e → AllByRecursion P (es ++ e ∷ [])
   all-more P [] e all p = (p, tt)
@@ -158,21 +157,21 @@ module _ (H : List ℕ → Digest) where
     events = r.events ++ event ∷ [];
     bytes = all-more AreEventBytes r.events event r.bytes bytes;
     is =
-        ap (λ s. next_bridge H leaf_text s (event_in event)) r.is
-        ∙ sym (ap (bridge_after H leaf_text (fresh_bridge p.net r.limits r.watch)) (map-append event_in r.events (event ∷ []))
+        ap (λ s. next_bridge H s (event_in event)) r.is
+        ∙ sym (ap (bridge_after H (fresh_bridge p.net r.limits r.watch)) (map-append event_in r.events (event ∷ []))
         ∙ after-more (fresh_bridge p.net r.limits r.watch) (map event_in r.events) (event_in event));
   }
 
   -- the last of them can be written
   last-passed : (s : BridgeState) (es : List FeedEvent) (event : FeedEvent)
-      → AllByRecursion CanBeWritten (passed_by_bridge H leaf_text s (es ++ event ∷ []))
-      → is_made (Some (verdict_on (bridge_after H leaf_text s (map event_in es)) (event_in event))) ≡ true
-      → CanBeWritten (passed_by H (bridge_after H leaf_text s (map event_in es)) event)
+      → AllByRecursion CanBeWritten (passed_by_bridge H s (es ++ event ∷ []))
+      → is_made (Some (verdict_on (bridge_after H s (map event_in es)) (event_in event))) ≡ true
+      → CanBeWritten (passed_by H (bridge_after H s (map event_in es)) event)
   last-passed s [] event all made = (rw made at all).0
   last-passed s (f ∷ es) event all made =
-      last-passed (next_bridge H leaf_text s (event_in f)) es event
+      last-passed (next_bridge H s (event_in f)) es event
       (behind (is_made (Some (verdict_on s (event_in f)))) (passed_by H s f)
-      (passed_by_bridge H leaf_text (next_bridge H leaf_text s (event_in f)) (es ++ event ∷ [])) all) made where
+      (passed_by_bridge H (next_bridge H s (event_in f)) (es ++ event ∷ [])) all) made where
         behind : (b : Bool) (first : FeedEvent) (later : List FeedEvent) → AllByRecursion CanBeWritten (cond b (first ∷ later) later)
             → AllByRecursion CanBeWritten later
         behind true first later h = h.1
@@ -185,8 +184,8 @@ module _ (H : List ℕ → Digest) where
   passed-short long p event bytes r made =
       let rules : Rules = record { net = p.net; limits = r.limits } in
       let es = r.events ++ event ∷ [] in
-      let t = fresh_proves_throughout H leaf_text p.net r.limits r.watch r.few es in
-      let short = events_short H leaf_text long rules r.few r.watch es (all-more AreEventBytes r.events event r.bytes bytes) in
+      let t = fresh_proves_throughout H p.net r.limits r.watch r.few es in
+      let short = events_short H long rules r.few r.watch es (all-more AreEventBytes r.events event r.bytes bytes) in
       let passed = subst (AllByRecursion CanBeWritten) (sym t.passed) short in
       let there = last-passed (fresh_bridge p.net r.limits r.watch) r.events event passed
       (ap (λ s. is_made (Some (verdict_on s (event_in event)))) (sym r.is) ∙ made) in

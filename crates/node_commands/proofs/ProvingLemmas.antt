@@ -10,7 +10,6 @@ use Rattle.uo_base.specs.declared.event.Net.{Net}
 use Rattle.uo_base.specs.FeedEvent.{FeedEvent}
 use Rattle.uo_base.specs.FeedEvent as Feed
 use Rattle.uo_digest.specs.declared.digest.Digest.{Digest}
-use Rattle.leaf_record.specs.Leaf.{leaf_text}
 use Rattle.block_rules.specs.declared.chain.Chain.{Chain}
 use Rattle.block_rules.specs.declared.verdict.Verdict.{Verdict}
 use Rattle.block_rules.specs.declared.verdict.Verdict.TheVariants.{Accepted, Refused, RolledBack, TooDeep, Stray}
@@ -72,29 +71,29 @@ none_refused : (vs : List Verdict) → list_any is_refused (kept_verdicts vs) �
 none_refused [] = refl
 none_refused (v ∷ vs) = made_is_kept v (kept_verdicts vs) (none_refused vs)
 
-verdicts-long : (H : List ℕ → Digest) (s : NodeState) (events : List ChainEvent) → length (verdicts_on H leaf_text s events) ≡ length events
+verdicts-long : (H : List ℕ → Digest) (s : NodeState) (events : List ChainEvent) → length (verdicts_on H s events) ≡ length events
 verdicts-long H s [] = refl
-verdicts-long H s (e ∷ es) = ap suc (verdicts-long H (next_node H leaf_text s e) es)
+verdicts-long H s (e ∷ es) = ap suc (verdicts-long H (next_node H s e) es)
 
 -- ---- a stray behind
 
 strays_said : (H : List ℕ → Digest) (s : NodeState) (strays : List FeedEvent) → (strays ≡ []) ⊎ (strays ≡ Feed.StrayCame ∷ [])
-    → (verdicts_on H leaf_text s (map event_in strays) ≡ []) ⊎ (verdicts_on H leaf_text s (map event_in strays) ≡ Stray ∷ [])
-strays_said H s strays (inl e) = inl (ap (λ es. verdicts_on H leaf_text s (map event_in es)) e)
-strays_said H s strays (inr e) = inr (ap (λ es. verdicts_on H leaf_text s (map event_in es)) e)
+    → (verdicts_on H s (map event_in strays) ≡ []) ⊎ (verdicts_on H s (map event_in strays) ≡ Stray ∷ [])
+strays_said H s strays (inl e) = inl (ap (λ es. verdicts_on H s (map event_in es)) e)
+strays_said H s strays (inr e) = inr (ap (λ es. verdicts_on H s (map event_in es)) e)
 
 strays_honest : (H : List ℕ → Digest) (scripts : List (List ℕ)) (rules : Rules) (strays : List FeedEvent)
-    → (strays ≡ []) ⊎ (strays ≡ Feed.StrayCame ∷ []) → (t : State) → AreHonest H leaf_text scripts rules t (map event_in strays)
-strays_honest H scripts rules strays (inl e) t = subst (λ es. AreHonest H leaf_text scripts rules t (map event_in es)) (sym e) refl
-strays_honest H scripts rules strays (inr e) t = subst (λ es. AreHonest H leaf_text scripts rules t (map event_in es)) (sym e) refl
+    → (strays ≡ []) ⊎ (strays ≡ Feed.StrayCame ∷ []) → (t : State) → AreHonest H scripts rules t (map event_in strays)
+strays_honest H scripts rules strays (inl e) t = subst (λ es. AreHonest H scripts rules t (map event_in es)) (sym e) refl
+strays_honest H scripts rules strays (inr e) t = subst (λ es. AreHonest H scripts rules t (map event_in es)) (sym e) refl
 
 honest_to : (H : List ℕ → Digest) (scripts : List (List ℕ)) (rules : Rules) (front later : List ChainEvent) (strays : List FeedEvent)
     → (strays ≡ []) ⊎ (strays ≡ Feed.StrayCame ∷ []) → (t : State)
-    → AreHonest H leaf_text scripts rules t (front ++ later) → AreHonest H leaf_text scripts rules t (front ++ map event_in strays)
+    → AreHonest H scripts rules t (front ++ later) → AreHonest H scripts rules t (front ++ map event_in strays)
 honest_to H scripts rules [] later strays one t h = strays_honest H scripts rules strays one t
 honest_to H scripts rules (e ∷ es) later strays one t h =
-    let o = step rules (full_judge H leaf_text scripts rules) t e in
-    let parts = and_parts (is_some o.verdict) (never_stops rules (full_judge H leaf_text scripts rules) o.state (es ++ later)) h in
+    let o = step rules (full_judge H scripts rules) t e in
+    let parts = and_parts (is_some o.verdict) (never_stops rules (full_judge H scripts rules) o.state (es ++ later)) h in
     rw parts.0 (honest_to H scripts rules es later strays one o.state parts.1)
 
 -- what is answered where the feed goes on past the limit
@@ -131,12 +130,12 @@ module _ (watch : Option (List (List ℕ))) (net : Net) (limits : Limits) (most 
       ∙ ap (goes_on o.verdict s) (same_state es o.state)
 
   same_proved : (H : List ℕ → Digest) (events : List FeedEvent) (s : State)
-      → proved_events H leaf_text watch other s events ≡ proved_events H leaf_text watch mine s events
+      → proved_events H watch other s events ≡ proved_events H watch mine s events
   same_proved H [] s = refl
   same_proved H (event ∷ events) s =
       let o = step mine own_judge s (event_in event) in
-      let made = λ (x : Outcome) (later : List FeedEvent). cond (is_made x.verdict) (passed_on H leaf_text watch s.now event ∷ later) later in
-      ap (λ (x : Outcome). made x (proved_events H leaf_text watch other x.state events)) (same_step s (event_in event))
+      let made = λ (x : Outcome) (later : List FeedEvent). cond (is_made x.verdict) (passed_on H watch s.now event ∷ later) later in
+      ap (λ (x : Outcome). made x (proved_events H watch other x.state events)) (same_step s (event_in event))
       ∙ ap (made o) (same_proved H events o.state)
 
 -- ---- the run
@@ -152,10 +151,10 @@ module _ (H : List ℕ → Digest) (long : (x : List ℕ) → length (H x).0 ≡
   module _ (watch : Option (List (List ℕ))) (serves : Serves watch scripts) (events : List FeedEvent) (all : AllByRecursion AreEventBytes events)
       (feed : List ℕ) where
     abbrev proved : List FeedEvent
-    proved = proved_events H leaf_text watch (rules_of limits net) start events
+    proved = proved_events H watch (rules_of limits net) start events
 
     abbrev came : List ChainEvent
-    came = proof_feed H leaf_text watch (rules_of limits net) start (map event_in events)
+    came = proof_feed H watch (rules_of limits net) start (map event_in events)
 
     abbrev made : List Verdict
     made = kept_verdicts (proving_verdicts (rules_of limits net) events)
@@ -163,14 +162,14 @@ module _ (H : List ℕ → Digest) (long : (x : List ℕ) → length (H x).0 ≡
     read : length feed ≤ limits.bytes → feed ≡ feed_text net proved → HasEvents net limits.bytes feed proved
     read room is =
         subst (λ f. HasEvents net limits.bytes f proved) (sym is)
-        (feed_read net limits.bytes proved (all_framed proved (events_short H leaf_text long (rules_of limits net) few watch events all))
+        (feed_read net limits.bytes proved (all_framed proved (events_short H long (rules_of limits net) few watch events all))
         (subst (λ f. length f ≤ limits.bytes) is room))
 
     again : map event_in proved ≡ came
-    again = events_again H leaf_text long (rules_of limits net) few watch events all
+    again = events_again H long (rules_of limits net) few watch events all
 
-    follows : Fresh.SaysAsProving H leaf_text watch (rules_of limits net) node (map event_in events)
-    follows = fresh_follows_proving H leaf_text net limits scripts few short watch serves (map event_in events)
+    follows : Fresh.SaysAsProving H watch (rules_of limits net) node (map event_in events)
+    follows = fresh_follows_proving H net limits scripts few short watch serves (map event_in events)
 
     as_many : length proved ≡ length made
     as_many = sym (length-map proved event_in) ∙ ap length again ∙ sym (verdicts-long H node came) ∙ ap length follows.said
@@ -180,15 +179,15 @@ module _ (H : List ℕ → Digest) (long : (x : List ℕ) → length (H x).0 ≡
 
     abbrev answer_to : List ChainEvent → (count : ℕ) → Option FeedFault → Answer
     answer_to es count ending =
-        let vs = verdicts_on H leaf_text node es in
-        let last = node_after H leaf_text node es in
+        let vs = verdicts_on H node es in
+        let last = node_after H node es in
         answer_by vs last.newest.chain (stored_text last) count (list_any is_refused vs) ending
 
     abbrev then : State
     then = proving_state (rules_of limits net) events
 
-    stored : stored_text (node_after H leaf_text node came) ≡ full_text H scripts (rules_of limits net) then
-    stored = stores_full H node came then (fresh-node H leaf_text net limits scripts few short) follows.stands
+    stored : stored_text (node_after H node came) ≡ full_text H scripts (rules_of limits net) then
+    stored = stores_full H node came then (fresh-node H net limits scripts few short) follows.stands
 
     followed : length feed ≤ limits.bytes → feed ≡ feed_text net proved → IsFollowed H node (rules_of limits net) events feed
     unfolding follow_answer
@@ -197,11 +196,11 @@ module _ (H : List ℕ → Digest) (long : (x : List ℕ) → length (H x).0 ≡
         let f = follows in
         let ending = (events_of net limits.bytes feed).ending in
         let chain = proving_chain (rules_of limits net) events in
-        let last = node_after H leaf_text node came in
+        let last = node_after H node came in
         let text = full_text H scripts (rules_of limits net) then in
         record {
           honest = subst (λ es. AreTrue H scripts (rules_of limits net) start es) (sym r.all)
-              (subst (AreHonest H leaf_text scripts (rules_of limits net) start) (sym again) f.honest);
+              (subst (AreHonest H scripts (rules_of limits net) start) (sym again) f.honest);
           answer =
               ap (λ es. answer_to (map event_in es) (length es) ending) r.all ∙ ap (answer_to (map event_in proved) (length proved)) r.ends
               ∙ ap (λ es. answer_to es (length proved) None) again
@@ -217,7 +216,7 @@ module _ (H : List ℕ → Digest) (long : (x : List ℕ) → length (H x).0 ≡
       read_to : HasFirstEvents net limits.bytes feed proved
       read_to =
           subst (λ f. HasFirstEvents net limits.bytes f proved) (sym is)
-          (feed_cut net limits.bytes proved (all_framed proved (events_short H leaf_text long (rules_of limits net) few watch events all))
+          (feed_cut net limits.bytes proved (all_framed proved (events_short H long (rules_of limits net) few watch events all))
           (subst (λ f. limits.bytes < length f) is past))
 
       followed_to : IsFollowedTo H node (rules_of limits net) events feed
@@ -229,23 +228,23 @@ module _ (H : List ℕ → Digest) (long : (x : List ℕ) → length (H x).0 ≡
           let front = map event_in r.front in
           let later = map event_in r.later in
           let strays = map event_in r.strays in
-          let then = node_after H leaf_text node front in
+          let then = node_after H node front in
           let halves : came ≡ front ++ later = sym again ∙ ap (map event_in) r.split ∙ map-append event_in r.front r.later in
           record {
             honest = subst (λ es. AreTrue H scripts (rules_of limits net) start es) (sym r.all)
-                (subst (AreHonest H leaf_text scripts (rules_of limits net) start) (sym (map-append event_in r.front r.strays))
+                (subst (AreHonest H scripts (rules_of limits net) start) (sym (map-append event_in r.front r.strays))
                 (honest_to H scripts (rules_of limits net) front later r.strays r.one start
-                (subst (AreHonest H leaf_text scripts (rules_of limits net) start) halves f.honest)));
-            front = verdicts_on H leaf_text node front;
-            later = verdicts_on H leaf_text then later;
-            split = sym f.said ∙ ap (verdicts_on H leaf_text node) halves ∙ verdicts_on-append H leaf_text node front later;
-            strays = verdicts_on H leaf_text then strays;
+                (subst (AreHonest H scripts (rules_of limits net) start) halves f.honest)));
+            front = verdicts_on H node front;
+            later = verdicts_on H then later;
+            split = sym f.said ∙ ap (verdicts_on H node) halves ∙ verdicts_on-append H node front later;
+            strays = verdicts_on H then strays;
             one = strays_said H then r.strays r.one;
             answer =
                 ap (λ es. answer_to (map event_in es) (length es) ending) r.all
                 ∙ ap (answer_to (map event_in (r.front ++ r.strays)) (length (r.front ++ r.strays))) r.ends
                 ∙ ap (λ es. answer_to es (length (r.front ++ r.strays)) (Some (Limit limits.bytes))) (map-append event_in r.front r.strays)
-                ∙ ap (answer_to_limit limits.bytes) (verdicts_on-append H leaf_text node front strays);
+                ∙ ap (answer_to_limit limits.bytes) (verdicts_on-append H node front strays);
           }
 
   -- ---- whatever the proving node may read
@@ -258,9 +257,9 @@ module _ (H : List ℕ → Digest) (long : (x : List ℕ) → length (H x).0 ≡
     same_limits : mixed ≡ proving
     same_limits = ap (λ n. let l : Limits = record { leaves = n; bytes = proving.bytes } in l) (sym w.leaves)
 
-    text_is : feed ≡ feed_text net (proved_events H leaf_text watch (rules_of limits net) start events)
+    text_is : feed ≡ feed_text net (proved_events H watch (rules_of limits net) start events)
     unfolding proving_text
-    text_is = w.text ∙ ap (λ l. feed_text net (proved_events H leaf_text watch (rules_of l net) start events)) (sym same_limits)
+    text_is = w.text ∙ ap (λ l. feed_text net (proved_events H watch (rules_of l net) start events)) (sym same_limits)
         ∙ ap (feed_text net) (same_proved watch net limits proving.bytes H events start)
 
     abbrev kept_by : Limits → List Verdict

@@ -11,7 +11,6 @@ use Rattle.uo_base.specs.FeedEvent.{FeedEvent}
 use Rattle.uo_base.specs.Reading.{IsBytes}
 use Rattle.uo_digest.specs.declared.digest.Digest.{Digest}
 use Rattle.forest_model.specs.Content.{IsDigest}
-use Rattle.leaf_record.specs.Leaf.{leaf_text}
 use Rattle.leaf_record.specs.History.{History}
 use Rattle.block_codec.specs.Block.{BlockFits}
 use Rattle.block_rules.specs.declared.chain.Chain.{Chain}
@@ -75,7 +74,7 @@ use Rattle.node_commands.proofs.ForgingLemmas.{all-told, Stops, stops-at, no-ver
 
 -- what is printed of the auditor's answer is the line of the event
 pub shown-is : (H : List ℕ → Digest) (r : RecheckerState) (event : FeedEvent) (line : AuditLine)
-    → verdict_in line ≡ judged_on H leaf_text r.audit.bridge (event_in event)
+    → verdict_in line ≡ judged_on H r.audit.bridge (event_in event)
     → ShowsClash H r.audit.bridge (event_in event) line → shown_of r.events line ≡ shown_line H r event
 unfolding shown_line
 shown-is H r event (Audited.Verdict verdict) says shows = ap (λ v. shown_text v r.events (clash_on H r.audit.bridge (event_in event))) says
@@ -109,14 +108,14 @@ module _ (H : List ℕ → Digest) where
   -- ---- the machine, by what an auditor says of a list of events
 
   abbrev told : RecheckerState → List FeedEvent → List Verdict
-  told r events = verdicts_on H leaf_text r.audit (map event_in events)
+  told r events = verdicts_on H r.audit (map event_in events)
 
   abbrev shown : RecheckerState → List FeedEvent → Option TextClash
   shown r events = shown_on H r.audit (map event_in events)
 
   record IsTold (r : RecheckerState) (events : List FeedEvent) : Type 0 where
     said : said_by m r events ≡ clash_text (r.events + length (told r events)) (shown r events)
-    audit : (left_by m r events).audit ≡ audit_after H leaf_text r.audit (map event_in events)
+    audit : (left_by m r events).audit ≡ audit_after H r.audit (map event_in events)
     ticket : (left_by m r events).ticket ≡ r.ticket
 
   module _ (r : RecheckerState) (event : FeedEvent) (events : List FeedEvent) (going : r.audit.ended ≡ false) where
@@ -127,7 +126,7 @@ module _ (H : List ℕ → Digest) where
     here = clash_on H r.audit.bridge (event_in event)
 
     abbrev judged : Option Verdict
-    judged = judged_on H leaf_text r.audit.bridge (event_in event)
+    judged = judged_on H r.audit.bridge (event_in event)
 
     left-more : left_by m r (event ∷ events) ≡ left_by m next events
     left-more = ap (λ s. left_by m s events) (goes-over r event false going)
@@ -144,7 +143,7 @@ module _ (H : List ℕ → Digest) where
     last-told none =
         let stops : next.audit.ended ≡ true = ap is_none none in
         let left : left_by m r (event ∷ events) ≡ next = left-more ∙ left-over events next stops in
-        let later = verdicts_on H leaf_text next.audit (map event_in events) in
+        let later = verdicts_on H next.audit (map event_in events) in
         let rest = shown_on H next.audit (map event_in events) in
         let same : clash_text r.events here ≡ clash_text (r.events + 0) here =
         ap (λ k. clash_text k here) (let z : r.events ≡ r.events + 0 = omega arith in z) in
@@ -152,44 +151,44 @@ module _ (H : List ℕ → Digest) where
           said = said-more ∙ ap₂ (λ v w. shown_text v r.events here ++ w) none (said-over events next stops) ∙ append-nil (clash_text r.events here)
               ∙ same ∙ ap (λ v. lines_with v later rest) (sym none);
           audit = ap (λ (s : RecheckerState). s.audit) left
-              ∙ ap (λ v. ends_at v next.audit (audit_after H leaf_text next.audit (map event_in events))) (sym none);
+              ∙ ap (λ v. ends_at v next.audit (audit_after H next.audit (map event_in events))) (sym none);
           ticket = ap (λ (s : RecheckerState). s.ticket) left;
         }
 
     more-told : (v : Verdict) → judged ≡ Some v → IsTold next events → IsTold r (event ∷ events)
     unfolding next_rechecker shown_line
     more-told v some t =
-        let later = verdicts_on H leaf_text next.audit (map event_in events) in
+        let later = verdicts_on H next.audit (map event_in events) in
         let rest = shown_on H next.audit (map event_in events) in
         let count : (r.events + 1) + length later ≡ r.events + suc (length later) = omega arith in
         record {
           said = said-more ∙ ap₂ (λ x w. shown_text x r.events here ++ w) some t.said ∙ ap (λ k. clash_text k rest) count
               ∙ ap (λ x. lines_with x later rest) (sym some);
           audit = ap (λ (s : RecheckerState). s.audit) left-more ∙ t.audit
-              ∙ ap (λ x. ends_at x next.audit (audit_after H leaf_text next.audit (map event_in events))) (sym some);
+              ∙ ap (λ x. ends_at x next.audit (audit_after H next.audit (map event_in events))) (sym some);
           ticket = ap (λ (s : RecheckerState). s.ticket) left-more ∙ t.ticket;
         }
 
   is-told : (events : List FeedEvent) (r : RecheckerState) → r.audit.ended ≡ false → IsTold r events
   unfolding next_rechecker
   is-told [] r going = record { said = refl; audit = refl; ticket = refl }
-  is-told (event ∷ events) r going = by (judged_on H leaf_text r.audit.bridge (event_in event)) refl (is-told events (next_rechecker H r event))
+  is-told (event ∷ events) r going = by (judged_on H r.audit.bridge (event_in event)) refl (is-told events (next_rechecker H r event))
     where
-      by : (v : Option Verdict) → judged_on H leaf_text r.audit.bridge (event_in event) ≡ v
+      by : (v : Option Verdict) → judged_on H r.audit.bridge (event_in event) ≡ v
           → ((next_rechecker H r event).audit.ended ≡ false → IsTold (next_rechecker H r event) events) → IsTold r (event ∷ events)
       by None none later = last-told r event events going none
       by (Some v) some later = more-told r event events going v some (later (ap is_none some))
 
   -- what an auditor keeps is such
-  after-audit : (es : List ChainEvent) (s : AuditState) → AllByRecursion EventFits es → IsAudit H leaf_text s.bridge
-      → IsAudit H leaf_text (audit_after H leaf_text s es).bridge
+  after-audit : (es : List ChainEvent) (s : AuditState) → AllByRecursion EventFits es → IsAudit H s.bridge
+      → IsAudit H (audit_after H s es).bridge
   after-audit [] s fit is = is
-  after-audit (e ∷ es) s fit is = by (judged_on H leaf_text s.bridge e) (next_is_audit H leaf_text s.bridge e is fit.0)
-      (after-audit es (next_audit H leaf_text s e) fit.1 (next_is_audit H leaf_text s.bridge e is fit.0))
+  after-audit (e ∷ es) s fit is = by (judged_on H s.bridge e) (next_is_audit H s.bridge e is fit.0)
+      (after-audit es (next_audit H s e) fit.1 (next_is_audit H s.bridge e is fit.0))
     where
-      by : (v : Option Verdict) → IsAudit H leaf_text (next_audit H leaf_text s e).bridge
-          → IsAudit H leaf_text (audit_after H leaf_text (next_audit H leaf_text s e) es).bridge
-          → IsAudit H leaf_text (ends_at v (next_audit H leaf_text s e) (audit_after H leaf_text (next_audit H leaf_text s e) es)).bridge
+      by : (v : Option Verdict) → IsAudit H (next_audit H s e).bridge
+          → IsAudit H (audit_after H (next_audit H s e) es).bridge
+          → IsAudit H (ends_at v (next_audit H s e) (audit_after H (next_audit H s e) es)).bridge
       by None next later = next
       by (Some v) next later = later
 
@@ -220,19 +219,19 @@ module _ (H : List ℕ → Digest) (long : (x : List ℕ) → IsDigest (H x)) (l
   es = map event_in events
 
   abbrev state : State
-  state = full_after H leaf_text scripts rules start es
+  state = full_after H scripts rules start es
 
   abbrev shows : Option TextClash
   shows = shown_on H fresh.audit es
 
   abbrev behind : AuditState
-  behind = audit_after H leaf_text fresh.audit es
+  behind = audit_after H fresh.audit es
 
   abbrev last : RecheckerState
   last = left_by (recheck_machine H) fresh events
 
-  throughout : AuditsThroughout H leaf_text scripts rules start fresh.audit es
-  throughout = fresh_is_full H leaf_text net limits scripts few es
+  throughout : AuditsThroughout H scripts rules start fresh.audit es
+  throughout = fresh_is_full H net limits scripts few es
 
   t : IsTold H fresh events
   t = is-told H events fresh refl
@@ -245,14 +244,14 @@ module _ (H : List ℕ → Digest) (long : (x : List ℕ) → IsDigest (H x)) (l
   unfolding recheck_end
   end-is = ap₂ (λ (a : AuditState) (k : List ℕ). end_unless a.ended (told_as (recheck_of H a.bridge k))) t.audit t.ticket
 
-  answer-is : recheck_answer H limits net begun feed ≡ answer_with (clash_text (length (verdicts_on H leaf_text fresh.audit es)) shows) []
+  answer-is : recheck_answer H limits net begun feed ≡ answer_with (clash_text (length (verdicts_on H fresh.audit es)) shows) []
       (end_with behind.ended behind.bridge) (cond behind.ended None ending)
   unfolding served_feed
   answer-is =
       ap₂ (λ l w. answer_with l w (recheck_end H last) (wanted_end (recheck_machine H) last ending))
-      (t.said ∙ ap (λ k. clash_text k shows) (let z : 0 + length (verdicts_on H leaf_text fresh.audit es)
-      ≡ length (verdicts_on H leaf_text fresh.audit es) = omega arith in z)) (sent-none H events fresh)
-      ∙ ap₂ (λ a b. answer_with (clash_text (length (verdicts_on H leaf_text fresh.audit es)) shows) [] a (cond b None ending)) end-is
+      (t.said ∙ ap (λ k. clash_text k shows) (let z : 0 + length (verdicts_on H fresh.audit es)
+      ≡ length (verdicts_on H fresh.audit es) = omega arith in z)) (sent-none H events fresh)
+      ∙ ap₂ (λ a b. answer_with (clash_text (length (verdicts_on H fresh.audit es)) shows) [] a (cond b None ending)) end-is
       (ap (λ (s : AuditState). s.ended) t.audit)
 
   -- ---- no event is forged
@@ -264,18 +263,18 @@ module _ (H : List ℕ → Digest) (long : (x : List ℕ) → IsDigest (H x)) (l
     answered : recheck_answer H limits net begun feed ≡ told_as (recheck_of H behind.bridge begun.ticket)
     answered =
         answer-is
-        ∙ ap₂ (λ x b. answer_with (clash_text (length (verdicts_on H leaf_text fresh.audit es)) x) [] (end_with b behind.bridge) (cond b None ending))
+        ∙ ap₂ (λ x b. answer_with (clash_text (length (verdicts_on H fresh.audit es)) x) [] (end_with b behind.bridge) (cond b None ending))
         (shown-none H es fresh.audit goes-on) goes-on
         ∙ ap (answer_with [] [] (told_as (recheck_of H behind.bridge begun.ticket))) whole
 
     fits : AllByRecursion EventFits es
     fits = all_fit events (events_bytes net limits.bytes feed bytes)
 
-    audit : IsAudit H leaf_text behind.bridge
-    audit = after-audit H es fresh.audit fits (fresh_is_audit H leaf_text net limits (Some scripts) few)
+    audit : IsAudit H behind.bridge
+    audit = after-audit H es fresh.audit fits (fresh_is_audit H net limits (Some scripts) few)
 
     history_is : history_of behind.bridge ≡ state.now.history
-    history_is = is_history H leaf_text behind.bridge state.now.history (newest_history H leaf_text state behind.bridge audit.is throughout.stands)
+    history_is = is_history H behind.bridge state.now.history (newest_history H state behind.bridge audit.is throughout.stands)
 
     tip_is : behind.bridge.chain.tip ≡ state.now.tip
     tip_is = ap (λ (c : Chain). c.tip) throughout.stands.chain
@@ -315,14 +314,14 @@ module _ (H : List ℕ → Digest) (long : (x : List ℕ) → IsDigest (H x)) (l
 
     stopped : Stops H scripts rules start (map event_in front) (map event_in later) forging
     stopped = stops-at H scripts rules (map event_in front) (map event_in later) forging start f.honest
-        (no-verdict H scripts rules (full_after H leaf_text scripts rules start (map event_in front)) f.block (read f.message) f.forged)
+        (no-verdict H scripts rules (full_after H scripts rules start (map event_in front)) f.block (read f.message) f.forged)
 
     ended-is : behind.ended ≡ true
-    ended-is = throughout.ended ∙ ap not (ap (never_stops rules (full_judge H leaf_text scripts rules) start) split_in ∙ stopped.stops)
+    ended-is = throughout.ended ∙ ap not (ap (never_stops rules (full_judge H scripts rules) start) split_in ∙ stopped.stops)
 
-    count_is : length (verdicts_on H leaf_text fresh.audit es) ≡ length front
+    count_is : length (verdicts_on H fresh.audit es) ≡ length front
     count_is =
-        ap length (throughout.said ∙ (ap (λ x. full_verdicts H leaf_text scripts rules start x) split_in ∙ stopped.said))
+        ap length (throughout.said ∙ (ap (λ x. full_verdicts H scripts rules start x) split_in ∙ stopped.said))
         ∙ (all-told H scripts rules (map event_in front) start f.honest ∙ length-map front event_in)
 
     shows-alone : ShowsAlone H (level_behind H limits net scripts front) (length front) f.block f.message scripts
@@ -332,10 +331,10 @@ module _ (H : List ℕ → Digest) (long : (x : List ℕ) → IsDigest (H x)) (l
       is = shown_there.is;
       answered =
           answer-is
-          ∙ ap (λ b. answer_with (clash_text (length (verdicts_on H leaf_text fresh.audit es)) shows) [] (end_with b behind.bridge)
+          ∙ ap (λ b. answer_with (clash_text (length (verdicts_on H fresh.audit es)) shows) [] (end_with b behind.bridge)
           (cond b None ending)) ended-is
           ∙ ap (λ l. let a : Answer = record { status = Statuses.Clash; report = l; out = [] } in a)
-          (append-nil (clash_text (length (verdicts_on H leaf_text fresh.audit es)) shows)
+          (append-nil (clash_text (length (verdicts_on H fresh.audit es)) shows)
           ∙ ap₂ clash_text count_is (ap (shown_on H (fresh_audit net limits scripts)) split_in ∙ shown_there.shows));
     }
 

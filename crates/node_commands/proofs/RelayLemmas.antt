@@ -17,7 +17,6 @@ use Rattle.uo_base.proofs.PortLemmas.{AppendsPart-none, told_text, Tells-told_te
 use Rattle.uo_digest.specs.declared.digest.Digest.{Digest}
 use Rattle.bridge_prover.specs.Watched.{scripts_of}
 use Rattle.leaf_record.specs.History.{somes}
-use Rattle.leaf_record.specs.Leaf.{leaf_text}
 use Rattle.feed_frame.specs.declared.fault.FeedFault.{FeedFault}
 use Rattle.feed_frame.specs.Events.{events_of}
 use Rattle.feed_frame.specs.Streamed.{WritesInOrder, WritesTaken, KeepsUp}
@@ -65,13 +64,13 @@ module _ (H : List ℕ → Digest) where
   behind-append : (xs ys : List (Option WorldAct)) (w : WorldState) → world_behind H w (xs ++ ys) ≡ world_behind H (world_behind H w xs) ys
   behind-append [] ys w = refl
   behind-append (None ∷ xs) ys w = behind-append xs ys w
-  behind-append (Some act ∷ xs) ys w = behind-append xs ys (next_world H leaf_text w act)
+  behind-append (Some act ∷ xs) ys w = behind-append xs ys (next_world H w act)
 
   outcomes-append : (xs ys : List (Option WorldAct)) (w : WorldState)
       → outcomes_of H w (xs ++ ys) ≡ outcomes_of H w xs ++ outcomes_of H (world_behind H w xs) ys
   outcomes-append [] ys w = refl
   outcomes-append (None ∷ xs) ys w = ap (λ os. None ∷ os) (outcomes-append xs ys w)
-  outcomes-append (Some act ∷ xs) ys w = ap (λ os. Some (outcome_on w act) ∷ os) (outcomes-append xs ys (next_world H leaf_text w act))
+  outcomes-append (Some act ∷ xs) ys w = ap (λ os. Some (outcome_on w act) ∷ os) (outcomes-append xs ys (next_world H w act))
 
   relayed-append : (xs ys : List (Option WorldAct)) (r : RelayState) (mid left : List ScriptLine)
       → relayed H r (xs ++ ys) left ≡ relayed H (relayed H r xs mid) ys left
@@ -86,7 +85,7 @@ module _ (H : List ℕ → Digest) where
   relayed-one : (r : RelayState) (act : WorldAct) (acts : List (Option WorldAct)) (left : List ScriptLine)
       → relayed H r (Some act ∷ acts) left ≡ relayed H (acted H r act) acts left
   relayed-one r act acts left =
-      let w = next_world H leaf_text r.world act in
+      let w = next_world H r.world act in
       let made : Bool → RelayState = λ b. record { world = world_behind H w acts; script = left; lines = r.lines; refused = b } in
       ap made (sym (or_again r.refused (is_undone (Some (outcome_on r.world act))) (list_any is_undone (outcomes_of H w acts))))
 
@@ -197,7 +196,7 @@ module _ (H : List ℕ → Digest) (long : (x : List ℕ) → length (H x).0 ≡
         let begun : Begun = record { net = net; limits = limits; lists = start.lists } in
         let acts = script_acts net limits.bytes start.script feed in
         let events = events_of net limits.bytes feed in
-        followers_are_on_branches H leaf_text long begun (somes acts) (world_behind H (begun_world begun) acts)
+        followers_are_on_branches H long begun (somes acts) (world_behind H (begun_world begun) acts)
         (record {
           leaves = few;
           bytes = short;

@@ -8,7 +8,6 @@ use Rattle.uo_base.specs.declared.event.Net.{Net}
 use Rattle.uo_base.specs.FeedEvent.{FeedEvent}
 use Rattle.uo_base.specs.Told.{Tells, IsLonger}
 use Rattle.uo_digest.specs.declared.digest.Digest.{Digest}
-use Rattle.leaf_record.specs.Leaf.{leaf_text}
 use Rattle.leaf_cache.specs.Watched.{AreWatched}
 use Rattle.node_rules.specs.Fitting.{AreEventBytes}
 use Rattle.node_rules.specs.Fitting as Fitting
@@ -52,10 +51,10 @@ module _ (H : List ℕ → Digest) (long : (x : List ℕ) → length (H x).0 ≡
   rules = rules_of limits net
 
   abbrev reached : State
-  reached = full_after H leaf_text scripts rules start (map event_in before)
+  reached = full_after H scripts rules start (map event_in before)
 
   pub reached_history : IsHistory limits.leaves reached
-  reached_history = reached_is_history rules (full_judge H leaf_text scripts rules) (map event_in before) (events_fit before bytes)
+  reached_history = reached_is_history rules (full_judge H scripts rules) (map event_in before) (events_fit before bytes)
 
   whole : IsState H limits.leaves (state_of H net scripts reached)
   whole = history_has_state H net scripts limits.leaves reached long few watched reached_history
@@ -68,7 +67,7 @@ module _ (H : List ℕ → Digest) (long : (x : List ℕ) → length (H x).0 ≡
     pub is : IsNode node
     pub rules_are : node.rules ≡ rules
     pub scripts_are : node.scripts ≡ scripts
-    pub stands : Stands H leaf_text reached node
+    pub stands : Stands H reached node
 
   module _ (text : List ℕ) (is : IsTextOf (state_of H net scripts reached) text) where
     pub back_at : (node : NodeState) → IsNodeOf H limits text node → IsBackAt node

@@ -10,7 +10,6 @@ use Rattle.uo_base.specs.declared.event.Net.{Net}
 use Rattle.uo_base.specs.FeedEvent.{FeedEvent}
 use Rattle.uo_digest.specs.declared.digest.Digest.{Digest}
 use Rattle.forest_place.specs.declared.naming.Naming.TheVariants.{Position, FixedPosition}
-use Rattle.leaf_record.specs.Leaf.{leaf_text}
 use Rattle.leaf_cache.specs.Watched.{AreWatched}
 use Rattle.block_rules.specs.declared.verdict.Verdict.{Verdict}
 use Rattle.feed_frame.specs.declared.fault.FeedFault.{FeedFault}
@@ -38,9 +37,9 @@ use Rattle.node_commands.proofs.FollowLemmas.{stores_full}
 use Rattle.node_commands.proofs.StartLemmas.{back_at}
 
 node-append : (H : List ℕ → Digest) (s : NodeState) (es fs : List ChainEvent)
-    → node_after H leaf_text s (es ++ fs) ≡ node_after H leaf_text (node_after H leaf_text s es) fs
+    → node_after H s (es ++ fs) ≡ node_after H (node_after H s es) fs
 node-append H s [] fs = refl
-node-append H s (e ∷ es) fs = node-append H (next_node H leaf_text s e) es fs
+node-append H s (e ∷ es) fs = node-append H (next_node H s e) es fs
 
 all-append : (P : FeedEvent → Type 0) (es fs : List FeedEvent) → AllByRecursion P es → AllByRecursion P fs → AllByRecursion P (es ++ fs)
 all-append P [] fs a b = b
@@ -49,25 +48,25 @@ all-append P (e ∷ es) fs a b = (a.0, all-append P es fs a.1 b)
 -- ---- a node that holds every output, over events behind others
 
 module _ (H : List ℕ → Digest) (scripts : List (List ℕ)) (rules : Rules) where
-  goes-past : (v : Option Verdict) (t x y : State) (fs : List ChainEvent) → is_some v ≡ true → x ≡ full_after H leaf_text scripts rules y fs
-      → goes_on v t x ≡ full_after H leaf_text scripts rules (goes_on v t y) fs
+  goes-past : (v : Option Verdict) (t x y : State) (fs : List ChainEvent) → is_some v ≡ true → x ≡ full_after H scripts rules y fs
+      → goes_on v t x ≡ full_after H scripts rules (goes_on v t y) fs
   goes-past None t x y fs e k = absurd cc
   goes-past (Some v) t x y fs e k = k
 
-  full-append : (t : State) (es fs : List ChainEvent) → AreHonest H leaf_text scripts rules t (es ++ fs)
-      → (full_after H leaf_text scripts rules t (es ++ fs) ≡ full_after H leaf_text scripts rules (full_after H leaf_text scripts rules t es) fs)
-      × AreHonest H leaf_text scripts rules (full_after H leaf_text scripts rules t es) fs
+  full-append : (t : State) (es fs : List ChainEvent) → AreHonest H scripts rules t (es ++ fs)
+      → (full_after H scripts rules t (es ++ fs) ≡ full_after H scripts rules (full_after H scripts rules t es) fs)
+      × AreHonest H scripts rules (full_after H scripts rules t es) fs
   full-append t [] fs h = (refl, h)
   full-append t (e ∷ es) fs h =
-      let o = step rules (full_judge H leaf_text scripts rules) t e in
-      let parts = and_parts (is_some o.verdict) (never_stops rules (full_judge H leaf_text scripts rules) o.state (es ++ fs)) h in
+      let o = step rules (full_judge H scripts rules) t e in
+      let parts = and_parts (is_some o.verdict) (never_stops rules (full_judge H scripts rules) o.state (es ++ fs)) h in
       let more = full-append o.state es fs parts.1 in (
-        goes-past o.verdict t _ (full_after H leaf_text scripts rules o.state es) fs parts.0 more.0,
-        honest_past (full_after H leaf_text scripts rules o.state es) o.verdict parts.0 more.1,
+        goes-past o.verdict t _ (full_after H scripts rules o.state es) fs parts.0 more.0,
+        honest_past (full_after H scripts rules o.state es) o.verdict parts.0 more.1,
       )
     where
-      honest_past : (x : State) (v : Option Verdict) → is_some v ≡ true → AreHonest H leaf_text scripts rules x fs
-          → AreHonest H leaf_text scripts rules (goes_on v t x) fs
+      honest_past : (x : State) (v : Option Verdict) → is_some v ≡ true → AreHonest H scripts rules x fs
+          → AreHonest H scripts rules (goes_on v t x) fs
       honest_past x None e k = absurd cc
       honest_past x (Some v) e k = k
 
@@ -131,30 +130,30 @@ module _ (H : List ℕ → Digest) (long : (x : List ℕ) → length (H x).0 ≡
   es = chain_events (events_for rules front)
 
   abbrev then : NodeState
-  then = node_after H leaf_text node es
+  then = node_after H node es
 
   abbrev far : State
-  far = full_after H leaf_text scripts rules start (map event_in (before ++ events))
+  far = full_after H scripts rules start (map event_in (before ++ events))
 
   module _ (parted : IsParted rules whole front back) (bytes : AllByRecursion AreEventBytes events)
       (honest : AreTrue H scripts rules start (before ++ events)) where
-    both : AreHonest H leaf_text scripts rules start (map event_in before ++ es)
-    both = subst (AreHonest H leaf_text scripts rules start) (map-append event_in before events) honest
+    both : AreHonest H scripts rules start (map event_in before ++ es)
+    both = subst (AreHonest H scripts rules start) (map-append event_in before events) honest
 
     -- the node stands behind the front, too
-    stands : Stands H leaf_text far then
+    stands : Stands H far then
     stands =
         let f = full-append H scripts rules start (map event_in before) es both in
-        let near = full_after H leaf_text scripts rules start (map event_in before) in
-        let Agrees = λ (w : List (List ℕ)) (r : Rules). AreHonest H leaf_text w r near es
-        → Stands H leaf_text (full_after H leaf_text w r near es) then in
-        let one : Agrees node.scripts node.rules = λ h. (compact_is_full_throughout H leaf_text near node es begun.is begun.stands h).stands in
+        let near = full_after H scripts rules start (map event_in before) in
+        let Agrees = λ (w : List (List ℕ)) (r : Rules). AreHonest H w r near es
+        → Stands H (full_after H w r near es) then in
+        let one : Agrees node.scripts node.rules = λ h. (compact_is_full_throughout H near node es begun.is begun.stands h).stands in
         let two = subst (λ r. Agrees scripts r) begun.rules_are (subst (λ w. Agrees w node.rules) begun.scripts_are one) in
-        subst (λ t. Stands H leaf_text t then) (sym f.0 ∙ ap (full_after H leaf_text scripts rules start) (sym (map-append event_in before events)))
+        subst (λ t. Stands H t then) (sym f.0 ∙ ap (full_after H scripts rules start) (sym (map-append event_in before events)))
         (two f.1)
 
     told : (then.rules ≡ rules) × (then.scripts ≡ scripts)
-    told = let t = told_after H leaf_text node es in (t.0 ∙ begun.rules_are, t.1 ∙ begun.scripts_are)
+    told = let t = told_after H node es in (t.0 ∙ begun.rules_are, t.1 ∙ begun.scripts_are)
 
     over : (feed : List ℕ) → events_for node.rules feed ≡ events_for rules feed
     over feed = ap (λ r. events_for r feed) begun.rules_are
@@ -163,7 +162,7 @@ module _ (H : List ℕ → Digest) (long : (x : List ℕ) → length (H x).0 ≡
     stored : (follow_answer H node front).out ≡ full_text H scripts rules far
     unfolding follow_answer
     stored =
-        let last = λ (r : Rules). node_after H leaf_text node (chain_events (events_for r front)) in
+        let last = λ (r : Rules). node_after H node (chain_events (events_for r front)) in
         ends-stored _ _ (last node.rules) (events_for node.rules front).ending
         (ap (λ r. (events_for r front).ending) begun.rules_are ∙ parted.front_ends)
         ∙ ap (λ r. stored_text (last r)) begun.rules_are
@@ -172,8 +171,8 @@ module _ (H : List ℕ → Digest) (long : (x : List ℕ) → length (H x).0 ≡
     -- and what the node keeps is that state
     kept : stored_state (left_on H node front) ≡ state_of H net scripts far
     kept =
-        ap (λ xs. stored_state (node_after H leaf_text node (chain_events xs))) (over front)
-        ∙ standing_is_written H far then (node_throughout H leaf_text node es begun.is) stands
+        ap (λ xs. stored_state (node_after H node (chain_events xs))) (over front)
+        ∙ standing_is_written H far then (node_throughout H node es begun.is) stands
         ∙ ap₂ (λ (r : Rules) w. state_of H r.net w far) told.0 told.1
 
     module _ (prior : List ℕ) (left_by : IsLeftBy H node front prior) (read : IsNodeOf H limits prior again) where
@@ -185,7 +184,7 @@ module _ (H : List ℕ → Digest) (long : (x : List ℕ) → length (H x).0 ≡
       again_is =
           let b = back_at H long limits few net scripts watched (before ++ events) (all-append AreEventBytes before events begun.bytes bytes) prior
           is_text again read in
-          one_node_stands H leaf_text far again then b.is (node_throughout H leaf_text node es begun.is) (b.rules_are ∙ sym told.0)
+          one_node_stands H far again then b.is (node_throughout H node es begun.is) (b.rules_are ∙ sym told.0)
           (b.scripts_are ∙ sym told.1) b.stands stands
 
       again_stands : StandsBehind H limits net scripts (before ++ events) again
@@ -195,7 +194,7 @@ module _ (H : List ℕ → Digest) (long : (x : List ℕ) → length (H x).0 ≡
         is = read.is;
         rules_are = ap (λ (s : NodeState). s.rules) again_is ∙ told.0;
         scripts_are = ap (λ (s : NodeState). s.scripts) again_is ∙ told.1;
-        stands = subst (Stands H leaf_text far) (sym again_is) stands;
+        stands = subst (Stands H far) (sym again_is) stands;
       }
 
       abbrev later : List ChainEvent
@@ -209,17 +208,17 @@ module _ (H : List ℕ → Digest) (long : (x : List ℕ) → length (H x).0 ≡
 
       lines : lines_on H node whole ≡ lines_on H node front ++ lines_on H again back
       lines =
-          let said = λ (s : NodeState) (xs : List ChainEvent). verdicts_on H leaf_text s xs in
+          let said = λ (s : NodeState) (xs : List ChainEvent). verdicts_on H s xs in
           ap (λ xs. flat_map line_of (said node xs)) all_events
-          ∙ ap (flat_map line_of) (verdicts_on-append H leaf_text node es later)
+          ∙ ap (flat_map line_of) (verdicts_on-append H node es later)
           ∙ flat_map-append line_of (said node es) (said then later)
           ∙ ap₂ (λ xs s. flat_map line_of (said node (chain_events xs)) ++ flat_map line_of (said s later)) (sym (over front)) (sym again_is)
           ∙ ap (λ xs. lines_on H node front ++ flat_map line_of (said again xs)) (sym on_back)
 
       left : left_on H node whole ≡ left_on H again back
       left =
-          ap (node_after H leaf_text node) all_events ∙ node-append H node es later ∙ ap (λ s. node_after H leaf_text s later) (sym again_is)
-          ∙ ap (node_after H leaf_text again) (sym on_back)
+          ap (node_after H node) all_events ∙ node-append H node es later ∙ ap (λ s. node_after H s later) (sym again_is)
+          ∙ ap (node_after H again) (sym on_back)
 
       same_stored : (follow_answer H node whole).out ≡ (follow_answer H again back).out
       unfolding follow_answer
@@ -243,8 +242,8 @@ pub fresh_begins : FreshBegins
 fresh_begins = λ H limits few short net scripts. record {
   bytes = tt;
   honest = refl;
-  is = fresh-node H leaf_text net limits scripts few short;
+  is = fresh-node H net limits scripts few short;
   rules_are = refl;
   scripts_are = refl;
-  stands = fresh-stands H leaf_text net limits scripts;
+  stands = fresh-stands H net limits scripts;
 }

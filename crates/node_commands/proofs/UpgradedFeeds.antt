@@ -7,7 +7,6 @@ use Rattle.uo_base.specs.declared.event.Net.{Net}
 use Rattle.uo_base.specs.FeedEvent.{FeedEvent}
 use Rattle.uo_base.specs.Reading.{IsBytes}
 use Rattle.uo_digest.specs.declared.digest.Digest.{Digest}
-use Rattle.leaf_record.specs.Leaf.{leaf_text}
 use Rattle.block_rules.specs.declared.verdict.Verdict.{Verdict}
 use Rattle.feed_frame.specs.declared.fault.FeedFault.{FeedFault}
 use Rattle.feed_frame.specs.Events.{Events, events_of}
@@ -38,7 +37,7 @@ module _ (H : List ℕ → Digest) where
   abbrev with : Upgrading → List FeedEvent → (count messages : ℕ) → Upgrading
   with u events count messages = record {
     net = u.net;
-    node = node_after H leaf_text u.node (map event_in events);
+    node = node_after H u.node (map event_in events);
     events = count;
     messages =
         messages;
@@ -63,7 +62,7 @@ module _ (H : List ℕ → Digest) where
   said-none (event ∷ events) u = said-none events (next_upgrader H u event)
 
   sent-upgraded : (events : List FeedEvent) (u : Upgrading)
-      → sent_by (upgrade_machine H) u events ≡ feed_text u.net (upgraded_events H leaf_text u.node events)
+      → sent_by (upgrade_machine H) u events ≡ feed_text u.net (upgraded_events H u.node events)
   unfolding upgraded_frames next_upgrader
   sent-upgraded [] u = refl
   sent-upgraded (event ∷ events) u = ap (λ l. upgraded_frames u event ++ l) (sent-upgraded events (next_upgrader H u event))
@@ -94,7 +93,7 @@ module _ (H : List ℕ → Digest) where
   upgrade-serves node u net bytes e n b {feed} {feed'} {report} {report'} {out} {out'} stopped status s =
       let m = upgrade_machine H in
       Serves-same (λ events. said-none events u)
-      (λ events. sent-upgraded events u ∙ ap (λ (v : Upgrading). feed_text v.net (upgraded_events H leaf_text v.node events)) e)
+      (λ events. sent-upgraded events u ∙ ap (λ (v : Upgrading). feed_text v.net (upgraded_events H v.node events)) e)
       (λ text. ap (λ v. served_feed m v node.rules.net bytes text) e ∙ ap (λ k. served_feed m (upgrader_of node) node.rules.net k text) (sym b)
       ∙ served-node node text)
       stopped status (subst (λ k. Serves (said_by m u) (sent_by m u) (served_feed m u k bytes) k bytes feed feed' report report' out out' stopped
@@ -111,7 +110,7 @@ module _ (H : List ℕ → Digest) where
     came = events_for node.rules feed
 
     abbrev upgraded : List FeedEvent
-    upgraded = upgraded_events H leaf_text node came.events
+    upgraded = upgraded_events H node came.events
 
     abbrev frames : List ℕ
     frames = upgraded_text H node came.events
@@ -121,8 +120,8 @@ module _ (H : List ℕ → Digest) where
     stored_is = ap (λ w. frames ++ w) (nothing-behind (upgrade_end (length came.events) (old_messages came.events)) refl (bad_end came.ending))
         ∙ append-nil frames
 
-    alike : IsFollowedAlike H leaf_text node node.rules.net node.rules.limits.bytes feed
-    alike = followed_alike H leaf_text node.rules.net node node.rules.limits.bytes feed is bytes
+    alike : IsFollowedAlike H node node.rules.net node.rules.limits.bytes feed
+    alike = followed_alike H node.rules.net node node.rules.limits.bytes feed is bytes
 
     abbrev answer_to : List Verdict → NodeState → (count : ℕ) → Option FeedFault → Answer
     answer_to vs last count ending = answer_with (flat_map line_of vs) [] (end_by (list_any is_refused vs) count last.newest.chain (stored_text last))
@@ -131,7 +130,7 @@ module _ (H : List ℕ → Digest) where
     abbrev answer_of : List FeedEvent → Option FeedFault → Answer
     answer_of events ending =
         let es = map event_in events in
-        answer_to (verdicts_on H leaf_text node es) (node_after H leaf_text node es) (length events) ending
+        answer_to (verdicts_on H node es) (node_after H node es) (length events) ending
 
     follow_is : (text : List ℕ) → follow_answer H node text ≡ answer_of (events_for node.rules text).events (events_for node.rules text).ending
     unfolding follow_answer
@@ -141,12 +140,12 @@ module _ (H : List ℕ → Digest) where
     whole ends =
         let a = alike in
         let es = map event_in upgraded in
-        let told = verdicts_on H leaf_text node (chain_events came) in
+        let told = verdicts_on H node (chain_events came) in
         ap (follow_answer H node) stored_is ∙ follow_is frames
         ∙ ap (λ l. answer_of l (events_for node.rules frames).ending) a.read.all
         ∙ ap (answer_of upgraded) (a.read.ends ∙ sym ends)
-        ∙ ap (λ n. answer_to (verdicts_on H leaf_text node es) (node_after H leaf_text node es) n came.ending) a.as_many
-        ∙ ap (λ vs. answer_to vs (node_after H leaf_text node es) (length came.events) came.ending) a.said
+        ∙ ap (λ n. answer_to (verdicts_on H node es) (node_after H node es) n came.ending) a.as_many
+        ∙ ap (λ vs. answer_to vs (node_after H node es) (length came.events) came.ending) a.said
         ∙ ap (λ last. answer_to told last (length came.events) came.ending) a.kept
         ∙ sym (follow_is feed)
 
@@ -166,7 +165,7 @@ module _ (H : List ℕ → Digest) where
       → (list : Option (List (List ℕ))) (feed : List ℕ)
       → FollowsUpgraded H (fresh_for limits net list) feed
   follows-upgraded-afresh limits net few short list feed =
-      follows-upgraded (fresh_for limits net list) feed (fresh-node H leaf_text net limits _ few short)
+      follows-upgraded (fresh_for limits net list) feed (fresh-node H net limits _ few short)
 
 pub upgraded_feeds_are_followed : UpgradedFeedsAreFollowed
 upgraded_feeds_are_followed H node feed is = follows-upgraded H node feed is

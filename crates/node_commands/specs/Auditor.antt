@@ -6,7 +6,6 @@ use Rattle.uo_base.specs.declared.event.Limits.{Limits}
 use Rattle.uo_base.specs.declared.event.Net.{Net}
 use Rattle.uo_base.specs.FeedEvent.{FeedEvent}
 use Rattle.uo_digest.specs.declared.digest.Digest.{Digest}
-use Rattle.leaf_record.specs.Leaf.{leaf_text}
 use Rattle.leaf_record.specs.History.{supply}
 use Rattle.block_rules.specs.declared.chain.Chain.{Chain}
 use Rattle.block_rules.specs.declared.verdict.Verdict.{Verdict}
@@ -41,7 +40,7 @@ fresh_auditor net limits scripts = record { audit = fresh_audit net limits scrip
 
 -- what the auditor says of an event: nothing where it is forged
 unfoldable pub judged_of : (List ℕ → Digest) → AuditorState → FeedEvent → Option Verdict
-judged_of H a event = judged_on H leaf_text a.audit.bridge (event_in event)
+judged_of H a event = judged_on H a.audit.bridge (event_in event)
 
 -- what was asked for was not done
 abbrev pub refuses : Option Verdict → Bool
@@ -50,7 +49,7 @@ refuses (Some verdict) = is_refused verdict
 
 unfoldable pub next_auditor : (List ℕ → Digest) → AuditorState → FeedEvent → AuditorState
 next_auditor H a event = record {
-  audit = next_audit H leaf_text a.audit (event_in event);
+  audit = next_audit H a.audit (event_in event);
   events = a.events + 1;
   refused = a.refused || refuses (judged_of H a event);
 }
@@ -115,9 +114,9 @@ audit_answer H limits net scripts feed =
     let events = events_of net limits.bytes feed in
     let es = chain_events events in
     let rules = rules_of limits net in
-    let told = full_verdicts H leaf_text scripts rules start es in
-    let level = (full_after H leaf_text scripts rules start es).now in
+    let told = full_verdicts H scripts rules start es in
+    let level = (full_after H scripts rules start es).now in
     let lines = flat_map line_of told in
-    answer_unless (not (never_stops rules (full_judge H leaf_text scripts rules) start es))
+    answer_unless (not (never_stops rules (full_judge H scripts rules) start es))
     (answer_with lines [] (level_end (list_any is_refused told) (length events.events) net level) events.ending)
     lines (clash_text (length told) (shown_on H (fresh_audit net limits scripts) es))

@@ -5,7 +5,6 @@ use Rattle.uo_base.specs.declared.event.Limits.{Limits}
 use Rattle.uo_base.specs.declared.event.Net.{Net}
 use Rattle.uo_base.specs.FeedEvent.{FeedEvent}
 use Rattle.uo_digest.specs.declared.digest.Digest.{Digest}
-use Rattle.leaf_record.specs.Leaf.{leaf_text}
 use Rattle.block_rules.specs.declared.chain.Chain.{Chain}
 use Rattle.block_rules.specs.declared.verdict.Verdict.{Verdict}
 use Rattle.feed_frame.specs.Events.{Events, events_of}
@@ -42,14 +41,14 @@ chain_events events = map event_in events.events
 
 -- the lines of some events by this node
 abbrev pub follow_lines : (List ℕ → Digest) → NodeState → List FeedEvent → List ℕ
-follow_lines H node events = flat_map line_of (verdicts_on H leaf_text node (map event_in events))
+follow_lines H node events = flat_map line_of (verdicts_on H node (map event_in events))
 
 -- what is answered by this node
 unfoldable pub follow_answer : (List ℕ → Digest) → NodeState → List ℕ → Answer
 follow_answer H node feed =
     let events = events_for node.rules feed in
-    let last = node_after H leaf_text node (chain_events events) in
-    answer_told (verdicts_on H leaf_text node (chain_events events)) last.newest.chain (stored_text last) events
+    let last = node_after H node (chain_events events) in
+    answer_told (verdicts_on H node (chain_events events)) last.newest.chain (stored_text last) events
 
 -- what a node stores that holds every output and watches these scripts
 abbrev pub full_text : (List ℕ → Digest) → List (List ℕ) → Rules → State → List ℕ
@@ -59,8 +58,8 @@ full_text H scripts rules s = state_text (state_of H rules.net scripts s)
 unfoldable pub full_answer : (List ℕ → Digest) → List (List ℕ) → Rules → State → List ℕ → Answer
 full_answer H scripts rules s feed =
     let events = events_for rules feed in
-    let last = full_after H leaf_text scripts rules s (chain_events events) in
-    answer_told (full_verdicts H leaf_text scripts rules s (chain_events events)) (chain_of last.now) (full_text H scripts rules last) events
+    let last = full_after H scripts rules s (chain_events events) in
+    answer_told (full_verdicts H scripts rules s (chain_events events)) (chain_of last.now) (full_text H scripts rules last) events
 
 abbrev pub rules_of : Limits → Net → Rules
 rules_of limits net = record { net = net; limits = limits }
@@ -69,14 +68,14 @@ rules_of limits net = record { net = net; limits = limits }
 
 -- no proof among the events is forged to one who watches these scripts
 abbrev pub AreTrue : (List ℕ → Digest) → List (List ℕ) → Rules → State → List FeedEvent → Type 0
-AreTrue H scripts rules s events = AreHonest H leaf_text scripts rules s (map event_in events)
+AreTrue H scripts rules s events = AreHonest H scripts rules s (map event_in events)
 
 -- Where all events of a feed are such, this answer to it is what a node answers that holds every output, from this state on; and whatever
 -- comes behind them, of events that are such it first has what that node prints.
 pub record IsAsOfFull (H : List ℕ → Digest) (scripts : List (List ℕ)) (rules : Rules) (s : State) (feed : List ℕ) (answer : Answer) : Type 0 where
   pub whole : AreTrue H scripts rules s (events_for rules feed).events → answer ≡ full_answer H scripts rules s feed
   pub front : (front later : List FeedEvent) → (events_for rules feed).events ≡ front ++ later → AreTrue H scripts rules s front →
-      (rest : List ℕ) × (answer.report ≡ flat_map line_of (full_verdicts H leaf_text scripts rules s (map event_in front)) ++ rest)
+      (rest : List ℕ) × (answer.report ≡ flat_map line_of (full_verdicts H scripts rules s (map event_in front)) ++ rest)
 
 -- ---- from the start
 

@@ -7,7 +7,6 @@ use Rattle.uo_base.specs.FeedEvent.{FeedEvent}
 use Rattle.uo_base.specs.Reading.{IsBytes}
 use Rattle.uo_digest.specs.declared.digest.Digest.{Digest}
 use Rattle.block_codec.specs.Block.{Block}
-use Rattle.leaf_record.specs.Leaf.{leaf_text}
 use Rattle.block_rules.specs.Blocks.{external}
 use Rattle.block_rules.specs.declared.verdict.Verdict.{Verdict}
 use Rattle.cache_model.specs.Known.{known_at}
@@ -30,14 +29,14 @@ use Rattle.node_commands.specs.Machine.{is_refused}
 -- ---- the node that holds every output and watches these scripts, over some events
 
 abbrev pub told_by : (List ℕ → Digest) → Limits → Net → (scripts : List (List ℕ)) → List FeedEvent → List Verdict
-told_by H limits net scripts events = full_verdicts H leaf_text scripts (rules_of limits net) start (map event_in events)
+told_by H limits net scripts events = full_verdicts H scripts (rules_of limits net) start (map event_in events)
 
 abbrev pub level_behind : (List ℕ → Digest) → Limits → Net → (scripts : List (List ℕ)) → List FeedEvent → Level
-level_behind H limits net scripts events = (full_after H leaf_text scripts (rules_of limits net) start (map event_in events)).now
+level_behind H limits net scripts events = (full_after H scripts (rules_of limits net) start (map event_in events)).now
 
 -- no proof among them is forged to it
 abbrev pub AreTrueTo : (List ℕ → Digest) → Limits → Net → (scripts : List (List ℕ)) → List FeedEvent → Type 0
-AreTrueTo H limits net scripts events = AreHonest H leaf_text scripts (rules_of limits net) start (map event_in events)
+AreTrueTo H limits net scripts events = AreHonest H scripts (rules_of limits net) start (map event_in events)
 
 -- behind events none of which is forged comes a block with a message that is: its roots accept the message, and it is not right
 pub record IsForgedBehind (H : List ℕ → Digest) (limits : Limits) (net : Net) (scripts : List (List ℕ)) (front : List FeedEvent)
@@ -48,7 +47,7 @@ pub record IsForgedBehind (H : List ℕ → Digest) (limits : Limits) (net : Net
   pub is : event_in event ≡ BlockCame (Some block) (read message)
   pub forged :
       let level = level_behind H limits net scripts front in
-      is_forged H leaf_text scripts (rules_of limits net) (chain_of level) level.history block (read message) ≡ true
+      is_forged H scripts (rules_of limits net) (chain_of level) level.history block (read message) ≡ true
 
 -- the first of a list
 pub record HasForged (H : List ℕ → Digest) (limits : Limits) (net : Net) (scripts : List (List ℕ)) (events : List FeedEvent) : Type 0 where
@@ -67,7 +66,7 @@ pub record ShowsTexts (H : List ℕ → Digest) (limits : Limits) (net : Net) (s
   pub clash : TextClash
   pub is :
       let level = level_behind H limits net scripts front in
-      IsClash H level.history (known_at H leaf_text scripts level.history) (points_of (external block level.blocks)) message clash
+      IsClash H level.history (known_at H scripts level.history) (points_of (external block level.blocks)) message clash
   pub answered : answer ≡ record {
     status = Status.Clash;
     report = flat_map line_of (told_by H limits net scripts front) ++ clash_lines (length front) clash.first clash.second clash.digest;

@@ -6,7 +6,6 @@ use Rattle.uo_base.specs.declared.event.Limits.{Limits}
 use Rattle.uo_base.specs.declared.event.Net.{Net}
 use Rattle.uo_base.specs.FeedEvent.{FeedEvent, BlockCame, RollbackCame, StrayCame}
 use Rattle.uo_digest.specs.declared.digest.Digest.{Digest}
-use Rattle.leaf_record.specs.Leaf.{leaf_text}
 use Rattle.block_rules.specs.declared.verdict.Verdict.{Verdict}
 use Rattle.feed_frame.specs.Events.{events_of}
 use Rattle.feed_frame.specs.FeedText.{event_text}
@@ -43,7 +42,7 @@ proved_of p event = verdict_on p.bridge (event_in event)
 unfoldable pub next_prover : (List ℕ → Digest) → ProverState → FeedEvent → ProverState
 next_prover H p event = record {
   net = p.net;
-  bridge = next_bridge H leaf_text p.bridge (event_in event);
+  bridge = next_bridge H p.bridge (event_in event);
   events = p.events + 1;
   refused = p.refused || is_refused (proved_of p event);
 }
@@ -111,4 +110,4 @@ pub record IsReached (H : List ℕ → Digest) (p : ProverState) : Type 0 where
   pub watch : Option (List (List ℕ))
   pub events : List FeedEvent
   pub bytes : AllByRecursion AreEventBytes events
-  pub is : p.bridge ≡ bridge_after H leaf_text (fresh_bridge p.net limits watch) (map event_in events)
+  pub is : p.bridge ≡ bridge_after H (fresh_bridge p.net limits watch) (map event_in events)

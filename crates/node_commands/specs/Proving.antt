@@ -4,7 +4,6 @@ use Rattle.std.specs.List.{flat_map, AllByRecursion}
 use Rattle.uo_base.specs.declared.event.Limits.{Limits}
 use Rattle.uo_base.specs.FeedEvent.{FeedEvent}
 use Rattle.uo_digest.specs.declared.digest.Digest.{Digest}
-use Rattle.leaf_record.specs.Leaf.{leaf_text}
 use Rattle.block_rules.specs.declared.chain.Chain.{Chain}
 use Rattle.block_rules.specs.declared.verdict.Verdict.{Verdict}
 use Rattle.block_rules.specs.declared.verdict.Verdict.TheVariants.{Stray}
@@ -27,7 +26,7 @@ use Rattle.node_commands.specs.Machine.{end_line}
 -- what it writes: each block that it accepts, behind its message where it spends from outside, and each rollback that it makes. The messages
 -- are in full, or lean for one who watches these scripts
 unfoldable pub proving_text : (List ℕ → Digest) → Option (List (List ℕ)) → Rules → List FeedEvent → List ℕ
-proving_text H watch rules events = feed_text rules.net (proved_events H leaf_text watch rules start events)
+proving_text H watch rules events = feed_text rules.net (proved_events H watch rules start events)
 
 -- what it says of each
 abbrev pub proving_verdicts : Rules → List FeedEvent → List Verdict

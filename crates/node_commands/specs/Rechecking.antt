@@ -10,7 +10,6 @@ use Rattle.uo_base.specs.Reading.{IsBytes}
 use Rattle.uo_base.specs.Told.{Tells}
 use Rattle.uo_digest.specs.declared.digest.Digest.{Digest}
 use Rattle.block_codec.specs.Block.{Block}
-use Rattle.leaf_record.specs.Leaf.{leaf_text}
 use Rattle.block_rules.specs.Blocks.{external}
 use Rattle.block_rules.specs.declared.verdict.Verdict.{Verdict}
 use Rattle.cache_model.specs.Known.{known_at}
@@ -53,7 +52,7 @@ abbrev pub fresh_rechecker : Net → Limits → List (List ℕ) → (ticket : Li
 fresh_rechecker net limits scripts ticket = record { audit = fresh_audit net limits scripts; events = 0; ticket = ticket }
 
 unfoldable pub next_rechecker : (List ℕ → Digest) → RecheckerState → FeedEvent → RecheckerState
-next_rechecker H r event = record { audit = next_audit H leaf_text r.audit (event_in event); events = r.events + 1; ticket = r.ticket }
+next_rechecker H r event = record { audit = next_audit H r.audit (event_in event); events = r.events + 1; ticket = r.ticket }
 
 -- no line of an event, and where it is forged the lines of what it shows
 abbrev pub shown_text : Option Verdict → (events : ℕ) → Option TextClash → List ℕ
@@ -66,7 +65,7 @@ shown_of events (Audited.Verdict verdict) = []
 shown_of events (Audited.Clash c) = clash_text events (Some c)
 
 unfoldable pub shown_line : (List ℕ → Digest) → RecheckerState → FeedEvent → List ℕ
-shown_line H r event = shown_text (judged_on H leaf_text r.audit.bridge (event_in event)) r.events (clash_on H r.audit.bridge (event_in event))
+shown_line H r event = shown_text (judged_on H r.audit.bridge (event_in event)) r.events (clash_on H r.audit.bridge (event_in event))
 
 -- what is said of the ticket, and nothing more where a proof was forged
 unfoldable pub recheck_end : (List ℕ → Digest) → RecheckerState → Answer
@@ -135,7 +134,7 @@ pub record RechecksOver (H : List ℕ → Digest) (level : Level) (ticket : List
 pub record ShowsAlone (H : List ℕ → Digest) (level : Level) (events : ℕ) (block : Block) (message : Message) (scripts : List (List ℕ))
     (answer : Answer) : Type 0 where
   pub clash : TextClash
-  pub is : IsClash H level.history (known_at H leaf_text scripts level.history) (points_of (external block level.blocks)) message clash
+  pub is : IsClash H level.history (known_at H scripts level.history) (points_of (external block level.blocks)) message clash
   pub answered : answer ≡ record { status = Status.Clash; report = clash_lines events clash.first clash.second clash.digest; out = [] }
 
 -- Behind a feed that is read to its end, none of whose events is forged, it is said of the ticket. At the first that is forged two texts are shown,

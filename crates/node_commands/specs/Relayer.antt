@@ -7,7 +7,6 @@ use Rattle.uo_base.specs.declared.event.Net.{Net}
 use Rattle.uo_base.specs.FeedEvent.{FeedEvent}
 use Rattle.uo_digest.specs.declared.digest.Digest.{Digest}
 use Rattle.leaf_record.specs.History.{somes}
-use Rattle.leaf_record.specs.Leaf.{leaf_text}
 use Rattle.feed_frame.specs.declared.fault.FeedFault.{FeedFault}
 use Rattle.feed_frame.specs.Events.{events_of}
 use Rattle.feed_run.specs.Answer.{Answer}
@@ -79,11 +78,11 @@ script_acts net limit script feed = let events = events_of net limit feed in act
 abbrev pub outcomes_of : (List ℕ → Digest) → WorldState → List (Option WorldAct) → List (Option Outcome)
 outcomes_of H w [] = []
 outcomes_of H w (None ∷ acts) = None ∷ outcomes_of H w acts
-outcomes_of H w (Some act ∷ acts) = Some (outcome_on w act) ∷ outcomes_of H (next_world H leaf_text w act) acts
+outcomes_of H w (Some act ∷ acts) = Some (outcome_on w act) ∷ outcomes_of H (next_world H w act) acts
 
 -- and what becomes of the world
 abbrev pub world_behind : (List ℕ → Digest) → WorldState → List (Option WorldAct) → WorldState
-world_behind H w acts = world_after H leaf_text w (somes acts)
+world_behind H w acts = world_after H w (somes acts)
 
 -- ---- the last lines
 
@@ -149,7 +148,7 @@ own_act (Script.Deliver follower reply) = Some (ReplyDelivered follower reply)
 -- behind one act, and behind some
 abbrev pub acted : (List ℕ → Digest) → RelayState → WorldAct → RelayState
 acted H r act = record {
-  world = next_world H leaf_text r.world act;
+  world = next_world H r.world act;
   script = r.script;
   lines = r.lines;
   refused = r.refused || is_undone (Some (outcome_on r.world act));

@@ -9,7 +9,6 @@ use Rattle.uo_base.specs.Told.{Tells}
 use Rattle.uo_digest.specs.declared.digest.Digest.{Digest}
 use Rattle.bridge_prover.specs.Watched.{scripts_of}
 use Rattle.leaf_record.specs.History.{somes}
-use Rattle.leaf_record.specs.Leaf.{leaf_text}
 use Rattle.feed_run.specs.Machine.{said_by}
 use Rattle.feed_run.specs.declared.status.Status.TheVariants as Status
 use Rattle.relay_core.specs.Branches.{Begun, begun_world, AreOnBranches}
@@ -74,7 +73,7 @@ pub record RelaysOnBranches (H : List ℕ → Digest) (limits : Limits) (net : N
   pub on_branches : IsBytes feed →
       let begun : Begun = record { net = net; limits = limits; lists = start.lists } in
       let acts = script_acts net limits.bytes start.script feed in
-      AreOnBranches H leaf_text begun (somes acts) (world_behind H (begun_world begun) acts)
+      AreOnBranches H begun (somes acts) (world_behind H (begun_world begun) acts)
 
 -- ---- the meaning
 

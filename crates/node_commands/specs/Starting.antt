@@ -7,7 +7,6 @@ use Rattle.uo_base.specs.declared.event.Net.{Net}
 use Rattle.uo_base.specs.FeedEvent.{FeedEvent}
 use Rattle.uo_base.specs.Told.{Tells}
 use Rattle.uo_digest.specs.declared.digest.Digest.{Digest}
-use Rattle.leaf_record.specs.Leaf.{leaf_text}
 use Rattle.leaf_cache.specs.Watched.{AreWatched}
 use Rattle.node_rules.specs.Fitting.{AreEventBytes}
 use Rattle.node_rules.specs.Machine.{start, event_in}
@@ -93,6 +92,6 @@ ResumesAsFull H limits prior feed begun =
     (net : Net) (scripts : List (List ℕ)) (before : List FeedEvent) → AreWatched scripts → AllByRecursion AreEventBytes before →
     let rules = rules_of limits net in
     AreTrue H scripts rules start before →
-    let s = full_after H leaf_text scripts rules start (map event_in before) in
+    let s = full_after H scripts rules start (map event_in before) in
     IsTextOf (state_of H net scripts s) prior → length prior ≤ limits.bytes
     → IfSome begun (λ b. IsAsOfFull H scripts rules s feed (start_answer H b feed))

@@ -6,7 +6,6 @@ use Rattle.uo_base.specs.declared.event.Net.{Net}
 use Rattle.uo_base.specs.FeedEvent.{FeedEvent}
 use Rattle.uo_digest.specs.declared.digest.Digest.{Digest}
 use Rattle.forest_place.specs.declared.naming.Naming.TheVariants.{Position}
-use Rattle.leaf_record.specs.Leaf.{leaf_text}
 use Rattle.leaf_cache.specs.Watched.{AreWatched}
 use Rattle.node_rules.specs.Fitting.{AreEventBytes}
 use Rattle.node_rules.specs.Judging.{Rules}
@@ -29,7 +28,7 @@ pub record StandsBehind (H : List ℕ → Digest) (limits : Limits) (net : Net) 
   pub is : IsNode node
   pub rules_are : node.rules ≡ rules_of limits net
   pub scripts_are : node.scripts ≡ scripts
-  pub stands : Stands H leaf_text (full_after H leaf_text scripts (rules_of limits net) start (map event_in before)) node
+  pub stands : Stands H (full_after H scripts (rules_of limits net) start (map event_in before)) node
 
 -- a feed's events are those of two feeds, the first of which is read to its end; and it ends well exactly where the second does
 pub record IsParted (rules : Rules) (whole front back : List ℕ) : Type 0 where
@@ -44,11 +43,11 @@ PiecesAreParted = (rules : Rules) (front back : List ℕ) → length (front ++ b
 
 -- the lines of a feed's events
 abbrev pub lines_on : (List ℕ → Digest) → NodeState → List ℕ → List ℕ
-lines_on H node feed = flat_map line_of (verdicts_on H leaf_text node (chain_events (events_for node.rules feed)))
+lines_on H node feed = flat_map line_of (verdicts_on H node (chain_events (events_for node.rules feed)))
 
 -- what a node keeps behind them
 abbrev pub left_on : (List ℕ → Digest) → NodeState → List ℕ → NodeState
-left_on H node feed = node_after H leaf_text node (chain_events (events_for node.rules feed))
+left_on H node feed = node_after H node (chain_events (events_for node.rules feed))
 
 -- over the whole feed a node says what it says over the front, and then what this one says over the back; both then keep the same, and store the same
 pub record GoesOn (H : List ℕ → Digest) (node again : NodeState) (whole front back : List ℕ) : Type 0 where

@@ -5,7 +5,6 @@ use Rattle.uo_base.specs.declared.event.Limits.{Limits}
 use Rattle.uo_base.specs.declared.event.Net.{Net}
 use Rattle.uo_base.specs.FeedEvent.{FeedEvent}
 use Rattle.uo_digest.specs.declared.digest.Digest.{Digest}
-use Rattle.leaf_record.specs.Leaf.{leaf_text}
 use Rattle.leaf_cache.specs.Watched.{AreWatched}
 use Rattle.node_rules.specs.Fitting.{AreEventBytes}
 use Rattle.node_rules.specs.Machine.{Level, State, start, event_in}
@@ -42,7 +41,7 @@ told_as (Said.Clash c) = record { status = Status.Clash; report = ticket_clash_l
 
 -- what a node holds that holds every output and watches these scripts, after these events
 abbrev pub reached_by : (List ℕ → Digest) → Limits → Net → (scripts : List (List ℕ)) → List FeedEvent → State
-reached_by H limits net scripts events = full_after H leaf_text scripts (rules_of limits net) start (map event_in events)
+reached_by H limits net scripts events = full_after H scripts (rules_of limits net) start (map event_in events)
 
 -- the bytes are the state, in either version, of such a node, no proof among whose events is forged, and this is its newest level
 pub record IsStateAt (H : List ℕ → Digest) (limits : Limits) (prior : List ℕ) (level : Level) : Type 0 where

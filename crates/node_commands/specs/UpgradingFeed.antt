@@ -5,7 +5,6 @@ use Rattle.uo_base.specs.declared.event.Net.{Net}
 use Rattle.uo_base.specs.FeedEvent.{FeedEvent}
 use Rattle.uo_base.specs.Reading.{IsBytes}
 use Rattle.uo_digest.specs.declared.digest.Digest.{Digest}
-use Rattle.leaf_record.specs.Leaf.{leaf_text}
 use Rattle.feed_frame.specs.FeedText.{feed_text}
 use Rattle.feed_run.specs.Answer.{Answer}
 use Rattle.feed_run.specs.declared.status.Status.TheVariants.{AllAccepted}
@@ -21,7 +20,7 @@ use Rattle.node_commands.specs.Watching.{list_in, IsGood}
 
 -- the frames of some events, each with its message upgraded by the count of entries that a node which follows them has before it
 abbrev pub upgraded_text : (List ℕ → Digest) → NodeState → List FeedEvent → List ℕ
-upgraded_text H node events = feed_text node.rules.net (upgraded_events H leaf_text node events)
+upgraded_text H node events = feed_text node.rules.net (upgraded_events H node events)
 
 -- it stores these frames, and prints one line: how many events there were, and how many messages of version 1 beside their blocks; or why the
 -- feed ended before

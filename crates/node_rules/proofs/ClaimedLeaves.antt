@@ -1,10 +1,10 @@
 -- The leaves that a message claims, gone through one by one.
-use Rattle.std.proofs.Common.{◌≡◌, ℕ, zero, suc, ◌<◌, ◌≤◌, List, [], ◌∷◌, map, length, take, get_or, Some, refl, sym, ap, ap₂, ◌∙◌, arith}
+use Rattle.std.proofs.Common.{◌≡◌, ℕ, zero, suc, List, [], ◌∷◌, map, length, Some, refl, ap, ap₂, ◌∙◌, arith}
 use Rattle.std.specs.Prelude.{slice_get, option_map}
-use Rattle.std.proofs.lemmas.List.{length-map, take_all}
-use Rattle.std.proofs.lemmas.Option.{none-some, same_Some, slice_get-get_or, slice_get-map}
+use Rattle.std.proofs.lemmas.List.{length-map}
+use Rattle.std.proofs.lemmas.Option.{none-some, same_Some, slice_get-map}
 use Rattle.uo_digest.specs.declared.digest.Digest.{Digest}
-use Rattle.leaf_record.specs.Leaf.{Rest, Leaf}
+use Rattle.leaf_record.specs.Leaf.{Rest, Leaf, leaf_text}
 use Rattle.proof_wire.specs.BlockProof.{rests_of}
 use Rattle.block_rules.specs.declared.chain.Outside.{Outside}
 use Rattle.node_rules.specs.Messages.{Message, point_of, points_of, claimed}
@@ -27,24 +27,13 @@ claims-long [] (r ∷ rests) e = absurd (omega (arith, e))
 claims-long (x ∷ ext) [] e = absurd (omega (arith, e))
 claims-long (x ∷ ext) (r ∷ rests) e = ap suc (claims-long ext rests (omega (arith, e)))
 
--- the digest of the next one
-pub claim_next : (H : List ℕ → Digest) (text : Leaf → List ℕ) (ext : List Outside) (m : Message) (i : ℕ) (d : Outside) (rest : Rest) (leaf : Leaf)
-    (digest : Digest) → i < length ext → slice_get (rests_of m.proof.spends) i ≡ Some rest →
-    leaf ≡ record { point = point_of (get_or ext i d); rest = rest } → digest ≡ H (text leaf)
-    → slice_get (leaves_of H text (points_of ext) m) i ≡ Some digest
-claim_next H text ext m i d rest leaf digest lt got is e =
-    got-map (λ (leaf : Leaf). H (text leaf)) (claimed (points_of ext) (rests_of m.proof.spends)) i _
-    (claim_at ext (rests_of m.proof.spends) i (get_or ext i d) rest (slice_get-get_or ext i d lt) got)
-    ∙ ap (λ (x : Leaf). Some (H (text x))) (sym is) ∙ ap Some (sym e)
+-- where it has a rest for each input
+pub message-long : (ext : List Outside) (m : Message) → length m.proof.spends ≡ length ext
+    → length (claimed (points_of ext) (rests_of m.proof.spends)) ≡ length ext
+message-long ext m e = claims-long ext (rests_of m.proof.spends) (length-map m.proof.spends (λ s. s.rest) ∙ e)
 
-pub leaves-long : (H : List ℕ → Digest) (text : Leaf → List ℕ) (ext : List Outside) (m : Message) → length m.proof.spends ≡ length ext
-    → length (leaves_of H text (points_of ext) m) ≡ length ext
-leaves-long H text ext m e =
-    length-map (claimed (points_of ext) (rests_of m.proof.spends)) (λ leaf. H (text leaf))
-    ∙ claims-long ext (rests_of m.proof.spends) (length-map m.proof.spends (λ s. s.rest) ∙ e)
-
--- all of them
-pub claims_all : (H : List ℕ → Digest) (text : Leaf → List ℕ) (ext : List Outside) (m : Message) (i : ℕ) (leaves : List Digest)
-    → length m.proof.spends ≡ length ext → leaves ≡ take i (leaves_of H text (points_of ext) m) → length ext ≤ i →
-    leaves ≡ leaves_of H text (points_of ext) m
-claims_all H text ext m i leaves e is le = is ∙ take_all i (leaves_of H text (points_of ext) m) (omega (arith, leaves-long H text ext m e, le))
+pub leaves-long : (H : List ℕ → Digest) (ext : List Outside) (m : Message) → length m.proof.spends ≡ length ext
+    → length (leaves_of H (points_of ext) m) ≡ length ext
+leaves-long H ext m e =
+    length-map (claimed (points_of ext) (rests_of m.proof.spends)) (λ leaf. H (leaf_text leaf))
+    ∙ message-long ext m e

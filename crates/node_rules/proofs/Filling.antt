@@ -9,7 +9,7 @@ use Rattle.std.proofs.lemmas.List.Sums.{sum_by-cons}
 use Rattle.std.proofs.lemmas.Option.{none-some, same_Some}
 use Rattle.uo_digest.specs.declared.digest.Digest.{Digest}
 use Rattle.forest_place.specs.declared.place.Place.{Place}
-use Rattle.forest_place.specs.Places.{is_at, has_place, IsDistinct, IsBefore, IsAscending}
+use Rattle.forest_place.specs.Places.{is_at, has_place, IsDistinct, IsBefore, IsAscending, is_before_place}
 use Rattle.forest_place.proofs.Listed.{place, is_at-same, same_from_is_at}
 use Rattle.forest_place.proofs.Ascending.{before_itself, distinct_from_ascending}
 use Rattle.forest_model.specs.Cover.{need}
@@ -20,7 +20,7 @@ use Rattle.node_rules.specs.Messages.{Message, known_to}
 use Rattle.node_rules.specs.Judged.{AreHashes, IsOtherCount}
 use Rattle.cache_model.specs.Cache.{look}
 use Rattle.cache_model.specs.Lists.{AscendByPlace}
-use Rattle.cache_model.specs.Undo.{find, is_same_place, is_before_place, held_key}
+use Rattle.cache_model.specs.Undo.{find, is_same_place, held_key}
 use Rattle.node_rules.specs.Filled.{IsFrom, nones, filled, IsNextHash}
 
 -- ---- the order of places

@@ -11,7 +11,6 @@ use Rattle.forest_model.specs.Content.{IsDigest}
 use Rattle.block_codec.specs.Block.{Block, block_text, stripped_text, weight_of}
 use Rattle.block_codec.specs.Reading.{block_in}
 use Rattle.block_codec.proofs.BlockLaws.{IsBlockText, block_in-fits}
-use Rattle.leaf_record.specs.Leaf.{Leaf}
 use Rattle.proof_wire.specs.BlockProof.{message_text}
 use Rattle.block_rules.specs.declared.chain.Outside.{Outside}
 use Rattle.block_rules.specs.declared.refusal.Refusal.{Refusal}
@@ -48,7 +47,7 @@ block_short bytes b is light =
 
 -- ---- one event
 
-module _ (H : List ℕ → Digest) (text : Leaf → List ℕ) (long : (x : List ℕ) → IsDigest (H x)) (rules : Rules)
+module _ (H : List ℕ → Digest) (long : (x : List ℕ) → IsDigest (H x)) (rules : Rules)
     (few : rules.limits.leaves < 2 ^ 40) where
   -- the state fits, and has few levels
   record IsSmall (s : State) : Type 0 where
@@ -83,35 +82,35 @@ module _ (H : List ℕ → Digest) (text : Leaf → List ℕ) (long : (x : List 
           by (Some b) e made = by_case b e (refusal rules (chain_of s.now) b (own s.now.history (external b s.now.blocks))) refl made
 
     event_again : (watch : Option (List (List ℕ))) (event : FeedEvent) → AreEventBytes event → IsMade (event_in event)
-        → event_in (passed_on H text watch s.now event) ≡ with_message H text watch s.now (event_in event)
+        → event_in (passed_on H watch s.now event) ≡ with_message H watch s.now (event_in event)
     event_again watch (BlockCame bytes message) is made =
-        by_block bytes is message (λ x. Chain.BlockCame x (handed_in (text_beside H text watch s.now x))
-        ≡ with_message H text watch s.now (Chain.BlockCame x (handed_in message)))
+        by_block bytes is message (λ x. Chain.BlockCame x (handed_in (text_beside H watch s.now x))
+        ≡ with_message H watch s.now (Chain.BlockCame x (handed_in message)))
         (λ b t q.
         let us = s.now.history in
         let ext = external b s.now.blocks in
-        let m = message_of H text watch us ext in
+        let m = message_of H watch us ext in
         let l = small.fits.0 in
         let low = l.within in
         let again = message_read (message_text m) m
-        (written_fits H text long us l.records (omega (arith, low, few)) watch rules (chain_of s.now) b t.fits q) refl in
+        (written_fits H long us l.records (omega (arith, low, few)) watch rules (chain_of s.now) b t.fits q) refl in
         ap (Chain.BlockCame (Some b)) (handed_again ext m again))
         made
     event_again watch (RollbackCame count) is made = refl
     event_again watch StrayCame is made = refl
 
     event_short : (watch : Option (List (List ℕ))) (event : FeedEvent) → AreEventBytes event → IsMade (event_in event)
-        → CanBeWritten (passed_on H text watch s.now event)
+        → CanBeWritten (passed_on H watch s.now event)
     event_short watch (BlockCame bytes message) is made =
-        by_block bytes is message (λ x. CanBeWritten (BlockCame bytes (text_beside H text watch s.now x)))
+        by_block bytes is message (λ x. CanBeWritten (BlockCame bytes (text_beside H watch s.now x)))
         (λ b t q.
         let us = s.now.history in
         let ext = external b s.now.blocks in
         let l = small.fits.0 in
         let low = l.within in (
           block_short bytes b t (passes rules (chain_of s.now) b (own us ext) q).light,
-          written_few ext (message_of H text watch us ext)
-              (written_short H text long us l.records (omega (arith, low, few)) watch rules (chain_of s.now) b t.fits q),
+          written_few ext (message_of H watch us ext)
+              (written_short H long us l.records (omega (arith, low, few)) watch rules (chain_of s.now) b t.fits q),
         ))
         made
     event_short watch (RollbackCame count) is made = by_test (nat_le count (length s.older)) refl
@@ -124,35 +123,35 @@ module _ (H : List ℕ → Digest) (text : Leaf → List ℕ) (long : (x : List 
   -- ---- all events
 
   again_from : (watch : Option (List (List ℕ))) (s : State) (events : List FeedEvent) → IsSmall s → AllByRecursion AreEventBytes events
-      → map event_in (proved_events H text watch rules s events) ≡ proof_feed H text watch rules s (map event_in events)
+      → map event_in (proved_events H watch rules s events) ≡ proof_feed H watch rules s (map event_in events)
   again_from watch s [] small all = refl
   again_from watch s (event ∷ events) small all =
       let o = step rules own_judge s (event_in event) in
       by (is_made o.verdict) refl (again_from watch o.state events (next_small s event all.0 small) all.1)
     where
       by : (t : Bool) → is_made (step rules own_judge s (event_in event)).verdict ≡ t
-          → map event_in (proved_events H text watch rules (step rules own_judge s (event_in event)).state events)
-          ≡ proof_feed H text watch rules (step rules own_judge s (event_in event)).state (map event_in events)
-          → map event_in (cond t (passed_on H text watch s.now event ∷ proved_events H text watch rules
+          → map event_in (proved_events H watch rules (step rules own_judge s (event_in event)).state events)
+          ≡ proof_feed H watch rules (step rules own_judge s (event_in event)).state (map event_in events)
+          → map event_in (cond t (passed_on H watch s.now event ∷ proved_events H watch rules
           (step rules own_judge s (event_in event)).state events)
-          (proved_events H text watch rules (step rules own_judge s (event_in event)).state events))
-          ≡ cond t (with_message H text watch s.now (event_in event) ∷ proof_feed H text watch rules (step rules own_judge s (event_in event)).state
-          (map event_in events)) (proof_feed H text watch rules (step rules own_judge s (event_in event)).state (map event_in events))
+          (proved_events H watch rules (step rules own_judge s (event_in event)).state events))
+          ≡ cond t (with_message H watch s.now (event_in event) ∷ proof_feed H watch rules (step rules own_judge s (event_in event)).state
+          (map event_in events)) (proof_feed H watch rules (step rules own_judge s (event_in event)).state (map event_in events))
       by true e later = ap₂ (λ x xs. x ∷ xs) (event_again s small watch event all.0 e) later
       by false e later = later
 
   short_from : (watch : Option (List (List ℕ))) (s : State) (events : List FeedEvent) → IsSmall s → AllByRecursion AreEventBytes events
-      → AllByRecursion CanBeWritten (proved_events H text watch rules s events)
+      → AllByRecursion CanBeWritten (proved_events H watch rules s events)
   short_from watch s [] small all = tt
   short_from watch s (event ∷ events) small all =
       let o = step rules own_judge s (event_in event) in
       by (is_made o.verdict) refl (short_from watch o.state events (next_small s event all.0 small) all.1)
     where
       by : (t : Bool) → is_made (step rules own_judge s (event_in event)).verdict ≡ t
-          → AllByRecursion CanBeWritten (proved_events H text watch rules (step rules own_judge s (event_in event)).state events)
-          → AllByRecursion CanBeWritten (cond t (passed_on H text watch s.now event ∷ proved_events H text watch rules
+          → AllByRecursion CanBeWritten (proved_events H watch rules (step rules own_judge s (event_in event)).state events)
+          → AllByRecursion CanBeWritten (cond t (passed_on H watch s.now event ∷ proved_events H watch rules
           (step rules own_judge s (event_in event)).state events)
-          (proved_events H text watch rules (step rules own_judge s (event_in event)).state events))
+          (proved_events H watch rules (step rules own_judge s (event_in event)).state events))
       by true e later = (event_short s small watch event all.0 e, later)
       by false e later = later
 
@@ -160,9 +159,9 @@ module _ (H : List ℕ → Digest) (text : Leaf → List ℕ) (long : (x : List 
   start_small = record { fits = start_fits rules; levels = omega arith }
 
   pub events_again : (watch : Option (List (List ℕ))) (events : List FeedEvent) → AllByRecursion AreEventBytes events
-      → map event_in (proved_events H text watch rules start events) ≡ proof_feed H text watch rules start (map event_in events)
+      → map event_in (proved_events H watch rules start events) ≡ proof_feed H watch rules start (map event_in events)
   events_again watch events all = again_from watch start events start_small all
 
   pub events_short : (watch : Option (List (List ℕ))) (events : List FeedEvent) → AllByRecursion AreEventBytes events
-      → AllByRecursion CanBeWritten (proved_events H text watch rules start events)
+      → AllByRecursion CanBeWritten (proved_events H watch rules start events)
   events_short watch events all = short_from watch start events start_small all

@@ -17,7 +17,7 @@ use Rattle.forest_model.specs.Content.{pair}
 use Rattle.forest_model.specs.Cover.{Cover, target, given, both, cover_of_halves, cover, need, is_needed}
 use Rattle.forest_model.specs.Evaluation.{beside, value, asked, hash_of, nothing_known, evaluation}
 use Rattle.forest_model.proofs.Lists.{need_has, beside_at}
-use Rattle.leaf_record.specs.Leaf.{Outpoint, Leaf}
+use Rattle.leaf_record.specs.Leaf.{Outpoint}
 use Rattle.block_rules.specs.Steps.{unless, first_of}
 use Rattle.block_rules.specs.declared.refusal.ProofRefusal.{ProofRefusal}
 use Rattle.block_rules.specs.declared.refusal.ProofRefusal.TheVariants.{HashCount}
@@ -119,12 +119,12 @@ first_slot-same f g n ts (suc row) e = ap₂ option_or (here (is_slot n row) ref
     here true s = at s (cover ts row (root_off n row)) refl
     here false s = refl
 
-pub same_fault : (H : List ℕ → Digest) (text : Leaf → List ℕ) (v : View) (points : List Outpoint) (m : Message) (hashes : List Digest) →
+pub same_fault : (H : List ℕ → Digest) (v : View) (points : List Outpoint) (m : Message) (hashes : List Digest) →
     AreHashes m (record { leaves = v.n; targets = targets v.n m }) v.known hashes →
-    proof_fault H text v points m ≡ proof_fault H text v points (in_full m hashes)
-same_fault H text v points m hashes are =
+    proof_fault H v points m ≡ proof_fault H v points (in_full m hashes)
+same_fault H v points m hashes are =
     let ts = targets v.n m in
-    let leaves = leaves_of H text points m in
+    let leaves = leaves_of H points m in
     let wanted = length (asked v.n ts (known_to m.lean v.known)) in
     let all = length (asked v.n ts nothing_known) in
     let many : length hashes ≡ all = ap length (are.hashes_are H) ∙ (length-map (need v.n ts) _ ∙ ap length (sym (asked_all v.n ts))) in

@@ -1,29 +1,20 @@
 //! The hashes that a check of a proof needs, of a message that may leave out those that its reader knows.
-ghost use Rattle.std.specs.Prelude.{◌≡◌, ℕ, ◌+◌, ◌^◌, ◌≤◌, ◌<◌, ◌↔◌, ◌∷◌, [], map, drop, length, Option, None, IfOk, IsTrue};
+ghost use Rattle.std.specs.Prelude.{◌≡◌, ℕ, ◌+◌, ◌^◌, ◌≤◌, ◌<◌, ◌∷◌, [], map, drop, length, Option, None, IfOk};
 ghost use Rattle.uo_digest.specs.declared.digest.Digest.{Digest as Digested};
 ghost use Rattle.forest_place.specs.declared.place.Place.{Place as Placed};
-ghost use Rattle.forest_place.specs.Places.{IsBefore, IsAscending};
+ghost use Rattle.forest_place.specs.Places.{IsAscending};
 ghost use Rattle.node_rules.specs.Messages.{known_to};
 ghost use Rattle.cache_model.specs.Cache.{look};
 ghost use Rattle.cache_model.specs.Lists.{AscendByPlace};
-ghost use Rattle.cache_model.specs.Undo.{is_before_place};
 ghost use Rattle.node_rules.specs.Judged.{HashesJudged};
 ghost use Rattle.node_rules.specs.Filled.{IsFrom, nones, filled, IsNextHash};
 
 use block_rules::{ProofRefusal, Refusal, RuleFault};
-use forest_place::Place;
+use forest_place::{Place, is_before};
 use proof_shape::Targets;
 use proof_wire::MessageView;
 use std::alloc::{AllocError, Global};
 use uo_digest::Digest;
-
-/// Whether one place comes before another: in a lower row, or in its row at a lower offset.
-pub fn is_before(place: Place, other: Place) -> bool
-    ensures means { IsTrue result ↔ IsBefore place other }
-    ensures is { result ≡ is_before_place place other }
-{
-    place.row < other.row || (place.row == other.row && place.off < other.off)
-}
 
 /// The digest, where it is known at this place.
 fn digest_if(known: (Place, Digest), place: Place) -> Option<Digest>

@@ -4,7 +4,6 @@ use Rattle.std.specs.List.{AllByRecursion}
 use Rattle.std.proofs.lemmas.Bool.{cases_lt}
 use Rattle.uo_base.specs.declared.event.Net.{Net}
 use Rattle.uo_base.specs.FeedEvent.{FeedEvent}
-use Rattle.leaf_record.specs.Leaf.{leaf_text}
 use Rattle.feed_frame.specs.Events.{events_of}
 use Rattle.feed_frame.specs.FeedText.{event_text, feed_text, HasFrames}
 use Rattle.feed_frame.proofs.CutFeedLaws.{feed_cut}
@@ -72,8 +71,8 @@ links_of : (net : Net) (path : List Arrival) → AreLinked no_hash path → AllB
 links_of net path linked are = record {
   followed = λ H limits scripts.
       let r = read_as net limits.bytes path are in
-      subst (λ es. IsOther (first_refusal (verdicts_on H leaf_text (fresh_node net limits scripts) (map event_in es)))) (sym r.all)
-      (links_followed H leaf_text path (fresh_node net limits scripts) r.events r.strays linked are r.behind r.split r.rest);
+      subst (λ es. IsOther (first_refusal (verdicts_on H (fresh_node net limits scripts) (map event_in es)))) (sym r.all)
+      (links_followed H path (fresh_node net limits scripts) r.events r.strays linked are r.behind r.split r.rest);
   proved = λ limits.
       let r = read_as net limits.bytes path are in
       let rules : Rules = record { net = net; limits = limits } in

@@ -7,7 +7,6 @@ use Rattle.uo_digest.specs.declared.digest.Digest.{Digest}
 use Rattle.block_codec.specs.Block.{Block}
 use Rattle.block_codec.specs.Merkle.{is_same}
 use Rattle.block_codec.specs.Reading.{block_in}
-use Rattle.leaf_record.specs.Leaf.{Leaf}
 use Rattle.block_rules.specs.declared.refusal.Refusal.{Refusal}
 use Rattle.block_rules.specs.declared.refusal.Refusal.TheVariants as Why
 use Rattle.block_rules.specs.Blocks.{external, new_records}
@@ -39,43 +38,43 @@ none_first e = absurd cc
 
 -- ---- a compact node
 
-module _ (H : List ℕ → Digest) (text : Leaf → List ℕ) where
-  rest_followed : (s : NodeState) (strays : List FeedEvent) → IsRest strays → IsOther (first_refusal (verdicts_on H text s (map event_in strays)))
-  rest_followed s strays (inl none) = subst (λ xs. IsOther (first_refusal (verdicts_on H text s (map event_in xs)))) (sym none) none_first
-  rest_followed s strays (inr one) = subst (λ xs. IsOther (first_refusal (verdicts_on H text s (map event_in xs)))) (sym one) none_first
+module _ (H : List ℕ → Digest) where
+  rest_followed : (s : NodeState) (strays : List FeedEvent) → IsRest strays → IsOther (first_refusal (verdicts_on H s (map event_in strays)))
+  rest_followed s strays (inl none) = subst (λ xs. IsOther (first_refusal (verdicts_on H s (map event_in xs)))) (sym none) none_first
+  rest_followed s strays (inr one) = subst (λ xs. IsOther (first_refusal (verdicts_on H s (map event_in xs)))) (sym one) none_first
 
   pub links_followed : (path : List Arrival) (s : NodeState) (events strays : List FeedEvent) → AreLinked s.newest.chain.tip path
       → AllByRecursion IsRead path
       → (behind : List FeedEvent) → map block_event path ≡ events ++ behind → IsRest strays
-      → IsOther (first_refusal (verdicts_on H text s (map event_in (events ++ strays))))
+      → IsOther (first_refusal (verdicts_on H s (map event_in (events ++ strays))))
   links_followed path s [] strays linked are behind e rest = rest_followed s strays rest
   links_followed [] s (event ∷ events) strays linked are behind e rest = absurd cc
   links_followed (a ∷ path) s (event ∷ events) strays linked are behind e rest =
       let first : event ≡ block_event a = cc in
       let others : map block_event path ≡ events ++ behind = cc in
-      subst (λ x. IsOther (first_refusal (verdicts_on H text s (event_in x ∷ map event_in (events ++ strays))))) (sym first)
+      subst (λ x. IsOther (first_refusal (verdicts_on H s (event_in x ∷ map event_in (events ++ strays))))) (sym first)
       (by_block (block_in a.body) (λ b g. block_is a b are.0 g)
       (λ t tip. links_followed path t events strays (subst (λ h. AreLinked h path) (sym tip) linked.1) are.1 behind others rest))
     where
       told : (b : Block) → IsOfBlock a b → ((t : NodeState) → t.newest.chain.tip ≡ a.hash
-          → IsOther (first_refusal (verdicts_on H text t (map event_in (events ++ strays)))))
+          → IsOther (first_refusal (verdicts_on H t (map event_in (events ++ strays)))))
           → (why : Option Refusal) → IsOther why
           → IsOther (first_refusal (verdict_by s.newest.chain b (length (new_records b s.newest.chain.blocks)) why
-          ∷ verdicts_on H text (node_by why (node_with H text s b nothing) s) (map event_in (events ++ strays))))
-      told b is more None other = more (node_with H text s b nothing) is.hash
+          ∷ verdicts_on H (node_by why (node_with H s b nothing) s) (map event_in (events ++ strays))))
+      told b is more None other = more (node_with H s b nothing) is.hash
       told b is more (Some why) other = other
 
       by_block : (r : Option Block) → ((b : Block) → r ≡ Some b → IsOfBlock a b)
-          → ((t : NodeState) → t.newest.chain.tip ≡ a.hash → IsOther (first_refusal (verdicts_on H text t (map event_in (events ++ strays)))))
-          → IsOther (first_refusal (verdicts_on H text s (Chain.BlockCame r nothing ∷ map event_in (events ++ strays))))
+          → ((t : NodeState) → t.newest.chain.tip ≡ a.hash → IsOther (first_refusal (verdicts_on H t (map event_in (events ++ strays)))))
+          → IsOther (first_refusal (verdicts_on H s (Chain.BlockCame r nothing ∷ map event_in (events ++ strays))))
       by_block None is more = λ e. absurd cc
       by_block (Some b) is more =
           let of = is b refl in
           let chain = s.newest.chain in
           let same = same_hash b.header.prev chain.tip (of.prev ∙ linked.0) in
-          told b of more (refusal_on H text s b nothing)
-          (all_other s.rules chain b (compact H text (view_over s.newest) (external b chain.blocks) nothing) same
-          (compact_other H text (view_over s.newest) (external b chain.blocks)))
+          told b of more (refusal_on H s b nothing)
+          (all_other s.rules chain b (compact H (view_over s.newest) (external b chain.blocks) nothing) same
+          (compact_other H (view_over s.newest) (external b chain.blocks)))
 
 -- ---- a proving node
 

@@ -9,7 +9,7 @@ use Rattle.block_codec.specs.declared.merkle_tree.MerkleOutcome.{MerkleOutcome}
 use Rattle.block_codec.specs.declared.merkle_tree.MerkleOutcome.TheVariants.{Root, Repeated}
 use Rattle.block_codec.specs.Block.{Block, txids_of, weight_of}
 use Rattle.block_codec.specs.Merkle.{is_same, merkle_of}
-use Rattle.leaf_record.specs.Leaf.{Leaf, Outpoint}
+use Rattle.leaf_record.specs.Leaf.{Outpoint}
 use Rattle.leaf_record.specs.History.{History}
 use Rattle.block_rules.specs.declared.chain.Chain.{Chain}
 use Rattle.block_rules.specs.declared.chain.Found.{Found}
@@ -130,9 +130,9 @@ all_other rules chain b evidence same others =
     (both_other evidence.steps _ others (money_other (spends_of rules.net chain.blocks b) evidence.found)))
 
 -- without a message by a view
-pub compact_other : (H : List ℕ → Digest) (text : Leaf → List ℕ) (v : View) (ext : List Outside)
-    → AllByRecursion IsOther (compact H text v ext nothing).steps
-compact_other H text v ext = (unless_other _ Why.NoProof (λ e. absurd cc), (none_other, (none_other, (none_other, tt))))
+pub compact_other : (H : List ℕ → Digest) (v : View) (ext : List Outside)
+    → AllByRecursion IsOther (compact H v ext nothing).steps
+compact_other H v ext = (unless_other _ Why.NoProof (λ e. absurd cc), (none_other, (none_other, (none_other, tt))))
 
 -- and by the history
 pub own_other : (us : History) (ext : List Outside) → AllByRecursion IsOther (own us ext).steps

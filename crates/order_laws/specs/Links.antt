@@ -4,7 +4,6 @@ use Rattle.uo_base.specs.declared.event.Limits.{Limits}
 use Rattle.uo_base.specs.declared.event.Net.{Net}
 use Rattle.uo_base.specs.Reading.{IsBytes}
 use Rattle.uo_digest.specs.declared.digest.Digest.{Digest}
-use Rattle.leaf_record.specs.Leaf.{leaf_text}
 use Rattle.block_rules.specs.declared.refusal.Refusal.{Refusal}
 use Rattle.block_rules.specs.declared.refusal.Refusal.TheVariants as Why
 use Rattle.block_rules.specs.declared.verdict.Verdict.{Verdict}
@@ -31,7 +30,7 @@ first_refusal (Stray ∷ later) = first_refusal later
 -- before it has refused another.
 pub record LinksUp (net : Net) (feed : List ℕ) : Type 0 where
   pub followed : (H : List ℕ → Digest) (limits : Limits) (scripts : List (List ℕ))
-      → first_refusal (verdicts_on H leaf_text (fresh_node net limits scripts) (map event_in (events_of net limits.bytes feed).events)) ≢ Some
+      → first_refusal (verdicts_on H (fresh_node net limits scripts) (map event_in (events_of net limits.bytes feed).events)) ≢ Some
       Why.Link
   pub proved : (limits : Limits)
       → first_refusal (verdicts (record { net = net; limits = limits }) own_judge start (map event_in (events_of net limits.bytes feed).events)) ≢

@@ -9,3 +9,4 @@ pub mod Nodes
 pub mod Judged
 pub mod Room
 pub mod Gathered
+pub mod Batches

@@ -7,8 +7,8 @@ ghost use Rattle.proof_verify.specs.Evaluation.{AreEvaluatedAt};
 ghost use Rattle.proof_verify.specs.Gathered.{made_from, item_from, AreHalvesWithin, AreHalfwise};
 ghost use Rattle.proof_verify.specs.Verified.{above_targets};
 
-use crate::evaluate::{evaluate, half};
-use crate::node::Node;
+use crate::evaluate::evaluate;
+use crate::node::{Node, half};
 use crate::origin::Origin;
 use crate::plan::plan_of;
 use forest_place::Place;

@@ -8,7 +8,7 @@ use Rattle.std.proofs.lemmas.List.{length-append, append-nil, append_assoc}
 use Rattle.std.proofs.lemmas.Option.{none-some, same_Some, slice_get_within}
 use Rattle.uo_digest.specs.declared.digest.Digest.{Digest}
 use Rattle.forest_model.specs.Right.{entries}
-use Rattle.leaf_record.specs.Leaf.{Leaf}
+use Rattle.leaf_record.specs.Leaf.{leaf_text}
 use Rattle.block_rules.specs.declared.chain.Chain.{Chain}
 use Rattle.node_rules.specs.Judging.{Rules}
 use Rattle.node_rules.specs.Machine.{Level, start, event_in, is_made}
@@ -35,14 +35,14 @@ all-append : (xs ys : List WorldAct) → AllByRecursion AreActBytes xs → AllBy
 all-append [] ys a b = b
 all-append (x ∷ xs) ys a b = (a.0, all-append xs ys a.1 b)
 
-module _ (H : List ℕ → Digest) (text : Leaf → List ℕ) where
+module _ (H : List ℕ → Digest) where
   pub after-push : (w : WorldState) (acts : List WorldAct) (act : WorldAct)
-      → world_after H text w (acts ++ act ∷ []) ≡ next_world H text (world_after H text w acts) act
+      → world_after H w (acts ++ act ∷ []) ≡ next_world H (world_after H w acts) act
   after-push w [] act = refl
-  after-push w (a ∷ acts) act = after-push (next_world H text w a) acts act
+  after-push w (a ∷ acts) act = after-push (next_world H w a) acts act
 
   -- no act takes a serial back
-  sent_grows : (w : WorldState) (act : WorldAct) → length w.sent ≤ length (next_world H text w act).sent
+  sent_grows : (w : WorldState) (act : WorldAct) → length w.sent ≤ length (next_world H w act).sent
   sent_grows w (BridgeTook event) =
       let e = event_in event in
       let more = cond (is_accepted (Bridges.verdict_on w.bridge e)) (sent_of event (Bridges.message_on H w.bridge e)) [] in
@@ -59,25 +59,25 @@ module _ (H : List ℕ → Digest) (text : Leaf → List ℕ) where
       by (Some x) = omega arith
   sent_grows w (ReplyDelivered f j) = omega arith
 
-  all_sent_grow : (w : WorldState) (acts : List WorldAct) → length w.sent ≤ length (world_after H text w acts).sent
+  all_sent_grow : (w : WorldState) (acts : List WorldAct) → length w.sent ≤ length (world_after H w acts).sent
   all_sent_grow w [] = omega arith
-  all_sent_grow w (act ∷ acts) = let a = sent_grows w act in let b = all_sent_grow (next_world H text w act) acts in omega (arith, a, b)
+  all_sent_grow w (act ∷ acts) = let a = sent_grows w act in let b = all_sent_grow (next_world H w act) acts in omega (arith, a, b)
 
   -- the act at which a serial was given is the same in a longer list
-  at-old : (w : WorldState) (acts : List WorldAct) (act : WorldAct) (s : ℕ) → s ≤ length (world_after H text w acts).sent
-      → world_at H text w (acts ++ act ∷ []) s ≡ world_at H text w acts s
-  at-old w [] act s given = ap (λ b. cond b w (next_world H text w act)) (le-leb s (length w.sent) given)
+  at-old : (w : WorldState) (acts : List WorldAct) (act : WorldAct) (s : ℕ) → s ≤ length (world_after H w acts).sent
+      → world_at H w (acts ++ act ∷ []) s ≡ world_at H w acts s
+  at-old w [] act s given = ap (λ b. cond b w (next_world H w act)) (le-leb s (length w.sent) given)
   at-old w (a ∷ acts) act s given =
-      let next = next_world H text w a in
+      let next = next_world H w a in
       ap (λ (v : WorldState). cond (nat_le s (length w.sent)) w v) (at-old next acts act s given)
 
   -- a serial that was not given before is given by the last act, if by any
-  at-new : (w : WorldState) (acts : List WorldAct) (act : WorldAct) (s : ℕ) → length (world_after H text w acts).sent < s
-      → world_at H text w (acts ++ act ∷ []) s ≡ world_after H text w (acts ++ act ∷ [])
+  at-new : (w : WorldState) (acts : List WorldAct) (act : WorldAct) (s : ℕ) → length (world_after H w acts).sent < s
+      → world_at H w (acts ++ act ∷ []) s ≡ world_after H w (acts ++ act ∷ [])
   at-new w [] act s above = ⊎_elim (λ t. let few = leb-true s (length w.sent) t in absurd (omega (arith, few, above))) (λ f. rw f refl)
       (cases_Bool (nat_le s (length w.sent)))
   at-new w (a ∷ acts) act s above =
-      let next = next_world H text w a in
+      let next = next_world H w a in
       let more = all_sent_grow w (a ∷ acts) in
       ⊎_elim (λ t. let few = leb-true s (length w.sent) t in absurd (omega (arith, few, above, more))) (λ f. rw f (at-new next acts act s above))
       (cases_Bool (nat_le s (length w.sent)))
@@ -93,21 +93,21 @@ module _ (H : List ℕ → Digest) (text : Leaf → List ℕ) where
 
     -- the level of a serial is what the proving node holds behind the serial's branch
     abbrev IsOf : List WorldAct → ℕ → Level → Type 0
-    IsOf acts s l = IsLevelOf rules l (branch H text first acts s)
+    IsOf acts s l = IsLevelOf rules l (branch H first acts s)
 
     abbrev IsSound : List WorldAct → Type 0
-    IsSound acts = Sound H text long rules few begun.lists (IsOf acts) (world_after H text first acts)
+    IsSound acts = Sound H long rules few begun.lists (IsOf acts) (world_after H first acts)
 
     fresh_followers : (lists : List (List (List ℕ)))
-        → AllZip (FollowerFits H text rules (start.now ∷ [])) lists (map (fresh_follower begun.net begun.limits) lists)
+        → AllZip (FollowerFits H rules (start.now ∷ [])) lists (map (fresh_follower begun.net begun.limits) lists)
     fresh_followers [] = tt
     fresh_followers (scripts ∷ lists) = (
       record {
         same_rules = refl;
         same_scripts = refl;
-        is = fresh-node H text begun.net begun.limits scripts few short;
+        is = fresh-node H begun.net begun.limits scripts few short;
         state = start;
-        stands = fresh-stands H text begun.net begun.limits scripts;
+        stands = fresh-stands H begun.net begun.limits scripts;
         at = (refl, tt);
       },
       fresh_followers lists,
@@ -126,8 +126,8 @@ module _ (H : List ℕ → Digest) (text : Leaf → List ℕ) where
       beside = record {
         same_rules = refl;
         no_watch = refl;
-        is = fresh_is_bridge H text begun.net begun.limits None few;
-        stands = fresh_stands H text begun.net begun.limits None;
+        is = fresh_is_bridge H begun.net begun.limits None few;
+        stands = fresh_stands H begun.net begun.limits None;
         fits = start_fits rules;
       };
       rest = [];
@@ -138,8 +138,8 @@ module _ (H : List ℕ → Digest) (text : Leaf → List ℕ) where
 
     one_more : (acts : List WorldAct) (act : WorldAct) → AreActBytes act → IsSound acts → IsSound (acts ++ act ∷ [])
     one_more acts act are sound =
-        let w = world_after H text first acts in
-        let w' = next_world H text w act in
+        let w = world_after H first acts in
+        let w' = next_world H w act in
         let Q = IsOf (acts ++ act ∷ []) in
         let at = λ (s : ℕ) (l : Level) (v : WorldState). IsLevelOf rules l (blocks_of v.sent v.chain) in
         let keeps : (s : ℕ) (l : Level) → s ≤ length w.sent → IsOf acts s l → Q s l =
@@ -148,8 +148,8 @@ module _ (H : List ℕ → Digest) (text : Leaf → List ℕ) where
         → Q (suc (length w.sent)) l =
         λ v l is count of. subst (at (suc (length w.sent)) l)
         (is ∙ (sym (after-push first acts act) ∙ sym (at-new first acts act (suc (length w.sent)) (omega arith)))) of in
-        subst (Sound H text long rules few begun.lists Q) (sym (after-push first acts act))
-        (act_sound H text long rules few begun.lists (IsOf acts) Q w sound keeps w' new act refl are)
+        subst (Sound H long rules few begun.lists Q) (sym (after-push first acts act))
+        (act_sound H long rules few begun.lists (IsOf acts) Q w sound keeps w' new act refl are)
 
     sound_through : (acts more : List WorldAct) → AllByRecursion AreActBytes more → IsSound acts → IsSound (acts ++ more)
     sound_through acts [] all sound = subst IsSound (sym (append-nil acts)) sound
@@ -163,14 +163,14 @@ module _ (H : List ℕ → Digest) (text : Leaf → List ℕ) where
 
     module _ (acts : List WorldAct) (sound : IsSound acts) where
       abbrev w : WorldState
-      w = world_after H text first acts
+      w = world_after H first acts
 
-      pub on_branch : (scripts : List (List ℕ)) (x : FollowerState) → FollowerFits H text rules sound.levels scripts x
-          → IsOnBranch H text begun acts scripts x
+      pub on_branch : (scripts : List (List ℕ)) (x : FollowerState) → FollowerFits H rules sound.levels scripts x
+          → IsOnBranch H begun acts scripts x
       on_branch scripts x fits =
           let s = newest_of x.serials in
           let l = fits.state.now in
-          let at = at_newest H text rules w.sent sound.levels scripts x fits in
+          let at = at_newest H rules w.sent sound.levels scripts x fits in
           let of = sound.told s l at in
           let within = slice_get_within sound.levels s l at in
           let count = sound.count in
@@ -179,74 +179,74 @@ module _ (H : List ℕ → Digest) (text : Leaf → List ℕ) where
             given = omega (arith, within, count);
             blocks = ap (λ (c : Chain). c.blocks) chain ∙ of.blocks_are;
             tip = ap (λ (c : Chain). c.tip) chain ∙ of.tip;
-            stands = subst (λ m. LevelStands H text scripts m x.node.newest) (sym of.level)
-                (subst (λ y. LevelStands H text y l x.node.newest) fits.same_scripts fits.stands.newest);
+            stands = subst (λ m. LevelStands H scripts m x.node.newest) (sym of.level)
+                (subst (λ y. LevelStands H y l x.node.newest) fits.same_scripts fits.stands.newest);
             watch = fits.same_scripts;
           }
 
-      pub all_on_branches : AllZip (IsOnBranch H text begun acts) begun.lists w.followers
-      all_on_branches = zip-weaker (FollowerFits H text rules sound.levels) (IsOnBranch H text begun acts) on_branch begun.lists w.followers
+      pub all_on_branches : AllZip (IsOnBranch H begun acts) begun.lists w.followers
+      all_on_branches = zip-weaker (FollowerFits H rules sound.levels) (IsOnBranch H begun acts) on_branch begun.lists w.followers
           sound.followers
 
       pub one_chain : (f g : ℕ) (x y : FollowerState) → slice_get w.followers f ≡ Some x → slice_get w.followers g ≡ Some y
           → newest_of x.serials ≡ newest_of y.serials →
           (x.node.newest.chain ≡ y.node.newest.chain) × (x.node.newest.roots ≡ y.node.newest.roots)
       one_chain f g x y at_f at_g same =
-          let a = zip-at (FollowerFits H text rules sound.levels) begun.lists w.followers f x sound.followers at_f in
-          let b = zip-at (FollowerFits H text rules sound.levels) begun.lists w.followers g y sound.followers at_g in
+          let a = zip-at (FollowerFits H rules sound.levels) begun.lists w.followers f x sound.followers at_f in
+          let b = zip-at (FollowerFits H rules sound.levels) begun.lists w.followers g y sound.followers at_g in
           let m = b.2.state.now in
-          let at_x = at_newest H text rules w.sent sound.levels a.0 x a.2 in
-          let at_y = at_newest H text rules w.sent sound.levels b.0 y b.2 in
+          let at_x = at_newest H rules w.sent sound.levels a.0 x a.2 in
+          let at_y = at_newest H rules w.sent sound.levels b.0 y b.2 in
           let now : a.2.state.now ≡ m = same_Some _ _ (sym (subst (λ s. slice_get sound.levels s ≡ Some a.2.state.now) same at_x) ∙ at_y) in
-          let first_stands = subst (λ l. LevelStands H text x.node.scripts l x.node.newest) now a.2.stands.newest in
+          let first_stands = subst (λ l. LevelStands H x.node.scripts l x.node.newest) now a.2.stands.newest in
           let second_stands = b.2.stands.newest in (
             first_stands.chain ∙ sym second_stands.chain,
-            one_stump H (entries H text m.history) x.node.newest.roots y.node.newest.roots a.2.is.newest.stump b.2.is.newest.stump first_stands.roots
-                second_stands.roots,
+            one_stump H (entries H leaf_text m.history) x.node.newest.roots y.node.newest.roots a.2.is.newest.stump b.2.is.newest.stump
+                first_stands.roots second_stands.roots,
           )
 
       pub never_refused : (f j : ℕ) (x : FollowerState) (r : Reply) → slice_get w.followers f ≡ Some x → slice_get w.replies j ≡ Some r
           → applies r x ≡ true →
-          is_made (Some (verdict_on H text x.node (event_in (event_for w.sent r.kind)))) ≡ true
+          is_made (Some (verdict_on H x.node (event_in (event_for w.sent r.kind)))) ≡ true
       never_refused f j x r at_f at_j can =
-          let a = zip-at (FollowerFits H text rules sound.levels) begun.lists w.followers f x sound.followers at_f in
-          (reply_moves H text rules w.sent sound.levels a.0 x a.2 r can
-          (all-at (ReplyFits H text rules w.sent sound.levels) w.replies j r sound.replies at_j)).made
+          let a = zip-at (FollowerFits H rules sound.levels) begun.lists w.followers f x sound.followers at_f in
+          (reply_moves H rules w.sent sound.levels a.0 x a.2 r can
+          (all-at (ReplyFits H rules w.sent sound.levels) w.replies j r sound.replies at_j)).made
 
 -- ---- the laws
 
-abbrev Through : (List ℕ → Digest) → (Leaf → List ℕ) → Begun → List WorldAct → (WorldState → Type 0) → Type 0
-Through H text begun acts P = (w : WorldState) → StandsForActs H text begun acts w → P (world_after H text (begun_world begun) acts) → P w
+abbrev Through : (List ℕ → Digest) → Begun → List WorldAct → (WorldState → Type 0) → Type 0
+Through H begun acts P = (w : WorldState) → StandsForActs H begun acts w → P (world_after H (begun_world begun) acts) → P w
 
-through : (H : List ℕ → Digest) (text : Leaf → List ℕ) (begun : Begun) (acts : List WorldAct) (P : WorldState → Type 0) → Through H text begun acts P
-through H text begun acts P w stands h = subst P (sym stands.is) h
+through : (H : List ℕ → Digest) (begun : Begun) (acts : List WorldAct) (P : WorldState → Type 0) → Through H begun acts P
+through H begun acts P w stands h = subst P (sym stands.is) h
 
 pub followers_are_on_branches : FollowersAreOnBranches
-followers_are_on_branches H text long begun acts w stands =
-    let sound = sound_after H text long begun stands.leaves stands.bytes acts stands.all in
-    through H text begun acts (λ v. AreOnBranches H text begun acts v) w stands
-    (all_on_branches H text long begun stands.leaves stands.bytes acts sound)
+followers_are_on_branches H long begun acts w stands =
+    let sound = sound_after H long begun stands.leaves stands.bytes acts stands.all in
+    through H begun acts (λ v. AreOnBranches H begun acts v) w stands
+    (all_on_branches H long begun stands.leaves stands.bytes acts sound)
 
 pub one_serial_one_chain : OneSerialOneChain
-one_serial_one_chain H text long begun acts w stands =
-    let sound = sound_after H text long begun stands.leaves stands.bytes acts stands.all in
-    through H text begun acts
+one_serial_one_chain H long begun acts w stands =
+    let sound = sound_after H long begun stands.leaves stands.bytes acts stands.all in
+    through H begun acts
     (λ v. (f g : ℕ) (x y : FollowerState) → slice_get v.followers f ≡ Some x → slice_get v.followers g ≡ Some y
     → newest_of x.serials ≡ newest_of y.serials → (x.node.newest.chain ≡ y.node.newest.chain) × (x.node.newest.roots ≡ y.node.newest.roots))
-    w stands (one_chain H text long begun stands.leaves stands.bytes acts sound)
+    w stands (one_chain H long begun stands.leaves stands.bytes acts sound)
 
 pub replies_are_never_refused : RepliesAreNeverRefused
-replies_are_never_refused H text long begun acts w stands =
-    let sound = sound_after H text long begun stands.leaves stands.bytes acts stands.all in
-    through H text begun acts (IsNeverRefused H text) w stands (never_refused H text long begun stands.leaves stands.bytes acts sound)
+replies_are_never_refused H long begun acts w stands =
+    let sound = sound_after H long begun stands.leaves stands.bytes acts stands.all in
+    through H begun acts (IsNeverRefused H) w stands (never_refused H long begun stands.leaves stands.bytes acts sound)
 
 pub acts_are_followed : ActsAreFollowed
-acts_are_followed H text begun = (
+acts_are_followed H begun = (
   λ leaves bytes. record { leaves = leaves; bytes = bytes; all = tt; is = refl },
   λ acts w act are stands. record {
     leaves = stands.leaves;
     bytes = stands.bytes;
     all = all-append acts (act ∷ []) stands.all (are, tt);
-    is = ap (λ v. next_world H text v act) stands.is ∙ sym (after-push H text (begun_world begun) acts act);
+    is = ap (λ v. next_world H v act) stands.is ∙ sym (after-push H (begun_world begun) acts act);
   },
 )

@@ -7,7 +7,6 @@ use Rattle.uo_base.specs.FeedEvent as Feed
 use Rattle.uo_digest.specs.declared.digest.Digest.{Digest}
 use Rattle.block_codec.specs.Block.{Block}
 use Rattle.block_codec.specs.Reading.{block_in}
-use Rattle.leaf_record.specs.Leaf.{Leaf}
 use Rattle.block_rules.specs.declared.refusal.Refusal.{Refusal}
 use Rattle.block_rules.specs.declared.verdict.Verdict.TheVariants.{TooDeep}
 use Rattle.block_rules.specs.Blocks.{new_records}
@@ -21,25 +20,25 @@ use Rattle.relay_core.specs.World.{FollowerState, WorldState, newest_of, serials
 use Rattle.relay_core.specs.World.{followers_after, delivered}
 use Rattle.relay_core.specs.Changes.{ChangesAsTold, OutcomesTellChanges, moves_node}
 
-module _ (H : List ℕ → Digest) (text : Leaf → List ℕ) where
+module _ (H : List ℕ → Digest) where
   -- a bridge that did not do what was asked for is as it was
   same_block : (s : BridgeState) (y : Option Block) (handed : Handed) → is_made (Some (verdict_on s (BlockCame y handed))) ≡ false
-      → next_bridge H text s (BlockCame y handed) ≡ s
+      → next_bridge H s (BlockCame y handed) ≡ s
   same_block s None handed off = refl
   same_block s (Some b) handed off = by (refusal_on s b) off
     where
       by : (x : Option Refusal) → is_made (Some (verdict_by s.chain b (length (new_records b s.chain.blocks)) x)) ≡ false
-          → bridge_by x (after_block H text s b) s ≡ s
+          → bridge_by x (after_block H s b) s ≡ s
       by None off = absurd (false≢true (sym off))
       by (Some why) off = refl
 
   same_bridge : (s : BridgeState) (event : FeedEvent) → is_made (Some (verdict_on s (event_in event))) ≡ false
-      → next_bridge H text s (event_in event) ≡ s
+      → next_bridge H s (event_in event) ≡ s
   same_bridge s (Feed.BlockCame bytes message) off = same_block s (block_in bytes) (handed_in message) off
   same_bridge s (Feed.RollbackCame k) off = by (nat_le k (length s.undo)) off
     where
       by : (x : Bool) → is_made (Some (cond x (gone_to k (chain_back k s.chain s.undo)) (TooDeep k (length s.undo)))) ≡ false
-          → cond x (gone_back H text k s) s ≡ s
+          → cond x (gone_back H k s) s ≡ s
       by true off = absurd (false≢true (sym off))
       by false off = refl
   same_bridge s Feed.StrayCame off = refl
@@ -53,19 +52,19 @@ module _ (H : List ℕ → Digest) (text : Leaf → List ℕ) where
   serving w (Some serials) = record { bridge = λ off. refl; followers = λ off. refl }
 
   unmoved : (w : WorldState) (f : ℕ) (x : Option FollowerState) (r : Option Reply) → moves_node (delivered x r) ≡ false
-      → followers_after H text w.sent w.followers f x r ≡ w.followers
+      → followers_after H w.sent w.followers f x r ≡ w.followers
   unmoved w f None r off = refl
   unmoved w f (Some x) None off = refl
   unmoved w f (Some x) (Some r) off = by (applies r x) off
     where
       by : (b : Bool) → moves_node (cond b (Moved (newest_of (serials_after r.kind x.serials))) Stale) ≡ false
-          → cond b (slice_set w.followers f (moved H text w.sent r.kind x)) w.followers ≡ w.followers
+          → cond b (slice_set w.followers f (moved H w.sent r.kind x)) w.followers ≡ w.followers
       by true off = absurd (false≢true (sym off))
       by false off = refl
 
 pub outcomes_tell_changes : OutcomesTellChanges
-outcomes_tell_changes H text w (BridgeTook event) = record { bridge = same_bridge H text w.bridge event; followers = λ off. refl }
-outcomes_tell_changes H text w (FollowerAsked f) = asking H text w (slice_get w.followers f)
-outcomes_tell_changes H text w (AskServed j) = serving H text w (slice_get w.asks j)
-outcomes_tell_changes H text w (ReplyDelivered f j) =
-    record { bridge = λ off. refl; followers = unmoved H text w f (slice_get w.followers f) (slice_get w.replies j) }
+outcomes_tell_changes H w (BridgeTook event) = record { bridge = same_bridge H w.bridge event; followers = λ off. refl }
+outcomes_tell_changes H w (FollowerAsked f) = asking H w (slice_get w.followers f)
+outcomes_tell_changes H w (AskServed j) = serving H w (slice_get w.asks j)
+outcomes_tell_changes H w (ReplyDelivered f j) =
+    record { bridge = λ off. refl; followers = unmoved H w f (slice_get w.followers f) (slice_get w.replies j) }

@@ -7,7 +7,6 @@ use Rattle.std.proofs.lemmas.Bool.{and_parts, eqb-true, leb-true, false≢true}
 use Rattle.std.proofs.lemmas.Option.{same_Some}
 use Rattle.uo_digest.specs.declared.digest.Digest.{Digest}
 use Rattle.block_codec.specs.Block.{Block, block_hash_of}
-use Rattle.leaf_record.specs.Leaf.{Leaf}
 use Rattle.block_rules.specs.declared.verdict.Verdict.{Verdict}
 use Rattle.block_rules.specs.declared.verdict.Verdict.TheVariants.{Accepted}
 use Rattle.block_rules.specs.Blocks.{external}
@@ -50,25 +49,25 @@ back-zip P (suc k) [] l ls few z = absurd z
 back-zip P (suc k) (s ∷ ss) l [] few z = absurd (omega (arith, few))
 back-zip P (suc k) (s ∷ ss) l (m ∷ ls) few z = back-zip P k ss m ls (omega (arith, few)) z.1
 
-module _ (H : List ℕ → Digest) (text : Leaf → List ℕ) (rules : Rules) where
+module _ (H : List ℕ → Digest) (rules : Rules) where
   -- ---- the node that holds every output takes the block
 
-  module _ (scripts : List (List ℕ)) (s : State) (x : Sent) (newer : Level) (leads : Leads H text rules s.now x newer) where
+  module _ (scripts : List (List ℕ)) (s : State) (x : Sent) (newer : Level) (leads : Leads H rules s.now x newer) where
     abbrev b : Block
     b = leads.block
 
     abbrev handed : Handed
-    handed = written (external b s.now.blocks) (message_of H text None s.now.history (external b s.now.blocks))
+    handed = written (external b s.now.blocks) (message_of H None s.now.history (external b s.now.blocks))
 
-    abbrev taken : IsTaken H text scripts rules (chain_of s.now) s.now.history b handed
-    taken = own_accepts H text s.now.history leads.few None scripts tt rules (chain_of s.now) b leads.passes
+    abbrev taken : IsTaken H scripts rules (chain_of s.now) s.now.history b handed
+    taken = own_accepts H s.now.history leads.few None scripts tt rules (chain_of s.now) b leads.passes
 
     abbrev outcome : Level → Outcome
     outcome l = record { verdict = Some (Accepted s.now.blocks (block_hash_of b) (length l.history)); state = pushed l s }
 
-    full_takes : step rules (full_judge H text scripts rules) s (BlockCame (Some b) handed) ≡ outcome newer
+    full_takes : step rules (full_judge H scripts rules) s (BlockCame (Some b) handed) ≡ outcome newer
     full_takes =
-        let evidence = full H text scripts s.now.history (external b s.now.blocks) handed in
+        let evidence = full H scripts s.now.history (external b s.now.blocks) handed in
         let same : level_after s.now b evidence ≡ newer =
         ap (λ (ns : List ℕ). level_after s.now b (record evidence { numbers = ns })) taken.same_entries ∙ sym leads.next in
         ap (λ (f : Bool). by_evidence rules s b (cond f None (Some evidence))) taken.not_forged
@@ -82,7 +81,7 @@ module _ (H : List ℕ → Digest) (text : Leaf → List ℕ) (rules : Rules) wh
     pub same_scripts : x.node.scripts ≡ scripts
     pub is : IsNode x.node
     pub state : State
-    pub stands : Stands H text state x.node
+    pub stands : Stands H state x.node
     pub at : AllZip (λ s l. slice_get levels s ≡ Some l) x.serials (state.now ∷ state.older)
 
   at_more : (levels more : List Level) (ss : List ℕ) (ls : List Level) → AllZip (λ s l. slice_get levels s ≡ Some l) ss ls
@@ -104,13 +103,13 @@ module _ (H : List ℕ → Digest) (text : Leaf → List ℕ) (rules : Rules) wh
   }
 
   -- it takes the event, and stands for these levels then
-  takes : (state : State) (x : NodeState) (e : ChainEvent) (v : Verdict) (t : State) → IsNode x → Stands H text state x
-      → full_outcome H text x.scripts x.rules state e ≡ record { verdict = Some v; state = t } → is_made (Some v) ≡ true →
-      (is_made (Some (verdict_on H text x e)) ≡ true) × Stands H text t (next_node H text x e)
+  takes : (state : State) (x : NodeState) (e : ChainEvent) (v : Verdict) (t : State) → IsNode x → Stands H state x
+      → full_outcome H x.scripts x.rules state e ≡ record { verdict = Some v; state = t } → is_made (Some v) ≡ true →
+      (is_made (Some (verdict_on H x e)) ≡ true) × Stands H t (next_node H x e)
   takes state x e v t is stands o made =
-      let all = compact_is_full H text x e is state stands (ap (λ (p : Outcome). is_some p.verdict) o) in
-      let said : Some v ≡ Some (verdict_on H text x e) = ap (λ (p : Outcome). p.verdict) (sym o) ∙ all.0 in
-      (ap is_made (sym said) ∙ made, subst (λ (p : Outcome). Stands H text p.state (next_node H text x e)) o all.1)
+      let all = compact_is_full H x e is state stands (ap (λ (p : Outcome). is_some p.verdict) o) in
+      let said : Some v ≡ Some (verdict_on H x e) = ap (λ (p : Outcome). p.verdict) (sym o) ∙ all.0 in
+      (ap is_made (sym said) ∙ made, subst (λ (p : Outcome). Stands H p.state (next_node H x e)) o all.1)
 
   module _ (sent : List Sent) (levels : List Level) (scripts : List (List ℕ)) (x : FollowerState) (fits : FollowerFits levels scripts x) where
     abbrev pub IsAt : ℕ → Level → Type 0
@@ -118,20 +117,20 @@ module _ (H : List ℕ → Digest) (text : Leaf → List ℕ) (rules : Rules) wh
 
     -- the follower behind the reply, and that its node was not against it
     pub record Moves (kind : Kind) : Type 0 where
-      pub follower : FollowerFits levels scripts (moved H text sent kind x)
-      pub made : is_made (Some (verdict_on H text x.node (event_in (event_for sent kind)))) ≡ true
+      pub follower : FollowerFits levels scripts (moved H sent kind x)
+      pub made : is_made (Some (verdict_on H x.node (event_in (event_for sent kind)))) ≡ true
 
-    moves : (kind : Kind) (t : State) → (is_made (Some (verdict_on H text x.node (event_in (event_for sent kind)))) ≡ true)
-        × Stands H text t (next_node H text x.node (event_in (event_for sent kind))) →
+    moves : (kind : Kind) (t : State) → (is_made (Some (verdict_on H x.node (event_in (event_for sent kind)))) ≡ true)
+        × Stands H t (next_node H x.node (event_in (event_for sent kind))) →
         AllZip IsAt (serials_after kind x.serials) (t.now ∷ t.older) → Moves kind
     moves kind t took at =
         let e = event_in (event_for sent kind) in
-        let told = kept_told H text x.node e in
+        let told = kept_told H x.node e in
         record {
           follower = record {
             same_rules = told.0 ∙ fits.same_rules;
             same_scripts = told.1 ∙ fits.same_scripts;
-            is = next_is_node H text x.node e fits.is;
+            is = next_is_node H x.node e fits.is;
             state = t;
             stands = took.1;
             at = at;
@@ -151,48 +150,48 @@ module _ (H : List ℕ → Digest) (text : Leaf → List ℕ) (rules : Rules) wh
         → AllZip IsAt (take 101 (serial ∷ ss)) (l ∷ take 100 (now ∷ older))
     one_more serial l ss now older at z = (at, zip-take IsAt 100 ss (now ∷ older) z)
 
-    next_moves : (serial : ℕ) → Follows H text rules sent levels (newest_of x.serials) serial → Moves (Next serial)
+    next_moves : (serial : ℕ) → Follows H rules sent levels (newest_of x.serials) serial → Moves (Next serial)
     next_moves serial f =
         let s = fits.state in
         let same : f.older ≡ s.now = same_Some _ _ (sym f.at_first ∙ at_newest) in
         let y = f.link.one in
-        let leads = subst (λ l. Leads H text rules l y f.newer) same f.link.leads in
+        let leads = subst (λ l. Leads H rules l y f.newer) same f.link.leads in
         let t : State = pushed f.newer s in
         let v = Accepted s.now.blocks (block_hash_of leads.block) (length f.newer.history) in
         let e₀ = BlockCame (Some leads.block) (written (external leads.block s.now.blocks)
-        (message_of H text None s.now.history (external leads.block s.now.blocks))) in
+        (message_of H None s.now.history (external leads.block s.now.blocks))) in
         let read : event_in (event_for sent (Next serial)) ≡ e₀ = ap (λ o. event_in (block_event o)) f.link.at
         ∙ ap₂ BlockCame leads.reads leads.handed in
         let full = full_takes scripts s y f.newer leads in
-        let full' : full_outcome H text x.node.scripts x.node.rules s e₀ ≡ record { verdict = Some v; state = t } =
-        subst (λ r. full_outcome H text x.node.scripts r s e₀ ≡ record { verdict = Some v; state = t }) (sym fits.same_rules)
-        (subst (λ w. full_outcome H text w rules s e₀ ≡ record { verdict = Some v; state = t }) (sym fits.same_scripts) full) in
+        let full' : full_outcome H x.node.scripts x.node.rules s e₀ ≡ record { verdict = Some v; state = t } =
+        subst (λ r. full_outcome H x.node.scripts r s e₀ ≡ record { verdict = Some v; state = t }) (sym fits.same_rules)
+        (subst (λ w. full_outcome H w rules s e₀ ≡ record { verdict = Some v; state = t }) (sym fits.same_scripts) full) in
         let took = takes s x.node e₀ v t fits.is fits.stands full' refl in
         moves (Next serial) t
-        (subst (λ e. (is_made (Some (verdict_on H text x.node e)) ≡ true) × Stands H text t (next_node H text x.node e)) (sym read) took)
+        (subst (λ e. (is_made (Some (verdict_on H x.node e)) ≡ true) × Stands H t (next_node H x.node e)) (sym read) took)
         (one_more serial f.newer x.serials s.now s.older f.at_serial fits.at)
 
     back_moves : (count : ℕ) → nat_le count (length x.node.older) ≡ true → Moves (Back count)
     back_moves count can =
         let s = fits.state in
         let few : count ≤ length s.older = subst (λ n. count ≤ n) (sym
-        (zip-long (LevelStands H text x.node.scripts) s.older x.node.older fits.stands.older)) (leb-true count (length x.node.older) can) in
+        (zip-long (LevelStands H x.node.scripts) s.older x.node.older fits.stands.older)) (leb-true count (length x.node.older) can) in
         let can' : nat_le count (length s.older) ≡ true = subst (λ n. nat_le count n ≡ true)
-        (sym (zip-long (LevelStands H text x.node.scripts) s.older x.node.older fits.stands.older)) can in
+        (sym (zip-long (LevelStands H x.node.scripts) s.older x.node.older fits.stands.older)) can in
         let t = back count s.now s.older in
         let o = rolled_back count t in
-        let full : full_outcome H text x.node.scripts x.node.rules s (RollbackCame count) ≡ o = rw can' refl in
+        let full : full_outcome H x.node.scripts x.node.rules s (RollbackCame count) ≡ o = rw can' refl in
         moves (Back count) t (takes s x.node (RollbackCame count) _ t fits.is fits.stands full refl)
         (back-zip IsAt count x.serials s.now s.older few fits.at)
 
-    kind_moves : (kind : Kind) → can_do kind (length x.node.older) ≡ true → KindFits H text rules sent levels (newest_of x.serials) kind → Moves kind
+    kind_moves : (kind : Kind) → can_do kind (length x.node.older) ≡ true → KindFits H rules sent levels (newest_of x.serials) kind → Moves kind
     kind_moves (Next serial) can f = next_moves serial f
     kind_moves Same can f = absurd (false≢true can)
     kind_moves (Back count) can f = back_moves count can
     kind_moves Lost can f = absurd (false≢true can)
 
-    pub reply_moves : (r : Reply) → applies r x ≡ true → ReplyFits H text rules sent levels r → Moves r.kind
+    pub reply_moves : (r : Reply) → applies r x ≡ true → ReplyFits H rules sent levels r → Moves r.kind
     reply_moves r a f =
         let parts = and_parts (newest_of x.serials == r.first) (can_do r.kind (length x.node.older)) a in
         let same : newest_of x.serials ≡ r.first = eqb-true (newest_of x.serials) r.first parts.0 in
-        kind_moves r.kind parts.1 (subst (λ n. KindFits H text rules sent levels n r.kind) (sym same) f)
+        kind_moves r.kind parts.1 (subst (λ n. KindFits H rules sent levels n r.kind) (sym same) f)

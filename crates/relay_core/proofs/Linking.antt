@@ -8,7 +8,6 @@ use Rattle.std.proofs.lemmas.Option.{none-some, same_Some}
 use Rattle.uo_digest.specs.declared.digest.Digest.{Digest}
 use Rattle.block_codec.specs.Block.{Block}
 use Rattle.block_codec.specs.Reading.{block_in}
-use Rattle.leaf_record.specs.Leaf.{Leaf}
 use Rattle.leaf_record.specs.History.{somes}
 use Rattle.block_rules.specs.declared.refusal.Refusal.{Refusal}
 use Rattle.block_rules.specs.Blocks.{external}
@@ -50,7 +49,7 @@ pub record IsLevelOf (rules : Rules) (l : Level) (blocks : List (List ℕ)) : Ty
   pub blocks_are : l.blocks ≡ length blocks
   pub tip : l.tip ≡ tip_of blocks
 
-module _ (H : List ℕ → Digest) (text : Leaf → List ℕ) (rules : Rules) where
+module _ (H : List ℕ → Digest) (rules : Rules) where
   -- ---- one block
 
   -- the block leads from the older level to the newer one, and its message is that of the proving node, in full
@@ -60,7 +59,7 @@ module _ (H : List ℕ → Digest) (text : Leaf → List ℕ) (rules : Rules) wh
     pub few : length older.history ≤ 2 ^ 40
     pub passes : refusal rules (chain_of older) block (own older.history (external block older.blocks)) ≡ None
     pub next : newer ≡ level_after older block (own older.history (external block older.blocks))
-    pub handed : handed_in x.message ≡ written (external block older.blocks) (message_of H text None older.history (external block older.blocks))
+    pub handed : handed_in x.message ≡ written (external block older.blocks) (message_of H None older.history (external block older.blocks))
 
   -- the proving node takes it, whatever its older levels
   pub led : (s : State) (x : Sent) (newer : Level) → Leads s.now x newer → (step rules own_judge s (BlockCame (block_in x.block) nothing)).state.now

@@ -12,7 +12,6 @@ use Rattle.uo_base.specs.Reading.{IsBytes}
 use Rattle.uo_digest.specs.declared.digest.Digest.{Digest}
 use Rattle.block_codec.specs.Block.{Block, BlockFits}
 use Rattle.block_codec.specs.Reading.{block_in}
-use Rattle.leaf_record.specs.Leaf.{Leaf}
 use Rattle.proof_wire.specs.BlockProof.{message_text}
 use Rattle.block_rules.specs.declared.chain.Outside.{Outside}
 use Rattle.block_rules.specs.declared.refusal.Refusal.{Refusal}
@@ -90,7 +89,7 @@ handed_again : (ext : List Outside) (m : Message) → message_in (message_text m
 handed_again [] m e = refl
 handed_again (at ∷ ext) m e = e
 
-module _ (H : List ℕ → Digest) (text : Leaf → List ℕ) (long : Digests H) (rules : Rules) (few : rules.limits.leaves < 2 ^ 40) where
+module _ (H : List ℕ → Digest) (long : Digests H) (rules : Rules) (few : rules.limits.leaves < 2 ^ 40) where
   -- ---- what the bridge accepts leads on
 
   -- where a block is made it broke no rule
@@ -104,32 +103,32 @@ module _ (H : List ℕ → Digest) (text : Leaf → List ℕ) (long : Digests H)
 
   record Extends (t : State) (bytes : List ℕ) (message : Option (List ℕ)) (s' : BridgeState) : Type 0 where
     newer : Level
-    leads : Leads H text rules t.now (record { block = bytes; message = message }) newer
-    stands : Stands H text (pushed newer t) s'
+    leads : Leads H rules t.now (record { block = bytes; message = message }) newer
+    stands : Stands H (pushed newer t) s'
     fits : StateFits rules (pushed newer t)
 
   -- the bridge stands for this state, with messages in full
   pub record IsBeside (s : BridgeState) (t : State) : Type 0 where
     pub same_rules : s.rules ≡ rules
     pub no_watch : s.watch ≡ None
-    pub is : IsBridge H text s
-    pub stands : Stands H text t s
+    pub is : IsBridge H s
+    pub stands : Stands H t s
     pub fits : StateFits rules t
 
   as_own : (s : BridgeState) (t : State) (e : ChainEvent) → IsBeside s t
-      → IsAsOwn H text None rules t e (verdict_on s e) (message_on H s e) (next_bridge H text s e)
+      → IsAsOwn H None rules t e (verdict_on s e) (message_on H s e) (next_bridge H s e)
   as_own s t e beside =
-      subst (λ r. IsAsOwn H text None r t e (verdict_on s e) (message_on H s e) (next_bridge H text s e)) beside.same_rules
-      (subst (λ x. IsAsOwn H text x s.rules t e (verdict_on s e) (message_on H s e) (next_bridge H text s e)) beside.no_watch
-      (bridge_is_own H text s e beside.is t beside.stands))
+      subst (λ r. IsAsOwn H None r t e (verdict_on s e) (message_on H s e) (next_bridge H s e)) beside.same_rules
+      (subst (λ x. IsAsOwn H x s.rules t e (verdict_on s e) (message_on H s e) (next_bridge H s e)) beside.no_watch
+      (bridge_is_own H s e beside.is t beside.stands))
 
   extends : (s : BridgeState) (t : State) (bytes : List ℕ) (b : Block) (handed : Handed) → block_in bytes ≡ Some b → BlockFits b → IsBeside s t
-      → refusal_on s b ≡ None → Extends t bytes (message_for s b) (after_block H text s b)
+      → refusal_on s b ≡ None → Extends t bytes (message_for s b) (after_block H s b)
   extends s t bytes b handed reads block_fits beside accepts =
       let e = BlockCame (Some b) handed in
       let ext = external b t.now.blocks in
       let ev = own t.now.history ext in
-      let m = message_of H text None t.now.history ext in
+      let m = message_of H None t.now.history ext in
       let new = length (new_records b s.chain.blocks) in
       let one = as_own s t e beside in
       let made : is_made (own_outcome rules t e).verdict ≡ true =
@@ -139,9 +138,9 @@ module _ (H : List ℕ → Digest) (text : Leaf → List ℕ) (long : Digests H)
       let l = beside.fits.0 in
       let within = l.within in
       let again = message_read (message_text m) m
-      (written_fits H text long t.now.history l.records (omega (arith, within, few)) None rules (chain_of t.now) b block_fits passes) refl in
+      (written_fits H long t.now.history l.records (omega (arith, within, few)) None rules (chain_of t.now) b block_fits passes) refl in
       let same : message_for s b ≡ written_text ext m =
-      ap (λ x. told_if x (message_for s b)) (sym accepts) ∙ (one.passed ∙ ap (λ x. cond x (text_by H text None t.now e) None) made) in
+      ap (λ x. told_if x (message_for s b)) (sym accepts) ∙ (one.passed ∙ ap (λ x. cond x (text_by H None t.now e) None) made) in
       record {
         newer = newer;
         leads = record {
@@ -153,8 +152,8 @@ module _ (H : List ℕ → Digest) (text : Leaf → List ℕ) (long : Digests H)
           handed =
               ap handed_in same ∙ handed_again ext m again;
         };
-        stands = subst (λ x. Stands H text (pushed newer t) (bridge_by x (after_block H text s b) s)) accepts
-            (subst (λ (x : Option Refusal). Stands H text (by_refusal t b ev x).state (next_bridge H text s e)) passes one.stands);
+        stands = subst (λ x. Stands H (pushed newer t) (bridge_by x (after_block H s b) s)) accepts
+            (subst (λ (x : Option Refusal). Stands H (by_refusal t b ev x).state (next_bridge H s e)) passes one.stands);
         fits = subst (λ (x : Option Refusal). StateFits rules (by_refusal t b ev x).state) passes
             (step_fits rules own_judge t e block_fits beside.fits);
       }
@@ -170,9 +169,9 @@ module _ (H : List ℕ → Digest) (text : Leaf → List ℕ) (long : Digests H)
       pub state : State
       pub beside : IsBeside w.bridge state
       pub rest : List Level
-      pub line : Line H text rules w.sent levels w.chain ((state.now ∷ state.older) ++ rest)
-      pub replies : AllByRecursion (ReplyFits H text rules w.sent levels) w.replies
-      pub followers : AllZip (FollowerFits H text rules levels) lists w.followers
+      pub line : Line H rules w.sent levels w.chain ((state.now ∷ state.older) ++ rest)
+      pub replies : AllByRecursion (ReplyFits H rules w.sent levels) w.replies
+      pub followers : AllZip (FollowerFits H rules levels) lists w.followers
 
     module _ (P Q : ℕ → Level → Type 0) (w : WorldState) (sound : Sound P w) (keeps : (s : ℕ) (l : Level) → s ≤ length w.sent → P s l → Q s l) where
       abbrev levels : List Level
@@ -207,12 +206,12 @@ module _ (H : List ℕ → Digest) (text : Leaf → List ℕ) (long : Digests H)
       same_parts : Sound Q (with_parts w.bridge [] w.chain)
       same_parts = subst (λ sent. Sound Q (record w { sent = sent })) (sym (append-nil w.sent)) same_world
 
-      beside_then : (e : ChainEvent) (t' : State) (s' : BridgeState) → s' ≡ next_bridge H text w.bridge e → Stands H text t' s' → StateFits rules t'
+      beside_then : (e : ChainEvent) (t' : State) (s' : BridgeState) → s' ≡ next_bridge H w.bridge e → Stands H t' s' → StateFits rules t'
           → IsBeside s' t'
       beside_then e t' s' is stands fits = record {
-        same_rules = ap (λ (s : BridgeState). s.rules) is ∙ (kept_rules H text w.bridge e ∙ sound.beside.same_rules);
-        no_watch = ap (λ (s : BridgeState). s.watch) is ∙ (kept_watch H text w.bridge e ∙ sound.beside.no_watch);
-        is = subst (IsBridge H text) (sym is) (next_is_bridge H text w.bridge e sound.beside.is);
+        same_rules = ap (λ (s : BridgeState). s.rules) is ∙ (kept_rules H w.bridge e ∙ sound.beside.same_rules);
+        no_watch = ap (λ (s : BridgeState). s.watch) is ∙ (kept_watch H w.bridge e ∙ sound.beside.no_watch);
+        is = subst (IsBridge H) (sym is) (next_is_bridge H w.bridge e sound.beside.is);
         stands = stands;
         fits = fits;
       }
@@ -222,12 +221,12 @@ module _ (H : List ℕ → Digest) (text : Leaf → List ℕ) (long : Digests H)
       -- the serial that the act gives, if any, has the property
       module _ (next : WorldState) (new : (v : WorldState) (l : Level) → v ≡ next → length v.sent ≡ suc (length w.sent)
           → IsLevelOf rules l (blocks_of v.sent v.chain) → Q (suc (length w.sent)) l) where
-        serial_line : (x : Sent) (l : Level) → Leads H text rules t.now x l
-            → Line H text rules (w.sent ++ x ∷ []) (levels ++ l ∷ []) (suc (length w.sent) ∷ w.chain) (l ∷ all)
-        serial_line x l leads = by w.chain (line_more H text rules w.sent levels (x ∷ []) (l ∷ []) w.chain all sound.line)
+        serial_line : (x : Sent) (l : Level) → Leads H rules t.now x l
+            → Line H rules (w.sent ++ x ∷ []) (levels ++ l ∷ []) (suc (length w.sent) ∷ w.chain) (l ∷ all)
+        serial_line x l leads = by w.chain (line_more H rules w.sent levels (x ∷ []) (l ∷ []) w.chain all sound.line)
           where
-            by : (chain : List ℕ) → Line H text rules (w.sent ++ x ∷ []) (levels ++ l ∷ []) chain all
-                → Line H text rules (w.sent ++ x ∷ []) (levels ++ l ∷ []) (suc (length w.sent) ∷ chain) (l ∷ all)
+            by : (chain : List ℕ) → Line H rules (w.sent ++ x ∷ []) (levels ++ l ∷ []) chain all
+                → Line H rules (w.sent ++ x ∷ []) (levels ++ l ∷ []) (suc (length w.sent) ∷ chain) (l ∷ all)
             by [] line = absurd line
             by (s ∷ ss) line = (
               subst (λ n. slice_get (levels ++ l ∷ []) n ≡ Some l) sound.count (got_last levels l),
@@ -240,7 +239,7 @@ module _ (H : List ℕ → Digest) (text : Leaf → List ℕ) (long : Digests H)
             ap (λ ls. l ∷ (ls ++ sound.rest)) (sym (take-append-drop 100 (t.now ∷ t.older)))
             ∙ ap (λ ls. l ∷ ls) (append_assoc (take 100 (t.now ∷ t.older)) (drop 100 (t.now ∷ t.older)) sound.rest)
 
-        grown : (e : ChainEvent) (x : Sent) (s' : BridgeState) → s' ≡ next_bridge H text w.bridge e
+        grown : (e : ChainEvent) (x : Sent) (s' : BridgeState) → s' ≡ next_bridge H w.bridge e
             → with_parts s' (x ∷ []) (suc (length w.sent) ∷ w.chain) ≡ next → Extends t x.block x.message s' →
             Sound Q (with_parts s' (x ∷ []) (suc (length w.sent) ∷ w.chain))
         grown e x s' is is_next more =
@@ -254,14 +253,14 @@ module _ (H : List ℕ → Digest) (text : Leaf → List ℕ) (long : Digests H)
               count = omega (arith, count, one_level, one_sent);
               told = got_either levels l Q told_still
                   (subst (λ n. Q n l) (sym count) (new (with_parts s' (x ∷ []) (suc (length w.sent) ∷ w.chain)) l is_next (omega (arith, one_sent))
-                  (line_level H text rules (w.sent ++ x ∷ []) (levels ++ l ∷ []) (suc (length w.sent) ∷ w.chain) l all line)));
+                  (line_level H rules (w.sent ++ x ∷ []) (levels ++ l ∷ []) (suc (length w.sent) ∷ w.chain) l all line)));
               state = pushed l t;
               beside = beside_then e (pushed l t) s' is more.stands more.fits;
               rest = drop 100 (t.now ∷ t.older) ++ sound.rest;
-              line = subst (Line H text rules (w.sent ++ x ∷ []) (levels ++ l ∷ []) (suc (length w.sent) ∷ w.chain)) (pushed_front l) line;
-              replies = replies_more H text rules w.sent levels (x ∷ []) (l ∷ []) w.replies sound.replies;
-              followers = zip-weaker (FollowerFits H text rules levels) (FollowerFits H text rules (levels ++ l ∷ []))
-                  (λ scripts f fits. follower_more H text rules levels (l ∷ []) scripts f fits) lists w.followers sound.followers;
+              line = subst (Line H rules (w.sent ++ x ∷ []) (levels ++ l ∷ []) (suc (length w.sent) ∷ w.chain)) (pushed_front l) line;
+              replies = replies_more H rules w.sent levels (x ∷ []) (l ∷ []) w.replies sound.replies;
+              followers = zip-weaker (FollowerFits H rules levels) (FollowerFits H rules (levels ++ l ∷ []))
+                  (λ scripts f fits. follower_more H rules levels (l ∷ []) scripts f fits) lists w.followers sound.followers;
             }
 
         -- ---- an event
@@ -271,18 +270,18 @@ module _ (H : List ℕ → Digest) (text : Leaf → List ℕ) (long : Digests H)
         world_by bytes handed y =
             let e = BlockCame y handed in
             let v = verdict_on w.bridge e in
-            with_parts (next_bridge H text w.bridge e) (cond (is_accepted v) (record { block = bytes; message = message_on H w.bridge e } ∷ []) [])
+            with_parts (next_bridge H w.bridge e) (cond (is_accepted v) (record { block = bytes; message = message_on H w.bridge e } ∷ []) [])
             (chain_after v (suc (length w.sent)) w.chain)
 
         abbrev world_if : List ℕ → Block → Option Refusal → WorldState
         world_if bytes b x =
             let v = verdict_by w.bridge.chain b (length (new_records b w.bridge.chain.blocks)) x in
-            with_parts (bridge_by x (after_block H text w.bridge b) w.bridge)
+            with_parts (bridge_by x (after_block H w.bridge b) w.bridge)
             (cond (is_accepted v) (record { block = bytes; message = told_if x (message_for w.bridge b) } ∷ []) [])
             (chain_after v (suc (length w.sent)) w.chain)
 
-        with_block : (bytes : List ℕ) (message : Option (List ℕ)) → with_event H text w (Feed.BlockCame bytes message) ≡ next → IsBytes bytes
-            → Sound Q (with_event H text w (Feed.BlockCame bytes message))
+        with_block : (bytes : List ℕ) (message : Option (List ℕ)) → with_event H w (Feed.BlockCame bytes message) ≡ next → IsBytes bytes
+            → Sound Q (with_event H w (Feed.BlockCame bytes message))
         with_block bytes message is_next is_bytes = by_block (block_in bytes) refl
           where
             by_case : (b : Block) → block_in bytes ≡ Some b → (x : Option Refusal) → refusal_on w.bridge b ≡ x → Sound Q (world_if bytes b x)
@@ -290,8 +289,8 @@ module _ (H : List ℕ → Digest) (text : Leaf → List ℕ) (long : Digests H)
             by_case b reads None accepts =
                 let e = BlockCame (Some b) (handed_in message) in
                 let fits = subst (λ y. EventFits (BlockCame y (handed_in message))) reads (read_event_fits (Feed.BlockCame bytes message) is_bytes) in
-                grown e (record { block = bytes; message = message_for w.bridge b }) (after_block H text w.bridge b)
-                (ap (λ x. bridge_by x (after_block H text w.bridge b) w.bridge) (sym accepts))
+                grown e (record { block = bytes; message = message_for w.bridge b }) (after_block H w.bridge b)
+                (ap (λ x. bridge_by x (after_block H w.bridge b) w.bridge) (sym accepts))
                 (sym (ap (world_by bytes (handed_in message)) reads ∙ ap (world_if bytes b) accepts) ∙ is_next)
                 (extends w.bridge t bytes b (handed_in message) reads fits sound.beside accepts)
 
@@ -300,7 +299,7 @@ module _ (H : List ℕ → Digest) (text : Leaf → List ℕ) (long : Digests H)
             by_block (Some b) reads = by_case b reads (refusal_on w.bridge b) refl
 
         -- a rollback that was made
-        gone : (k : ℕ) → nat_le k (length w.bridge.undo) ≡ true → Sound Q (with_parts (gone_back H text k w.bridge) [] (drop k w.chain))
+        gone : (k : ℕ) → nat_le k (length w.bridge.undo) ≡ true → Sound Q (with_parts (gone_back H k w.bridge) [] (drop k w.chain))
         gone k can =
             let e = RollbackCame k in
             let one = as_own w.bridge t e sound.beside in
@@ -308,20 +307,20 @@ module _ (H : List ℕ → Digest) (text : Leaf → List ℕ) (long : Digests H)
             let can' : nat_le k (length t.older) ≡ true = deep_enough k made in
             let is_few = leb-true k (length t.older) can' in
             let t' = back k t.now t.older in
-            let stands : Stands H text t' (gone_back H text k w.bridge) =
-            subst (λ x. Stands H text t' (cond x (gone_back H text k w.bridge) w.bridge)) can
-            (subst (λ x. Stands H text (Outcome.state (cond x (rolled_back k t') (record { verdict = Some (TooDeep k (length t.older)); state = t })))
-            (next_bridge H text w.bridge e)) can' one.stands) in
-            subst (λ sent. Sound Q (record w { bridge = gone_back H text k w.bridge; sent = sent; chain = drop k w.chain })) (sym (append-nil w.sent))
+            let stands : Stands H t' (gone_back H k w.bridge) =
+            subst (λ x. Stands H t' (cond x (gone_back H k w.bridge) w.bridge)) can
+            (subst (λ x. Stands H (Outcome.state (cond x (rolled_back k t') (record { verdict = Some (TooDeep k (length t.older)); state = t })))
+            (next_bridge H w.bridge e)) can' one.stands) in
+            subst (λ sent. Sound Q (record w { bridge = gone_back H k w.bridge; sent = sent; chain = drop k w.chain })) (sym (append-nil w.sent))
             (record {
               levels = levels;
               count = sound.count;
               told = told_still;
               state = t';
-              beside = beside_then e t' (gone_back H text k w.bridge) (rw can refl) stands (gone_fits k can');
+              beside = beside_then e t' (gone_back H k w.bridge) (rw can refl) stands (gone_fits k can');
               rest = sound.rest;
-              line = subst (Line H text rules w.sent levels (drop k w.chain)) (back-drop k t.now t.older sound.rest is_few)
-                  (line-drop H text rules w.sent levels k w.chain all (longer k is_few) sound.line);
+              line = subst (Line H rules w.sent levels (drop k w.chain)) (back-drop k t.now t.older sound.rest is_few)
+                  (line-drop H rules w.sent levels k w.chain all (longer k is_few) sound.line);
               replies = sound.replies;
               followers = sound.followers;
             })
@@ -337,17 +336,17 @@ module _ (H : List ℕ → Digest) (text : Leaf → List ℕ) (long : Digests H)
             longer : (k : ℕ) → k ≤ length t.older → k < length all
             longer k few' = let more = length-append (t.now ∷ t.older) sound.rest in omega (arith, few', more)
 
-        with_back : (k : ℕ) → Sound Q (with_event H text w (Feed.RollbackCame k))
+        with_back : (k : ℕ) → Sound Q (with_event H w (Feed.RollbackCame k))
         with_back k = by (nat_le k (length w.bridge.undo)) refl
           where
             by : (x : Bool) → nat_le k (length w.bridge.undo) ≡ x →
                 let v = cond x (gone_to k (chain_back k w.bridge.chain w.bridge.undo)) (TooDeep k (length w.bridge.undo)) in
-                Sound Q (with_parts (cond x (gone_back H text k w.bridge) w.bridge) (cond (is_accepted v) [] [])
+                Sound Q (with_parts (cond x (gone_back H k w.bridge) w.bridge) (cond (is_accepted v) [] [])
                 (chain_after v (suc (length w.sent)) w.chain))
             by true can = gone k can
             by false deep = same_parts
 
-        bridge_sound : (event : FeedEvent) → with_event H text w event ≡ next → AreEventBytes event → Sound Q (with_event H text w event)
+        bridge_sound : (event : FeedEvent) → with_event H w event ≡ next → AreEventBytes event → Sound Q (with_event H w event)
         bridge_sound (Feed.BlockCame bytes message) is_next are = with_block bytes message is_next are
         bridge_sound (Feed.RollbackCame k) is_next are = with_back k
         bridge_sound Feed.StrayCame is_next are = same_parts
@@ -378,19 +377,19 @@ module _ (H : List ℕ → Digest) (text : Leaf → List ℕ) (long : Digests H)
           beside = sound.beside;
           rest = sound.rest;
           line = sound.line;
-          replies = all-push (ReplyFits H text rules w.sent levels) w.replies (reply_to w.chain serials) sound.replies
-              (reply_fits H text rules w.sent levels w.chain all sound.line serials);
+          replies = all-push (ReplyFits H rules w.sent levels) w.replies (reply_to w.chain serials) sound.replies
+              (reply_fits H rules w.sent levels w.chain all sound.line serials);
           followers = sound.followers;
         }
 
         deliver_sound : (f : ℕ) (x : Option FollowerState) (r : Option Reply) (j : ℕ) → slice_get w.followers f ≡ x → slice_get w.replies j ≡ r
-            → Sound Q (with_moved H text w f x r)
+            → Sound Q (with_moved H w f x r)
         deliver_sound f None r j at_f at_j = same_world
         deliver_sound f (Some x) None j at_f at_j = same_world
         deliver_sound f (Some x) (Some r) j at_f at_j = by (applies r x) refl
           where
             by : (b : Bool) → applies r x ≡ b → Sound Q
-                (record w { followers = cond b (slice_set w.followers f (moved H text w.sent r.kind x)) w.followers })
+                (record w { followers = cond b (slice_set w.followers f (moved H w.sent r.kind x)) w.followers })
             by false a = same_world
             by true a = record {
               levels = levels;
@@ -401,12 +400,12 @@ module _ (H : List ℕ → Digest) (text : Leaf → List ℕ) (long : Digests H)
               rest = sound.rest;
               line = sound.line;
               replies = sound.replies;
-              followers = zip-set (FollowerFits H text rules levels) lists w.followers f x (moved H text w.sent r.kind x) sound.followers at_f
-                  (λ scripts fits. (reply_moves H text rules w.sent levels scripts x fits r a
-                  (all-at (ReplyFits H text rules w.sent levels) w.replies j r sound.replies at_j)).follower);
+              followers = zip-set (FollowerFits H rules levels) lists w.followers f x (moved H w.sent r.kind x) sound.followers at_f
+                  (λ scripts fits. (reply_moves H rules w.sent levels scripts x fits r a
+                  (all-at (ReplyFits H rules w.sent levels) w.replies j r sound.replies at_j)).follower);
             }
 
-        pub act_sound : (act : WorldAct) → next_world H text w act ≡ next → AreActBytes act → Sound Q (next_world H text w act)
+        pub act_sound : (act : WorldAct) → next_world H w act ≡ next → AreActBytes act → Sound Q (next_world H w act)
         act_sound (BridgeTook event) is_next are = bridge_sound event is_next are
         act_sound (FollowerAsked f) is_next are = ask_sound (slice_get w.followers f)
         act_sound (AskServed j) is_next are = reply_sound (slice_get w.asks j)

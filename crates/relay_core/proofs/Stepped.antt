@@ -6,7 +6,6 @@ use Rattle.std.proofs.lemmas.List.{append-nil}
 use Rattle.std.proofs.lemmas.Option.{same_Some}
 use Rattle.uo_base.specs.FeedEvent.{BlockCame, RollbackCame}
 use Rattle.uo_digest.specs.declared.digest.Digest.{Digest}
-use Rattle.leaf_record.specs.Leaf.{Leaf}
 use Rattle.node_rules.specs.Machine.{event_in}
 use Rattle.bridge_prover.specs.Bridge.{BridgeState, verdict_on, next_bridge, message_on}
 use Rattle.relay_core.specs.declared.store.Reply.{Reply}
@@ -18,43 +17,43 @@ set_same [] i x e = refl
 set_same (z ∷ xs) zero x e = ap (λ y. y ∷ xs) (sym (same_Some z x e))
 set_same (z ∷ xs) (suc i) x e = ap (λ ys. z ∷ ys) (set_same xs i x e)
 
-module _ (H : List ℕ → Digest) (text : Leaf → List ℕ) (w : WorldState) where
+module _ (H : List ℕ → Digest) (w : WorldState) where
   -- the bridge went back: nothing is sent
   none_sent : (b : Bool) → w.sent ≡ w.sent ++ cond b [] []
   none_sent true = sym (append-nil w.sent)
   none_sent false = sym (append-nil w.sent)
 
   rolled : (count : ℕ) (bridge : BridgeState) (chain : List ℕ) → let e = event_in (RollbackCame count) in
-      bridge ≡ next_bridge H text w.bridge e → chain ≡ chain_after (verdict_on w.bridge e) (suc (length w.sent)) w.chain
-      → record w { bridge = bridge; chain = chain } ≡ with_event H text w (RollbackCame count)
+      bridge ≡ next_bridge H w.bridge e → chain ≡ chain_after (verdict_on w.bridge e) (suc (length w.sent)) w.chain
+      → record w { bridge = bridge; chain = chain } ≡ with_event H w (RollbackCame count)
   rolled count bridge chain p q =
       let e = event_in (RollbackCame count) in
       let made = λ (b : BridgeState) (c : List ℕ) (s : List Sent). let v : WorldState = record w { bridge = b; sent = s; chain = c } in v in
-      ap₂ (λ b c. made b c w.sent) p q ∙ ap (made (next_bridge H text w.bridge e) (chain_after (verdict_on w.bridge e) (suc (length w.sent)) w.chain))
+      ap₂ (λ b c. made b c w.sent) p q ∙ ap (made (next_bridge H w.bridge e) (chain_after (verdict_on w.bridge e) (suc (length w.sent)) w.chain))
       (none_sent (is_accepted (verdict_on w.bridge e)))
 
   pub rolled_ok : {T E : Type 0} (r : Result T E) (count : ℕ) (bridge : BridgeState) (chain : List ℕ) → let e = event_in (RollbackCame count) in
-      OnOk r (bridge ≡ next_bridge H text w.bridge e) → ((serial : ℕ) → OnOk r (chain ≡ chain_after (verdict_on w.bridge e) serial w.chain))
-      → OnOk r (record w { bridge = bridge; chain = chain } ≡ with_event H text w (RollbackCame count))
+      OnOk r (bridge ≡ next_bridge H w.bridge e) → ((serial : ℕ) → OnOk r (chain ≡ chain_after (verdict_on w.bridge e) serial w.chain))
+      → OnOk r (record w { bridge = bridge; chain = chain } ≡ with_event H w (RollbackCame count))
   rolled_ok (Ok x) count bridge chain p q = rolled count bridge chain p (q (suc (length w.sent)))
   rolled_ok (Err e) count bridge chain p q = tt
 
   -- a follower took a reply
   handed : (f : ℕ) (x y : FollowerState) (r : Reply) (j : ℕ) → slice_get w.followers f ≡ Some x → slice_get w.replies j ≡ Some r
-      → y ≡ cond (applies r x) (moved H text w.sent r.kind x) x →
-      record w { followers = slice_set w.followers f y } ≡ with_moved H text w f (slice_get w.followers f) (slice_get w.replies j)
+      → y ≡ cond (applies r x) (moved H w.sent r.kind x) x →
+      record w { followers = slice_set w.followers f y } ≡ with_moved H w f (slice_get w.followers f) (slice_get w.replies j)
   handed f x y r j at_f at_j is =
       let made = λ (xs : List FollowerState). let v : WorldState = record w { followers = xs } in v in
-      ap (λ z. made (slice_set w.followers f z)) is ∙ (ap made (by (applies r x)) ∙ ap₂ (λ a b. with_moved H text w f a b) (sym at_f) (sym at_j))
+      ap (λ z. made (slice_set w.followers f z)) is ∙ (ap made (by (applies r x)) ∙ ap₂ (λ a b. with_moved H w f a b) (sym at_f) (sym at_j))
     where
-      by : (b : Bool) → slice_set w.followers f (cond b (moved H text w.sent r.kind x) x)
-          ≡ cond b (slice_set w.followers f (moved H text w.sent r.kind x)) w.followers
+      by : (b : Bool) → slice_set w.followers f (cond b (moved H w.sent r.kind x) x)
+          ≡ cond b (slice_set w.followers f (moved H w.sent r.kind x)) w.followers
       by true = refl
       by false = set_same w.followers f x at_f
 
   pub handed_ok : {T E : Type 0} (a : Result T E) (f : ℕ) (x y : FollowerState) (r : Reply) (j : ℕ) → slice_get w.followers f ≡ Some x
-      → slice_get w.replies j ≡ Some r → OnOk a (y ≡ cond (applies r x) (moved H text w.sent r.kind x) x) →
-      OnOk a (record w { followers = slice_set w.followers f y } ≡ with_moved H text w f (slice_get w.followers f) (slice_get w.replies j))
+      → slice_get w.replies j ≡ Some r → OnOk a (y ≡ cond (applies r x) (moved H w.sent r.kind x) x) →
+      OnOk a (record w { followers = slice_set w.followers f y } ≡ with_moved H w f (slice_get w.followers f) (slice_get w.replies j))
   handed_ok (Ok z) f x y r j at_f at_j h = handed f x y r j at_f at_j h
   handed_ok (Err e) f x y r j at_f at_j h = tt
 
@@ -70,14 +69,14 @@ module _ (H : List ℕ → Digest) (text : Leaf → List ℕ) (w : WorldState) w
       (chain : List ℕ) →
       let event = BlockCame bytes message in
       let e = event_in event in
-      OnOk r (bridge ≡ next_bridge H text w.bridge e) → OnOk r (sent ≡ sent_after (verdict_on w.bridge e) event (message_on H w.bridge e) w.sent) →
+      OnOk r (bridge ≡ next_bridge H w.bridge e) → OnOk r (sent ≡ sent_after (verdict_on w.bridge e) event (message_on H w.bridge e) w.sent) →
       OnOk r (chain ≡ chain_after (verdict_on w.bridge e) (suc (length w.sent)) w.chain)
-      → OnOk r (record w { bridge = bridge; sent = sent; chain = chain } ≡ with_event H text w event)
+      → OnOk r (record w { bridge = bridge; sent = sent; chain = chain } ≡ with_event H w event)
   taken_ok (Ok x) bytes message bridge sent chain p q s =
       let event = BlockCame bytes message in
       let e = event_in event in
       let made = λ (b : BridgeState) (c : List ℕ) (x : List Sent). let v : WorldState = record w { bridge = b; sent = x; chain = c } in v in
-      ap₂ (λ b c. made b c sent) p s ∙ ap (made (next_bridge H text w.bridge e) (chain_after (verdict_on w.bridge e) (suc (length w.sent)) w.chain)) q
+      ap₂ (λ b c. made b c sent) p s ∙ ap (made (next_bridge H w.bridge e) (chain_after (verdict_on w.bridge e) (suc (length w.sent)) w.chain)) q
   taken_ok (Err e) bytes message bridge sent chain p q s = tt
 
   pub taken_err : {T E : Type 0} (r : Result T E) (bridge : BridgeState) (sent : List Sent) (chain : List ℕ) → OnErr r (bridge ≡ w.bridge)

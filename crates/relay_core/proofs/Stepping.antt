@@ -5,7 +5,6 @@ use Rattle.std.specs.Prelude.{IfOk, OnOk, OnErr, slice_get}
 use Rattle.std.proofs.lemmas.List.{length-append}
 use Rattle.uo_base.specs.FeedEvent.{FeedEvent, BlockCame, RollbackCame, StrayCame}
 use Rattle.uo_digest.specs.declared.digest.Digest.{Digest}
-use Rattle.leaf_record.specs.Leaf.{Leaf}
 use Rattle.node_rules.specs.Machine.{event_in}
 use Rattle.bridge_prover.specs.Bridge.{verdict_on, message_on}
 use Rattle.relay_core.specs.declared.act.Outcome.{Outcome}
@@ -31,8 +30,8 @@ one_sent (RollbackCame count) message true = omega arith
 one_sent StrayCame message true = omega arith
 one_sent event message false = omega arith
 
-module _ (H : List ℕ → Digest) (text : Leaf → List ℕ) where
-  given_one : (w : WorldState) (act : WorldAct) → length (next_world H text w act).sent ≤ length w.sent + 1
+module _ (H : List ℕ → Digest) where
+  given_one : (w : WorldState) (act : WorldAct) → length (next_world H w act).sent ≤ length w.sent + 1
   given_one w (BridgeTook event) =
       let e = event_in event in
       let few = one_sent event (message_on H w.bridge e) (is_accepted (verdict_on w.bridge e)) in
@@ -49,29 +48,29 @@ module _ (H : List ℕ → Digest) (text : Leaf → List ℕ) where
       by (Some x) = omega arith
   given_one w (ReplyDelivered f j) = omega arith
 
-  pub counted : {T E : Type 0} (r : Result T E) (w v : WorldState) (act : WorldAct) → OnOk r (v ≡ next_world H text w act) → OnErr r (v ≡ w)
+  pub counted : {T E : Type 0} (r : Result T E) (w v : WorldState) (act : WorldAct) → OnOk r (v ≡ next_world H w act) → OnErr r (v ≡ w)
       → length v.sent ≤ length w.sent + 1
   counted r w v act next stays =
-      either r (v ≡ next_world H text w act) (v ≡ w) (length v.sent ≤ length w.sent + 1) next stays
+      either r (v ≡ next_world H w act) (v ≡ w) (length v.sent ≤ length w.sent + 1) next stays
       (λ is. subst (λ u. length u.sent ≤ length w.sent + 1) (sym is) (given_one w act))
       (λ is. subst (λ u. length u.sent ≤ length w.sent + 1) (sym is) (omega arith))
 
-  pub stands_on : (w v : WorldState) (act : WorldAct) → AreActBytes act → v ≡ next_world H text w act →
-      (begun : Begun) (acts : List WorldAct) → StandsForActs H text begun acts w → StandsForActs H text begun (acts ++ act ∷ []) v
+  pub stands_on : (w v : WorldState) (act : WorldAct) → AreActBytes act → v ≡ next_world H w act →
+      (begun : Begun) (acts : List WorldAct) → StandsForActs H begun acts w → StandsForActs H begun (acts ++ act ∷ []) v
   stands_on w v act are is begun acts stands =
-      subst (StandsForActs H text begun (acts ++ act ∷ [])) (sym is) ((acts_are_followed H text begun).1 acts w act are stands)
+      subst (StandsForActs H begun (acts ++ act ∷ [])) (sym is) ((acts_are_followed H begun).1 acts w act are stands)
 
-  pub branches_on : Digests H → (w v : WorldState) (act : WorldAct) → AreActBytes act → v ≡ next_world H text w act →
-      (begun : Begun) (acts : List WorldAct) → StandsForActs H text begun acts w → AreOnBranches H text begun (acts ++ act ∷ []) v
+  pub branches_on : Digests H → (w v : WorldState) (act : WorldAct) → AreActBytes act → v ≡ next_world H w act →
+      (begun : Begun) (acts : List WorldAct) → StandsForActs H begun acts w → AreOnBranches H begun (acts ++ act ∷ []) v
   branches_on long w v act are is begun acts stands =
-      followers_are_on_branches H text long begun (acts ++ act ∷ []) v (stands_on w v act are is begun acts stands)
+      followers_are_on_branches H long begun (acts ++ act ∷ []) v (stands_on w v act are is begun acts stands)
 
-  pub never_against : Digests H → (w : WorldState) (begun : Begun) (acts : List WorldAct) → StandsForActs H text begun acts w
-      → IsNeverRefused H text w
-  never_against long w begun acts stands = replies_are_never_refused H text long begun acts w stands
+  pub never_against : Digests H → (w : WorldState) (begun : Begun) (acts : List WorldAct) → StandsForActs H begun acts w
+      → IsNeverRefused H w
+  never_against long w begun acts stands = replies_are_never_refused H long begun acts w stands
 
   pub told_on : {E : Type 0} (r : Result Outcome E) (w v : WorldState) (act : WorldAct) → IfOk r (λ o. o ≡ outcome_on w act)
-      → OnOk r (v ≡ next_world H text w act) → IfOk r (λ o. ChangesAsTold o w v)
+      → OnOk r (v ≡ next_world H w act) → IfOk r (λ o. ChangesAsTold o w v)
   told_on (Ok o) w v act is next =
-      subst (λ p. ChangesAsTold p w v) (sym is) (subst (ChangesAsTold (outcome_on w act) w) (sym next) (outcomes_tell_changes H text w act))
+      subst (λ p. ChangesAsTold p w v) (sym is) (subst (ChangesAsTold (outcome_on w act) w) (sym next) (outcomes_tell_changes H w act))
   told_on (Err e) w v act is next = tt

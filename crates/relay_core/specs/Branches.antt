@@ -1,4 +1,4 @@
--- The branches of the bridge, and what holds of followers beside them, whatever the digest function and the leaf text.
+-- The branches of the bridge, and what holds of followers beside them, whatever the digest function.
 use Rattle.std.specs.Prelude.{◌≡◌, ℕ, ◌<◌, ◌≤◌, ◌^◌, nat_le, true, List, [], ◌∷◌, ◌++◌, map, length, slice_get, Option, Some, None, option_map}
 use Rattle.std.specs.Prelude.{if◌then◌else◌}
 use Rattle.std.specs.List.{AllByRecursion, AllZip}
@@ -8,7 +8,6 @@ use Rattle.uo_digest.specs.declared.digest.Digest.{Digest}
 use Rattle.forest_model.specs.Content.{IsDigest}
 use Rattle.block_codec.specs.Block.{Block, block_hash_of}
 use Rattle.block_codec.specs.Reading.{block_in}
-use Rattle.leaf_record.specs.Leaf.{Leaf}
 use Rattle.leaf_record.specs.History.{somes}
 use Rattle.node_rules.specs.Reading.{nothing}
 use Rattle.node_rules.specs.Fitting.{AreEventBytes}
@@ -26,13 +25,13 @@ abbrev pub blocks_of : List Sent → List ℕ → List (List ℕ)
 blocks_of sent chain = somes (map (λ s. option_map (λ x. x.block) (sent_at sent s)) chain)
 
 -- the world right after the act at which a serial was given; for 0 the one at the start
-abbrev pub world_at : (List ℕ → Digest) → (Leaf → List ℕ) → WorldState → List WorldAct → ℕ → WorldState
-world_at H text w [] s = w
-world_at H text w (act ∷ acts) s = if nat_le s (length w.sent) then w else world_at H text (next_world H text w act) acts s
+abbrev pub world_at : (List ℕ → Digest) → WorldState → List WorldAct → ℕ → WorldState
+world_at H w [] s = w
+world_at H w (act ∷ acts) s = if nat_le s (length w.sent) then w else world_at H (next_world H w act) acts s
 
 -- the blocks of the bridge's chain then
-abbrev pub branch : (List ℕ → Digest) → (Leaf → List ℕ) → WorldState → List WorldAct → ℕ → List (List ℕ)
-branch H text w acts s = let made = world_at H text w acts s in blocks_of made.sent made.chain
+abbrev pub branch : (List ℕ → Digest) → WorldState → List WorldAct → ℕ → List (List ℕ)
+branch H w acts s = let made = world_at H w acts s in blocks_of made.sent made.chain
 
 -- the proving node after the blocks of a branch
 abbrev pub proved_after : Rules → List (List ℕ) → State
@@ -73,28 +72,28 @@ abbrev pub begun_world : Begun → WorldState
 begun_world begun = fresh_world begun.net begun.limits begun.lists
 
 -- bridge, serials, asks, replies and followers are those that these acts make from the start
-pub record StandsForActs (H : List ℕ → Digest) (text : Leaf → List ℕ) (begun : Begun) (acts : List WorldAct) (w : WorldState) : Type 0 where
+pub record StandsForActs (H : List ℕ → Digest) (begun : Begun) (acts : List WorldAct) (w : WorldState) : Type 0 where
   pub leaves : begun.limits.leaves < 2 ^ 40
   pub bytes : begun.limits.bytes ≤ 2 ^ 48
   pub all : AllByRecursion AreActBytes acts
-  pub is : w ≡ world_after H text (begun_world begun) acts
+  pub is : w ≡ world_after H (begun_world begun) acts
 
 -- ---- where the followers are
 
 -- the newest serial of a follower was given, or is 0; the follower has the chain of its branch, and stands in roots and cache, with its own
 -- watch list, for all outputs of the proving node after this branch
-pub record IsOnBranch (H : List ℕ → Digest) (text : Leaf → List ℕ) (begun : Begun) (acts : List WorldAct) (scripts : List (List ℕ))
+pub record IsOnBranch (H : List ℕ → Digest) (begun : Begun) (acts : List WorldAct) (scripts : List (List ℕ))
     (x : FollowerState) : Type 0 where
-  pub given : newest_of x.serials ≤ length (world_after H text (begun_world begun) acts).sent
-  pub blocks : x.node.newest.chain.blocks ≡ length (branch H text (begun_world begun) acts (newest_of x.serials))
-  pub tip : x.node.newest.chain.tip ≡ tip_of (branch H text (begun_world begun) acts (newest_of x.serials))
-  pub stands : LevelStands H text scripts (level_after_all (rules_of begun) (branch H text (begun_world begun) acts (newest_of x.serials)))
+  pub given : newest_of x.serials ≤ length (world_after H (begun_world begun) acts).sent
+  pub blocks : x.node.newest.chain.blocks ≡ length (branch H (begun_world begun) acts (newest_of x.serials))
+  pub tip : x.node.newest.chain.tip ≡ tip_of (branch H (begun_world begun) acts (newest_of x.serials))
+  pub stands : LevelStands H scripts (level_after_all (rules_of begun) (branch H (begun_world begun) acts (newest_of x.serials)))
       x.node.newest
   pub watch : x.node.scripts ≡ scripts
 
 -- each follower is
-abbrev pub AreOnBranches : (List ℕ → Digest) → (Leaf → List ℕ) → Begun → List WorldAct → WorldState → Type 0
-AreOnBranches H text begun acts w = AllZip (IsOnBranch H text begun acts) begun.lists w.followers
+abbrev pub AreOnBranches : (List ℕ → Digest) → Begun → List WorldAct → WorldState → Type 0
+AreOnBranches H begun acts w = AllZip (IsOnBranch H begun acts) begun.lists w.followers
 
 -- a digest has 32 bytes
 abbrev pub Digests : (List ℕ → Digest) → Type 0
@@ -102,28 +101,28 @@ Digests H = (x : List ℕ) → IsDigest (H x)
 
 -- after every list of acts
 abbrev pub FollowersAreOnBranches : Type 0
-FollowersAreOnBranches = (H : List ℕ → Digest) (text : Leaf → List ℕ) → Digests H → (begun : Begun) (acts : List WorldAct) (w : WorldState) →
-    StandsForActs H text begun acts w → AreOnBranches H text begun acts w
+FollowersAreOnBranches = (H : List ℕ → Digest) → Digests H → (begun : Begun) (acts : List WorldAct) (w : WorldState) →
+    StandsForActs H begun acts w → AreOnBranches H begun acts w
 
 -- two followers with one serial have equal chains and roots
 abbrev pub OneSerialOneChain : Type 0
-OneSerialOneChain = (H : List ℕ → Digest) (text : Leaf → List ℕ) → Digests H → (begun : Begun) (acts : List WorldAct) (w : WorldState) →
-    StandsForActs H text begun acts w → (f g : ℕ) (x y : FollowerState) → slice_get w.followers f ≡ Some x → slice_get w.followers g ≡ Some y →
+OneSerialOneChain = (H : List ℕ → Digest) → Digests H → (begun : Begun) (acts : List WorldAct) (w : WorldState) →
+    StandsForActs H begun acts w → (f g : ℕ) (x y : FollowerState) → slice_get w.followers f ≡ Some x → slice_get w.followers g ≡ Some y →
     newest_of x.serials ≡ newest_of y.serials → (x.node.newest.chain ≡ y.node.newest.chain) × (x.node.newest.roots ≡ y.node.newest.roots)
 
 -- a reply that applies is not refused by the node: it accepts the block, or goes back
-abbrev pub IsNeverRefused : (List ℕ → Digest) → (Leaf → List ℕ) → WorldState → Type 0
-IsNeverRefused H text w = (f j : ℕ) (x : FollowerState) (r : Reply) → slice_get w.followers f ≡ Some x → slice_get w.replies j ≡ Some r
+abbrev pub IsNeverRefused : (List ℕ → Digest) → WorldState → Type 0
+IsNeverRefused H w = (f j : ℕ) (x : FollowerState) (r : Reply) → slice_get w.followers f ≡ Some x → slice_get w.replies j ≡ Some r
     → applies r x ≡ true →
-    is_made (Some (verdict_on H text x.node (event_in (event_for w.sent r.kind)))) ≡ true
+    is_made (Some (verdict_on H x.node (event_in (event_for w.sent r.kind)))) ≡ true
 
 abbrev pub RepliesAreNeverRefused : Type 0
-RepliesAreNeverRefused = (H : List ℕ → Digest) (text : Leaf → List ℕ) → Digests H → (begun : Begun) (acts : List WorldAct) (w : WorldState) →
-    StandsForActs H text begun acts w → IsNeverRefused H text w
+RepliesAreNeverRefused = (H : List ℕ → Digest) → Digests H → (begun : Begun) (acts : List WorldAct) (w : WorldState) →
+    StandsForActs H begun acts w → IsNeverRefused H w
 
 -- a world at its start stands for no act, and one that stands for some acts stands behind a further act for these and that one
 abbrev pub ActsAreFollowed : Type 0
-ActsAreFollowed = (H : List ℕ → Digest) (text : Leaf → List ℕ) (begun : Begun) →
-    (begun.limits.leaves < 2 ^ 40 → begun.limits.bytes ≤ 2 ^ 48 → StandsForActs H text begun [] (begun_world begun))
-    × ((acts : List WorldAct) (w : WorldState) (act : WorldAct) → AreActBytes act → StandsForActs H text begun acts w
-    → StandsForActs H text begun (acts ++ act ∷ []) (next_world H text w act))
+ActsAreFollowed = (H : List ℕ → Digest) (begun : Begun) →
+    (begun.limits.leaves < 2 ^ 40 → begun.limits.bytes ≤ 2 ^ 48 → StandsForActs H begun [] (begun_world begun))
+    × ((acts : List WorldAct) (w : WorldState) (act : WorldAct) → AreActBytes act → StandsForActs H begun acts w
+    → StandsForActs H begun (acts ++ act ∷ []) (next_world H w act))

@@ -1,7 +1,6 @@
 -- What an outcome tells of the bridge and of the followers.
 use Rattle.std.specs.Prelude.{◌≡◌, ℕ, Bool, true, false, List, Some}
 use Rattle.uo_digest.specs.declared.digest.Digest.{Digest}
-use Rattle.leaf_record.specs.Leaf.{Leaf}
 use Rattle.node_rules.specs.Machine.{is_made}
 use Rattle.relay_core.specs.declared.act.Outcome.{Outcome}
 use Rattle.relay_core.specs.declared.act.Outcome.TheVariants.{Judged, Asked, Replied, Moved, Stale, Unknown}
@@ -32,5 +31,5 @@ pub record ChangesAsTold (o : Outcome) (w w' : WorldState) : Type 0 where
   pub followers : moves_node o ≡ false → w'.followers ≡ w.followers
 
 abbrev pub OutcomesTellChanges : Type 0
-OutcomesTellChanges = (H : List ℕ → Digest) (text : Leaf → List ℕ) (w : WorldState) (act : WorldAct)
-    → ChangesAsTold (outcome_on w act) w (next_world H text w act)
+OutcomesTellChanges = (H : List ℕ → Digest) (w : WorldState) (act : WorldAct)
+    → ChangesAsTold (outcome_on w act) w (next_world H w act)

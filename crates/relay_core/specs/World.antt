@@ -5,7 +5,6 @@ use Rattle.uo_base.specs.declared.event.Limits.{Limits}
 use Rattle.uo_base.specs.declared.event.Net.{Net}
 use Rattle.uo_base.specs.FeedEvent.{FeedEvent, BlockCame, RollbackCame, StrayCame}
 use Rattle.uo_digest.specs.declared.digest.Digest.{Digest}
-use Rattle.leaf_record.specs.Leaf.{Leaf}
 use Rattle.block_rules.specs.declared.verdict.Verdict.{Verdict}
 use Rattle.block_rules.specs.declared.verdict.Verdict.TheVariants.{Accepted, Refused, RolledBack, TooDeep, Stray}
 use Rattle.node_rules.specs.Machine.{event_in}
@@ -84,12 +83,12 @@ sent_of StrayCame message = []
 abbrev pub sent_after : Verdict → FeedEvent → Option (List ℕ) → List Sent → List Sent
 sent_after v event message sent = sent ++ (if is_accepted v then sent_of event message else [])
 
-abbrev pub with_event : (List ℕ → Digest) → (Leaf → List ℕ) → WorldState → FeedEvent → WorldState
-with_event H text w event =
+abbrev pub with_event : (List ℕ → Digest) → WorldState → FeedEvent → WorldState
+with_event H w event =
     let e = event_in event in
     let v = verdict_on w.bridge e in
     record w {
-      bridge = next_bridge H text w.bridge e;
+      bridge = next_bridge H w.bridge e;
       sent = sent_after v event (message_on H w.bridge e) w.sent;
       chain = chain_after v (suc (length w.sent)) w.chain;
     }
@@ -177,17 +176,17 @@ serials_after Same serials = serials
 serials_after (Back count) serials = drop count serials
 serials_after Lost serials = serials
 
-abbrev pub moved : (List ℕ → Digest) → (Leaf → List ℕ) → List Sent → Kind → FollowerState → FollowerState
-moved H text sent kind x = record { node = next_node H text x.node (event_in (event_for sent kind)); serials = serials_after kind x.serials }
+abbrev pub moved : (List ℕ → Digest) → List Sent → Kind → FollowerState → FollowerState
+moved H sent kind x = record { node = next_node H x.node (event_in (event_for sent kind)); serials = serials_after kind x.serials }
 
-abbrev pub followers_after : (List ℕ → Digest) → (Leaf → List ℕ) → List Sent → List FollowerState → ℕ → Option FollowerState → Option Reply
+abbrev pub followers_after : (List ℕ → Digest) → List Sent → List FollowerState → ℕ → Option FollowerState → Option Reply
     → List FollowerState
-followers_after H text sent followers f None r = followers
-followers_after H text sent followers f (Some x) None = followers
-followers_after H text sent followers f (Some x) (Some r) = if applies r x then slice_set followers f (moved H text sent r.kind x) else followers
+followers_after H sent followers f None r = followers
+followers_after H sent followers f (Some x) None = followers
+followers_after H sent followers f (Some x) (Some r) = if applies r x then slice_set followers f (moved H sent r.kind x) else followers
 
-abbrev pub with_moved : (List ℕ → Digest) → (Leaf → List ℕ) → WorldState → ℕ → Option FollowerState → Option Reply → WorldState
-with_moved H text w f x r = record w { followers = followers_after H text w.sent w.followers f x r }
+abbrev pub with_moved : (List ℕ → Digest) → WorldState → ℕ → Option FollowerState → Option Reply → WorldState
+with_moved H w f x r = record w { followers = followers_after H w.sent w.followers f x r }
 
 abbrev pub delivered : Option FollowerState → Option Reply → Outcome
 delivered None r = Unknown
@@ -196,11 +195,11 @@ delivered (Some x) (Some r) = if applies r x then Moved (newest_of (serials_afte
 
 -- ---- an act
 
-abbrev pub next_world : (List ℕ → Digest) → (Leaf → List ℕ) → WorldState → WorldAct → WorldState
-next_world H text w (BridgeTook event) = with_event H text w event
-next_world H text w (FollowerAsked f) = with_ask w (slice_get w.followers f)
-next_world H text w (AskServed j) = with_reply w (slice_get w.asks j)
-next_world H text w (ReplyDelivered f j) = with_moved H text w f (slice_get w.followers f) (slice_get w.replies j)
+abbrev pub next_world : (List ℕ → Digest) → WorldState → WorldAct → WorldState
+next_world H w (BridgeTook event) = with_event H w event
+next_world H w (FollowerAsked f) = with_ask w (slice_get w.followers f)
+next_world H w (AskServed j) = with_reply w (slice_get w.asks j)
+next_world H w (ReplyDelivered f j) = with_moved H w f (slice_get w.followers f) (slice_get w.replies j)
 
 abbrev pub outcome_on : WorldState → WorldAct → Outcome
 outcome_on w (BridgeTook event) = Judged (verdict_on w.bridge (event_in event))
@@ -210,10 +209,10 @@ outcome_on w (ReplyDelivered f j) = delivered (slice_get w.followers f) (slice_g
 
 -- ---- a list of acts
 
-abbrev pub world_after : (List ℕ → Digest) → (Leaf → List ℕ) → WorldState → List WorldAct → WorldState
-world_after H text w [] = w
-world_after H text w (act ∷ acts) = world_after H text (next_world H text w act) acts
+abbrev pub world_after : (List ℕ → Digest) → WorldState → List WorldAct → WorldState
+world_after H w [] = w
+world_after H w (act ∷ acts) = world_after H (next_world H w act) acts
 
-abbrev pub outcomes_on : (List ℕ → Digest) → (Leaf → List ℕ) → WorldState → List WorldAct → List Outcome
-outcomes_on H text w [] = []
-outcomes_on H text w (act ∷ acts) = outcome_on w act ∷ outcomes_on H text (next_world H text w act) acts
+abbrev pub outcomes_on : (List ℕ → Digest) → WorldState → List WorldAct → List Outcome
+outcomes_on H w [] = []
+outcomes_on H w (act ∷ acts) = outcome_on w act ∷ outcomes_on H (next_world H w act) acts

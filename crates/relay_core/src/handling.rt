@@ -3,7 +3,6 @@ ghost use Rattle.std.specs.Prelude.{◌≡◌, ◌<◌, ◌≤◌, ◌^◌, ◌+
 ghost use Rattle.std.specs.Prelude.{OnOk, OnErr};
 ghost use Rattle.std.specs.Vec.{vec_len, vec_capacity};
 ghost use Rattle.uo_base.specs.FeedEvent as Feed;
-ghost use Rattle.leaf_record.specs.Leaf.{leaf_text};
 ghost use Rattle.node_rules.specs.Machine.{event_in};
 ghost use Rattle.bridge_prover.specs.Bridge.{verdict_on, next_bridge, message_on};
 ghost use Rattle.relay_core.specs.World.{Sent, chain_after, is_accepted, sent_after};
@@ -32,7 +31,7 @@ pub(crate) fn take_block<D: Digester, L: Ledger>(
     requires rising { IsRising (length sent.old.items) chain.old.items }
     ensures verdict { let e = event_in (Feed.BlockCame block.now (option_copied message.entry)) in IfOk result (λ v. v ≡ verdict_on bridge.old e) }
     ensures bridge { let e = event_in (Feed.BlockCame block.now (option_copied message.entry)) in
-        OnOk result (bridge.new ≡ next_bridge D.digest_of leaf_text bridge.old e) }
+        OnOk result (bridge.new ≡ next_bridge D.digest_of bridge.old e) }
     ensures sent { let event = Feed.BlockCame block.now (option_copied message.entry) in
         OnOk result (sent.new.items ≡ sent_after (verdict_on bridge.old (event_in event)) event (message_on D.digest_of bridge.old (event_in event))
         sent.old.items) }
@@ -78,7 +77,7 @@ pub(crate) fn roll_back<D: Digester, L: Ledger>(
 ) -> Result<Verdict, NoMemory>
     requires { IsRising given chain.old.items }
     ensures verdict { IfOk result (λ v. v ≡ verdict_on bridge.old (event_in (Feed.RollbackCame count))) }
-    ensures bridge { OnOk result (bridge.new ≡ next_bridge D.digest_of leaf_text bridge.old (event_in (Feed.RollbackCame count))) }
+    ensures bridge { OnOk result (bridge.new ≡ next_bridge D.digest_of bridge.old (event_in (Feed.RollbackCame count))) }
     ensures chain { (serial : ℕ) → OnOk result
         (reverse chain.new.items ≡ chain_after (verdict_on bridge.old (event_in (Feed.RollbackCame count))) serial (reverse chain.old.items)) }
     ensures rising { IsRising given chain.new.items }

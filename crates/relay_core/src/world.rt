@@ -4,7 +4,6 @@ ghost use Rattle.std.specs.Prelude.{option_copied, if◌then◌else◌, ◌-◌,
 ghost use Rattle.uo_base.specs.Reading.{IsBytes};
 ghost use Rattle.uo_base.specs.FeedEvent as Feed;
 ghost use Rattle.uo_base.specs.FeedEvent.{event_of};
-ghost use Rattle.leaf_record.specs.Leaf.{leaf_text};
 ghost use Rattle.node_rules.specs.Fitting.{AreEventBytes, IsShort};
 ghost use Rattle.node_rules.specs.Machine.{event_in};
 ghost use Rattle.bridge_prover.specs.Bridge.{verdict_on};
@@ -80,7 +79,7 @@ impl<D: Digester> World<D> {
         ensures is { IfOk result (λ w. w ≡ fresh_world net limits watches.items) }
 
         // It stands for no act.
-        ensures stands { IfOk result (λ w. StandsForActs D.digest_of leaf_text (record { net = net; limits = limits; lists = watches.items }) [] w) }
+        ensures stands { IfOk result (λ w. StandsForActs D.digest_of (record { net = net; limits = limits; lists = watches.items }) [] w) }
     {
         let mut chain = Vec::new(alloc);
         chain.push(0)?;
@@ -133,7 +132,7 @@ impl<D: Digester> World<D> {
     ) -> Result<Outcome, NoMemory>
         requires { IsShortAct (act_of act) }
         ensures outcome { IfOk result (λ o. o ≡ outcome_on self.old (act_of act.entry)) }
-        ensures next { OnOk result (self.new ≡ next_world D.digest_of leaf_text self.old (act_of act.entry)) }
+        ensures next { OnOk result (self.new ≡ next_world D.digest_of self.old (act_of act.entry)) }
         ensures stays { OnErr result (self.new ≡ self.old) }
 
         // Each outcome but the verdict on a block that is accepted or a rollback that is made leaves the bridge as it was, and each but `Moved` the
@@ -145,12 +144,12 @@ impl<D: Digester> World<D> {
 
         // Where it stands for some acts, it stands for these and this one then, each follower is on the branch of its newest serial, and no
         // reply that applies is refused.
-        ensures stands { OnOk result ((begun : Begun) (acts : List WorldAct) → StandsForActs D.digest_of leaf_text begun acts self.old
-            → StandsForActs D.digest_of leaf_text begun (acts ++ act_of act.entry ∷ []) self.new) }
-        ensures branches { OnOk result ((begun : Begun) (acts : List WorldAct) → StandsForActs D.digest_of leaf_text begun acts self.old
-            → AreOnBranches D.digest_of leaf_text begun (acts ++ act_of act.entry ∷ []) self.new) }
-        ensures accepted { (begun : Begun) (acts : List WorldAct) → StandsForActs D.digest_of leaf_text begun acts self.old
-            → IsNeverRefused D.digest_of leaf_text self.old }
+        ensures stands { OnOk result ((begun : Begun) (acts : List WorldAct) → StandsForActs D.digest_of begun acts self.old
+            → StandsForActs D.digest_of begun (acts ++ act_of act.entry ∷ []) self.new) }
+        ensures branches { OnOk result ((begun : Begun) (acts : List WorldAct) → StandsForActs D.digest_of begun acts self.old
+            → AreOnBranches D.digest_of begun (acts ++ act_of act.entry ∷ []) self.new) }
+        ensures accepted { (begun : Begun) (acts : List WorldAct) → StandsForActs D.digest_of begun acts self.old
+            → IsNeverRefused D.digest_of self.old }
     {
         check_bytes(&act);
         self.handle(act, steps)
@@ -159,7 +158,7 @@ impl<D: Digester> World<D> {
     fn handle<L: Ledger>(&mut self, act: Act<'_>, steps: &mut Steps<L>) -> Result<Outcome, NoMemory>
         requires { IsShortAct (act_of act) }
         ensures outcome { IfOk result (λ o. o ≡ outcome_on self.old (act_of act.entry)) }
-        ensures next { OnOk result (self.new ≡ next_world D.digest_of leaf_text self.old (act_of act.entry)) }
+        ensures next { OnOk result (self.new ≡ next_world D.digest_of self.old (act_of act.entry)) }
         ensures stays { OnErr result (self.new ≡ self.old) }
     {
         match act {
@@ -178,7 +177,7 @@ impl<D: Digester> World<D> {
     ) -> Result<Verdict, NoMemory>
         requires { IsShort (event_of event) }
         ensures verdict { IfOk result (λ v. v ≡ verdict_on self.old.bridge (event_in (event_of event.entry))) }
-        ensures next { OnOk result (self.new ≡ with_event D.digest_of leaf_text self.old (event_of event.entry)) }
+        ensures next { OnOk result (self.new ≡ with_event D.digest_of self.old (event_of event.entry)) }
         ensures stays { OnErr result (self.new ≡ self.old) }
     {
         match event {
@@ -196,7 +195,7 @@ impl<D: Digester> World<D> {
     ) -> Result<Verdict, NoMemory>
         requires { length block.now < 2 ^ 32 }
         ensures verdict { IfOk result (λ v. v ≡ verdict_on self.old.bridge (event_in (Feed.BlockCame block.now (option_copied message.entry)))) }
-        ensures next { OnOk result (self.new ≡ with_event D.digest_of leaf_text self.old (Feed.BlockCame block.now (option_copied message.entry))) }
+        ensures next { OnOk result (self.new ≡ with_event D.digest_of self.old (Feed.BlockCame block.now (option_copied message.entry))) }
         ensures stays { OnErr result (self.new ≡ self.old) }
     {
         take_block(
@@ -216,7 +215,7 @@ impl<D: Digester> World<D> {
         steps: &mut Steps<L>,
     ) -> Result<Verdict, NoMemory>
         ensures verdict { IfOk result (λ v. v ≡ verdict_on self.old.bridge (event_in (Feed.RollbackCame count))) }
-        ensures next { OnOk result (self.new ≡ with_event D.digest_of leaf_text self.old (Feed.RollbackCame count)) }
+        ensures next { OnOk result (self.new ≡ with_event D.digest_of self.old (Feed.RollbackCame count)) }
         ensures stays { OnErr result (self.new ≡ self.old) }
     {
         let given = self.sent.len() as u64;
@@ -226,7 +225,7 @@ impl<D: Digester> World<D> {
     // A follower asks.
     fn ask(&mut self, follower: u32) -> Result<Outcome, NoMemory>
         ensures outcome { IfOk result (λ o. o ≡ outcome_on self.old (FollowerAsked follower)) }
-        ensures next { OnOk result (self.new ≡ next_world D.digest_of leaf_text self.old (FollowerAsked follower)) }
+        ensures next { OnOk result (self.new ≡ next_world D.digest_of self.old (FollowerAsked follower)) }
         ensures stays { OnErr result (self.new ≡ self.old) }
     {
         let Some(asker) = self.followers.get(follower as usize) else {
@@ -241,7 +240,7 @@ impl<D: Digester> World<D> {
     // The bridge answers an ask.
     fn serve(&mut self, ask: u64) -> Result<Outcome, NoMemory>
         ensures outcome { IfOk result (λ o. o ≡ outcome_on self.old (AskServed ask)) }
-        ensures next { OnOk result (self.new ≡ next_world D.digest_of leaf_text self.old (AskServed ask)) }
+        ensures next { OnOk result (self.new ≡ next_world D.digest_of self.old (AskServed ask)) }
         ensures stays { OnErr result (self.new ≡ self.old) }
     {
         let Some(asked) = self.asks.get(ask as usize) else {
@@ -264,7 +263,7 @@ impl<D: Digester> World<D> {
         steps: &mut Steps<L>,
     ) -> Result<Outcome, NoMemory>
         ensures outcome { IfOk result (λ o. o ≡ outcome_on self.old (ReplyDelivered follower reply)) }
-        ensures next { OnOk result (self.new ≡ next_world D.digest_of leaf_text self.old (ReplyDelivered follower reply)) }
+        ensures next { OnOk result (self.new ≡ next_world D.digest_of self.old (ReplyDelivered follower reply)) }
         ensures stays { OnErr result (self.new ≡ self.old) }
     {
         let i = follower as usize;
@@ -287,7 +286,7 @@ fn hand<D: Digester, L: Ledger>(
 ) -> Result<Outcome, NoMemory>
     ensures outcome { IfOk result (λ o. o ≡ delivered (Some follower.old) (Some reply.now)) }
     ensures next { OnOk result (follower.new
-        ≡ (if applies reply.now follower.old then moved D.digest_of leaf_text sent.now reply.now.kind follower.old else follower.old)) }
+        ≡ (if applies reply.now follower.old then moved D.digest_of sent.now reply.now.kind follower.old else follower.old)) }
     ensures stays { OnErr result (follower.new ≡ follower.old) }
 {
     if follower.can_take(reply) {

@@ -42,16 +42,16 @@ module _ (H : List ℕ → Digest) (scripts : List (List ℕ)) (us : History) wh
 
   -- those from entry i on
   pub entries_from : (i : ℕ) (vs : History) → ((k : ℕ) → get_or vs k None ≡ get_or us (i + k) None)
-      → map entry_of (filter_map (kept_leaf H leaf_text us) (kept_from i scripts vs)) ≡ kept_entries (entry_place es) scripts i vs
+      → map entry_of (filter_map (kept_leaf H us) (kept_from i scripts vs)) ≡ kept_entries (entry_place es) scripts i vs
   entries_from i [] at = refl
   entries_from i (v ∷ vs) at =
       let rest = entries_from (suc i) vs (λ k. at (suc k) ∙ ap (λ n. get_or us n None) (let z : i + suc k ≡ suc i + k = omega arith in z)) in
       by_entry v (at 0 ∙ ap (λ n. get_or us n None) (let z : i + 0 ≡ i = omega arith in z)) rest
     where
       by_place : (leaf : Leaf) → Some leaf ≡ get_or us i None → (q : Option Place) → entry_place es i ≡ q
-          → map entry_of (filter_map (kept_leaf H leaf_text us) (kept_from (suc i) scripts vs)) ≡ kept_entries (entry_place es) scripts (suc i) vs
+          → map entry_of (filter_map (kept_leaf H us) (kept_from (suc i) scripts vs)) ≡ kept_entries (entry_place es) scripts (suc i) vs
           → is_watched scripts (Some leaf) ≡ true
-          → map entry_of (filter_map (kept_leaf H leaf_text us) (i ∷ kept_from (suc i) scripts vs))
+          → map entry_of (filter_map (kept_leaf H us) (i ∷ kept_from (suc i) scripts vs))
           ≡ cons_option (kept_entry scripts i q (Some leaf)) (kept_entries (entry_place es) scripts (suc i) vs)
       by_place leaf e None f rest t = rw (← e, f) rest
       by_place leaf e (Some p) f rest t = rw (← e, f, t) (ap (λ xs. record { number = i; place = p; leaf = leaf } ∷ xs) rest)
@@ -64,33 +64,33 @@ module _ (H : List ℕ → Digest) (scripts : List (List ℕ)) (us : History) wh
       none_spent None = refl
       none_spent (Some p) = refl
 
-      by_entry : (u : Option Leaf) → u ≡ get_or us i None → map entry_of (filter_map (kept_leaf H leaf_text us) (kept_from (suc i) scripts vs))
+      by_entry : (u : Option Leaf) → u ≡ get_or us i None → map entry_of (filter_map (kept_leaf H us) (kept_from (suc i) scripts vs))
           ≡ kept_entries (entry_place es) scripts (suc i) vs
-          → map entry_of (filter_map (kept_leaf H leaf_text us) (cond (is_watched scripts u) (i ∷ kept_from (suc i) scripts vs)
+          → map entry_of (filter_map (kept_leaf H us) (cond (is_watched scripts u) (i ∷ kept_from (suc i) scripts vs)
           (kept_from (suc i) scripts vs))) ≡ cons_option (kept_entry scripts i (entry_place es i) u)
           (kept_entries (entry_place es) scripts (suc i) vs)
       by_entry None e rest = rw (none_spent (entry_place es i)) rest
       by_entry (Some leaf) e rest =
           ⊎_elim
           (λ t. rw t (by_place leaf e (entry_place es i) refl rest t))
-          (λ t. ap (λ b. map entry_of (filter_map (kept_leaf H leaf_text us)
+          (λ t. ap (λ b. map entry_of (filter_map (kept_leaf H us)
           (cond b (i ∷ kept_from (suc i) scripts vs) (kept_from (suc i) scripts vs)))) t
           ∙ (rest ∙ sym (ap (λ x. cons_option x (kept_entries (entry_place es) scripts (suc i) vs)) (none_kept leaf (entry_place es i) t))))
           (cases_Bool (is_watched scripts (Some leaf)))
 
-  pub same_entries : map entry_of (kept_leaves H leaf_text scripts us) ≡ level_kept H scripts us
+  pub same_entries : map entry_of (kept_leaves H scripts us) ≡ level_kept H scripts us
   same_entries = entries_from 0 us (λ k. ap (λ n. get_or us n None) (let z : k ≡ 0 + k = omega arith in z))
 
-  leaf_digests : (ns : List ℕ) → map (λ k. k.digest) (filter_map (kept_leaf H leaf_text us) ns)
-      ≡ map (λ k. H (leaf_text k.leaf)) (filter_map (kept_leaf H leaf_text us) ns)
+  leaf_digests : (ns : List ℕ) → map (λ k. k.digest) (filter_map (kept_leaf H us) ns)
+      ≡ map (λ k. H (leaf_text k.leaf)) (filter_map (kept_leaf H us) ns)
   leaf_digests [] = refl
   leaf_digests (i ∷ ns) = by_one (get_or us i None) (entry_place es i) (leaf_digests ns)
     where
-      by_one : (u : Option Leaf) (q : Option Place) → map (λ k. k.digest) (filter_map (kept_leaf H leaf_text us) ns)
-          ≡ map (λ k. H (leaf_text k.leaf)) (filter_map (kept_leaf H leaf_text us) ns)
-          → map (λ k. k.digest) (cons_option (kept_leaf_of (λ leaf. H (leaf_text leaf)) i u q) (filter_map (kept_leaf H leaf_text us) ns))
+      by_one : (u : Option Leaf) (q : Option Place) → map (λ k. k.digest) (filter_map (kept_leaf H us) ns)
+          ≡ map (λ k. H (leaf_text k.leaf)) (filter_map (kept_leaf H us) ns)
+          → map (λ k. k.digest) (cons_option (kept_leaf_of (λ leaf. H (leaf_text leaf)) i u q) (filter_map (kept_leaf H us) ns))
           ≡ map (λ k. H (leaf_text k.leaf)) (cons_option (kept_leaf_of (λ leaf. H (leaf_text leaf)) i u q)
-          (filter_map (kept_leaf H leaf_text us) ns))
+          (filter_map (kept_leaf H us) ns))
       by_one None q rest = rest
       by_one (Some leaf) None rest = rest
       by_one (Some leaf) (Some p) rest = ap (λ ds. H (leaf_text leaf) ∷ ds) rest
@@ -133,17 +133,17 @@ module _ (H : List ℕ → Digest) (scripts : List (List ℕ)) (c : CachedLevel)
   kept_are : map entry_of c.kept ≡ level_kept H scripts l.history
   kept_are = ap (map entry_of) s.cache.of_kept ∙ same_entries H scripts l.history
 
-  ts_are : kept_places H leaf_text scripts l.history ≡ ts
+  ts_are : kept_places H scripts l.history ≡ ts
   ts_are = kept_same (entry_place hist) scripts 0 l.history
 
   at_needed : (r o : ℕ) → has_place (need (length hist) ts) r o ≡ true → look c.held r o ≡ digest_at H hist r o
   at_needed r o h =
       let w = need_had (length hist) ts r o h in
-      let needed : is_needed (length l.history) (kept_places H leaf_text scripts l.history) (place r o) ≡ true =
+      let needed : is_needed (length l.history) (kept_places H scripts l.history) (place r o) ≡ true =
       ap₂ (λ (n : ℕ) (qs : List Place). is_needed n qs (place r o)) (sym count) ts_are ∙ w.1 in
-      let known : is_known (length l.history) (kept_places H leaf_text scripts l.history) (place r o) ≡ true =
-      or_right (is_some (cover (kept_places H leaf_text scripts l.history) r o)) _ needed in
-      known_is H leaf_text scripts l.history c.kept c.held s.cache r o ∙ rw known refl
+      let known : is_known (length l.history) (kept_places H scripts l.history) (place r o) ≡ true =
+      or_right (is_some (cover (kept_places H scripts l.history) r o)) _ needed in
+      known_is H scripts l.history c.kept c.held s.cache r o ∙ rw known refl
 
   hashes_are : filter_map (λ p. look c.held p.row p.off) (need (length hist) ts) ≡ digests_at H hist (need (length hist) ts)
   hashes_are = map_at (λ p. look c.held p.row p.off) (λ p. digest_at H hist p.row p.off) (need (length hist) ts) at_needed
@@ -160,18 +160,18 @@ module _ (H : List ℕ → Digest) (scripts : List (List ℕ)) (c : CachedLevel)
       ∙ ap₂ (value l.tip (stump_of H hist)) kept_are hashes)
 
   held_here : (r o : ℕ) → has_place (places (length hist)) r o ≡ true
-      → held_at (digest_at H hist) (length hist) (kept_places H leaf_text scripts l.history) (place r o)
+      → held_at (digest_at H hist) (length hist) (kept_places H scripts l.history) (place r o)
       ≡ option_map (λ d. (place r o, d)) (level_tells H (level_of H scripts l) (place r o))
   held_here r o h =
       let within = places_had (length hist) r o h in
       let told = held_is_known H scripts l (place r o) within in
-      by_known (is_known (length hist) (kept_places H leaf_text scripts l.history) (place r o)) refl
-      (told ∙ ap (λ n. cond (is_known n (kept_places H leaf_text scripts l.history) (place r o)) (digest_at H hist r o) None) (sym count))
+      by_known (is_known (length hist) (kept_places H scripts l.history) (place r o)) refl
+      (told ∙ ap (λ n. cond (is_known n (kept_places H scripts l.history) (place r o)) (digest_at H hist r o) None) (sym count))
     where
-      by_known : (b : Bool) → is_known (length hist) (kept_places H leaf_text scripts l.history) (place r o) ≡ b
-          → level_tells H (level_of H scripts l) (place r o) ≡ cond (is_known (length hist) (kept_places H leaf_text scripts l.history) (place r o))
+      by_known : (b : Bool) → is_known (length hist) (kept_places H scripts l.history) (place r o) ≡ b
+          → level_tells H (level_of H scripts l) (place r o) ≡ cond (is_known (length hist) (kept_places H scripts l.history) (place r o))
           (digest_at H hist r o) None
-          → held_at (digest_at H hist) (length hist) (kept_places H leaf_text scripts l.history) (place r o)
+          → held_at (digest_at H hist) (length hist) (kept_places H scripts l.history) (place r o)
           ≡ option_map (λ d. (place r o, d)) (level_tells H (level_of H scripts l) (place r o))
       by_known true e told = rw (told, e) refl
       by_known false e told = rw (told, e) refl
@@ -182,7 +182,7 @@ module _ (H : List ℕ → Digest) (scripts : List (List ℕ)) (c : CachedLevel)
         (leaf_digests H scripts l.history (kept scripts l.history));
     held =
         s.cache.of_held
-        ∙ (filter_map-at (held_at (digest_at H hist) (length hist) (kept_places H leaf_text scripts l.history))
+        ∙ (filter_map-at (held_at (digest_at H hist) (length hist) (kept_places H scripts l.history))
         (λ p. option_map (λ d. (p, d)) (level_tells H (level_of H scripts l) p)) (places (length hist)) held_here
         ∙ ap₂ (λ (n : ℕ) (v : LevelValue). told_list n (level_tells H v)) (sym s.roots.leaves) (sym same_level));
   }
@@ -198,8 +198,8 @@ module _ (H : List ℕ → Digest) (scripts : List (List ℕ)) where
   cached_of l = record {
     tip = l.tip;
     roots = stump_of H (entries H leaf_text l.history);
-    kept = kept_leaves H leaf_text scripts l.history;
-    held = held H (entries H leaf_text l.history) (kept_places H leaf_text scripts l.history);
+    kept = kept_leaves H scripts l.history;
+    held = held H (entries H leaf_text l.history) (kept_places H scripts l.history);
   }
 
   stands : (l : Level) → length l.history < 2 ^ 40 → IsStump (cached_of l).roots × StandsForLevel H scripts (cached_of l) l

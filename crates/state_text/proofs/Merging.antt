@@ -8,10 +8,10 @@ use Rattle.std.proofs.Common.{eq-eqb}
 use Rattle.std.proofs.lemmas.List.{drop_all}
 use Rattle.uo_digest.specs.declared.digest.Digest.{Digest}
 use Rattle.forest_place.specs.declared.place.Place.{Place}
-use Rattle.forest_place.specs.Places.{is_at, has_place, IsBefore, IsAscending}
+use Rattle.forest_place.specs.Places.{is_at, has_place, IsBefore, IsAscending, is_before_place}
 use Rattle.forest_place.proofs.Listed.{same_from_is_at, is_at-same}
 use Rattle.forest_place.proofs.Positions.{place_order}
-use Rattle.state_text.specs.Merged.{comes_before, merged_under, merged, paired}
+use Rattle.state_text.specs.Merged.{merged_under, merged, paired}
 
 abbrev Held : Type 0
 Held = Place × Digest
@@ -33,7 +33,7 @@ merged-all P (x ∷ xs) ys a b = under (λ zs c. merged-all P xs zs a.1 c) ys b
         → AllByRecursion P (merged_under x (merged xs) zs)
     under rest [] b = (a.0, rest [] b)
     under rest (y ∷ zs) b =
-        ⊎_elim (λ t. rw t (a.0, rest (y ∷ zs) b)) (λ f. rw f (b.0, under rest zs b.1)) (cases_Bool (comes_before x.0 y.0))
+        ⊎_elim (λ t. rw t (a.0, rest (y ∷ zs) b)) (λ f. rw f (b.0, under rest zs b.1)) (cases_Bool (is_before_place x.0 y.0))
 
 -- ---- which places are in it
 
@@ -65,7 +65,7 @@ merged-has (x ∷ xs) ys r o h = under (λ zs k. merged-has xs zs r o k) ys h
         (λ b. ⊎_elim (λ here. or_left (is_at r o y.0) _ here) (λ there. or_right (is_at r o y.0) _ (under rest zs (inr there)))
         (or_cases (is_at r o y.0) (has_place (places_in zs) r o) b))
         h))
-        (cases_Bool (comes_before x.0 y.0))
+        (cases_Bool (is_before_place x.0 y.0))
 
 pub merged-had : (xs ys : List Held) (r o : ℕ) → has_place (places_in (merged xs ys)) r o ≡ true → (has_place (places_in xs) r o ≡ true)
     ⊎ (has_place (places_in ys) r o ≡ true)
@@ -91,18 +91,18 @@ merged-had (x ∷ xs) ys r o h = under (λ zs k. merged-had xs zs r o k) ys h
         ⊎_elim (λ here. inr (or_left (is_at r o y.0) _ here))
         (λ there. ⊎_elim (λ a. inl a) (λ b. inr (or_right (is_at r o y.0) _ b)) (under rest zs there))
         (or_cases (is_at r o y.0) (has_place (places_in (merged_under x (merged xs) zs)) r o) h'))
-        (cases_Bool (comes_before x.0 y.0))
+        (cases_Bool (is_before_place x.0 y.0))
 
 -- ---- its order
 
-pub before_means : (p q : Place) → comes_before p q ≡ true → IsBefore p q
+pub before_means : (p q : Place) → is_before_place p q ≡ true → IsBefore p q
 before_means p q h =
     ⊎_elim
     (λ lower. inl (ltb-true p.row q.row lower))
     (λ same. let b = and_parts (p.row == q.row) (nat_lt p.off q.off) same in inr (eqb-true p.row q.row b.0, ltb-true p.off q.off b.1))
     (or_cases (nat_lt p.row q.row) ((p.row == q.row) && nat_lt p.off q.off) h)
 
-pub means_before : (p q : Place) → IsBefore p q → comes_before p q ≡ true
+pub means_before : (p q : Place) → IsBefore p q → is_before_place p q ≡ true
 means_before p q (inl lower) = or_left (nat_lt p.row q.row) _ (lt-ltb p.row q.row lower)
 means_before p q (inr same) = or_right (nat_lt p.row q.row) _ (rw (eq-eqb p.row q.row same.0, lt-ltb p.off q.off same.1) refl)
 
@@ -116,7 +116,7 @@ before_trans p q r (inr a) (inr b) = inr (omega (arith, a.0, b.0), omega (arith,
 abbrev pub AreApart : List Held → List Held → Type 0
 AreApart xs ys = (r o : ℕ) → has_place (places_in xs) r o ≡ true → has_place (places_in ys) r o ≡ true → ⊥
 
-other_way : (p q : Place) → comes_before p q ≡ false → (p ≡ q → ⊥) → IsBefore q p
+other_way : (p q : Place) → is_before_place p q ≡ false → (p ≡ q → ⊥) → IsBefore q p
 other_way p q f ne = ⊎_elim (λ lt. absurd (false≢true (sym f ∙ means_before p q lt))) (λ rest. ⊎_elim (λ same. absurd (ne same)) (λ gt. gt) rest)
     (place_order p q)
 
@@ -157,7 +157,7 @@ merged-ascends (x ∷ xs) ys a b apart = under (λ zs c d. merged-ascends xs zs 
           λ q h. ⊎_elim (λ l. before-all y.0 x xs gt a q l) (λ r. b.0 q r) (merged-had (x ∷ xs) zs q.row q.off h),
           under rest zs b.1 (λ r o h k. apart r o h (or_right (is_at r o y.0) _ k)),
         ))
-        (cases_Bool (comes_before x.0 y.0))
+        (cases_Bool (is_before_place x.0 y.0))
 
 -- ---- places with digests
 

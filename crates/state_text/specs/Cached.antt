@@ -60,7 +60,7 @@ OneFilling = (H : List ℕ → Digest) (l m : CachedLevel) → IsFilled H l → 
 pub record StandsForLevel (H : List ℕ → Digest) (scripts : List (List ℕ)) (c : CachedLevel) (l : Level) : Type 0 where
   pub tip : c.tip ≡ l.tip
   pub roots : StandsFor H (entries H leaf_text l.history) c.roots
-  pub cache : IsCacheOf H leaf_text scripts l.history c.kept c.held
+  pub cache : IsCacheOf H scripts l.history c.kept c.held
 
 -- what stands for a level is stored as that level is, and has what it tells
 abbrev pub StandingIsStored : Type 0

@@ -4,16 +4,14 @@ use Rattle.std.specs.List.{AllByRecursion}
 use Rattle.uo_digest.specs.declared.digest.Digest.{Digest}
 use Rattle.forest_place.specs.declared.place.Place.{Place}
 use Rattle.forest_place.specs.Forest.{InForest, is_root}
+use Rattle.forest_place.specs.Places.{is_before_place}
 use Rattle.forest_roots.specs.Stump.{Stump, root_in}
 use Rattle.proof_verify.specs.declared.evaluation.CoveredPlace.{CoveredPlace}
-
-abbrev pub comes_before : Place → Place → Bool
-comes_before p q = nat_lt p.row q.row || ((p.row == q.row) && nat_lt p.off q.off)
 
 -- x stands at the head of the one list, of whose others rest makes one list with what it is given
 abbrev pub merged_under : Place × Digest → (List (Place × Digest) → List (Place × Digest)) → List (Place × Digest) → List (Place × Digest)
 merged_under x rest [] = x ∷ rest []
-merged_under x rest (y ∷ ys) = if comes_before x.0 y.0 then x ∷ rest (y ∷ ys) else y ∷ merged_under x rest ys
+merged_under x rest (y ∷ ys) = if is_before_place x.0 y.0 then x ∷ rest (y ∷ ys) else y ∷ merged_under x rest ys
 
 abbrev pub merged : List (Place × Digest) → List (Place × Digest) → List (Place × Digest)
 merged [] ys = ys

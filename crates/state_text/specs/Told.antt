@@ -32,4 +32,4 @@ told_list n at = filter_map (λ p. option_map (λ d. (p, d)) (at p)) (places n)
 -- of a level of a node that holds every output, what is told is what is known there
 abbrev pub HeldIsKnown : Type 0
 HeldIsKnown = (H : List ℕ → Digest) (scripts : List (List ℕ)) (l : Level) (p : Place) → let v = level_of H scripts l in
-    InForest v.roots.leaves p.row p.off → level_tells H v p ≡ known_at H leaf_text scripts l.history p.row p.off
+    InForest v.roots.leaves p.row p.off → level_tells H v p ≡ known_at H scripts l.history p.row p.off

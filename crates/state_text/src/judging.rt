@@ -19,7 +19,7 @@ use crate::targets::targets_of;
 use crate::telling::told_of;
 use forest_place::Place;
 use leaf_cache::{Kept, Parts, Watch};
-use leaf_record::{LeafBuf, leaf_digest};
+use leaf_record::{LeafBuf, Leaves, RecordView, leaf_digests};
 use std::alloc::Global;
 use std::sync::ledger::Ledger;
 use uo_base::NoMemory;
@@ -39,6 +39,24 @@ fn judge_kept(watch: &Watch, n: u64, kept: &[StoredEntry]) -> Result<(), StateFa
     Ok(())
 }
 
+// The leaves of kept entries.
+#[derive(Drop)]
+struct KeptLeaves<'s> {
+    kept: &'s [StoredEntry],
+}
+
+impl<'s> Leaves for KeptLeaves<'s> {
+    ghost leaves = { λ k. leaves_in k.kept.now };
+
+    fn count(&self) -> usize {
+        self.kept.len()
+    }
+
+    fn leaf(&self, index: usize) -> RecordView<'_> {
+        self.kept[index].leaf.view()
+    }
+}
+
 fn leaves_of<D: Digester, L: Ledger>(
     alloc: Global,
     room: &mut LeafBuf<D>,
@@ -47,11 +65,7 @@ fn leaves_of<D: Digester, L: Ledger>(
 ) -> Result<Vec<Digest>, NoMemory>
     ensures { IfOk result (λ leaves. leaves.items ≡ map (λ leaf. D.digest_of (leaf_text leaf)) (leaves_in kept.now)) }
 {
-    let mut leaves = Vec::with_capacity(alloc, kept.len())?;
-    for entry in kept {
-        leaves.push(leaf_digest::<D, L>(room, &entry.leaf.view(), steps))?;
-    }
-    Ok(leaves)
+    Ok(leaf_digests(alloc, room, &KeptLeaves { kept }, steps)?)
 }
 
 fn places_in(alloc: Global, kept: &[StoredEntry]) -> Result<Vec<Place>, NoMemory>

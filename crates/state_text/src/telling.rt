@@ -6,10 +6,10 @@ ghost use Rattle.forest_model.specs.Evaluation.{nothing_known, IsAccepted};
 ghost use Rattle.forest_roots.specs.Stump.{root_in};
 ghost use Rattle.state_text.specs.Told.{told_at, told_list};
 ghost use Rattle.state_text.specs.Reading.{claims};
-ghost use Rattle.state_text.specs.Merged.{comes_before, merged, paired, told_pair, StandsIn, IsRightRoot, AreRightRoots};
+ghost use Rattle.state_text.specs.Merged.{merged, paired, told_pair, StandsIn, IsRightRoot, AreRightRoots};
 
 use crate::fault::StateFault;
-use forest_place::{Place, is_root};
+use forest_place::{Place, is_before, is_root};
 use forest_roots::Roots;
 use proof_shape::Survey;
 use proof_verify::{CoveredPlace, evaluate_covered};
@@ -17,12 +17,6 @@ use std::alloc::Global;
 use std::sync::ledger::Ledger;
 use uo_base::NoMemory;
 use uo_digest::{Digest, Digester, Steps};
-
-fn is_before(left: Place, right: Place) -> bool
-    ensures { result ≡ comes_before left right }
-{
-    left.row < right.row || (left.row == right.row && left.off < right.off)
-}
 
 // Two ascending lists as one.
 fn merge(

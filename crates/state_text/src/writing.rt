@@ -29,7 +29,7 @@ use leaf_cache::{Kept, Parts, Watch, digest_in};
 use leaf_record::{Record, RecordView, write_rest};
 use proof_shape::Survey;
 use std::alloc::Global;
-use uo_base::{Net, NoMemory, Sink, SinkFault, put_all, put_compact};
+use uo_base::{Net, NoMemory, Sink, SinkFault, put_all, put_compact, put_sized};
 use uo_digest::{Digest, Digester};
 
 fn put_root(out: &mut Vec<u8>, root: Option<Digest>) -> Result<(), NoMemory>
@@ -197,15 +197,6 @@ fn put_level<D: Digester>(
     Ok(())
 }
 
-fn put_script(out: &mut Vec<u8>, script: &[u8]) -> Result<(), NoMemory>
-    ensures ok { OnOk result (out.new.items ≡ out.old.items ++ sized script.now) }
-    ensures err { OnErr result (Grew out.old.items out.new.items) }
-{
-    put_compact(out, script.len() as u64)?;
-    out.extend_from_slice(script)?;
-    Ok(())
-}
-
 fn put_scripts(out: &mut Vec<u8>, watch: &Watch) -> Result<(), NoMemory>
     ensures ok { OnOk result (out.new.items ≡ out.old.items ++ counted sized watch.now) }
     ensures err { OnErr result (Grew out.old.items out.new.items) }
@@ -213,7 +204,7 @@ fn put_scripts(out: &mut Vec<u8>, watch: &Watch) -> Result<(), NoMemory>
     let count = watch.scripts();
     put_compact(out, count as u64)?;
     for i in 0..count {
-        put_script(out, watch.script(i))?;
+        put_sized(out, watch.script(i))?;
     }
     Ok(())
 }

@@ -69,7 +69,7 @@ pub same_verdict : (H : List ℕ → Digest) (es : List (Option Digest)) (tip : 
     → ticket_verdict H (view_of f) tip k ≡ ticket_verdict H (over H es) tip k
 same_verdict H es tip k f stands =
     ap (λ x. if is_same k.tip tip then unless_refused x else Verdict.Tip)
-    (fault_alike H leaf_text (view_of f) (over H es) (record { n = stands.leaves; roots = stands.roots; known = λ row off. refl }) (points k)
+    (fault_alike H (view_of f) (over H es) (record { n = stands.leaves; roots = stands.roots; known = λ row off. refl }) (points k)
     (message_of k))
 
 pub live_is_right : LiveIsRight
@@ -89,7 +89,7 @@ live_is_right H t s k stands honest = let checked = checked_is_accepted H s k in
 
 -- ---- by an auditor
 
-module _ (H : List ℕ → Digest) (long : (x : List ℕ) → IsDigest (H x)) (s : BridgeState) (k : Ticket) (audit : IsAudit H leaf_text s)
+module _ (H : List ℕ → Digest) (long : (x : List ℕ) → IsDigest (H x)) (s : BridgeState) (k : Ticket) (audit : IsAudit H s)
     (fits : TicketFits k) where
   abbrev us : History
   us = history_of s
@@ -184,20 +184,20 @@ module _ (H : List ℕ → Digest) (long : (x : List ℕ) → IsDigest (H x)) (s
     none_here : ticket_fault H (view_in H s) k ≡ None
     none_here = passes_one H (view_in H s) k a.place a.named a.accepted
 
-    none_there : proof_fault H leaf_text (over H (entries H leaf_text us)) (points k) (message_of k) ≡ None
-    none_there = subst (λ e. proof_fault H leaf_text (over H e) (points k) (message_of k) ≡ None) stand.entries_are none_here
+    none_there : proof_fault H (over H (entries H leaf_text us)) (points k) (message_of k) ≡ None
+    none_there = subst (λ e. proof_fault H (over H e) (points k) (message_of k) ≡ None) stand.entries_are none_here
 
     moved : clash_in H s.entries s.held nothing_known outside (message_of k)
         ≡ clash_in H (entries H leaf_text us) s.held nothing_known outside (message_of k)
     moved = ap (λ e. clash_in H e s.held nothing_known outside (message_of k)) stand.entries_are
 
-    tested : is_right H leaf_text us nothing_known (points k) (message_of k) ≡ true → Right
+    tested : is_right H us nothing_known (points k) (message_of k) ≡ true → Right
     tested sound =
         (ticket_right_is_tested H us tip k).0
-        (and_from (is_same k.tip tip) (is_right H leaf_text us nothing_known (points k) (message_of k))
+        (and_from (is_same k.tip tip) (is_right H us nothing_known (points k) (message_of k))
         (subst (λ d. is_same k.tip d ≡ true) a.tip_is (is_same-same k.tip)) sound)
 
-    untested : is_right H leaf_text us nothing_known (points k) (message_of k) ≡ false → Right → ⊥
+    untested : is_right H us nothing_known (points k) (message_of k) ≡ false → Right → ⊥
     untested wrong r = false≢true (sym (ap (λ b. is_same k.tip tip && b) wrong ∙ never (is_same k.tip tip)) ∙ (ticket_right_is_tested H us tip k).1 r)
       where
         never : (b : Bool) → (b && false) ≡ false
@@ -222,7 +222,7 @@ module _ (H : List ℕ → Digest) (long : (x : List ℕ) → IsDigest (H x)) (s
       };
     }
 
-    accepted_so : (b : Bool) → is_right H leaf_text us nothing_known (points k) (message_of k) ≡ b → IsRechecked H us tip k (unless_clash found k)
+    accepted_so : (b : Bool) → is_right H us nothing_known (points k) (message_of k) ≡ b → IsRechecked H us tip k (unless_clash found k)
     accepted_so true sound =
         right_so a (tested sound) found
         (moved ∙ shows_none H long us s.held stand_there outside (message_of k) refl (fits.leaf, tt) fits.hashes nothing_known
@@ -236,7 +236,7 @@ module _ (H : List ℕ → Digest) (long : (x : List ℕ) → IsDigest (H x)) (s
   by_verdict Verdict.Tip e = refused_so Verdict.Tip (unless_clash found k) e (λ z. cc) refl
   by_verdict (Verdict.Refused why) e = refused_so (Verdict.Refused why) (unless_clash found k) e (λ z. cc) refl
   by_verdict Verdict.Live e = accepted_so ((live_is_accepted H (view_in H s) tip k).0 e)
-      (is_right H leaf_text us nothing_known (points k) (message_of k)) refl
+      (is_right H us nothing_known (points k) (message_of k)) refl
 
 pub rechecked_is_right : RecheckedIsRight
 rechecked_is_right H long s k audit fits = by_verdict H long s k audit fits (ticket_verdict H (view_in H s) s.chain.tip k) refl

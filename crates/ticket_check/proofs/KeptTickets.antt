@@ -125,16 +125,16 @@ module _ (H : List ℕ → Digest) (us : History) where
       }
 
   right_of : (scripts : List (List ℕ)) (l : LevelState) (tip : Digest) (number : ℕ) (e : Kept) → length us < 2 ^ 40
-      → IsCacheOf H leaf_text scripts us l.kept l.held → l.chain.tip ≡ tip → kept_entry l.kept number ≡ Some e
+      → IsCacheOf H scripts us l.kept l.held → l.chain.tip ≡ tip → kept_entry l.kept number ≡ Some e
       → TicketRight H us tip (ticket_with l e)
   right_of scripts l tip number e few cache tip_is found =
-      let from = found_from (kept_leaf H leaf_text us) number (kept_numbers scripts us) e
+      let from = found_from (kept_leaf H us) number (kept_numbers scripts us) e
       (ap (λ ks. kept_entry ks number) (sym cache.of_kept) ∙ found) in
       let is = entry_from from.0 (get_or us from.0 None) (entry_place es from.0) e refl refl from.1 in
       let live = live_at from.0 e is in
       let same : number ≡ from.0 = sym (found_number l.kept number e found) ∙ is.number in
       let hashes : List Digest = beside_way (40 - e.place.row) l.held e.place.row e.place.off in
-      let proof = proof_climbed H leaf_text scripts us l.kept l.held number hashes few cache
+      let proof = proof_climbed H scripts us l.kept l.held number hashes few cache
       (ap (λ (x : Option Kept). option_map (λ (p : Place). beside_way (40 - p.row) l.held p.row p.off) (option_map (λ (k : Kept). k.place) x))
       found) in
       let at : proof.place ≡ e.place = same_Some proof.place e.place (sym proof.stands ∙ (ap (entry_place es) same ∙ is.place)) in

@@ -106,10 +106,10 @@ module _ (H : List ℕ → Digest) (v : View) (k : Ticket) where
 
     -- no fault is found exactly where the roots accept it
     pub accepted_one : ticket_fault H v k ≡ None → AcceptsAt (p ∷ [])
-    accepted_one none = subst AcceptsAt target_one (accepted H leaf_text v (points k) m refl none).0
+    accepted_one none = subst AcceptsAt target_one (accepted H v (points k) m refl none).0
 
     pub passes_one : AcceptsAt (p ∷ []) → ticket_fault H v k ≡ None
-    passes_one a = passes H leaf_text v (points k) m (subst AcceptsAt (sym target_one) a) all_named
+    passes_one a = passes H v (points k) m (subst AcceptsAt (sym target_one) a) all_named
 
 -- ---- what the check of the roots answers
 
@@ -131,10 +131,10 @@ module _ (H : List ℕ → Digest) (f : Stump) (k : Ticket) (p : Place) (e : tar
 
   told : (fault : ProofFault) → Told (targets f.leaves (message_of k)) fault → ticket_fault H v k ≡ Some (proof_refusal fault)
   told (Fault.HashCount want got) w =
-      count_told H leaf_text v (points k) (message_of k) shaped (λ same. w.2 (w.1 ∙ (same ∙ (needs ∙ sym w.0))))
+      count_told H v (points k) (message_of k) shaped (λ same. w.2 (w.1 ∙ (same ∙ (needs ∙ sym w.0))))
       ∙ ap₂ (λ x y. Some (proof_refusal (Fault.HashCount x y))) (needs ∙ sym w.0) (sym w.1)
-  told (Fault.EmptyRoot row) w = empty_told H leaf_text v (points k) (message_of k) shaped row (w.0 ∙ sym needs) w.1
-  told (Fault.RootDiffers row had computed) w = other_told H leaf_text v (points k) (message_of k) shaped row (w.0 ∙ sym needs) w.1 w.2
+  told (Fault.EmptyRoot row) w = empty_told H v (points k) (message_of k) shaped row (w.0 ∙ sym needs) w.1
+  told (Fault.RootDiffers row had computed) w = other_told H v (points k) (message_of k) shaped row (w.0 ∙ sym needs) w.1 w.2
 
   fault_told : (fault : ProofFault) → Told (p ∷ []) fault → Some (proof_refusal fault) ≡ ticket_fault H v k
   fault_told fault w = sym (told fault (subst (λ ts. Told ts fault) (sym (target_one H v k p e)) w))
@@ -208,11 +208,11 @@ module _ (H : List ℕ → Digest) (us : History) (tip : Digest) (k : Ticket) wh
   ticket_right_is_tested = (
     λ h.
         let w = and_parts (is_same k.tip tip) _ h in
-        let r = (right_is_tested H leaf_text us nothing_known (points k) (message_of k)).0 w.1 in
+        let r = (right_is_tested H us nothing_known (points k) (message_of k)).0 w.1 in
         right_from (target_in (length us) k) refl (is_same-true k.tip tip w.0) r.0 r.1,
     λ r.
         and_from (is_same k.tip tip) _ (subst (λ d. is_same k.tip d ≡ true) r.tip_is (is_same-same k.tip))
-        ((right_is_tested H leaf_text us nothing_known (points k) (message_of k)).1
+        ((right_is_tested H us nothing_known (points k) (message_of k)).1
         (subst RightAt (sym (target_one H over k r.place r.named)) r.right, all_named H over k r.place r.named, refl)),
   )
 

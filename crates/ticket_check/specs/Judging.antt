@@ -52,7 +52,7 @@ view_of f = record { n = f.leaves; roots = root_in f; known = nothing_known }
 
 -- why its proof is refused
 abbrev pub ticket_fault : (List ℕ → Digest) → View → Ticket → Option ProofRefusal
-ticket_fault H v k = proof_fault H leaf_text v (points k) (message_of k)
+ticket_fault H v k = proof_fault H v (points k) (message_of k)
 
 abbrev pub unless_refused : Option ProofRefusal → TicketVerdict
 unless_refused None = Said.Live
@@ -64,4 +64,4 @@ ticket_verdict H v tip k = if is_same k.tip tip then unless_refused (ticket_faul
 -- ---- the test of a right ticket, over the whole history
 
 abbrev pub is_ticket_right : (List ℕ → Digest) → History → Digest → Ticket → Bool
-is_ticket_right H us tip k = is_same k.tip tip && is_right H leaf_text us nothing_known (points k) (message_of k)
+is_ticket_right H us tip k = is_same k.tip tip && is_right H us nothing_known (points k) (message_of k)

@@ -33,7 +33,7 @@ RightIsLive = (H : List ℕ → Digest) (us : History) (tip : Digest) (k : Ticke
 
 -- where a node stands for what a node holds that holds every output, the ticket of each entry that it keeps is right
 abbrev pub KeptTicketsAreRight : Type 0
-KeptTicketsAreRight = (H : List ℕ → Digest) (t : State) (s : NodeState) (number : ℕ) (k : Ticket) → IsNode s → Stands H leaf_text t s
+KeptTicketsAreRight = (H : List ℕ → Digest) (t : State) (s : NodeState) (number : ℕ) (k : Ticket) → IsNode s → Stands H t s
     → ticket_of s.newest number ≡ Some k → TicketRight H t.now.history t.now.tip k
 
 -- a node says that a ticket is live exactly where its roots accept it
@@ -43,11 +43,11 @@ CheckedIsAccepted = (H : List ℕ → Digest) (s : NodeState) (k : Ticket) → I
 -- and where it stands for what a node holds that holds every output, and its roots accept the ticket where it is right alone, exactly where it is
 -- right
 abbrev pub LiveIsRight : Type 0
-LiveIsRight = (H : List ℕ → Digest) (t : State) (s : NodeState) (k : Ticket) → Stands H leaf_text t s
+LiveIsRight = (H : List ℕ → Digest) (t : State) (s : NodeState) (k : Ticket) → Stands H t s
     → (AcceptsOver H s k → TicketRight H t.now.history t.now.tip k)
     → (checked_by H s k ≡ live_of k) ↔ TicketRight H t.now.history t.now.tip k
 
 -- an auditor says of a ticket what is said over all its outputs
 abbrev pub RecheckedIsRight : Type 0
-RecheckedIsRight = (H : List ℕ → Digest) → ((x : List ℕ) → IsDigest (H x)) → (s : BridgeState) (k : Ticket) → IsAudit H leaf_text s → TicketFits k
+RecheckedIsRight = (H : List ℕ → Digest) → ((x : List ℕ) → IsDigest (H x)) → (s : BridgeState) (k : Ticket) → IsAudit H s → TicketFits k
     → IsRechecked H (history_of s) s.chain.tip k (rechecked_by H s k)

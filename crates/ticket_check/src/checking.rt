@@ -1,7 +1,6 @@
 //! Judging the text of a ticket.
 ghost use Rattle.std.specs.Prelude.{◌≡◌, length, IfOk};
 ghost use Rattle.forest_model.specs.Standing.{root};
-ghost use Rattle.leaf_record.specs.Leaf.{leaf_text};
 ghost use Rattle.audit_replay.specs.Audit.{IsAudit};
 ghost use Rattle.ticket_check.specs.Judging.{TicketAccepts, ticket_verdict};
 ghost use Rattle.ticket_check.specs.Checking.{check_of, checked_by, fault_said, live_of as live_in, recheck_of, rechecked_by, said_by};
@@ -104,7 +103,7 @@ fn clash_of<D: Digester, L: Ledger>(
     ticket: &TicketView<'_>,
     steps: &mut Steps<L>,
 ) -> Result<Option<Clash>, NoMemory>
-    requires audit { IsAudit D.digest_of leaf_text bridge.now }
+    requires audit { IsAudit D.digest_of bridge.now }
     requires accepted { TicketAccepts D.digest_of (length bridge.now.entries) (root D.digest_of bridge.now.entries) bridge.now.chain.tip ticket.now }
     ensures { IfOk result (λ clash. clash ≡ ticket_clash_in D.digest_of bridge.now.entries bridge.now.held ticket.now) }
 {
@@ -118,7 +117,7 @@ fn rechecked<D: Digester, L: Ledger>(
     ticket: &TicketView<'_>,
     steps: &mut Steps<L>,
 ) -> Result<Checked, NoMemory>
-    requires { IsAudit D.digest_of leaf_text bridge.now }
+    requires { IsAudit D.digest_of bridge.now }
     ensures { IfOk result (λ said. said ≡ rechecked_by D.digest_of bridge.now ticket.now) }
 {
     match verdict_of::<D, L>(alloc, bridge, ticket, steps)? {

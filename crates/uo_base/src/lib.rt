@@ -18,7 +18,7 @@ pub use cursor::Cursor;
 pub use event::{Event, Limits, Net};
 pub use memory::{MemSink, MemSource};
 pub use ports::{Failed, InputFault, NoMemory, Sink, SinkFault, Source};
-pub use put::{one_compact, put_compact};
+pub use put::{one_compact, put_compact, put_sized};
 pub use quiet::{QuietSink, QuietSource};
 pub use system::{FileSink, FileSource, StdSink, StdSource};
 pub use transfer::{fill, put_all, read_all};

@@ -39,6 +39,13 @@ pub fn sha256d_all(texts: &[&[u8]], out: &mut [Digest])
     }
 }
 
+/// What `sha256d` gives of a pair of digests, as one text of 64 bytes.
+pub fn sha256d_pair(left: Digest, right: Digest) -> Digest
+    ensures { result ≡ record { 0 = sha256 (sha256 (left.0 ++ right.0)) } }
+{
+    sha256d(&pair_text(left, right))
+}
+
 // The digests of eight pairs.
 fn eight_digests(pairs: &[(Digest, Digest)]) -> [Digest; 8]
     requires { length pairs.now ≡ 8 }
@@ -101,6 +108,6 @@ pub fn sha256d_pairs(pairs: &[(Digest, Digest)], out: &mut [Digest])
     }
     'rest: for i in 8 * eights..pairs.len() {
         let (left, right) = pairs[i];
-        out[i] = sha256d(&pair_text(left, right));
+        out[i] = sha256d_pair(left, right);
     }
 }

@@ -15,9 +15,9 @@ fn put_both(text: &mut [u8], left: &[u8], right: &[u8])
     second.copy_from_slice(right);
 }
 
-/// The 64 bytes of the left digest and the right one.
+/// The 64 bytes of the left digest and the right one: the text of an inner node.
 #[inline(always)]
-pub(crate) fn pair_text(left: Digest, right: Digest) -> [u8; 64]
+pub fn pair_text(left: Digest, right: Digest) -> [u8; 64]
     ensures { result ≡ left.0 ++ right.0 }
 {
     let mut text = [0u8; 64];

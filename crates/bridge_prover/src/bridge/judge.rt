@@ -1,7 +1,6 @@
 //! How a bridge judges an event with the message beside it.
 ghost use Rattle.std.specs.Prelude.{◌≡◌, ◌<◌, ◌^◌, length, option_copied, option_map, IfOk, IfErr, OnOk, OnErr};
 ghost use Rattle.block_codec.specs.Reading.{block_in};
-ghost use Rattle.leaf_record.specs.Leaf.{leaf_text};
 ghost use Rattle.uo_base.specs.FeedEvent.{event_of};
 
 use super::Bridge;
@@ -46,8 +45,8 @@ impl<D: Digester> Bridge<D> {
         steps: &mut Steps<L>,
     ) -> Result<Judged, NoMemory>
         requires short { IsShort (event_of event) }
-        ensures verdict { IfOk result (λ j. verdict_in j ≡ judged_on D.digest_of leaf_text self.old (event_in (event_of event.entry))) }
-        ensures next { OnOk result (self.new ≡ next_judged D.digest_of leaf_text self.old (event_in (event_of event.entry))) }
+        ensures verdict { IfOk result (λ j. verdict_in j ≡ judged_on D.digest_of self.old (event_in (event_of event.entry))) }
+        ensures next { OnOk result (self.new ≡ next_judged D.digest_of self.old (event_in (event_of event.entry))) }
         ensures stays { OnErr result (self.new ≡ self.old) }
 
         // The block has a text.
@@ -58,7 +57,7 @@ impl<D: Digester> Bridge<D> {
 
         // Where it stands for what the node holds that holds every output, it says what that node says, and that the event is
         // forged where that one has no verdict, and stands for what that node holds then.
-        ensures refines { IfOk result (λ j. JudgesAsFull D.digest_of leaf_text self.old (event_in (event_of event.entry)) (verdict_in j) self.new) }
+        ensures refines { IfOk result (λ j. JudgesAsFull D.digest_of self.old (event_in (event_of event.entry)) (verdict_in j) self.new) }
     {
         // What a bridge keeps is known.
         let _chain = &self.chain;
@@ -77,8 +76,8 @@ impl<D: Digester> Bridge<D> {
     ) -> Result<Judged, NoMemory>
         requires short { length bytes.now < 2 ^ 32 }
         ensures verdict { IfOk result (λ j. verdict_in j
-            ≡ judged_on D.digest_of leaf_text self.old (BlockCame (block_in bytes.now) (handed_in (option_copied message.entry)))) }
-        ensures next { OnOk result (self.new ≡ next_judged D.digest_of leaf_text self.old
+            ≡ judged_on D.digest_of self.old (BlockCame (block_in bytes.now) (handed_in (option_copied message.entry)))) }
+        ensures next { OnOk result (self.new ≡ next_judged D.digest_of self.old
             (BlockCame (block_in bytes.now) (handed_in (option_copied message.entry)))) }
         ensures stays { OnErr result (self.new ≡ self.old) }
         ensures fits { IfOk result (λ j. EventFits (BlockCame (block_in bytes.now) (handed_in (option_copied message.entry)))) }
@@ -98,8 +97,8 @@ impl<D: Digester> Bridge<D> {
         steps: &mut Steps<L>,
     ) -> Result<Judged, NoMemory>
         ensures verdict { IfOk result (λ j. verdict_in j
-            ≡ judged_on D.digest_of leaf_text self.old (BlockCame (Some block.now) (handed_in (option_copied message.entry)))) }
-        ensures next { OnOk result (self.new ≡ next_judged D.digest_of leaf_text self.old
+            ≡ judged_on D.digest_of self.old (BlockCame (Some block.now) (handed_in (option_copied message.entry)))) }
+        ensures next { OnOk result (self.new ≡ next_judged D.digest_of self.old
             (BlockCame (Some block.now) (handed_in (option_copied message.entry)))) }
         ensures stays { OnErr result (self.new ≡ self.old) }
         ensures fits { BlockFits block.now }
@@ -139,9 +138,9 @@ impl<D: Digester> Bridge<D> {
         steps: &mut Steps<L>,
     ) -> Result<bool, RuleFault>
         requires { hash ≡ block_hash_of block.now }
-        ensures ok { IfOk result (λ taken. IsTaken D.digest_of leaf_text self.old block.now
+        ensures ok { IfOk result (λ taken. IsTaken D.digest_of self.old block.now
             (handed_in (option_copied message.entry)) taken self.new) }
-        ensures err { IfErr result (λ fault. IsNotTaken D.digest_of leaf_text self.old block.now (handed_in (option_copied message.entry)) fault) }
+        ensures err { IfErr result (λ fault. IsNotTaken D.digest_of self.old block.now (handed_in (option_copied message.entry)) fault) }
         ensures stays { OnErr result (self.new ≡ self.old) }
     {
         let spends = self.shape(block)?;
@@ -167,9 +166,9 @@ impl<D: Digester> Bridge<D> {
         steps: &mut Steps<L>,
     ) -> Result<Option<Shown>, RuleFault>
         requires { length spends.now.external < 2 ^ 32 }
-        ensures ok { IfOk result (λ shown. AreRight D.digest_of leaf_text self.old spends.now.external (handed_in (option_copied message.entry))
+        ensures ok { IfOk result (λ shown. AreRight D.digest_of self.old spends.now.external (handed_in (option_copied message.entry))
             shown) }
-        ensures err { IfErr result (λ fault. AreNotTaken D.digest_of leaf_text self.old spends.now.external (handed_in (option_copied message.entry))
+        ensures err { IfErr result (λ fault. AreNotTaken D.digest_of self.old spends.now.external (handed_in (option_copied message.entry))
             fault) }
         ensures stays { self.new ≡ self.old }
     {
@@ -193,10 +192,10 @@ impl<D: Digester> Bridge<D> {
     ) -> Result<Option<Shown>, RuleFault>
         requires shown { length message.now.proof.spends ≡ length external.now }
         requires few { length external.now < 2 ^ 32 }
-        requires known { AreKnown D.digest_of leaf_text (watched_by self.old) (history_of self.old) known.now }
-        ensures ok { IfOk result (λ shown. IsAcceptedBy D.digest_of leaf_text self.old external.now message.now shown) }
+        requires known { AreKnown D.digest_of (watched_by self.old) (history_of self.old) known.now }
+        ensures ok { IfOk result (λ shown. IsAcceptedBy D.digest_of self.old external.now message.now shown) }
         ensures err { IfErr result (λ fault. IsFirst
-            (option_map Why.Proof (fault_for D.digest_of leaf_text self.old external.now message.now)) fault) }
+            (option_map Why.Proof (fault_for D.digest_of self.old external.now message.now)) fault) }
         ensures stays { self.new ≡ self.old }
     {
         let found = found_shown(self.alloc, message)?;

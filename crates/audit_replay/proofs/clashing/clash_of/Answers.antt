@@ -1,6 +1,5 @@
 use Rattle.std.proofs.Common.{sym, ap, ◌∙◌, subst}
 use Rattle.std.specs.Prelude.{option_copied}
-use Rattle.leaf_record.specs.Leaf.{leaf_text}
 use Rattle.block_rules.specs.Money.{BlockSpends}
 use Rattle.node_rules.specs.Judged.{MessageJudged, handed_as}
 use Rattle.node_rules.specs.Reading.{handed_in}
@@ -59,8 +58,8 @@ unreachable-requires-in-None g c =
     let forged = forged_by H s b handed c.requires.forged in
     let shaped = shaped_so s b c.net.result c.limits.result c.chain-chain.result c.in-Ok.spends c.net.ensures c.limits.ensures
     c.chain-chain.ensures.is c.in-Ok.ensures in
-    let are = subst (AreKnown H leaf_text (watched_by s) (history_of s)) (sym c.deref.ensures.value)
-    (known_so H leaf_text s c.in_ok-known.known.items c.requires.is.is c.in_ok-known.ensures.own c.in_ok-known.ensures.ascends) in
+    let are = subst (AreKnown H (watched_by s) (history_of s)) (sym c.deref.ensures.value)
+    (known_so H s c.in_ok-known.known.items c.requires.is.is c.in_ok-known.ensures.own c.in_ok-known.ensures.ascends) in
     clash_there H s b handed forged c.in-Ok-Some.message (c.in-Ok-Some.ensures.is ∙ ap handed_as c.in-Ok-Some.field-0-is) c.deref.result.now are
     c.in-Ok.spends.external c.in_ok-clash.field-0 (ap (λ (x : BlockSpends). x.external) shaped.spends)
     (c.in_ok-clash.ensures.answer (history_of s) (stands_here H s c.requires.is _ _ c.forest.ensures c.outputs.ensures)
@@ -75,8 +74,8 @@ returns-clause-shows g c =
     let forged = forged_by H s b handed c.requires.forged in
     let shaped = shaped_so s b c.net.result c.limits.result c.chain-chain.result c.in-Ok.spends c.net.ensures c.limits.ensures
     c.chain-chain.ensures.is c.in-Ok.ensures in
-    let are = subst (AreKnown H leaf_text (watched_by s) (history_of s)) (sym c.deref.ensures.value)
-    (known_so H leaf_text s c.in_ok-known.known.items c.requires.is.is c.in_ok-known.ensures.own c.in_ok-known.ensures.ascends) in
+    let are = subst (AreKnown H (watched_by s) (history_of s)) (sym c.deref.ensures.value)
+    (known_so H s c.in_ok-known.known.items c.requires.is.is c.in_ok-known.ensures.own c.in_ok-known.ensures.ascends) in
     clash_shown H s b handed forged c.in-Ok-Some.message (c.in-Ok-Some.ensures.is ∙ ap handed_as c.in-Ok-Some.field-0-is) c.deref.result.now are
     c.in-Ok.spends.external c.in_ok-clash.field-0 c.in-Some.clash (ap (λ (x : BlockSpends). x.external) shaped.spends)
     (c.in_ok-clash.ensures.answer (history_of s) (stands_here H s c.requires.is _ _ c.forest.ensures c.outputs.ensures)
@@ -91,8 +90,8 @@ returns-clause-which g c =
     let forged = forged_by H s b handed c.requires.forged in
     let shaped = shaped_so s b c.net.result c.limits.result c.chain-chain.result c.in-Ok.spends c.net.ensures c.limits.ensures
     c.chain-chain.ensures.is c.in-Ok.ensures in
-    let are = subst (AreKnown H leaf_text (watched_by s) (history_of s)) (sym c.deref.ensures.value)
-    (known_so H leaf_text s c.in_ok-known.known.items c.requires.is.is c.in_ok-known.ensures.own c.in_ok-known.ensures.ascends) in
+    let are = subst (AreKnown H (watched_by s) (history_of s)) (sym c.deref.ensures.value)
+    (known_so H s c.in_ok-known.known.items c.requires.is.is c.in_ok-known.ensures.own c.in_ok-known.ensures.ascends) in
     clash_which H s b handed forged c.in-Ok-Some.message (c.in-Ok-Some.ensures.is ∙ ap handed_as c.in-Ok-Some.field-0-is) c.deref.result.now are
     c.in-Ok.spends.external c.in_ok-clash.field-0 c.in-Some.clash (ap (λ (x : BlockSpends). x.external) shaped.spends)
     (clash_here H s c.requires.is _ _ c.forest.ensures c.outputs.ensures c.deref.result.now c.in-Ok.spends.external c.in-Ok-Some.message

@@ -1,5 +1,4 @@
 use Rattle.std.proofs.Common.{◌≡◌, ◌+◌, ◌<◌, ◌≤◌, ◌^◌, length, sym, ap, ap₂, ◌∙◌, subst, arith}
-use Rattle.leaf_record.specs.Leaf.{leaf_text}
 use Rattle.leaf_record.specs.History.{supply}
 use Rattle.node_rules.specs.Machine.{issued}
 use Rattle.bridge_prover.specs.Full.{history_of}
@@ -13,7 +12,7 @@ overflow_add-sum g c =
     let n = c.loop-number.number in
     let lt = subst (λ k. n < k) (c.leaves-number-end.ensures.is ∙ ap length c.forest.ensures) c.loop-number-test.true in
     let fits = subst (λ hs. live_of hs n + amount_at hs n < 2 ^ 64) (sym c.outputs-outputs.ensures)
-    (live_fits H leaf_text c.args.bridge.now c.requires n lt) in
+    (live_fits H c.args.bridge.now c.requires n lt) in
     omega (arith, c.loop-number.invariant, c.amount-sum.ensures, fits)
 
 pub loop-number-preserved : goal.loop-number-preserved
@@ -29,4 +28,4 @@ returns-clause-most g c =
     omega (arith, c.loop-number.auto.number-end, c.loop-number-test.false, c.leaves-number-end.ensures.is, entries) in
     let same : c.loop-number.sum ≡ supply (history_of s) =
     c.loop-number.invariant ∙ (ap (λ hs. live_of hs c.loop-number.number) c.outputs-outputs.ensures ∙ ap (live_of s.held) all) in
-    subst (λ x. x ≤ issued s.rules.net s.chain.blocks) (sym same) (live_most H leaf_text s c.requires)
+    subst (λ x. x ≤ issued s.rules.net s.chain.blocks) (sym same) (live_most H s c.requires)

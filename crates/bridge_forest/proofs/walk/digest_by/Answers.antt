@@ -10,7 +10,7 @@ returns-then-not-is_within g c =
     let H = g.D.Digester.digest_of in
     let es = c.args.entries.now in
     ap (option_map (digest_of H)) (sym (outside es c.args.parts.now (alike H es c.args.parts.now c.requires.right) c.args.place.row c.args.place.off
-    (not_within _ _ c.if-not-is_within.true c.is_within.ensures)))
+    (not_within _ _ c.if-not-is_within.true c.is_within.ensures.means)))
 
 pub part_by-requires-clause-told : goal.part_by-requires-clause-told
 part_by-requires-clause-told g c = fewer_told c.args.entries.now c.args.above.now c.args.nodes.now 0 c.args.at (omega arith) c.requires.told

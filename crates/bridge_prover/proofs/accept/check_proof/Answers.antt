@@ -1,5 +1,4 @@
 use Rattle.std.proofs.Common.{ap, sym, ◌∙◌, subst, Some}
-use Rattle.leaf_record.specs.Leaf.{leaf_text}
 use Rattle.block_rules.specs.declared.refusal.Refusal.TheVariants as Why
 use Rattle.cache_model.specs.Cache.{look}
 use Rattle.node_rules.specs.Judged.{AreNamed}
@@ -11,20 +10,20 @@ pub returns-in_err-hashes-clause-err : goal.returns-in_err-hashes-clause-err
 returns-in_err-hashes-clause-err g c =
     let named = subst (λ n. AreNamed n c.args.message.now c.in_ok-targets.targets) c.leaves.ensures.is c.in_ok-targets.ensures in
     handed_on _ _ c.in_err-hashes.field-0.0 c.from_residual-in_err-hashes.ensures.1
-    (miscounted g.D.Digester.digest_of leaf_text c.args.forest.now.entries (look c.args.known.now) c.args.external.now c.args.message.now
+    (miscounted g.D.Digester.digest_of c.args.forest.now.entries (look c.args.known.now) c.args.external.now c.args.message.now
     c.in_ok-targets.targets named c.in_err-hashes.field-0.0 c.in_err-hashes.ensures)
 
 pub check_and_delete-requires-clause-leaves : goal.check_and_delete-requires-clause-leaves
 check_and_delete-requires-clause-leaves g c =
     let named = subst (λ n. AreNamed n c.args.message.now c.in_ok-targets.targets) c.leaves.ensures.is c.in_ok-targets.ensures in
-    leaf_each g.D.Digester.digest_of leaf_text c.args.forest.now.entries (look c.args.known.now) c.args.external.now c.args.message.now
+    leaf_each g.D.Digester.digest_of c.args.forest.now.entries (look c.args.known.now) c.args.external.now c.args.message.now
     c.in_ok-targets.targets named
     _ (c.deref.ensures.value ∙ c.in_ok-leaves.ensures) c.requires.shown
 
 pub returns-in-Ok-clause-ok : goal.returns-in-Ok-clause-ok
 returns-in-Ok-clause-ok g c =
     let named = subst (λ n. AreNamed n c.args.message.now c.in_ok-targets.targets) c.leaves.ensures.is c.in_ok-targets.ensures in
-    checked_by g.D.Digester.digest_of leaf_text c.args.forest.now.entries (look c.args.known.now) c.args.external.now c.args.message.now
+    checked_by g.D.Digester.digest_of c.args.forest.now.entries (look c.args.known.now) c.args.external.now c.args.message.now
     c.in_ok-targets.targets named
     c.roots-roots.result c.roots-roots.ensures c.in_ok-hashes.hashes.items c.in_ok-hashes.ensures
     _ _ _ _ _ (c.deref.ensures.value ∙ c.in_ok-leaves.ensures) c.deref-2.ensures.value c.in-Ok.ensures.answer
@@ -32,7 +31,7 @@ returns-in-Ok-clause-ok g c =
 pub returns-in-Err-clause-err : goal.returns-in-Err-clause-err
 returns-in-Err-clause-err g c =
     let named = subst (λ n. AreNamed n c.args.message.now c.in_ok-targets.targets) c.leaves.ensures.is c.in_ok-targets.ensures in
-    refused_by g.D.Digester.digest_of leaf_text c.args.forest.now.entries (look c.args.known.now) c.args.external.now c.args.message.now
+    refused_by g.D.Digester.digest_of c.args.forest.now.entries (look c.args.known.now) c.args.external.now c.args.message.now
     c.in_ok-targets.targets named
     c.roots-roots.result c.roots-roots.ensures c.in_ok-hashes.hashes.items c.in_ok-hashes.ensures
     c.in-Err.fault _ _ (c.deref.ensures.value ∙ c.in_ok-leaves.ensures) c.deref-2.ensures.value c.in-Err.ensures.answer.0

@@ -1,6 +1,5 @@
 use Rattle.std.proofs.Common.{◌≡◌, ◌+◌, ◌≤◌, ◌∷◌, [], length, get_or, ap, ◌∙◌, subst, arith}
 use Rattle.forest_place.specs.Position.{rows}
-use Rattle.leaf_record.specs.Leaf.{leaf_text}
 use Rattle.bridge_forest.specs.State.{is_live}
 use Rattle.bridge_forest.proofs.Undoing.{length-restored}
 use Rattle.bridge_prover.specs.Bridge.{restored_in}
@@ -25,12 +24,12 @@ loop-number-preserved g c =
     let old = c.loop-number.forest.entries in
     let more = c.restore.ensures.entries in
     let long : length c.restore.new.forest.entries ≡ length old =
-    ap length more ∙ length-restored (restored_in H leaf_text hs (get_or xs i 0 ∷ [])) old in
+    ap length more ∙ length-restored (restored_in H hs (get_or xs i 0 ∷ [])) old in
     record {
-      same = restored_more H leaf_text hs xs i _ old _ c.loop-number-test.true c.loop-number.invariant.same more;
+      same = restored_more H hs xs i _ old _ c.loop-number-test.true c.loop-number.invariant.same more;
       long = long ∙ c.loop-number.invariant.long;
       spent = λ k le lt. ap (λ es. is_live es (get_or xs k 0)) more
-          ∙ (live-restored_other H leaf_text hs (get_or xs i 0) (get_or xs k 0) old (other_later xs i k c.requires.apart le lt)
+          ∙ (live-restored_other H hs (get_or xs i 0) (get_or xs k 0) old (other_later xs i k c.requires.apart le lt)
           ∙ c.loop-number.invariant.spent k (omega (arith, le)) lt);
       steps =
           let cost = subst (λ n. c.restore.new.steps ≤ c.loop-number.steps + (rows n + 1)) c.loop-number.invariant.long c.restore.ensures.steps in

@@ -15,8 +15,8 @@ add_in-requires-clause-forty g c =
     omega (arith, low, same)
 
 pub returns-clause-stands : goal.returns-clause-stands
-returns-clause-stands g c = λ H text scripts us u f count stands digest joins free leaf cache.
-    added_stands_by H text scripts us u f c.args.joins.now c.args.n c.args.digest c.args.leaf c.args.cache.now.parts.kept c.add_in.new.parts.kept
+returns-clause-stands g c = λ H scripts us u f count stands digest joins free leaf cache.
+    added_stands_by H scripts us u f c.args.joins.now c.args.n c.args.digest c.args.leaf c.args.cache.now.parts.kept c.add_in.new.parts.kept
     c.args.cache.now.parts.held c.add_in.new.parts.held
     count stands digest joins free c.requires.slots leaf cache
     (c.add_in.ensures.kept ∙ (ap (λ (js : List Join). leaves_more (is_empty_of js) c.args.n (length js) c.args.leaf c.args.digest

@@ -9,8 +9,8 @@ use Rattle.cache_update.proofs.Changed.{deleted_stands_by}
 use Rattle.cache_update.proofs.block.after_delete.Goals as goal
 
 pub returns-clause-stands : goal.returns-clause-stands
-returns-clause-stands g c = λ H text scripts us numbers hashes count at shown changes cache.
-    deleted_stands_by H text scripts us c.args.targets.now.leaves c.args.targets.now.targets numbers hashes c.args.changes.now
+returns-clause-stands g c = λ H scripts us numbers hashes count at shown changes cache.
+    deleted_stands_by H scripts us c.args.targets.now.leaves c.args.targets.now.targets numbers hashes c.args.changes.now
     c.args.cache.now.parts.kept c.delete_in.new.parts.kept c.args.cache.now.parts.held c.delete_in.new.parts.held
     count at shown changes cache (c.delete_in.ensures.kept
     ∙ ap (λ (p : Parted). moved_leaves c.args.targets.now.leaves c.args.targets.now.targets p.kept) c.parts.ensures.value)

@@ -1,7 +1,8 @@
 use Rattle.std.proofs.Common.{ℕ, ◌-◌, ◌<◌, ◌^◌, ◌++◌, ◌∷◌, [], cond, rules, sym, ap, ◌∙◌, subst, arith}
 use Rattle.forest_place.specs.declared.place.Place.{Place}
+use Rattle.forest_place.specs.Places.{is_before_place}
 use Rattle.cache_model.specs.Search.{IsSplit}
-use Rattle.cache_model.specs.Undo.{is_before_place, held_key}
+use Rattle.cache_model.specs.Undo.{held_key}
 use Rattle.cache_update.specs.Descent.{NoneBefore}
 use Rattle.cache_update.proofs.Descending.{told_more, held_within}
 use Rattle.cache_update.proofs.Walked.{none_up}

@@ -16,7 +16,7 @@ loop-now-preserved c = record {
 pub returns-then-is_before-clause-before : goal.returns-then-is_before-clause-before
 returns-then-is_before-clause-before c = ends_before (around c.args.gap.from c.args.gap.to c.args.list.now) c.loop-now.now.from c.loop-now.now.to
     c.loop-now.list c.args.place c.loop-now.invariant.gap c.loop-now.invariant.same _ (omega (arith, c.loop-now-test.true))
-    (sym c.is_before.ensures ∙ c.if-is_before.true)
+    (sym c.is_before.ensures.is ∙ c.if-is_before.true)
 
 pub returns-clause-before : goal.returns-clause-before
 returns-clause-before c = ends_at (around c.args.gap.from c.args.gap.to c.args.list.now) c.loop-now.now.from c.args.place

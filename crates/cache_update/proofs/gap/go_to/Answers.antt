@@ -1,9 +1,10 @@
 use Rattle.std.proofs.Common.{List, sym, ◌∙◌, subst, arith}
 use Rattle.uo_digest.specs.declared.digest.Digest.{Digest}
 use Rattle.forest_place.specs.declared.place.Place.{Place}
+use Rattle.forest_place.specs.Places.{is_before_place}
 use Rattle.cache_model.specs.Lists.{AscendByPlace}
 use Rattle.cache_model.specs.Search.{IsSplit}
-use Rattle.cache_model.specs.Undo.{is_before_place, held_key}
+use Rattle.cache_model.specs.Undo.{held_key}
 use Rattle.cache_update.specs.Gaps.{EndsBefore}
 use Rattle.cache_update.proofs.gap.go_to.Goals as goal
 

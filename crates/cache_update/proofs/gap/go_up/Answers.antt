@@ -14,13 +14,13 @@ loop-now-preserved c = record {
   before = subst (λ i. EndsBefore (around c.args.gap.from c.args.gap.to c.args.list.now) i c.args.place) (sym c.one_up-now.ensures.from)
       (ends_more (around c.args.gap.from c.args.gap.to c.args.list.now) c.loop-now.now.from c.loop-now.now.to c.loop-now.list c.args.place
       c.loop-now.invariant.gap c.loop-now.invariant.same _ (omega (arith, c.loop-now-test.true))
-      (sym c.is_before.ensures ∙ c.if-not-is_before.false));
+      (sym c.is_before.ensures.is ∙ c.if-not-is_before.false));
 }
 
 pub returns-then-not-is_before-clause-split : goal.returns-then-not-is_before-clause-split
 returns-then-not-is_before-clause-split c = split_inside (around c.args.gap.from c.args.gap.to c.args.list.now) c.loop-now.now.from c.loop-now.now.to
     c.loop-now.list c.args.place c.loop-now.invariant.gap c.loop-now.invariant.same _ c.requires.ascends c.loop-now.invariant.before
-    (omega (arith, c.loop-now-test.true)) (sym c.is_before.ensures ∙ c.if-not-is_before.true)
+    (omega (arith, c.loop-now-test.true)) (sym c.is_before.ensures.is ∙ c.if-not-is_before.true)
 
 pub returns-clause-split : goal.returns-clause-split
 returns-clause-split c = split_at_end (around c.args.gap.from c.args.gap.to c.args.list.now) c.loop-now.now.from c.loop-now.now.to c.loop-now.list

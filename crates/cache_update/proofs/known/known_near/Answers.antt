@@ -2,7 +2,6 @@ use Rattle.std.proofs.Common.{ℕ, sym, ap, ap₂, ◌∙◌, subst}
 use Rattle.std.specs.List.Sorted.{IsNonDecreasing}
 use Rattle.forest_place.specs.Forest.{is_root}
 use Rattle.forest_place.specs.Position.{position}
-use Rattle.forest_place.proofs.Positions.{row_small}
 use Rattle.proof_shape.proofs.Needing.{rises_sorted}
 use Rattle.cache_update.proofs.Bracketed.{known_there, known_root, known_beside, known_before, known_apart}
 use Rattle.cache_update.proofs.known.known_near.Goals as goal
@@ -10,9 +9,6 @@ use Rattle.cache_update.proofs.known.known_near.Goals as goal
 pub index_near-at-requires : goal.index_near-at-requires
 index_near-at-requires c = subst IsNonDecreasing (sym c.covered.ensures.positions)
     (rises_sorted c.args.kept.now.leaves c.covered.result.0.now c.covered.ensures.is.rises)
-
-pub is_root-requires-clause-low : goal.is_root-requires-clause-low
-is_root-requires-clause-low c = row_small c.args.kept.now.leaves c.args.place.row c.args.place.off 40 c.requires c.leaves-n.ensures.shaped.few
 
 pub returns-then-is_apart : goal.returns-then-is_apart
 returns-then-is_apart c =

@@ -1,5 +1,4 @@
 use Rattle.std.proofs.Common.{Err, subst}
-use Rattle.leaf_record.specs.Leaf.{leaf_text}
 use Rattle.node_rules.specs.Judged.{AreNamed, TargetsJudged}
 use Rattle.compact_node.specs.Node.{view_by}
 use Rattle.node_rules.proofs.Handing.{handed_on}
@@ -11,7 +10,7 @@ returns-in_err-targets-clause-err g c =
     let m = c.args.message.now in
     let fault = c.in_err-targets.field-0.0 in
     handed_on _ _ fault c.from_residual.ensures.1
-    (targets_told g.D.Digester.digest_of leaf_text (view_by c.args.roots.now c.args.held.now) c.args.external.now m fault
+    (targets_told g.D.Digester.digest_of (view_by c.args.roots.now c.args.held.now) c.args.external.now m fault
     (subst (λ n. TargetsJudged n m (Err fault)) c.leaves.ensures.is c.in_err-targets.ensures))
 
 pub returns-in_err-hashes-clause-err : goal.returns-in_err-hashes-clause-err
@@ -20,7 +19,7 @@ returns-in_err-hashes-clause-err g c =
     let t = c.in_ok-targets.targets in
     let fault = c.in_err-hashes.field-0.0 in
     handed_on _ _ fault c.from_residual-in_err-hashes.ensures.1
-    (hashes_told g.D.Digester.digest_of leaf_text (view_by c.args.roots.now c.args.held.now) c.args.external.now m t
+    (hashes_told g.D.Digester.digest_of (view_by c.args.roots.now c.args.held.now) c.args.external.now m t
     (subst (λ n. AreNamed n m t) c.leaves.ensures.is c.in_ok-targets.ensures) fault c.in_err-hashes.ensures)
 
 pub returns-clause-filled : goal.returns-clause-filled

@@ -1,5 +1,5 @@
 use Rattle.cache_update.proofs.Changed.{joins_slots}
-use Rattle.compact_node.proofs.Additions.{is_with_leaf}
+use Rattle.forest_roots.proofs.Additions.{is_with_leaf}
 use Rattle.compact_node.proofs.grow.add.Goals as goal
 
 pub after_add-requires-clause-slots : goal.after_add-requires-clause-slots

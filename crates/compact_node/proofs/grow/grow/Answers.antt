@@ -1,5 +1,4 @@
 use Rattle.std.proofs.lemmas.Bool.{OnTrue_at}
-use Rattle.leaf_record.specs.Leaf.{leaf_text}
 use Rattle.cache_update.specs.Marks.{pairs_within}
 use Rattle.compact_node.proofs.Deciding.{on_ok}
 use Rattle.compact_node.proofs.Unmoved.{unwatched_kept, unwatched_held}
@@ -13,7 +12,7 @@ returns-then-watches_nothing-clause-kept g c =
     let none = OnTrue_at c.if-watches_nothing.true c.watches_nothing.ensures in
     let t = c.args.targets.now in
     on_ok c.grow_unwatched.result c.grow_unwatched.ensures.roots
-    (λ _. unwatched_kept g.D.Digester.digest_of leaf_text c.args.cache.now.watch c.args.roots.now c.args.spends.now.new t.leaves t.targets
+    (λ _. unwatched_kept g.D.Digester.digest_of c.args.cache.now.watch c.args.roots.now c.args.spends.now.new t.leaves t.targets
     c.args.cache.now.parts.kept _ c.args.cache.now.parts.held c.grow_unwatched.new.cache.parts.held none.0 none.1.0 none.1.1
     c.grow_unwatched.ensures.lists.0)
 
@@ -22,6 +21,6 @@ returns-then-watches_nothing-clause-held g c =
     let none = OnTrue_at c.if-watches_nothing.true c.watches_nothing.ensures in
     let t = c.args.targets.now in
     on_ok c.grow_unwatched.result c.grow_unwatched.ensures.roots
-    (λ _. unwatched_held g.D.Digester.digest_of leaf_text c.args.cache.now.watch c.args.roots.now c.args.spends.now.new t.leaves t.targets
+    (λ _. unwatched_held g.D.Digester.digest_of c.args.cache.now.watch c.args.roots.now c.args.spends.now.new t.leaves t.targets
     c.args.cache.now.parts.kept c.grow_unwatched.new.cache.parts.kept c.args.cache.now.parts.held _ none.0 none.1.0 none.1.1
     (pairs_within t.leaves c.args.changes.now) c.grow_unwatched.ensures.lists.1)

@@ -1,7 +1,6 @@
 use Rattle.std.proofs.Common.{List, ℕ, sym, ap₂, ◌∙◌, subst}
 use Rattle.uo_digest.specs.declared.digest.Digest.{Digest}
 use Rattle.forest_place.specs.declared.place.Place.{Place}
-use Rattle.leaf_record.specs.Leaf.{leaf_text}
 use Rattle.cache_model.specs.declared.kept.Kept.{Kept}
 use Rattle.cache_model.specs.Lists.{moved_leaves, leaf_places}
 use Rattle.cache_model.specs.Steps.{held_deleted}
@@ -20,7 +19,7 @@ returns-clause-held g c =
     let left = λ (ks : List Kept) (hs : List (Place × Digest)). held_deleted n ts (pairs_within n c.args.changes.now)
     (leaf_places (moved_leaves n ts ks)) hs in
     c.append.ensures.held
-    ∙ ap₂ (λ (w : List (List ℕ)) (hs : List (Place × Digest)). held_with_all g.D.Digester.digest_of leaf_text w c.args.roots.now c.args.spends.now.new
+    ∙ ap₂ (λ (w : List (List ℕ)) (hs : List (Place × Digest)). held_with_all g.D.Digester.digest_of w c.args.roots.now c.args.spends.now.new
     hs) (c.after_delete.ensures.watch ∙ c.in_ok-mark.ensures.watch)
     (c.after_delete.ensures.held ∙ ap₂ left c.in_ok-mark.ensures.lists.0 c.in_ok-mark.ensures.lists.1)
 

@@ -2,4 +2,4 @@ use Rattle.compact_node.proofs.Throughout.{fresh-stands}
 use Rattle.compact_node.proofs.laws.fresh_stands.Goals as goal
 
 pub returns : goal.returns
-returns c = λ H text net limits scripts. fresh-stands H text net limits scripts
+returns c = λ H net limits scripts. fresh-stands H net limits scripts

@@ -12,4 +12,4 @@ returns-clause-ok c =
     joined _ (to_le_bytes w32 c.args.code) (to_le_bytes w64 c.args.amount) _ _ _ _
     (rw c.to_le_bytes.ensures at c.in_ok-extend_from_slice.ensures.items)
     (rw c.to_le_bytes-2.ensures at c.in_ok-extend_from_slice-2.ensures.items)
-    c.in_ok-put_script.ensures.ok
+    c.in_ok-put_sized.ensures.ok

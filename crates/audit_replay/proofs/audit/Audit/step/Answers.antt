@@ -1,7 +1,6 @@
 use Rattle.std.proofs.Common.{Bool, sym, ap, ap₂, ◌∙◌, subst}
 use Rattle.std.specs.Prelude.{is_none}
 use Rattle.uo_base.specs.FeedEvent.{event_of}
-use Rattle.leaf_record.specs.Leaf.{leaf_text}
 use Rattle.node_rules.specs.Machine.{event_in}
 use Rattle.bridge_prover.specs.Bridge.{BridgeState}
 use Rattle.bridge_prover.specs.Full.{judged_on, next_judged, verdict_in}
@@ -12,20 +11,20 @@ use Rattle.audit_replay.proofs.audit.Audit.step.Goals as goal
 pub invariant_of-self-in-Verdict : goal.invariant_of-self-in-Verdict
 invariant_of-self-in-Verdict g c =
     let H = g.D.Digester.digest_of in
-    subst (IsAudit H leaf_text) (sym c.in_ok-verdict.ensures.next)
-    (next_is_audit H leaf_text c.self.inside.bridge (event_in (event_of c.args.event)) c.self.invariant c.in_ok-verdict.ensures.fits)
+    subst (IsAudit H) (sym c.in_ok-verdict.ensures.next)
+    (next_is_audit H c.self.inside.bridge (event_in (event_of c.args.event)) c.self.invariant c.in_ok-verdict.ensures.fits)
 
 pub returns-in_ok-clash-in-Forged-clause-verdict : goal.returns-in_ok-clash-in-Forged-clause-verdict
 returns-in_ok-clash-in-Forged-clause-verdict g c =
     let e = event_in (event_of c.args.event) in
     sym (ap verdict_in c.in-Forged.is) ∙ (c.in_ok-verdict.ensures.verdict
-    ∙ ap (λ (x : AuditState). judged_on g.D.Digester.digest_of leaf_text x.bridge e) c.self.view_is)
+    ∙ ap (λ (x : AuditState). judged_on g.D.Digester.digest_of x.bridge e) c.self.view_is)
 
 pub returns-in_ok-clash-in-Forged-clause-next : goal.returns-in_ok-clash-in-Forged-clause-next
 returns-in_ok-clash-in-Forged-clause-next g c =
     let H = g.D.Digester.digest_of in
     let e = event_in (event_of c.args.event) in
     ap₂ (λ (b : BridgeState) (x : Bool). let a : AuditState = record { bridge = b; ended = x } in a)
-    (c.in_ok-verdict.ensures.next ∙ ap (λ (x : AuditState). next_judged H leaf_text x.bridge e) c.self.view_is)
+    (c.in_ok-verdict.ensures.next ∙ ap (λ (x : AuditState). next_judged H x.bridge e) c.self.view_is)
     (ap is_none (sym (ap verdict_in c.in-Forged.is)
-    ∙ (c.in_ok-verdict.ensures.verdict ∙ ap (λ (x : AuditState). judged_on H leaf_text x.bridge e) c.self.view_is)))
+    ∙ (c.in_ok-verdict.ensures.verdict ∙ ap (λ (x : AuditState). judged_on H x.bridge e) c.self.view_is)))

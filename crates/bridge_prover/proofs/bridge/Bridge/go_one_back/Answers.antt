@@ -1,7 +1,6 @@
 use Rattle.std.proofs.Common.{◌≡◌, ◌≢◌, ◌+◌, ◌*◌, ◌<◌, ◌≤◌, true, false, length, Some, ap, sym, ◌∙◌, subst, arith}
 use Rattle.std.specs.Prelude.{slice_get, All, AllPairs}
 use Rattle.forest_place.specs.Position.{rows}
-use Rattle.leaf_record.specs.Leaf.{leaf_text}
 use Rattle.bridge_forest.specs.State.{is_live}
 use Rattle.output_index.specs.Held.{is_spent}
 use Rattle.reorg_undo.specs.Undo.{UndoRecord}
@@ -32,7 +31,7 @@ cut-requires-clause-given g c =
           c.undo.inside.spent.items;
     } in
     let newest : Some u ≡ slice_get s.undo 0 = ap Some c.undo.view_is ∙ c.in-Some.ensures.newest in
-    let can = can_go_back H leaf_text s u c.self.invariant.0 newest in
+    let can = can_go_back H s u c.self.invariant.0 newest in
     can.below
 
 pub cut-requires-clause-live : goal.cut-requires-clause-live
@@ -55,7 +54,7 @@ cut-requires-clause-live g c =
           c.undo.inside.spent.items;
     } in
     let newest : Some u ≡ slice_get s.undo 0 = ap Some c.undo.view_is ∙ c.in-Some.ensures.newest in
-    let can = can_go_back H leaf_text s u c.self.invariant.0 newest in
+    let can = can_go_back H s u c.self.invariant.0 newest in
     can.added
 
 pub restore_all-requires-clause-given : goal.restore_all-requires-clause-given
@@ -78,7 +77,7 @@ restore_all-requires-clause-given g c =
           c.undo.inside.spent.items;
     } in
     let newest : Some u ≡ slice_get s.undo 0 = ap Some c.undo.view_is ∙ c.in-Some.ensures.newest in
-    let can = can_go_back H leaf_text s u c.self.invariant.0 newest in
+    let can = can_go_back H s u c.self.invariant.0 newest in
     subst (λ xs. All (λ n. n < length c.cut.new.self.entries) xs) (sym c.deref.ensures.value)
     (subst (λ es. All (λ n. n < length es) u.spent) (sym c.cut.ensures.entries) can.given)
 
@@ -102,7 +101,7 @@ restore_all-requires-clause-spent g c =
           c.undo.inside.spent.items;
     } in
     let newest : Some u ≡ slice_get s.undo 0 = ap Some c.undo.view_is ∙ c.in-Some.ensures.newest in
-    let can = can_go_back H leaf_text s u c.self.invariant.0 newest in
+    let can = can_go_back H s u c.self.invariant.0 newest in
     subst (λ xs. All (λ n. is_live c.cut.new.self.entries n ≡ false) xs) (sym c.deref.ensures.value)
     (subst (λ es. All (λ n. is_live es n ≡ false) u.spent) (sym c.cut.ensures.entries) can.spent)
 
@@ -126,7 +125,7 @@ restore_all-requires-clause-apart g c =
           c.undo.inside.spent.items;
     } in
     let newest : Some u ≡ slice_get s.undo 0 = ap Some c.undo.view_is ∙ c.in-Some.ensures.newest in
-    let can = can_go_back H leaf_text s u c.self.invariant.0 newest in
+    let can = can_go_back H s u c.self.invariant.0 newest in
     subst (AllPairs (λ m n. m ≢ n)) (sym c.deref.ensures.value) can.apart
 
 pub cut-requires-2-clause-live : goal.cut-requires-2-clause-live
@@ -149,7 +148,7 @@ cut-requires-2-clause-live g c =
           c.undo.inside.spent.items;
     } in
     let newest : Some u ≡ slice_get s.undo 0 = ap Some c.undo.view_is ∙ c.in-Some.ensures.newest in
-    let can = can_go_back H leaf_text s u c.self.invariant.0 newest in
+    let can = can_go_back H s u c.self.invariant.0 newest in
     can.added_held
 
 pub cut-requires-2-clause-order : goal.cut-requires-2-clause-order
@@ -172,7 +171,7 @@ cut-requires-2-clause-order g c =
           c.undo.inside.spent.items;
     } in
     let newest : Some u ≡ slice_get s.undo 0 = ap Some c.undo.view_is ∙ c.in-Some.ensures.newest in
-    let can = can_go_back H leaf_text s u c.self.invariant.0 newest in
+    let can = can_go_back H s u c.self.invariant.0 newest in
     let below = can.below in let counted = can.counted in omega (arith, below, counted)
 
 pub unspend_all-requires-clause-spent : goal.unspend_all-requires-clause-spent
@@ -195,7 +194,7 @@ unspend_all-requires-clause-spent g c =
           c.undo.inside.spent.items;
     } in
     let newest : Some u ≡ slice_get s.undo 0 = ap Some c.undo.view_is ∙ c.in-Some.ensures.newest in
-    let can = can_go_back H leaf_text s u c.self.invariant.0 newest in
+    let can = can_go_back H s u c.self.invariant.0 newest in
     subst (λ xs. All (λ n. is_spent n c.cut-2.new.outputs ≡ true) xs) (sym c.deref-2.ensures.value)
     (subst (λ hs. All (λ n. is_spent n hs ≡ true) u.spent) (sym c.cut-2.ensures) can.spent_held)
 
@@ -219,7 +218,7 @@ unspend_all-requires-clause-apart g c =
           c.undo.inside.spent.items;
     } in
     let newest : Some u ≡ slice_get s.undo 0 = ap Some c.undo.view_is ∙ c.in-Some.ensures.newest in
-    let can = can_go_back H leaf_text s u c.self.invariant.0 newest in
+    let can = can_go_back H s u c.self.invariant.0 newest in
     subst (AllPairs (λ m n. m ≢ n)) (sym c.deref-2.ensures.value) can.apart
 
 pub invariant_of-self-2 : goal.invariant_of-self-2
@@ -242,7 +241,7 @@ invariant_of-self-2 g c =
           c.undo.inside.spent.items;
     } in
     let newest : Some u ≡ slice_get s.undo 0 = ap Some c.undo.view_is ∙ c.in-Some.ensures.newest in (
-      undone_like H leaf_text s u c.self.invariant.0 newest _ _ _ _ _ _ _ c.deref.ensures.value c.cut.ensures.entries c.restore_all.ensures.entries
+      undone_like H s u c.self.invariant.0 newest _ _ _ _ _ _ _ c.deref.ensures.value c.cut.ensures.entries c.restore_all.ensures.entries
           c.deref-2.ensures.value c.cut-2.ensures c.unspend_all.ensures c.pop.ensures.kept,
       noted_back (scripts_of i.watch) c.deref-2.result.now c.undo.inside.leaves i.outputs c.cut-2.new.outputs c.unspend_all.new.outputs i.noted.items
           c.cut_noted.new.noted.items c.self.invariant.1 c.cut-2.ensures c.unspend_all.ensures c.cut_noted.ensures,
@@ -269,4 +268,4 @@ returns-clause-steps g c =
     } in
     let newest : Some u ≡ slice_get s.undo 0 = ap Some c.undo.view_is ∙ c.in-Some.ensures.newest in
     subst (λ (x : BridgeState). c.restore_all.new.steps ≤ c.args.steps.now + spent_by 1 x.undo * (rows (length x.entries) + 1)) c.self.view_is
-    (undo_cost H leaf_text s u newest _ _ _ _ _ c.deref.ensures.value c.cut.ensures.entries c.cut.ensures.steps c.restore_all.ensures.steps)
+    (undo_cost H s u newest _ _ _ _ _ c.deref.ensures.value c.cut.ensures.entries c.cut.ensures.steps c.restore_all.ensures.steps)

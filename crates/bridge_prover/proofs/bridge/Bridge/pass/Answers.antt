@@ -1,5 +1,4 @@
 use Rattle.std.proofs.Common.{◌≡◌, None, sym, ap, ◌∙◌, subst, length}
-use Rattle.leaf_record.specs.Leaf.{leaf_text}
 use Rattle.block_rules.specs.Steps.{first_of}
 use Rattle.block_rules.specs.Money.{money_steps}
 use Rattle.node_rules.specs.Judged.{IsFirst}
@@ -23,7 +22,7 @@ pub money_rules-requires : goal.money_rules-requires
 money_rules-requires g c =
     let known = subst (λ ext. AreFound c.args.self.now.held ext c.in_ok-numbers.field-0.numbers.items c.in_ok-numbers.field-0.found.items
     c.in_ok-numbers.field-0.rests) c.external.ensures c.in_ok-numbers.ensures.ok in
-    ap length c.deref.ensures.value ∙ found_count g.D.Digester.digest_of leaf_text c.args.self.now c.args.block.now c.in_ok-spends.spends _ _ _
+    ap length c.deref.ensures.value ∙ found_count g.D.Digester.digest_of c.args.self.now c.args.block.now c.in_ok-spends.spends _ _ _
     c.in_ok-spends.ensures.bridge c.in_ok-spends.ensures.judged known
 
 pub extend-requires-clause-ready : goal.extend-requires-clause-ready
@@ -32,7 +31,7 @@ extend-requires-clause-ready g c =
     c.in_ok-numbers.field-0.rests) c.external.ensures c.in_ok-numbers.ensures.ok in
     let paid : first_of (money_steps c.in_ok-spends.spends c.in_ok-numbers.field-0.found.items) ≡ None =
     ap (λ xs. first_of (money_steps c.in_ok-spends.spends xs)) (sym c.deref.ensures.value) ∙ c.in-Ok.ensures.passes in
-    ready_by g.D.Digester.digest_of leaf_text c.args.self.now c.args.block.now c.in_ok-spends.spends _ _ _ c.in_ok-spends.ensures.bridge
+    ready_by g.D.Digester.digest_of c.args.self.now c.args.block.now c.in_ok-spends.spends _ _ _ c.in_ok-spends.ensures.bridge
     c.in_ok-spends.ensures.judged known paid c.bytes-bytes.ensures.fits c.args.hash
 
 pub returns-in-Ok-extend-clause-ok : goal.returns-in-Ok-extend-clause-ok
@@ -41,7 +40,7 @@ returns-in-Ok-extend-clause-ok g c =
     c.in_ok-numbers.field-0.rests) c.external.ensures c.in_ok-numbers.ensures.ok in
     let paid : first_of (money_steps c.in_ok-spends.spends c.in_ok-numbers.field-0.found.items) ≡ None =
     ap (λ xs. first_of (money_steps c.in_ok-spends.spends xs)) (sym c.deref.ensures.value) ∙ c.in-Ok.ensures.passes in
-    proved_by g.D.Digester.digest_of leaf_text c.args.self.now c.args.block.now c.in_ok-spends.spends _ _ _ c.in_ok-spends.ensures.bridge
+    proved_by g.D.Digester.digest_of c.args.self.now c.args.block.now c.in_ok-spends.spends _ _ _ c.in_ok-spends.ensures.bridge
     c.in_ok-spends.ensures.judged known paid c.args.hash _ _ c.requires c.in-Ok-extend.ensures.says c.in-Ok-extend.ensures.next
 
 pub returns-in-Ok-extend-clause-steps : goal.returns-in-Ok-extend-clause-steps
@@ -50,7 +49,7 @@ returns-in-Ok-extend-clause-steps g c =
     c.in_ok-numbers.field-0.rests) c.external.ensures c.in_ok-numbers.ensures.ok in
     let paid : first_of (money_steps c.in_ok-spends.spends c.in_ok-numbers.field-0.found.items) ≡ None =
     ap (λ xs. first_of (money_steps c.in_ok-spends.spends xs)) (sym c.deref.ensures.value) ∙ c.in-Ok.ensures.passes in
-    steps_by g.D.Digester.digest_of leaf_text c.args.self.now c.args.block.now c.in_ok-spends.spends _ _ _ c.in_ok-spends.ensures.bridge
+    steps_by g.D.Digester.digest_of c.args.self.now c.args.block.now c.in_ok-spends.spends _ _ _ c.in_ok-spends.ensures.bridge
     c.in_ok-spends.ensures.judged known paid c.args.steps.now c.extend.new.steps c.extend.ensures.steps
 
 pub returns-in-Ok-clause-steps : goal.returns-in-Ok-clause-steps
@@ -59,13 +58,13 @@ returns-in-Ok-clause-steps g c =
     c.in_ok-numbers.field-0.rests) c.external.ensures c.in_ok-numbers.ensures.ok in
     let paid : first_of (money_steps c.in_ok-spends.spends c.in_ok-numbers.field-0.found.items) ≡ None =
     ap (λ xs. first_of (money_steps c.in_ok-spends.spends xs)) (sym c.deref.ensures.value) ∙ c.in-Ok.ensures.passes in
-    steps_by g.D.Digester.digest_of leaf_text c.args.self.now c.args.block.now c.in_ok-spends.spends _ _ _ c.in_ok-spends.ensures.bridge
+    steps_by g.D.Digester.digest_of c.args.self.now c.args.block.now c.in_ok-spends.spends _ _ _ c.in_ok-spends.ensures.bridge
     c.in_ok-spends.ensures.judged known paid c.args.steps.now c.extend.new.steps c.extend.ensures.steps
 
 pub returns-clause-err : goal.returns-clause-err
 returns-clause-err g c =
     let known = subst (λ ext. AreFound c.args.self.now.held ext c.in_ok-numbers.field-0.numbers.items c.in_ok-numbers.field-0.found.items
     c.in_ok-numbers.field-0.rests) c.external.ensures c.in_ok-numbers.ensures.ok in
-    money_refused_by g.D.Digester.digest_of leaf_text c.args.self.now c.args.block.now c.in_ok-spends.spends _ _ _ c.in_ok-spends.ensures.bridge
+    money_refused_by g.D.Digester.digest_of c.args.self.now c.args.block.now c.in_ok-spends.spends _ _ _ c.in_ok-spends.ensures.bridge
     c.in_ok-spends.ensures.judged known c.in-Err.why (ap (λ xs. first_of (money_steps c.in_ok-spends.spends xs)) (sym c.deref.ensures.value)
     ∙ c.in-Err.ensures)

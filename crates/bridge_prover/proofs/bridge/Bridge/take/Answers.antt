@@ -1,6 +1,5 @@
 use Rattle.std.proofs.Common.{◌≡◌, None, sym, ap, ◌∙◌, subst, length}
 use Rattle.std.specs.Prelude.{option_copied}
-use Rattle.leaf_record.specs.Leaf.{leaf_text}
 use Rattle.block_rules.specs.Steps.{first_of}
 use Rattle.block_rules.specs.Money.{money_steps}
 use Rattle.node_rules.specs.Reading.{handed_in}
@@ -15,7 +14,7 @@ use Rattle.bridge_prover.proofs.bridge.Bridge.take.Goals as goal
 pub returns-in_err-spends-clause-err : goal.returns-in_err-spends-clause-err
 returns-in_err-spends-clause-err g c =
     handed_on _ _ c.in_err-spends.field-0.0 c.from_residual.ensures.1
-    (unshaped g.D.Digester.digest_of leaf_text c.args.self.now c.args.block.now (handed_in (option_copied c.args.message)) c.in_err-spends.field-0.0
+    (unshaped g.D.Digester.digest_of c.args.self.now c.args.block.now (handed_in (option_copied c.args.message)) c.in_err-spends.field-0.0
     c.in_err-spends.ensures.judged)
 
 pub show-requires : goal.show-requires
@@ -26,45 +25,45 @@ show-requires g c =
 pub returns-in_err-shown-clause-err : goal.returns-in_err-shown-clause-err
 returns-in_err-shown-clause-err g c =
     handed_on _ _ c.in_err-shown.field-0.0 c.from_residual-in_err-shown.ensures.1
-    (not_shown g.D.Digester.digest_of leaf_text c.args.self.now c.args.block.now (handed_in (option_copied c.args.message)) c.in_ok-spends.spends
+    (not_shown g.D.Digester.digest_of c.args.self.now c.args.block.now (handed_in (option_copied c.args.message)) c.in_ok-spends.spends
     c.in_ok-spends.ensures.judged c.in_err-shown.field-0.0 c.in_err-shown.ensures.err)
 
 pub money_rules-requires : goal.money_rules-requires
 money_rules-requires g c =
     let H = g.D.Digester.digest_of in
     let handed = handed_in (option_copied c.args.message) in
-    let are = subst (AreRight H leaf_text c.args.self.now c.in_ok-spends.spends.external handed) c.in-Some.is c.in_ok-shown.ensures.ok in
-    ap length c.deref.ensures.value ∙ found_many H leaf_text c.args.self.now c.args.block.now handed c.in_ok-spends.spends
+    let are = subst (AreRight H c.args.self.now c.in_ok-spends.spends.external handed) c.in-Some.is c.in_ok-shown.ensures.ok in
+    ap length c.deref.ensures.value ∙ found_many H c.args.self.now c.args.block.now handed c.in_ok-spends.spends
     c.in_ok-spends.ensures.judged c.in-Some.shown are
 
 pub take_in-requires : goal.take_in-requires
 take_in-requires g c =
     let H = g.D.Digester.digest_of in
     let handed = handed_in (option_copied c.args.message) in
-    let are = subst (AreRight H leaf_text c.args.self.now c.in_ok-spends.spends.external handed) c.in-Some.is c.in_ok-shown.ensures.ok in
+    let are = subst (AreRight H c.args.self.now c.in_ok-spends.spends.external handed) c.in-Some.is c.in_ok-shown.ensures.ok in
     let paid : first_of (money_steps c.in_ok-spends.spends c.in-Some.shown.found.items) ≡ None =
     ap (λ xs. first_of (money_steps c.in_ok-spends.spends xs)) (sym c.deref.ensures.value) ∙ c.in-Ok.ensures.passes in
-    subst (λ (x : BridgeState). IsReady H leaf_text x c.args.hash c.in-Some.shown.numbers.items c.in_ok-spends.spends.new)
+    subst (λ (x : BridgeState). IsReady H x c.args.hash c.in-Some.shown.numbers.items c.in_ok-spends.spends.new)
     (sym c.in_ok-shown.ensures.stays)
-    (shown_ready H leaf_text c.args.self.now c.args.block.now handed c.in_ok-spends.spends c.in_ok-spends.ensures.judged c.in-Some.shown are paid
+    (shown_ready H c.args.self.now c.args.block.now handed c.in_ok-spends.spends c.in_ok-spends.ensures.judged c.in-Some.shown are paid
     c.in_ok-spends.ensures.bridge c.bytes-bytes.ensures.fits c.args.hash)
 
 pub returns-in-Ok-take_in-clause-ok : goal.returns-in-Ok-take_in-clause-ok
 returns-in-Ok-take_in-clause-ok g c =
     let H = g.D.Digester.digest_of in
     let handed = handed_in (option_copied c.args.message) in
-    let are = subst (AreRight H leaf_text c.args.self.now c.in_ok-spends.spends.external handed) c.in-Some.is c.in_ok-shown.ensures.ok in
+    let are = subst (AreRight H c.args.self.now c.in_ok-spends.spends.external handed) c.in-Some.is c.in_ok-shown.ensures.ok in
     let paid : first_of (money_steps c.in_ok-spends.spends c.in-Some.shown.found.items) ≡ None =
     ap (λ xs. first_of (money_steps c.in_ok-spends.spends xs)) (sym c.deref.ensures.value) ∙ c.in-Ok.ensures.passes in
-    gone H leaf_text c.args.self.now c.args.block.now handed c.in_ok-spends.spends c.in_ok-spends.ensures.judged c.in-Some.shown are paid c.args.hash
+    gone H c.args.self.now c.args.block.now handed c.in_ok-spends.spends c.in_ok-spends.ensures.judged c.in-Some.shown are paid c.args.hash
     _ c.requires
-    (c.in-Ok-take_in.ensures.next ∙ ap (λ (x : BridgeState). bridge_with H leaf_text x c.args.hash c.in-Some.shown.numbers.items
+    (c.in-Ok-take_in.ensures.next ∙ ap (λ (x : BridgeState). bridge_with H x c.args.hash c.in-Some.shown.numbers.items
     c.in_ok-spends.spends.new) c.in_ok-shown.ensures.stays)
 
 pub returns-clause-err : goal.returns-clause-err
 returns-clause-err g c =
     let H = g.D.Digester.digest_of in
     let handed = handed_in (option_copied c.args.message) in
-    let are = subst (AreRight H leaf_text c.args.self.now c.in_ok-spends.spends.external handed) c.in-Some.is c.in_ok-shown.ensures.ok in
-    unpaid H leaf_text c.args.self.now c.args.block.now handed c.in_ok-spends.spends c.in_ok-spends.ensures.judged c.in-Some.shown are c.in-Err.why
+    let are = subst (AreRight H c.args.self.now c.in_ok-spends.spends.external handed) c.in-Some.is c.in_ok-shown.ensures.ok in
+    unpaid H c.args.self.now c.args.block.now handed c.in_ok-spends.spends c.in_ok-spends.ensures.judged c.in-Some.shown are c.in-Err.why
     (ap (λ xs. first_of (money_steps c.in_ok-spends.spends xs)) (sym c.deref.ensures.value) ∙ c.in-Err.ensures)

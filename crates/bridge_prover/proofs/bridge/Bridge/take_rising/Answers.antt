@@ -36,7 +36,7 @@ invariant_of-self-2 g c =
     let count : c.len-3.result ≡ length new = omega (arith, c.len-3.ensures, c.in_ok-digests.digests.ok.0, ap length digests, long) in
     let put = c.spend_all.ensures ∙ ap (spent_in c.deref.result.now) c.in_ok-insert_all.ensures.ok in
     let put' = put ∙ ap (λ ns. spent_in ns (i.outputs ++ numbered i.chain.leaves new)) c.deref.ensures.value in (
-      extended_like H leaf_text _ c.args.self.now c.self.view_is c.args.hash c.args.numbers.items new c.requires.ready.next c.len-3.result
+      extended_like H _ c.args.self.now c.self.view_is c.args.hash c.args.numbers.items new c.requires.ready.next c.len-3.result
           c.apply_block.new.self.entries c.keep.new.outputs c.keep.new.ring count
           (c.apply_block.ensures.entries ∙ ap₂ (λ xs ys. xs ++ map Some ys) (ap (entries_without c.args.spent.now) c.in_ok-reserve.ensures.entries
           ∙ emptied_same c.args.numbers.items c.args.numbers.items c.args.spent.now i.forest.entries refl c.requires.same)
@@ -59,7 +59,7 @@ returns-clause-next g c =
     let count : c.len-3.result ≡ length new = omega (arith, c.len-3.ensures, c.in_ok-digests.digests.ok.0, ap length digests, long) in
     let put = c.spend_all.ensures ∙ ap (spent_in c.deref.result.now) c.in_ok-insert_all.ensures.ok in
     let put' = put ∙ ap (λ ns. spent_in ns (i.outputs ++ numbered i.chain.leaves new)) c.deref.ensures.value in
-    extended_is H leaf_text _ c.args.self.now c.self.view_is c.args.hash c.args.numbers.items new c.requires.ready.next c.len-3.result
+    extended_is H _ c.args.self.now c.self.view_is c.args.hash c.args.numbers.items new c.requires.ready.next c.len-3.result
     c.apply_block.new.self.entries c.keep.new.outputs c.keep.new.ring count
     (c.apply_block.ensures.entries ∙ ap₂ (λ xs ys. xs ++ map Some ys) (ap (entries_without c.args.spent.now) c.in_ok-reserve.ensures.entries
     ∙ emptied_same c.args.numbers.items c.args.numbers.items c.args.spent.now i.forest.entries refl c.requires.same)
@@ -135,8 +135,8 @@ invariant_of-self-in_default g c =
       held = hs;
       undo = i.undo;
     } in (
-      subst (λ es. IsBridge H leaf_text (st es c.give_back.new.outputs)) (sym c.in_ok-reserve.ensures.entries)
-          (subst (λ hs. IsBridge H leaf_text (st i.forest.entries hs)) (sym same) c.self.invariant.0),
+      subst (λ es. IsBridge H (st es c.give_back.new.outputs)) (sym c.in_ok-reserve.ensures.entries)
+          (subst (λ hs. IsBridge H (st i.forest.entries hs)) (sym same) c.self.invariant.0),
       c.in_ok-reserve-2.ensures.items ∙ (c.self.invariant.1 ∙ ap (noted_in (scripts_of i.watch)) (sym same)),
     )
 

@@ -1,5 +1,4 @@
 use Rattle.std.proofs.Common.{◌≡◌, ℕ, ◌+◌, refl, sym, ap, ◌∙◌, subst}
-use Rattle.leaf_record.specs.Leaf.{leaf_text}
 use Rattle.block_rules.specs.declared.chain.Chain.{Chain}
 use Rattle.node_rules.specs.Judging.{Rules}
 use Rattle.cache_update.specs.Refused.{IsOfForest}
@@ -33,7 +32,7 @@ invariant_of-self-2 g c =
     let x : PastState = record { chain = i.chain; roots = c.in_ok-before.before; mark = c.in_ok-mark.mark } in
     let before = node_of rules i.cache.watch i.chain i.roots i.cache.parts i.older in
     let leaves : before.newest.roots.leaves ≡ c.args.self.now.newest.roots.leaves = ap (λ (s : NodeState). s.newest.roots.leaves) c.self.view_is in
-    let level = grown_level H leaf_text i.cache.watch before.newest c.args.hash c.args.targets.now.leaves c.args.targets.now.targets
+    let level = grown_level H i.cache.watch before.newest c.args.hash c.args.targets.now.leaves c.args.targets.now.targets
     c.args.changes.now c.args.roots.now c.args.spends.now.new chain c.leaves.result c.set.new.self
     c.grow.new.roots c.grow.new.cache.parts.kept c.grow.new.cache.parts.held (c.requires.entries ∙ sym leaves) (c.requires.same ∙ sym leaves)
     c.self.invariant.node.newest.counted refl c.leaves.ensures.is
@@ -47,7 +46,7 @@ invariant_of-self-2 g c =
       held = c.in_ok-mark.ensures.held_back;
     }) c.grow.new.cache.watch c.grow.ensures.watch
     ∙ (ap (λ (l : LevelState). with_level l before) level
-    ∙ ap (λ (s : NodeState). with_level (level_grown H leaf_text s.scripts s.newest c.args.hash c.args.targets.now.targets c.args.changes.now
+    ∙ ap (λ (s : NodeState). with_level (level_grown H s.scripts s.newest c.args.hash c.args.targets.now.targets c.args.changes.now
     c.args.roots.now c.args.spends.now.new) s) c.self.view_is) in
     record {
       node = subst IsNode (sym next) c.requires.next;
@@ -71,7 +70,7 @@ returns-clause-next g c =
     let x : PastState = record { chain = i.chain; roots = c.in_ok-before.before; mark = c.in_ok-mark.mark } in
     let before = node_of rules i.cache.watch i.chain i.roots i.cache.parts i.older in
     let leaves : before.newest.roots.leaves ≡ c.args.self.now.newest.roots.leaves = ap (λ (s : NodeState). s.newest.roots.leaves) c.self.view_is in
-    let level = grown_level H leaf_text i.cache.watch before.newest c.args.hash c.args.targets.now.leaves c.args.targets.now.targets
+    let level = grown_level H i.cache.watch before.newest c.args.hash c.args.targets.now.leaves c.args.targets.now.targets
     c.args.changes.now c.args.roots.now c.args.spends.now.new chain c.leaves.result c.set.new.self
     c.grow.new.roots c.grow.new.cache.parts.kept c.grow.new.cache.parts.held (c.requires.entries ∙ sym leaves) (c.requires.same ∙ sym leaves)
     c.self.invariant.node.newest.counted refl c.leaves.ensures.is
@@ -85,5 +84,5 @@ returns-clause-next g c =
       held = c.in_ok-mark.ensures.held_back;
     }) c.grow.new.cache.watch c.grow.ensures.watch
     ∙ (ap (λ (l : LevelState). with_level l before) level
-    ∙ ap (λ (s : NodeState). with_level (level_grown H leaf_text s.scripts s.newest c.args.hash c.args.targets.now.targets c.args.changes.now
+    ∙ ap (λ (s : NodeState). with_level (level_grown H s.scripts s.newest c.args.hash c.args.targets.now.targets c.args.changes.now
     c.args.roots.now c.args.spends.now.new) s) c.self.view_is)

@@ -1,7 +1,6 @@
 use Rattle.std.proofs.Common.{◌≡◌, List, cond, Some, length, refl, reverse, subst, arith}
 use Rattle.std.proofs.lemmas.Option.{slice_get_read}
 use Rattle.std.specs.Prelude.{OnOk, OnErr, slice_get, slice_set}
-use Rattle.leaf_record.specs.Leaf.{leaf_text}
 use Rattle.relay_core.specs.World.{Sent, WorldState, applies, moved, with_moved}
 use Rattle.relay_core.proofs.Stepped.{handed_ok, handed_err}
 use Rattle.relay_core.proofs.world.World.deliver.Goals as goal
@@ -29,9 +28,9 @@ returns-clause-next g c =
     subst (λ xs. slice_get xs c.args.reply ≡ Some r) c.deref.ensures.value
     (slice_get_read c.deref.result.now (length c.deref.result.now) c.args.reply r refl look.3.0 look.1) in
     subst (λ v. OnOk c.hand.result (record w { followers = slice_set w.followers c.args.follower c.hand.new.follower }
-    ≡ with_moved H leaf_text v c.args.follower (slice_get v.followers c.args.follower) (slice_get v.replies c.args.reply))) c.self.view_is
-    (handed_ok H leaf_text w c.hand.result c.args.follower x c.hand.new.follower r c.args.reply at_f at_j
-    (subst (λ (ys : List Sent). OnOk c.hand.result (c.hand.new.follower ≡ cond (applies r x) (moved H leaf_text ys r.kind x) x))
+    ≡ with_moved H v c.args.follower (slice_get v.followers c.args.follower) (slice_get v.replies c.args.reply))) c.self.view_is
+    (handed_ok H w c.hand.result c.args.follower x c.hand.new.follower r c.args.reply at_f at_j
+    (subst (λ (ys : List Sent). OnOk c.hand.result (c.hand.new.follower ≡ cond (applies r x) (moved H ys r.kind x) x))
     c.as_slice.ensures.value c.hand.ensures.next))
 
 pub returns-clause-stays : goal.returns-clause-stays
@@ -52,4 +51,4 @@ returns-clause-stays g c =
     slice_get_read i.followers.items i.followers.len c.args.follower x i.followers.ok.0 (omega (arith, c.if-i-len.false, c.len.ensures))
     c.index_mut.ensures.value in
     subst (λ v. OnErr c.hand.result (record w { followers = slice_set w.followers c.args.follower c.hand.new.follower } ≡ v)) c.self.view_is
-    (handed_err H leaf_text w c.hand.result c.args.follower x c.hand.new.follower at_f c.hand.ensures.stays)
+    (handed_err H w c.hand.result c.args.follower x c.hand.new.follower at_f c.hand.ensures.stays)

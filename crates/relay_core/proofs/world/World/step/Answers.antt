@@ -1,5 +1,4 @@
 use Rattle.std.proofs.Common.{List, ◌≡◌, ◌++◌, ◌∷◌, []}
-use Rattle.leaf_record.specs.Leaf.{leaf_text}
 use Rattle.relay_core.specs.Acts.{WorldAct, act_of}
 use Rattle.relay_core.specs.World.{WorldState, next_world}
 use Rattle.relay_core.specs.Branches.{Begun, AreOnBranches, StandsForActs}
@@ -7,7 +6,7 @@ use Rattle.relay_core.proofs.Stepping.{on_ok, stands_on, branches_on, never_agai
 use Rattle.relay_core.proofs.world.World.step.Goals as goal
 
 pub returns-clause-told : goal.returns-clause-told
-returns-clause-told g c = told_on g.D.Digester.digest_of leaf_text c.handle.result c.args.self.now c.handle.new.self (act_of c.args.act)
+returns-clause-told g c = told_on g.D.Digester.digest_of c.handle.result c.args.self.now c.handle.new.self (act_of c.args.act)
     c.handle.ensures.outcome c.handle.ensures.next
 
 pub returns-clause-stands : goal.returns-clause-stands
@@ -16,9 +15,9 @@ returns-clause-stands g c =
     let w : WorldState = c.args.self.now in
     let v : WorldState = c.handle.new.self in
     let act = act_of c.args.act in
-    on_ok c.handle.result (v ≡ next_world H leaf_text w act) ((begun : Begun) (acts : List WorldAct) → StandsForActs H leaf_text begun acts w
-    → StandsForActs H leaf_text begun (acts ++ act ∷ []) v) c.handle.ensures.next
-    (λ is. stands_on H leaf_text w v act c.check_bytes.ensures is)
+    on_ok c.handle.result (v ≡ next_world H w act) ((begun : Begun) (acts : List WorldAct) → StandsForActs H begun acts w
+    → StandsForActs H begun (acts ++ act ∷ []) v) c.handle.ensures.next
+    (λ is. stands_on H w v act c.check_bytes.ensures is)
 
 pub returns-clause-branches : goal.returns-clause-branches
 returns-clause-branches g c =
@@ -26,10 +25,10 @@ returns-clause-branches g c =
     let w : WorldState = c.args.self.now in
     let v : WorldState = c.handle.new.self in
     let act = act_of c.args.act in
-    on_ok c.handle.result (v ≡ next_world H leaf_text w act) ((begun : Begun) (acts : List WorldAct) → StandsForActs H leaf_text begun acts w
-    → AreOnBranches H leaf_text begun (acts ++ act ∷ []) v) c.handle.ensures.next
-    (λ is. branches_on H leaf_text g.met.D.Digester.has_32_bytes w v act c.check_bytes.ensures is)
+    on_ok c.handle.result (v ≡ next_world H w act) ((begun : Begun) (acts : List WorldAct) → StandsForActs H begun acts w
+    → AreOnBranches H begun (acts ++ act ∷ []) v) c.handle.ensures.next
+    (λ is. branches_on H g.met.D.Digester.has_32_bytes w v act c.check_bytes.ensures is)
 
 pub returns-clause-accepted : goal.returns-clause-accepted
-returns-clause-accepted g c = λ begun acts stands. never_against g.D.Digester.digest_of leaf_text g.met.D.Digester.has_32_bytes c.args.self.now begun
+returns-clause-accepted g c = λ begun acts stands. never_against g.D.Digester.digest_of g.met.D.Digester.has_32_bytes c.args.self.now begun
     acts stands

@@ -1,5 +1,0 @@
-use Rattle.uo_digest.proofs.DigestLaws.{digest_is}
-use Rattle.block_codec.proofs.bare_block.id_of.Goals as goal
-
-pub returns : goal.returns
-returns c = digest_is _ _ c.txid.ensures

@@ -1,0 +1,11 @@
+use Rattle.std.proofs.Common.{◌≡◌, ◌+◌, ◌-◌, ◌≤◌, length, drop}
+use Rattle.std.specs.List.{prefix_len}
+use Rattle.proof_verify.specs.Batches.{is_below}
+use Rattle.proof_verify.proofs.evaluate.ready.Given as goal
+
+abbrev pub invariant-loop-count : goal.invariant-loop-count
+invariant-loop-count l =
+    (prefix_len (is_below l.made) l.origins ≡ l.count + prefix_len (is_below l.made) (drop l.count l.origins)) × (l.count ≤ length l.origins)
+
+abbrev pub decreases-loop-count : goal.decreases-loop-count
+decreases-loop-count l = length l.origins - l.count
