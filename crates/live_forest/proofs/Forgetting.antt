@@ -22,7 +22,8 @@ spent_bit p i e =
     (cases_Bool (is_bit p.live i))
 
 -- what is stored for a part of a page
-inner_stored : (s : StoreState) (k row off : ℕ) → row ≤ 7 → off < 2 ^ (7 - row) → stored s row (k * 2 ^ (7 - row) + off) ≡ told (page_at s.pages k) row off
+inner_stored : (s : StoreState) (k row off : ℕ) → row ≤ 7 → off < 2 ^ (7 - row) → stored s row (k * 2 ^ (7 - row) + off)
+    ≡ told (page_at s.pages k) row off
 inner_stored s k row off low lt =
     stored_low s row (k * 2 ^ (7 - row) + off) low
     ∙ ap₂ (λ a b. told (page_at s.pages a) row b) (div-mul-add k (2 ^ (7 - row)) off lt) (mod-mul-add k (2 ^ (7 - row)) off lt)
@@ -51,7 +52,13 @@ module _ (s : StoreState) (n k count : ℕ) (few : count ≤ 128) (under : 0 < c
         let lt = inner_low count (suc row) off few le h in
         let g = k * 2 ^ j + off in
         let ends = (in_forest_iff count (suc row) off).0 h in
-        let some : 0 < count = omega (arith, ends, pow_pos (suc row), (let z : (off + 1) * 2 ^ suc row ≡ off * 2 ^ suc row + 2 ^ suc row = omega arith in z)) in
+        let some : 0 < count = omega (
+          arith,
+          ends,
+          pow_pos (suc row),
+          (let z : (off + 1) * 2 ^ suc row ≡ off * 2 ^ suc row + 2 ^ suc row =
+              omega arith in z),
+        ) in
         let within : InForest n (suc row) g =
         (in_forest_iff n (suc row) g).1 (omega (arith, ends_at k (suc row) off le, ends, under some)) in
         let e : 7 - row ≡ suc j = omega arith in

@@ -55,7 +55,8 @@ left_was : (is : List ℕ) (xs : List (Option Digest)) (i : ℕ) → is_some (ge
 left_was [] xs i some = some
 left_was (j ∷ is) xs i some =
     ⊎_elim
-    (λ e. absurd (false≢true (sym (ap is_some (ap (λ k. get_or (set (entries_without is xs) k None) i None) (sym e) ∙ none_set (entries_without is xs) i))
+    (λ e. absurd (false≢true (sym (ap is_some (ap (λ k. get_or (set (entries_without is xs) k None) i None) (sym e)
+    ∙ none_set (entries_without is xs) i))
     ∙ some)))
     (λ ne. left_was is xs i (sym (ap is_some (get_or-set_other (entries_without is xs) j i None None ne)) ∙ some))
     (cases_eq i j)
@@ -83,7 +84,8 @@ pub live_low : (count : ℕ) (s : StoreState) (i : ℕ) → count ≤ s.len → 
 live_low count s i le live =
     ⊎_elim
     (λ lt. lt)
-    (λ ge. absurd (false≢true (sym (ap is_some (get_or_past (take count (leaves_of s)) i None (omega (arith, ge, length-entries count s le)))) ∙ live)))
+    (λ ge. absurd (false≢true (sym (ap is_some (get_or_past (take count (leaves_of s)) i None (omega (arith, ge, length-entries count s le))))
+    ∙ live)))
     (cases_lt i count)
 
 pub not_live : (count : ℕ) (s : StoreState) (i : ℕ) → count ≤ s.len → count ≤ i → is_live (take count (leaves_of s)) i ≡ false
@@ -198,7 +200,8 @@ entries_longer count s s' le longer =
     let low : i < count = omega (arith, lt, length-entries count s' (omega (arith, le, longer.len))) in
     entry_at count s' i (omega (arith, le, longer.len)) low ∙ longer.same 0 i (omega (arith, low, le)) ∙ sym (entry_at count s i le low))
 
-leaves_longer : (n : ℕ) (s s' : StoreState) → n ≤ s.len → n ≤ s'.len → take n (leaves_of s') ≡ take n (leaves_of s) → (row off : ℕ) → InForest n row off
+leaves_longer : (n : ℕ) (s s' : StoreState) → n ≤ s.len → n ≤ s'.len → take n (leaves_of s') ≡ take n (leaves_of s) → (row off : ℕ)
+    → InForest n row off
     → content (leaves_of s') row off ≡ content (leaves_of s) row off
 leaves_longer n s s' le le' same row off h =
     sym (content-take (leaves_of s') n row off h) ∙ ap (λ l. content l row off) same ∙ content-take (leaves_of s) n row off h
@@ -214,7 +217,8 @@ forest_longer H count room room' s s' forest longer more within =
       right = record {
         is = λ row off h.
             longer.same row off (within_more count s.len row off le h) ∙ forest.right.is row off h
-            ∙ ap (option_map (digest_of H)) (sym (leaves_longer count s s' le (omega (arith, le, longer.len)) (entries_longer count s s' le longer) row
+            ∙ ap (option_map (digest_of H)) (sym (leaves_longer count s s' le (omega (arith, le, longer.len)) (entries_longer count s s' le longer)
+            row
             off h));
       };
       free = λ i ge lt.
@@ -259,7 +263,8 @@ forest_less H count room number s s' forest lt spent len same gone =
       right = record {
         is = λ row off h.
             same row off h ∙ forest.right.is row off h
-            ∙ ap (option_map (digest_of H)) (sym (leaves_longer count s s' le (omega (arith, le, len)) (entries_left count s s' le len same) row off h));
+            ∙ ap (option_map (digest_of H)) (sym (leaves_longer count s s' le (omega (arith, le, len)) (entries_left count s s' le len same) row off
+            h));
       };
       free = λ i ge below. gone.others i (λ e. let z : ⊥ = omega (arith, e, ge, lt) in z) ∙ forest.free i ge (omega (arith, below, len));
       held = λ i low some.

@@ -1,5 +1,6 @@
 -- A number gets a cell, and its cell is taken out.
-use Rattle.std.proofs.Common.{◌≡◌, ◌≢◌, ℕ, zero, suc, ◌+◌, ◌-◌, ◌*◌, ◌/◌, ◌%◌, ◌^◌, ◌<◌, ◌≤◌, Bool, true, false, refl, sym, ap, ap₂, ◌∙◌, subst, ⊎_elim, arith}
+use Rattle.std.proofs.Common.{◌≡◌, ◌≢◌, ℕ, zero, suc, ◌+◌, ◌-◌, ◌*◌, ◌/◌, ◌%◌, ◌^◌, ◌<◌, ◌≤◌, Bool, true, false, refl, sym, ap, ap₂, ◌∙◌, subst}
+use Rattle.std.proofs.Common.{⊎_elim, arith}
 use Rattle.std.proofs.Common.{pow-suc, List, [], ◌∷◌, ◌++◌, length, get_or, set, Option, None, length-append}
 use Rattle.std.specs.Prelude.{◌||◌, if◌then◌else◌}
 use Rattle.std.specs.List.{remove}
@@ -16,7 +17,8 @@ use Rattle.live_forest.specs.declared.cell.Cell.{Cell}
 use Rattle.live_forest.specs.Sets.{is_bit, has_part, rank, IsWith, IsWithout}
 use Rattle.live_forest.specs.Pages.{PageState, IsPage, no_cell, leaf_in, gap_in, middle, IsBranch, when, of_halves, told, IsOfHalves}
 use Rattle.live_forest.specs.Pages.{IsNearest, MeetsNext, IsTakenOut, AreOfHalves}
-use Rattle.live_forest.proofs.Ranks.{rank_above, rank_rises, part_rank, right_rank, left_rank, part_other, part_subset, part_none, rank_low, rank_high}
+use Rattle.live_forest.proofs.Ranks.{rank_above, rank_rises, part_rank, right_rank, left_rank, part_other, part_subset, part_none, rank_low}
+use Rattle.live_forest.proofs.Ranks.{rank_high}
 use Rattle.live_forest.proofs.Ranks.{rank_most}
 use Rattle.live_forest.proofs.Telling.{alike, none_told, when_same, half_without}
 
@@ -279,7 +281,8 @@ module _ (s t : ℕ → Bool) (number : ℕ) (gone : IsWithout s t number) (here
 -- ---- the cell of a number is taken out
 
 halves_left : (a a' b b' : Bool) (own own' left left' right right' : Option Digest) → (a' ≡ true → a ≡ true) → (b' ≡ true → b ≡ true)
-    → (a' ≡ false → left ≡ None) → (b' ≡ false → right ≡ None) → IsOfHalves left right (of_halves a b own left right) → (a' ≡ true → b' ≡ true → own' ≡ own) → left' ≡ left
+    → (a' ≡ false → left ≡ None) → (b' ≡ false → right ≡ None) → IsOfHalves left right (of_halves a b own left right) → (a' ≡ true → b' ≡ true
+    → own' ≡ own) → left' ≡ left
     → right' ≡ right → of_halves a' b' own' left' right' ≡ of_halves a b own left right
 halves_left false false b b' own own' left left' right right' ua ub na nb h o l r = r
 halves_left false true b b' own own' left left' right right' ua ub na nb h o l r = absurd (true≢false (sym (ua refl)))
@@ -368,7 +371,8 @@ module _ (p : PageState) (listed' number : ℕ) (cells' : List Cell) (next : Boo
   pub told_less : (n : ℕ) → n ≤ 128 → AreOfHalves p n → (row off : ℕ) → InForest n row off
       → told (record { listed = listed'; live = p.live; cells = cells' }) row off ≡ told p row off
   told_less n few halves zero off h =
-      when_same (is_bit p.live off) (is_bit p.live off) (leaf_in p.cells (rank (is_bit p.listed) off)) (leaf_in cells' (rank (is_bit listed') off)) refl
+      when_same (is_bit p.live off) (is_bit p.live off) (leaf_in p.cells (rank (is_bit p.listed) off)) (leaf_in cells' (rank (is_bit listed') off))
+      refl
       (leaf_less off)
   told_less n few halves (suc row) off h =
       let s = is_bit p.listed in

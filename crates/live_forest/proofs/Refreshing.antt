@@ -89,7 +89,11 @@ pub all_found : (H : List ℕ → Digest) (n : ℕ) (leaves found : List (Option
 all_found H n leaves found number next row off other here there stop all = record {
   is = λ r h apart. ⊎_elim
       (λ lt. all.is r lt h)
-      (λ ge. absurd (stop (row_open n number row off (suc r) here (omega (arith, ge)) h, λ e. apart (met_above number next row off other r here there ge e))))
+      (λ ge. absurd (stop (
+        row_open n number row off (suc r) here (omega (arith, ge)) h,
+        λ e. apart (met_above number next row off other r here there
+            ge e),
+      )))
       (cases_lt r row);
 }
 

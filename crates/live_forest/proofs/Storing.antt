@@ -79,7 +79,8 @@ pub page_listed : (s : StoreState) (number : ℕ) → IsStore s → is_listed s.
 page_listed s number store h = omega (arith, store.fresh number h, store.pages)
 
 -- a page is written
-paged_other : (pages : List PageState) (k row off : ℕ) (page : PageState) → off / 2 ^ (7 - row) ≢ k → paged (set pages k page) row off ≡ paged pages row off
+paged_other : (pages : List PageState) (k row off : ℕ) (page : PageState) → off / 2 ^ (7 - row) ≢ k → paged (set pages k page) row off
+    ≡ paged pages row off
 paged_other pages k row off page ne =
     ap (λ p. told p row (off % 2 ^ (7 - row))) (get_or-set_other pages k (off / 2 ^ (7 - row)) page no_page ne)
 
@@ -172,7 +173,12 @@ part_kept_high s row number own high within =
           but (omega (arith, up)) (ap (λ k. number / 2 ^ k) (sym up) ∙ sym one.1)));
     }
 
-pub store_high : (s : StoreState) (k : ℕ) (own : Option Digest) → IsStore s → IsStore (record { len = s.len; pages = s.pages; high = set s.high k own })
+pub store_high : (s : StoreState) (k : ℕ) (own : Option Digest) → IsStore s → IsStore (record {
+  len = s.len;
+  pages = s.pages;
+  high =
+      set s.high k own;
+})
 store_high s k own store = record {
   pages = store.pages;
   high = omega (arith, store.high, length-set s.high k own);

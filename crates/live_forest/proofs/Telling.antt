@@ -1,5 +1,6 @@
 -- What a page keeps for parts, and what of it a write changes.
-use Rattle.std.proofs.Common.{◌≡◌, ◌≢◌, ℕ, zero, suc, ◌+◌, ◌-◌, ◌*◌, ◌/◌, ◌^◌, ◌<◌, ◌≤◌, Bool, true, false, refl, sym, ap, ap₂, ◌∙◌, subst, ⊎_elim, arith}
+use Rattle.std.proofs.Common.{◌≡◌, ◌≢◌, ℕ, zero, suc, ◌+◌, ◌-◌, ◌*◌, ◌/◌, ◌^◌, ◌<◌, ◌≤◌, Bool, true, false, refl, sym, ap, ap₂, ◌∙◌, subst, ⊎_elim}
+use Rattle.std.proofs.Common.{arith}
 use Rattle.std.proofs.Common.{pow-suc, List, length, set, Option, Some, None}
 use Rattle.std.specs.Prelude.{◌||◌, is_some}
 use Rattle.std.proofs.lemmas.Bool.{cases_Bool, cases_eq, or_left, true≢false}
@@ -12,7 +13,8 @@ use Rattle.forest_place.proofs.Parts.{parts-suc, InForest-beneath, InForest-left
 use Rattle.forest_place.proofs.Slots.{in_forest_iff}
 use Rattle.live_forest.specs.declared.cell.Cell.{Cell}
 use Rattle.live_forest.specs.Sets.{is_bit, has_part, rank, IsWith, IsWithout}
-use Rattle.live_forest.specs.Pages.{PageState, IsPage, no_cell, leaf_in, gap_in, middle, IsBranch, when, of_halves, kept_by, told, IsLeast, IsEntryPut, IsOfHalves}
+use Rattle.live_forest.specs.Pages.{PageState, IsPage, no_cell, leaf_in, gap_in, middle, IsBranch, when, of_halves, kept_by, told, IsLeast}
+use Rattle.live_forest.specs.Pages.{IsEntryPut, IsOfHalves}
 use Rattle.live_forest.specs.Pages.{IsPartPut}
 use Rattle.live_forest.proofs.Ranks.{rank_above, rank_rises, rank_one, right_rank, branch_one, part_other, part_none}
 
@@ -215,7 +217,8 @@ module _ (p : PageState) (page : IsPage p) where
   pub least_entry_index : (row off : ℕ) (q : Place) → IsLeast (is_bit p.listed) row off q → has_part (is_bit p.live) row off ≡ true
       → InForest 128 row off → q.row ≡ 0 → (q.off < 128) × (rank (is_bit p.listed) q.off < length p.cells)
   least_entry_index row off q least live h bottom =
-      let here : has_part (is_bit p.live) 0 q.off ≡ true = ap (λ r. has_part (is_bit p.live) r q.off) (sym bottom) ∙ least_live row off q least live in
+      let here : has_part (is_bit p.live) 0 q.off ≡ true = ap (λ r. has_part (is_bit p.live) r q.off) (sym bottom)
+      ∙ least_live row off q least live in
       let within : InForest 128 0 q.off = subst (λ r. InForest 128 r q.off) bottom (least_within (is_bit p.listed) 128 row off q least h) in
       (within, entry_index q.off within (page.within q.off here))
 

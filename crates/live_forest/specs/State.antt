@@ -6,7 +6,8 @@ use Rattle.forest_model.specs.Content.{Tree, leaf, inner}
 use Rattle.forest_model.specs.Addition.{joined_slots}
 use Rattle.forest_model.specs.Standing.{root}
 
--- all entries that were ever added, each live with its digest or spent, for how many more there is room, and of each entry whether it is held: one that
+-- all entries that were ever added, each live with its digest or spent, for how many more there is room, and of each entry whether it is held: one
+-- that
 -- was let go is spent for good
 pub record ForestState : Type 0 where
   pub entries : List (Option Digest)

@@ -1,5 +1,6 @@
 //! A page: what is kept for the parts of 128 numbers.
-ghost use Rattle.std.specs.Prelude.{◌≡◌, ◌≢◌, ℕ, suc, ◌+◌, ◌*◌, ◌/◌, ◌^◌, ◌<◌, ◌≤◌, [], length, get_or, None, true, false, is_some, OnOk, OnErr, IfOk};
+ghost use Rattle.std.specs.Prelude.{◌≡◌, ◌≢◌, ℕ, suc, ◌+◌, ◌*◌, ◌/◌, ◌^◌, ◌<◌, ◌≤◌, [], length, get_or, None, true, false, is_some, OnOk, OnErr};
+ghost use Rattle.std.specs.Prelude.{IfOk};
 ghost use Rattle.forest_place.specs.Forest.{InForest};
 ghost use Rattle.live_forest.specs.Sets.{is_bit, has_part, rank as rank_of, IsWith, IsWithout};
 ghost use Rattle.live_forest.specs.Pages.{PageState, told, leaf_in, gap_in, middle as middle_of, IsBranch, IsEntryPut, IsPartPut, IsOfHalves};

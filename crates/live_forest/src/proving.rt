@@ -160,7 +160,8 @@ fn descend_to<D: Digester>(
     requires wide { HasRows (length (entries_in n store.now)) rows.old.items }
     ensures wide { HasRows (length (entries_in n store.now)) rows.new.items }
     ensures places { OnOk result (HasPlaces (entries_in n store.now) (number ∷ []) places.old.items places.new.items) }
-    ensures noted { OnOk result ((ts : List Place) (all : List ℕ) → StandAt (entries_in n store.now) ts all → AreOfPart (entries_in n store.now) ts all part place (number ∷ [])
+    ensures noted { OnOk result ((ts : List Place) (all : List ℕ) → StandAt (entries_in n store.now) ts all
+        → AreOfPart (entries_in n store.now) ts all part place (number ∷ [])
         → AreMore D.digest_of (entries_in n store.now) ts place rows.old.items rows.new.items) }
 {
     let mut at = part;
@@ -219,7 +220,8 @@ fn descend<D: Digester>(
     ensures places { OnOk result (HasPlaces (entries_in n store.now) numbers.now places.old.items places.new.items) }
 
     // Whatever all entries are of which it has these.
-    ensures noted { OnOk result ((ts : List Place) (all : List ℕ) → StandAt (entries_in n store.now) ts all → AreOfPart (entries_in n store.now) ts all part place numbers.now
+    ensures noted { OnOk result ((ts : List Place) (all : List ℕ) → StandAt (entries_in n store.now) ts all
+        → AreOfPart (entries_in n store.now) ts all part place numbers.now
         → AreMore D.digest_of (entries_in n store.now) ts place rows.old.items rows.new.items) }
 {
     if numbers.is_empty() {
@@ -270,7 +272,8 @@ fn descend_from<'a, D: Digester>(
     ensures behind { IfOk result (λ left. (all : List ℕ) → numbers.now ≡ behind (length (entries_in n store.now)) (suc row) all
         → left.now ≡ behind (length (entries_in n store.now)) row all) }
     ensures noted { OnOk result ((ts : List Place) (all : List ℕ) → StandAt (entries_in n store.now) ts all
-        → numbers.now ≡ behind (length (entries_in n store.now)) (suc row) all → AreFrom D.digest_of (entries_in n store.now) ts (suc row) rows.old.items
+        → numbers.now ≡ behind (length (entries_in n store.now)) (suc row) all → AreFrom D.digest_of (entries_in n store.now) ts (suc row)
+        rows.old.items
         → AreFrom D.digest_of (entries_in n store.now) ts row rows.new.items) }
 {
     let count = n >> row;
@@ -304,7 +307,8 @@ fn rows_of<D: Digester>(
     ensures wide { IfOk result (λ rows. HasRows (length (entries_in n store.now)) rows.items) }
     ensures places { OnOk result (HasPlaces (entries_in n store.now) numbers.now places.old.items places.new.items) }
     ensures are { IfOk result (λ rows. (row : ℕ)
-        → list_of rows.items row ≡ in_row D.digest_of (entries_in n store.now) (places_of (entries_in n store.now) numbers.now) row 0 (length (entries_in n store.now) / 2 ^ row)) }
+        → list_of rows.items row ≡ in_row D.digest_of (entries_in n store.now) (places_of (entries_in n store.now) numbers.now) row 0 (length
+        (entries_in n store.now) / 2 ^ row)) }
 {
     let mut rows = no_rows(alloc, n, numbers.len())?;
     let mut left = numbers;

@@ -70,7 +70,8 @@ fn part_by(
     requires within { InForest (length (entries_in n store.now)) place.row place.off }
     requires told { AreNodes (entries_in n store.now) above.now nodes.now at }
     requires each { length nodes.now ≡ length above.now }
-    ensures { MatchOption result (tree_at (entries_in n store.now) place.row place.off ≡ None) (λ p. IsPartAt (entries_in n store.now) place.row place.off p) }
+    ensures { MatchOption result (tree_at (entries_in n store.now) place.row place.off ≡ None) (λ p. IsPartAt (entries_in n store.now) place.row
+        place.off p) }
 {
     if !has_parent(store, n, above, at, place) {
         return part_at(store, n, place.row, place.off);

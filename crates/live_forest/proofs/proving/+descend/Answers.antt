@@ -30,7 +30,8 @@ returns-then-is_empty-clause-noted g t c =
 
 pub descend_to-requires-clause-inside : goal.descend_to-requires-clause-inside
 descend_to-requires-clause-inside g t c =
-    in_one (entries_in c.args.n c.args.store.now) c.args.part.row c.args.part.off c.args.numbers.now (omega (arith, c.if-numbers-eq1.true)) c.requires.inside
+    in_one (entries_in c.args.n c.args.store.now) c.args.part.row c.args.part.off c.args.numbers.now (omega (arith, c.if-numbers-eq1.true))
+    c.requires.inside
 
 pub returns-then-part-eq0-clause-noted : goal.returns-then-part-eq0-clause-noted
 returns-then-part-eq0-clause-noted g t c =
@@ -335,7 +336,8 @@ returns-in_ok-descend-in-Some-part_in-clause-noted g t c =
 pub returns-then-is_empty-clause-places : goal.returns-then-is_empty-clause-places
 returns-then-is_empty-clause-places g t c =
     let none : c.args.numbers.now ≡ [] = nil_from_length _ (eqb-true _ _ (sym c.is_empty.ensures ∙ c.if-is_empty.true)) in
-    on_ok c.note.result (λ _. subst (λ xs. HasPlaces (entries_in c.args.n c.args.store.now) xs c.args.places.now.items c.args.places.now.items) (sym none)
+    on_ok c.note.result (λ _. subst (λ xs. HasPlaces (entries_in c.args.n c.args.store.now) xs c.args.places.now.items c.args.places.now.items) (sym
+    none)
     (places_none (entries_in c.args.n c.args.store.now) c.args.places.now.items)) c.note.ensures.here
 
 pub returns-then-part-eq0-clause-places : goal.returns-then-part-eq0-clause-places
@@ -350,6 +352,7 @@ returns-in_ok-descend-in-Some-part_in-clause-places g t c =
     let xs = c.args.numbers.now in
     let all : xs ≡ c.split_at.result.0.now ++ c.split_at.result.1.now =
     sym (ap₂ (λ low high. low ++ high) c.split_at.ensures.front c.split_at.ensures.back ∙ take-append-drop c.count_upto.result xs) in
-    on_ok c.descend-in-Some-part_in-2.result (λ two. places_both (entries_in c.args.n c.args.store.now) c.split_at.result.0.now c.split_at.result.1.now xs
+    on_ok c.descend-in-Some-part_in-2.result (λ two. places_both (entries_in c.args.n c.args.store.now) c.split_at.result.0.now
+    c.split_at.result.1.now xs
     c.args.places.now.items c.descend-in-Some-part_in.new.places.items c.descend-in-Some-part_in-2.new.places.items
     c.in_ok-descend-in-Some-part_in.ensures.places two all) c.descend-in-Some-part_in-2.ensures.places

@@ -20,13 +20,21 @@ pub returns-then-count-eq0-clause-behind : goal.returns-then-count-eq0-clause-be
 returns-then-count-eq0-clause-behind g c =
     let same : c.args.n / 2 ^ c.args.row ≡ length (entries_in c.args.n c.args.store.now) / 2 ^ c.args.row =
     ap (λ x. x / 2 ^ c.args.row) (sym (length-entries c.args.n c.args.store.now c.requires.room)) in
-    λ all is. behind_even (length (entries_in c.args.n c.args.store.now)) c.args.row c.args.numbers.now all (omega (arith, c.if-count-eq0.true, same)) is
+    λ all is. behind_even (length (entries_in c.args.n c.args.store.now)) c.args.row c.args.numbers.now all (omega (
+      arith,
+      c.if-count-eq0.true,
+      same,
+    )) is
 
 pub returns-then-count-eq0-clause-noted : goal.returns-then-count-eq0-clause-noted
 returns-then-count-eq0-clause-noted g c =
     let same : c.args.n / 2 ^ c.args.row ≡ length (entries_in c.args.n c.args.store.now) / 2 ^ c.args.row =
     ap (λ x. x / 2 ^ c.args.row) (sym (length-entries c.args.n c.args.store.now c.requires.room)) in
-    λ ts all at is f. from_same g.D.Digester.digest_of (entries_in c.args.n c.args.store.now) ts c.args.row c.args.rows.now.items (omega (arith, c.if-count-eq0.true, same)) f
+    λ ts all at is f. from_same g.D.Digester.digest_of (entries_in c.args.n c.args.store.now) ts c.args.row c.args.rows.now.items (omega (
+      arith,
+      c.if-count-eq0.true,
+      same,
+    )) f
 
 pub descend-requires-clause-stands : goal.descend-requires-clause-stands
 descend-requires-clause-stands g c =

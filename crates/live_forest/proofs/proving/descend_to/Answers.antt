@@ -145,7 +145,8 @@ returns-in_err-put-in-Some-clause-wide g c =
     rows_stay (length (entries_in c.args.n c.args.store.now)) c.way.rows.items c.put.new.rows.items c.put.ensures.len c.way.invariant.wide
 
 pub returns-clause-noted : goal.returns-clause-noted
-returns-clause-noted g c = λ ts all s w. on_entry g.D.Digester.digest_of (entries_in c.args.n c.args.store.now) ts all s c.args.place c.way.at c.way.above c.args.number _
+returns-clause-noted g c = λ ts all s w. on_entry g.D.Digester.digest_of (entries_in c.args.n c.args.store.now) ts all s c.args.place c.way.at
+    c.way.above c.args.number _
     _ (omega (arith, c.way-test.false)) c.way.invariant.stands (c.way.invariant.on ts all s w)
 
 pub returns-clause-places : goal.returns-clause-places

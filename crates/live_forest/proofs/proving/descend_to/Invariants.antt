@@ -16,7 +16,8 @@ invariant-way g l = record {
   there : InForest (length (entries_in l.n l.store)) l.above.row l.above.off;
   inside : l.number / 2 ^ l.at.row ≡ l.at.off;
   wide : HasRows (length (entries_in l.n l.store)) l.rows.items;
-  on : (ts : List Place) (all : List ℕ) → StandAt (entries_in l.n l.store) ts all → AreOfPart (entries_in l.n l.store) ts all l.fn.part l.fn.place (l.number ∷ [])
+  on : (ts : List Place) (all : List ℕ) → StandAt (entries_in l.n l.store) ts all → AreOfPart (entries_in l.n l.store) ts all l.fn.part l.fn.place
+      (l.number ∷ [])
       → IsOn g.D.Digester.digest_of (entries_in l.n l.store) ts all l.fn.place l.at l.above (l.number ∷ []) l.initial.rows.items l.rows.items;
 }
 

@@ -6,7 +6,8 @@ use Rattle.live_forest.proofs.proving.note.Goals as goal
 
 pub put-requires : goal.put-requires
 put-requires g c =
-    let within = there g.D.Digester.digest_of (entries_in c.args.n c.args.store.now) c.args.store.now c.requires.right c.args.part.row c.args.part.off c.args.place
+    let within = there g.D.Digester.digest_of (entries_in c.args.n c.args.store.now) c.args.store.now c.requires.right c.args.part.row
+    c.args.part.off c.args.place
     c.in-Some.digest c.requires.within c.requires.stands (c.in-Some.ensures) in
     c.requires.wide.is c.args.place.row c.args.place.off within
 
@@ -21,4 +22,5 @@ returns-in-Some-clause-here g c =
     c.requires.within c.requires.stands is) c.put.ensures.here
 
 pub returns-in-Some-clause-wide : goal.returns-in-Some-clause-wide
-returns-in-Some-clause-wide g c = rows_stay (length (entries_in c.args.n c.args.store.now)) c.args.rows.now.items c.put.new.rows.items c.put.ensures.len c.requires.wide
+returns-in-Some-clause-wide g c = rows_stay (length (entries_in c.args.n c.args.store.now)) c.args.rows.now.items c.put.new.rows.items
+    c.put.ensures.len c.requires.wide

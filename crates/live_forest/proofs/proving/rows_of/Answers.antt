@@ -12,7 +12,8 @@ pub loop-row-init : goal.loop-row-init
 loop-row-init g c =
     let es = (entries_in c.args.n c.args.store.now) in
     record {
-      wide = subst (λ k. HasRows k c.in_ok-rows.rows.items) (sym (length-entries c.args.n c.args.store.now c.requires.room)) c.in_ok-rows.ensures.wide;
+      wide = subst (λ k. HasRows k c.in_ok-rows.rows.items) (sym (length-entries c.args.n c.args.store.now c.requires.room))
+          c.in_ok-rows.ensures.wide;
       rise = c.requires.rise;
       placed = ([], refl, places_none es c.args.places.now.items);
       later = behind_all es c.args.numbers.now c.requires.small c.requires.live;

@@ -23,7 +23,8 @@ returns-clause-leaves g c =
 
 pub returns-clause-right : goal.returns-clause-right
 returns-clause-right g c =
-    subst (λ l. ArePartsBut g.D.Digester.digest_of c.args.n l c.refresh.new.store c.args.next 0) (sym c.refresh.ensures.leaves) c.refresh.ensures.right
+    subst (λ l. ArePartsBut g.D.Digester.digest_of c.args.n l c.refresh.new.store c.args.next 0) (sym c.refresh.ensures.leaves)
+    c.refresh.ensures.right
 
 pub returns-clause-room : goal.returns-clause-room
 returns-clause-room g c = room_kept c.args.store.now c.put_entry.new.self c.refresh.new.store c.put_entry.ensures.room c.refresh.ensures.room

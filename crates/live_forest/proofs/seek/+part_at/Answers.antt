@@ -6,7 +6,11 @@ use Rattle.live_forest.specs.Parts.{entries_in}
 use Rattle.live_forest.proofs.seek.+part_at.Goals as goal
 
 pub overflow_add-row : goal.overflow_add-row
-overflow_add-row t c = omega (arith, row_small (length (entries_in c.args.n c.args.store.now)) c.args.row c.args.off 40 c.requires.within c.requires.small)
+overflow_add-row t c = omega (
+  arith,
+  row_small (length (entries_in c.args.n c.args.store.now)) c.args.row c.args.off 40 c.requires.within
+      c.requires.small,
+)
 
 pub part_at-requires : goal.part_at-requires
 part_at-requires t c =
@@ -35,12 +39,14 @@ returns-in-Some t c = part_at_root (entries_in c.args.n c.args.store.now) c.args
 
 pub returns-then-node-eq0 : goal.returns-then-node-eq0
 returns-then-node-eq0 t c =
-    entry_above (entries_in c.args.n c.args.store.now) c.args.store.now c.requires.alike c.args.row c.args.off c.in-Some-part_at.above c.smallest-node.result
+    entry_above (entries_in c.args.n c.args.store.now) c.args.store.now c.requires.alike c.args.row c.args.off c.in-Some-part_at.above
+    c.smallest-node.result
     c.requires.within (sym c.is_root.ensures ∙ c.if-is_root.false) c.in-Some-part_at.ensures c.smallest-node.ensures c.if-node-eq0.true
 
 pub returns-else-node-eq0 : goal.returns-else-node-eq0
 returns-else-node-eq0 t c =
     subst (IsPartAt (entries_in c.args.n c.args.store.now) c.args.row c.args.off) (sym c.child.ensures)
-    (node_above (entries_in c.args.n c.args.store.now) c.args.store.now c.requires.alike c.args.row c.args.off c.in-Some-part_at.above c.smallest-node.result
+    (node_above (entries_in c.args.n c.args.store.now) c.args.store.now c.requires.alike c.args.row c.args.off c.in-Some-part_at.above
+    c.smallest-node.result
     c.requires.within (sym c.is_root.ensures ∙ c.if-is_root.false) c.in-Some-part_at.ensures c.smallest-node.ensures
     (omega (arith, c.if-node-eq0.false)))

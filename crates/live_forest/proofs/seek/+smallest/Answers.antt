@@ -4,7 +4,10 @@ use Rattle.live_forest.specs.Parts.{entries_in}
 use Rattle.live_forest.proofs.seek.+smallest.Goals as goal
 
 pub part_in-requires-clause-within : goal.part_in-requires-clause-within
-part_in-requires-clause-within t c = within_left (length (entries_in c.args.n c.args.store.now)) c.args.row c.args.off (omega (arith, c.if-row-eq0.false)) c.requires.within
+part_in-requires-clause-within t c = within_left (length (entries_in c.args.n c.args.store.now)) c.args.row c.args.off (omega (
+  arith,
+  c.if-row-eq0.false,
+)) c.requires.within
 
 pub part_in-requires-in-Some-clause-within : goal.part_in-requires-in-Some-clause-within
 part_in-requires-in-Some-clause-within t c =
@@ -47,9 +50,11 @@ returns-in-None t c = smallest_right (entries_in c.args.n c.args.store.now) c.ar
     (omega (arith, c.if-row-eq0.false)) c.requires.within c.in-None.ensures c.smallest.ensures
 
 pub returns-in-None-part_in : goal.returns-in-None-part_in
-returns-in-None-part_in t c = smallest_left (entries_in c.args.n c.args.store.now) c.args.store.now c.requires.alike c.args.row c.args.off c.smallest-in-None-part_in.result
+returns-in-None-part_in t c = smallest_left (entries_in c.args.n c.args.store.now) c.args.store.now c.requires.alike c.args.row c.args.off
+    c.smallest-in-None-part_in.result
     (omega (arith, c.if-row-eq0.false)) c.requires.within c.in-None-part_in.ensures c.smallest-in-None-part_in.ensures
 
 pub returns-in-Some-part_in : goal.returns-in-Some-part_in
-returns-in-Some-part_in t c = smallest_here (entries_in c.args.n c.args.store.now) c.args.store.now c.requires.alike c.args.row c.args.off c.in-Some.field-0
+returns-in-Some-part_in t c = smallest_here (entries_in c.args.n c.args.store.now) c.args.store.now c.requires.alike c.args.row c.args.off
+    c.in-Some.field-0
     c.in-Some-part_in.field-0 (omega (arith, c.if-row-eq0.false)) c.requires.within c.in-Some.ensures c.in-Some-part_in.ensures

@@ -14,4 +14,5 @@ returns-then-not-is_within g c =
     (not_within _ _ c.if-not-is_within.true c.is_within.ensures)))
 
 pub part_by-requires-clause-told : goal.part_by-requires-clause-told
-part_by-requires-clause-told g c = fewer_told (entries_in c.args.n c.args.store.now) c.args.above.now c.args.nodes.now 0 c.args.at (omega arith) c.requires.told
+part_by-requires-clause-told g c = fewer_told (entries_in c.args.n c.args.store.now) c.args.above.now c.args.nodes.now 0 c.args.at (omega arith)
+    c.requires.told

@@ -25,5 +25,6 @@ loop-left-preserved c =
     }
 
 pub returns-clause-are : goal.returns-clause-are
-returns-clause-are c = fewer_told (entries_in c.args.n c.args.store.now) c.args.places.now c.loop-left.nodes.items c.loop-left.left 0 c.loop-left-test.false
+returns-clause-are c = fewer_told (entries_in c.args.n c.args.store.now) c.args.places.now c.loop-left.nodes.items c.loop-left.left 0
+    c.loop-left-test.false
     c.loop-left.invariant.told

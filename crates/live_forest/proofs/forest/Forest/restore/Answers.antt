@@ -40,7 +40,8 @@ returns-clause-entries g c =
     let s = c.self.inside.store in
     let le : n ≤ s.len = omega (arith, c.self.invariant.room, c.self.invariant.longer) in
     let entries : take n (leaves_of s) ≡ c.args.self.now.entries = ap (λ b. b.entries) c.self.view_is in
-    ap (take n) c.put.ensures.leaves ∙ take_set n (leaves_of s) c.args.number (Some c.args.digest) ∙ ap (λ l. set l c.args.number (Some c.args.digest)) entries
+    ap (take n) c.put.ensures.leaves ∙ take_set n (leaves_of s) c.args.number (Some c.args.digest)
+    ∙ ap (λ l. set l c.args.number (Some c.args.digest)) entries
 
 pub returns-clause-steps : goal.returns-clause-steps
 returns-clause-steps g c =

@@ -37,5 +37,6 @@ returns-clause-same c =
     let left = subst (λ xs. IsTakenOut p.cells xs (rank (is_bit p.listed) c.args.number) c.meets_next-next.result) (sym c.shrink.ensures) out in
     let halves : AreOfHalves p c.args.n = subst (λ x. AreOfHalves x c.args.n) (sym c.self.view_is) c.requires.halves in
     λ r o h. rw (← c.self.view_is)
-    (told_less p c.without-self-inside.result c.args.number c.shrink.new.cells.items c.meets_next-next.result c.self.invariant c.requires.number listed
+    (told_less p c.without-self-inside.result c.args.number c.shrink.new.cells.items c.meets_next-next.result c.self.invariant c.requires.number
+    listed
     spent c.without-self-inside.ensures c.meets_next-next.ensures left c.args.n c.requires.few halves r o h)

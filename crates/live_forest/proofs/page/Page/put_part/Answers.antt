@@ -62,6 +62,7 @@ returns-clause-put c =
     let cell = c.index_mut-cell.result.now in
     let leaf : cell.leaf ≡ leaf_in p.cells k = ap (λ x. x.leaf) (c.index_mut-cell.ensures.value ∙ get_or_default p.cells k cell no_cell inside) in
     let halves = rw (← c.self.view_is) at c.requires.halves in
-    let live : has_part (is_bit p.live) (suc row) off ≡ true = sym (own_live p row off c.args.own c.self.invariant halves) ∙ ap is_some c.in-Some.is in
+    let live : has_part (is_bit p.live) (suc row) off ≡ true = sym (own_live p row off c.args.own c.self.invariant halves)
+    ∙ ap is_some c.in-Some.is in
     rw (← c.self.view_is, c.in-Some.is)
     (part_written p row c.args.number k (record { leaf = cell.leaf; gap = c.in-Some.digest }) c.self.invariant h b at leaf live)

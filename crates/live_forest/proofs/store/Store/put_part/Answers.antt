@@ -13,7 +13,8 @@ put_part-requires-clause-halves c =
     let s : StoreState = record { len = c.self.inside.len; pages = c.self.inside.pages.items; high = c.self.inside.high.items } in
     let row = c.args.row in
     let number = c.args.number in
-    let within : number / 128 < length s.pages = page_listed s number c.self.invariant (ap (λ x. is_listed x.pages number) c.self.view_is ∙ c.requires.listed) in
+    let within : number / 128 < length s.pages = page_listed s number c.self.invariant (ap (λ x. is_listed x.pages number) c.self.view_is
+    ∙ c.requires.listed) in
     let page = c.index_mut-page.ensures.value ∙ get_or_default s.pages (number / 128) c.index_mut-page.result.now no_page within in
     let halves = rw (← c.self.view_is) at c.requires.halves in
     subst (λ p. IsOfHalves (told p row (2 * (number % 128 / 2 ^ suc row))) (told p row (2 * (number % 128 / 2 ^ suc row) + 1)) c.args.own)
@@ -23,7 +24,8 @@ pub invariant_of-self : goal.invariant_of-self
 invariant_of-self c =
     let s : StoreState = record { len = c.self.inside.len; pages = c.self.inside.pages.items; high = c.self.inside.high.items } in
     let number = c.args.number in
-    let within : number / 128 < length s.pages = page_listed s number c.self.invariant (ap (λ x. is_listed x.pages number) c.self.view_is ∙ c.requires.listed) in
+    let within : number / 128 < length s.pages = page_listed s number c.self.invariant (ap (λ x. is_listed x.pages number) c.self.view_is
+    ∙ c.requires.listed) in
     let page = c.index_mut-page.ensures.value ∙ get_or_default s.pages (number / 128) c.index_mut-page.result.now no_page within in
     store_written s number c.put_part.new.self c.self.invariant within (c.put_part.ensures.listed ∙ ap (λ p. p.listed) page)
 
@@ -72,7 +74,8 @@ returns-then-row-lt-PAGE_ROW-clause-put c =
     let s : StoreState = record { len = c.self.inside.len; pages = c.self.inside.pages.items; high = c.self.inside.high.items } in
     let row = c.args.row in
     let number = c.args.number in
-    let within : number / 128 < length s.pages = page_listed s number c.self.invariant (ap (λ x. is_listed x.pages number) c.self.view_is ∙ c.requires.listed) in
+    let within : number / 128 < length s.pages = page_listed s number c.self.invariant (ap (λ x. is_listed x.pages number) c.self.view_is
+    ∙ c.requires.listed) in
     let page = c.index_mut-page.ensures.value ∙ get_or_default s.pages (number / 128) c.index_mut-page.result.now no_page within in
     rw (← c.self.view_is)
     (part_kept_low s number c.put_part.new.self c.self.invariant within (c.put_part.ensures.listed ∙ ap (λ p. p.listed) page) row c.args.own
@@ -82,7 +85,8 @@ pub returns-then-row-lt-PAGE_ROW-clause-room : goal.returns-then-row-lt-PAGE_ROW
 returns-then-row-lt-PAGE_ROW-clause-room c =
     let s : StoreState = record { len = c.self.inside.len; pages = c.self.inside.pages.items; high = c.self.inside.high.items } in
     let number = c.args.number in
-    let within : number / 128 < length s.pages = page_listed s number c.self.invariant (ap (λ x. is_listed x.pages number) c.self.view_is ∙ c.requires.listed) in
+    let within : number / 128 < length s.pages = page_listed s number c.self.invariant (ap (λ x. is_listed x.pages number) c.self.view_is
+    ∙ c.requires.listed) in
     let page = c.index_mut-page.ensures.value ∙ get_or_default s.pages (number / 128) c.index_mut-page.result.now no_page within in
     rw (← c.self.view_is)
     (room_written s number c.put_part.new.self c.self.invariant within (c.put_part.ensures.listed ∙ ap (λ p. p.listed) page))
