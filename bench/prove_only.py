@@ -6,11 +6,12 @@ not named. So a function of a high crate is checked within a minute of a change 
 A function is named by its path, as cache_update::start::new_places; a module or a type stands for all of its functions.
 """
 import pathlib
+import shutil
 import subprocess
 import sys
 
 TOP = pathlib.Path(__file__).resolve().parent.parent
-KIT = pathlib.Path("/opt/rattle")
+KIT = pathlib.Path(shutil.which("rt")).resolve().parent.parent
 
 
 def lines_of_crates():

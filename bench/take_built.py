@@ -7,6 +7,7 @@ import importlib.machinery
 import importlib.util
 import os
 import pathlib
+import shutil
 import sys
 
 sys.dont_write_bytecode = True
@@ -14,7 +15,7 @@ TOP = pathlib.Path(__file__).resolve().parent.parent
 
 
 def kit():
-    loader = importlib.machinery.SourceFileLoader("kit", "/opt/rattle/bin/rt")
+    loader = importlib.machinery.SourceFileLoader("kit", os.path.realpath(shutil.which("rt")))
     made = importlib.util.module_from_spec(importlib.util.spec_from_loader("kit", loader))
     loader.exec_module(made)
     return made
