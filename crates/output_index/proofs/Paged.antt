@@ -1,17 +1,19 @@
 -- Pages of 256 numbers, one behind the other.
 use Rattle.std.proofs.Common.{◌≡◌, ◌≢◌, ℕ, zero, suc, ◌+◌, ◌-◌, ◌*◌, ◌/◌, ◌%◌, ◌<◌, ◌≤◌, List, [], ◌∷◌, ◌++◌, Option, Some, None, set, get_or, length, refl, sym}
-use Rattle.std.proofs.Common.{ap, ◌∙◌, ⊎_elim, arith}
+use Rattle.std.proofs.Common.{ap, ◌∙◌, subst, ⊎_elim, arith}
 use Rattle.std.specs.Prelude.{slice_get, IsSome, option_map}
 use Rattle.std.specs.List.{AllByRecursion}
 use Rattle.std.proofs.lemmas.List.{append-nil, append_assoc, get_or_append_left, get_or-append_right, set-append_left, set-append_right, length-set}
-use Rattle.std.proofs.lemmas.Bool.{cases_lt}
+use Rattle.std.proofs.lemmas.Bool.{cases_lt, false≢true}
 use Rattle.std.proofs.lemmas.Option.{none-some}
-use Rattle.std.proofs.lemmas.List.{length-append, get_or_past}
+use Rattle.std.proofs.lemmas.List.{length-append, get_or_past, get_or_default}
 use Rattle.output_index.specs.declared.entry.Entry.{Entry}
 use Rattle.output_index.specs.Chains.{entry_at, entries_from, changed, removed}
 use Rattle.output_index.specs.Pages.{entry_in, row_of, ArePages}
 use Rattle.output_index.proofs.Entries.{none_at}
-use Rattle.output_index.proofs.Numbered.{at-zero, standing}
+use Rattle.output_index.specs.Spare.{AreEntries}
+use Rattle.output_index.proofs.Numbered.{at-zero, standing, stands-within, set-there, cleared-there, last-there}
+use Rattle.output_index.proofs.Counted.{count-changed, count-cleared}
 
 abbrev pub no_page : List (Option Entry)
 no_page = []
@@ -125,3 +127,96 @@ page-last pages n i even last le = ⊎_elim low high (cases_lt i 256)
         (λ within. get_or_past (get_or pages (n / 256) no_page) i None (omega (arith, page-len pages (n / 256) even within, ge)))
         (λ past. ap (λ page. entry_in page i) (get_or_past pages (n / 256) no_page past))
         (cases_lt (n / 256) (length pages))
+
+-- ---- a page that was read, and what its change makes of all entries
+
+abbrev pub page_of : List (List (Option Entry)) → ℕ → List (Option Entry)
+page_of pages n = get_or pages (n / 256) no_page
+
+pub page-read : (pages : List (List (Option Entry))) (n k : ℕ) (page : List (Option Entry)) → k ≡ n / 256 → k < length pages
+    → page ≡ get_or pages k page → page ≡ page_of pages n
+page-read pages n k page at within is = is ∙ (get_or_default pages k page no_page within ∙ ap (λ j. get_or pages j no_page) at)
+
+pub entry-read : (pages : List (List (Option Entry))) (n k : ℕ) (page : List (Option Entry)) → ArePages pages → k ≡ n / 256 → k < length pages
+    → page ≡ get_or pages k page → entry_in page (n % 256) ≡ entry_at n (entries_from 0 (row_of pages))
+entry-read pages n k page even at within is = ap (λ p. entry_in p (n % 256)) (page-read pages n k page at within is) ∙ sym (entry-page pages n even)
+
+pub entry-past : (pages : List (List (Option Entry))) (n k : ℕ) → ArePages pages → k ≡ n / 256 → length pages ≤ k
+    → None ≡ entry_at n (entries_from 0 (row_of pages))
+entry-past pages n k even at past =
+    sym (entry-page pages n even ∙ ap (λ page. entry_in page (n % 256)) (get_or_past pages (n / 256) no_page (omega (arith, at, past))))
+
+pub entry-within : (pages : List (List (Option Entry))) (n : ℕ) → ArePages pages → IsSome (entry_at n (entries_from 0 (row_of pages)))
+    → n / 256 < length pages
+entry-within pages n even some = let l = row-len pages even in let within = stands-within n (row_of pages) some in omega (arith, l, within)
+
+mapped-there : (n : ℕ) (f : Entry → Entry) (xs : List (Option Entry)) → IsSome (entry_at n (entries_from 0 xs))
+    → entries_from 0 (set xs n (option_map f (entry_in xs n))) ≡ changed n f (entries_from 0 xs)
+mapped-there n f xs some = by_case (entry_in xs n) refl (subst IsSome (entry-in n xs) some)
+  where
+    by_case : (x : Option Entry) → entry_in xs n ≡ x → IsSome x → entries_from 0 (set xs n (option_map f x)) ≡ changed n f (entries_from 0 xs)
+    by_case None is h = absurd (false≢true h)
+    by_case (Some e) is h = set-there n f e xs some (sym (get_or_default xs n (Some e) None (stands-within n xs some) ∙ is))
+
+pub changed-page : (f : Entry → Entry) (pages : List (List (Option Entry))) (n : ℕ) → ArePages pages
+    → IsSome (entry_at n (entries_from 0 (row_of pages)))
+    → entries_from 0 (row_of (set pages (n / 256) (set (page_of pages n) (n % 256) (option_map f (entry_in (page_of pages n) (n % 256))))))
+    ≡ changed n f (entries_from 0 (row_of pages))
+changed-page f pages n even some =
+    let x = option_map f (entry_in (page_of pages n) (n % 256)) in
+    let is = sym (entry-page pages n even) ∙ entry-in n (row_of pages) in
+    ap (entries_from 0) (row-page pages n x even (entry-within pages n even some) ∙ ap (λ e. set (row_of pages) n (option_map f e)) is)
+    ∙ mapped-there n f (row_of pages) some
+
+pub cleared-page : (pages : List (List (Option Entry))) (n : ℕ) → ArePages pages → IsSome (entry_at n (entries_from 0 (row_of pages)))
+    → entries_from 0 (row_of (set pages (n / 256) (set (page_of pages n) (n % 256) None))) ≡ removed n (entries_from 0 (row_of pages))
+cleared-page pages n even some =
+    ap (entries_from 0) (row-page pages n None even (entry-within pages n even some)) ∙ cleared-there n (row_of pages)
+
+pub added-page : (pages : List (List (Option Entry))) (n : ℕ) (e : Entry) → ArePages pages → n / 256 < length pages
+    → AllByRecursion (λ x. x.0 < n) (entries_from 0 (row_of pages))
+    → entries_from 0 (row_of (set pages (n / 256) (set (page_of pages n) (n % 256) (Some e)))) ≡ entries_from 0 (row_of pages) ++ (n, e) ∷ []
+added-page pages n e even within last =
+    let l = row-len pages even in
+    ap (entries_from 0) (row-page pages n (Some e) even within) ∙ last-there n e (row_of pages) (omega (arith, l, within)) last
+
+-- ---- the invariant
+
+pub kept-changed : (f : Entry → Entry) (pages new : List (List (Option Entry))) (n held spare capacity : ℕ) → AreEntries pages held spare capacity
+    → IsSome (entry_at n (entries_from 0 (row_of pages)))
+    → new ≡ set pages (n / 256) (set (page_of pages n) (n % 256) (option_map f (entry_in (page_of pages n) (n % 256))))
+    → AreEntries new held spare capacity
+kept-changed f pages new n held spare capacity a some is =
+    let es = entries_from 0 (row_of pages) in
+    let x = option_map f (entry_in (page_of pages n) (n % 256)) in
+    let same = ap (λ p. length (entries_from 0 (row_of p))) is ∙ (ap length (changed-page f pages n a.whole some) ∙ count-changed n f es) in
+    record {
+      whole = subst ArePages (sym is) (pages-changed pages (n / 256) (n % 256) x a.whole (entry-within pages n a.whole some));
+      kept = record { count = a.kept.count ∙ sym same; room = a.kept.room };
+    }
+
+pub kept-cleared : (pages new : List (List (Option Entry))) (n held spare capacity spare' : ℕ) → AreEntries pages held spare capacity
+    → IsSome (entry_at n (entries_from 0 (row_of pages))) → new ≡ set pages (n / 256) (set (page_of pages n) (n % 256) None)
+    → spare' ≡ spare + 1 → AreEntries new (held - 1) spare' capacity
+kept-cleared pages new n held spare capacity spare' a some is one =
+    let even = a.whole in
+    let within = entry-within pages n even some in
+    let fewer = count-cleared n (row_of pages) some in
+    let len = ap (λ p. length (entries_from 0 (row_of p))) is
+    ∙ ap (λ row. length (entries_from 0 row)) (row-page pages n None even within) in
+    record {
+      whole = subst ArePages (sym is) (pages-changed pages (n / 256) (n % 256) None even within);
+      kept = record { count = omega (arith, a.kept.count, fewer, len); room = omega (arith, a.kept.room, a.kept.count, fewer, one) };
+    }
+
+pub kept-added : (pages new : List (List (Option Entry))) (n : ℕ) (e : Entry) (held spare capacity : ℕ) → ArePages pages → n / 256 < length pages
+    → AllByRecursion (λ x. x.0 < n) (entries_from 0 (row_of pages)) → held ≡ length (entries_from 0 (row_of pages))
+    → new ≡ set pages (n / 256) (set (page_of pages n) (n % 256) (Some e)) → held + 1 + spare ≤ capacity → AreEntries new (held + 1) spare capacity
+kept-added pages new n e held spare capacity even within last count is room =
+    let es = entries_from 0 (row_of pages) in
+    let one : List (ℕ × Entry) = (n, e) ∷ [] in
+    let len = ap (λ p. length (entries_from 0 (row_of p))) is ∙ (ap length (added-page pages n e even within last) ∙ length-append es one) in
+    record {
+      whole = subst ArePages (sym is) (pages-changed pages (n / 256) (n % 256) (Some e) even within);
+      kept = record { count = omega (arith, count, len); room = room };
+    }
