@@ -1,8 +1,8 @@
 -- Entries that stand each at its number.
-use Rattle.std.proofs.Common.{◌≡◌, ◌≢◌, ℕ, zero, suc, ◌+◌, ◌<◌, ◌≤◌, List, [], ◌∷◌, ◌++◌, Option, Some, None, set, get_or, take, length, refl, sym}
+use Rattle.std.proofs.Common.{◌≡◌, ◌≢◌, ℕ, zero, suc, ◌+◌, ◌<◌, ◌≤◌, List, [], ◌∷◌, ◌++◌, Option, Some, None, set, get_or, length, refl, sym}
 use Rattle.std.proofs.Common.{ap, ◌∙◌, subst, ap₂, arith}
 use Rattle.std.proofs.lemmas.Bool.{false≢true}
-use Rattle.std.proofs.lemmas.Option.{none-some, same_Some, slice_get_within, slice_get_read, slice_get_past}
+use Rattle.std.proofs.lemmas.Option.{none-some, same_Some, slice_get_within, slice_get_read}
 use Rattle.std.specs.Prelude.{slice_get, IsSome}
 use Rattle.std.specs.List.{AllByRecursion}
 use Rattle.output_index.specs.declared.entry.Entry.{Entry}
@@ -52,17 +52,6 @@ stands-within n xs h = by_case (entry_at n (entries_from 0 xs)) refl h
     by_case : (x : Option Entry) → entry_at n (entries_from 0 xs) ≡ x → IsSome x → n < length xs
     by_case None q h = absurd (false≢true h)
     by_case (Some e) q h = slice_get_within xs n (Some e) (stands-at n e xs q)
-
--- what is read there
-pub read-at : (n : ℕ) (x : Option Entry) (xs : List (Option Entry)) → n < length xs → x ≡ get_or xs n x → entry_at n (entries_from 0 xs) ≡ x
-read-at n x xs l h = at-zero n xs ∙ ap standing (slice_get_read xs (length xs) n x refl l h)
-
-pub none-past : (n : ℕ) (xs : List (Option Entry)) → length xs ≤ n → entry_at n (entries_from 0 xs) ≡ None
-none-past n xs l = at-zero n xs ∙ ap standing (slice_get_past xs n l)
-
--- what is read where an entry is found is an entry
-pub read-some : (n : ℕ) (x : Option Entry) (xs : List (Option Entry)) → IsSome (entry_at n (entries_from 0 xs)) → x ≡ get_or xs n x → IsSome x
-read-some n x xs h r = subst IsSome (read-at n x xs (stands-within n xs h) r) h
 
 changed_none : (n : ℕ) (f : Entry → Entry) (es : List (ℕ × Entry)) → AllByRecursion (λ y. y.0 ≢ n) es → changed n f es ≡ es
 changed_none n f [] h = refl

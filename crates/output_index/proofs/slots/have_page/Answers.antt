@@ -1,6 +1,6 @@
-use Rattle.std.proofs.Common.{◌≡◌, ap, ◌∙◌, arith}
+use Rattle.std.proofs.Common.{ap, ◌∙◌}
 use Rattle.output_index.specs.Chains.{entries_from}
-use Rattle.output_index.specs.Pages.{row_of, ArePages}
+use Rattle.output_index.specs.Pages.{row_of}
 use Rattle.output_index.proofs.Paged.{page-more, pages-more}
 use Rattle.output_index.proofs.slots.have_page.Goals as goal
 

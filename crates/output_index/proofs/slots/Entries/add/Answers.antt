@@ -1,4 +1,4 @@
-use Rattle.std.proofs.Common.{◌≡◌, ◌<◌, ◌/◌, ◌%◌, ◌++◌, [], ◌∷◌, length, set, Some, sym, ap, ap₂, subst, ◌∙◌, arith}
+use Rattle.std.proofs.Common.{◌<◌, ◌%◌, ◌++◌, [], ◌∷◌, length, set, Some, sym, ap, ap₂, subst, ◌∙◌, arith}
 use Rattle.std.specs.List.{AllByRecursion}
 use Rattle.output_index.specs.Chains.{entries_from}
 use Rattle.output_index.specs.Pages.{entry_in, row_of}

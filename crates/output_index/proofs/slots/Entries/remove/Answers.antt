@@ -1,5 +1,5 @@
-use Rattle.std.proofs.Common.{◌≡◌, ◌<◌, ◌+◌, ◌/◌, ◌%◌, length, set, None, sym, ap, ap₂, subst, ◌∙◌, arith}
-use Rattle.std.specs.Prelude.{IsSome, vec_len, vec_capacity}
+use Rattle.std.proofs.Common.{◌<◌, ◌%◌, length, set, None, sym, ap, ap₂, subst, ◌∙◌, arith}
+use Rattle.std.specs.Prelude.{IsSome}
 use Rattle.output_index.specs.Chains.{entry_at, entries_from, removed}
 use Rattle.output_index.specs.Pages.{row_of}
 use Rattle.output_index.specs.Spare.{AreEntries}

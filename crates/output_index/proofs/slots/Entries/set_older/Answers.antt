@@ -1,8 +1,8 @@
-use Rattle.std.proofs.Common.{◌≡◌, ◌<◌, ◌/◌, ◌%◌, length, set, sym, ap, ap₂, subst, ◌∙◌, arith}
+use Rattle.std.proofs.Common.{◌<◌, ◌%◌, length, set, sym, ap, ap₂, subst, ◌∙◌, arith}
 use Rattle.std.specs.Prelude.{IsSome, option_map}
 use Rattle.output_index.specs.Chains.{entry_at, entries_from, changed, set_older}
 use Rattle.output_index.specs.Pages.{entry_in, row_of}
-use Rattle.output_index.proofs.Paged.{page_of, page-read, entry-read, entry-within, changed-page, kept-changed}
+use Rattle.output_index.proofs.Paged.{page-read, entry-read, entry-within, changed-page, kept-changed}
 use Rattle.output_index.proofs.slots.Entries.set_older.Goals as goal
 
 pub index_mut-page-requires : goal.index_mut-page-requires
