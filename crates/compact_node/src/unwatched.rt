@@ -41,7 +41,8 @@ fn push_some<D: Digester, L: Ledger>(
     ensures more { from < result }
     ensures within { result ≤ length spends.now.new }
     ensures room { length digests.new ≡ length digests.old }
-    ensures roots { roots.new ≡ with_leaves D.digest_of roots.old (map (λ leaf. D.digest_of (leaf_text leaf)) (take (result - from) (drop from spends.now.new))) }
+    ensures roots { roots.new ≡ with_leaves D.digest_of roots.old
+        (map (λ leaf. D.digest_of (leaf_text leaf)) (take (result - from) (drop from spends.now.new))) }
     ensures steps { steps.new + count_ones roots.new.leaves + 2 * from ≤ steps.old + count_ones roots.old.leaves + 2 * result }
 {
     let count = (spends.new_count() - from).min(digests.len() as u64);
