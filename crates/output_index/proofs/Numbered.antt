@@ -127,4 +127,5 @@ pub last-there : (n : ℕ) (e : Entry) (xs : List (Option Entry)) → n < length
     → entries_from 0 (set xs n (Some e)) ≡ entries_from 0 xs ++ (n, e) ∷ []
 last-there n e xs within h =
     let at : n ≡ 0 + n = omega arith in
-    set-last 0 n e xs within (subst (λ j. AllByRecursion (λ x. x.0 < j) (entries_from 0 xs)) at h) ∙ ap (λ j. entries_from 0 xs ++ (j, e) ∷ []) (sym at)
+    set-last 0 n e xs within (subst (λ j. AllByRecursion (λ x. x.0 < j) (entries_from 0 xs)) at h)
+    ∙ ap (λ j. entries_from 0 xs ++ (j, e) ∷ []) (sym at)

@@ -1,6 +1,6 @@
 -- Pages of 256 numbers, one behind the other.
-use Rattle.std.proofs.Common.{◌≡◌, ◌≢◌, ℕ, zero, suc, ◌+◌, ◌-◌, ◌*◌, ◌/◌, ◌%◌, ◌<◌, ◌≤◌, List, [], ◌∷◌, ◌++◌, Option, Some, None, set, get_or, length, refl, sym}
-use Rattle.std.proofs.Common.{ap, ◌∙◌, subst, ⊎_elim, arith}
+use Rattle.std.proofs.Common.{◌≡◌, ◌≢◌, ℕ, zero, suc, ◌+◌, ◌-◌, ◌*◌, ◌/◌, ◌%◌, ◌<◌, ◌≤◌, List, [], ◌∷◌, ◌++◌, Option, Some, None, set, get_or, length}
+use Rattle.std.proofs.Common.{refl, sym, ap, ◌∙◌, subst, ⊎_elim, arith}
 use Rattle.std.specs.Prelude.{slice_get, IsSome, option_map}
 use Rattle.std.specs.List.{AllByRecursion}
 use Rattle.std.proofs.lemmas.List.{append-nil, append_assoc, get_or_append_left, get_or-append_right, set-append_left, set-append_right, length-set}
@@ -27,7 +27,8 @@ pub entry-in : (n : ℕ) (xs : List (Option Entry)) → entry_at n (entries_from
 entry-in n xs = at-zero n xs ∙ standing-in xs n
 
 -- what a row has is what one page of it has
-row-in : (pages : List (List (Option Entry))) (k i : ℕ) → ArePages pages → i < 256 → entry_in (row_of pages) (k * 256 + i) ≡ entry_in (get_or pages k no_page) i
+row-in : (pages : List (List (Option Entry))) (k i : ℕ) → ArePages pages → i < 256
+    → entry_in (row_of pages) (k * 256 + i) ≡ entry_in (get_or pages k no_page) i
 row-in [] k i even lt = refl
 row-in (page ∷ pages) zero i even lt =
     let e : 0 * 256 + i ≡ i = omega arith in
@@ -62,7 +63,8 @@ row-page pages n x even within =
     let e : n / 256 * 256 + n % 256 ≡ n = omega arith in
     row-set pages (n / 256) (n % 256) x even within (omega arith) ∙ ap (λ j. set (row_of pages) j x) e
 
-pub pages-set : (pages : List (List (Option Entry))) (k : ℕ) (page : List (Option Entry)) → ArePages pages → length page ≡ 256 → ArePages (set pages k page)
+pub pages-set : (pages : List (List (Option Entry))) (k : ℕ) (page : List (Option Entry)) → ArePages pages → length page ≡ 256
+    → ArePages (set pages k page)
 pages-set [] k page even len = tt
 pages-set (old ∷ pages) zero page even len = (len, even.1)
 pages-set (old ∷ pages) (suc k) page even len = (even.0, pages-set pages k page even.1 len)
@@ -80,7 +82,8 @@ pages-changed pages k i x even within =
 
 -- ---- one more page
 
-pub pages-more : (pages : List (List (Option Entry))) (page : List (Option Entry)) → ArePages pages → length page ≡ 256 → ArePages (pages ++ page ∷ [])
+pub pages-more : (pages : List (List (Option Entry))) (page : List (Option Entry)) → ArePages pages → length page ≡ 256
+    → ArePages (pages ++ page ∷ [])
 pages-more [] page even len = (len, tt)
 pages-more (old ∷ pages) page even len = (even.0, pages-more pages page even.1 len)
 

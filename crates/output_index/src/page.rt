@@ -96,12 +96,13 @@ impl Page {
     }
 }
 
-// Gives room back that is more than an eighth and two places. Where there is no memory for fewer places, the room stays.
+// Gives room back that is more than an eighth and two places, and all of it where none is held. Where there is no memory for fewer places, the
+// room stays.
 fn shrink(slots: &mut Vec<Slot>)
     ensures { slots.new.items ≡ slots.old.items }
 {
     let len = slots.len();
-    if slots.capacity() - len > 2 + len / 8 {
+    if len == 0 || slots.capacity() - len > 2 + len / 8 {
         slots.shrink_to_fit();
     }
 }

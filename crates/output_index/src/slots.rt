@@ -1,6 +1,6 @@
 //! The entries by their numbers.
-ghost use Rattle.std.specs.Prelude.{◌≡◌, ◌<◌, ◌≤◌, ◌+◌, ◌/◌, ◌^◌, ◌++◌, [], ◌∷◌, length, true, Some, None, IfOk, OnOk, OnErr, IsSome, option_map, vec_len};
-ghost use Rattle.std.specs.Prelude.{vec_capacity};
+ghost use Rattle.std.specs.Prelude.{◌≡◌, ◌<◌, ◌≤◌, ◌+◌, ◌/◌, ◌^◌, ◌++◌, [], ◌∷◌, length, true, Some, None, IfOk};
+ghost use Rattle.std.specs.Prelude.{OnOk, OnErr, IsSome, option_map, vec_len, vec_capacity};
 ghost use Rattle.std.specs.List.{AllByRecursion};
 ghost use Rattle.output_index.specs.Chains.{entry_at, lives_in, changed, removed, set_live, set_older, entries_from};
 ghost use Rattle.output_index.specs.Pages.{row_of, ArePages};
@@ -12,8 +12,8 @@ use std::alloc::{AllocError, Global};
 use std::marker::Model;
 use uo_base::NoMemory;
 
-/// The entries, each at its number, so that none is searched for. Numbers are those of a forest's entries, which come in a row; they lie in pages,
-/// in which a number of which nothing is held any more takes a bit, and its page a seventh of a byte.
+/// The entries, each at its number, so that none is searched for. Numbers are those of a forest's entries, which come in a row. They lie in
+/// pages of 256, each of 56 bytes and 8 for each entry that is held, so a number of which nothing is held any more takes a fifth of a byte.
 ///
 /// The cells of entries that were taken out are kept for the next ones, so that a block which spends as many outputs as it makes asks
 /// for no cell here. A new cell is made only where none is spare, so there are never more, held and spare, than the most entries that
