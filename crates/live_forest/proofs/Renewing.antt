@@ -1,6 +1,6 @@
 -- Parts that are made anew row by row: a step of a row, and parts that wait.
-use Rattle.std.proofs.Common.{◌≡◌, ◌≢◌, ℕ, zero, suc, ◌+◌, ◌-◌, ◌*◌, ◌/◌, ◌^◌, ◌<◌, ◌≤◌, ◌⊎◌, inl, inr, Bool, true, false, List, [], ◌∷◌, length, get_or, set}
-use Rattle.std.proofs.Common.{Option, Some, None, refl, sym, ap, ap₂, ◌∙◌, subst, ⊎_elim, arith, eq-eqb}
+use Rattle.std.proofs.Common.{◌≡◌, ◌≢◌, ℕ, zero, suc, ◌+◌, ◌-◌, ◌*◌, ◌/◌, ◌^◌, ◌<◌, ◌≤◌, ◌⊎◌, inl, inr, Bool, true, false, List, [], ◌∷◌, length}
+use Rattle.std.proofs.Common.{get_or, set, Option, Some, None, refl, sym, ap, ap₂, ◌∙◌, subst, ⊎_elim, arith, eq-eqb}
 use Rattle.std.specs.Prelude.{◌==◌}
 use Rattle.std.specs.List.{list_any}
 use Rattle.std.proofs.lemmas.Bool.{cases_eq, cases_lt, or_cases, eqb-true, false≢true}
@@ -224,7 +224,8 @@ module _ (H : List ℕ → Digest) where
           right = λ j d lt.
               ⊎_elim
               (λ same.
-              ap (λ i. stored s row (2 * (i / 2 ^ suc row) + 1)) (is j same) ∙ right ∙ ap (λ (p : Digest × Digest). Some p.1) (sym (is_pair j d same)))
+              ap (λ i. stored s row (2 * (i / 2 ^ suc row) + 1)) (is j same) ∙ right
+              ∙ ap (λ (p : Digest × Digest). Some p.1) (sym (is_pair j d same)))
               (λ ne.
               ap (λ i. stored s row (2 * (i / 2 ^ suc row) + 1)) (old j ne) ∙ waiting.right j d (omega (arith, lt, count, ne))
               ∙ ap (λ (p : Digest × Digest). Some p.1) (sym (old_pair j d ne)))

@@ -111,7 +111,7 @@ impl<D: Digester> Forest<D> {
     pub fn live(&self, number: u64) -> bool
         ensures { result ≡ is_live self.now.entries number }
     {
-        number < self.count && self.store.part(self.count, 0, number).is_some()
+        number < self.count && self.store.has(self.count, 0, number)
     }
 
     /// Whether an entry is held: it is live, or can be made live again.

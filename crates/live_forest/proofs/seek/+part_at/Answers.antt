@@ -1,7 +1,7 @@
 use Rattle.std.proofs.Common.{length, sym, ◌∙◌, subst, arith}
 use Rattle.forest_place.proofs.Positions.{row_small}
 use Rattle.live_forest.specs.Lookups.{IsPartAt}
-use Rattle.live_forest.proofs.Seeking.{up_code, part_at_root, nothing_at_root, entry_above, node_above}
+use Rattle.live_forest.proofs.Seeking.{none_of, some_of, up_code, part_at_root, nothing_at_root, entry_above, node_above}
 use Rattle.live_forest.specs.Parts.{entries_in}
 use Rattle.live_forest.proofs.seek.+part_at.Goals as goal
 
@@ -29,24 +29,24 @@ part_at-requires t c =
       ),
     )
 
-pub returns-in-None : goal.returns-in-None
-returns-in-None t c = nothing_at_root (entries_in c.args.n c.args.store.now) c.args.store.now c.requires.alike c.args.row c.args.off
-    (sym c.is_root.ensures ∙ c.if-is_root.true) c.requires.within c.in-None.ensures
+pub returns-then-not-some : goal.returns-then-not-some
+returns-then-not-some t c = nothing_at_root (entries_in c.args.n c.args.store.now) c.args.store.now c.requires.alike c.args.row c.args.off
+    (sym c.is_root.ensures ∙ c.if-is_root.true) c.requires.within (none_of _ _ c.has_in-some.ensures c.if-not-some.true)
 
-pub returns-in-Some : goal.returns-in-Some
-returns-in-Some t c = part_at_root (entries_in c.args.n c.args.store.now) c.args.store.now c.requires.alike c.args.row c.args.off c.in-Some.field-0
-    (sym c.is_root.ensures ∙ c.if-is_root.true) c.requires.within c.in-Some.ensures
+pub returns-else-not-some : goal.returns-else-not-some
+returns-else-not-some t c = part_at_root (entries_in c.args.n c.args.store.now) c.args.store.now c.requires.alike c.args.row c.args.off (some_of _ _ c.has_in-some.ensures c.if-not-some.false).0
+    (sym c.is_root.ensures ∙ c.if-is_root.true) c.requires.within (some_of _ _ c.has_in-some.ensures c.if-not-some.false).1
 
 pub returns-then-node-eq0 : goal.returns-then-node-eq0
 returns-then-node-eq0 t c =
-    entry_above (entries_in c.args.n c.args.store.now) c.args.store.now c.requires.alike c.args.row c.args.off c.in-Some-part_at.above
+    entry_above (entries_in c.args.n c.args.store.now) c.args.store.now c.requires.alike c.args.row c.args.off c.in-Some.above
     c.smallest-node.result
-    c.requires.within (sym c.is_root.ensures ∙ c.if-is_root.false) c.in-Some-part_at.ensures c.smallest-node.ensures c.if-node-eq0.true
+    c.requires.within (sym c.is_root.ensures ∙ c.if-is_root.false) c.in-Some.ensures c.smallest-node.ensures c.if-node-eq0.true
 
 pub returns-else-node-eq0 : goal.returns-else-node-eq0
 returns-else-node-eq0 t c =
     subst (IsPartAt (entries_in c.args.n c.args.store.now) c.args.row c.args.off) (sym c.child.ensures)
-    (node_above (entries_in c.args.n c.args.store.now) c.args.store.now c.requires.alike c.args.row c.args.off c.in-Some-part_at.above
+    (node_above (entries_in c.args.n c.args.store.now) c.args.store.now c.requires.alike c.args.row c.args.off c.in-Some.above
     c.smallest-node.result
-    c.requires.within (sym c.is_root.ensures ∙ c.if-is_root.false) c.in-Some-part_at.ensures c.smallest-node.ensures
+    c.requires.within (sym c.is_root.ensures ∙ c.if-is_root.false) c.in-Some.ensures c.smallest-node.ensures
     (omega (arith, c.if-node-eq0.false)))
