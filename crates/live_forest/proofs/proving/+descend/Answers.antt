@@ -180,11 +180,13 @@ children-requires-2-clause-row g t c =
     let q = c.args.place in
     let halves = halves_of (length es) p c.children.result.0 c.children.result.1 (omega (arith, c.if-part-eq0.false)) c.requires.within
     c.children.ensures.rows c.children.ensures.left c.children.ensures.right in
-    let left : Some (some_of _ _ c.has_in-on_left.ensures c.if-not-on_left.false).0 ≡ kept es parts (p.row - 1) (2 * p.off) =
-    (some_of _ _ c.has_in-on_left.ensures c.if-not-on_left.false).1 ∙ (ap₂ (kept es parts) halves.left_row c.children.ensures.left) in
-    let right : Some (some_of _ _ c.has_in-on_right.ensures c.if-not-on_right.false).0 ≡ kept es parts (p.row - 1) (2 * p.off + 1) =
-    (some_of _ _ c.has_in-on_right.ensures c.if-not-on_right.false).1 ∙ (ap₂ (kept es parts) halves.right_row c.children.ensures.right) in
-    let both = stand_both H es parts c.requires.right p.row p.off q (some_of _ _ c.has_in-on_left.ensures c.if-not-on_left.false).0 (some_of _ _ c.has_in-on_right.ensures c.if-not-on_right.false).0 halves.some c.requires.within
+    let has_left = some_of _ _ c.has_in-on_left.ensures c.if-not-on_left.false in
+    let has_right = some_of _ _ c.has_in-on_right.ensures c.if-not-on_right.false in
+    let left : Some has_left.0 ≡ kept es parts (p.row - 1) (2 * p.off) =
+    has_left.1 ∙ (ap₂ (kept es parts) halves.left_row c.children.ensures.left) in
+    let right : Some has_right.0 ≡ kept es parts (p.row - 1) (2 * p.off + 1) =
+    has_right.1 ∙ (ap₂ (kept es parts) halves.right_row c.children.ensures.right) in
+    let both = stand_both H es parts c.requires.right p.row p.off q has_left.0 has_right.0 halves.some c.requires.within
     c.requires.stands left right in
     both.high
 
@@ -201,11 +203,13 @@ descend-requires-2 g t c κs within =
     let q = c.args.place in
     let halves = halves_of (length es) p c.children.result.0 c.children.result.1 (omega (arith, c.if-part-eq0.false)) c.requires.within
     c.children.ensures.rows c.children.ensures.left c.children.ensures.right in
-    let left : Some (some_of _ _ c.has_in-on_left.ensures c.if-not-on_left.false).0 ≡ kept es parts (p.row - 1) (2 * p.off) =
-    (some_of _ _ c.has_in-on_left.ensures c.if-not-on_left.false).1 ∙ (ap₂ (kept es parts) halves.left_row c.children.ensures.left) in
-    let right : Some (some_of _ _ c.has_in-on_right.ensures c.if-not-on_right.false).0 ≡ kept es parts (p.row - 1) (2 * p.off + 1) =
-    (some_of _ _ c.has_in-on_right.ensures c.if-not-on_right.false).1 ∙ (ap₂ (kept es parts) halves.right_row c.children.ensures.right) in
-    let both = stand_both H es parts c.requires.right p.row p.off q (some_of _ _ c.has_in-on_left.ensures c.if-not-on_left.false).0 (some_of _ _ c.has_in-on_right.ensures c.if-not-on_right.false).0 halves.some c.requires.within
+    let has_left = some_of _ _ c.has_in-on_left.ensures c.if-not-on_left.false in
+    let has_right = some_of _ _ c.has_in-on_right.ensures c.if-not-on_right.false in
+    let left : Some has_left.0 ≡ kept es parts (p.row - 1) (2 * p.off) =
+    has_left.1 ∙ (ap₂ (kept es parts) halves.left_row c.children.ensures.left) in
+    let right : Some has_right.0 ≡ kept es parts (p.row - 1) (2 * p.off + 1) =
+    has_right.1 ∙ (ap₂ (kept es parts) halves.right_row c.children.ensures.right) in
+    let both = stand_both H es parts c.requires.right p.row p.off q has_left.0 has_right.0 halves.some c.requires.within
     c.requires.stands left right in
     let under : c.children-2.result.0.row ≡ q.row - 1 = omega (arith, c.children-2.ensures.rows.0) in
     let beside : c.children-2.result.1.row ≡ q.row - 1 = omega (arith, c.children-2.ensures.rows.1) in
@@ -244,11 +248,13 @@ descend-requires-3 g t c κs within =
     let q = c.args.place in
     let halves = halves_of (length es) p c.children.result.0 c.children.result.1 (omega (arith, c.if-part-eq0.false)) c.requires.within
     c.children.ensures.rows c.children.ensures.left c.children.ensures.right in
-    let left : Some (some_of _ _ c.has_in-on_left.ensures c.if-not-on_left.false).0 ≡ kept es parts (p.row - 1) (2 * p.off) =
-    (some_of _ _ c.has_in-on_left.ensures c.if-not-on_left.false).1 ∙ (ap₂ (kept es parts) halves.left_row c.children.ensures.left) in
-    let right : Some (some_of _ _ c.has_in-on_right.ensures c.if-not-on_right.false).0 ≡ kept es parts (p.row - 1) (2 * p.off + 1) =
-    (some_of _ _ c.has_in-on_right.ensures c.if-not-on_right.false).1 ∙ (ap₂ (kept es parts) halves.right_row c.children.ensures.right) in
-    let both = stand_both H es parts c.requires.right p.row p.off q (some_of _ _ c.has_in-on_left.ensures c.if-not-on_left.false).0 (some_of _ _ c.has_in-on_right.ensures c.if-not-on_right.false).0 halves.some c.requires.within
+    let has_left = some_of _ _ c.has_in-on_left.ensures c.if-not-on_left.false in
+    let has_right = some_of _ _ c.has_in-on_right.ensures c.if-not-on_right.false in
+    let left : Some has_left.0 ≡ kept es parts (p.row - 1) (2 * p.off) =
+    has_left.1 ∙ (ap₂ (kept es parts) halves.left_row c.children.ensures.left) in
+    let right : Some has_right.0 ≡ kept es parts (p.row - 1) (2 * p.off + 1) =
+    has_right.1 ∙ (ap₂ (kept es parts) halves.right_row c.children.ensures.right) in
+    let both = stand_both H es parts c.requires.right p.row p.off q has_left.0 has_right.0 halves.some c.requires.within
     c.requires.stands left right in
     let under : c.children-2.result.0.row ≡ q.row - 1 = omega (arith, c.children-2.ensures.rows.0) in
     let beside : c.children-2.result.1.row ≡ q.row - 1 = omega (arith, c.children-2.ensures.rows.1) in
@@ -287,11 +293,13 @@ returns-clause-noted g t c =
     let q = c.args.place in
     let halves = halves_of (length es) p c.children.result.0 c.children.result.1 (omega (arith, c.if-part-eq0.false)) c.requires.within
     c.children.ensures.rows c.children.ensures.left c.children.ensures.right in
-    let left : Some (some_of _ _ c.has_in-on_left.ensures c.if-not-on_left.false).0 ≡ kept es parts (p.row - 1) (2 * p.off) =
-    (some_of _ _ c.has_in-on_left.ensures c.if-not-on_left.false).1 ∙ (ap₂ (kept es parts) halves.left_row c.children.ensures.left) in
-    let right : Some (some_of _ _ c.has_in-on_right.ensures c.if-not-on_right.false).0 ≡ kept es parts (p.row - 1) (2 * p.off + 1) =
-    (some_of _ _ c.has_in-on_right.ensures c.if-not-on_right.false).1 ∙ (ap₂ (kept es parts) halves.right_row c.children.ensures.right) in
-    let both = stand_both H es parts c.requires.right p.row p.off q (some_of _ _ c.has_in-on_left.ensures c.if-not-on_left.false).0 (some_of _ _ c.has_in-on_right.ensures c.if-not-on_right.false).0 halves.some c.requires.within
+    let has_left = some_of _ _ c.has_in-on_left.ensures c.if-not-on_left.false in
+    let has_right = some_of _ _ c.has_in-on_right.ensures c.if-not-on_right.false in
+    let left : Some has_left.0 ≡ kept es parts (p.row - 1) (2 * p.off) =
+    has_left.1 ∙ (ap₂ (kept es parts) halves.left_row c.children.ensures.left) in
+    let right : Some has_right.0 ≡ kept es parts (p.row - 1) (2 * p.off + 1) =
+    has_right.1 ∙ (ap₂ (kept es parts) halves.right_row c.children.ensures.right) in
+    let both = stand_both H es parts c.requires.right p.row p.off q has_left.0 has_right.0 halves.some c.requires.within
     c.requires.stands left right in
     let under : c.children-2.result.0.row ≡ q.row - 1 = omega (arith, c.children-2.ensures.rows.0) in
     let beside : c.children-2.result.1.row ≡ q.row - 1 = omega (arith, c.children-2.ensures.rows.1) in

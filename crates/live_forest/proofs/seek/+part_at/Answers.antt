@@ -34,8 +34,10 @@ returns-then-not-some t c = nothing_at_root (entries_in c.args.n c.args.store.no
     (sym c.is_root.ensures ∙ c.if-is_root.true) c.requires.within (none_of _ _ c.has_in-some.ensures c.if-not-some.true)
 
 pub returns-else-not-some : goal.returns-else-not-some
-returns-else-not-some t c = part_at_root (entries_in c.args.n c.args.store.now) c.args.store.now c.requires.alike c.args.row c.args.off (some_of _ _ c.has_in-some.ensures c.if-not-some.false).0
-    (sym c.is_root.ensures ∙ c.if-is_root.true) c.requires.within (some_of _ _ c.has_in-some.ensures c.if-not-some.false).1
+returns-else-not-some t c =
+    let has = some_of _ _ c.has_in-some.ensures c.if-not-some.false in
+    part_at_root (entries_in c.args.n c.args.store.now) c.args.store.now c.requires.alike c.args.row c.args.off has.0
+    (sym c.is_root.ensures ∙ c.if-is_root.true) c.requires.within has.1
 
 pub returns-then-node-eq0 : goal.returns-then-node-eq0
 returns-then-node-eq0 t c =
