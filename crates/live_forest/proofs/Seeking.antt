@@ -1,6 +1,6 @@
 -- From parts to what stands at places.
-use Rattle.std.proofs.Common.{◌≡◌, ℕ, zero, suc, ◌+◌, ◌-◌, ◌*◌, ◌/◌, ◌%◌, ◌<◌, ◌≤◌, Bool, true, false, List, length, get_or, Option, Some, None, refl, sym}
-use Rattle.std.proofs.Common.{ap, ap₂, ◌∙◌, subst, ⊎_elim, ◌⊎◌, inl, inr, arith}
+use Rattle.std.proofs.Common.{◌≡◌, ℕ, zero, suc, ◌+◌, ◌-◌, ◌*◌, ◌/◌, ◌%◌, ◌<◌, ◌≤◌, Bool, true, false, List, length, get_or, Option, Some, None}
+use Rattle.std.proofs.Common.{refl, sym, ap, ap₂, ◌∙◌, subst, ⊎_elim, ◌⊎◌, inl, inr, arith}
 use Rattle.std.specs.Prelude.{option_map, is_some}
 use Rattle.std.proofs.lemmas.Bool.{true≢false, false≢true, cases_eq}
 use Rattle.uo_digest.specs.declared.digest.Digest.{Digest}
@@ -22,12 +22,12 @@ use Rattle.live_forest.proofs.Refreshing.{kept_right}
 
 -- that something is kept is a test
 pub none_of : (b : Bool) (x : Option Digest) → b ≡ is_some x → b ≡ false → None ≡ x
-none_of b None e no = refl
-none_of b (Some d) e no = absurd (false≢true (sym no ∙ e))
+none_of b None e gone = refl
+none_of b (Some d) e gone = absurd (false≢true (sym gone ∙ e))
 
 pub some_of : (b : Bool) (x : Option Digest) → b ≡ is_some x → b ≡ true → (d : Digest) × (Some d ≡ x)
-some_of b None e yes = absurd (true≢false (sym yes ∙ e))
-some_of b (Some d) e yes = (d, refl)
+some_of b None e there = absurd (true≢false (sym there ∙ e))
+some_of b (Some d) e there = (d, refl)
 
 pub joined-none : (x : Option Tree) → join x None ≡ x
 joined-none None = refl

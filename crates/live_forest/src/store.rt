@@ -1,5 +1,6 @@
 //! What is kept for all parts of the entries.
-ghost use Rattle.std.specs.Prelude.{◌≡◌, ◌≢◌, ℕ, suc, ◌+◌, ◌-◌, ◌*◌, ◌/◌, ◌%◌, ◌^◌, ◌<◌, ◌≤◌, [], length, get_or, set, None, true, is_some, OnOk, OnErr, max};
+ghost use Rattle.std.specs.Prelude.{◌≡◌, ◌≢◌, ℕ, suc, ◌+◌, ◌-◌, ◌*◌, ◌/◌, ◌%◌, ◌^◌, ◌<◌, ◌≤◌, [], length, get_or, set, None, true, is_some};
+ghost use Rattle.std.specs.Prelude.{OnOk, OnErr, max};
 ghost use Rattle.forest_place.specs.Forest.{InForest};
 ghost use Rattle.live_forest.specs.Pages.{IsOfHalves};
 ghost use Rattle.live_forest.specs.Stores.{seam as seam_of, stored, paged, is_listed, IsEntryKept, IsPartKept, HasRoomOf};

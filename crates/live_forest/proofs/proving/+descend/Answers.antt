@@ -9,7 +9,7 @@ use Rattle.forest_model.specs.Content.{content}
 use Rattle.forest_model.specs.Standing.{tree_at}
 use Rattle.live_forest.specs.Parts.{kept}
 use Rattle.live_forest.specs.Proving.{AreIn, HasPlaces}
-use Rattle.live_forest.proofs.Seeking.{within_left, within_right, alike, tree_none}
+use Rattle.live_forest.proofs.Seeking.{within_left, within_right, none_of, some_of, alike, tree_none}
 use Rattle.live_forest.proofs.Ascending.{off-below}
 use Rattle.live_forest.proofs.Noting.{stands_left, stands_right, stand_both}
 use Rattle.live_forest.proofs.Beneath.{more_nothing, more_one}
@@ -42,16 +42,16 @@ returns-then-part-eq0-clause-noted g t c =
     (way_one es ts all at H c.args.part c.args.place c.args.numbers.now has.0 (omega (arith, c.if-part-eq0.true)) has.1 c.requires.stands w))
     c.push_each.ensures
 
-pub part_in-requires-clause-within : goal.part_in-requires-clause-within
-part_in-requires-clause-within g t c =
+pub has_in-on_left-requires-clause-within : goal.has_in-on_left-requires-clause-within
+has_in-on_left-requires-clause-within g t c =
     let es = (entries_in c.args.n c.args.store.now) in
     let p = c.args.part in
     let halves = halves_of (length es) p c.children.result.0 c.children.result.1 (omega (arith, c.if-part-eq0.false)) c.requires.within
     c.children.ensures.rows c.children.ensures.left c.children.ensures.right in
     halves.left_within
 
-pub part_in-requires-in-Some-clause-within : goal.part_in-requires-in-Some-clause-within
-part_in-requires-in-Some-clause-within g t c =
+pub has_in-on_right-requires-clause-within : goal.has_in-on_right-requires-clause-within
+has_in-on_right-requires-clause-within g t c =
     let es = (entries_in c.args.n c.args.store.now) in
     let p = c.args.part in
     let halves = halves_of (length es) p c.children.result.0 c.children.result.1 (omega (arith, c.if-part-eq0.false)) c.requires.within
@@ -68,13 +68,13 @@ descend-requires g t c κs within =
     let halves = halves_of (length es) p c.children.result.0 c.children.result.1 (omega (arith, c.if-part-eq0.false)) c.requires.within
     c.children.ensures.rows c.children.ensures.left c.children.ensures.right in
     let none : None ≡ kept es parts (p.row - 1) (2 * p.off) =
-    c.in-None.ensures ∙ (ap₂ (kept es parts) halves.left_row c.children.ensures.left) in
+    (none_of _ _ c.has_in-on_left.ensures c.if-not-on_left.true) ∙ (ap₂ (kept es parts) halves.left_row c.children.ensures.left) in
     let stands : tree_at es q.row q.off ≡ content es c.children.result.1.row c.children.result.1.off =
     rw (halves.right_row, c.children.ensures.right)
     (stands_right H es parts c.requires.right p.row p.off q halves.some c.requires.within c.requires.stands none) in
     let nothing : content es c.children.result.0.row c.children.result.0.off ≡ None =
     tree_none es parts (alike H es parts c.requires.right) c.children.result.0.row c.children.result.0.off halves.left_within
-    (c.in-None.ensures) in
+    ((none_of _ _ c.has_in-on_left.ensures c.if-not-on_left.true)) in
     let inside = in_right es p c.children.result.0 c.children.result.1 c.args.numbers.now halves c.children.ensures.left c.children.ensures.right
     c.requires.inside nothing in (
       omega (arith, c.decreases, halves.right_row, halves.some),
@@ -93,8 +93,8 @@ descend-requires g t c κs within =
       ),
     )
 
-pub descend-requires-in-None-part_in : goal.descend-requires-in-None-part_in
-descend-requires-in-None-part_in g t c κs within =
+pub descend-requires-then-not-on_right : goal.descend-requires-then-not-on_right
+descend-requires-then-not-on_right g t c κs within =
     let H = g.D.Digester.digest_of in
     let es = (entries_in c.args.n c.args.store.now) in
     let parts = c.args.store.now in
@@ -103,13 +103,13 @@ descend-requires-in-None-part_in g t c κs within =
     let halves = halves_of (length es) p c.children.result.0 c.children.result.1 (omega (arith, c.if-part-eq0.false)) c.requires.within
     c.children.ensures.rows c.children.ensures.left c.children.ensures.right in
     let none : None ≡ kept es parts (p.row - 1) (2 * p.off + 1) =
-    c.in-None-part_in.ensures ∙ (ap₂ (kept es parts) halves.right_row c.children.ensures.right) in
+    (none_of _ _ c.has_in-on_right.ensures c.if-not-on_right.true) ∙ (ap₂ (kept es parts) halves.right_row c.children.ensures.right) in
     let stands : tree_at es q.row q.off ≡ content es c.children.result.0.row c.children.result.0.off =
     rw (halves.left_row, c.children.ensures.left)
     (stands_left H es parts c.requires.right p.row p.off q halves.some c.requires.within c.requires.stands none) in
     let nothing : content es c.children.result.1.row c.children.result.1.off ≡ None =
     tree_none es parts (alike H es parts c.requires.right) c.children.result.1.row c.children.result.1.off halves.right_within
-    (c.in-None-part_in.ensures) in
+    ((none_of _ _ c.has_in-on_right.ensures c.if-not-on_right.true)) in
     let inside = in_left es p c.children.result.0 c.children.result.1 c.args.numbers.now halves c.children.ensures.left c.children.ensures.right
     c.requires.inside nothing in (
       omega (arith, c.decreases, halves.left_row, halves.some),
@@ -128,8 +128,8 @@ descend-requires-in-None-part_in g t c κs within =
       ),
     )
 
-pub returns-in-None-clause-noted : goal.returns-in-None-clause-noted
-returns-in-None-clause-noted g t c =
+pub returns-then-not-on_left-clause-noted : goal.returns-then-not-on_left-clause-noted
+returns-then-not-on_left-clause-noted g t c =
     let H = g.D.Digester.digest_of in
     let es = (entries_in c.args.n c.args.store.now) in
     let parts = c.args.store.now in
@@ -138,15 +138,15 @@ returns-in-None-clause-noted g t c =
     let halves = halves_of (length es) p c.children.result.0 c.children.result.1 (omega (arith, c.if-part-eq0.false)) c.requires.within
     c.children.ensures.rows c.children.ensures.left c.children.ensures.right in
     let none : None ≡ kept es parts (p.row - 1) (2 * p.off) =
-    c.in-None.ensures ∙ (ap₂ (kept es parts) halves.left_row c.children.ensures.left) in
+    (none_of _ _ c.has_in-on_left.ensures c.if-not-on_left.true) ∙ (ap₂ (kept es parts) halves.left_row c.children.ensures.left) in
     let nothing : content es c.children.result.1.row (2 * p.off) ≡ None = ap (λ r. content es r (2 * p.off)) halves.right_row
     ∙ tree_none es parts (alike H es parts c.requires.right) (p.row - 1) (2 * p.off)
     (within_left (length es) p.row p.off halves.some c.requires.within) none in
     on_ok c.descend.result (λ more ts all at w. more ts all at (way_right es ts all at p c.children.result.1 q c.args.numbers.now halves.some
     halves.right_row c.children.ensures.right nothing w)) c.descend.ensures.noted
 
-pub returns-in-None-part_in-clause-noted : goal.returns-in-None-part_in-clause-noted
-returns-in-None-part_in-clause-noted g t c =
+pub returns-then-not-on_right-clause-noted : goal.returns-then-not-on_right-clause-noted
+returns-then-not-on_right-clause-noted g t c =
     let H = g.D.Digester.digest_of in
     let es = (entries_in c.args.n c.args.store.now) in
     let parts = c.args.store.now in
@@ -155,13 +155,13 @@ returns-in-None-part_in-clause-noted g t c =
     let halves = halves_of (length es) p c.children.result.0 c.children.result.1 (omega (arith, c.if-part-eq0.false)) c.requires.within
     c.children.ensures.rows c.children.ensures.left c.children.ensures.right in
     let none : None ≡ kept es parts (p.row - 1) (2 * p.off + 1) =
-    c.in-None-part_in.ensures ∙ (ap₂ (kept es parts) halves.right_row c.children.ensures.right) in
+    (none_of _ _ c.has_in-on_right.ensures c.if-not-on_right.true) ∙ (ap₂ (kept es parts) halves.right_row c.children.ensures.right) in
     let nothing : content es c.children.result.0.row (2 * p.off + 1) ≡ None = ap (λ r. content es r (2 * p.off + 1)) halves.left_row
     ∙ tree_none es parts (alike H es parts c.requires.right) (p.row - 1) (2 * p.off + 1)
     (within_right (length es) p.row p.off halves.some c.requires.within) none in
-    on_ok c.descend-in-None-part_in.result (λ more ts all at w. more ts all at
+    on_ok c.descend-then-not-on_right.result (λ more ts all at w. more ts all at
     (way_left es ts all at p c.children.result.0 q c.args.numbers.now halves.some halves.left_row c.children.ensures.left nothing w))
-    c.descend-in-None-part_in.ensures.noted
+    c.descend-then-not-on_right.ensures.noted
 
 pub count_upto-requires-clause-row : goal.count_upto-requires-clause-row
 count_upto-requires-clause-row g t c =
@@ -171,8 +171,8 @@ count_upto-requires-clause-row g t c =
     c.children.ensures.rows c.children.ensures.left c.children.ensures.right in
     row_small (length es) c.children.result.0.row c.children.result.0.off 40 halves.left_within c.requires.small
 
-pub children-requires-in-Some-part_in-clause-row : goal.children-requires-in-Some-part_in-clause-row
-children-requires-in-Some-part_in-clause-row g t c =
+pub children-requires-2-clause-row : goal.children-requires-2-clause-row
+children-requires-2-clause-row g t c =
     let H = g.D.Digester.digest_of in
     let es = (entries_in c.args.n c.args.store.now) in
     let parts = c.args.store.now in
@@ -180,20 +180,22 @@ children-requires-in-Some-part_in-clause-row g t c =
     let q = c.args.place in
     let halves = halves_of (length es) p c.children.result.0 c.children.result.1 (omega (arith, c.if-part-eq0.false)) c.requires.within
     c.children.ensures.rows c.children.ensures.left c.children.ensures.right in
-    let left : Some c.in-Some.field-0 ≡ kept es parts (p.row - 1) (2 * p.off) =
-    c.in-Some.ensures ∙ (ap₂ (kept es parts) halves.left_row c.children.ensures.left) in
-    let right : Some c.in-Some-part_in.field-0 ≡ kept es parts (p.row - 1) (2 * p.off + 1) =
-    c.in-Some-part_in.ensures ∙ (ap₂ (kept es parts) halves.right_row c.children.ensures.right) in
-    let both = stand_both H es parts c.requires.right p.row p.off q c.in-Some.field-0 c.in-Some-part_in.field-0 halves.some c.requires.within
+    let has_left = some_of _ _ c.has_in-on_left.ensures c.if-not-on_left.false in
+    let has_right = some_of _ _ c.has_in-on_right.ensures c.if-not-on_right.false in
+    let left : Some has_left.0 ≡ kept es parts (p.row - 1) (2 * p.off) =
+    has_left.1 ∙ (ap₂ (kept es parts) halves.left_row c.children.ensures.left) in
+    let right : Some has_right.0 ≡ kept es parts (p.row - 1) (2 * p.off + 1) =
+    has_right.1 ∙ (ap₂ (kept es parts) halves.right_row c.children.ensures.right) in
+    let both = stand_both H es parts c.requires.right p.row p.off q has_left.0 has_right.0 halves.some c.requires.within
     c.requires.stands left right in
     both.high
 
-pub children-requires-in-Some-part_in-clause-off : goal.children-requires-in-Some-part_in-clause-off
-children-requires-in-Some-part_in-clause-off g t c =
+pub children-requires-2-clause-off : goal.children-requires-2-clause-off
+children-requires-2-clause-off g t c =
     omega (arith, off-below (length (entries_in c.args.n c.args.store.now)) c.args.place.row c.args.place.off c.requires.there, c.requires.small)
 
-pub descend-requires-in-Some-part_in : goal.descend-requires-in-Some-part_in
-descend-requires-in-Some-part_in g t c κs within =
+pub descend-requires-2 : goal.descend-requires-2
+descend-requires-2 g t c κs within =
     let H = g.D.Digester.digest_of in
     let es = (entries_in c.args.n c.args.store.now) in
     let parts = c.args.store.now in
@@ -201,19 +203,21 @@ descend-requires-in-Some-part_in g t c κs within =
     let q = c.args.place in
     let halves = halves_of (length es) p c.children.result.0 c.children.result.1 (omega (arith, c.if-part-eq0.false)) c.requires.within
     c.children.ensures.rows c.children.ensures.left c.children.ensures.right in
-    let left : Some c.in-Some.field-0 ≡ kept es parts (p.row - 1) (2 * p.off) =
-    c.in-Some.ensures ∙ (ap₂ (kept es parts) halves.left_row c.children.ensures.left) in
-    let right : Some c.in-Some-part_in.field-0 ≡ kept es parts (p.row - 1) (2 * p.off + 1) =
-    c.in-Some-part_in.ensures ∙ (ap₂ (kept es parts) halves.right_row c.children.ensures.right) in
-    let both = stand_both H es parts c.requires.right p.row p.off q c.in-Some.field-0 c.in-Some-part_in.field-0 halves.some c.requires.within
+    let has_left = some_of _ _ c.has_in-on_left.ensures c.if-not-on_left.false in
+    let has_right = some_of _ _ c.has_in-on_right.ensures c.if-not-on_right.false in
+    let left : Some has_left.0 ≡ kept es parts (p.row - 1) (2 * p.off) =
+    has_left.1 ∙ (ap₂ (kept es parts) halves.left_row c.children.ensures.left) in
+    let right : Some has_right.0 ≡ kept es parts (p.row - 1) (2 * p.off + 1) =
+    has_right.1 ∙ (ap₂ (kept es parts) halves.right_row c.children.ensures.right) in
+    let both = stand_both H es parts c.requires.right p.row p.off q has_left.0 has_right.0 halves.some c.requires.within
     c.requires.stands left right in
-    let under : c.children-in-Some-part_in.result.0.row ≡ q.row - 1 = omega (arith, c.children-in-Some-part_in.ensures.rows.0) in
-    let beside : c.children-in-Some-part_in.result.1.row ≡ q.row - 1 = omega (arith, c.children-in-Some-part_in.ensures.rows.1) in
-    let stands : tree_at es c.children-in-Some-part_in.result.0.row c.children-in-Some-part_in.result.0.off
+    let under : c.children-2.result.0.row ≡ q.row - 1 = omega (arith, c.children-2.ensures.rows.0) in
+    let beside : c.children-2.result.1.row ≡ q.row - 1 = omega (arith, c.children-2.ensures.rows.1) in
+    let stands : tree_at es c.children-2.result.0.row c.children-2.result.0.off
     ≡ content es c.children.result.0.row c.children.result.0.off =
-    rw (under, c.children-in-Some-part_in.ensures.left, halves.left_row, c.children.ensures.left) both.low in
-    let there : InForest (length es) c.children-in-Some-part_in.result.0.row c.children-in-Some-part_in.result.0.off =
-    rw (under, c.children-in-Some-part_in.ensures.left) (within_left (length es) q.row q.off both.high c.requires.there) in
+    rw (under, c.children-2.ensures.left, halves.left_row, c.children.ensures.left) both.low in
+    let there : InForest (length es) c.children-2.result.0.row c.children-2.result.0.off =
+    rw (under, c.children-2.ensures.left) (within_left (length es) q.row q.off both.high c.requires.there) in
     let rise : IsNonDecreasing c.split_at.result.0.now =
     subst IsNonDecreasing (sym c.split_at.ensures.front) (IsNonDecreasingBy-take (λ x. x) _ c.args.numbers.now c.requires.rise) in
     let inside = subst (AreIn es c.children.result.0.row c.children.result.0.off) (sym (c.split_at.ensures.front ∙ c.count_upto.ensures.upto))
@@ -235,8 +239,8 @@ descend-requires-in-Some-part_in g t c κs within =
       ),
     )
 
-pub descend-requires-in-Some-part_in-2 : goal.descend-requires-in-Some-part_in-2
-descend-requires-in-Some-part_in-2 g t c κs within =
+pub descend-requires-3 : goal.descend-requires-3
+descend-requires-3 g t c κs within =
     let H = g.D.Digester.digest_of in
     let es = (entries_in c.args.n c.args.store.now) in
     let parts = c.args.store.now in
@@ -244,19 +248,21 @@ descend-requires-in-Some-part_in-2 g t c κs within =
     let q = c.args.place in
     let halves = halves_of (length es) p c.children.result.0 c.children.result.1 (omega (arith, c.if-part-eq0.false)) c.requires.within
     c.children.ensures.rows c.children.ensures.left c.children.ensures.right in
-    let left : Some c.in-Some.field-0 ≡ kept es parts (p.row - 1) (2 * p.off) =
-    c.in-Some.ensures ∙ (ap₂ (kept es parts) halves.left_row c.children.ensures.left) in
-    let right : Some c.in-Some-part_in.field-0 ≡ kept es parts (p.row - 1) (2 * p.off + 1) =
-    c.in-Some-part_in.ensures ∙ (ap₂ (kept es parts) halves.right_row c.children.ensures.right) in
-    let both = stand_both H es parts c.requires.right p.row p.off q c.in-Some.field-0 c.in-Some-part_in.field-0 halves.some c.requires.within
+    let has_left = some_of _ _ c.has_in-on_left.ensures c.if-not-on_left.false in
+    let has_right = some_of _ _ c.has_in-on_right.ensures c.if-not-on_right.false in
+    let left : Some has_left.0 ≡ kept es parts (p.row - 1) (2 * p.off) =
+    has_left.1 ∙ (ap₂ (kept es parts) halves.left_row c.children.ensures.left) in
+    let right : Some has_right.0 ≡ kept es parts (p.row - 1) (2 * p.off + 1) =
+    has_right.1 ∙ (ap₂ (kept es parts) halves.right_row c.children.ensures.right) in
+    let both = stand_both H es parts c.requires.right p.row p.off q has_left.0 has_right.0 halves.some c.requires.within
     c.requires.stands left right in
-    let under : c.children-in-Some-part_in.result.0.row ≡ q.row - 1 = omega (arith, c.children-in-Some-part_in.ensures.rows.0) in
-    let beside : c.children-in-Some-part_in.result.1.row ≡ q.row - 1 = omega (arith, c.children-in-Some-part_in.ensures.rows.1) in
-    let stands : tree_at es c.children-in-Some-part_in.result.1.row c.children-in-Some-part_in.result.1.off
+    let under : c.children-2.result.0.row ≡ q.row - 1 = omega (arith, c.children-2.ensures.rows.0) in
+    let beside : c.children-2.result.1.row ≡ q.row - 1 = omega (arith, c.children-2.ensures.rows.1) in
+    let stands : tree_at es c.children-2.result.1.row c.children-2.result.1.off
     ≡ content es c.children.result.1.row c.children.result.1.off =
-    rw (beside, c.children-in-Some-part_in.ensures.right, halves.right_row, c.children.ensures.right) both.above in
-    let there : InForest (length es) c.children-in-Some-part_in.result.1.row c.children-in-Some-part_in.result.1.off =
-    rw (beside, c.children-in-Some-part_in.ensures.right) (within_right (length es) q.row q.off both.high c.requires.there) in
+    rw (beside, c.children-2.ensures.right, halves.right_row, c.children.ensures.right) both.above in
+    let there : InForest (length es) c.children-2.result.1.row c.children-2.result.1.off =
+    rw (beside, c.children-2.ensures.right) (within_right (length es) q.row q.off both.high c.requires.there) in
     let rise : IsNonDecreasing c.split_at.result.1.now =
     subst IsNonDecreasing (sym c.split_at.ensures.back) (IsNonDecreasingBy-drop (λ x. x) _ c.args.numbers.now c.requires.rise) in
     let inside = subst (AreIn es c.children.result.1.row c.children.result.1.off) (sym (c.split_at.ensures.back ∙ c.count_upto.ensures.beyond))
@@ -271,15 +277,15 @@ descend-requires-in-Some-part_in-2 g t c κs within =
             c.requires.small,
             (
               c.requires.room,
-              (c.requires.right, (halves.right_within, (stands, (there, (rise, (inside, c.in_ok-descend-in-Some-part_in.ensures.wide)))))),
+              (c.requires.right, (halves.right_within, (stands, (there, (rise, (inside, c.in_ok-descend.ensures.wide)))))),
             ),
           ),
         ),
       ),
     )
 
-pub returns-in_ok-descend-in-Some-part_in-clause-noted : goal.returns-in_ok-descend-in-Some-part_in-clause-noted
-returns-in_ok-descend-in-Some-part_in-clause-noted g t c =
+pub returns-clause-noted : goal.returns-clause-noted
+returns-clause-noted g t c =
     let H = g.D.Digester.digest_of in
     let es = (entries_in c.args.n c.args.store.now) in
     let parts = c.args.store.now in
@@ -287,28 +293,30 @@ returns-in_ok-descend-in-Some-part_in-clause-noted g t c =
     let q = c.args.place in
     let halves = halves_of (length es) p c.children.result.0 c.children.result.1 (omega (arith, c.if-part-eq0.false)) c.requires.within
     c.children.ensures.rows c.children.ensures.left c.children.ensures.right in
-    let left : Some c.in-Some.field-0 ≡ kept es parts (p.row - 1) (2 * p.off) =
-    c.in-Some.ensures ∙ (ap₂ (kept es parts) halves.left_row c.children.ensures.left) in
-    let right : Some c.in-Some-part_in.field-0 ≡ kept es parts (p.row - 1) (2 * p.off + 1) =
-    c.in-Some-part_in.ensures ∙ (ap₂ (kept es parts) halves.right_row c.children.ensures.right) in
-    let both = stand_both H es parts c.requires.right p.row p.off q c.in-Some.field-0 c.in-Some-part_in.field-0 halves.some c.requires.within
+    let has_left = some_of _ _ c.has_in-on_left.ensures c.if-not-on_left.false in
+    let has_right = some_of _ _ c.has_in-on_right.ensures c.if-not-on_right.false in
+    let left : Some has_left.0 ≡ kept es parts (p.row - 1) (2 * p.off) =
+    has_left.1 ∙ (ap₂ (kept es parts) halves.left_row c.children.ensures.left) in
+    let right : Some has_right.0 ≡ kept es parts (p.row - 1) (2 * p.off + 1) =
+    has_right.1 ∙ (ap₂ (kept es parts) halves.right_row c.children.ensures.right) in
+    let both = stand_both H es parts c.requires.right p.row p.off q has_left.0 has_right.0 halves.some c.requires.within
     c.requires.stands left right in
-    let under : c.children-in-Some-part_in.result.0.row ≡ q.row - 1 = omega (arith, c.children-in-Some-part_in.ensures.rows.0) in
-    let beside : c.children-in-Some-part_in.result.1.row ≡ q.row - 1 = omega (arith, c.children-in-Some-part_in.ensures.rows.1) in
+    let under : c.children-2.result.0.row ≡ q.row - 1 = omega (arith, c.children-2.ensures.rows.0) in
+    let beside : c.children-2.result.1.row ≡ q.row - 1 = omega (arith, c.children-2.ensures.rows.1) in
     let has = some_number c.args.numbers.now (λ e. true≢false (sym (c.is_empty.ensures ∙ eq-eqb _ _ e) ∙ c.if-is_empty.false)) in
     let l = c.children.result.0 in
     let r = c.children.result.1 in
-    let u = c.children-in-Some-part_in.result.0 in
-    let b = c.children-in-Some-part_in.result.1 in
+    let u = c.children-2.result.0 in
+    let b = c.children-2.result.1 in
     let lo : l.off ≡ 2 * p.off = c.children.ensures.left in
     let ro : r.off ≡ 2 * p.off + 1 = c.children.ensures.right in
-    let uo : u.off ≡ 2 * q.off = c.children-in-Some-part_in.ensures.left in
-    let bo : b.off ≡ 2 * q.off + 1 = c.children-in-Some-part_in.ensures.right in
+    let uo : u.off ≡ 2 * q.off = c.children-2.ensures.left in
+    let bo : b.off ≡ 2 * q.off + 1 = c.children-2.ensures.right in
     let stands_low : tree_at es u.row u.off ≡ content es l.row l.off =
     ap₂ (tree_at es) under uo ∙ (both.low ∙ sym (ap₂ (content es) halves.left_row lo)) in
     let stands_high : tree_at es b.row b.off ≡ content es r.row r.off =
     ap₂ (tree_at es) beside bo ∙ (both.above ∙ sym (ap₂ (content es) halves.right_row ro)) in
-    on_ok c.descend-in-Some-part_in-2.result (λ two ts all at w.
+    on_ok c.descend-3.result (λ two ts all at w.
     let halved : AreHalved es ts all at p q l r u b = record {
       some = halves.some;
       high = both.high;
@@ -329,9 +337,9 @@ returns-in_ok-descend-in-Some-part_in-clause-noted g t c =
     (c.split_at.ensures.front ∙ c.count_upto.ensures.upto) has.1 in
     let other = way_high es ts all at p q l r u b c.args.numbers.now halved w c.split_at.result.1.now has.0
     (c.split_at.ensures.back ∙ c.count_upto.ensures.beyond) has.1 in
-    way_both es ts all at p q l r u b c.args.numbers.now halved w H has.0 c.args.rows.now.items c.descend-in-Some-part_in.new.rows.items
-    c.descend-in-Some-part_in-2.new.rows.items c.requires.stands has.1 (c.in_ok-descend-in-Some-part_in.ensures.noted ts all at one)
-    (two ts all at other)) c.descend-in-Some-part_in-2.ensures.noted
+    way_both es ts all at p q l r u b c.args.numbers.now halved w H has.0 c.args.rows.now.items c.descend-2.new.rows.items
+    c.descend-3.new.rows.items c.requires.stands has.1 (c.in_ok-descend.ensures.noted ts all at one)
+    (two ts all at other)) c.descend-3.ensures.noted
 
 pub returns-then-is_empty-clause-places : goal.returns-then-is_empty-clause-places
 returns-then-is_empty-clause-places g t c =
@@ -347,12 +355,12 @@ returns-then-part-eq0-clause-places g t c =
     (places_same es c.args.part c.args.place c.args.numbers.now (omega (arith, c.if-part-eq0.true)) c.requires.stands c.requires.inside))
     c.push_each.ensures
 
-pub returns-in_ok-descend-in-Some-part_in-clause-places : goal.returns-in_ok-descend-in-Some-part_in-clause-places
-returns-in_ok-descend-in-Some-part_in-clause-places g t c =
+pub returns-clause-places : goal.returns-clause-places
+returns-clause-places g t c =
     let xs = c.args.numbers.now in
     let all : xs ≡ c.split_at.result.0.now ++ c.split_at.result.1.now =
     sym (ap₂ (λ low high. low ++ high) c.split_at.ensures.front c.split_at.ensures.back ∙ take-append-drop c.count_upto.result xs) in
-    on_ok c.descend-in-Some-part_in-2.result (λ two. places_both (entries_in c.args.n c.args.store.now) c.split_at.result.0.now
+    on_ok c.descend-3.result (λ two. places_both (entries_in c.args.n c.args.store.now) c.split_at.result.0.now
     c.split_at.result.1.now xs
-    c.args.places.now.items c.descend-in-Some-part_in.new.places.items c.descend-in-Some-part_in-2.new.places.items
-    c.in_ok-descend-in-Some-part_in.ensures.places two all) c.descend-in-Some-part_in-2.ensures.places
+    c.args.places.now.items c.descend-2.new.places.items c.descend-3.new.places.items
+    c.in_ok-descend.ensures.places two all) c.descend-3.ensures.places

@@ -33,20 +33,22 @@ pub returns-then-not-some : goal.returns-then-not-some
 returns-then-not-some t c = nothing_at_root (entries_in c.args.n c.args.store.now) c.args.store.now c.requires.alike c.args.row c.args.off
     (sym c.is_root.ensures ∙ c.if-is_root.true) c.requires.within (none_of _ _ c.has_in-some.ensures c.if-not-some.true)
 
-pub returns-then-is_root : goal.returns-then-is_root
-returns-then-is_root t c = part_at_root (entries_in c.args.n c.args.store.now) c.args.store.now c.requires.alike c.args.row c.args.off (some_of _ _ c.has_in-some.ensures c.if-not-some.false).0
-    (sym c.is_root.ensures ∙ c.if-is_root.true) c.requires.within (some_of _ _ c.has_in-some.ensures c.if-not-some.false).1
+pub returns-else-not-some : goal.returns-else-not-some
+returns-else-not-some t c =
+    let has = some_of _ _ c.has_in-some.ensures c.if-not-some.false in
+    part_at_root (entries_in c.args.n c.args.store.now) c.args.store.now c.requires.alike c.args.row c.args.off has.0
+    (sym c.is_root.ensures ∙ c.if-is_root.true) c.requires.within has.1
 
 pub returns-then-node-eq0 : goal.returns-then-node-eq0
 returns-then-node-eq0 t c =
-    entry_above (entries_in c.args.n c.args.store.now) c.args.store.now c.requires.alike c.args.row c.args.off c.in-Some-part_at.above
+    entry_above (entries_in c.args.n c.args.store.now) c.args.store.now c.requires.alike c.args.row c.args.off c.in-Some.above
     c.smallest-node.result
-    c.requires.within (sym c.is_root.ensures ∙ c.if-is_root.false) c.in-Some-part_at.ensures c.smallest-node.ensures c.if-node-eq0.true
+    c.requires.within (sym c.is_root.ensures ∙ c.if-is_root.false) c.in-Some.ensures c.smallest-node.ensures c.if-node-eq0.true
 
 pub returns-else-node-eq0 : goal.returns-else-node-eq0
 returns-else-node-eq0 t c =
     subst (IsPartAt (entries_in c.args.n c.args.store.now) c.args.row c.args.off) (sym c.child.ensures)
-    (node_above (entries_in c.args.n c.args.store.now) c.args.store.now c.requires.alike c.args.row c.args.off c.in-Some-part_at.above
+    (node_above (entries_in c.args.n c.args.store.now) c.args.store.now c.requires.alike c.args.row c.args.off c.in-Some.above
     c.smallest-node.result
-    c.requires.within (sym c.is_root.ensures ∙ c.if-is_root.false) c.in-Some-part_at.ensures c.smallest-node.ensures
+    c.requires.within (sym c.is_root.ensures ∙ c.if-is_root.false) c.in-Some.ensures c.smallest-node.ensures
     (omega (arith, c.if-node-eq0.false)))

@@ -46,13 +46,16 @@ smallest-requires-then-not-on_right t c = (
 )
 
 pub returns-then-not-on_left : goal.returns-then-not-on_left
-returns-then-not-on_left t c = smallest_right (entries_in c.args.n c.args.store.now) c.args.store.now c.requires.alike c.args.row c.args.off c.smallest.result
-    (omega (arith, c.if-row-eq0.false)) c.requires.within (none_of _ _ c.has_in-on_left.ensures c.if-not-on_left.true) c.smallest.ensures
+returns-then-not-on_left t c = smallest_right (entries_in c.args.n c.args.store.now) c.args.store.now c.requires.alike c.args.row c.args.off
+    c.smallest.result
+    (omega (arith, c.if-row-eq0.false)) c.requires.within
+    (none_of _ _ c.has_in-on_left.ensures c.if-not-on_left.true) c.smallest.ensures
 
 pub returns-then-not-on_right : goal.returns-then-not-on_right
 returns-then-not-on_right t c = smallest_left (entries_in c.args.n c.args.store.now) c.args.store.now c.requires.alike c.args.row c.args.off
     c.smallest-then-not-on_right.result
-    (omega (arith, c.if-row-eq0.false)) c.requires.within (none_of _ _ c.has_in-on_right.ensures c.if-not-on_right.true) c.smallest-then-not-on_right.ensures
+    (omega (arith, c.if-row-eq0.false)) c.requires.within
+    (none_of _ _ c.has_in-on_right.ensures c.if-not-on_right.true) c.smallest-then-not-on_right.ensures
 
 pub returns : goal.returns
 returns t c =
