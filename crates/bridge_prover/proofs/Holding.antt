@@ -1,6 +1,6 @@
 -- The forest holds the entries whose outputs the index holds, after each step.
-use Rattle.std.proofs.Common.{◌≡◌, ◌≢◌, ℕ, zero, suc, ◌+◌, ◌<◌, ◌≤◌, Bool, true, false, List, [], ◌∷◌, ◌++◌, map, set, take, get_or, length}
-use Rattle.std.proofs.Common.{Option, Some, None, refl, sym, ap, ap₂, ◌∙◌, subst, ⊎_elim, arith, ne_eqb, eq-eqb}
+use Rattle.std.proofs.Common.{◌≡◌, ◌≢◌, ℕ, zero, suc, ◌+◌, ◌≤◌, Bool, true, false, List, [], ◌∷◌, ◌++◌, map, set, take, get_or, length}
+use Rattle.std.proofs.Common.{Option, Some, None, refl, sym, ap, ◌∙◌, subst, ⊎_elim, arith, ne_eqb, eq-eqb}
 use Rattle.std.specs.Prelude.{◌==◌, is_some, option_map, if◌then◌else◌}
 use Rattle.std.proofs.lemmas.Bool.{cases_eq, cases_lt}
 use Rattle.std.proofs.lemmas.List.{append-nil, length-append, length-map, length-set, length-take-le, get_or-set_other, get_or-take, get_or_past}
@@ -12,7 +12,7 @@ use Rattle.live_forest.specs.Blocks.{all_restored}
 use Rattle.live_forest.proofs.Undoing.{length-restored}
 use Rattle.leaf_record.specs.Leaf.{Leaf}
 use Rattle.output_index.specs.Held.{Held, held_at, leaf_at, is_spent, without, IsAbove}
-use Rattle.output_index.proofs.HeldLaws.{spent_is_held, leaf-without_other, leaf-without_same, leaf-added_other, above-added}
+use Rattle.output_index.proofs.HeldLaws.{spent_is_held, leaf-without_other, leaf-without_same, leaf-added_other}
 use Rattle.bridge_prover.specs.Own.{numbered, spent_in, forgotten_in, cut_in, unspent_in}
 use Rattle.bridge_prover.specs.Standing.{HoldsSame}
 use Rattle.bridge_prover.proofs.Indexing.{append_same, cut_above}
