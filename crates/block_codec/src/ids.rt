@@ -100,7 +100,7 @@ fn put_each(txs: &[TxView<'_>], legacy: &[Digest], out: &mut [Digest])
 }
 
 // The ids of the transactions of one batch in the legacy form, and of those between them; and how many these are together.
-fn put_front(txs: &[TxView<'_>], out: &mut [Digest]) -> usize
+fn put_batch(txs: &[TxView<'_>], out: &mut [Digest]) -> usize
     requires count { length out.old ≡ length txs.now }
     requires some { 0 < length txs.now }
     ensures within { result ≤ length txs.now }
@@ -113,6 +113,21 @@ fn put_front(txs: &[TxView<'_>], out: &mut [Digest]) -> usize
     sha256d_all(texts.as_slice(), legacy);
     put_each(&txs[..reach], legacy, &mut out[..reach]);
     reach
+}
+
+// The ids of some transactions at the front, and how many these are. One alone has none to be hashed beside.
+fn put_front(txs: &[TxView<'_>], out: &mut [Digest]) -> usize
+    requires count { length out.old ≡ length txs.now }
+    requires some { 0 < length txs.now }
+    ensures within { result ≤ length txs.now }
+    ensures on { 0 < result }
+    ensures ids { AreGiven txid_of txs.now out.new result }
+{
+    if txs.len() > 1 {
+        return put_batch(txs, out);
+    }
+    out[0] = txs[0].txid();
+    1
 }
 
 /// The id of each transaction, in the place of an entry of `out`.

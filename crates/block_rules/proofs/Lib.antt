@@ -15,3 +15,4 @@ pub mod Slots
 pub mod Spending
 pub mod Paid
 pub mod Marks
+pub mod Parts

@@ -1,5 +1,5 @@
 //! What a block leaves to later rules.
-ghost use Rattle.std.specs.Prelude.{◌≡◌, ◌<◌, length, slice_get, Some};
+ghost use Rattle.std.specs.Prelude.{◌≡◌, ◌<◌, ◌≤◌, ◌-◌, length, take, drop, slice_get, Some};
 
 use crate::chain::{Found, Outside};
 use crate::origins::Origins;
@@ -96,33 +96,54 @@ impl<'a> Spends<'a> {
     pub fn new_outputs(&self) -> NewOutputs<'_, 'a>
         ensures { result ≡ self.now.new }
     {
-        NewOutputs { spends: self }
+        NewOutputs {
+            spends: self,
+            from: 0,
+            end: self.new_count(),
+        }
+    }
+
+    /// Those of these records that stand from one place on and before another.
+    pub fn new_outputs_between(&self, from: u64, end: u64) -> NewOutputs<'_, 'a>
+        requires order { from ≤ end }
+        requires within { end ≤ length self.now.new }
+        ensures { result ≡ take (end - from) (drop from self.now.new) }
+    {
+        NewOutputs {
+            spends: self,
+            from,
+            end,
+        }
     }
 }
 
-/// The records that a block adds, in the order of its transactions and outputs; contracts see their list.
+/// Neighbours among the records that a block adds, in the order of its transactions and outputs; contracts see their list.
 #[derive(Drop)]
 pub struct NewOutputs<'s, 'a> {
     spends: &'s Spends<'a>,
+    from: u64,
+    end: u64,
 }
 
 impl<'s, 'a> Model for NewOutputs<'s, 'a> {
-    ghost use Rattle.std.specs.Prelude.{List};
+    ghost use Rattle.std.specs.Prelude.{◌<◌, ◌≤◌, ◌-◌, ◌^◌, List, length, take, drop};
     ghost use Rattle.leaf_record.specs.Leaf.{Leaf};
 
     ghost Value = { List Leaf };
 
-    ghost view = { λ o. o.spends.now.new };
+    ghost view = { λ o. take (o.end - o.from) (drop o.from o.spends.now.new) };
+
+    ghost invariant = { λ o. (o.from ≤ o.end) × (o.end ≤ length o.spends.now.new) × (o.end < 2 ^ 64) };
 }
 
 impl<'s, 'a> Leaves for NewOutputs<'s, 'a> {
     ghost leaves = { λ outputs. outputs };
 
     fn count(&self) -> usize {
-        self.spends.new_count() as usize
+        (self.end - self.from) as usize
     }
 
     fn leaf(&self, index: usize) -> RecordView<'_> {
-        self.spends.new_output(index as u64)
+        self.spends.new_output(self.from + index as u64)
     }
 }

@@ -11,7 +11,8 @@ use Rattle.forest_place.specs.Forest.{InForest}
 use Rattle.forest_place.proofs.Parts.{parts-suc}
 use Rattle.bridge_forest.specs.declared.waiting.Waiting.{Waiting}
 use Rattle.bridge_forest.specs.Parts.{PartLists, stored, IsPut, kept, part_digest, AreParts}
-use Rattle.bridge_forest.specs.Rows.{HasDigest, part_above, HasNoneOf, AreBelow, AreUpto, pair_digest, Waits, HasRoom, AreWaiting, AreTaken, KeepsDigests}
+use Rattle.bridge_forest.specs.Rows.{HasDigest, part_above, HasNoneOf, AreBelow, AreUpto, Waits}
+use Rattle.bridge_forest.specs.Rows.{HasRoom, AreWaiting, AreTaken, KeepsDigests}
 use Rattle.bridge_forest.specs.Rows.{IsRenewed}
 use Rattle.bridge_forest.proofs.Entries.{content-set_other}
 use Rattle.bridge_forest.proofs.Refreshing.{digest-leaf}

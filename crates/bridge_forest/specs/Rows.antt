@@ -1,6 +1,7 @@
 -- Parts that are made anew row by row, from the lowest upwards.
 use Rattle.std.specs.Prelude.{◌≡◌, ◌≢◌, ℕ, suc, ◌/◌, ◌^◌, ◌<◌, ◌≤◌, ◌++◌, List, length, get_or, Option, Some, ◌⊎◌}
 use Rattle.uo_digest.specs.declared.digest.Digest.{Digest}
+use Rattle.uo_digest.specs.Batches.{pair_digest}
 use Rattle.forest_place.specs.Forest.{InForest}
 use Rattle.bridge_forest.specs.declared.waiting.Waiting.{Waiting}
 use Rattle.bridge_forest.specs.Parts.{PartLists, stored, kept, part_digest}
@@ -26,10 +27,6 @@ pub record AreUpto (H : List ℕ → Digest) (n : ℕ) (leaves : List (Option Di
     : Type 0 where
   pub below : AreBelow H n leaves parts numbers row
   pub done : (k : ℕ) → k < at → InForest n (suc row) (part_above numbers row k) → HasDigest H leaves parts row (part_above numbers row k)
-
--- the digest of two digests, side by side
-abbrev pub pair_digest : (List ℕ → Digest) → Digest × Digest → Digest
-pair_digest H pair = H (pair.0.0 ++ pair.1.0)
 
 -- the part waits for its digest
 abbrev pub Waits : Waiting → ℕ → Type 0

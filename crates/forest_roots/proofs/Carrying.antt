@@ -186,7 +186,8 @@ module _ (H : List ℕ → Digest) where
   carry_at n (x ∷ xs) d (suc row) lt = by_test (n % 2 == 1) refl (carry_at (n / 2) xs (join_root H x d) row (omega (arith, lt))) where
     by_test : (b : Bool) → (n % 2 == 1) ≡ b
         → get_or (carry H (n / 2) xs (join_root H x d)) row None ≡ at_row (n / 2) (λ k. get_or xs k None) (join_root H x d) row
-        → get_or (cond b (None ∷ carry H (n / 2) xs (join_root H x d)) (Some d ∷ xs)) (suc row) None ≡ at_row n (λ k. get_or (x ∷ xs) k None) d (suc row)
+        → get_or (cond b (None ∷ carry H (n / 2) xs (join_root H x d)) (Some d ∷ xs)) (suc row) None
+        ≡ at_row n (λ k. get_or (x ∷ xs) k None) d (suc row)
     by_test true odd above = above ∙ rw (up_odd n row odd, slot_up n row, carried_up (λ k. get_or (x ∷ xs) k None) d row) refl
     by_test false even above = rw (up_even n row even) refl
 

@@ -25,7 +25,8 @@ pub record IsRising (H : List ℕ → Digest) (n : ℕ) (old : List (Option Dige
   pub parts : n / 2 ^ row + count ≡ (n + length ds) / 2 ^ row
   pub rows : carry_all H n old ds ≡ take row now ++ carry_all H (n / 2 ^ row) (drop row now) (take count nodes)
   pub counted : steps + carry_all_steps H (n / 2 ^ row) (drop row now) (take count nodes) ≡ start + carry_all_steps H n old ds
-  pub few : steps + count + count_ones (n / 2 ^ row) + count_ones (n + length ds) ≤ start + length ds + count_ones n + count_ones ((n + length ds) / 2 ^ row)
+  pub few : steps + count + count_ones (n / 2 ^ row) + count_ones (n + length ds)
+      ≤ start + length ds + count_ones n + count_ones ((n + length ds) / 2 ^ row)
 
 risen_few : (slot : Bool) (count : ℕ) → 0 < count → count_risen slot count ≤ count
 risen_few true count some = omega (arith, some)
@@ -63,7 +64,8 @@ module _ (H : List ℕ → Digest) (n : ℕ) (old : List (Option Digest)) (ds : 
       → IsRising H n old ds start row now nodes count steps → 0 < count → n + length ds < 2 ^ 40 →
       (slot : Bool) (stays : Option Digest) (lent : List Digest) (count' steps' : ℕ) → slot ≡ (n / 2 ^ row % 2 == 1)
       → stays ≡ staying slot (take count nodes) → length lent ≡ count → count' ≡ count_risen slot count
-      → take (count_risen slot count) lent ≡ risen H slot (get_or now row None) (take count nodes) → steps' ≡ steps + row_steps slot (get_or now row None) count
+      → take (count_risen slot count) lent ≡ risen H slot (get_or now row None) (take count nodes)
+      → steps' ≡ steps + row_steps slot (get_or now row None) count
       → IsRising H n old ds start (row + 1) (set now row stays) (lent ++ drop count nodes) count' steps'
   rising_more row now nodes count steps r some few slot stays lent count' steps' slot_is stays_is lent_long count_is above steps_are =
       let a = n / 2 ^ row in
@@ -93,7 +95,8 @@ module _ (H : List ℕ → Digest) (n : ℕ) (old : List (Option Digest)) (ds : 
       ∙ ap₂ (λ k l. row_steps slot x k + l) front_long
       (ap (λ k. carry_all_steps H k (drop (suc row) now) (risen H slot x front)) half_a
       ∙ ap₂ (λ (rows : List (Option Digest)) (xs : List Digest). carry_all_steps H (n / 2 ^ (row + 1)) rows xs) behind up) in
-      let rest : carry_all H (a / 2) (drop (suc row) now) (risen H slot x front) ≡ carry_all H (n / 2 ^ (row + 1)) (drop (row + 1) now') (take count' nodes') =
+      let rest : carry_all H (a / 2) (drop (suc row) now) (risen H slot x front)
+      ≡ carry_all H (n / 2 ^ (row + 1)) (drop (row + 1) now') (take count' nodes') =
       ap (λ k. carry_all H k (drop (suc row) now) (risen H slot x front)) half_a
       ∙ ap₂ (λ (rows : List (Option Digest)) (xs : List Digest). carry_all H (n / 2 ^ (row + 1)) rows xs) behind up in
       record {
@@ -103,7 +106,8 @@ module _ (H : List ℕ → Digest) (n : ℕ) (old : List (Option Digest)) (ds : 
         parts = ap (λ k. k + count') (sym half_a) ∙ parts ∙ half_b;
         rows = r.rows
             ∙ ap (λ (rows : List (Option Digest)). take row now ++ carry_all H a rows front) (drop-cons now row None inside)
-            ∙ ap (λ (rows : List (Option Digest)). take row now ++ rows) (all_risen H slot a x (drop (suc row) now) front slot_is (omega (arith, front_long, some)))
+            ∙ ap (λ (rows : List (Option Digest)). take row now ++ rows)
+            (all_risen H slot a x (drop (suc row) now) front slot_is (omega (arith, front_long, some)))
             ∙ sym (append_assoc (take row now) (staying slot front ∷ []) (carry_all H (a / 2) (drop (suc row) now) (risen H slot x front)))
             ∙ ap₂ (λ (root : Option Digest) (rows : List (Option Digest)). (take row now ++ root ∷ []) ++ rows) (sym stays_is) rest
             ∙ ap (λ (rows : List (Option Digest)). rows ++ carry_all H (n / 2 ^ (row + 1)) (drop (row + 1) now') (take count' nodes'))
@@ -130,7 +134,8 @@ rising_ends H f n old ds start row now nodes count steps m r end view was few sa
     let rows : now ≡ carry_all H n old ds =
     sym (r.rows ∙ ap (λ k. take row now ++ carry_all H (n / 2 ^ row) (drop row now) (take k nodes)) none ∙ take-append-drop row now) in
     let are : record { leaves = m; rows = now } ≡ with_leaves H before ds =
-    ap₂ (λ (k : ℕ) (xs : List (Option Digest)). let z : Stump = record { leaves = k; rows = xs } in z) same rows ∙ sym (carry_all_adds H before ds was.forty) in
+    ap₂ (λ (k : ℕ) (xs : List (Option Digest)). let z : Stump = record { leaves = k; rows = xs } in z) same rows
+    ∙ sym (carry_all_adds H before ds was.forty) in
     let all : n / 2 ^ row ≡ (n + length ds) / 2 ^ row = omega (arith, r.parts, none) in
     let ones : count_ones (n / 2 ^ row) ≡ count_ones ((n + length ds) / 2 ^ row) = ap count_ones all in
     let last : count_ones m ≡ count_ones (n + length ds) = ap count_ones same in

@@ -48,7 +48,8 @@ unfolding neighbours
 pair_at xs i d lt =
     let one : suc (2 * i) ≡ 2 * i + 1 = omega arith in
     let two : suc (suc (2 * i)) ≡ 2 * (i + 1) = omega arith in
-    ap neighbours (drop-cons xs (2 * i) d (omega arith) ∙ ap (λ (ys : List Digest). get_or xs (2 * i) d ∷ ys) (drop-cons xs (suc (2 * i)) d (omega arith)))
+    ap neighbours (drop-cons xs (2 * i) d (omega arith)
+    ∙ ap (λ (ys : List Digest). get_or xs (2 * i) d ∷ ys) (drop-cons xs (suc (2 * i)) d (omega arith)))
     ∙ rw (two, one) refl
 
 -- the first i pairs are put

@@ -1,6 +1,8 @@
 -- Nodes that go up from a row together: neighbours are paired.
-use Rattle.std.specs.Prelude.{◌≡◌, ℕ, ◌+◌, ◌-◌, ◌*◌, ◌/◌, Bool, true, false, List, [], ◌∷◌, ◌++◌, length, map, take, drop, is_some, if◌then◌else◌, Option, Some, None}
+use Rattle.std.specs.Prelude.{◌≡◌, ℕ, ◌+◌, ◌-◌, ◌*◌, ◌/◌, Bool, true, false, List, [], ◌∷◌, ◌++◌, length, map, take, drop, is_some}
+use Rattle.std.specs.Prelude.{if◌then◌else◌, Option, Some, None}
 use Rattle.uo_digest.specs.declared.digest.Digest.{Digest}
+use Rattle.uo_digest.specs.Batches.{pair_digest}
 use Rattle.forest_model.specs.Addition.{join_root}
 
 -- each node at an even place with its right neighbour, where it has one
@@ -17,7 +19,7 @@ odd_one (x ∷ y ∷ xs) = odd_one xs
 
 -- the digests over pairs
 abbrev pub digests_over : (List ℕ → Digest) → List (Digest × Digest) → List Digest
-digests_over H pairs = map (λ (both : Digest × Digest). H (both.0.0 ++ both.1.0)) pairs
+digests_over H pairs = map (pair_digest H) pairs
 
 -- the nodes of the next row, where the first ones are joined with the row's old root if it is a slot
 abbrev pub risen : (List ℕ → Digest) → Bool → Option Digest → List Digest → List Digest

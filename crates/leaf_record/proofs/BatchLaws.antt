@@ -1,5 +1,6 @@
 -- Texts that are put one behind the other, cut apart again, and digested.
-use Rattle.std.proofs.Common.{◌≡◌, ℕ, ◌+◌, ◌-◌, ◌<◌, ◌≤◌, List, [], ◌∷◌, ◌++◌, length, map, take, drop, set, get_or, sum, Some, refl, sym, ap, ap₂, ◌∙◌, subst}
+use Rattle.std.proofs.Common.{◌≡◌, ℕ, ◌+◌, ◌-◌, ◌<◌, ◌≤◌, List, [], ◌∷◌, ◌++◌, length, map, take, drop, set, get_or}
+use Rattle.std.proofs.Common.{sum, Some, refl, sym, ap, ap₂, ◌∙◌, subst}
 use Rattle.std.proofs.Common.{append_assoc, arith}
 use Rattle.std.specs.Prelude.{slice_get}
 use Rattle.std.specs.Borrow.{Bor}
@@ -52,7 +53,8 @@ goes_on room new text end next within put le =
 
 pub putting_more : {leaves : List Leaf} {from : ℕ} {room lengths : List ℕ} {count end : ℕ} (leaf : Leaf) (new : List ℕ) (next : ℕ)
     → IsPutting leaves from room lengths count end → slice_get leaves (from + count) ≡ Some leaf → LeafFits leaf → count < length lengths
-    → take next new ≡ take end room ++ output_text leaf → next ≤ length new → IsPutting leaves from new (set lengths count (next - end)) (count + 1) next
+    → take next new ≡ take end room ++ output_text leaf → next ≤ length new
+    → IsPutting leaves from new (set lengths count (next - end)) (count + 1) next
 putting_more {leaves} {from} {room} {lengths} {count} {end} leaf new next p is fits lt put le =
     let one = one_more leaves from count leaf is in
     let size : next - end ≡ length (output_text leaf) = omega (

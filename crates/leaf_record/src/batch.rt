@@ -114,6 +114,24 @@ fn digest_all<D: Digester, L: Ledger, S: Leaves>(
     }
 }
 
+/// Puts the digest of each leaf's text in the place of an entry of `out`, in one step each. No memory is taken.
+pub fn put_leaf_digests<D: Digester, L: Ledger, S: Leaves>(
+    buf: &mut LeafBuf<D>,
+    leaves: &S,
+    out: &mut [Digest],
+    steps: &mut Steps<L>,
+)
+    requires { length out.old ≡ length (S.leaves leaves.now) }
+    ensures value { out.new ≡ map (λ leaf. D.digest_of (leaf_text leaf)) (S.leaves leaves.now) }
+    ensures steps { steps.new ≡ steps.old + length (S.leaves leaves.now) }
+    // Each of them has a text.
+    ensures fits { AllByRecursion LeafFits (S.leaves leaves.now) }
+    // The room stays as large as it was.
+    ensures room { buf.new ≡ buf.old }
+{
+    digest_all::<D, L, S>(&mut buf.bytes, &buf.tags, leaves, out, steps);
+}
+
 /// The digest of each leaf's text, in one step each. All memory is taken before the first of them.
 pub fn leaf_digests<D: Digester, L: Ledger, S: Leaves>(
     alloc: Global,
@@ -130,6 +148,6 @@ pub fn leaf_digests<D: Digester, L: Ledger, S: Leaves>(
     ensures room { buf.new ≡ buf.old }
 {
     let mut digests = vec![in alloc; Digest([0; 32]); leaves.count()]?;
-    digest_all::<D, L, S>(&mut buf.bytes, &buf.tags, leaves, &mut digests, steps);
+    put_leaf_digests::<D, L, S>(buf, leaves, &mut digests, steps);
     Ok(digests)
 }

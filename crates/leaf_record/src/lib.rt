@@ -17,7 +17,7 @@ mod leaves;
 mod record;
 mod rest;
 
-pub use batch::leaf_digests;
+pub use batch::{leaf_digests, put_leaf_digests};
 pub use laws::{leaf_text_is_long, one_leaf, one_rest};
 pub use leaf::{LeafBuf, leaf_digest, leaf_text};
 pub use leaves::Leaves;

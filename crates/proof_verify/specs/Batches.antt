@@ -40,7 +40,3 @@ pairs_of_nodes x y = (x.digest, y.digest) ∷ pairs_left x.left y.left
 abbrev pub pairs_for : List Node → List Digest → Origin → List (Digest × Digest)
 pairs_for nodes hashes (Target i) = []
 pairs_for nodes hashes (Halves x y) = pairs_of_nodes (half_node nodes hashes x) (half_node nodes hashes y)
-
--- the digest of a pair, as one text
-abbrev pub pair_digest : (List ℕ → Digest) → Digest × Digest → Digest
-pair_digest H p = H (p.0.0 ++ p.1.0)

@@ -2,7 +2,8 @@
 ghost use Rattle.std.specs.Prelude.{◌≡◌, ◌+◌, ◌*◌, ◌≤◌, ◌++◌, length, map, take, drop, flat_map, count_by};
 ghost use Rattle.proof_verify.specs.Nodes.{node_from, IsWithin, is_inner};
 ghost use Rattle.proof_verify.specs.Gathered.{AreHalvesWithin, AreHalfwise};
-ghost use Rattle.proof_verify.specs.Batches.{AreWithin, pairs_for, pair_digest};
+ghost use Rattle.uo_digest.specs.Batches.{pair_digest};
+ghost use Rattle.proof_verify.specs.Batches.{AreWithin, pairs_for};
 
 use crate::node::{Node, half};
 use crate::origin::Origin;
@@ -11,6 +12,23 @@ use uo_digest::{Digest, Digester, Steps};
 
 // A place takes at most two digests, so these are enough for 16 places.
 const PAIRS: usize = 32;
+
+// Where the pairs of a batch and their digests lie. What is in it does not matter.
+#[derive(Drop)]
+pub(crate) struct Batch {
+    pairs: [(Digest, Digest); PAIRS],
+    digests: [Digest; PAIRS],
+}
+
+impl Batch {
+    pub(crate) fn new() -> Batch {
+        let blank = Digest([0; 32]);
+        Batch {
+            pairs: [(blank, blank); PAIRS],
+            digests: [blank; PAIRS],
+        }
+    }
+}
 
 // Puts the pairs that are digested for a place behind the first `count`. What is left of two halves takes a digest where
 // both have something left.
@@ -60,6 +78,22 @@ fn queue(
         count = queue_place(origins[i], below, hashes, pairs, count);
     }
     count
+}
+
+// Puts the digests of the first so many pairs.
+fn digest_first<D: Digester, L: Ledger>(
+    pairs: &[(Digest, Digest)],
+    count: usize,
+    digests: &mut [Digest],
+    steps: &mut Steps<L>,
+)
+    requires within { count ≤ length pairs.now }
+    requires room { length digests.old ≡ length pairs.now }
+    ensures value { take count digests.new ≡ map (pair_digest D.digest_of) (take count pairs.now) }
+    ensures long { length digests.new ≡ length digests.old }
+    ensures steps { steps.new ≡ steps.old + count }
+{
+    D::digest_pairs(&pairs[..count], &mut digests[..count], steps);
 }
 
 // The node of a place, and the digests behind those that were made for it.
@@ -134,6 +168,7 @@ pub(crate) fn evaluate_batch<D: Digester, L: Ledger>(
     hashes: &[Digest],
     below: &[Node],
     nodes: &mut [Node],
+    batch: &mut Batch,
     steps: &mut Steps<L>,
 )
     requires within { AreWithin (length below.now) (length leaves.now) (length hashes.now) origins.now }
@@ -142,11 +177,8 @@ pub(crate) fn evaluate_batch<D: Digester, L: Ledger>(
     ensures nodes { nodes.new ≡ map (node_from D.digest_of leaves.now hashes.now below.now) origins.now }
     ensures steps { steps.new ≤ steps.old + 2 * count_by is_inner origins.now }
 {
-    let blank = Digest([0; 32]);
-    let mut pairs = [(blank, blank); PAIRS];
-    let mut digests = [blank; PAIRS];
-    let count = queue(origins, below, hashes, &mut pairs);
-    let made = &mut digests[..count];
-    D::digest_pairs(&pairs[..count], made, steps);
-    settle::<D>(origins, leaves, hashes, below, made, nodes);
+    let Batch { pairs, digests } = batch;
+    let count = queue(origins, below, hashes, pairs);
+    digest_first::<D, L>(pairs, count, digests, steps);
+    settle::<D>(origins, leaves, hashes, below, &digests[..count], nodes);
 }

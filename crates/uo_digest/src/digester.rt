@@ -2,6 +2,7 @@
 ghost use Rattle.std.specs.Prelude.{◌≡◌, ◌+◌, ◌++◌, ℕ, List, length, map};
 ghost use Rattle.std.specs.Borrow.{Bor};
 ghost use Rattle.uo_digest.specs.declared.digest.Digest.{Digest as Digested};
+ghost use Rattle.uo_digest.specs.Batches.{pair_digest};
 
 use crate::pair::pair_text;
 use crate::{Digest, Steps};
@@ -35,7 +36,7 @@ pub trait Digester {
     /// The digest of each pair of digests, as one text of 64 bytes, in the place of an entry of `out`, each as one step.
     fn digest_pairs<L: Ledger>(pairs: &[(Digest, Digest)], out: &mut [Digest], steps: &mut Steps<L>)
         requires { length out.old ≡ length pairs.now }
-        ensures value { out.new ≡ map (λ (pair : Digested × Digested). digest_of (pair.0.0 ++ pair.1.0)) pairs.now }
+        ensures value { out.new ≡ map (pair_digest digest_of) pairs.now }
         ensures step { steps.new ≡ steps.old + length pairs.now }
     {
         'each: for i in 0..pairs.len() {

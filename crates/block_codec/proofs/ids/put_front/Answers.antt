@@ -1,7 +1,10 @@
-use Rattle.tx_codec.specs.Transaction.{legacy_text}
-use Rattle.block_codec.proofs.IdLaws.{ids_of_texts}
+use Rattle.std.proofs.Common.{refl}
+use Rattle.uo_digest.proofs.DigestLaws.{digest_is}
+use Rattle.tx_codec.specs.Ids.{txid_of}
+use Rattle.block_codec.proofs.IdLaws.{put_one}
 use Rattle.block_codec.proofs.ids.put_front.Goals as goal
 
-pub put_each-requires-clause-legacy : goal.put_each-requires-clause-legacy
-put_each-requires-clause-legacy c =
-    ids_of_texts legacy_text _ _ _ _ c.as_slice.ensures.value c.sha256d_all.ensures c.legacy_texts-texts.ensures.texts
+pub returns-clause-ids : goal.returns-clause-ids
+returns-clause-ids c =
+    put_one txid_of c.args.txs.now c.args.out.now 0 c.index-txs-0.result _ c.requires.count c.requires.some c.index-txs-0.is
+    (digest_is _ _ c.txid.ensures) refl

@@ -3,7 +3,8 @@ use Rattle.std.proofs.lemmas.List.{get_or-map, get_or-take, length-take-le}
 use Rattle.uo_digest.specs.declared.digest.Digest.{Digest}
 use Rattle.forest_place.specs.Forest.{InForest}
 use Rattle.bridge_forest.specs.Parts.{part_digest}
-use Rattle.bridge_forest.specs.Rows.{HasDigest, pair_digest}
+use Rattle.uo_digest.specs.Batches.{pair_digest}
+use Rattle.bridge_forest.specs.Rows.{HasDigest}
 use Rattle.bridge_forest.proofs.waiting.put_waiting.Goals as goal
 
 pub put_each-requires-clause-within : goal.put_each-requires-clause-within

@@ -1,7 +1,7 @@
 use Rattle.std.proofs.Common.{◌≡◌, suc, ◌+◌, ◌*◌, ◌∙◌, Some, sym, ap, ap₂}
 use Rattle.forest_model.specs.Content.{join_digests}
 use Rattle.forest_place.proofs.Parts.{InForest-left, InForest-right}
-use Rattle.bridge_forest.specs.Rows.{pair_digest}
+use Rattle.uo_digest.specs.Batches.{pair_digest}
 use Rattle.bridge_forest.proofs.Refreshing.{joined_right}
 use Rattle.bridge_forest.proofs.Renewing.{renewed_put, renewed_noted}
 use Rattle.bridge_forest.proofs.waiting.renew.Goals as goal

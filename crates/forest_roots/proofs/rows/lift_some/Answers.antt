@@ -10,4 +10,5 @@ returns-clause-lifted g c = λ start lifted.
     let twice : 2 * c.args.from + 2 * c.args.some - 2 * c.args.from ≡ 2 * c.args.some = omega arith in
     let is = c.digest_pairs.ensures.value ∙ ap (digests_over g.D.Digester.digest_of) c.put_pairs.ensures in
     let long : length c.digest_pairs.new.out ≡ c.args.some = grind (arith, common_steps, c.digest_pairs.auto.out, c.requires.within) in
-    rw size (lifted-some g.D.Digester.digest_of start c.args.nodes.now c.digest_pairs.new.out c.args.from c.args.some c.requires.within (rw twice at is) long lifted)
+    rw size (lifted-some g.D.Digester.digest_of start c.args.nodes.now c.digest_pairs.new.out c.args.from c.args.some c.requires.within
+    (rw twice at is) long lifted)

@@ -10,5 +10,7 @@ returns-clause-given g c =
     let digest = g.D.Digester.digest_of in
     let texts = cut_texts _ _ _ _ count _ (take count (drop c.args.from leaves)) c.split_at.ensures.front c.split_at.ensures.front_len
     c.cut-texts.ensures c.put_texts-count.ensures.texts c.split_at-2.ensures.front in
-    put_part (λ leaf. digest (leaf_text leaf)) leaves c.args.out.now c.args.from count c.digest_each_behind.new.out _ c.put_texts-count.ensures.within c.requires.before
-    (c.digest_each_behind.ensures.value (tag ++ tag) c.requires.tags ∙ digests_behind digest c.split_at-2.result.0.now (take count (drop c.args.from leaves)) texts)
+    put_part (λ leaf. digest (leaf_text leaf)) leaves c.args.out.now c.args.from count c.digest_each_behind.new.out _
+    c.put_texts-count.ensures.within c.requires.before
+    (c.digest_each_behind.ensures.value (tag ++ tag) c.requires.tags
+    ∙ digests_behind digest c.split_at-2.result.0.now (take count (drop c.args.from leaves)) texts)

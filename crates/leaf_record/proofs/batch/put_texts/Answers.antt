@@ -8,7 +8,8 @@ overflow_sub-lengths g c =
 
 pub texts-preserved : goal.texts-preserved
 texts-preserved g c = record {
-  put = putting_more _ _ _ c.texts.invariant.put c.leaf.ensures c.fill-next.ensures.fits (omega arith) c.fill-next.ensures.text c.fill-next.ensures.within;
+  put = putting_more _ _ _ c.texts.invariant.put c.leaf.ensures c.fill-next.ensures.fits (omega arith) c.fill-next.ensures.text
+      c.fill-next.ensures.within;
   most = omega arith;
 }
 

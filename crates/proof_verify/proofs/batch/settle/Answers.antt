@@ -1,7 +1,8 @@
 use Rattle.std.proofs.Common.{◌∙◌}
 use Rattle.std.proofs.lemmas.List.{length-set}
 use Rattle.proof_verify.specs.Nodes.{node_from}
-use Rattle.proof_verify.specs.Batches.{pairs_for, pair_digest}
+use Rattle.uo_digest.specs.Batches.{pair_digest}
+use Rattle.proof_verify.specs.Batches.{pairs_for}
 use Rattle.proof_verify.specs.declared.origin.Origin.TheVariants.{Target}
 use Rattle.proof_verify.proofs.Queued.{made_front, made_behind, written_more}
 use Rattle.proof_verify.proofs.batch.settle.Goals as goal

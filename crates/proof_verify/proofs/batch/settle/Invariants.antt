@@ -1,6 +1,7 @@
 use Rattle.std.proofs.Common.{◌≡◌, length, map, take, drop, flat_map}
 use Rattle.proof_verify.specs.Nodes.{node_from}
-use Rattle.proof_verify.specs.Batches.{pairs_for, pair_digest}
+use Rattle.uo_digest.specs.Batches.{pair_digest}
+use Rattle.proof_verify.specs.Batches.{pairs_for}
 use Rattle.proof_verify.proofs.batch.settle.Given as goal
 
 abbrev pub invariant-loop-i : goal.invariant-loop-i

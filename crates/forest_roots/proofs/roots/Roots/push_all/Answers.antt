@@ -15,7 +15,8 @@ loop-count-preserved g c =
       same_count = c.loop-count.invariant.same_count;
       rising = rising_more g.D.Digester.digest_of c.self.inside.count c.self.inside.slots c.args.digests.now c.args.steps.now c.loop-count.row
           c.loop-count.self-inside.slots c.loop-count.digests c.loop-count.count c.loop-count.steps r c.loop-count-test.true few
-          (nat_eq (c.loop-count.self-inside.count / 2 ^ c.loop-count.row % 2) 1) c.raise_row.result c.raise_row.new.nodes c.count_above-count.result c.raise_row.new.steps
+          (nat_eq (c.loop-count.self-inside.count / 2 ^ c.loop-count.row % 2) 1) c.raise_row.result c.raise_row.new.nodes c.count_above-count.result
+          c.raise_row.new.steps
           (ap (λ n. nat_eq (n / 2 ^ c.loop-count.row % 2) 1) c.loop-count.invariant.same_count) c.raise_row.ensures.stays
           (c.raise_row.ensures.len ∙ long) c.count_above-count.ensures (rw long at c.raise_row.ensures.above) (rw long at c.raise_row.ensures.steps);
     }
@@ -25,7 +26,8 @@ prove-unreachable-requires g c =
     let leaves : c.self.inside.count ≡ c.args.self.now.leaves = ap (λ (f : Stump). f.leaves) c.self.view_is in
     let few : c.self.inside.count + length c.args.digests.now < 2 ^ 40 = omega (arith, leaves, c.requires) in
     let small = rising_small g.D.Digester.digest_of c.self.inside.count c.self.inside.slots c.args.digests.now c.args.steps.now c.loop-count.row
-    c.loop-count.self-inside.slots c.loop-count.digests c.loop-count.count c.loop-count.steps c.loop-count.invariant.rising c.loop-count-test.true few in
+    c.loop-count.self-inside.slots c.loop-count.digests c.loop-count.count c.loop-count.steps
+    c.loop-count.invariant.rising c.loop-count-test.true few in
     omega (arith, small, c.if-prove.true)
 
 pub invariant_of-self : goal.invariant_of-self
