@@ -2,8 +2,8 @@
 use crate::alone::pairs_alone;
 use crate::names::name_of;
 use crate::stopwatch::Stopwatch;
-use bridge_forest::Forest;
 use forest_place::{Place, slot_of};
+use live_forest::Forest;
 use std::alloc::Global;
 use std::io;
 use std::sync::ledger::Ledger;
@@ -45,7 +45,7 @@ fn change<L: Ledger>(forest: &mut Forest<Sha512t256>, from: u64, count: u64, ste
         let number = chosen(from.wrapping_add(i), forest.leaves());
         if forest.live(number) {
             forest.remove(number, steps);
-        } else if number < forest.leaves() {
+        } else if number < forest.leaves() && forest.held(number) {
             forest.restore(number, name_of(number), steps);
         }
     }

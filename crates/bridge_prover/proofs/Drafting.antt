@@ -8,7 +8,7 @@ use Rattle.leaf_record.specs.Leaf.{Rest}
 use Rattle.block_rules.specs.declared.chain.Outside.{Outside}
 use Rattle.proof_wire.specs.BlockProof.{message_text}
 use Rattle.node_rules.specs.Proving.{written_text}
-use Rattle.bridge_forest.specs.State.{is_live}
+use Rattle.live_forest.specs.State.{is_live}
 use Rattle.output_index.specs.Held.{is_live as is_held_live}
 use Rattle.bridge_prover.specs.declared.message.Draft.{Draft}
 use Rattle.bridge_prover.specs.Bridge.{BridgeState, message_by}

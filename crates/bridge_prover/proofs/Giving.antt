@@ -35,6 +35,11 @@ set_here [] n lt = absurd (omega (arith, lt))
 set_here (x ∷ xs) zero lt = refl
 set_here (x ∷ xs) (suc n) lt = set_here xs n (omega (arith, lt))
 
+pub got_none : {X : Type 0} (xs : List (Option X)) (i : ℕ) → slice_get xs i ≡ Some None → get_or xs i None ≡ None
+got_none [] i e = refl
+got_none (x ∷ xs) zero e = same_Some x None e
+got_none (x ∷ xs) (suc i) e = got_none xs i e
+
 got_front : {X : Type 0} (xs ys : List X) (i : ℕ) (x : X) → slice_get xs i ≡ Some x → slice_get (xs ++ ys) i ≡ Some x
 got_front [] ys i x e = absurd (none-some x e)
 got_front (z ∷ xs) ys zero x e = e

@@ -24,7 +24,7 @@ use Rattle.proof_shape.specs.Shape.{AreFixedTargets}
 use Rattle.proof_shape.specs.Targeted.{Targeted}
 use Rattle.node_rules.specs.Messages.{number_of}
 use Rattle.node_rules.proofs.Placing.{named_by}
-use Rattle.bridge_forest.specs.State.{is_live}
+use Rattle.live_forest.specs.State.{is_live}
 use Rattle.bridge_prover.specs.Bridge.{target_of}
 use Rattle.bridge_prover.specs.Watched.{places_in}
 use Rattle.bridge_prover.proofs.Gathering.{somes-map, map-append}

@@ -25,7 +25,7 @@ use Rattle.node_rules.specs.Messages.{Message, sent, targets}
 use Rattle.node_rules.specs.Judging.{known_for}
 use Rattle.node_rules.specs.Machine.{State}
 use Rattle.node_rules.proofs.Righting.{got_back, got_entry}
-use Rattle.bridge_forest.specs.State as forest
+use Rattle.live_forest.specs.State as forest
 use Rattle.output_index.specs.Held.{Held, held_at, is_live}
 use Rattle.output_index.specs.Indexed.{IsIndexOf}
 use Rattle.output_index.proofs.HeldLaws.{live_is_held}

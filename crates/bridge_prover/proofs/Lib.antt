@@ -23,3 +23,4 @@ pub mod Historied
 pub mod Taking
 pub mod Fully
 pub mod Sorting
+pub mod Holding

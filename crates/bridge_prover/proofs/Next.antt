@@ -1,7 +1,7 @@
 -- What a bridge keeps after a block is again what a bridge keeps, and stands for the next level.
-use Rattle.std.proofs.Common.{◌≡◌, ◌≢◌, ℕ, zero, suc, ◌+◌, ◌<◌, ◌≤◌, ◌^◌, true, List, [], ◌∷◌, ◌++◌, map, set, take, length, Option, Some, None, refl}
-use Rattle.std.proofs.Common.{sym, ap, ◌∙◌, subst, arith}
-use Rattle.std.specs.Prelude.{slice_get, is_some, nat_lt, nat_le, option_map, unwrap_or, AllPairs}
+use Rattle.std.proofs.Common.{◌≡◌, ◌≢◌, ℕ, zero, suc, ◌+◌, ◌<◌, ◌≤◌, ◌^◌, true, false, List, [], ◌∷◌, ◌++◌, map, set, take, length, Option, Some, None}
+use Rattle.std.proofs.Common.{refl, sym, ap, ◌∙◌, subst, arith}
+use Rattle.std.specs.Prelude.{slice_get, is_some, nat_lt, nat_le, option_map, unwrap_or, All, AllPairs}
 use Rattle.std.specs.List.{AllByRecursion}
 use Rattle.std.proofs.lemmas.Bool.{and_parts, ltb-true, leb-true}
 use Rattle.std.proofs.lemmas.List.{length-map, length-append, append-nil, set-append_left, length-take}
@@ -28,7 +28,7 @@ use Rattle.output_index.specs.Indexed.{IsIndexOf}
 use Rattle.output_index.proofs.Standing.{inserted_is_added, spent_is_spent, there_is_live}
 use Rattle.output_index.proofs.HeldLaws.{above-with_live}
 use Rattle.reorg_undo.specs.Undo.{UndoRecord}
-use Rattle.bridge_forest.specs.State as forest
+use Rattle.live_forest.specs.State as forest
 use Rattle.bridge_prover.specs.Own.{own_in, numbered, spent_in}
 use Rattle.bridge_prover.specs.Bridge.{BridgeState, refusal_on, record_of, dropped, bridge_with}
 use Rattle.bridge_prover.specs.Judged.{IsReady}
@@ -36,8 +36,8 @@ use Rattle.bridge_prover.specs.Standing.{IsLiveIn, Undoes, GiveBack, Stands, IsB
 use Rattle.bridge_prover.proofs.Indexing.{above-numbered, append_same}
 use Rattle.bridge_prover.proofs.Owning.{all_index, own_same, live_each, apart}
 use Rattle.bridge_prover.proofs.Rising.{all_mapped, rise-numbered, rise-spent, rise-forgotten, above-forgotten, leaf-append, leaf-spent}
-use Rattle.bridge_prover.proofs.Giving.{length-spent, length-after, differ_from, gone_after, GoneIn, IsOld, all_old, give_held, give_taken}
-use Rattle.bridge_prover.proofs.Giving.{give_forgotten, spent_there, index-forgotten}
+use Rattle.bridge_prover.proofs.Giving.{length-spent, length-after, differ_from, IsGone, gone_after, GoneIn, IsOld, all_old, give_held, give_taken}
+use Rattle.bridge_prover.proofs.Giving.{got_none, give_forgotten, spent_there, index-forgotten}
 
 -- the bridge stands for these levels, and its index is in order
 pub record IsAt (H : List ℕ → Digest) (t : State) (s : BridgeState) : Type 0 where
@@ -160,6 +160,10 @@ module _ (H : List ℕ → Digest) (t : State) (s : BridgeState) (at : IsAt H t 
   old_spent = all_mapped (IsOld s.held t.now t.older 99) (λ n. is_spent n held ≡ true)
       (λ n o. spent_there held after rise index n o.leaf (gone_after us ns new n o.newest) (still n o.leaf o.held)) (dropped s.undo) old.0
 
+  -- they are spent for good
+  old_dead : AllByRecursion (IsGone after) (dropped s.undo)
+  old_dead = all_mapped (IsOld s.held t.now t.older 99) (IsGone after) (λ n o. gone_after us ns new n o.newest) (dropped s.undo) old.0
+
   old_gone : AllByRecursion (λ n. AllByRecursion (GoneIn n) (take 100 (t.now ∷ t.older))) (dropped s.undo)
   old_gone = all_mapped (IsOld s.held t.now t.older 99) (λ n. AllByRecursion (GoneIn n) (take 100 (t.now ∷ t.older))) (λ n o. (o.newest, o.others))
       (dropped s.undo) old.0
@@ -232,6 +236,25 @@ module _ (H : List ℕ → Digest) (s : BridgeState) (is : IsBridge H s) (ns : L
       (all_mapped (IsLiveIn us) (λ n. forest.is_live (entries H leaf_text us) n ≡ true)
       (λ n w. ap is_some (got_entry (λ r. H (leaf_text r)) us n ∙ ap (option_map (λ r. H (leaf_text r))) (got_back us n w.0 w.1))) ns live)
 
+  abbrev after-us : History
+  after-us = history_after t.now.history ns new
+
+  after-entries : (bridge_with H s hash ns new).entries ≡ entries H leaf_text after-us
+  after-entries = (stands-then H t s here ns new live differ hash).entries
+
+  old-given : AllByRecursion (λ n. n < length (bridge_with H s hash ns new).entries) (dropped s.undo)
+  old-given =
+      let long = ap length after-entries ∙ length-map after-us (option_map (λ r. H (leaf_text r))) in
+      all_mapped (IsGone after-us) (λ n. n < length (bridge_with H s hash ns new).entries)
+      (λ n gone. let lt = slice_get_within after-us n None gone in omega (arith, lt, long)) (dropped s.undo)
+      (old_dead H t s here ns new live differ)
+
+  old-gone : AllByRecursion (λ n. forest.is_live (bridge_with H s hash ns new).entries n ≡ false) (dropped s.undo)
+  old-gone =
+      all_mapped (IsGone after-us) (λ n. forest.is_live (bridge_with H s hash ns new).entries n ≡ false)
+      (λ n gone. ap (λ es. forest.is_live es n) after-entries ∙ ap is_some (got_entry (λ r. H (leaf_text r)) after-us n
+      ∙ ap (option_map (λ r. H (leaf_text r))) (got_none after-us n gone))) (dropped s.undo) (old_dead H t s here ns new live differ)
+
   -- it may be taken
   pub can_take : length ns < 2 ^ 32 → IsReady H s hash ns new
   can_take short = record {
@@ -244,6 +267,8 @@ module _ (H : List ℕ → Digest) (s : BridgeState) (is : IsBridge H s) (ns : L
     low = fits.0;
     old = all_index _ _ (old_spent H t s here ns new live differ);
     old_apart = (old H t s here ns new live differ).1;
+    old_given = all_index _ _ old-given;
+    old_gone = all_index _ _ old-gone;
     next = there;
   }
 
@@ -292,6 +317,16 @@ module _ (H : List ℕ → Digest) (s : BridgeState) (b : Block) (is : IsBridge 
       subst (λ xs. IsBridge H (bridge_with H s hash xs (new_records b s.chain.blocks))) (sym numbers)
       (there H s is (own was.now.history (external b s.chain.blocks)).numbers (new_records b s.chain.blocks)
       (own_live H was s stood b by_history) (own_apart H was s stood b by_history) fits hash)
+
+-- what the hundredth block spent may be let go
+pub forgettable : (H : List ℕ → Digest) (inner s : BridgeState) → inner ≡ s → (hash : Digest) (ns : List ℕ) (new : List Leaf)
+    (es : List (Option Digest)) → IsReady H s hash ns new → es ≡ (bridge_with H inner hash ns new).entries
+    → All (λ i. i < length es) (dropped inner.undo) × All (λ i. forest.is_live es i ≡ false) (dropped inner.undo)
+forgettable H inner s same hash ns new es ready e =
+    let here = subst (λ (x : BridgeState). IsReady H x hash ns new) (sym same) ready in (
+      subst (λ xs. All (λ i. i < length xs) (dropped inner.undo)) (sym e) here.old_given,
+      subst (λ xs. All (λ i. forest.is_live xs i ≡ false) (dropped inner.undo)) (sym e) here.old_gone,
+    )
 
 -- what the calls leave that take a block is again what a bridge keeps
 module _ (H : List ℕ → Digest) (inner s : BridgeState) (same : inner ≡ s) (hash : Digest) (ns : List ℕ) (new : List Leaf)

@@ -24,7 +24,7 @@ use Rattle.node_rules.specs.Judging.{Rules, Evidence, own, refusal, proof_of}
 use Rattle.node_rules.specs.Machine.{ChainEvent, BlockCame, RollbackCame, StrayCame, Level, State, Outcome, chain_of, height_of, back, by_refusal}
 use Rattle.node_rules.specs.Machine.{is_made, verdict_by}
 use Rattle.node_rules.specs.Proving.{written_text, text_beside}
-use Rattle.bridge_forest.specs.Blocks.{all_restored}
+use Rattle.live_forest.specs.Blocks.{all_restored}
 use Rattle.output_index.specs.Held.{Held}
 use Rattle.reorg_undo.specs.Undo.{UndoRecord}
 use Rattle.node_rules.specs.Machine.{gone_to}

@@ -5,8 +5,8 @@ use Rattle.std.proofs.lemmas.List.{get_or-set_other}
 use Rattle.uo_digest.specs.declared.digest.Digest.{Digest}
 use Rattle.leaf_record.specs.Leaf.{Leaf, leaf_text}
 use Rattle.leaf_record.specs.History.{somes}
-use Rattle.bridge_forest.specs.State.{is_live}
-use Rattle.bridge_forest.specs.Blocks.{all_restored}
+use Rattle.live_forest.specs.State.{is_live}
+use Rattle.live_forest.specs.Blocks.{all_restored}
 use Rattle.output_index.specs.Held.{Held, leaf_at}
 use Rattle.bridge_prover.specs.Bridge.{restored_at, restored_in}
 use Rattle.bridge_prover.proofs.Gathering.{gathered_more}

@@ -32,10 +32,10 @@ use Rattle.leaf_record.specs.History.{somes}
 use Rattle.proof_wire.specs.BlockProof.{BlockProof, targets_of, spends_of}
 use Rattle.cache_model.specs.Known.{is_known}
 use Rattle.node_rules.specs.Messages.{sent, number_of}
-use Rattle.bridge_forest.specs.State.{is_live}
-use Rattle.bridge_forest.specs.Proving.{places_of, standing, proof_of}
-use Rattle.bridge_forest.specs.declared.batch.Sibling.{Sibling}
-use Rattle.bridge_forest.proofs.Slotted.{stand_there}
+use Rattle.live_forest.specs.State.{is_live}
+use Rattle.live_forest.specs.Proving.{places_of, standing, proof_of}
+use Rattle.live_forest.specs.declared.batch.Sibling.{Sibling}
+use Rattle.live_forest.proofs.Slotted.{stand_there}
 use Rattle.output_index.specs.Held.{Held, held_at, leaf_at, is_live as is_held_live}
 use Rattle.output_index.proofs.HeldLaws.{live_is_held}
 use Rattle.bridge_prover.specs.Bridge.{target_of, spend_of, spends_by}

@@ -7,7 +7,7 @@ use Rattle.std.proofs.lemmas.List.Sorted.{All-permutation, list_any-IsPermutatio
 use Rattle.uo_digest.specs.declared.digest.Digest.{Digest}
 use Rattle.forest_model.specs.Deletion.{entries_without}
 use Rattle.forest_model.proofs.Deleting.{get_or-entries_without, length-entries_without}
-use Rattle.bridge_forest.specs.State.{is_live}
+use Rattle.live_forest.specs.State.{is_live}
 
 -- in any order the same is spent
 pub emptied_same : (numbers given sorted : List ℕ) (es : List (Option Digest)) → given ≡ numbers → IsPermutation given sorted

@@ -19,7 +19,7 @@ use Rattle.block_rules.specs.declared.verdict.Verdict.{Verdict}
 use Rattle.node_rules.specs.Laws.{kept_after}
 use Rattle.node_rules.specs.Reading.{Handed, nothing}
 use Rattle.node_rules.specs.Machine.{ChainEvent, BlockCame, RollbackCame, StrayCame, event_in, Level, back, height_of, verdict_by}
-use Rattle.bridge_forest.proofs.Undoing.{length-restored}
+use Rattle.live_forest.proofs.Undoing.{length-restored}
 use Rattle.reorg_undo.specs.Undo.{UndoRecord}
 use Rattle.output_index.specs.Held.{Held}
 use Rattle.bridge_prover.specs.Own.{own_in}

@@ -4,7 +4,7 @@ use Rattle.std.proofs.Common.{refl, sym, ap, ◌∙◌, subst, arith}
 use Rattle.std.specs.Prelude.{◌==◌, ◌||◌, slice_get, option_map, is_some}
 use Rattle.std.specs.List.{AllByRecursion, list_any}
 use Rattle.std.proofs.lemmas.List.{length-map, length-append, length-take, append-nil, get_or-take}
-use Rattle.std.proofs.lemmas.Option.{same_Some, slice_get_within}
+use Rattle.std.proofs.lemmas.Option.{slice_get_within}
 use Rattle.uo_digest.specs.declared.digest.Digest.{Digest}
 use Rattle.forest_model.specs.Right.{entries}
 use Rattle.forest_model.specs.Deletion.{entries_without}
@@ -13,9 +13,9 @@ use Rattle.leaf_record.specs.History.{History, somes, spent}
 use Rattle.block_rules.specs.declared.chain.Chain.{Chain}
 use Rattle.node_rules.specs.Machine.{Level}
 use Rattle.node_rules.proofs.Righting.{got_back, got_entry}
-use Rattle.bridge_forest.specs.State as forest
-use Rattle.bridge_forest.specs.Blocks.{all_restored}
-use Rattle.bridge_forest.proofs.Undoing.{undone}
+use Rattle.live_forest.specs.State as forest
+use Rattle.live_forest.specs.Blocks.{all_restored}
+use Rattle.live_forest.proofs.Undoing.{undone}
 use Rattle.output_index.specs.Held.{Held, IsAbove, is_spent, leaf_at, NumbersRise}
 use Rattle.output_index.specs.Indexed.{IsIndexOf}
 use Rattle.output_index.proofs.Standing.{taken_back_is_gone, there_is_live}
@@ -28,15 +28,10 @@ use Rattle.bridge_prover.proofs.Indexing.{append_same, cut_all, cut_above, cut_s
 use Rattle.bridge_prover.proofs.Owning.{all_index}
 use Rattle.bridge_prover.proofs.Rising.{all_mapped, all_both, rise-filter, rise-unspent, above-unspent, leaf-unspent, leaf-cut}
 use Rattle.bridge_prover.proofs.Giving.{length-spent, length-after, differ_from, IsGone, spent_gone, all_gone, give_held, spent_there, WasLive}
-use Rattle.bridge_prover.proofs.Giving.{index-unspent}
+use Rattle.bridge_prover.proofs.Giving.{got_none, index-unspent}
 use Rattle.bridge_prover.proofs.Next.{IsAt, entries-then}
 
 -- ---- lists
-
-got_none : {X : Type 0} (xs : List (Option X)) (i : ℕ) → slice_get xs i ≡ Some None → get_or xs i None ≡ None
-got_none [] i e = refl
-got_none (x ∷ xs) zero e = same_Some x None e
-got_none (x ∷ xs) (suc i) e = got_none xs i e
 
 got_added : (us : History) (new : List Leaf) (i : ℕ) → length us ≤ i → i < length us + length new
     → (leaf : Leaf) × (slice_get (us ++ map Some new) i ≡ Some (Some leaf))

@@ -23,7 +23,7 @@ use Rattle.node_rules.specs.Messages.{Message, sent, number_of, targets}
 use Rattle.node_rules.specs.Judging.{Rules, refusal}
 use Rattle.node_rules.specs.Machine.{ChainEvent, BlockCame, RollbackCame, StrayCame, no_tip, gone_to, verdict_by}
 use Rattle.node_rules.specs.Proving.{written_text}
-use Rattle.bridge_forest.specs.Blocks.{all_restored}
+use Rattle.live_forest.specs.Blocks.{all_restored}
 use Rattle.output_index.specs.Held.{Held, leaf_at}
 use Rattle.reorg_undo.specs.Undo.{UndoRecord}
 use Rattle.bridge_prover.specs.Own.{own_in, numbered, spent_in, forgotten_in, cut_in, unspent_in}

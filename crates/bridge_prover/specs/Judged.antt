@@ -20,9 +20,9 @@ use Rattle.block_rules.specs.Steps.{first_of}
 use Rattle.cache_model.specs.Known.{is_known}
 use Rattle.node_rules.specs.Messages.{Message, sent, targets}
 use Rattle.node_rules.specs.Proving.{written_text}
-use Rattle.bridge_forest.specs.State as forest
-use Rattle.bridge_forest.specs.Proving.{proof_of}
-use Rattle.bridge_forest.specs.declared.batch.Sibling.{Sibling}
+use Rattle.live_forest.specs.State as forest
+use Rattle.live_forest.specs.Proving.{proof_of}
+use Rattle.live_forest.specs.declared.batch.Sibling.{Sibling}
 use Rattle.output_index.specs.Held.{Held, is_live, is_spent}
 use Rattle.reorg_undo.specs.Undo.{UndoRecord}
 use Rattle.bridge_prover.specs.Own.{newest_in, missing_in, leaves_in, own_in, numbered, spent_in, cut_in}
@@ -102,6 +102,8 @@ pub record IsReady (H : List ℕ → Digest) (s : BridgeState) (hash : Digest) (
   pub low : s.chain.blocks < 2 ^ 31
   pub old : All (λ i. is_spent i (spent_in numbers (s.held ++ numbered s.chain.leaves new)) ≡ true) (dropped s.undo)
   pub old_apart : AllPairs (λ i j. i ≢ j) (dropped s.undo)
+  pub old_given : All (λ i. i < length (bridge_with H s hash numbers new).entries) (dropped s.undo)
+  pub old_gone : All (λ i. forest.is_live (bridge_with H s hash numbers new).entries i ≡ false) (dropped s.undo)
   pub next : IsBridge H (bridge_with H s hash numbers new)
 
 -- no step fails, this is what is passed on, and this is what the bridge keeps then

@@ -1,5 +1,5 @@
 -- A bridge beside the levels of the machine.
-use Rattle.std.specs.Prelude.{◌≡◌, ◌≢◌, ℕ, suc, ◌<◌, ◌≤◌, ◌^◌, List, [], ◌∷◌, length, slice_get, Some, AllPairs}
+use Rattle.std.specs.Prelude.{◌≡◌, ◌≢◌, ℕ, suc, ◌<◌, ◌≤◌, ◌^◌, Bool, List, [], ◌∷◌, length, slice_get, Some, is_some, AllPairs}
 use Rattle.std.specs.List.{AllByRecursion}
 use Rattle.uo_digest.specs.declared.digest.Digest.{Digest}
 use Rattle.forest_model.specs.Right.{entries}
@@ -7,6 +7,7 @@ use Rattle.leaf_record.specs.Leaf.{Leaf, leaf_text}
 use Rattle.leaf_record.specs.History.{History}
 use Rattle.node_rules.specs.Judging.{history_after}
 use Rattle.node_rules.specs.Machine.{Level, State, chain_of}
+use Rattle.live_forest.specs.State.{is_held}
 use Rattle.output_index.specs.Held.{Held, leaf_at, NumbersRise, IsAbove}
 use Rattle.output_index.specs.Indexed.{IsIndexOf}
 use Rattle.reorg_undo.specs.Undo.{UndoRecord}
@@ -29,6 +30,11 @@ pub record Undoes (u : UndoRecord) (newer older : Level) : Type 0 where
 -- each output that is live there is held
 abbrev pub AreHeld : List Held → History → Type 0
 AreHeld hs us = (i : ℕ) (leaf : Leaf) → slice_get us i ≡ Some (Some leaf) → leaf_at i hs ≡ Some leaf
+
+-- a forest over so many entries holds exactly those whose outputs the index holds: what is live, and what the blocks spent that can be undone
+pub record HoldsSame (hs : List Held) (count : ℕ) (kept : List Bool) : Type 0 where
+  pub each : length kept ≡ count
+  pub same : (i : ℕ) → is_held kept i ≡ is_some (leaf_at i hs)
 
 -- the records give back the older levels, one each, the newest first
 abbrev pub GiveBack : List Held → Level → List Level → List UndoRecord → Type 0

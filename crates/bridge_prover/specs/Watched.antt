@@ -9,7 +9,7 @@ use Rattle.cache_model.specs.Known.{is_watched, is_known}
 use Rattle.cache_model.specs.Cache.{held}
 use Rattle.output_index.specs.Held.{Held}
 -- where entries stand
-pub use Rattle.bridge_forest.specs.Proving.{places_of as places_in}
+pub use Rattle.live_forest.specs.Proving.{places_of as places_in}
 
 -- one without a list counts here as one with the empty list
 abbrev pub scripts_of : Option (List (List ℕ)) → List (List ℕ)

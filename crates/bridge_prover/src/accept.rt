@@ -8,9 +8,9 @@ ghost use Rattle.bridge_prover.specs.Shown.{IsChecked, fault_in};
 
 use crate::claims::claimed_leaves;
 use block_rules::{Outside, Refusal, RuleFault};
-use bridge_forest::Forest;
 use forest_place::Place;
 use leaf_record::LeafBuf;
+use live_forest::Forest;
 use node_rules::{full_hashes, proof_refusal_of, targets_of};
 use proof_shape::Targets;
 use proof_verify::{Scratch, check_and_delete};

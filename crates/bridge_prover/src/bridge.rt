@@ -13,10 +13,10 @@ use crate::message::{Draft, written};
 use crate::watched::{append, cut_noted, hashes_of, keep_held, kept_targets, noted_of};
 use block_codec::{BlockView, block_hash};
 use block_rules::{Chain, Outside, Refusal, RuleFault, Spends, Verdict, money_rules, shape_rules};
-use bridge_forest::Forest;
 use forest_place::Place;
 use leaf_cache::Watch;
 use leaf_record::LeafBuf;
+use live_forest::Forest;
 use node_rules::{Arrival, receive, rolled_back};
 use output_index::Outputs;
 use proof_shape::Survey;
@@ -56,10 +56,10 @@ pub struct Bridge<D: Digester> {
 }
 
 impl<D: Digester> Model for Bridge<D> {
-    ghost use Rattle.std.specs.Prelude.{◌≡◌};
+    ghost use Rattle.std.specs.Prelude.{◌≡◌, length};
     ghost use Rattle.node_rules.specs.Judging.{Rules};
     ghost use Rattle.bridge_prover.specs.Bridge.{BridgeState};
-    ghost use Rattle.bridge_prover.specs.Standing.{IsBridge};
+    ghost use Rattle.bridge_prover.specs.Standing.{IsBridge, HoldsSame};
     ghost use Rattle.bridge_prover.specs.Watched.{scripts_of, noted_in};
 
     ghost Value = { BridgeState };
@@ -81,7 +81,7 @@ impl<D: Digester> Model for Bridge<D> {
       entries = s.forest.entries;
       held = s.outputs;
       undo = s.undo;
-    }) × (s.noted.items ≡ noted_in (scripts_of s.watch) s.outputs) };
+    }) × (s.noted.items ≡ noted_in (scripts_of s.watch) s.outputs) × HoldsSame s.outputs (length s.forest.entries) s.forest.held };
 }
 
 impl<D: Digester> Bridge<D> {
@@ -99,14 +99,14 @@ impl<D: Digester> Bridge<D> {
     ghost use Rattle.node_rules.specs.Proving.{written_text};
     ghost use Rattle.cache_model.specs.Cache.{held};
     ghost use Rattle.cache_model.specs.Lists.{AscendByPlace};
-    ghost use Rattle.bridge_forest.specs.State.{is_live};
+    ghost use Rattle.live_forest.specs.State.{is_live};
     ghost use Rattle.bridge_prover.specs.Watched.{scripts_of, kept_in, places_in, known_list};
     ghost use Rattle.bridge_prover.specs.Bridge.{bridge_with, fresh_bridge, gone_back, message_by, message_on, most_steps, next_bridge, refusal_on};
     ghost use Rattle.bridge_prover.specs.Bridge.{spends_by, spent_by, undone_by, verdict_on};
     ghost use Rattle.bridge_prover.specs.Own.{leaves_in};
     ghost use Rattle.bridge_prover.specs.Judged.{AreFound, IsDraft, IsDraftOf, IsProved, IsReady, drafted, first_missing};
     ghost use Rattle.bridge_prover.specs.Laws.{KnowsAsOwn, LevelsTold, SaysAsOwn};
-    ghost use Rattle.bridge_prover.specs.Standing.{IsBridge};
+    ghost use Rattle.bridge_prover.specs.Standing.{IsBridge, HoldsSame};
 
     /// A bridge with no block and no output, and room for what undoes a hundred blocks. Its messages are lean exactly where there is a watch list.
     pub fn new(
@@ -165,9 +165,10 @@ impl<D: Digester> Bridge<D> {
         self.undo.kept()
     }
 
-    /// The entries of all outputs that were ever added.
+    /// The entries of all outputs that were ever added. Those have room whose outputs are held.
     pub fn forest(&self) -> &Forest<D>
-        ensures { result.now.entries ≡ self.now.entries }
+        ensures entries { result.now.entries ≡ self.now.entries }
+        ensures held { HoldsSame self.now.held (length self.now.entries) result.now.held }
     {
         &self.forest
     }
@@ -392,7 +393,7 @@ impl<D: Digester> Bridge<D> {
         append(&mut self.noted, &noted);
         self.forest.apply_block(spent, &digests, steps);
         let undo = undo_of(&self.chain, numbers);
-        keep(&mut self.undo, &mut self.outputs, undo);
+        keep(&mut self.undo, &mut self.forest, &mut self.outputs, undo);
         keep_held(&mut self.noted, &self.outputs);
         self.chain = Chain {
             blocks: self.chain.blocks + 1,

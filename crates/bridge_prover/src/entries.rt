@@ -1,15 +1,15 @@
 //! Digests of outputs for the forest.
-ghost use Rattle.std.specs.Prelude.{◌≡◌, ◌≢◌, ℕ, ◌+◌, ◌*◌, ◌<◌, ◌≤◌, ◌∷◌, [], map, length, false, IfOk, All, AllPairs};
+ghost use Rattle.std.specs.Prelude.{◌≡◌, ◌≢◌, ℕ, ◌+◌, ◌*◌, ◌<◌, ◌≤◌, ◌∷◌, [], map, length, true, false, IfOk, All, AllPairs};
 ghost use Rattle.std.specs.List.Sorted.{IsNonDecreasing, IsPermutation};
 ghost use Rattle.forest_place.specs.Position.{rows};
 ghost use Rattle.leaf_record.specs.Leaf.{leaf_text};
-ghost use Rattle.bridge_forest.specs.State.{is_live};
-ghost use Rattle.bridge_forest.specs.Blocks.{all_restored};
+ghost use Rattle.live_forest.specs.State.{is_live, is_held};
+ghost use Rattle.live_forest.specs.Blocks.{all_restored};
 ghost use Rattle.bridge_prover.specs.Bridge.{restored_in};
 
 use block_rules::Spends;
-use bridge_forest::Forest;
 use leaf_record::{LeafBuf, leaf_digest, leaf_digests};
+use live_forest::Forest;
 use output_index::Outputs;
 use std::alloc::{AllocError, Global};
 use std::sync::ledger::Ledger;
@@ -49,7 +49,9 @@ fn restore<D: Digester, L: Ledger>(
 )
     requires given { number < length forest.old.entries }
     requires spent { is_live forest.old.entries number ≡ false }
+    requires held { is_held forest.old.held number ≡ true }
     ensures entries { forest.new.entries ≡ all_restored (restored_in D.digest_of outputs.now (number ∷ [])) forest.old.entries }
+    ensures held { forest.new.held ≡ forest.old.held }
     ensures steps { steps.new ≤ steps.old + (rows (length forest.old.entries) + 1) }
 {
     match outputs.output(number) {
@@ -72,7 +74,9 @@ pub(crate) fn restore_all<D: Digester, L: Ledger>(
     requires given { All (λ i. i < length forest.old.entries) numbers.now }
     requires spent { All (λ i. is_live forest.old.entries i ≡ false) numbers.now }
     requires apart { AllPairs (λ i j. i ≢ j) numbers.now }
+    requires held { All (λ i. is_held forest.old.held i ≡ true) numbers.now }
     ensures entries { forest.new.entries ≡ all_restored (restored_in D.digest_of outputs.now numbers.now) forest.old.entries }
+    ensures held { forest.new.held ≡ forest.old.held }
     ensures steps { steps.new ≤ steps.old + length numbers.now * (rows (length forest.old.entries) + 1) }
 {
     for number in numbers {

@@ -1,14 +1,18 @@
 //! What a block does to the index, and how it is undone there.
-ghost use Rattle.std.specs.Prelude.{◌≡◌, ◌≢◌, ℕ, ◌+◌, ◌<◌, ◌≤◌, ◌^◌, ◌++◌, ◌∷◌, [], Some, slice_get, take, true, length, OnOk, OnErr, All, AllPairs};
+ghost use Rattle.std.specs.Prelude.{◌≡◌, ◌≢◌, ℕ, ◌+◌, ◌<◌, ◌≤◌, ◌^◌, ◌++◌, ◌∷◌, [], Some, slice_get, take, true, false, length};
+ghost use Rattle.std.specs.Prelude.{OnOk, OnErr, All, AllPairs};
 ghost use Rattle.leaf_record.specs.Leaf.{Leaf};
+ghost use Rattle.live_forest.specs.State as forest_state;
 ghost use Rattle.output_index.specs.Held.{is_live, is_spent, IsAbove};
 ghost use Rattle.bridge_prover.specs.Bridge.{dropped, record_of};
 ghost use Rattle.bridge_prover.specs.Own.{numbered, spent_in, forgotten_in, cut_in, unspent_in};
 
 use block_rules::{Chain, Spends};
+use live_forest::Forest;
 use output_index::Outputs;
 use reorg_undo::{Ring, Undo};
 use uo_base::NoMemory;
+use uo_digest::Digester;
 
 // Adds one of the block's new records.
 fn insert(outputs: &mut Outputs, number: u64, spends: &Spends<'_>, i: u64) -> Result<(), NoMemory>
@@ -99,15 +103,27 @@ pub(crate) fn undo_of(chain: &Chain, spent: Vec<u64>) -> Undo
     }
 }
 
-// Keeps what undoes one more block. What the oldest block spent that is undone no more is not held any longer.
-pub(crate) fn keep(ring: &mut Ring<Undo>, outputs: &mut Outputs, undo: Undo)
+// Keeps what undoes one more block. What the oldest block spent that is undone no more is not held any longer, in the index and in the forest.
+pub(crate) fn keep<D: Digester>(
+    ring: &mut Ring<Undo>,
+    forest: &mut Forest<D>,
+    outputs: &mut Outputs,
+    undo: Undo,
+)
     requires spent { All (λ i. is_spent i outputs.old ≡ true) (dropped ring.old) }
     requires apart { AllPairs (λ i j. i ≢ j) (dropped ring.old) }
+    requires given { All (λ i. i < length forest.old.entries) (dropped ring.old) }
+    requires gone { All (λ i. forest_state.is_live forest.old.entries i ≡ false) (dropped ring.old) }
     ensures kept { ring.new ≡ take 100 (undo ∷ ring.old) }
     ensures outputs { outputs.new ≡ forgotten_in (dropped ring.old) outputs.old }
+    ensures entries { forest.new.entries ≡ forest.old.entries }
+    ensures held { forest.new.held ≡ forest_state.held_without (dropped ring.old) forest.old.held }
 {
     match ring.push(undo) {
-        Some(oldest) => outputs.forget_all(&oldest.spent),
+        Some(oldest) => {
+            forest.forget_all(&oldest.spent);
+            outputs.forget_all(&oldest.spent);
+        }
         None => {}
     }
 }

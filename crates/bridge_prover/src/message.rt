@@ -6,14 +6,14 @@ ghost use Rattle.uo_digest.specs.Reading.{IsDigest};
 ghost use Rattle.forest_place.specs.Forest.{InForest};
 ghost use Rattle.forest_model.specs.EntryPlace.{entry_place};
 ghost use Rattle.cache_model.specs.Known.{is_known as is_known_of};
-ghost use Rattle.bridge_forest.specs.State.{is_live};
+ghost use Rattle.live_forest.specs.State.{is_live};
 ghost use Rattle.proof_wire.specs.BlockProof.{message_text};
 ghost use Rattle.bridge_prover.specs.Bridge.{target_of};
 ghost use Rattle.bridge_prover.specs.Judged.{IsDraft, drafted, hashes_unknown};
 
-use bridge_forest::{BatchProof, Forest, Sibling};
 use cache_update::is_known;
 use forest_place::{Place, fixed_position};
+use live_forest::{BatchProof, Forest, Sibling};
 use proof_shape::Survey;
 use proof_wire::{Message, Rests};
 use std::alloc::{AllocError, Global};

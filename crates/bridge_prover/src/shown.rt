@@ -8,9 +8,9 @@ ghost use Rattle.node_rules.specs.Judged.{AreNamed};
 ghost use Rattle.bridge_prover.specs.Shown.{shown_at, shown_all, AreShown, DoHashesStand, IsShownBy};
 
 use block_rules::Outside;
-use bridge_forest::Forest;
 use forest_place::Place;
 use leaf_record::RecordView;
+use live_forest::Forest;
 use output_index::Outputs;
 use proof_shape::Targets;
 use proof_wire::MessageView;

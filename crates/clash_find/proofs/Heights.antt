@@ -9,7 +9,7 @@ use Rattle.forest_place.specs.Forest.{InForest, is_root}
 use Rattle.forest_model.specs.Content.{Tree, leaf, inner, join, content, digest_of}
 use Rattle.forest_model.specs.Standing.{half, climb, tree_at}
 use Rattle.forest_model.proofs.Climbs.{tree_at-left, tree_at-right}
-use Rattle.bridge_forest.specs.State.{leaf_number}
+use Rattle.live_forest.specs.State.{leaf_number}
 use Rattle.output_index.specs.Held.{Held}
 use Rattle.clash_find.specs.Texts.{tree_text, text_at, pair_text, halves_at}
 

@@ -4,8 +4,8 @@ ghost use Rattle.forest_place.specs.Forest.{InForest};
 ghost use Rattle.proof_verify.specs.declared.evaluation.CoveredPlace.{CoveredPlace as Covered};
 ghost use Rattle.clash_find.specs.Searched.{DoRootsAgree};
 
-use bridge_forest::Forest;
 use forest_place::is_root;
+use live_forest::Forest;
 use proof_verify::CoveredPlace;
 use uo_digest::{Digest, Digester};
 

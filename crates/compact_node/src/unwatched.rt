@@ -1,5 +1,5 @@
 //! What a block leaves of a node that watches nothing: its roots alone.
-ghost use Rattle.std.specs.Prelude.{◌≡◌, ◌+◌, ◌*◌, ◌<◌, ◌≤◌, ◌^◌, [], length, map, IfOk, OnOk};
+ghost use Rattle.std.specs.Prelude.{◌≡◌, ◌+◌, ◌*◌, ◌<◌, ◌≤◌, ◌^◌, [], ◌-◌, length, map, take, drop, count_ones, IfOk, OnOk};
 ghost use Rattle.std.specs.Bool.{OnTrue};
 ghost use Rattle.leaf_record.specs.Leaf.{leaf_text};
 ghost use Rattle.leaf_cache.specs.Parted.{HasNothing, HaveSameLists};
@@ -10,11 +10,14 @@ use block_rules::Spends;
 use cache_update::{Mark, unchanged};
 use forest_roots::Roots;
 use leaf_cache::Cache;
-use leaf_record::{LeafBuf, leaf_digests};
+use leaf_record::{LeafBuf, put_leaf_digests};
 use std::alloc::Global;
 use std::sync::ledger::Ledger;
 use uo_base::NoMemory;
 use uo_digest::{Digest, Digester, Steps};
+
+/// The digests of how many new entries are held at a time: enough for rows that are digested side by side, in 32 KB.
+const BATCH: usize = 1024;
 
 // Whether no script is watched, and so nothing is kept or held.
 pub(crate) fn watches_nothing<D>(cache: &Cache<D>) -> bool
@@ -23,18 +26,52 @@ pub(crate) fn watches_nothing<D>(cache: &Cache<D>) -> bool
     cache.watch().scripts() == 0 && cache.kept().is_empty() && cache.seen().held.is_empty()
 }
 
-// Adds entries, in their order.
+// Adds the entries of new records from one on, as many as there is room for digests. How many have been added then.
+fn push_some<D: Digester, L: Ledger>(
+    roots: &mut Roots<D>,
+    room: &mut LeafBuf<D>,
+    spends: &Spends<'_>,
+    from: u64,
+    digests: &mut [Digest],
+    steps: &mut Steps<L>,
+) -> u64
+    requires left { from < length spends.now.new }
+    requires room { 0 < length digests.old }
+    requires few { roots.old.leaves + length spends.now.new < 2 ^ 40 + from }
+    ensures more { from < result }
+    ensures within { result ≤ length spends.now.new }
+    ensures room { length digests.new ≡ length digests.old }
+    ensures roots { roots.new ≡ with_leaves D.digest_of roots.old
+        (map (λ leaf. D.digest_of (leaf_text leaf)) (take (result - from) (drop from spends.now.new))) }
+    ensures steps { steps.new + count_ones roots.new.leaves + 2 * from ≤ steps.old + count_ones roots.old.leaves + 2 * result }
+{
+    let count = (spends.new_count() - from).min(digests.len() as u64);
+    let end = from + count;
+    let outputs = spends.new_outputs_between(from, end);
+    let digests = &mut digests[..count as usize];
+    put_leaf_digests(room, &outputs, digests, steps);
+    roots.push_all(digests, steps);
+    end
+}
+
+// Adds the entries of all new records, in their order.
 fn push_all<D: Digester, L: Ledger>(
     roots: &mut Roots<D>,
-    mut digests: Vec<Digest>,
+    room: &mut LeafBuf<D>,
+    spends: &Spends<'_>,
+    digests: &mut [Digest],
     steps: &mut Steps<L>,
 )
-    requires { roots.old.leaves + length digests.items < 2 ^ 40 }
-    ensures roots { roots.new ≡ with_leaves D.digest_of roots.old digests.items }
-    ensures steps { steps.new ≤ steps.old + length digests.items + 40 }
+    requires room { 0 < length digests.old }
+    requires few { roots.old.leaves + length spends.now.new < 2 ^ 40 }
+    ensures roots { roots.new ≡ with_leaves D.digest_of roots.old (map (λ leaf. D.digest_of (leaf_text leaf)) spends.now.new) }
+    ensures steps { steps.new ≤ steps.old + 2 * length spends.now.new + 40 }
 {
     let _count = roots.leaves();
-    roots.push_all(&mut digests, steps);
+    let mut from = 0;
+    while from < spends.new_count() {
+        from = push_some::<D, L>(roots, room, spends, from, digests, steps);
+    }
 }
 
 /// The roots behind a block, whose new records come: of these none is watched, and nothing is kept or held. The mark gives the cache
@@ -59,9 +96,8 @@ pub(crate) fn grow_unwatched<D: Digester, L: Ledger>(
     ensures held_room { cache.old.parts.held_room ≤ cache.new.parts.held_room }
     ensures steps { steps.new ≤ steps.old + 2 * length spends.now.new + 40 }
 {
-    let outputs = spends.new_outputs();
-    let digests = leaf_digests(alloc, room, &outputs, steps)?;
+    let mut digests = vec![in alloc; Digest([0; 32]); BATCH]?;
     let mark = unchanged(alloc, cache)?;
-    push_all(roots, digests, steps);
+    push_all(roots, room, spends, &mut digests, steps);
     Ok(mark)
 }

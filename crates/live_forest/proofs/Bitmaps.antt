@@ -1,11 +1,13 @@
 -- Sets that are the bits of a number.
-use Rattle.std.proofs.Common.{◌≡◌, ℕ, zero, suc, ◌+◌, ◌-◌, ◌*◌, ◌/◌, ◌%◌, ◌^◌, ◌<◌, ◌≤◌, true, false, refl, sym, ap, ap₂, ◌∙◌, ⊎_elim, arith}
+use Rattle.std.proofs.Common.{◌≡◌, ℕ, zero, suc, ◌+◌, ◌-◌, ◌*◌, ◌/◌, ◌%◌, ◌^◌, ◌<◌, ◌≤◌, true, false, refl, sym, ap, ap₂, ◌∙◌, subst, ⊎_elim}
+use Rattle.std.proofs.Common.{arith}
 use Rattle.std.proofs.Common.{pow-suc, mod-eq_of_lt}
 use Rattle.std.specs.Prelude.{◌==◌, ◌||◌, not, if◌then◌else◌, bit_and, bit_or}
 use Rattle.std.specs.Int.{w128}
 use Rattle.std.proofs.lemmas.Bool.{cases_lt, cases_eq, eq-eqb, ne_eqb, false≢true}
-use Rattle.std.proofs.lemmas.Nat.{pow_pos, shr-shr, mod-pow-add, mod_below, and_le_l, and_mask, ones_cat, ones-le, one_shl}
+use Rattle.std.proofs.lemmas.Nat.{pow_pos, shr-shr, mod-pow-add, mod_below, and_le_l, and_mask, ones_cat, ones-le, one_shl, field_of}
 use Rattle.std.proofs.lemmas.Nat.Bits.{bit_at_set_same, bit_at_set_other, bit_at_clear_same, bit_at_clear_other, bit_at_above, bit_at-zero, ones_shr}
+use Rattle.std.proofs.Math.Pow.{mod-mod-pow}
 use lib.Count.{ones}
 use Rattle.forest_place.specs.Forest.{InForest}
 use Rattle.forest_place.proofs.Slots.{in_forest_iff}
@@ -79,11 +81,11 @@ has_part_is n (suc row) off =
     ∙ either (x % 2 ^ w) (x / 2 ^ w % 2 ^ w) (2 ^ w) (x % 2 ^ 2 ^ suc row) (pow_pos w) whole
 
 -- as the code works it out
-pub part_bits : (x width : ℕ) → width ≤ 128 → bit_and x ((2 ^ 128 - 1) / 2 ^ (128 - width)) ≡ x % 2 ^ width
+pub part_bits : (x width : ℕ) → width ≤ 64 → bit_and x ((2 ^ 64 - 1) / 2 ^ (64 - width)) ≡ x % 2 ^ width
 part_bits x width h =
-    let le : 128 - width ≤ 128 = omega arith in
-    let e : 128 - (128 - width) ≡ width = omega arith in
-    ap (bit_and x) (ones_shr 128 (128 - width) le ∙ ap (λ k. 2 ^ k - 1) e) ∙ and_mask x width
+    let le : 64 - width ≤ 64 = omega arith in
+    let e : 64 - (64 - width) ≡ width = omega arith in
+    ap (bit_and x) (ones_shr 64 (64 - width) le ∙ ap (λ k. 2 ^ k - 1) e) ∙ and_mask x width
 
 pub rank_bits : (n i : ℕ) → i < 128 → ones (bit_and n (1 * 2 ^ i % 2 ^ 128 - 1)) ≡ rank (is_bit n) i
 rank_bits n i h = ap (λ k. ones (bit_and n (k - 1))) (one_shl i 128 h) ∙ ap ones (and_mask n i) ∙ sym (rank_is n i)
@@ -111,17 +113,69 @@ without_is n i few h = record {
 pub part_ends : (row off : ℕ) → row ≤ 7 → InForest 128 row off → (off + 1) * 2 ^ row ≤ 128
 part_ends row off low h = (in_forest_iff 128 row off).0 h
 
-pub has_some_bits : (n row off : ℕ) → row ≤ 7 → InForest 128 row off
-    → not (bit_and (n / 2 ^ (off * 2 ^ row % 2 ^ 64)) ((2 ^ 128 - 1) / 2 ^ (128 - 1 * 2 ^ row % 2 ^ 32)) == 0) ≡ has_part (is_bit n) row off
-has_some_bits n row off low h =
-    let ends = part_ends row off low h in
-    let few : off * 2 ^ row < 2 ^ 64 = omega (arith, ends) in
-    let begin : off * 2 ^ row % 2 ^ 64 ≡ off * 2 ^ row = mod-eq_of_lt few in
-    let lt : row < 32 = omega arith in
+-- the 64 bits among which one is
+pub half_low : (n i : ℕ) → i < 64 → n % 2 ^ 64 ≡ n / 2 ^ (i / 64 * 64) % 2 ^ 64
+half_low n i lt =
+    let none : i / 64 * 64 ≡ 0 = omega (arith, lt) in
+    let whole : n / 1 ≡ n = omega arith in
+    ap (λ x. x % 2 ^ 64) (sym whole) ∙ ap (λ k. n / 2 ^ k % 2 ^ 64) (sym none)
+
+pub half_high : (n i : ℕ) → n < 2 ^ 128 → 64 ≤ i → i < 128 → n / 2 ^ 64 ≡ n / 2 ^ (i / 64 * 64) % 2 ^ 64
+half_high n i few ge lt =
+    let one : i / 64 * 64 ≡ 64 = omega (arith, ge, lt) in
+    sym (mod-eq_of_lt (omega (arith, few))) ∙ ap (λ k. n / 2 ^ k % 2 ^ 64) (sym one)
+
+-- a part of up to 64 numbers is within one half
+pub half_fits : (row off : ℕ) → row < 7 → (off + 1) * 2 ^ row ≤ 128 → off * 2 ^ row % 64 + 2 ^ row ≤ 64
+half_fits zero off low h = omega (arith, h)
+half_fits (suc zero) off low h = omega (arith, h)
+half_fits (suc (suc zero)) off low h = omega (arith, h)
+half_fits (suc (suc (suc zero))) off low h = omega (arith, h)
+half_fits (suc (suc (suc (suc zero)))) off low h = omega (arith, h)
+half_fits (suc (suc (suc (suc (suc zero))))) off low h = omega (arith, h)
+half_fits (suc (suc (suc (suc (suc (suc zero)))))) off low h = omega (arith, h)
+half_fits (suc (suc (suc (suc (suc (suc (suc row))))))) off low h = absurd (omega (arith, low))
+
+-- the lowest bits of a range of 64
+half_bits : (n b w : ℕ) → b + w ≤ 64 → n % 2 ^ 64 / 2 ^ b % 2 ^ w ≡ n / 2 ^ b % 2 ^ w
+half_bits n b w le =
+    let e : 64 - b + b ≡ 64 = omega (arith, le) in
+    let f : 64 - b - w + w ≡ 64 - b = omega (arith, le) in
+    ap (λ k. n % 2 ^ k / 2 ^ b % 2 ^ w) (sym e) ∙ ap (λ x. x % 2 ^ w) (field_of n (64 - b) b)
+    ∙ ap (λ k. n / 2 ^ b % 2 ^ k % 2 ^ w) (sym f) ∙ mod-mod-pow (n / 2 ^ b) (64 - b - w) w
+
+pub has_some_bits : (n row off word : ℕ) → row < 7 → InForest 128 row off
+    → word ≡ n / 2 ^ (off * 2 ^ row % 2 ^ 64 / 64 * 64) % 2 ^ 64
+    → not (bit_and (word / 2 ^ (off * 2 ^ row % 2 ^ 64 % 64)) ((2 ^ 64 - 1) / 2 ^ (64 - 1 * 2 ^ row % 2 ^ 32)) == 0) ≡ has_part (is_bit n) row off
+has_some_bits n row off word low h is =
+    let ends = part_ends row off (omega (arith, low)) h in
+    let start = off * 2 ^ row in
+    let few : start < 2 ^ 64 = omega (arith, ends) in
+    let begin : start % 2 ^ 64 ≡ start = mod-eq_of_lt few in
+    let lt : row < 32 = omega (arith, low) in
     let width : 1 * 2 ^ row % 2 ^ 32 ≡ 2 ^ row = one_shl row 32 lt in
-    let wide : 2 ^ row ≤ 128 = omega (arith, ends) in
-    ap₂ (λ a b. not (bit_and (n / 2 ^ a) ((2 ^ 128 - 1) / 2 ^ (128 - b)) == 0)) begin width
-    ∙ ap (λ x. not (x == 0)) (part_bits (n / 2 ^ (off * 2 ^ row)) (2 ^ row) wide) ∙ sym (has_part_is n row off)
+    let fits = half_fits row off low ends in
+    let wide : 2 ^ row ≤ 64 = omega (arith, fits) in
+    let at : start / 64 * 64 + start % 64 ≡ start = omega arith in
+    let word' : word ≡ n / 2 ^ (start / 64 * 64) % 2 ^ 64 = is ∙ ap (λ k. n / 2 ^ (k / 64 * 64) % 2 ^ 64) begin in
+    ap₂ (λ a b. not (bit_and (word / 2 ^ (a % 64)) ((2 ^ 64 - 1) / 2 ^ (64 - b)) == 0)) begin width
+    ∙ ap (λ x. not (x == 0))
+    (part_bits (word / 2 ^ (start % 64)) (2 ^ row) wide ∙ ap (λ x. x / 2 ^ (start % 64) % 2 ^ 2 ^ row) word'
+    ∙ half_bits (n / 2 ^ (start / 64 * 64)) (start % 64) (2 ^ row) fits
+    ∙ ap (λ x. x % 2 ^ 2 ^ row) (shr-shr n (start / 64 * 64) (start % 64) ∙ ap (λ k. n / 2 ^ k) at))
+    ∙ sym (has_part_is n row off)
+
+-- all 128 bits
+pub all_bits : (n off : ℕ) → n < 2 ^ 128 → InForest 128 7 off → not (n == 0) ≡ has_part (is_bit n) 7 off
+all_bits n off few h =
+    let none : off * 2 ^ 7 ≡ 0 = omega (arith, h) in
+    let whole : n / 1 ≡ n = omega arith in
+    let same : n / 2 ^ (off * 2 ^ 7) % 2 ^ 2 ^ 7 ≡ n = ap (λ k. n / 2 ^ k % 2 ^ 128) none ∙ ap (λ x. x % 2 ^ 128) whole ∙ mod-eq_of_lt few in
+    ap (λ x. not (x == 0)) (sym same) ∙ sym (has_part_is n 7 off)
+
+pub all_bits_of : (n row off : ℕ) → n < 2 ^ 128 → InForest 128 row off → row ≡ 7 → not (n == 0) ≡ has_part (is_bit n) row off
+all_bits_of n row off few h e =
+    all_bits n off few (subst (λ k. InForest 128 k off) e h) ∙ ap (λ k. has_part (is_bit n) k off) (sym e)
 
 -- a number has no bits but its own
 pub last_below : (n number : ℕ) → n < 2 ^ 128 → ((i : ℕ) → i < 128 → is_bit n i ≡ true → i < number) → (i : ℕ) → is_bit n i ≡ true → i < number

@@ -1,10 +1,11 @@
 -- What a forest keeps, from one step to the next.
 use Rattle.std.proofs.Common.{◌≡◌, ℕ, zero, suc, ◌+◌, ◌*◌, ◌^◌, ◌<◌, ◌≤◌, Bool, true, false, refl, sym, ap, ap₂, ◌∙◌, subst, ⊎_elim, arith}
-use Rattle.std.proofs.Common.{List, [], ◌∷◌, ◌++◌, length, get_or, set, take, map, Option, None}
+use Rattle.std.proofs.Common.{List, [], ◌∷◌, ◌++◌, length, get_or, set, take, map, replicate, append_assoc, Option, None}
 use Rattle.std.specs.Prelude.{is_some, option_map}
 use Rattle.std.specs.List.{range_with_len}
 use Rattle.std.proofs.lemmas.Bool.{cases_eq, cases_lt, true≢false, false≢true}
-use Rattle.std.proofs.lemmas.List.{get_or-set_same, get_or-set_other, length-set, length-take-le, get_or-take, ext_get_or, get_or_past}
+use Rattle.std.proofs.lemmas.List.{get_or-set_same, get_or-set_other, length-set, length-take-le, get_or-take, ext_get_or, get_or_past, append-nil}
+use Rattle.std.proofs.lemmas.List.{get_or_append_left, replicate-append-replicate}
 use Rattle.std.proofs.lemmas.List.FromFn.{length-map-range_with_len, get_or-map-range_with_len, take-map-range_with_len, map-range_with_len_more}
 use Rattle.uo_digest.specs.declared.digest.Digest.{Digest}
 use Rattle.forest_model.specs.Content.{content, digest_of, join_digests}
@@ -111,6 +112,17 @@ pub held_more : (count : ℕ) (s : StoreState) → is_listed s.pages count ≡ t
 held_more count s listed =
     map-range_with_len_more (λ i. is_listed s.pages i) 0 count count (omega arith) ∙ ap (λ b. held_of count s ++ b ∷ []) listed
 
+pub held_grown : (count k : ℕ) (s : StoreState) → ((i : ℕ) → count ≤ i → i < count + k → is_listed s.pages i ≡ true)
+    → held_of (count + k) s ≡ held_of count s ++ replicate k true
+held_grown count zero s listed =
+    let e : count + 0 ≡ count = omega arith in ap (λ m. held_of m s) e ∙ sym (append-nil (held_of count s))
+held_grown count (suc k) s listed =
+    let e : count + suc k ≡ count + k + 1 = omega arith in
+    ap (λ m. held_of m s) e ∙ held_more (count + k) s (listed (count + k) (omega arith) (omega arith))
+    ∙ ap (λ l. l ++ true ∷ []) (held_grown count k s (λ i ge lt. listed i ge (omega (arith, lt))))
+    ∙ append_assoc (held_of count s) (replicate k true) (true ∷ [])
+    ∙ ap (λ l. held_of count s ++ l) (replicate-append-replicate k 1 true ∙ ap (λ m. replicate m true) (let z : k + 1 ≡ suc k = omega arith in z))
+
 pub held_cut : (count n : ℕ) (s : StoreState) → n ≤ count → held_of n s ≡ take n (held_of count s)
 held_cut count n s le = sym (take-map-range_with_len (λ i. is_listed s.pages i) 0 count n le)
 
@@ -174,6 +186,29 @@ forest_added H count room s s' x forest few more right same leaves = record {
       (sym (ap is_some (ap (λ l. get_or l i None) leaves ∙ get_or-set_other (leaves_of s) count i x None ne))
       ∙ ap is_some (leaves_of-at s' i (omega (arith, low, more, forest.longer, same.len))) ∙ some))
       (cases_eq i count);
+}
+
+-- entries are added
+pub forest_grown : (H : List ℕ → Digest) (count k room : ℕ) (s s' : StoreState) (more : List (Option Digest)) → IsForest H count room s
+    → count + k < 2 ^ 40 → count + k ≤ room → AreParts H (count + k) (leaves_of s') s' → HasRoomOf s s'
+    → take (count + k) (leaves_of s') ≡ take count (leaves_of s) ++ more → IsForest H (count + k) room s'
+forest_grown H count k room s s' more forest few within right same leaves = record {
+  few = few;
+  room = within;
+  longer = omega (arith, forest.longer, same.len);
+  right = right;
+  free = λ i ge lt. same.listed i ∙ forest.free i (omega (arith, ge)) (omega (arith, lt, same.len));
+  held = λ i lt some.
+      same.listed i ∙ ⊎_elim
+      (λ low.
+      let le : count ≤ s.len = omega (arith, forest.room, forest.longer) in
+      let long = length-entries count s le in
+      let was : stored s' 0 i ≡ stored s 0 i = sym (entry_at (count + k) s' i (omega (arith, within, forest.longer, same.len)) lt)
+      ∙ ap (λ l. get_or l i None) leaves ∙ get_or_append_left (take count (leaves_of s)) more None i (omega (arith, low, long))
+      ∙ entry_at count s i le low in
+      forest.held i low (ap is_some (sym was) ∙ some))
+      (λ high. forest.free i high (omega (arith, lt, within, forest.longer)))
+      (cases_lt i count);
 }
 
 within_more : (m n row off : ℕ) → m ≤ n → InForest m row off → InForest n row off

@@ -10,6 +10,8 @@ pub mod Counting
 pub mod Undoing
 pub mod Filling
 pub mod Refreshing
+pub mod Renewing
+pub mod Growing
 pub mod Lengthening
 pub mod Forgetting
 pub mod Holding

@@ -1,8 +1,8 @@
 -- From parts to what stands at places.
-use Rattle.std.proofs.Common.{◌≡◌, ℕ, zero, suc, ◌+◌, ◌-◌, ◌*◌, ◌/◌, ◌%◌, ◌<◌, ◌≤◌, true, false, List, length, get_or, Option, Some, None, refl, sym}
+use Rattle.std.proofs.Common.{◌≡◌, ℕ, zero, suc, ◌+◌, ◌-◌, ◌*◌, ◌/◌, ◌%◌, ◌<◌, ◌≤◌, Bool, true, false, List, length, get_or, Option, Some, None, refl, sym}
 use Rattle.std.proofs.Common.{ap, ap₂, ◌∙◌, subst, ⊎_elim, ◌⊎◌, inl, inr, arith}
 use Rattle.std.specs.Prelude.{option_map, is_some}
-use Rattle.std.proofs.lemmas.Bool.{true≢false, cases_eq}
+use Rattle.std.proofs.lemmas.Bool.{true≢false, false≢true, cases_eq}
 use Rattle.uo_digest.specs.declared.digest.Digest.{Digest}
 use Rattle.forest_place.specs.declared.place.Place.{Place}
 use Rattle.forest_model.specs.Content.{Tree, leaf, inner, join, content, digest_of}
@@ -19,6 +19,15 @@ use Rattle.live_forest.specs.Stores.{StoreState}
 use Rattle.live_forest.specs.Parts.{AreParts, kept}
 use Rattle.live_forest.specs.Lookups.{AreAlike, IsSmallest, IsPartAt}
 use Rattle.live_forest.proofs.Refreshing.{kept_right}
+
+-- that something is kept is a test
+pub none_of : (b : Bool) (x : Option Digest) → b ≡ is_some x → b ≡ false → None ≡ x
+none_of b None e no = refl
+none_of b (Some d) e no = absurd (false≢true (sym no ∙ e))
+
+pub some_of : (b : Bool) (x : Option Digest) → b ≡ is_some x → b ≡ true → (d : Digest) × (Some d ≡ x)
+some_of b None e yes = absurd (true≢false (sym yes ∙ e))
+some_of b (Some d) e yes = (d, refl)
 
 pub joined-none : (x : Option Tree) → join x None ≡ x
 joined-none None = refl

@@ -8,5 +8,6 @@ pub mod Sets
 pub mod Pages
 pub mod Stores
 pub mod Parts
+pub mod Rows
 pub mod Lookups
 pub mod Holding

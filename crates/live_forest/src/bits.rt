@@ -1,5 +1,5 @@
 //! A set of numbers below 128, as the bits of a number.
-ghost use Rattle.std.specs.Prelude.{◌≡◌, ◌≢◌, ℕ, ◌+◌, ◌/◌, ◌%◌, ◌^◌, ◌<◌, ◌≤◌, true, false};
+ghost use Rattle.std.specs.Prelude.{◌≡◌, ◌≢◌, ℕ, ◌+◌, ◌*◌, ◌/◌, ◌%◌, ◌^◌, ◌<◌, ◌≤◌, true, false};
 ghost use Rattle.forest_place.specs.Forest.{InForest};
 ghost use Rattle.live_forest.specs.Sets.{is_bit, has_part, rank as rank_of, IsWith, IsWithout};
 
@@ -11,15 +11,30 @@ pub(crate) fn has(bits: u128, number: u64) -> bool
     (bits >> number) % 2 == 1
 }
 
+// The bits of the 64 numbers among which one is.
+fn half_of(bits: u128, number: u64) -> u64
+    requires { number < 128 }
+    ensures { result ≡ bits / 2 ^ (number / 64 * 64) % 2 ^ 64 }
+{
+    if number < 64 {
+        (bits % (1 << 64)) as u64
+    } else {
+        (bits >> 64) as u64
+    }
+}
+
 /// Whether the set has one of the 2^row numbers from off * 2^row on.
 pub(crate) fn has_some(bits: u128, row: u8, off: u64) -> bool
     requires row { row ≤ 7 }
     requires within { InForest 128 row off }
     ensures { result ≡ has_part (is_bit bits) row off }
 {
-    let width: u32 = 1 << row;
+    if row == 7 {
+        return bits != 0;
+    }
     let start = off << row;
-    (bits >> start) & (u128::MAX >> (128 - width)) != 0
+    let width: u32 = 1 << row;
+    (half_of(bits, start) >> (start % 64)) & (u64::MAX >> (64 - width)) != 0
 }
 
 /// How many numbers below one the set has.

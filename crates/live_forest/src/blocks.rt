@@ -9,20 +9,6 @@ use std::sync::ledger::Ledger;
 use uo_digest::{Digest, Digester, Steps};
 
 impl<D: Digester> Forest<D> {
-    /// Adds live entries.
-    pub fn add_all<L: Ledger>(&mut self, added: &[Digest], steps: &mut Steps<L>)
-        requires room { length added.now ≤ self.old.spare }
-        requires few { length self.old.entries + length added.now < 2 ^ 40 }
-        ensures entries { self.new.entries ≡ self.old.entries ++ map Some added.now }
-        ensures held { self.new.held ≡ self.old.held ++ map (λ _. true) added.now }
-        ensures spare { self.new.spare + length added.now ≡ self.old.spare }
-        ensures steps { steps.new ≤ steps.old + length added.now + 40 }
-    {
-        for digest in added {
-            let _ = self.add(*digest, steps);
-        }
-    }
-
     /// Makes the changes of a block: spends entries, and then adds some. Of rising numbers each part is digested once.
     pub fn apply_block<L: Ledger>(&mut self, spent: &[u64], added: &[Digest], steps: &mut Steps<L>)
         requires live { All (λ i. is_live self.old.entries i ≡ true) spent.now }

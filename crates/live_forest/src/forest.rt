@@ -15,8 +15,10 @@ ghost use Rattle.live_forest.specs.Proving.{proof_of};
 ghost use Rattle.live_forest.specs.State.{is_live, is_held, addition_steps, leaf_number};
 
 use crate::batch::BatchProof;
+use crate::emptying::empty_all;
+use crate::growth::put_all;
 use crate::proving::proof_of_entries;
-use crate::refresh::{empty_all, put, put_next};
+use crate::refresh::{put, put_next};
 use crate::seek::{digest_of_place, number_of_place, place_from};
 use crate::store::Store;
 use crate::walk::digests_of_places;
@@ -109,7 +111,7 @@ impl<D: Digester> Forest<D> {
     pub fn live(&self, number: u64) -> bool
         ensures { result ≡ is_live self.now.entries number }
     {
-        number < self.count && self.store.part(self.count, 0, number).is_some()
+        number < self.count && self.store.has(self.count, 0, number)
     }
 
     /// Whether an entry is held: it is live, or can be made live again.
@@ -138,6 +140,19 @@ impl<D: Digester> Forest<D> {
         put_next::<D, L>(&mut self.store, number, digest, steps);
         self.count += 1;
         number
+    }
+
+    /// Adds live entries. The parts that they make whole are made row by row.
+    pub fn add_all<L: Ledger>(&mut self, added: &[Digest], steps: &mut Steps<L>)
+        requires room { length added.now ≤ self.old.spare }
+        requires few { length self.old.entries + length added.now < 2 ^ 40 }
+        ensures entries { self.new.entries ≡ self.old.entries ++ map Some added.now }
+        ensures held { self.new.held ≡ self.old.held ++ map (λ _. true) added.now }
+        ensures spare { self.new.spare + length added.now ≡ self.old.spare }
+        ensures steps { steps.new ≤ steps.old + length added.now + 40 }
+    {
+        put_all::<D, L>(&mut self.store, self.count, added, steps);
+        self.count += added.len() as u64;
     }
 
     /// Spends a live entry.

@@ -7,8 +7,23 @@ ghost use Rattle.live_forest.specs.Pages.{IsLeast, middle as middle_of, IsBranch
 use crate::bits::has_some;
 use forest_place::{Place, sibling};
 
-/// The smallest part that has the same listed numbers.
+/// The smallest part that has the same listed numbers. Mostly that is the part itself.
 pub(crate) fn least(listed: u128, row: u8, off: u64) -> Place
+    requires row { row ≤ 7 }
+    requires within { InForest 128 row off }
+    ensures { IsLeast (is_bit listed) row off result }
+{
+    if row == 0 {
+        return Place { row, off };
+    }
+    if is_branch(listed, row - 1, off) {
+        return Place { row, off };
+    }
+    least_beneath(listed, row, off)
+}
+
+// The same on a way down.
+fn least_beneath(listed: u128, row: u8, off: u64) -> Place
     requires row { row ≤ 7 }
     requires within { InForest 128 row off }
     ensures { IsLeast (is_bit listed) row off result }
@@ -19,9 +34,9 @@ pub(crate) fn least(listed: u128, row: u8, off: u64) -> Place
     let left = has_some(listed, row - 1, 2 * off);
     let right = has_some(listed, row - 1, 2 * off + 1);
     if !left {
-        least(listed, row - 1, 2 * off + 1)
+        least_beneath(listed, row - 1, 2 * off + 1)
     } else if !right {
-        least(listed, row - 1, 2 * off)
+        least_beneath(listed, row - 1, 2 * off)
     } else {
         Place { row, off }
     }

@@ -7,7 +7,8 @@
 //!   bytes: the digest of the entry, and that of the one part whose halves meet between it and the listed entry before it. So a part is found by
 //!   counting bits, and a page of k listed entries takes 64 + 64 k bytes.
 //! - `store`: all pages, and a list of the digests of the parts of several pages, of 33 bytes a page.
-//! - `refresh`: an entry is written, and the parts above it are made right.
+//! - `refresh`: an entry is written, and the parts above it are made right. `emptying` and `growth` write several, and then go row by row, where
+//!   many parts are digested side by side (`waiting`).
 //! - `seen`, `seek`, `walk`, `proving`: what stands at a place, and what proves entries. They ask the store what it keeps for a part.
 //! - `forest` and `blocks`: [`Forest`], which is seen as the list of all entries.
 //!
@@ -18,7 +19,9 @@ mod batch;
 mod bits;
 mod blocks;
 mod cell;
+mod emptying;
 mod forest;
+mod growth;
 mod laws;
 mod least;
 mod page;
@@ -27,6 +30,7 @@ mod refresh;
 mod seek;
 mod seen;
 mod store;
+mod waiting;
 mod walk;
 
 pub use batch::{BatchProof, Sibling};

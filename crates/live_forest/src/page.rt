@@ -98,6 +98,15 @@ impl Page {
         has(self.listed, number)
     }
 
+    /// Whether something is kept for a part.
+    pub fn has(&self, row: u8, off: u64) -> bool
+        requires row { row ≤ 7 }
+        requires within { InForest 128 row off }
+        ensures { result ≡ is_some (told self.now row off) }
+    {
+        has_some(self.live, row, off)
+    }
+
     /// What is kept for a part.
     pub fn part(&self, row: u8, off: u64) -> Option<Digest>
         requires row { row ≤ 7 }

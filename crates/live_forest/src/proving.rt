@@ -17,7 +17,7 @@ ghost use Rattle.live_forest.specs.State.{is_live};
 
 use crate::batch::{BatchProof, Sibling};
 use crate::seek::child;
-use crate::seen::part_in;
+use crate::seen::{has_in, part_in};
 use crate::store::Store;
 use forest_place::{Place, children, sibling};
 use smallvec::SmallVec;
@@ -234,18 +234,18 @@ fn descend<D: Digester>(
         return push_each(places, place, numbers);
     }
     let (left, right) = children(part);
-    match part_in(store, n, left.row, left.off) {
-        None => descend::<D>(store, n, right, place, numbers, rows, places),
-        Some(_) => match part_in(store, n, right.row, right.off) {
-            None => descend::<D>(store, n, left, place, numbers, rows, places),
-            Some(_) => {
-                let (low, high) = numbers.split_at(count_upto(numbers, left.row, left.off));
-                let (below_left, below_right) = children(place);
-                descend::<D>(store, n, left, below_left, low, rows, places)?;
-                descend::<D>(store, n, right, below_right, high, rows, places)
-            }
-        },
+    let on_left = has_in(store, n, left.row, left.off);
+    if !on_left {
+        return descend::<D>(store, n, right, place, numbers, rows, places);
     }
+    let on_right = has_in(store, n, right.row, right.off);
+    if !on_right {
+        return descend::<D>(store, n, left, place, numbers, rows, places);
+    }
+    let (low, high) = numbers.split_at(count_upto(numbers, left.row, left.off));
+    let (below_left, below_right) = children(place);
+    descend::<D>(store, n, left, below_left, low, rows, places)?;
+    descend::<D>(store, n, right, below_right, high, rows, places)
 }
 
 // Goes down from the root of a row, if it has one and some of these numbers, and answers the numbers behind them.

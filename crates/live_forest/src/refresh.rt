@@ -199,38 +199,6 @@ pub(crate) fn put<D: Digester, L: Ledger>(
     write::<D, L>(store, n, number, n, entry, &mut siblings, steps);
 }
 
-// The number at an index, and n behind the last one.
-fn number_at(numbers: &[u64], i: usize, n: u64) -> u64
-    ensures { result ≡ get_or numbers.now i n }
-{
-    if i < numbers.len() { numbers[i] } else { n }
-}
-
-/// Empties entries, one after the other. Each time the parts above are made right as far as they have not the next one too, which goes
-/// on from there: so of rising numbers a part above several is digested once.
-pub(crate) fn empty_all<D: Digester, L: Ledger>(
-    store: &mut Store,
-    n: u64,
-    numbers: &[u64],
-    steps: &mut Steps<L>,
-)
-    requires small { n < 2 ^ 40 }
-    requires room { n ≤ store.old.len }
-    requires given { All (λ i. i < n) numbers.now }
-    requires listed { All (λ i. is_listed store.old.pages i ≡ true) numbers.now }
-    requires right { AreParts D.digest_of n (leaves_of store.old) store.old }
-    ensures leaves { leaves_of store.new ≡ entries_without numbers.now (leaves_of store.old) }
-    ensures right { AreParts D.digest_of n (leaves_of store.new) store.new }
-    ensures room { HasRoomOf store.old store.new }
-    ensures cost { steps.new ≤ steps.old + length numbers.now * rows_of n }
-{
-    let mut siblings = [None; 40];
-    for i in 0..numbers.len() {
-        let next = number_at(numbers, i + 1, n);
-        write::<D, L>(store, n, numbers[i], next, None, &mut siblings, steps);
-    }
-}
-
 /// Writes the entry after the first n.
 pub(crate) fn put_next<D: Digester, L: Ledger>(
     store: &mut Store,

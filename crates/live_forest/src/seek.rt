@@ -8,7 +8,7 @@ ghost use Rattle.live_forest.specs.Lookups.{AreAlike, IsSmallest, IsPartAt};
 ghost use Rattle.live_forest.specs.State.{leaf_number};
 ghost use Rattle.live_forest.specs.Parts.{entries_in, kept, AreParts};
 
-use crate::seen::{is_root, is_within, part_in};
+use crate::seen::{has_in, is_root, is_within, part_in};
 use crate::store::Store;
 use forest_place::{Place, sibling};
 use uo_digest::{Digest, Digester};
@@ -24,13 +24,15 @@ pub(crate) fn smallest(store: &Store, n: u64, row: u8, off: u64) -> Place
     if row == 0 {
         return Place { row, off };
     }
-    match part_in(store, n, row - 1, 2 * off) {
-        None => smallest(store, n, row - 1, 2 * off + 1),
-        Some(_) => match part_in(store, n, row - 1, 2 * off + 1) {
-            None => smallest(store, n, row - 1, 2 * off),
-            Some(_) => Place { row, off },
-        },
+    let on_left = has_in(store, n, row - 1, 2 * off);
+    if !on_left {
+        return smallest(store, n, row - 1, 2 * off + 1);
     }
+    let on_right = has_in(store, n, row - 1, 2 * off + 1);
+    if !on_right {
+        return smallest(store, n, row - 1, 2 * off);
+    }
+    Place { row, off }
 }
 
 // The part whose tree stands at a place: goes up to the slot's root, and takes the halves on the way back.
@@ -42,10 +44,11 @@ pub(crate) fn part_at(store: &Store, n: u64, row: u8, off: u64) -> Option<Place>
     ensures { MatchOption result (tree_at (entries_in n store.now) row off ≡ None) (λ p. IsPartAt (entries_in n store.now) row off p) }
 {
     if is_root(store, n, Place { row, off }) {
-        match part_in(store, n, row, off) {
-            None => None,
-            Some(_) => Some(Place { row, off }),
+        let some = has_in(store, n, row, off);
+        if !some {
+            return None;
         }
+        Some(Place { row, off })
     } else {
         match part_at(store, n, row + 1, off / 2) {
             None => None,
@@ -115,7 +118,7 @@ fn has_sibling(store: &Store, n: u64, part: Place) -> bool
     ensures { result ≡ is_some (kept (entries_in n store.now) store.now part.row (sibling_off part.off)) }
 {
     let other = sibling(part);
-    part_in(store, n, other.row, other.off).is_some()
+    has_in(store, n, other.row, other.off)
 }
 
 // The place at which the tree of a part stands. On the way up no read waits for another.

@@ -1,5 +1,5 @@
 //! What is kept for all parts of the entries.
-ghost use Rattle.std.specs.Prelude.{◌≡◌, ◌≢◌, ℕ, suc, ◌+◌, ◌-◌, ◌*◌, ◌/◌, ◌%◌, ◌^◌, ◌<◌, ◌≤◌, [], length, get_or, set, None, true, OnOk, OnErr, max};
+ghost use Rattle.std.specs.Prelude.{◌≡◌, ◌≢◌, ℕ, suc, ◌+◌, ◌-◌, ◌*◌, ◌/◌, ◌%◌, ◌^◌, ◌<◌, ◌≤◌, [], length, get_or, set, None, true, is_some, OnOk, OnErr, max};
 ghost use Rattle.forest_place.specs.Forest.{InForest};
 ghost use Rattle.live_forest.specs.Pages.{IsOfHalves};
 ghost use Rattle.live_forest.specs.Stores.{seam as seam_of, stored, paged, is_listed, IsEntryKept, IsPartKept, HasRoomOf};
@@ -103,6 +103,21 @@ impl Store {
         ensures { result ≡ self.now.len }
     {
         self.len
+    }
+
+    /// Whether something is kept for a part of those that `n` entries have.
+    pub fn has(&self, n: u64, row: u8, off: u64) -> bool
+        requires small { n < 2 ^ 40 }
+        requires room { n ≤ self.now.len }
+        requires within { InForest n row off }
+        ensures { result ≡ is_some (stored self.now row off) }
+    {
+        if row <= PAGE_ROW {
+            let rows = PAGE_ROW - row;
+            self.pages[(off >> rows) as usize].has(row, off % (1 << rows))
+        } else {
+            self.high[seam(row - PAGE_ROW - 1, off)].is_some()
+        }
     }
 
     /// What is kept for a part of those that `n` entries have.

@@ -1,5 +1,5 @@
 -- How many entries stand, and room for their cells.
-use Rattle.std.proofs.Common.{◌≡◌, ℕ, zero, suc, ◌+◌, ◌≤◌, List, [], ◌∷◌, length, set, Option, Some, None, refl, arith}
+use Rattle.std.proofs.Common.{◌≡◌, ℕ, zero, suc, ◌+◌, List, [], ◌∷◌, length, set, Option, Some, None, refl, arith}
 use Rattle.std.specs.Prelude.{slice_get, IsSome}
 use Rattle.std.proofs.lemmas.Bool.{false≢true}
 use Rattle.std.proofs.lemmas.List.{length-map}
@@ -7,12 +7,6 @@ use Rattle.std.proofs.lemmas.Option.{none-some, same_Some}
 use Rattle.output_index.specs.declared.entry.Entry.{Entry}
 use Rattle.output_index.specs.Chains.{entry_at, entries_from, changed, changed_at}
 use Rattle.output_index.proofs.Numbered.{stands-at}
-
--- no more than have a place
-pub count-few : (k : ℕ) (xs : List (Option Entry)) → length (entries_from k xs) ≤ length xs
-count-few k [] = omega arith
-count-few k (None ∷ xs) = let r = count-few (suc k) xs in omega (arith, r)
-count-few k (Some e ∷ xs) = let r = count-few (suc k) xs in omega (arith, r)
 
 cleared-from : (k n : ℕ) (e : Entry) (xs : List (Option Entry)) → slice_get xs n ≡ Some (Some e)
     → length (entries_from k (set xs n None)) + 1 ≡ length (entries_from k xs)

@@ -1,8 +1,8 @@
 -- Entries that stand each at its number.
-use Rattle.std.proofs.Common.{◌≡◌, ◌≢◌, ℕ, zero, suc, ◌+◌, ◌<◌, ◌≤◌, List, [], ◌∷◌, ◌++◌, Option, Some, None, set, get_or, take, length, refl, sym}
+use Rattle.std.proofs.Common.{◌≡◌, ◌≢◌, ℕ, zero, suc, ◌+◌, ◌<◌, ◌≤◌, List, [], ◌∷◌, ◌++◌, Option, Some, None, set, get_or, length, refl, sym}
 use Rattle.std.proofs.Common.{ap, ◌∙◌, subst, ap₂, arith}
 use Rattle.std.proofs.lemmas.Bool.{false≢true}
-use Rattle.std.proofs.lemmas.Option.{none-some, same_Some, slice_get_within, slice_get_read, slice_get_past}
+use Rattle.std.proofs.lemmas.Option.{none-some, same_Some, slice_get_within, slice_get_read}
 use Rattle.std.specs.Prelude.{slice_get, IsSome}
 use Rattle.std.specs.List.{AllByRecursion}
 use Rattle.output_index.specs.declared.entry.Entry.{Entry}
@@ -53,17 +53,6 @@ stands-within n xs h = by_case (entry_at n (entries_from 0 xs)) refl h
     by_case None q h = absurd (false≢true h)
     by_case (Some e) q h = slice_get_within xs n (Some e) (stands-at n e xs q)
 
--- what is read there
-pub read-at : (n : ℕ) (x : Option Entry) (xs : List (Option Entry)) → n < length xs → x ≡ get_or xs n x → entry_at n (entries_from 0 xs) ≡ x
-read-at n x xs l h = at-zero n xs ∙ ap standing (slice_get_read xs (length xs) n x refl l h)
-
-pub none-past : (n : ℕ) (xs : List (Option Entry)) → length xs ≤ n → entry_at n (entries_from 0 xs) ≡ None
-none-past n xs l = at-zero n xs ∙ ap standing (slice_get_past xs n l)
-
--- what is read where an entry is found is an entry
-pub read-some : (n : ℕ) (x : Option Entry) (xs : List (Option Entry)) → IsSome (entry_at n (entries_from 0 xs)) → x ≡ get_or xs n x → IsSome x
-read-some n x xs h r = subst IsSome (read-at n x xs (stands-within n xs h) r) h
-
 changed_none : (n : ℕ) (f : Entry → Entry) (es : List (ℕ × Entry)) → AllByRecursion (λ y. y.0 ≢ n) es → changed n f es ≡ es
 changed_none n f [] h = refl
 changed_none n f (x ∷ es) h = ap (λ y. y ∷ changed n f es) (changed-there n f x h.0) ∙ ap (λ ys. x ∷ ys) (changed_none n f es h.1)
@@ -109,33 +98,34 @@ cleared-from k (suc n) (Some d ∷ xs) =
 pub cleared-there : (n : ℕ) (xs : List (Option Entry)) → entries_from 0 (set xs n None) ≡ removed n (entries_from 0 xs)
 cleared-there n xs = cleared-from 0 n xs ∙ ap (λ j. removed j (entries_from 0 xs)) (omega arith)
 
--- a front that has all of them
+-- where all numbers are below the first there is none
 nothing-below : (k n : ℕ) (xs : List (Option Entry)) → n ≤ k → AllByRecursion (λ x. x.0 < n) (entries_from k xs) → [] ≡ entries_from k xs
 nothing-below k n [] l h = refl
 nothing-below k n (None ∷ xs) l h = nothing-below (suc k) n xs (omega (arith, l)) h
 nothing-below k n (Some d ∷ xs) l h = absurd (let b = h.0 in omega (arith, l, b))
 
-front-from : (k n : ℕ) (xs : List (Option Entry)) → AllByRecursion (λ x. x.0 < k + n) (entries_from k xs)
-    → entries_from k (take n xs) ≡ entries_from k xs
-front-from k zero xs h = nothing-below k (k + zero) xs (omega arith) h
-front-from k (suc n) [] h = refl
-front-from k (suc n) (None ∷ xs) h = front-from (suc k) n xs (subst (λ j. AllByRecursion (λ x. x.0 < j) (entries_from (suc k) xs)) (omega arith) h)
-front-from k (suc n) (Some d ∷ xs) h = ap (λ es. (k, d) ∷ es)
-    (front-from (suc k) n xs (subst (λ j. AllByRecursion (λ x. x.0 < j) (entries_from (suc k) xs)) (omega arith) h.1))
+-- one more behind all of them
+set-last : (k n : ℕ) (e : Entry) (xs : List (Option Entry)) → n < length xs → AllByRecursion (λ x. x.0 < k + n) (entries_from k xs)
+    → entries_from k (set xs n (Some e)) ≡ entries_from k xs ++ (k + n, e) ∷ []
+set-last k n e [] within h = absurd (omega (arith, within))
+set-last k zero e (Some d ∷ xs) within h = absurd (let b = h.0 in omega (arith, b))
+set-last k zero e (None ∷ xs) within h =
+    let none : [] ≡ entries_from (suc k) xs = nothing-below (suc k) (k + 0) xs (omega arith) h in
+    let at : k ≡ k + 0 = omega arith in
+    subst (λ (es : List (ℕ × Entry)). (k, e) ∷ es ≡ es ++ (k + 0, e) ∷ []) none (ap (λ j. let y : List (ℕ × Entry) = (j, e) ∷ [] in y) at)
+set-last k (suc n) e (None ∷ xs) within h =
+    let at : suc k + n ≡ k + suc n = omega arith in
+    set-last (suc k) n e xs (omega (arith, within)) (subst (λ j. AllByRecursion (λ x. x.0 < j) (entries_from (suc k) xs)) (sym at) h)
+    ∙ ap (λ j. entries_from (suc k) xs ++ (j, e) ∷ []) at
+set-last k (suc n) e (Some d ∷ xs) within h =
+    let at : suc k + n ≡ k + suc n = omega arith in
+    ap (λ es. (k, d) ∷ es)
+    (set-last (suc k) n e xs (omega (arith, within)) (subst (λ j. AllByRecursion (λ x. x.0 < j) (entries_from (suc k) xs)) (sym at) h.1)
+    ∙ ap (λ j. entries_from (suc k) xs ++ (j, e) ∷ []) at)
 
-pub front-there : (n : ℕ) (xs : List (Option Entry)) → AllByRecursion (λ x. x.0 < n) (entries_from 0 xs)
-    → entries_from 0 (take n xs) ≡ entries_from 0 xs
-front-there n xs h = front-from 0 n xs (subst (λ j. AllByRecursion (λ x. x.0 < j) (entries_from 0 xs)) (omega arith) h)
-
-pub none-behind : (k : ℕ) (xs : List (Option Entry)) → entries_from k (xs ++ None ∷ []) ≡ entries_from k xs
-none-behind k [] = refl
-none-behind k (None ∷ xs) = none-behind (suc k) xs
-none-behind k (Some e ∷ xs) = ap (λ es. (k, e) ∷ es) (none-behind (suc k) xs)
-
-one-behind : (k : ℕ) (e : Entry) (xs : List (Option Entry)) → entries_from k (xs ++ Some e ∷ []) ≡ entries_from k xs ++ (k + length xs, e) ∷ []
-one-behind k e [] = ap (λ j. (j, e) ∷ []) (omega arith)
-one-behind k e (None ∷ xs) = one-behind (suc k) e xs ∙ ap (λ j. entries_from (suc k) xs ++ (j, e) ∷ []) (omega arith)
-one-behind k e (Some d ∷ xs) = ap (λ es. (k, d) ∷ es) (one-behind (suc k) e xs ∙ ap (λ j. entries_from (suc k) xs ++ (j, e) ∷ []) (omega arith))
-
-pub one-there : (n : ℕ) (e : Entry) (xs : List (Option Entry)) → length xs ≡ n → entries_from 0 (xs ++ Some e ∷ []) ≡ entries_from 0 xs ++ (n, e) ∷ []
-one-there n e xs l = one-behind 0 e xs ∙ ap (λ j. entries_from 0 xs ++ (j, e) ∷ []) (omega (arith, l))
+pub last-there : (n : ℕ) (e : Entry) (xs : List (Option Entry)) → n < length xs → AllByRecursion (λ x. x.0 < n) (entries_from 0 xs)
+    → entries_from 0 (set xs n (Some e)) ≡ entries_from 0 xs ++ (n, e) ∷ []
+last-there n e xs within h =
+    let at : n ≡ 0 + n = omega arith in
+    set-last 0 n e xs within (subst (λ j. AllByRecursion (λ x. x.0 < j) (entries_from 0 xs)) at h)
+    ∙ ap (λ j. entries_from 0 xs ++ (j, e) ∷ []) (sym at)

@@ -1,24 +1,26 @@
 //! The entries by their numbers.
-ghost use Rattle.std.specs.Prelude.{◌≡◌, ◌<◌, ◌≤◌, ◌+◌, ◌^◌, ◌++◌, [], ◌∷◌, length, true, Some, None, IfOk, OnOk, OnErr, IsSome, option_map, vec_len};
-ghost use Rattle.std.specs.Prelude.{vec_capacity};
+ghost use Rattle.std.specs.Prelude.{◌≡◌, ◌<◌, ◌≤◌, ◌+◌, ◌/◌, ◌^◌, ◌++◌, [], ◌∷◌, length, true, Some, None, IfOk};
+ghost use Rattle.std.specs.Prelude.{OnOk, OnErr, IsSome, option_map, vec_len, vec_capacity};
 ghost use Rattle.std.specs.List.{AllByRecursion};
 ghost use Rattle.output_index.specs.Chains.{entry_at, lives_in, changed, removed, set_live, set_older, entries_from};
+ghost use Rattle.output_index.specs.Pages.{row_of, ArePages};
 
 use crate::entry::{Entry, Slot};
+use crate::page::Page;
 use leaf_record::RecordView;
-use std::alloc::Global;
+use std::alloc::{AllocError, Global};
 use std::marker::Model;
 use uo_base::NoMemory;
 
-/// The entries, each at its number, so that none is searched for. Numbers are those of a forest's entries, which come in a row; each
-/// takes sixteen bytes, also where nothing is held any more.
+/// The entries, each at its number, so that none is searched for. Numbers are those of a forest's entries, which come in a row. They lie in
+/// pages of 256, each of 56 bytes and 8 for each entry that is held, so a number of which nothing is held any more takes a fifth of a byte.
 ///
 /// The cells of entries that were taken out are kept for the next ones, so that a block which spends as many outputs as it makes asks
-/// for no memory here. A new cell is made only where none is spare, so there are never more, held and spare, than the most entries that
+/// for no cell here. A new cell is made only where none is spare, so there are never more, held and spare, than the most entries that
 /// were held at once. For each cell that is made there is made room among the spare ones too, so to take out an entry takes no memory.
 #[derive(Drop)]
 pub(crate) struct Entries {
-    slots: Vec<Option<Slot>>,
+    pages: Vec<Page>,
     held: usize,
     spare: Vec<Slot>,
 }
@@ -27,13 +29,14 @@ impl Model for Entries {
     ghost use Rattle.std.specs.Prelude.{ℕ, List, vec_len, vec_capacity};
     ghost use Rattle.output_index.specs.declared.entry.Entry.{Entry};
     ghost use Rattle.output_index.specs.Chains.{entries_from};
-    ghost use Rattle.output_index.specs.Spare.{CanKeepAll};
+    ghost use Rattle.output_index.specs.Pages.{row_of};
+    ghost use Rattle.output_index.specs.Spare.{AreEntries};
 
     ghost Value = { List (ℕ × Entry) };
 
-    ghost view = { λ s. entries_from 0 s.slots.items };
+    ghost view = { λ s. entries_from 0 (row_of s.pages.items) };
 
-    ghost invariant = { λ s. CanKeepAll (entries_from 0 s.slots.items) s.held (vec_len s.spare) (vec_capacity s.spare) };
+    ghost invariant = { λ s. AreEntries s.pages.items s.held (vec_len s.spare) (vec_capacity s.spare) };
 }
 
 impl Entries {
@@ -42,7 +45,7 @@ impl Entries {
         ensures { result ≡ [] }
     {
         Entries {
-            slots: Vec::new(alloc),
+            pages: Vec::new(alloc),
             held: 0,
             spare: Vec::new(alloc),
         }
@@ -52,9 +55,8 @@ impl Entries {
     pub fn get(&self, number: u64) -> Option<&Entry>
         ensures { option_map (λ entry. entry.now) result ≡ entry_at number self.now }
     {
-        match self.slots.get(number as usize) {
-            Some(Some(slot)) => Some(slot.entry()),
-            Some(None) => None,
+        match self.pages.get(page_of(number)) {
+            Some(page) => page.get(number % 256),
             None => None,
         }
     }
@@ -85,10 +87,8 @@ impl Entries {
         requires { IsSome (entry_at number self.old) }
         ensures { self.new ≡ changed number (set_live live) self.old }
     {
-        let Some(slot) = &mut self.slots[number as usize] else {
-            unreachable!()
-        };
-        slot.set_live(live);
+        let page = &mut self.pages[page_of(number)];
+        page.set_live(number % 256, live);
     }
 
     /// The entry tells this older one from now on.
@@ -96,10 +96,8 @@ impl Entries {
         requires { IsSome (entry_at number self.old) }
         ensures { self.new ≡ changed number (set_older older) self.old }
     {
-        let Some(slot) = &mut self.slots[number as usize] else {
-            unreachable!()
-        };
-        slot.set_older(older);
+        let page = &mut self.pages[page_of(number)];
+        page.set_older(number % 256, older);
     }
 
     /// Puts an output at its number, which is above those of all others. It is live and tells no older one.
@@ -108,10 +106,10 @@ impl Entries {
         ensures ok { OnOk result (self.new ≡ self.old ++ (number, record { leaf = leaf.now; live = true; older = None }) ∷ []) }
         ensures err { OnErr result (self.new ≡ self.old) }
     {
-        end_at(&mut self.slots, number as usize)?;
-        self.slots.reserve(1)?;
+        have_page(&mut self.pages, page_of(number), alloc)?;
         let slot = cell(&mut self.spare, self.held, alloc, leaf)?;
-        self.slots.push_reserved(Some(slot));
+        let page = &mut self.pages[page_of(number)];
+        page.put(number % 256, slot)?;
         self.held += 1;
         Ok(())
     }
@@ -121,9 +119,8 @@ impl Entries {
         requires { IsSome (entry_at number self.old) }
         ensures { self.new ≡ removed number self.old }
     {
-        let Some(mut slot) = self.slots[number as usize].take() else {
-            unreachable!()
-        };
+        let page = &mut self.pages[page_of(number)];
+        let mut slot = page.take(number % 256);
         slot.clear_script();
         self.spare.push_reserved(slot);
         self.held -= 1;
@@ -156,16 +153,22 @@ fn cell(
     }
 }
 
-/// Nothing stands from this number on, and so the next one comes there.
-fn end_at(slots: &mut Vec<Option<Slot>>, number: usize) -> Result<(), NoMemory>
-    requires { AllByRecursion (λ x. x.0 < number) (entries_from 0 slots.old.items) }
-    ensures same { entries_from 0 slots.new.items ≡ entries_from 0 slots.old.items }
-    ensures len { OnOk result (length slots.new.items ≡ number) }
+/// The page that a number is in.
+fn page_of(number: u64) -> usize
+    ensures { result ≡ number / 256 }
 {
-    slots.truncate(number);
-    slots.reserve(number - slots.len())?;
-    for _ in slots.len()..number {
-        slots.push(None)?;
+    (number / 256) as usize
+}
+
+/// Makes the pages up to one, as far as they are not there.
+fn have_page(pages: &mut Vec<Page>, at: usize, alloc: Global) -> Result<(), AllocError>
+    requires { ArePages pages.old.items }
+    ensures same { entries_from 0 (row_of pages.new.items) ≡ entries_from 0 (row_of pages.old.items) }
+    ensures pages { ArePages pages.new.items }
+    ensures ok { OnOk result (at < length pages.new.items) }
+{
+    'pages: while pages.len() <= at {
+        pages.push(Page::new(alloc))?;
     }
     Ok(())
 }

@@ -3,10 +3,10 @@ ghost use Rattle.std.specs.Prelude.{◌≡◌, ◌<◌};
 
 use crate::tests::spending::{block_for, both};
 use crate::tests::{clash_in, grow, spell};
-use bridge_forest::Forest;
 use clash_find::Clash;
 use forest_place::Place;
 use leaf_record::leaf_text;
+use live_forest::Forest;
 use output_index::Outputs;
 use std::alloc::Global;
 use std::marker::Brand;

@@ -3,8 +3,8 @@ ghost use Rattle.std.specs.Prelude.{◌≡◌, ◌<◌};
 
 use crate::tests::spending::block_of;
 use crate::tests::{clash_in, grow, spell};
-use bridge_forest::Forest;
 use forest_place::Place;
+use live_forest::Forest;
 use output_index::Outputs;
 use std::alloc::Global;
 use std::marker::Brand;

@@ -2,6 +2,7 @@
 ghost use Rattle.std.specs.Prelude.{ℕ, ◌+◌, ◌≤◌, length, OnOk};
 ghost use Rattle.output_index.specs.Held.{IsAbove};
 
+mod pages;
 mod short_lists;
 
 use leaf_record::{Record, RecordView};

@@ -62,8 +62,8 @@ unreachable-requires-in-None g c =
     (known_so H s c.in_ok-known.known.items c.requires.is.is c.in_ok-known.ensures.own c.in_ok-known.ensures.ascends) in
     clash_there H s b handed forged c.in-Ok-Some.message (c.in-Ok-Some.ensures.is ∙ ap handed_as c.in-Ok-Some.field-0-is) c.deref.result.now are
     c.in-Ok.spends.external c.in_ok-clash.field-0 (ap (λ (x : BlockSpends). x.external) shaped.spends)
-    (c.in_ok-clash.ensures.answer (history_of s) (stands_here H s c.requires.is _ _ c.forest.ensures c.outputs.ensures)
-    (knowledge_here H s c.requires.is _ _ c.forest.ensures c.outputs.ensures c.deref.result.now are)) c.in-None.is
+    (c.in_ok-clash.ensures.answer (history_of s) (stands_here H s c.requires.is _ _ c.forest.ensures.entries c.outputs.ensures)
+    (knowledge_here H s c.requires.is _ _ c.forest.ensures.entries c.outputs.ensures c.deref.result.now are)) c.in-None.is
 
 pub returns-clause-shows : goal.returns-clause-shows
 returns-clause-shows g c =
@@ -78,8 +78,8 @@ returns-clause-shows g c =
     (known_so H s c.in_ok-known.known.items c.requires.is.is c.in_ok-known.ensures.own c.in_ok-known.ensures.ascends) in
     clash_shown H s b handed forged c.in-Ok-Some.message (c.in-Ok-Some.ensures.is ∙ ap handed_as c.in-Ok-Some.field-0-is) c.deref.result.now are
     c.in-Ok.spends.external c.in_ok-clash.field-0 c.in-Some.clash (ap (λ (x : BlockSpends). x.external) shaped.spends)
-    (c.in_ok-clash.ensures.answer (history_of s) (stands_here H s c.requires.is _ _ c.forest.ensures c.outputs.ensures)
-    (knowledge_here H s c.requires.is _ _ c.forest.ensures c.outputs.ensures c.deref.result.now are)) c.in-Some.is
+    (c.in_ok-clash.ensures.answer (history_of s) (stands_here H s c.requires.is _ _ c.forest.ensures.entries c.outputs.ensures)
+    (knowledge_here H s c.requires.is _ _ c.forest.ensures.entries c.outputs.ensures c.deref.result.now are)) c.in-Some.is
 
 pub returns-clause-which : goal.returns-clause-which
 returns-clause-which g c =
@@ -94,6 +94,6 @@ returns-clause-which g c =
     (known_so H s c.in_ok-known.known.items c.requires.is.is c.in_ok-known.ensures.own c.in_ok-known.ensures.ascends) in
     clash_which H s b handed forged c.in-Ok-Some.message (c.in-Ok-Some.ensures.is ∙ ap handed_as c.in-Ok-Some.field-0-is) c.deref.result.now are
     c.in-Ok.spends.external c.in_ok-clash.field-0 c.in-Some.clash (ap (λ (x : BlockSpends). x.external) shaped.spends)
-    (clash_here H s c.requires.is _ _ c.forest.ensures c.outputs.ensures c.deref.result.now c.in-Ok.spends.external c.in-Ok-Some.message
+    (clash_here H s c.requires.is _ _ c.forest.ensures.entries c.outputs.ensures c.deref.result.now c.in-Ok.spends.external c.in-Ok-Some.message
     c.in_ok-clash.field-0
-    (c.in_ok-clash.ensures.exact (history_of s) (stands_here H s c.requires.is _ _ c.forest.ensures c.outputs.ensures))) c.in-Some.is
+    (c.in_ok-clash.ensures.exact (history_of s) (stands_here H s c.requires.is _ _ c.forest.ensures.entries c.outputs.ensures))) c.in-Some.is

@@ -10,7 +10,7 @@ pub overflow_add-sum : goal.overflow_add-sum
 overflow_add-sum g c =
     let H = g.D.Digester.digest_of in
     let n = c.loop-number.number in
-    let lt = subst (λ k. n < k) (c.leaves-number-end.ensures.is ∙ ap length c.forest.ensures) c.loop-number-test.true in
+    let lt = subst (λ k. n < k) (c.leaves-number-end.ensures.is ∙ ap length c.forest.ensures.entries) c.loop-number-test.true in
     let fits = subst (λ hs. live_of hs n + amount_at hs n < 2 ^ 64) (sym c.outputs-outputs.ensures)
     (live_fits H c.args.bridge.now c.requires n lt) in
     omega (arith, c.loop-number.invariant, c.amount-sum.ensures, fits)
@@ -23,7 +23,7 @@ pub returns-clause-most : goal.returns-clause-most
 returns-clause-most g c =
     let H = g.D.Digester.digest_of in
     let s = c.args.bridge.now in
-    let entries = ap length c.forest.ensures in
+    let entries = ap length c.forest.ensures.entries in
     let all : c.loop-number.number ≡ length s.entries =
     omega (arith, c.loop-number.auto.number-end, c.loop-number-test.false, c.leaves-number-end.ensures.is, entries) in
     let same : c.loop-number.sum ≡ supply (history_of s) =

@@ -1,7 +1,7 @@
 use Rattle.std.proofs.Common.{◌≡◌, ◌+◌, ◌≤◌, ◌∷◌, [], length, get_or, ap, ◌∙◌, subst, arith}
 use Rattle.forest_place.specs.Position.{rows}
-use Rattle.bridge_forest.specs.State.{is_live}
-use Rattle.bridge_forest.proofs.Undoing.{length-restored}
+use Rattle.live_forest.specs.State.{is_live, is_held}
+use Rattle.live_forest.proofs.Undoing.{length-restored}
 use Rattle.bridge_prover.specs.Bridge.{restored_in}
 use Rattle.bridge_prover.proofs.Indexing.{other_later}
 use Rattle.bridge_prover.proofs.Restoring.{restored_more, live-restored_other}
@@ -14,6 +14,10 @@ restore-requires-clause-given g c =
 
 pub restore-requires-clause-spent : goal.restore-requires-clause-spent
 restore-requires-clause-spent g c = c.loop-number.invariant.spent c.loop-number.number-index (omega arith) c.loop-number-test.true
+
+pub restore-requires-clause-held : goal.restore-requires-clause-held
+restore-requires-clause-held g c = ap (λ held. is_held held (get_or c.args.numbers.now c.loop-number.number-index 0)) c.loop-number.invariant.held
+    ∙ c.requires.held c.loop-number.number-index 0 c.loop-number-test.true
 
 pub loop-number-preserved : goal.loop-number-preserved
 loop-number-preserved g c =
@@ -28,6 +32,7 @@ loop-number-preserved g c =
     record {
       same = restored_more H hs xs i _ old _ c.loop-number-test.true c.loop-number.invariant.same more;
       long = long ∙ c.loop-number.invariant.long;
+      held = c.restore.ensures.held ∙ c.loop-number.invariant.held;
       spent = λ k le lt. ap (λ es. is_live es (get_or xs k 0)) more
           ∙ (live-restored_other H hs (get_or xs i 0) (get_or xs k 0) old (other_later xs i k c.requires.apart le lt)
           ∙ c.loop-number.invariant.spent k (omega (arith, le)) lt);

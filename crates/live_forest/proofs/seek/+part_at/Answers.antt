@@ -1,7 +1,7 @@
 use Rattle.std.proofs.Common.{length, sym, ◌∙◌, subst, arith}
 use Rattle.forest_place.proofs.Positions.{row_small}
 use Rattle.live_forest.specs.Lookups.{IsPartAt}
-use Rattle.live_forest.proofs.Seeking.{up_code, part_at_root, nothing_at_root, entry_above, node_above}
+use Rattle.live_forest.proofs.Seeking.{none_of, some_of, up_code, part_at_root, nothing_at_root, entry_above, node_above}
 use Rattle.live_forest.specs.Parts.{entries_in}
 use Rattle.live_forest.proofs.seek.+part_at.Goals as goal
 
@@ -29,13 +29,13 @@ part_at-requires t c =
       ),
     )
 
-pub returns-in-None : goal.returns-in-None
-returns-in-None t c = nothing_at_root (entries_in c.args.n c.args.store.now) c.args.store.now c.requires.alike c.args.row c.args.off
-    (sym c.is_root.ensures ∙ c.if-is_root.true) c.requires.within c.in-None.ensures
+pub returns-then-not-some : goal.returns-then-not-some
+returns-then-not-some t c = nothing_at_root (entries_in c.args.n c.args.store.now) c.args.store.now c.requires.alike c.args.row c.args.off
+    (sym c.is_root.ensures ∙ c.if-is_root.true) c.requires.within (none_of _ _ c.has_in-some.ensures c.if-not-some.true)
 
-pub returns-in-Some : goal.returns-in-Some
-returns-in-Some t c = part_at_root (entries_in c.args.n c.args.store.now) c.args.store.now c.requires.alike c.args.row c.args.off c.in-Some.field-0
-    (sym c.is_root.ensures ∙ c.if-is_root.true) c.requires.within c.in-Some.ensures
+pub returns-then-is_root : goal.returns-then-is_root
+returns-then-is_root t c = part_at_root (entries_in c.args.n c.args.store.now) c.args.store.now c.requires.alike c.args.row c.args.off (some_of _ _ c.has_in-some.ensures c.if-not-some.false).0
+    (sym c.is_root.ensures ∙ c.if-is_root.true) c.requires.within (some_of _ _ c.has_in-some.ensures c.if-not-some.false).1
 
 pub returns-then-node-eq0 : goal.returns-then-node-eq0
 returns-then-node-eq0 t c =

@@ -13,7 +13,7 @@ returns g c =
     let s = c.args.bridge.now in
     let k = c.args.ticket.now in
     let f = c.roots-roots.result in
-    let stands : StandsFor H s.entries f = subst (λ (e : List (Option Digest)). StandsFor H e f) c.forest.ensures c.roots-roots.ensures in
+    let stands : StandsFor H s.entries f = subst (λ (e : List (Option Digest)). StandsFor H e f) c.forest.ensures.entries c.roots-roots.ensures in
     let tip_is : c.chain-chain.result.tip ≡ s.chain.tip = ap (λ (x : Chain). x.tip) c.chain-chain.ensures.is in
     IfOk-weaker c.judge.result _ _
     (λ verdict is. is ∙ (ap (λ (x : Digest). ticket_verdict H (view_of f) x k) tip_is ∙ same_verdict H s.entries s.chain.tip k f stands))

@@ -14,9 +14,10 @@ use Rattle.bridge_prover.specs.Own.{numbered, spent_in, forgotten_in, cut_in, un
 use Rattle.bridge_prover.specs.Watched.{scripts_of, noted_in}
 use Rattle.bridge_prover.specs.Standing.{IsBridge}
 use Rattle.bridge_prover.specs.Judged.{drafted}
+use Rattle.bridge_prover.proofs.Holding.{holds_then, holds_still}
 use Rattle.bridge_prover.proofs.Returning.{spent_both, above_both, live_new, taken_back}
 use Rattle.bridge_prover.proofs.Sorting.{emptied_same, live_same}
-use Rattle.bridge_prover.proofs.Next.{extended_is, extended_like}
+use Rattle.bridge_prover.proofs.Next.{forgettable, extended_is, extended_like}
 use Rattle.bridge_prover.proofs.Noting.{noted_then}
 use Rattle.bridge_prover.proofs.bridge.Bridge.take_rising.Goals as goal
 
@@ -25,6 +26,22 @@ apply_block-requires-clause-live g c =
     live_same c.args.numbers.items c.args.numbers.items c.args.spent.now c.args.spent.now c.args.self.now.entries c.self.inside.forest.entries
     c.reserve.new.self.entries refl c.requires.same refl (ap (λ s. s.entries) c.self.view_is) c.in_ok-reserve.ensures.entries
     c.requires.ready.live
+
+pub keep-requires-clause-given : goal.keep-requires-clause-given
+keep-requires-clause-given g c =
+    (forgettable g.D.Digester.digest_of _ c.args.self.now c.self.view_is c.args.hash c.args.numbers.items c.args.spends.now.new
+    c.apply_block.new.self.entries c.requires.ready
+    (c.apply_block.ensures.entries ∙ ap₂ (λ xs ys. xs ++ map Some ys) (ap (entries_without c.args.spent.now) c.in_ok-reserve.ensures.entries
+    ∙ emptied_same c.args.numbers.items c.args.numbers.items c.args.spent.now c.self.inside.forest.entries refl c.requires.same)
+    (c.deref-4.ensures.value ∙ c.in_ok-digests.ensures.digests))).0
+
+pub keep-requires-clause-gone : goal.keep-requires-clause-gone
+keep-requires-clause-gone g c =
+    (forgettable g.D.Digester.digest_of _ c.args.self.now c.self.view_is c.args.hash c.args.numbers.items c.args.spends.now.new
+    c.apply_block.new.self.entries c.requires.ready
+    (c.apply_block.ensures.entries ∙ ap₂ (λ xs ys. xs ++ map Some ys) (ap (entries_without c.args.spent.now) c.in_ok-reserve.ensures.entries
+    ∙ emptied_same c.args.numbers.items c.args.numbers.items c.args.spent.now c.self.inside.forest.entries refl c.requires.same)
+    (c.deref-4.ensures.value ∙ c.in_ok-digests.ensures.digests))).1
 
 pub invariant_of-self-2 : goal.invariant_of-self-2
 invariant_of-self-2 g c =
@@ -37,16 +54,24 @@ invariant_of-self-2 g c =
     let put = c.spend_all.ensures ∙ ap (spent_in c.deref.result.now) c.in_ok-insert_all.ensures.ok in
     let put' = put ∙ ap (λ ns. spent_in ns (i.outputs ++ numbered i.chain.leaves new)) c.deref.ensures.value in (
       extended_like H _ c.args.self.now c.self.view_is c.args.hash c.args.numbers.items new c.requires.ready.next c.len-3.result
-          c.apply_block.new.self.entries c.keep.new.outputs c.keep.new.ring count
-          (c.apply_block.ensures.entries ∙ ap₂ (λ xs ys. xs ++ map Some ys) (ap (entries_without c.args.spent.now) c.in_ok-reserve.ensures.entries
+          c.keep.new.forest.entries c.keep.new.outputs c.keep.new.ring count
+          (c.keep.ensures.entries ∙ (c.apply_block.ensures.entries
+          ∙ ap₂ (λ xs ys. xs ++ map Some ys) (ap (entries_without c.args.spent.now) c.in_ok-reserve.ensures.entries
           ∙ emptied_same c.args.numbers.items c.args.numbers.items c.args.spent.now i.forest.entries refl c.requires.same)
-          (c.deref-4.ensures.value ∙ digests))
+          (c.deref-4.ensures.value ∙ digests)))
           (c.keep.ensures.outputs ∙ ap (forgotten_in (dropped i.undo)) put')
           (c.keep.ensures.kept ∙ ap (λ u. take 100 (u ∷ i.undo)) c.undo_of-undo.ensures),
       noted_then (scripts_of i.watch) c.deref.result.now (dropped i.undo) i.chain.leaves new i.outputs i.noted.items c.in_ok-noted.noted.items
           c.keep_held.new.noted.items c.spend_all.new.outputs c.keep.new.outputs c.self.invariant.1 c.in_ok-noted.ensures put c.keep.ensures.outputs
           (c.keep_held.ensures ∙ ap (filter (λ k. is_some (leaf_at k c.keep.new.outputs)))
           (c.append.ensures ∙ ap₂ (λ xs ys. xs ++ ys) c.in_ok-reserve-2.ensures.items c.deref-3.ensures.value)),
+      holds_then i.forest.entries _ c.args.spent.now c.deref.result.now (dropped i.undo) i.chain.leaves new c.deref-4.result.now i.outputs
+          c.spend_all.new.outputs c.keep.new.outputs i.forest.held _ _ _ c.self.invariant.2
+          (subst (λ (x : BridgeState). length x.entries ≡ x.chain.leaves) (sym c.self.view_is) c.requires.ready.counted)
+          (ap length (c.deref-4.ensures.value ∙ digests) ∙ long)
+          (c.keep.ensures.entries ∙ (c.apply_block.ensures.entries ∙ ap (λ es. entries_without c.args.spent.now es ++ map Some c.deref-4.result.now)
+          c.in_ok-reserve.ensures.entries))
+          put c.keep.ensures.outputs c.in_ok-reserve.ensures.held c.apply_block.ensures.held c.keep.ensures.held,
     )
 
 pub returns-clause-next : goal.returns-clause-next
@@ -60,10 +85,11 @@ returns-clause-next g c =
     let put = c.spend_all.ensures ∙ ap (spent_in c.deref.result.now) c.in_ok-insert_all.ensures.ok in
     let put' = put ∙ ap (λ ns. spent_in ns (i.outputs ++ numbered i.chain.leaves new)) c.deref.ensures.value in
     extended_is H _ c.args.self.now c.self.view_is c.args.hash c.args.numbers.items new c.requires.ready.next c.len-3.result
-    c.apply_block.new.self.entries c.keep.new.outputs c.keep.new.ring count
-    (c.apply_block.ensures.entries ∙ ap₂ (λ xs ys. xs ++ map Some ys) (ap (entries_without c.args.spent.now) c.in_ok-reserve.ensures.entries
+    c.keep.new.forest.entries c.keep.new.outputs c.keep.new.ring count
+    (c.keep.ensures.entries ∙ (c.apply_block.ensures.entries
+    ∙ ap₂ (λ xs ys. xs ++ map Some ys) (ap (entries_without c.args.spent.now) c.in_ok-reserve.ensures.entries
     ∙ emptied_same c.args.numbers.items c.args.numbers.items c.args.spent.now i.forest.entries refl c.requires.same)
-    (c.deref-4.ensures.value ∙ digests))
+    (c.deref-4.ensures.value ∙ digests)))
     (c.keep.ensures.outputs ∙ ap (forgotten_in (dropped i.undo)) put')
     (c.keep.ensures.kept ∙ ap (λ u. take 100 (u ∷ i.undo)) c.undo_of-undo.ensures)
 
@@ -138,6 +164,8 @@ invariant_of-self-in_default g c =
       subst (λ es. IsBridge H (st es c.give_back.new.outputs)) (sym c.in_ok-reserve.ensures.entries)
           (subst (λ hs. IsBridge H (st i.forest.entries hs)) (sym same) c.self.invariant.0),
       c.in_ok-reserve-2.ensures.items ∙ (c.self.invariant.1 ∙ ap (noted_in (scripts_of i.watch)) (sym same)),
+      holds_still i.outputs _ i.forest.entries _ i.forest.held _ c.self.invariant.2 same c.in_ok-reserve.ensures.entries
+          c.in_ok-reserve.ensures.held,
     )
 
 pub returns-in_default-clause-stays : goal.returns-in_default-clause-stays

@@ -1,32 +1,68 @@
-use Rattle.std.proofs.Common.{◌≡◌, ◌+◌, ◌^◌, ◌<◌, length, take, map, get_or, Some, true, ◌++◌, ◌∷◌, [], sym, ap, ◌∙◌, arith, append_assoc}
-use Rattle.std.proofs.lemmas.List.{map_more, length_push}
-use Rattle.std.proofs.lemmas.Nat.{ones-le}
-use Rattle.uo_digest.specs.declared.digest.Digest.{Digest}
+use Rattle.std.proofs.Common.{◌≡◌, ◌+◌, ◌^◌, ◌<◌, ◌≤◌, true, ◌++◌, length, take, map, replicate, Some, refl, sym, ap, ap₂, ◌∙◌, arith}
+use Rattle.std.proofs.lemmas.Simd.{splat_is_map}
+use Rattle.live_forest.specs.Parts.{leaves_of}
+use Rattle.live_forest.specs.Holding.{held_of}
+use Rattle.live_forest.proofs.Holding.{length-entries, forest_grown, held_grown, held_same}
 use Rattle.live_forest.proofs.forest.Forest.add_all.Goals as goal
 
-pub loop-digest-preserved : goal.loop-digest-preserved
-loop-digest-preserved g c =
-    let done = c.add.ensures.entries in
-    let old = c.loop-digest.self.entries in
-    let first = c.args.self.now.entries in
-    let xs = c.args.added.now in
-    let k = c.loop-digest.digest-index in
-    let none : Digest = record { 0 = [] } in
-    let x = get_or xs k none in
-    let lt : k < length xs = c.loop-digest-test.true in
-    let long : length c.add.new.self.entries ≡ length old + 1 = ap length done ∙ length_push old (Some x) in
-    record {
-      entries = done ∙ ap (λ z. z ++ Some x ∷ []) c.loop-digest.invariant.entries ∙ append_assoc first (map Some (take k xs)) (Some x ∷ [])
-          ∙ ap (λ z. first ++ z) (sym (map_more Some xs k none lt));
-      held = c.add.ensures.held ∙ ap (λ z. z ++ true ∷ []) c.loop-digest.invariant.held
-          ∙ append_assoc c.args.self.now.held (map (λ _. true) (take k xs)) (true ∷ [])
-          ∙ ap (λ z. c.args.self.now.held ++ z) (sym (map_more (λ _. true) xs k none lt));
-      count = omega (arith, long, c.loop-digest.invariant.count);
-      spare = omega (arith, c.add.ensures.spare, c.loop-digest.invariant.spare);
-      cost = omega (arith, c.add.ensures.few, c.loop-digest.invariant.cost);
-    }
+pub put_all-requires-clause-small : goal.put_all-requires-clause-small
+put_all-requires-clause-small g c =
+    let n = c.self.inside.count in
+    let s = c.self.inside.store in
+    let le : n ≤ s.len = omega (arith, c.self.invariant.room, c.self.invariant.longer) in
+    let entries : take n (leaves_of s) ≡ c.args.self.now.entries = ap (λ b. b.entries) c.self.view_is in
+    let long : length c.args.self.now.entries ≡ n = sym (ap length entries) ∙ length-entries n s le in
+    omega (arith, c.requires.few, long)
 
-pub returns-clause-steps : goal.returns-clause-steps
-returns-clause-steps g c =
-    let few : length c.args.self.now.entries < 2 ^ 40 = omega (arith, c.requires.few) in
-    omega (arith, c.loop-digest.invariant.cost, ones-le 40 (length c.args.self.now.entries) few)
+pub put_all-requires-clause-room : goal.put_all-requires-clause-room
+put_all-requires-clause-room g c = omega (
+  arith,
+  c.requires.room,
+  c.self.invariant.room,
+  c.self.invariant.longer,
+  ap (λ b. b.spare) c.self.view_is,
+)
+
+pub put_all-requires-clause-listed : goal.put_all-requires-clause-listed
+put_all-requires-clause-listed g c =
+    let fits : c.self.inside.count + length c.args.added.now ≤ c.self.inside.store.len = omega (
+      arith,
+      c.requires.room,
+      c.self.invariant.room,
+      c.self.invariant.longer,
+      ap (λ b. b.spare) c.self.view_is,
+    ) in
+    λ i ge lt. c.self.invariant.free i ge (omega (arith, lt, fits))
+
+pub invariant_of-self : goal.invariant_of-self
+invariant_of-self g c =
+    let n = c.self.inside.count in
+    let s = c.self.inside.store in
+    let le : n ≤ s.len = omega (arith, c.self.invariant.room, c.self.invariant.longer) in
+    let entries : take n (leaves_of s) ≡ c.args.self.now.entries = ap (λ b. b.entries) c.self.view_is in
+    let long : length c.args.self.now.entries ≡ n = sym (ap length entries) ∙ length-entries n s le in
+    forest_grown g.D.Digester.digest_of n (length c.args.added.now) c.self.inside.room s c.put_all.new.store (map Some c.args.added.now)
+    c.self.invariant (omega (arith, c.requires.few, long))
+    (omega (arith, c.requires.room, c.self.invariant.room, ap (λ b. b.spare) c.self.view_is)) c.put_all.ensures.right c.put_all.ensures.room
+    c.put_all.ensures.leaves
+
+pub returns-clause-entries : goal.returns-clause-entries
+returns-clause-entries g c =
+    c.put_all.ensures.leaves ∙ ap (λ l. l ++ map Some c.args.added.now) (ap (λ b. b.entries) c.self.view_is)
+
+pub returns-clause-held : goal.returns-clause-held
+returns-clause-held g c =
+    let n = c.self.inside.count in
+    let s = c.self.inside.store in
+    let s' = c.put_all.new.store in
+    let k = length c.args.added.now in
+    let fits : n + k ≤ s.len = omega (
+      arith,
+      c.requires.room,
+      c.self.invariant.room,
+      c.self.invariant.longer,
+      ap (λ b. b.spare) c.self.view_is,
+    ) in
+    let held : held_of n s ≡ c.args.self.now.held = ap (λ b. b.held) c.self.view_is in
+    held_grown n k s' (λ i ge lt. c.put_all.ensures.room.listed i ∙ c.self.invariant.free i ge (omega (arith, lt, fits)))
+    ∙ ap₂ (λ a b. a ++ b) (held_same n s s' (λ i low. c.put_all.ensures.room.listed i) ∙ held) (splat_is_map c.args.added.now k true refl)

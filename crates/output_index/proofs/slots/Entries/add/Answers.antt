@@ -1,51 +1,39 @@
-use Rattle.std.proofs.Common.{◌++◌, ◌∷◌, [], length, ap, ap₂, ◌∙◌, arith}
-use Rattle.std.proofs.lemmas.List.{length-append}
+use Rattle.std.proofs.Common.{◌<◌, ◌%◌, ◌++◌, [], ◌∷◌, length, set, Some, sym, ap, ap₂, subst, ◌∙◌, arith}
+use Rattle.std.specs.List.{AllByRecursion}
 use Rattle.output_index.specs.Chains.{entries_from}
-use Rattle.output_index.proofs.Numbered.{one-there}
-use Rattle.output_index.proofs.Counted.{count-few}
+use Rattle.output_index.specs.Pages.{entry_in, row_of}
+use Rattle.output_index.proofs.Paged.{page-read, page-last, added-page, kept-added}
 use Rattle.output_index.proofs.slots.Entries.add.Goals as goal
 
-pub cell-requires : goal.cell-requires
-cell-requires c = record {
-  few = omega (
-    arith,
-    count-few 0 c.self.inside.slots.items,
-    c.self.invariant.count,
-    c.self.inside.slots.ok.0,
-    c.self.inside.slots.ok.1,
-    c.self.inside.slots.small,
-  );
-  room = c.self.invariant.room;
-}
-
-pub overflow_add-self : goal.overflow_add-self
-overflow_add-self c = omega (
-  arith,
-  count-few 0 c.self.inside.slots.items,
-  c.self.invariant.count,
-  c.self.inside.slots.ok.0,
-  c.self.inside.slots.ok.1,
-  c.self.inside.slots.small,
-)
+pub put-requires-clause-last : goal.put-requires-clause-last
+put-requires-clause-last c =
+    let n = c.args.number in
+    let pages = c.have_page.new.pages.items in
+    let within : c.page_of-2.result < length pages = omega (arith, c.in_ok-have_page.ensures.ok, c.page_of.ensures, c.page_of-2.ensures) in
+    let page = page-read pages n c.page_of-2.result c.index_mut-page.result.now c.page_of-2.ensures within c.index_mut-page.ensures.value in
+    let last = subst (λ es. AllByRecursion (λ x. x.0 < n) es) (sym (c.in_ok-have_page.ensures.same ∙ c.self.view_is)) c.requires in
+    λ i le. ap (λ p. entry_in p i) page ∙ page-last pages n i c.in_ok-have_page.ensures.pages last le
 
 pub invariant_of-self-2 : goal.invariant_of-self-2
 invariant_of-self-2 c =
     let n = c.args.number in
-    let es = entries_from 0 c.self.inside.slots.items in
-    let len = ap length c.in_ok-reserve.ensures.items ∙ c.in_ok-end_at.ensures.len in
-    let whole =
-    ap (entries_from 0) c.push_reserved.ensures.items
-    ∙ (one-there n c.in_ok-slot.slot c.reserve.new.self.items len
-    ∙ ap (λ xs. xs ++ (n, c.in_ok-slot.slot) ∷ []) (ap (entries_from 0) c.in_ok-reserve.ensures.items ∙ c.end_at.ensures.same)) in
-    record {
-      count = omega (arith, c.self.invariant.count, ap length whole, length-append es ((n, c.in_ok-slot.slot) ∷ []));
-      room = c.in_ok-slot.ensures.one_more;
-    }
+    let pages = c.have_page.new.pages.items in
+    let within : c.page_of-2.result < length pages = omega (arith, c.in_ok-have_page.ensures.ok, c.page_of.ensures, c.page_of-2.ensures) in
+    let page = page-read pages n c.page_of-2.result c.index_mut-page.result.now c.page_of-2.ensures within c.index_mut-page.ensures.value in
+    let last = subst (λ es. AllByRecursion (λ x. x.0 < n) es) (sym (c.in_ok-have_page.ensures.same ∙ c.self.view_is)) c.requires in
+    kept-added pages _ n c.in_ok-slot.slot _ _ _ c.in_ok-have_page.ensures.pages (subst (λ k. k < length pages) c.page_of-2.ensures within) last
+    (c.self.invariant.kept.count ∙ sym (ap length c.in_ok-have_page.ensures.same))
+    (ap₂ (set pages) c.page_of-2.ensures (c.in_ok-put.ensures.ok ∙ ap (λ p. set p (n % 256) (Some c.in_ok-slot.slot)) page))
+    c.in_ok-slot.ensures.one_more
 
 pub returns-clause-ok : goal.returns-clause-ok
 returns-clause-ok c =
-    let len = ap length c.in_ok-reserve.ensures.items ∙ c.in_ok-end_at.ensures.len in
-    ap (entries_from 0) c.push_reserved.ensures.items
-    ∙ (one-there c.args.number c.in_ok-slot.slot c.reserve.new.self.items len
-    ∙ ap₂ (λ es e. es ++ (c.args.number, e) ∷ []) (ap (entries_from 0) c.in_ok-reserve.ensures.items ∙ (c.end_at.ensures.same ∙ c.self.view_is))
-    c.in_ok-slot.ensures.is)
+    let n = c.args.number in
+    let pages = c.have_page.new.pages.items in
+    let within : c.page_of-2.result < length pages = omega (arith, c.in_ok-have_page.ensures.ok, c.page_of.ensures, c.page_of-2.ensures) in
+    let page = page-read pages n c.page_of-2.result c.index_mut-page.result.now c.page_of-2.ensures within c.index_mut-page.ensures.value in
+    let last = subst (λ es. AllByRecursion (λ x. x.0 < n) es) (sym (c.in_ok-have_page.ensures.same ∙ c.self.view_is)) c.requires in
+    ap (λ p. entries_from 0 (row_of p))
+    (ap₂ (set pages) c.page_of-2.ensures (c.in_ok-put.ensures.ok ∙ ap (λ p. set p (n % 256) (Some c.in_ok-slot.slot)) page))
+    ∙ (added-page pages n c.in_ok-slot.slot c.in_ok-have_page.ensures.pages (subst (λ k. k < length pages) c.page_of-2.ensures within) last
+    ∙ ap₂ (λ es e. es ++ (n, e) ∷ []) (c.in_ok-have_page.ensures.same ∙ c.self.view_is) c.in_ok-slot.ensures.is)

@@ -1,47 +1,46 @@
-use Rattle.std.proofs.Common.{length, sym, ap, subst, ◌∙◌, arith}
-use Rattle.std.proofs.lemmas.Bool.{false≢true}
-use Rattle.std.specs.Prelude.{IsSome, set}
+use Rattle.std.proofs.Common.{◌<◌, ◌%◌, length, set, None, sym, ap, ap₂, subst, ◌∙◌, arith}
+use Rattle.std.specs.Prelude.{IsSome}
 use Rattle.output_index.specs.Chains.{entry_at, entries_from, removed}
-use Rattle.output_index.proofs.Numbered.{stands-within, read-some, cleared-there}
-use Rattle.output_index.proofs.Counted.{count-cleared}
+use Rattle.output_index.specs.Pages.{row_of}
+use Rattle.output_index.specs.Spare.{AreEntries}
+use Rattle.output_index.proofs.Paged.{page-read, entry-read, entry-within, cleared-page, kept-cleared}
 use Rattle.output_index.proofs.slots.Entries.remove.Goals as goal
 
-pub unreachable-requires : goal.unreachable-requires
-unreachable-requires c =
+pub index_mut-page-requires : goal.index_mut-page-requires
+index_mut-page-requires c =
+    let held = subst (λ es. IsSome (entry_at c.args.number es)) (sym c.self.view_is) c.requires in
+    let within = entry-within c.self.inside.pages.items c.args.number c.self.invariant.whole held in
+    omega (arith, within, c.page_of.ensures, c.self.inside.pages.ok.0)
+
+pub take-slot-requires-clause-held : goal.take-slot-requires-clause-held
+take-slot-requires-clause-held c =
     let n = c.args.number in
+    let pages = c.self.inside.pages.items in
     let held = subst (λ es. IsSome (entry_at n es)) (sym c.self.view_is) c.requires in
-    false≢true (subst IsSome (sym c.take.ensures.value ∙ c.in_default.is) (read-some n _ c.self.inside.slots.items held c.index_mut.ensures.value))
-
-pub index_mut-requires : goal.index_mut-requires
-index_mut-requires c =
-    let within = stands-within c.args.number c.self.inside.slots.items
-    (subst (λ es. IsSome (entry_at c.args.number es)) (sym c.self.view_is) c.requires) in
-    omega (arith, within, c.self.inside.slots.ok.0)
-
-pub push_reserved-requires : goal.push_reserved-requires
-push_reserved-requires c =
-    let fewer = count-cleared c.args.number c.self.inside.slots.items
-    (subst (λ es. IsSome (entry_at c.args.number es)) (sym c.self.view_is) c.requires) in
-    omega (arith, fewer, c.self.invariant.count, c.self.invariant.room)
-
-pub overflow_sub-self : goal.overflow_sub-self
-overflow_sub-self c =
-    let fewer = count-cleared c.args.number c.self.inside.slots.items
-    (subst (λ es. IsSome (entry_at c.args.number es)) (sym c.self.view_is) c.requires) in
-    omega (arith, fewer, c.self.invariant.count)
+    let within : c.page_of.result < length pages = omega (arith, entry-within pages n c.self.invariant.whole held, c.page_of.ensures) in
+    subst IsSome
+    (sym (entry-read pages n c.page_of.result c.index_mut-page.result.now c.self.invariant.whole c.page_of.ensures within
+    c.index_mut-page.ensures.value))
+    held
 
 pub invariant_of-self : goal.invariant_of-self
 invariant_of-self c =
     let n = c.args.number in
-    let xs = c.self.inside.slots.items in
-    let fewer = count-cleared n xs (subst (λ es. IsSome (entry_at n es)) (sym c.self.view_is) c.requires) in
-    record {
-      count = omega (arith, fewer, c.self.invariant.count, ap (λ x. length (entries_from 0 (set xs n x))) c.take.ensures.after);
-      room = omega (arith, fewer, c.self.invariant.count, c.self.invariant.room, c.push_reserved.ensures.len, c.push_reserved.ensures.capacity);
-    }
+    let pages = c.self.inside.pages.items in
+    let held = subst (λ es. IsSome (entry_at n es)) (sym c.self.view_is) c.requires in
+    let within : c.page_of.result < length pages = omega (arith, entry-within pages n c.self.invariant.whole held, c.page_of.ensures) in
+    let page = page-read pages n c.page_of.result c.index_mut-page.result.now c.page_of.ensures within c.index_mut-page.ensures.value in
+    subst (AreEntries _ _ _) (sym c.push_reserved.ensures.capacity)
+    (kept-cleared pages _ n _ _ _ _ c.self.invariant held
+    (ap₂ (set pages) c.page_of.ensures (c.take-slot.ensures.left ∙ ap (λ p. set p (n % 256) None) page)) c.push_reserved.ensures.len)
 
 pub returns : goal.returns
 returns c =
     let n = c.args.number in
-    let xs = c.self.inside.slots.items in
-    ap (λ x. entries_from 0 (set xs n x)) c.take.ensures.after ∙ (cleared-there n xs ∙ ap (removed n) c.self.view_is)
+    let pages = c.self.inside.pages.items in
+    let held = subst (λ es. IsSome (entry_at n es)) (sym c.self.view_is) c.requires in
+    let within : c.page_of.result < length pages = omega (arith, entry-within pages n c.self.invariant.whole held, c.page_of.ensures) in
+    let page = page-read pages n c.page_of.result c.index_mut-page.result.now c.page_of.ensures within c.index_mut-page.ensures.value in
+    ap (λ p. entries_from 0 (row_of p))
+    (ap₂ (set pages) c.page_of.ensures (c.take-slot.ensures.left ∙ ap (λ p. set p (n % 256) None) page))
+    ∙ (cleared-page pages n c.self.invariant.whole held ∙ ap (removed n) c.self.view_is)
