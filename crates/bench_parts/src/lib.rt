@@ -5,11 +5,11 @@
 #![tactic(auto)]
 
 mod alone;
-mod arena;
 mod cache;
 mod digests;
 mod feeds;
 mod finder;
+mod forest;
 mod hash;
 mod names;
 mod needs;
@@ -22,11 +22,11 @@ mod stopwatch;
 mod targets;
 
 pub use alone::{leaves_alone, pairs_alone};
-pub use arena::measure_arena;
 pub use cache::measure_cache;
 pub use digests::measure_digests;
 pub use feeds::measure_feeds;
 pub use finder::measure_finder;
+pub use forest::measure_forest;
 pub use hash::hash_input;
 pub use needs::needs_of;
 pub use outputs::measure_outputs;

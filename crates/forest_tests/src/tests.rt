@@ -1,5 +1,5 @@
-mod arena;
 mod deletions;
+mod live;
 mod outputs;
 mod places;
 mod plain;
@@ -7,3 +7,4 @@ mod roots;
 mod targets;
 mod undone;
 mod watched;
+mod whole;

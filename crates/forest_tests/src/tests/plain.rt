@@ -1,5 +1,5 @@
 //! A plain forest: the nodes over a list of entries, laid out from the roots downwards and hashed from nothing.
-use forest_place::Place;
+use forest_place::{Place, sibling};
 use forest_roots::pair;
 use std::alloc::{AllocError, Global};
 use std::process::Abort;
@@ -106,7 +106,7 @@ pub fn nodes_of<D: Digester, L: Ledger>(
 ) -> Result<Vec<Node>, AllocError> {
     let mut nodes = Vec::new(alloc);
     let mut first = 0;
-    for row in (0..4).rev() {
+    for row in (0..10).rev() {
         if (entries.len() >> row) % 2 == 1 {
             let place = Place {
                 row,
@@ -118,4 +118,36 @@ pub fn nodes_of<D: Digester, L: Ledger>(
         }
     }
     Ok(nodes)
+}
+
+// Whether a target stands at a place or beneath it.
+fn is_above(place: Place, target: Place) -> bool {
+    if target.row > place.row {
+        return false;
+    }
+    let rows = u32::from(place.row - target.row);
+    target.off.checked_shr(rows) == Some(place.off)
+}
+
+// Whether one of the targets does.
+fn is_covered(targets: &[Place], place: Place) -> bool {
+    for target in targets {
+        if is_above(place, *target) {
+            return true;
+        }
+    }
+    false
+}
+
+// Whether the forest over n entries has no sibling of a place.
+fn is_alone(n: u64, place: Place) -> bool {
+    match n.checked_shr(u32::from(place.row)) {
+        Some(places) => sibling(place).off >= places,
+        None => true,
+    }
+}
+
+/// Whether a place is beside the way from one of the targets up to a root of the forest over n entries. No root is beside a way up.
+pub fn is_beside(n: u64, targets: &[Place], place: Place) -> bool {
+    !is_alone(n, place) && !is_covered(targets, place) && is_covered(targets, sibling(place))
 }

@@ -1,4 +1,0 @@
-use Rattle.bridge_forest.proofs.proving.+descend.Given as goal
-
-abbrev pub decreases-descend : goal.decreases-descend
-decreases-descend g l = l.part.row

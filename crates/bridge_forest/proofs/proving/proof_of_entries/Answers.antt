@@ -1,6 +1,0 @@
-use Rattle.bridge_forest.proofs.Slotted.{proof_joined}
-use Rattle.bridge_forest.proofs.proving.proof_of_entries.Goals as goal
-
-pub returns-clause-siblings : goal.returns-clause-siblings
-returns-clause-siblings g c = proof_joined g.D.Digester.digest_of c.args.entries.now c.args.numbers.now c.in_ok-rows.rows.items
-    c.in_ok-rows.ensures.wide c.in_ok-rows.ensures.are
