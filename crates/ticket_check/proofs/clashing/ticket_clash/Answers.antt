@@ -10,7 +10,7 @@ returns-clause-answer g c =
     answer_so g.D.Digester.digest_of c.args.bridge.now.entries c.args.bridge.now.held c.args.bridge.now.chain.tip c.args.ticket.now c.requires
     c.leaves-n.result c.target.result (c.leaves-n.ensures.is ∙ ap length c.forest.ensures.entries) c.target.ensures
     c.in-Some.targets c.forest-2.result.now.entries c.outputs.result.now c.deref.result.now c.deref-2.result.now
-    (sym c.in-Some.is ∙ c.in_ok-targets.ensures) c.forest-2.ensures c.outputs.ensures
+    (sym c.in-Some.is ∙ c.in_ok-targets.ensures) c.forest-2.ensures.entries c.outputs.ensures
     (c.deref.ensures.value ∙ (c.in_ok-leaves.ensures ∙ ap (λ l. l ∷ []) c.leaf.ensures.is))
     (c.deref-2.ensures.value ∙ (c.in_ok-hashes.ensures ∙ c.hashes.ensures))
     clash w)
@@ -23,7 +23,7 @@ returns-clause-exact g c =
     exact_so g.D.Digester.digest_of c.args.bridge.now.entries c.args.bridge.now.held c.args.bridge.now.chain.tip c.args.ticket.now c.requires
     c.leaves-n.result c.target.result (c.leaves-n.ensures.is ∙ ap length c.forest.ensures.entries) c.target.ensures
     c.in-Some.targets c.forest-2.result.now.entries c.outputs.result.now c.deref.result.now c.deref-2.result.now
-    (sym c.in-Some.is ∙ c.in_ok-targets.ensures) c.forest-2.ensures c.outputs.ensures
+    (sym c.in-Some.is ∙ c.in_ok-targets.ensures) c.forest-2.ensures.entries c.outputs.ensures
     (c.deref.ensures.value ∙ (c.in_ok-leaves.ensures ∙ ap (λ l. l ∷ []) c.leaf.ensures.is))
     (c.deref-2.ensures.value ∙ (c.in_ok-hashes.ensures ∙ c.hashes.ensures))
     clash w)
