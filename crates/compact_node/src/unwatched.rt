@@ -16,8 +16,8 @@ use std::sync::ledger::Ledger;
 use uo_base::NoMemory;
 use uo_digest::{Digest, Digester, Steps};
 
-/// The digests of how many new entries are held at a time: enough for rows that are digested side by side, in 32 KB.
-const BATCH: usize = 1024;
+/// The digests of how many new entries are held at a time, at most: enough for rows that are digested side by side, in 32 KB.
+const BATCH: u64 = 1024;
 
 // Whether no script is watched, and so nothing is kept or held.
 pub(crate) fn watches_nothing<D>(cache: &Cache<D>) -> bool
@@ -96,7 +96,8 @@ pub(crate) fn grow_unwatched<D: Digester, L: Ledger>(
     ensures held_room { cache.old.parts.held_room ≤ cache.new.parts.held_room }
     ensures steps { steps.new ≤ steps.old + 2 * length spends.now.new + 40 }
 {
-    let mut digests = vec![in alloc; Digest([0; 32]); BATCH]?;
+    let held = spends.new_count().min(BATCH).max(1);
+    let mut digests = vec![in alloc; Digest([0; 32]); held as usize]?;
     let mark = unchanged(alloc, cache)?;
     push_all(roots, room, spends, &mut digests, steps);
     Ok(mark)
