@@ -1,27 +1,19 @@
 #!/usr/bin/env python3
 """Writes a feed whose outputs are spent as on mainnet: live_chain.py BLOCKS OUTPUTS.
 
-Each block makes so many outputs, and spends as many of earlier blocks but six in a hundred. Of the outputs that it spends, half are drawn from
-those of the 144 blocks before, which is a day, and half from all older ones. So at the end six in a hundred of all outputs are live, and half of those
-that were spent lived for less than a day.
+Each block makes so many outputs, and spends as many of earlier blocks but six in a hundred, as far as it finds them. Of the outputs that it spends,
+half are drawn from those of the 144 blocks before, which is a day, and half from all older ones. So at the end of a long feed about seven in a
+hundred of all outputs are live, and half of those that were spent lived for less than a day.
 
 It tells on standard error how many outputs were made and how many are live.
 """
-import hashlib
 import random
 import sys
 
-MAGIC = bytes.fromhex("f9beb4d9")
+from made_feed import MAGIC, frame, hash256, little, merkle_root
+
 DAY = 144
 RIPE = 100
-
-
-def hash256(text):
-    return hashlib.sha256(hashlib.sha256(text).digest()).digest()
-
-
-def little(number, size):
-    return number.to_bytes(size, "little")
 
 
 def counted(number):
@@ -95,11 +87,10 @@ def main(words):
             ids.append(hash256(texts[1]))
             live.add(ids[1], outputs)
             made += outputs
-        root = hash256(ids[0] + ids[1]) if len(ids) > 1 else ids[0]
-        header = little(1, 4) + tip + root + little(1_231_006_505 + height, 4) + bytes.fromhex("ffff001d") + bytes(4)
+        header = little(1, 4) + tip + merkle_root(ids) + little(1_231_006_505 + height, 4) + bytes.fromhex("ffff001d") + bytes(4)
         tip = hash256(header)
         body = header + counted(len(texts)) + b"".join(texts)
-        sys.stdout.buffer.write(MAGIC + little(len(body), 4) + body)
+        sys.stdout.buffer.write(frame(MAGIC["main"], body))
     print(f"{made} outputs of payments, of which {live.count()} are live", file=sys.stderr)
 
 
