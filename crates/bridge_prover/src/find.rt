@@ -10,18 +10,18 @@ ghost use Rattle.bridge_prover.specs.Judged.{first_missing};
 
 use block_rules::{Found, Outside, Refusal, RuleFault};
 use leaf_record::RecordView;
-use output_index::{Outpoint, Outputs};
+use output_index::{OutputName, Outputs};
 use proof_wire::Rests;
 use std::alloc::{AllocError, Global};
 use uo_base::NoMemory;
 
 // The outpoint of each external input.
-fn names_of(alloc: Global, external: &[Outside]) -> Result<Vec<Outpoint>, AllocError>
+fn names_of(alloc: Global, external: &[Outside]) -> Result<Vec<OutputName>, AllocError>
     ensures { IfOk result (λ names. names.items ≡ map point_of external.now) }
 {
     let mut names = Vec::with_capacity(alloc, external.len())?;
     for at in external {
-        names.push(Outpoint {
+        names.push(OutputName {
             txid: at.txid,
             index: at.index,
         })?;

@@ -2,39 +2,19 @@
 use Rattle.std.proofs.Common.{◌≡◌, ℕ, zero, suc, ◌+◌, ◌-◌, ◌*◌, ◌/◌, ◌%◌, ◌^◌, ◌<◌, ◌≤◌, true, false, refl, sym, ap, ap₂, ◌∙◌, subst, ⊎_elim}
 use Rattle.std.proofs.Common.{arith}
 use Rattle.std.proofs.Common.{pow-suc, mod-eq_of_lt}
-use Rattle.std.specs.Prelude.{◌==◌, ◌||◌, not, if◌then◌else◌, bit_and, bit_or}
-use Rattle.std.specs.Int.{w128}
+use Rattle.std.specs.Prelude.{◌==◌, ◌||◌, not, bit_and}
 use Rattle.std.proofs.lemmas.Bool.{cases_lt, cases_eq, eq-eqb, ne_eqb, false≢true}
-use Rattle.std.proofs.lemmas.Nat.{pow_pos, shr-shr, mod-pow-add, mod_below, and_le_l, and_mask, ones_cat, ones-le, one_shl, field_of}
-use Rattle.std.proofs.lemmas.Nat.Bits.{bit_at_set_same, bit_at_set_other, bit_at_clear_same, bit_at_clear_other, bit_at_above, bit_at-zero, ones_shr}
+use Rattle.std.proofs.lemmas.Nat.{pow_pos, shr-shr, mod-pow-add, and_mask, one_shl, field_of}
+use Rattle.std.proofs.lemmas.Nat.Bits.{bit_at_above, bit_at-zero, ones_shr}
 use Rattle.std.proofs.Math.Pow.{mod-mod-pow}
-use lib.Count.{ones}
 use Rattle.forest_place.specs.Forest.{InForest}
 use Rattle.forest_place.proofs.Slots.{in_forest_iff}
-use Rattle.live_forest.specs.Sets.{is_bit, has_part, rank, IsWith, IsWithout}
+use Rattle.live_forest.specs.Sets.{is_bit, has_part}
 
 one_or_none : (b : ℕ) → b < 2 → (b == 1) ≡ not (b == 0)
 one_or_none zero h = refl
 one_or_none (suc zero) h = refl
 one_or_none (suc (suc b)) h = elim (let z : ⊥ = omega arith in z) [ ]
-
-ones_bit : (b : ℕ) → b < 2 → ones b ≡ (if b == 1 then 1 else 0)
-unfolding ones
-ones_bit zero h = refl
-ones_bit (suc zero) h = refl
-ones_bit (suc (suc b)) h = elim (let z : ⊥ = omega arith in z) [ ]
-
--- how many bits there are below one
-pub rank_is : (n i : ℕ) → rank (is_bit n) i ≡ ones (n % 2 ^ i)
-rank_is n zero = let few : ones (n % 1) ≤ 0 = ones-le 0 (n % 1) (omega arith) in omega arith
-rank_is n (suc i) =
-    let e : 1 + i ≡ suc i = omega arith in
-    let parts : n % 2 ^ (1 + i) ≡ n / 2 ^ i % 2 * 2 ^ i + n % 2 ^ i = mod-pow-add n 1 i in
-    let counted = ones_cat i (n / 2 ^ i % 2) (n % 2 ^ i) (mod_below n (2 ^ i) (pow_pos i)) in
-    let low = rank_is n i in
-    let bit = ones_bit (n / 2 ^ i % 2) (omega arith) in
-    let all : ones (n % 2 ^ suc i) ≡ ones (n / 2 ^ i % 2) + ones (n % 2 ^ i) = ap (λ k. ones (n % 2 ^ k)) (sym e) ∙ ap ones parts ∙ counted in
-    omega (arith, all, low, bit)
 
 is_some_number : (n : ℕ) → 0 < n → not (n == 0) ≡ true
 is_some_number n some = ap not (ne_eqb n 0 (λ e. omega (arith, e, some)))
@@ -86,28 +66,6 @@ part_bits x width h =
     let le : 64 - width ≤ 64 = omega arith in
     let e : 64 - (64 - width) ≡ width = omega arith in
     ap (bit_and x) (ones_shr 64 (64 - width) le ∙ ap (λ k. 2 ^ k - 1) e) ∙ and_mask x width
-
-pub rank_bits : (n i : ℕ) → i < 128 → ones (bit_and n (1 * 2 ^ i % 2 ^ 128 - 1)) ≡ rank (is_bit n) i
-rank_bits n i h = ap (λ k. ones (bit_and n (k - 1))) (one_shl i 128 h) ∙ ap ones (and_mask n i) ∙ sym (rank_is n i)
-
-pub with_is : (n i : ℕ) → i < 128 → IsWith (is_bit n) (is_bit (bit_or n (1 * 2 ^ i % 2 ^ 128))) i
-with_is n i h = record {
-  here = ap (λ x. x == 1) (bit_at_set_same w128 n i h);
-  others = λ j ne. ap (λ x. x == 1) (bit_at_set_other w128 n i h j ne);
-}
-
-pub without_is : (n i : ℕ) → n < 2 ^ 128 → i < 128 → IsWithout (is_bit n) (is_bit (bit_and n (2 ^ 128 - 1 - 1 * 2 ^ i % 2 ^ 128))) i
-without_is n i few h = record {
-  here = ap (λ x. x == 1) (bit_at_clear_same w128 n i h);
-  others = λ j ne.
-      ⊎_elim
-      (λ low. ap (λ x. x == 1) (bit_at_clear_other w128 n i h j low ne))
-      (λ high. ap (λ x. x == 1) (bit_at_above _ 128 j (below n _ few) high ∙ sym (bit_at_above n 128 j few high)))
-      (cases_lt j 128);
-}
-  where
-    below : (a b : ℕ) → a < 2 ^ 128 → bit_and a b < 2 ^ 128
-    below a b lt = let le = and_le_l a b in omega (arith, le, lt)
 
 -- a part ends within the 128 numbers
 pub part_ends : (row off : ℕ) → row ≤ 7 → InForest 128 row off → (off + 1) * 2 ^ row ≤ 128

@@ -10,7 +10,7 @@ use Rattle.std.proofs.lemmas.Option.{same_Some, slice_get_read, slice_get_past}
 use Rattle.std.proofs.lemmas.Nat.{pow_pos, mod_low}
 use Rattle.std.proofs.Math.Nat.{mod-eq_of_lt, mod-lt}
 use Rattle.std.proofs.Math.Pow.{mod-mod-pow}
-use Rattle.output_index.specs.declared.bucket.Newest.{Newest}
+use Rattle.output_index.specs.declared.bucket_cell.BucketCell.{BucketCell}
 use Rattle.output_index.specs.Buckets.{in_cells, bucket_of, is_own, in_place, in_buckets, HasOwn}
 use Rattle.output_index.proofs.Cells.{filter-is_own, own-tell, put-here, put-others}
 use Rattle.output_index.proofs.Replacing.{get-set_same, get-set_other, get-front, get-last, length-one_more}
@@ -75,30 +75,30 @@ others-stay b n m other =
 
 -- ---- another bucket in the place of one
 
-cells_there : (at : ℕ) (list : List (List Newest)) (old : List Newest) → at < length list → old ≡ get_or list at old → slice_get list at ≡ Some old
+cells_there : (at : ℕ) (list : List (List BucketCell)) (old : List BucketCell) → at < length list → old ≡ get_or list at old → slice_get list at ≡ Some old
 cells_there at list old l is = slice_get_read list (length list) at old refl l is
 
-pub in-bucket : (b m at : ℕ) (list : List (List Newest)) (cells : List Newest) → bucket_of b (length list) m ≡ at → slice_get list at ≡ Some cells
+pub in-bucket : (b m at : ℕ) (list : List (List BucketCell)) (cells : List BucketCell) → bucket_of b (length list) m ≡ at → slice_get list at ≡ Some cells
     → in_buckets b list m ≡ in_cells cells m
 in-bucket b m at list cells s there = ap (λ x. in_place x m) (ap (slice_get list) s ∙ there)
 
-pub no-bucket : (b m at : ℕ) (list : List (List Newest)) → bucket_of b (length list) m ≡ at → length list ≤ at → in_buckets b list m ≡ None
+pub no-bucket : (b m at : ℕ) (list : List (List BucketCell)) → bucket_of b (length list) m ≡ at → length list ≤ at → in_buckets b list m ≡ None
 no-bucket b m at list s past = ap (λ x. in_place x m) (ap (slice_get list) s ∙ slice_get_past list at past)
 
-after-set : (b m at : ℕ) (list : List (List Newest)) (new : List Newest)
+after-set : (b m at : ℕ) (list : List (List BucketCell)) (new : List BucketCell)
     → in_buckets b (set list at new) m ≡ in_place (slice_get (set list at new) (bucket_of b (length list) m)) m
 after-set b m at list new = ap (λ n. in_place (slice_get (set list at new) (bucket_of b n m)) m) (length-set list at new)
 
-pub set-bucket : (b m at : ℕ) (list : List (List Newest)) (new : List Newest) → bucket_of b (length list) m ≡ at → at < length list
+pub set-bucket : (b m at : ℕ) (list : List (List BucketCell)) (new : List BucketCell) → bucket_of b (length list) m ≡ at → at < length list
     → in_buckets b (set list at new) m ≡ in_cells new m
 set-bucket b m at list new s l = after-set b m at list new ∙ ap (λ x. in_place x m) (ap (slice_get (set list at new)) s ∙ get-set_same at new list l)
 
-pub set-elsewhere : (b m at : ℕ) (list : List (List Newest)) (new : List Newest) → bucket_of b (length list) m ≢ at
+pub set-elsewhere : (b m at : ℕ) (list : List (List BucketCell)) (new : List BucketCell) → bucket_of b (length list) m ≢ at
     → in_buckets b (set list at new) m ≡ in_buckets b list m
 set-elsewhere b m at list new o = after-set b m at list new ∙ ap (λ x. in_place x m) (get-set_other at (bucket_of b (length list) m) new list o)
 
 -- it differs from the one before at one mark alone
-pub others-set : (b mark at : ℕ) (list : List (List Newest)) (old new : List Newest) → at < length list → old ≡ get_or list at old
+pub others-set : (b mark at : ℕ) (list : List (List BucketCell)) (old new : List BucketCell) → at < length list → old ≡ get_or list at old
     → ((m : ℕ) → m ≢ mark → in_cells new m ≡ in_cells old m) →
     (m : ℕ) → m ≢ mark → in_buckets b (set list at new) m ≡ in_buckets b list m
 others-set b mark at list old new l is others m o =
@@ -109,7 +109,7 @@ others-set b mark at list old new l is others m o =
 
 -- ---- one bucket more
 
-pub split-same : (b first : ℕ) (list : List (List Newest)) (old added stays : List Newest) → first + 2 ^ b ≡ length list → length list < 2 ^ suc b
+pub split-same : (b first : ℕ) (list : List (List BucketCell)) (old added stays : List BucketCell) → first + 2 ^ b ≡ length list → length list < 2 ^ suc b
     → slice_get list first ≡ Some old →
     ((m : ℕ) → bucket_of b (suc (length list)) m ≡ length list → in_cells added m ≡ in_cells old m) →
     ((m : ℕ) → bucket_of b (suc (length list)) m ≡ first → in_cells stays m ≡ in_cells old m) →
@@ -132,12 +132,12 @@ split-same b first list old added stays sum most there goes left m =
     n : ℕ
     n = length list
 
-    more : List (List Newest)
+    more : List (List BucketCell)
     more = list ++ added ∷ []
 
 -- ---- a bucket takes one mark, or has no room
 
-pub put-at : (put : Bool) (b mark number : ℕ) (list : List (List Newest)) (old new : List Newest) (at : ℕ) → at ≡ bucket_of b (length list) mark
+pub put-at : (put : Bool) (b mark number : ℕ) (list : List (List BucketCell)) (old new : List BucketCell) (at : ℕ) → at ≡ bucket_of b (length list) mark
     → at < length list → old ≡ get_or list at old →
     OnTrue put (new ≡ old ++ record { mark = mark; number = number } ∷ []) → in_buckets b list mark ≡ None
     → OnTrue put (in_buckets b (set list at new) mark ≡ Some number)
@@ -146,7 +146,7 @@ put-at true b mark number list old new at s l is made none =
     ∙ put-here (record { mark = mark; number = number }) old (sym (in-bucket b mark at list old (sym s) (cells_there at list old l is)) ∙ none))
 put-at false b mark number list old new at s l is made none = tt
 
-pub put-others-at : (put : Bool) (b mark number : ℕ) (list : List (List Newest)) (old new : List Newest) (at : ℕ) → at < length list
+pub put-others-at : (put : Bool) (b mark number : ℕ) (list : List (List BucketCell)) (old new : List BucketCell) (at : ℕ) → at < length list
     → old ≡ get_or list at old →
     OnTrue put (new ≡ old ++ record { mark = mark; number = number } ∷ []) → OnFalse put (new ≡ old) → (m : ℕ) → m ≢ mark
     → in_buckets b (set list at new) m ≡ in_buckets b list m
@@ -159,7 +159,7 @@ put-others-at put b mark number list old new at l is made full = others-set b ma
 
 -- ---- the same as the code has it
 
-pub split-by : (b count power first : ℕ) (list more : List (List Newest)) (old added lent stays : List Newest) → count ≡ length list → power ≡ 2 ^ b
+pub split-by : (b count power first : ℕ) (list more : List (List BucketCell)) (old added lent stays : List BucketCell) → count ≡ length list → power ≡ 2 ^ b
     → first ≡ count - power → 2 ^ b ≤ length list → length list < 2 ^ suc b →
     old ≡ get_or list first old → more ≡ list ++ added ∷ [] → lent ≡ get_or more first lent →
     added ≡ filter (is_own b (count + 1) count) old → stays ≡ filter (is_own b (count + 1) first) lent → (m : ℕ)
@@ -179,14 +179,14 @@ split-by b count power first list more old added lent stays all two is least mos
     ∙ (own-tell b (count + 1) first lent j (ap (λ k. bucket_of b k j) next ∙ e) ∙ ap (λ cells. in_cells cells j) same))
     m
 
-own-at : (b at n : ℕ) (list : List (List Newest)) (cells : List Newest) → length list ≡ n → slice_get list at ≡ Some cells
+own-at : (b at n : ℕ) (list : List (List BucketCell)) (cells : List BucketCell) → length list ≡ n → slice_get list at ≡ Some cells
     → AllByRecursion (λ c. bucket_of b n c.mark ≡ at) cells → HasOwn b list at
 own-at b at n list cells len there own =
     subst (λ x. IfSome x (λ xs. AllByRecursion (λ c. bucket_of b (length list) c.mark ≡ at) xs)) (sym there)
     (subst (λ k. AllByRecursion (λ c. bucket_of b k c.mark ≡ at) cells) (sym len) own)
 
 -- neither of the two has a mark that is sought elsewhere
-pub split-own : (b count power first : ℕ) (list more : List (List Newest)) (old added lent stays : List Newest) → count ≡ length list → power ≡ 2 ^ b
+pub split-own : (b count power first : ℕ) (list more : List (List BucketCell)) (old added lent stays : List BucketCell) → count ≡ length list → power ≡ 2 ^ b
     → first ≡ count - power → 2 ^ b ≤ length list → more ≡ list ++ added ∷ [] →
     added ≡ filter (is_own b (count + 1) count) old → stays ≡ filter (is_own b (count + 1) first) lent → HasOwn b (set more first stays) (length list)
     × HasOwn b (set more first stays) (length list - 2 ^ b)

@@ -5,7 +5,7 @@ use Rattle.std.proofs.lemmas.Bool.{false≢true}
 use Rattle.std.proofs.lemmas.List.{length-map}
 use Rattle.std.proofs.lemmas.Option.{none-some, same_Some}
 use Rattle.output_index.specs.declared.entry.Entry.{Entry}
-use Rattle.output_index.specs.Chains.{entry_at, entries_from, changed, changed_at}
+use Rattle.output_index.specs.Entries.{entry_at, entries_from, changed, changed_at}
 use Rattle.output_index.proofs.Numbered.{stands-at}
 
 cleared-from : (k n : ℕ) (e : Entry) (xs : List (Option Entry)) → slice_get xs n ≡ Some (Some e)

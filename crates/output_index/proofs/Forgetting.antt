@@ -8,12 +8,14 @@ use Rattle.std.proofs.lemmas.Bool.{cases_eq, cases_lt, eqb-true, false≢true, t
 use Rattle.std.proofs.lemmas.List.{drop_more, take_more}
 use Rattle.std.proofs.lemmas.Option.{none-some, same_Some}
 use Rattle.output_index.specs.declared.entry.Entry.{Entry}
-use Rattle.output_index.specs.declared.leaving.Leaving.{Leaving}
+use Rattle.output_index.specs.declared.entry_to_forget.EntryToForget.{EntryToForget}
 use Rattle.output_index.specs.Held.{Held, without, without_all}
 use Rattle.output_index.specs.Marks.{mark_of}
-use Rattle.output_index.specs.Chains.{held_in, entry_at, removed, mark_in, mark_at, held_mark, IsLast, Below, Any, AreLinked, IsChained, Links}
-use Rattle.output_index.specs.Chains.{chain_at, TellsOther}
-use Rattle.output_index.specs.Leaving.{IsOldest, IsAlone, IsLeaving}
+use Rattle.output_index.specs.Entries.{held_in, entry_at, removed}
+use Rattle.output_index.specs.Links.{mark_in, mark_at, held_mark, IsLast, Below, Any, AreLinked, IsChained}
+use Rattle.output_index.specs.NewestByMark.{MarkNumbers, newest_with}
+use Rattle.output_index.specs.Overflow.{TellsOther}
+use Rattle.output_index.specs.Forgetting.{IsOldest, IsAlone, IsToForget}
 use Rattle.output_index.proofs.Chaining.{chained-newest, mark-from}
 use Rattle.output_index.proofs.HeldLaws.{leaf-without_other, leaf-without_same}
 use Rattle.output_index.proofs.Holding.{leaf_at-in}
@@ -61,9 +63,9 @@ equal_some None n h = absurd (false≢true h)
 equal_some (Some t) n h = ap Some (eqb-true t n h)
 
 -- the oldest is the only one, where it is the newest too
-pub alone_from : (n m : ℕ) (es : List (ℕ × Entry)) (chains : Links) → IsChained es chains → IsOldest (held_in es) n m → chain_at chains m ≡ Some n
+pub alone_from : (n m : ℕ) (es : List (ℕ × Entry)) (marks : MarkNumbers) → IsChained es marks → IsOldest (held_in es) n m → newest_with marks m ≡ Some n
     → IsAlone (held_in es) n m
-alone_from n m es chains h oldest top j q =
+alone_from n m es marks h oldest top j q =
     let l : IsLast (mark_at es) m Any (Some n) = subst (λ r. IsLast (mark_at es) m Any r) top (h.newest m) in
     let most : j ≤ n = ⊎_elim (λ b. absurd (l.2 j tt b (sym (mark-in j es) ∙ q))) (λ b. b) (cases_lt n j) in
     let least : n ≤ j = oldest j q in
@@ -78,8 +80,8 @@ alone-without n m q hs h j is =
     (λ o. h j (sym (mark-without_other q j hs o) ∙ is))
     (cases_eq j q)
 
-pub leaving-without : (n q : ℕ) (leaving : Leaving) (hs : List Held) → q ≢ n → IsLeaving hs q leaving → IsLeaving (without n hs) q leaving
-leaving-without n q leaving hs o h = record {
+pub to_forget-without : (n q : ℕ) (leaving : EntryToForget) (hs : List Held) → q ≢ n → IsToForget hs q leaving → IsToForget (without n hs) q leaving
+to_forget-without n q leaving hs o h = record {
   mark = mark-without_other n q hs o ∙ h.mark;
   alone = OnTrue_from leaving.alone (IsAlone (without n hs) q leaving.mark) (λ t. alone-without q leaving.mark n hs (OnTrue_at t h.alone));
 }
@@ -93,9 +95,9 @@ alone-older n e es linked at alone = by_case e.older (linked n e at)
     by_case None l = refl
     by_case (Some i) l = absurd (let same : i ≡ n = alone i (mark-in i es ∙ l.1) in omega (arith, same, l.0))
 
-alone-newest : (n m : ℕ) (es : List (ℕ × Entry)) (chains : Links) → IsChained es chains → mark_at es n ≡ Some m → IsAlone (held_in es) n m
-    → chain_at chains m ≡ Some n
-alone-newest n m es chains h is alone = by_case (chain_at chains m) (h.newest m)
+alone-newest : (n m : ℕ) (es : List (ℕ × Entry)) (marks : MarkNumbers) → IsChained es marks → mark_at es n ≡ Some m → IsAlone (held_in es) n m
+    → newest_with marks m ≡ Some n
+alone-newest n m es marks h is alone = by_case (newest_with marks m) (h.newest m)
   where
     by_case : (r : Option ℕ) → IsLast (mark_at es) m Any r → r ≡ Some n
     by_case None l = absurd (l n tt is)
@@ -106,18 +108,18 @@ tells_none n None h = refl
 tells_none n (Some t) h = absurd (h.1 (sym (same_Some n t h.0)))
 
 -- so it is taken out with its mark, and all others hang together as they did
-pub chained-alone : (n m : ℕ) (es : List (ℕ × Entry)) (old new : Links) (r : Option ℕ) → mark_at es n ≡ Some m → IsAlone (held_in es) n m
-    → TellsOther n (chain_at old m) r → (r ≡ None → chain_at new m ≡ None) →
-    ((k : ℕ) → k ≢ m → chain_at new k ≡ chain_at old k) → IsChained es old → IsChained (removed n es) new
+pub chained-alone : (n m : ℕ) (es : List (ℕ × Entry)) (old new : MarkNumbers) (r : Option ℕ) → mark_at es n ≡ Some m → IsAlone (held_in es) n m
+    → TellsOther n (newest_with old m) r → (r ≡ None → newest_with new m ≡ None) →
+    ((k : ℕ) → k ≢ m → newest_with new k ≡ newest_with old k) → IsChained es old → IsChained (removed n es) new
 chained-alone n m es old new r mark alone other gone others h = by_entry (mark-from n m es mark)
   where
     by_entry : (e : Entry) × (entry_at n es ≡ Some e) × (mark_in e ≡ m) → IsChained (removed n es) new
     by_entry (e, at, is) =
-        let top : chain_at old m ≡ Some n = alone-newest n m es old h mark alone in
+        let top : newest_with old m ≡ Some n = alone-newest n m es old h mark alone in
         let none : r ≡ None = tells_none n r (subst (λ t. TellsOther n t r) top other) in
         let older : e.older ≡ None = alone-older n e es h.older at (subst (IsAlone (held_in es) n) (sym is) alone) in
-        chained-newest n e es old new at (subst (λ k. chain_at old k ≡ Some n) (sym is) top)
-        (subst (λ k. chain_at new k ≡ None) (sym is) (gone none) ∙ sym older) (λ k o. others k (λ s. o (s ∙ sym is))) h
+        chained-newest n e es old new at (subst (λ k. newest_with old k ≡ Some n) (sym is) top)
+        (subst (λ k. newest_with new k ≡ None) (sym is) (gone none) ∙ sym older) (λ k o. others k (λ s. o (s ∙ sym is))) h
 
 -- ---- what is known of entries, one after the other
 

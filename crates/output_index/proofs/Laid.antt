@@ -6,7 +6,8 @@ use Rattle.std.specs.List.{remove}
 use Rattle.std.proofs.lemmas.Bool.{false≢true, cases_Bool}
 use Rattle.std.proofs.lemmas.Option.{none-some}
 use Rattle.output_index.specs.declared.entry.Entry.{Entry}
-use Rattle.output_index.specs.Pages.{count, laid, entry_in}
+use Rattle.output_index.specs.NumberSet.{count}
+use Rattle.output_index.specs.Pages.{laid, entry_in}
 
 pub laid-len : (flags : List Bool) (es : List Entry) → length (laid flags es) ≡ length flags
 laid-len [] es = refl

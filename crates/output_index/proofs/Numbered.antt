@@ -6,9 +6,9 @@ use Rattle.std.proofs.lemmas.Option.{none-some, same_Some, slice_get_within, sli
 use Rattle.std.specs.Prelude.{slice_get, IsSome}
 use Rattle.std.specs.List.{AllByRecursion}
 use Rattle.output_index.specs.declared.entry.Entry.{Entry}
-use Rattle.output_index.specs.Chains.{entry_at, changed, removed, entries_from}
-use Rattle.output_index.proofs.Entries.{at-here, at-there, none_at, below_others, changed-here, changed-there, removed-here, removed-there}
-use Rattle.output_index.proofs.Entries.{removed-none}
+use Rattle.output_index.specs.Entries.{entry_at, changed, removed, entries_from}
+use Rattle.output_index.proofs.EntryLists.{at-here, at-there, none_at, below_others, changed-here, changed-there, removed-here, removed-there}
+use Rattle.output_index.proofs.EntryLists.{removed-none}
 
 -- what stands there, if anything does
 abbrev pub standing : Option (Option Entry) → Option Entry

@@ -8,10 +8,9 @@ use Rattle.std.proofs.lemmas.Bool.{cases_lt, false≢true}
 use Rattle.std.proofs.lemmas.Option.{none-some}
 use Rattle.std.proofs.lemmas.List.{length-append, get_or_past, get_or_default}
 use Rattle.output_index.specs.declared.entry.Entry.{Entry}
-use Rattle.output_index.specs.Chains.{entry_at, entries_from, changed, removed}
+use Rattle.output_index.specs.Entries.{entry_at, entries_from, changed, removed, AreEntries}
 use Rattle.output_index.specs.Pages.{entry_in, row_of, ArePages}
-use Rattle.output_index.proofs.Entries.{none_at}
-use Rattle.output_index.specs.Spare.{AreEntries}
+use Rattle.output_index.proofs.EntryLists.{none_at}
 use Rattle.output_index.proofs.Numbered.{at-zero, standing, stands-within, set-there, cleared-there, last-there}
 use Rattle.output_index.proofs.Counted.{count-changed, count-cleared}
 

@@ -4,30 +4,24 @@ ghost use Rattle.std.specs.Bool.{OnTrue, OnFalse};
 ghost use Rattle.std.specs.List.{AllByRecursion};
 ghost use Rattle.output_index.specs.Buckets.{in_cells, first_in, bucket_of, is_own, IsFirstAt, IsStrange};
 
+use crate::bucket_cell::BucketCell;
 use arrayvec::ArrayVec;
 use std::marker::Model;
 
 /// So many marks have room in a bucket.
 const ROOM: usize = 6;
 
-/// A mark, and the number of its newest held entry.
-#[derive(Clone, Copy, Default)]
-pub(crate) struct Newest {
-    pub mark: u64,
-    pub number: u64,
-}
-
 /// A few marks, in no order, with their newest entries.
 #[derive(Drop)]
 pub(crate) struct Bucket {
-    cells: ArrayVec<Newest, ROOM>,
+    cells: ArrayVec<BucketCell, ROOM>,
 }
 
 impl Model for Bucket {
     ghost use Rattle.std.specs.Prelude.{List};
-    ghost use Rattle.output_index.specs.declared.bucket.Newest.{Newest};
+    ghost use Rattle.output_index.specs.declared.bucket_cell.BucketCell.{BucketCell};
 
-    ghost Value = { List Newest };
+    ghost Value = { List BucketCell };
 
     ghost view = { λ b. b.cells.items };
 }
@@ -77,7 +71,7 @@ impl Bucket {
         ensures full { OnFalse result (self.new ≡ self.old) }
         ensures no_room { OnFalse result (length self.old ≡ 6) }
     {
-        self.cells.try_push(Newest { mark, number }).is_ok()
+        self.cells.try_push(BucketCell { mark, number }).is_ok()
     }
 
     /// Where the mark is here, this is its newest entry from now on.
@@ -86,7 +80,7 @@ impl Bucket {
         ensures others { (m : ℕ) → m ≢ mark → in_cells self.new m ≡ in_cells self.old m }
     {
         match place_of(self.cells.as_slice(), mark) {
-            Some(at) => self.cells[at] = Newest { mark, number },
+            Some(at) => self.cells[at] = BucketCell { mark, number },
             None => {}
         }
     }
@@ -160,7 +154,7 @@ pub(crate) fn bucket_of(bits: u32, count: u64, mark: u64) -> u64
 }
 
 // The first cell that has a mark.
-fn place_of(cells: &[Newest], mark: u64) -> Option<usize>
+fn place_of(cells: &[BucketCell], mark: u64) -> Option<usize>
     ensures { MatchOption result (in_cells cells.now mark ≡ None) (IsFirstAt cells.now mark) }
 {
     for at in 0..cells.len() {
@@ -172,7 +166,7 @@ fn place_of(cells: &[Newest], mark: u64) -> Option<usize>
 }
 
 // The first cell whose mark is not sought in the bucket of this number.
-fn place_of_strange(cells: &[Newest], bits: u32, count: u64, number: u64) -> Option<usize>
+fn place_of_strange(cells: &[BucketCell], bits: u32, count: u64, number: u64) -> Option<usize>
     requires { bits < 62 }
     ensures { MatchOption result (AllByRecursion (λ cell. bucket_of bits count cell.mark ≡ number) cells.now)
         (IsStrange cells.now bits count number) }

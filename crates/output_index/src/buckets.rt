@@ -1,7 +1,7 @@
 //! Marks in buckets, of which there are about half as many as marks.
 ghost use Rattle.std.specs.Prelude.{◌≡◌, ◌≢◌, ◌<◌, ◌≤◌, ℕ, ◌-◌, ◌^◌, suc, length, None, Some, is_some, OnOk, OnErr};
 ghost use Rattle.std.specs.Bool.{OnTrue, OnFalse};
-ghost use Rattle.output_index.specs.Buckets.{in_buckets, few_at, first_at, bucket_of, HasNoRoom, HasOwn};
+ghost use Rattle.output_index.specs.Buckets.{in_buckets, in_table, first_at, bucket_of, HasNoRoom, HasOwn};
 
 use crate::bucket::{Bucket, bucket_of, power_of_two};
 use std::alloc::{AllocError, Global};
@@ -37,7 +37,7 @@ impl Model for Buckets {
 impl Buckets {
     /// No mark.
     pub fn new(alloc: Global) -> Self
-        ensures { (m : ℕ) → few_at result m ≡ None }
+        ensures { (m : ℕ) → in_table result m ≡ None }
     {
         Buckets {
             bits: 0,
@@ -48,7 +48,7 @@ impl Buckets {
 
     /// The newest entry of a mark; None where the mark is not here.
     pub fn get(&self, mark: u64) -> Option<u64>
-        ensures { result ≡ few_at self.now mark }
+        ensures { result ≡ in_table self.now mark }
     {
         let at = bucket_of(self.bits, self.list.len() as u64, mark);
         match self.list.get(at as usize) {
@@ -70,11 +70,11 @@ impl Buckets {
 
     /// Puts a mark that is not here, and answers whether there was room.
     pub fn try_put(&mut self, mark: u64, number: u64) -> bool
-        requires { few_at self.old mark ≡ None }
-        ensures put { OnTrue result (few_at self.new mark ≡ Some number) }
-        ensures full { OnFalse result (few_at self.new mark ≡ None) }
+        requires { in_table self.old mark ≡ None }
+        ensures put { OnTrue result (in_table self.new mark ≡ Some number) }
+        ensures full { OnFalse result (in_table self.new mark ≡ None) }
         ensures no_room { OnFalse result (HasNoRoom self.new.bits self.new.buckets mark) }
-        ensures others { (m : ℕ) → m ≢ mark → few_at self.new m ≡ few_at self.old m }
+        ensures others { (m : ℕ) → m ≢ mark → in_table self.new m ≡ in_table self.old m }
     {
         if self.held / LOAD >= self.list.len() {
             // Where there is no memory for one more bucket, those that are there take the mark as far as they have room.
@@ -89,8 +89,8 @@ impl Buckets {
 
     /// The mark is here no more.
     pub fn take(&mut self, mark: u64)
-        ensures gone { few_at self.new mark ≡ None }
-        ensures others { (m : ℕ) → m ≢ mark → few_at self.new m ≡ few_at self.old m }
+        ensures gone { in_table self.new mark ≡ None }
+        ensures others { (m : ℕ) → m ≢ mark → in_table self.new m ≡ in_table self.old m }
     {
         if take_from(&mut self.list, self.bits, mark) {
             self.held = self.held.saturating_sub(1);
@@ -100,10 +100,10 @@ impl Buckets {
     /// Where the entry is the newest of its mark, the older one takes its place, and the mark is gone where there is no older one. What was the
     /// newest until now is answered; None where the mark is not here.
     pub fn take_newest(&mut self, mark: u64, number: u64, older: Option<u64>) -> Option<u64>
-        ensures told { result ≡ few_at self.old mark }
-        ensures older { result ≡ Some number → few_at self.new mark ≡ older }
-        ensures stays { result ≢ Some number → few_at self.new mark ≡ few_at self.old mark }
-        ensures others { (m : ℕ) → m ≢ mark → few_at self.new m ≡ few_at self.old m }
+        ensures told { result ≡ in_table self.old mark }
+        ensures older { result ≡ Some number → in_table self.new mark ≡ older }
+        ensures stays { result ≢ Some number → in_table self.new mark ≡ in_table self.old mark }
+        ensures others { (m : ℕ) → m ≢ mark → in_table self.new m ≡ in_table self.old m }
     {
         let told = take_newest_from(&mut self.list, self.bits, mark, number, older);
         if told == Some(number) && older.is_none() {
@@ -114,7 +114,7 @@ impl Buckets {
 
     // Adds a bucket, as long as there are not as many as there may be.
     fn grow(&mut self) -> Result<(), AllocError>
-        ensures same { (m : ℕ) → few_at self.new m ≡ few_at self.old m }
+        ensures same { (m : ℕ) → in_table self.new m ≡ in_table self.old m }
         ensures ok { OnOk result (self.old.bits < 40 → length self.new.buckets ≡ suc (length self.old.buckets)) }
         ensures err { OnErr result (self.new ≡ self.old) }
     {

@@ -1,6 +1,7 @@
 //! A set of numbers below 256.
 ghost use Rattle.std.specs.Prelude.{◌≡◌, ◌≢◌, ℕ, ◌<◌, ◌≤◌, true, false, set, take, length, get_or};
-ghost use Rattle.output_index.specs.Pages.{is_bit, count, count_of, IsWith, IsWithout};
+ghost use Rattle.uo_base.specs.Bits.{is_bit, rank, IsWith, IsWithout};
+ghost use Rattle.output_index.specs.NumberSet.{count};
 
 use std::marker::Model;
 
@@ -12,7 +13,7 @@ pub(crate) struct NumberSet {
 
 impl Model for NumberSet {
     ghost use Rattle.std.specs.Prelude.{◌≡◌, List, Bool, length};
-    ghost use Rattle.output_index.specs.Pages.{flags_of};
+    ghost use Rattle.output_index.specs.NumberSet.{flags_of};
 
     ghost Value = { List Bool };
 
@@ -68,7 +69,7 @@ impl NumberSet {
 
 // How many bits of a word are set.
 fn bits_of(word: u64) -> usize
-    ensures is { result ≡ count_of (is_bit word) 64 }
+    ensures is { result ≡ rank (is_bit word) 64 }
     ensures few { result ≤ 64 }
 {
     word.count_ones() as usize
@@ -77,7 +78,7 @@ fn bits_of(word: u64) -> usize
 // How many bits of a word below one are set.
 fn bits_below(word: u64, bit: u64) -> usize
     requires { bit < 64 }
-    ensures is { result ≡ count_of (is_bit word) bit }
+    ensures is { result ≡ rank (is_bit word) bit }
     ensures few { result ≤ 64 }
 {
     (word & ((1 << bit) - 1)).count_ones() as usize

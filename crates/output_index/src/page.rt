@@ -1,9 +1,10 @@
 //! A page: the entries of 256 numbers.
 ghost use Rattle.std.specs.Prelude.{◌≡◌, ℕ, ◌<◌, ◌≤◌, set, length, None, Some, IsSome, option_map, OnOk, OnErr};
-ghost use Rattle.output_index.specs.Chains.{set_live, set_older};
+ghost use Rattle.output_index.specs.Entries.{set_live, set_older};
 ghost use Rattle.output_index.specs.Pages.{entry_in};
 
-use crate::entry::{Entry, Slot};
+use crate::boxed_entry::BoxedEntry;
+use crate::entry::Entry;
 use crate::number_set::NumberSet;
 use std::alloc::{AllocError, Global};
 use std::marker::Model;
@@ -12,7 +13,7 @@ use std::marker::Model;
 #[derive(Drop)]
 pub(crate) struct Page {
     held: NumberSet,
-    slots: Vec<Slot>,
+    slots: Vec<BoxedEntry>,
 }
 
 impl Model for Page {
@@ -71,7 +72,7 @@ impl Page {
     }
 
     /// Puts an entry at its number, which is above those of all others.
-    pub fn put(&mut self, number: u64, slot: Slot) -> Result<(), AllocError>
+    pub fn put(&mut self, number: u64, slot: BoxedEntry) -> Result<(), AllocError>
         requires within { number < 256 }
         requires last { (i : ℕ) → number ≤ i → entry_in self.old i ≡ None }
         ensures ok { OnOk result (self.new ≡ set self.old number (Some slot)) }
@@ -83,7 +84,7 @@ impl Page {
     }
 
     /// Takes out the entry of a number that is held.
-    pub fn take(&mut self, number: u64) -> Slot
+    pub fn take(&mut self, number: u64) -> BoxedEntry
         requires within { number < 256 }
         requires held { IsSome (entry_in self.old number) }
         ensures entry { Some result ≡ entry_in self.old number }
@@ -98,7 +99,7 @@ impl Page {
 
 // Gives room back that is more than an eighth and two places, and all of it where none is held. Where there is no memory for fewer places, the
 // room stays.
-fn shrink(slots: &mut Vec<Slot>)
+fn shrink(slots: &mut Vec<BoxedEntry>)
     ensures { slots.new.items ≡ slots.old.items }
 {
     let len = slots.len();

@@ -4,3 +4,4 @@ pub mod CompactLaws
 pub mod PortLemmas
 pub mod Walks
 pub mod EvenParts
+pub mod Bits

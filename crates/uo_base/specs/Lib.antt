@@ -1,5 +1,6 @@
 -- What public clauses cite. What only proofs and private functions cite is the last part of Reading, and `ahead`.
 pub mod Ahead
+pub mod Bits
 pub mod Compact
 pub mod Faults
 pub mod FeedEvent

@@ -6,7 +6,7 @@ mod pages;
 mod short_lists;
 
 use leaf_record::{Record, RecordView};
-use output_index::{Outpoint, Outputs};
+use output_index::{OutputName, Outputs};
 use std::alloc::{AllocError, Global};
 use std::process::Abort;
 use std::test::Fail;
@@ -38,8 +38,8 @@ fn record_of(alloc: Global, txid: Digest, index: u32) -> Result<Record, AllocErr
     })
 }
 
-fn name_of(txid: Digest, index: u32) -> Outpoint {
-    Outpoint { txid, index }
+fn name_of(txid: Digest, index: u32) -> OutputName {
+    OutputName { txid, index }
 }
 
 #[test]

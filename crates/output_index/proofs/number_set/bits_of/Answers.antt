@@ -1,5 +1,6 @@
-use Rattle.output_index.proofs.Bitmaps.{count_all}
+use Rattle.std.specs.Int.{w64}
+use Rattle.uo_base.proofs.Bits.{rank_all}
 use Rattle.output_index.proofs.number_set.bits_of.Goals as goal
 
 pub returns-clause-is : goal.returns-clause-is
-returns-clause-is c = count_all c.args.word c.ranges.word.fits
+returns-clause-is c = rank_all w64 c.args.word c.ranges.word.fits

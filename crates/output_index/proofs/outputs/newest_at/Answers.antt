@@ -2,7 +2,8 @@ use Rattle.std.proofs.Common.{◌≡◌, true, Some, sym, ap, ◌∙◌, subst}
 use Rattle.std.proofs.lemmas.Bool.{and_from}
 use Rattle.leaf_record.specs.Leaf.{Outpoint}
 use Rattle.leaf_record.specs.History.{same_point}
-use Rattle.output_index.specs.Chains.{IsHead, lives_in, lives_at}
+use Rattle.output_index.specs.Links.{IsHead}
+use Rattle.output_index.specs.Entries.{lives_in, lives_at}
 use Rattle.output_index.proofs.Searching.{walk-starts, walk-finds}
 use Rattle.output_index.proofs.outputs.newest_at.Goals as goal
 

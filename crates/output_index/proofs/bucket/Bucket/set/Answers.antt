@@ -1,6 +1,6 @@
 use Rattle.std.proofs.Common.{◌≡◌, set, length, ap, subst, ◌∙◌, refl}
 use Rattle.std.specs.List.{refill}
-use Rattle.output_index.specs.declared.bucket.Newest.{Newest}
+use Rattle.output_index.specs.declared.bucket_cell.BucketCell.{BucketCell}
 use Rattle.output_index.specs.Buckets.{in_cells, IsFirstAt}
 use Rattle.std.proofs.lemmas.List.{length-set}
 use Rattle.output_index.proofs.Replacing.{refilled}
@@ -11,7 +11,7 @@ pub returns-in-Some-clause-here : goal.returns-in-Some-clause-here
 returns-in-Some-clause-here c =
     let cells = c.self.inside.cells.items in
     let at = c.in-Some.at in
-    let new : Newest = record { mark = c.args.mark; number = c.args.number } in
+    let new : BucketCell = record { mark = c.args.mark; number = c.args.number } in
     let is : refill (length cells) cells (set c.deref_mut.result.now at new) ≡ set cells at new =
     ap (λ xs. refill (length cells) cells (set xs at new)) c.deref_mut.ensures.value
     ∙ refilled (length cells) (set cells at new) cells (length-set cells at new) refl in
@@ -22,7 +22,7 @@ pub returns-in-Some-clause-others : goal.returns-in-Some-clause-others
 returns-in-Some-clause-others c =
     let cells = c.self.inside.cells.items in
     let at = c.in-Some.at in
-    let new : Newest = record { mark = c.args.mark; number = c.args.number } in
+    let new : BucketCell = record { mark = c.args.mark; number = c.args.number } in
     let is : refill (length cells) cells (set c.deref_mut.result.now at new) ≡ set cells at new =
     ap (λ xs. refill (length cells) cells (set xs at new)) c.deref_mut.ensures.value
     ∙ refilled (length cells) (set cells at new) cells (length-set cells at new) refl in

@@ -1,6 +1,6 @@
 use Rattle.std.proofs.Common.{false, sym, ap, ◌∙◌}
 use Rattle.std.specs.Prelude.{get_or}
-use Rattle.output_index.proofs.Bitmaps.{flag_at}
+use Rattle.output_index.proofs.Flags.{flag_at}
 use Rattle.output_index.proofs.number_set.NumberSet.has.Goals as goal
 
 pub returns : goal.returns

@@ -1,6 +1,6 @@
 use Rattle.std.proofs.Common.{◌≡◌, ℕ, List, zero, suc, get_or, refl}
 use Rattle.std.specs.Prelude.{replicate}
-use Rattle.output_index.proofs.Bitmaps.{no_flags}
+use Rattle.output_index.proofs.Flags.{no_flags}
 use Rattle.output_index.proofs.number_set.NumberSet.new.Goals as goal
 
 pub returns-clause-none : goal.returns-clause-none

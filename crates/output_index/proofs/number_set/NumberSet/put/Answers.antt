@@ -1,5 +1,5 @@
 use Rattle.std.proofs.Common.{true, set, ap, ◌∙◌}
-use Rattle.output_index.proofs.Bitmaps.{flags_set}
+use Rattle.output_index.proofs.Flags.{flags_set}
 use Rattle.output_index.proofs.number_set.NumberSet.put.Goals as goal
 
 pub returns : goal.returns

@@ -1,8 +1,8 @@
 use Rattle.std.proofs.Common.{sym, ap, subst, ◌∙◌}
 use Rattle.output_index.specs.Held.{without}
-use Rattle.output_index.specs.Chains.{held_in}
-use Rattle.output_index.specs.Leaving.{IsAlone}
-use Rattle.output_index.proofs.Chaining.{chain-there, mark-held}
+use Rattle.output_index.specs.Entries.{held_in}
+use Rattle.output_index.specs.Forgetting.{IsAlone}
+use Rattle.output_index.proofs.Chaining.{newest-there, mark-held}
 use Rattle.output_index.proofs.Holding.{held-removed}
 use Rattle.output_index.proofs.Forgetting.{mark-inside, chained-alone}
 use Rattle.output_index.proofs.outputs.Outputs.forget_alone.Goals as goal
@@ -10,7 +10,7 @@ use Rattle.output_index.proofs.outputs.Outputs.forget_alone.Goals as goal
 pub take_newest-requires : goal.take_newest-requires
 take_newest-requires c =
     let there = mark-inside c.args.number c.args.mark c.self.inside.entries c.args.self.now c.self.view_is c.requires.mark in
-    chain-there c.args.number c.args.mark c.self.inside.entries c.self.inside.chains there c.self.invariant
+    newest-there c.args.number c.args.mark c.self.inside.entries c.self.inside.marks there c.self.invariant
 
 pub remove-requires : goal.remove-requires
 remove-requires c = mark-held c.args.number c.args.mark c.self.inside.entries
@@ -25,7 +25,7 @@ invariant_of-self c =
     let alone = subst (λ hs. IsAlone hs n m) (sym c.self.view_is) c.requires.alone in
     let taken = c.take_newest.ensures in
     rw c.remove.ensures
-    (chained-alone n m es c.self.inside.chains c.take_newest.new.self c.take_newest.result there alone taken.other taken.older taken.others
+    (chained-alone n m es c.self.inside.marks c.take_newest.new.self c.take_newest.result there alone taken.other taken.older taken.others
     c.self.invariant)
 
 pub returns : goal.returns

@@ -1,6 +1,6 @@
 use Rattle.std.proofs.Common.{ap, ◌∙◌}
 use Rattle.output_index.specs.Held.{without}
-use Rattle.output_index.specs.Chains.{held_in}
+use Rattle.output_index.specs.Entries.{held_in}
 use Rattle.output_index.proofs.Holding.{spent_held, held_there, held_back, held-removed}
 use Rattle.output_index.proofs.Forgetting.{mark-inside}
 use Rattle.output_index.proofs.outputs.Outputs.forget_marked.Goals as goal

@@ -1,6 +1,6 @@
 use Rattle.std.proofs.Common.{◌≡◌, map, take}
 use Rattle.output_index.specs.Held.{newest}
-use Rattle.output_index.specs.Chains.{held_in}
+use Rattle.output_index.specs.Entries.{held_in}
 use Rattle.output_index.proofs.outputs.Outputs.newest_of_all.Given as goal
 
 abbrev pub invariant-loop-at : goal.invariant-loop-at

@@ -1,6 +1,7 @@
 use Rattle.std.proofs.Common.{◌≡◌, ℕ, ◌<◌, ◌≤◌, [], ◌∷◌, length, set, Some, None, ap, ap₂, ◌∙◌, arith}
 use Rattle.std.proofs.lemmas.List.{length-append, length-set}
-use Rattle.output_index.specs.Pages.{count, laid, entry_in}
+use Rattle.output_index.specs.NumberSet.{count}
+use Rattle.output_index.specs.Pages.{laid, entry_in}
 use Rattle.output_index.proofs.Laid.{laid_more, laid_free, count_more}
 use Rattle.output_index.proofs.page.Page.put.Goals as goal
 

@@ -1,6 +1,6 @@
 use Rattle.std.proofs.Common.{◌≡◌, length, set, get_or, sym, ap, ap₂, subst, ◌∙◌, arith}
 use Rattle.std.specs.Prelude.{IsSome, option_map}
-use Rattle.output_index.specs.Chains.{set_older}
+use Rattle.output_index.specs.Entries.{set_older}
 use Rattle.output_index.specs.Pages.{laid, entry_in}
 use Rattle.output_index.proofs.Laid.{laid_some, laid_within, laid_mapped}
 use Rattle.output_index.proofs.page.Page.set_older.Goals as goal

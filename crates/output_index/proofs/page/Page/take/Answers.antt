@@ -3,7 +3,8 @@ use Rattle.std.specs.Prelude.{IsSome}
 use Rattle.std.specs.List.{remove}
 use Rattle.std.proofs.lemmas.List.{length-set}
 use Rattle.std.proofs.lemmas.List.Edits.{length-remove}
-use Rattle.output_index.specs.Pages.{count, laid, entry_in}
+use Rattle.output_index.specs.NumberSet.{count}
+use Rattle.output_index.specs.Pages.{laid, entry_in}
 use Rattle.output_index.proofs.Laid.{laid_some, laid_within, laid_held, laid_less, count_less}
 use Rattle.output_index.proofs.page.Page.take.Goals as goal
 
