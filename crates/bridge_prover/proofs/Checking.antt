@@ -41,7 +41,7 @@ use Rattle.node_rules.proofs.Telling.{count_told, empty_told, other_told}
 use Rattle.node_rules.specs.Judged.{IsFirst}
 use Rattle.node_rules.specs.Refusing.{proof_refusal}
 use Rattle.node_rules.proofs.ClaimedLeaves.{leaves-long}
-use Rattle.bridge_prover.specs.Shown.{AreKnown, IsChecked, fault_in}
+use Rattle.bridge_prover.specs.Shown.{AreKnown, IsChecked, view_in}
 use Rattle.bridge_prover.proofs.Gathering.{somes-map}
 
 -- ---- what is refused of targets and hashes is a fault of the proof
@@ -126,7 +126,10 @@ targeted t n ts a b = ap₂ (λ (k : ℕ) (ps : List Place). let x : Targeted = 
 module _ (H : List ℕ → Digest) (es : List (Option Digest)) (known : ℕ → ℕ → Option Digest) (ext : List Outside)
     (m : Message) where
   abbrev view : View
-  view = record { n = length es; roots = root H es; known = known }
+  view = view_in H es known
+
+  abbrev refused : Option ProofRefusal
+  refused = proof_fault H view (points_of ext) m
 
   -- the steps behind that on the targets
   abbrev behind : ℕ → Option ProofRefusal
@@ -142,7 +145,7 @@ module _ (H : List ℕ → Digest) (es : List (Option Digest)) (known : ℕ → 
       )
 
   pub misplaced : (n : ℕ) (fault : RuleFault) → n ≡ length es → TargetsJudged n m (Err fault)
-      → IsFirst (option_map Why.Proof (fault_in H es known ext m)) fault
+      → IsFirst (option_map Why.Proof refused) fault
   misplaced n NoMemory same h = tt
   misplaced n (Refused why) same h =
       let w = targets_told n m why h in
@@ -157,7 +160,7 @@ module _ (H : List ℕ → Digest) (es : List (Option Digest)) (known : ℕ → 
     same_targets : t ≡ record { leaves = length es; targets = targets (length es) m }
     same_targets = targeted t (length es) (targets (length es) m) is_named.leaves targets-are
 
-    pub miscounted : (fault : RuleFault) → HashesJudged m t known (Err fault) → IsFirst (option_map Why.Proof (fault_in H es known ext m)) fault
+    pub miscounted : (fault : RuleFault) → HashesJudged m t known (Err fault) → IsFirst (option_map Why.Proof refused) fault
     miscounted NoMemory h = tt
     miscounted (Refused why) h =
         let w = hashes_told m t known why h in
@@ -199,7 +202,7 @@ module _ (H : List ℕ → Digest) (es : List (Option Digest)) (known : ℕ → 
       full-here = subst (λ (x : Targeted). AreHashes m x known hashes) (targeted t f.leaves ts named-here.leaves targets-here) full
 
       -- the fault is that of the same proof in full, over the roots
-      fault-here : fault_in H es known ext m ≡ proof_fault H seen (points_of ext) p
+      fault-here : refused ≡ proof_fault H seen (points_of ext) p
       fault-here =
           ap (λ k. proof_fault H (record { n = k; roots = root H es; known = known }) (points_of ext) m) (sym stands.leaves)
           ∙ (same_in_slots H (points_of ext) m f.leaves (root H es) (root_in f) known (λ row s. sym (stands.roots row s))
@@ -221,7 +224,7 @@ module _ (H : List ℕ → Digest) (es : List (Option Digest)) (known : ℕ → 
 
       pub refused_by : (fault : ProofFault) (leaves' hashes' : List Digest) → leaves' ≡ leaves → hashes' ≡ hashes
           → IsProofFault H f t.targets leaves' hashes' fault →
-          option_map Why.Proof (fault_in H es known ext m) ≡ Some (Why.Proof (proof_refusal fault))
+          option_map Why.Proof refused ≡ Some (Why.Proof (proof_refusal fault))
       refused_by fault leaves' hashes' e h is =
           ap (option_map Why.Proof) (fault-here ∙ fault_is fault
           (subst (λ xs. IsProofFault H f xs leaves hashes fault) targets-here
@@ -246,9 +249,9 @@ same_known H scripts us known k = fun_ext (λ row. fun_ext (λ off. k.each row o
 
 pub fault_same : (H : List ℕ → Digest) (scripts : List (List ℕ)) (es : List (Option Digest)) (us : History)
     (known : List (Place × Digest)) (ext : List Outside) (m : Message) → es ≡ entries H leaf_text us → AreKnown H scripts us known →
-    fault_in H es (look known) ext m ≡ proof_fault H (view_of H scripts us) (points_of ext) m
+    proof_fault H (view_in H es (look known)) (points_of ext) m ≡ proof_fault H (view_of H scripts us) (points_of ext) m
 fault_same H scripts es us known ext m e k =
-    ap (λ x. fault_in H x (look known) ext m) e
-    ∙ (ap (λ x. fault_in H (entries H leaf_text us) x ext m) (same_known H scripts us known k)
+    ap (λ x. proof_fault H (view_in H x (look known)) (points_of ext) m) e
+    ∙ (ap (λ x. proof_fault H (view_in H (entries H leaf_text us) x) (points_of ext) m) (same_known H scripts us known k)
     ∙ ap (λ n. proof_fault H (record { n = n; roots = root H (entries H leaf_text us); known = known_at H scripts us }) (points_of ext) m)
     (length-map us (option_map (λ r. H (leaf_text r)))))

@@ -26,7 +26,8 @@ use Rattle.node_rules.specs.Judged.{IsFirst}
 use Rattle.node_rules.proofs.Counted.{external_few}
 use Rattle.node_rules.proofs.Firsts.{first-in, first-behind, none-both}
 use Rattle.bridge_prover.specs.Bridge.{BridgeState, refusal_on, message_by, bridge_with}
-use Rattle.bridge_prover.specs.Judged.{AreFound, IsReady, IsProved, first_missing}
+use Rattle.bridge_prover.specs.Judged.{AreFound, IsReady, IsPassed}
+use Rattle.bridge_prover.specs.Own.{first_missing}
 use Rattle.bridge_prover.specs.Standing.{IsBridge}
 use Rattle.bridge_prover.proofs.Gathering.{somes-map}
 use Rattle.bridge_prover.proofs.Next.{ready}
@@ -134,7 +135,7 @@ module _ (H : List ℕ → Digest) (s : BridgeState) (b : Block) (spends : Block
 
     pub proved_by : (hash : Digest) (message : Option (List ℕ)) (t : BridgeState) → hash ≡ block_hash_of b
         → message ≡ written_text spends.external (message_by H s.watch s.entries s.held numbers) → t ≡ bridge_with H s hash numbers spends.new
-        → IsProved H s b message t
+        → IsPassed H s b message t
     proved_by hash message t at says next =
         let are = numbers_are s b spends shaped numbers known.each known.passes in
         record {

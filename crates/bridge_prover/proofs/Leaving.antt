@@ -21,7 +21,7 @@ use Rattle.cache_model.specs.Cache.{held}
 use Rattle.cache_model.specs.Lists.{kept_leaves, IsCacheOf}
 use Rattle.cache_model.proofs.Histories.{known_is, is_ordered}
 use Rattle.proof_wire.specs.BlockProof.{BlockProof}
-use Rattle.node_rules.specs.Messages.{Message, sent, targets}
+use Rattle.node_rules.specs.Messages.{sent, targets}
 use Rattle.node_rules.specs.Judging.{known_for}
 use Rattle.node_rules.specs.Machine.{State}
 use Rattle.node_rules.proofs.Righting.{got_back, got_entry}
@@ -32,7 +32,6 @@ use Rattle.output_index.proofs.HeldLaws.{live_is_held}
 use Rattle.output_index.proofs.Standing.{live_is_there}
 use Rattle.proof_shape.specs.Targeted.{Targeted}
 use Rattle.bridge_prover.specs.Bridge.{BridgeState, spends_by, proof_by, message_by}
-use Rattle.bridge_prover.specs.Judged.{proof_beside}
 use Rattle.bridge_prover.specs.Laws.{KnownIsOwn}
 use Rattle.bridge_prover.specs.Standing.{IsBridge, Stands}
 use Rattle.bridge_prover.specs.Watched.{scripts_of, noted_in, kept_in, places_in, known_list, known_in}
@@ -40,6 +39,7 @@ use Rattle.bridge_prover.proofs.Gathering.{somes-found}
 use Rattle.bridge_prover.proofs.Kept.{kept_shape}
 use Rattle.bridge_prover.proofs.Noting.{kept_same, kept_rise, kept_live, kept-live}
 use Rattle.bridge_prover.proofs.Rising.{all_mapped}
+use Rattle.bridge_prover.proofs.Showing.{proof_beside}
 
 -- ---- by the history
 
@@ -195,13 +195,10 @@ module _ (H : List ℕ → Digest) (s : BridgeState) where
       ∙ ap (λ (x : BridgeState). places_in x.entries (kept_in (scripts_of x.watch) x.held)) same))
 
   -- the message
-  pub message_told : (kept : List Place) → kept ≡ places_in s.entries (kept_in (scripts_of s.watch) s.held) → (lean : Bool) → lean ≡ is_some s.watch
-      → (numbers : List ℕ) →
-      sent lean (proof_beside H kept s.entries s.held numbers) ≡ message_by H s.watch s.entries s.held numbers
-  message_told kept at lean is numbers =
-      let made : Bool → List Place → Message = λ b ps. sent b (proof_beside H ps s.entries s.held numbers) in
-      ap (λ b. made b kept) is ∙ (ap (λ ps. made (is_some s.watch) ps) at
-      ∙ ap (sent (is_some s.watch)) (proof_same_beside H s.entries s.watch s.held numbers))
+  pub message_told : (numbers : List ℕ)
+      → sent (is_some s.watch) (proof_beside H (places_in s.entries (kept_in (scripts_of s.watch) s.held)) s.entries s.held numbers)
+      ≡ message_by H s.watch s.entries s.held numbers
+  message_told numbers = ap (sent (is_some s.watch)) (proof_same_beside H s.entries s.watch s.held numbers)
 
   -- what is known
   pub known_found : {X E : Type 0} (items : X → List (Place × Digest)) (P : List (Place × Digest) → Type 0)

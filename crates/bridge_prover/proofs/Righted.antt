@@ -37,23 +37,23 @@ use Rattle.output_index.specs.Held.{Held, leaf_at, NumbersRise}
 use Rattle.output_index.specs.Indexed.{IsIndexOf}
 use Rattle.output_index.proofs.Standing.{there_is_live}
 use Rattle.node_rules.proofs.ClaimedLeaves.{claim_at, claims-long}
-use Rattle.bridge_prover.specs.Shown.{IsHistory, shown_by, shown_at, shown_all, AreShown, IsShown}
+use Rattle.bridge_prover.specs.Shown.{IsHistory, if_claimed, claimed_at, all_claimed, AreAllOf, Shows}
 use Rattle.bridge_prover.proofs.Gathering.{somes-map}
 
 -- ---- the loop over the spends
 
 pub shown-next : (es : List (Option Digest)) (hs : List Held) (ts : List Place) (claims : List Leaf) (i : ℕ) (d : Place) (claim : Leaf)
-    → i < length ts → slice_get claims i ≡ Some claim → slice_get (shown_all es hs ts claims) i ≡ Some (shown_at es hs (get_or ts i d) claim)
+    → i < length ts → slice_get claims i ≡ Some claim → slice_get (all_claimed es hs ts claims) i ≡ Some (claimed_at es hs (get_or ts i d) claim)
 shown-next es hs [] claims i d claim lt got = absurd (omega (arith, lt))
 shown-next es hs (p ∷ ts) [] i d claim lt got = absurd (none-some claim got)
-shown-next es hs (p ∷ ts) (c ∷ claims) zero d claim lt got = ap (λ x. Some (shown_at es hs p x)) (same_Some c claim got)
+shown-next es hs (p ∷ ts) (c ∷ claims) zero d claim lt got = ap (λ x. Some (claimed_at es hs p x)) (same_Some c claim got)
 shown-next es hs (p ∷ ts) (c ∷ claims) (suc i) d claim lt got = shown-next es hs ts claims i d claim (omega (arith, lt)) got
 
 -- the next one
 pub shown-here : (es : List (Option Digest)) (hs : List Held) (ts : List Place) (ext : List Outside) (rests : List Rest) (i : ℕ) (d : Outside)
     (e : Place) (rest : Rest) (claim : Leaf) (number : Option ℕ) → i < length ext → length ts ≡ length ext → slice_get rests i ≡ Some rest →
-    claim ≡ record { point = point_of (get_or ext i d); rest = rest } → number ≡ shown_at es hs (get_or ts i e) claim
-    → slice_get (shown_all es hs ts (claimed (points_of ext) rests)) i ≡ Some number
+    claim ≡ record { point = point_of (get_or ext i d); rest = rest } → number ≡ claimed_at es hs (get_or ts i e) claim
+    → slice_get (all_claimed es hs ts (claimed (points_of ext) rests)) i ≡ Some number
 shown-here es hs ts ext rests i d e rest claim number lt long got is shown =
     shown-next es hs ts (claimed (points_of ext) rests) i e claim (omega (arith, lt, long))
     (claim_at ext rests i (get_or ext i d) rest (slice_get-get_or ext i d lt) got ∙ ap Some (sym is)) ∙ ap Some (sym shown)
@@ -63,15 +63,15 @@ pub shown-more : (shown : List (Option ℕ)) (i : ℕ) (number : ℕ) (old new :
 shown-more shown i number old new got was e = one_more _ _ _ _ _ got was (ap (map Some) e ∙ map-append Some old (number ∷ []))
 
 shown-long : (es : List (Option Digest)) (hs : List Held) (ts : List Place) (claims : List Leaf) → length ts ≡ length claims
-    → length (shown_all es hs ts claims) ≡ length ts
+    → length (all_claimed es hs ts claims) ≡ length ts
 shown-long es hs [] claims e = refl
 shown-long es hs (p ∷ ts) [] e = absurd (omega (arith, e))
 shown-long es hs (p ∷ ts) (c ∷ claims) e = ap suc (shown-long es hs ts claims (omega (arith, e)))
 
 pub shown-end : (es : List (Option Digest)) (hs : List Held) (ts : List Place) (ext : List Outside) (rests : List Rest) (i : ℕ) (numbers : List ℕ)
     → length ts ≡ length ext → length rests ≡ length ext → length ext ≤ i →
-    map Some numbers ≡ take i (shown_all es hs ts (claimed (points_of ext) rests))
-    → map Some numbers ≡ shown_all es hs ts (claimed (points_of ext) rests)
+    map Some numbers ≡ take i (all_claimed es hs ts (claimed (points_of ext) rests))
+    → map Some numbers ≡ all_claimed es hs ts (claimed (points_of ext) rests)
 shown-end es hs ts ext rests i numbers long count le is =
     is ∙ take_all i _ (let a = shown-long es hs ts (claimed (points_of ext) rests) (long ∙ sym (claims-long ext rests count)) in
     omega (arith, a, long, le))
@@ -185,10 +185,10 @@ module _ (H : List ℕ → Digest) (hs : List Held) (us : History) (rise : Numbe
   is_some-if i true = refl
   is_some-if i false = refl
 
-  shown-same : (p : Place) (claim : Leaf) → is_some (shown_at es hs p claim) ≡ stands_for H us (Some p) claim
+  shown-same : (p : Place) (claim : Leaf) → is_some (claimed_at es hs p claim) ≡ stands_for H us (Some p) claim
   shown-same p claim = by (tree_at es p.row p.off) refl
     where
-      by : (x : Option Tree) → tree_at es p.row p.off ≡ x → is_some (shown_by hs claim (leaf_number x)) ≡ is_live us claim (leaf_number x)
+      by : (x : Option Tree) → tree_at es p.row p.off ≡ x → is_some (if_claimed hs claim (leaf_number x)) ≡ is_live us claim (leaf_number x)
       by None e = refl
       by (Some (inner a b)) e = refl
       by (Some (leaf i d)) e = is_some-if i (is_leaf claim (leaf_at i hs))
@@ -198,11 +198,11 @@ module _ (H : List ℕ → Digest) (hs : List Held) (us : History) (rise : Numbe
   if-some i j true e = e
   if-some i j false e = absurd (none-some i e)
 
-  shown-number : (claim : Leaf) (i : ℕ) (x : Option ℕ) → shown_by hs claim x ≡ Some i → x ≡ Some i
+  shown-number : (claim : Leaf) (i : ℕ) (x : Option ℕ) → if_claimed hs claim x ≡ Some i → x ≡ Some i
   shown-number claim i None e = absurd (none-some i e)
   shown-number claim i (Some j) e = if-some i j (is_leaf claim (leaf_at j hs)) e
 
-  all-shown : (ts : List Place) (claims : List Leaf) (ns : List ℕ) → length ts ≡ length claims → map Some ns ≡ shown_all es hs ts claims →
+  all-shown : (ts : List Place) (claims : List Leaf) (ns : List ℕ) → length ts ≡ length claims → map Some ns ≡ all_claimed es hs ts claims →
       (all_stand H us (map Some ts) claims ≡ true) × (ns ≡ somes (map (entry_number_at es) ts))
   all-shown [] [] [] long e = (refl, refl)
   all-shown [] [] (n ∷ ns) long e = absurd (cc)
@@ -210,8 +210,8 @@ module _ (H : List ℕ → Digest) (hs : List Held) (us : History) (rise : Numbe
   all-shown (p ∷ ts) [] ns long e = absurd (omega (arith, long))
   all-shown (p ∷ ts) (c ∷ claims) [] long e = absurd (cc)
   all-shown (p ∷ ts) (c ∷ claims) (n ∷ ns) long e =
-      let head : Some n ≡ shown_at es hs p c = cc in
-      let tail : map Some ns ≡ shown_all es hs ts claims = cc in
+      let head : Some n ≡ claimed_at es hs p c = cc in
+      let tail : map Some ns ≡ all_claimed es hs ts claims = cc in
       let rest = all-shown ts claims ns (omega (arith, long)) tail in
       let number : entry_number_at es p ≡ Some n = shown-number c n (entry_number_at es p) (sym head) in (
         and_from (stands_for H us (Some p) c) (all_stand H us (map Some ts) claims) (sym (shown-same p c) ∙ ap is_some (sym head)) rest.0,
@@ -222,7 +222,7 @@ module _ (H : List ℕ → Digest) (hs : List Held) (us : History) (rise : Numbe
   and-false true b e = e
   and-false false b e = refl
 
-  one-missing : (ts : List Place) (claims : List Leaf) (i : ℕ) → slice_get (shown_all es hs ts claims) i ≡ Some None → length ts ≡ length claims
+  one-missing : (ts : List Place) (claims : List Leaf) (i : ℕ) → slice_get (all_claimed es hs ts claims) i ≡ Some None → length ts ≡ length claims
       → all_stand H us (map Some ts) claims ≡ false
   one-missing [] claims i e long = absurd (none-some None e)
   one-missing (p ∷ ts) [] i e long = absurd (none-some None e)
@@ -236,7 +236,7 @@ module _ (H : List ℕ → Digest) (hs : List Held) (us : History) (rise : Numbe
     claims = claimed (points_of ext) (rests_of m.proof.spends)
 
     abbrev shown : List (Option ℕ)
-    shown = shown_all es hs t.targets claims
+    shown = all_claimed es hs t.targets claims
 
     abbrev known : ℕ → ℕ → Option Digest
     known = known_to m.lean (known_at H scripts us)
@@ -314,14 +314,16 @@ module _ (H : List ℕ → Digest) (es' : List (Option Digest)) (hs : List Held)
   named-so : AreNamed (length us) m t
   named-so = subst (λ n. AreNamed n m t) entries-long are
 
-  shown-so : shown_all es' hs places (claimed (points_of ext) (rests_of m.proof.spends))
-      ≡ shown_all (entries H leaf_text us) hs t.targets (claimed (points_of ext) (rests_of m.proof.spends))
-  shown-so = ap₂ (λ x ps. shown_all x hs ps (claimed (points_of ext) (rests_of m.proof.spends))) h.entries_are at
+  shown-so : all_claimed es' hs places (claimed (points_of ext) (rests_of m.proof.spends))
+      ≡ all_claimed (entries H leaf_text us) hs t.targets (claimed (points_of ext) (rests_of m.proof.spends))
+  shown-so = ap₂ (λ x ps. all_claimed x hs ps (claimed (points_of ext) (rests_of m.proof.spends))) h.entries_are at
 
-  pub none_shown : (x : Option (Vec ℕ)) → x ≡ None → AreShown (shown_all es' hs places (claimed (points_of ext) (rests_of m.proof.spends))) x
+  pub none_shown : (x : Option (Vec ℕ)) → x ≡ None
+      → AreAllOf (all_claimed es' hs places (claimed (points_of ext) (rests_of m.proof.spends))) (option_map (λ all. all.items) x)
       → is_right_message H scripts us ext (read m) ≡ false
   none_shown x e a =
-      let b = subst (AreShown (shown_all es' hs places (claimed (points_of ext) (rests_of m.proof.spends)))) e a in
+      let b = subst (λ (y : Option (Vec ℕ)). AreAllOf (all_claimed es' hs places (claimed (points_of ext) (rests_of m.proof.spends)))
+      (option_map (λ all. all.items) y)) e a in
       entry-missing H hs us h.rise h.index ext m t count named-so scripts b.0 (ap (λ xs. slice_get xs b.0) (sym shown-so) ∙ b.1)
 
   module _ (hashes : List Digest) (full : AreHashes m t (known_at H scripts us) hashes) (needed : List Place)
@@ -333,9 +335,10 @@ module _ (H : List ℕ → Digest) (es' : List (Option Digest)) (hs : List Held)
     hash_wrong differ = hash-missing H hs us h.rise h.index ext m t count named-so scripts hashes full (λ e. differ (e ∙ sym there-so))
 
     pub all_right : (x : Option (Vec ℕ)) (numbers : Vec ℕ) → x ≡ Some numbers
-        → AreShown (shown_all es' hs places (claimed (points_of ext) (rests_of m.proof.spends))) x
+        → AreAllOf (all_claimed es' hs places (claimed (points_of ext) (rests_of m.proof.spends))) (option_map (λ all. all.items) x)
         → map Some hashes ≡ map (λ p. digest_at H es' p.row p.off) needed →
-        IsShown H scripts us ext m (Some numbers)
+        Shows H scripts us ext (read m) (Some numbers.items)
     all_right x numbers e a stand =
-        let b = subst (AreShown (shown_all es' hs places (claimed (points_of ext) (rests_of m.proof.spends)))) e a in
+        let b = subst (λ (y : Option (Vec ℕ)). AreAllOf (all_claimed es' hs places (claimed (points_of ext) (rests_of m.proof.spends)))
+        (option_map (λ all. all.items) y)) e a in
         is-right H hs us h.rise h.index ext m t count named-so scripts hashes full numbers.items (b ∙ shown-so) (stand ∙ there-so)

@@ -31,7 +31,7 @@ use Rattle.leaf_record.specs.Leaf.{Leaf, Rest}
 use Rattle.leaf_record.specs.History.{somes}
 use Rattle.proof_wire.specs.BlockProof.{BlockProof, targets_of, spends_of}
 use Rattle.cache_model.specs.Known.{is_known}
-use Rattle.node_rules.specs.Messages.{sent, number_of}
+use Rattle.node_rules.specs.Messages.{sent, number_of, targets}
 use Rattle.live_forest.specs.State.{is_live}
 use Rattle.live_forest.specs.Proving.{places_of, standing, proof_of}
 use Rattle.live_forest.specs.declared.batch.Sibling.{Sibling}
@@ -40,7 +40,7 @@ use Rattle.output_index.specs.Held.{Held, held_at, leaf_at, is_live as is_held_l
 use Rattle.output_index.proofs.HeldLaws.{live_is_held}
 use Rattle.bridge_prover.specs.Bridge.{target_of, spend_of, spends_by}
 use Rattle.bridge_prover.specs.Own.{leaves_in}
-use Rattle.bridge_prover.specs.Judged.{proof_beside, hashes_unknown}
+use Rattle.bridge_prover.specs.Draft.{hashes_unknown}
 use Rattle.bridge_prover.proofs.Gathering.{map-append, mapped_more}
 
 pub live_within : (es : List (Option Digest)) (i : ℕ) (p : Place) → is_some (get_or es i None) ≡ true
@@ -247,6 +247,17 @@ module _ (es : List (Option Digest)) (numbers spent : List ℕ) (live : All (λ 
       sym (spent_is_target es (places_of es numbers) numbers (stand_there es numbers live) r o w.0 w.1 w.2) ∙ (same_spent w.0 ∙ w.3))
       (λ h. let w = target_entry es (places_of es numbers) numbers r o (stand_there es numbers live) h in
       sym (spent_is_target es (places_of es spent) spent (stand_there es spent live_too) r o w.0 w.1 w.2) ∙ (sym (same_spent w.0) ∙ w.3))
+
+-- the proof of these entries, without the hashes that are known where the kept entries stand at these places
+abbrev pub proof_beside : (List ℕ → Digest) → List Place → List (Option Digest) → List Held → List ℕ → BlockProof
+proof_beside H kept es hs numbers =
+    let spends = spends_by es hs numbers in
+    let ts = targets (length es) (sent false (record { spends = spends; hashes = [] })) in
+    record {
+      spends = spends;
+      hashes = somes
+          (map (λ p. digest_at H es p.row p.off) (filter (λ p. not (is_known (length es) kept p)) (need (length es) ts)));
+    }
 
 -- the targets of what is shown of live entries that are held are their places
 targets_placed : (es : List (Option Digest)) → length es ≤ 2 ^ 40 → (hs : List Held) (numbers : List ℕ)

@@ -1,6 +1,6 @@
 -- What a bridge says of a block by the message beside it, from what each call answered.
-use Rattle.std.proofs.Common.{◌≡◌, ℕ, Bool, true, false, List, [], ◌∷◌, ◌++◌, map, length, Option, Some, None, refl, sym, ap, ap₂, ◌∙◌, subst, arith}
-use Rattle.std.specs.Prelude.{not, ◌&&◌, is_none, option_map, Result, Ok, Err, IfErr}
+use Rattle.std.proofs.Common.{◌≡◌, ℕ, Bool, true, false, List, [], ◌∷◌, ◌++◌, length, Option, Some, None, refl, sym, ap, ap₂, ◌∙◌, subst, arith}
+use Rattle.std.specs.Prelude.{not, ◌&&◌, is_none, option_map, Err, IfSome}
 use Rattle.std.specs.Global.{Vec}
 use Rattle.std.specs.List.{AllByRecursion}
 use Rattle.std.specs.Option.{option_or}
@@ -12,7 +12,6 @@ use Rattle.forest_place.specs.declared.place.Place.{Place}
 use Rattle.forest_model.specs.Cover.{need}
 use Rattle.block_codec.specs.Block.{Block, BlockFits, block_hash_of}
 use Rattle.leaf_record.specs.History.{History}
-use Rattle.proof_wire.specs.BlockProof.{rests_of}
 use Rattle.proof_shape.specs.Targeted.{Targeted}
 use Rattle.block_rules.specs.declared.chain.Outside.{Outside}
 use Rattle.block_rules.specs.declared.fault.RuleFault.{RuleFault}
@@ -23,7 +22,7 @@ use Rattle.block_rules.specs.declared.refusal.ProofRefusal.{ProofRefusal}
 use Rattle.block_rules.specs.Steps.{first_of}
 use Rattle.block_rules.specs.Blocks.{external, new_records}
 use Rattle.block_rules.specs.Rules.{block_steps}
-use Rattle.block_rules.specs.Money.{BlockSpends, found_of, spends_of, money_steps}
+use Rattle.block_rules.specs.Money.{BlockSpends, spends_of, money_steps}
 use Rattle.block_rules.specs.Judged.{ShapeJudged, IsShaped}
 use Rattle.block_rules.proofs.Firsts.{first_of-append, append_passes, each_passes}
 use Rattle.cache_model.specs.Cache.{look}
@@ -44,9 +43,9 @@ use Rattle.bridge_prover.specs.declared.bridge.judge.Shown.{Shown}
 use Rattle.bridge_prover.specs.Bridge.{BridgeState, bridge_with}
 use Rattle.bridge_prover.specs.Standing.{IsLiveIn, IsBridge}
 use Rattle.bridge_prover.specs.Judged.{IsReady}
-use Rattle.bridge_prover.specs.Shown.{IsHistory, AreKnown, IsChecked, IsShown, IsShownBy, fault_in}
+use Rattle.bridge_prover.specs.Shown.{IsHistory, AreKnown, IsChecked, Shows, ShowsByEach, view_in}
 use Rattle.bridge_prover.specs.Full.{watched_by, history_of}
-use Rattle.bridge_prover.specs.Taken.{IsRightOf, IsWrongOf, IsAcceptedBy, AreRight, AreNotTaken, IsGone, IsCaught, IsNotTaken, fault_for}
+use Rattle.bridge_prover.specs.Taken.{IsTaken, IsNotTaken, refusal_beside, view_on}
 use Rattle.bridge_prover.proofs.Checking.{same_known, fault_same}
 use Rattle.node_rules.proofs.Firsts.{first-in, first-behind, none-both}
 use Rattle.bridge_prover.proofs.Historied.{is_history, own_history, newest_history}
@@ -159,17 +158,18 @@ module _ (H : List ℕ → Digest) (s : BridgeState) (b : Block) (us : History)
       by (Some fault) is e = and-false (is_none (first_of ahead)) _ refl
 
   -- one that the roots accept and that is not right is
-  pub wrong_forged : (handed : Handed) → IsWrongOf H (watched_by s) us (external b s.chain.blocks) handed
+  pub wrong_forged : (handed : Handed) → first_of (compact H (view_of H (watched_by s) us) (external b s.chain.blocks) handed).steps ≡ None
+      → is_right_message H (watched_by s) us (external b s.chain.blocks) handed ≡ false
       → is_forged H (watched_by s) s.rules s.chain us b handed ≡ true
-  wrong_forged nothing w = absurd (false≢true (sym w.wrong))
-  wrong_forged (unread why) w = absurd (false≢true (sym w.wrong))
-  wrong_forged (read m) w =
+  wrong_forged nothing e wrong = absurd (false≢true (sym wrong))
+  wrong_forged (unread why) e wrong = absurd (false≢true (sym wrong))
+  wrong_forged (read m) e wrong =
       let ms = message_steps (external b s.chain.blocks) (read m) in
-      let parts = append_passes ms (view_step H (view_of H (watched_by s) us) (external b s.chain.blocks) (read m) ∷ []) w.passes in
+      let parts = append_passes ms (view_step H (view_of H (watched_by s) us) (external b s.chain.blocks) (read m) ∷ []) e in
       let fault : proof_fault H (view_of H (watched_by s) us) (points_of (external b s.chain.blocks)) m ≡ None =
       mapped-none _ (each_passes (view_step H (view_of H (watched_by s) us) (external b s.chain.blocks) (read m) ∷ []) 0 parts.1) in
       let first = none-both (block_steps s.rules.net s.rules.limits s.chain b) ms shape parts.0 in
-      forged-so _ _ _ first fault w.wrong
+      forged-so _ _ _ first fault wrong
     where
       forged-so : (x : Option Refusal) (fault : Option ProofRefusal) (right : Bool) → x ≡ None → fault ≡ None → right ≡ false
           → (is_none x && (is_none fault && not right)) ≡ true
@@ -188,85 +188,94 @@ module _ (H : List ℕ → Digest) (s : BridgeState) (b : Block) (handed : Hande
     same_external = ap (λ (x : BlockSpends). x.external) shaped.spends
 
     -- a message that is not accepted
-    pub not_shown : (fault : RuleFault) → AreNotTaken H s spends.external handed fault → IsNotTaken H s b handed fault
+    pub not_shown : (fault : RuleFault) → IsFirst (refusal_beside H s spends.external handed) fault → IsNotTaken H s b handed fault
     not_shown NoMemory a = tt
     not_shown (Refused why) a =
         let us = history_of s in
         let first : first_of (compact H (view_of H (watched_by s) us) (external b s.chain.blocks) handed).steps ≡ Some why =
-        subst (λ ext. first_of (compact H (view_of H (watched_by s) us) ext handed).steps ≡ Some why) same_external a in
+        subst (λ ext. refusal_beside H s ext handed ≡ Some why) same_external a in
         let f = refused_honest H s b us shaped.passes handed why first in
         (f, by_step H s b handed us why f shaped.passes first)
 
-    -- one that is accepted and not right
-    pub caught : (t : BridgeState) → AreRight H s spends.external handed None → t ≡ s → IsCaught H s b handed t
-    caught t a same =
-        let us = history_of s in
-        let wrong : IsWrongOf H (watched_by s) us (external b s.chain.blocks) handed =
-        subst (λ ext. IsWrongOf H (watched_by s) us ext handed) same_external a in
-        record { forged = wrong_forged H s b us shaped.passes handed wrong; next = same }
+    module _ (answer : Option Shown) (passes : refusal_beside H s spends.external handed ≡ None)
+        (shows : Shows H (watched_by s) (history_of s) spends.external handed (option_map (λ a. a.numbers.items) answer)) where
+      shows_at : (x : Option Shown) → answer ≡ x
+          → Shows H (watched_by s) (history_of s) (external b s.chain.blocks) handed (option_map (λ a. a.numbers.items) x)
+      shows_at x is =
+          subst (λ ext. Shows H (watched_by s) (history_of s) ext handed (option_map (λ a. a.numbers.items) x)) same_external
+          (subst (λ (y : Option Shown). Shows H (watched_by s) (history_of s) spends.external handed (option_map (λ a. a.numbers.items) y)) is shows)
+
+      passes_here : refusal_beside H s (external b s.chain.blocks) handed ≡ None
+      passes_here = subst (λ ext. refusal_beside H s ext handed ≡ None) same_external passes
+
+      -- one that is accepted and not right
+      pub caught : (t : BridgeState) → answer ≡ None → t ≡ s → IsTaken H s b handed false t
+      caught t is same = (wrong_forged H s b (history_of s) shaped.passes handed passes_here (shows_at None is), same)
 
     -- and one that is right
-    module _ (shown : Shown) (are : AreRight H s spends.external handed (Some shown)) where
-      right_so : IsRightOf H (watched_by s) (history_of s) (external b s.chain.blocks) handed shown
-      right_so = subst (λ ext. IsRightOf H (watched_by s) (history_of s) ext handed shown) same_external are
+    module _ (answer : Option Shown) (passes : refusal_beside H s spends.external handed ≡ None)
+        (shows : Shows H (watched_by s) (history_of s) spends.external handed (option_map (λ a. a.numbers.items) answer))
+        (finds : IfSome answer (λ a. a.found.items ≡ found_by handed)) (shown : Shown) (is_shown : answer ≡ Some shown) where
+      are : (is_right_message H (watched_by s) (history_of s) (external b s.chain.blocks) handed ≡ true)
+          × (shown.numbers.items ≡ entries_shown H (history_of s) handed)
+      are = shows_at answer passes shows (Some shown) is_shown
+
+      found : shown.found.items ≡ found_by handed
+      found = subst (λ (x : Option Shown). IfSome x (λ a. a.found.items ≡ found_by handed)) is_shown finds
+
+      tested : refusal_beside H s (external b s.chain.blocks) handed ≡ None
+      tested = passes_here answer passes shows
 
       pub found_many : length shown.found.items ≡ length spends.external
       found_many =
           let ext = external b s.chain.blocks in
           let by_view = view_step H (view_of H (watched_by s) (history_of s)) ext handed ∷ [] in
-          let passes : first_of (message_steps ext handed) ≡ None = (append_passes (message_steps ext handed) by_view right_so.passes).0 in
-          ap length right_so.found ∙ (found_long ext handed passes ∙ ap length (sym same_external))
+          let by_message : first_of (message_steps ext handed) ≡ None = (append_passes (message_steps ext handed) by_view tested).0 in
+          ap length found ∙ (found_long ext handed by_message ∙ ap length (sym same_external))
 
       same_money : money_steps spends shown.found.items ≡ on_money H s b handed (history_of s)
-      same_money = ap₂ money_steps shaped.spends right_so.found
+      same_money = ap₂ money_steps shaped.spends found
 
       not_forged : is_forged H (watched_by s) s.rules s.chain (history_of s) b handed ≡ false
-      not_forged = honest H s b handed (history_of s) right_so.right
+      not_forged = honest H s b handed (history_of s) are.0
 
       pub unpaid : (why : Refusal) → first_of (money_steps spends shown.found.items) ≡ Some why → IsNotTaken H s b handed (Refused why)
       unpaid why e = (
         not_forged,
-        by_money H s b handed (history_of s) why not_forged shaped.passes right_so.passes
+        by_money H s b handed (history_of s) why not_forged shaped.passes tested
             (ap first_of (sym same_money) ∙ e),
       )
 
       module _ (paid : first_of (money_steps spends shown.found.items) ≡ None) where
         accepted : refusal s.rules s.chain b (by_all H s b handed (history_of s)) ≡ None
-        accepted = by_all_passes H s b handed (history_of s) not_forged shaped.passes right_so.passes (ap first_of (sym same_money) ∙ paid)
+        accepted = by_all_passes H s b handed (history_of s) not_forged shaped.passes tested (ap first_of (sym same_money) ∙ paid)
 
         pub shown_ready : IsBridge H s → BlockFits b → (hash : Digest) → IsReady H s hash shown.numbers.items spends.new
         shown_ready is fits hash =
             let us = is.levels.now.history in
             let same : history_of s ≡ us = is_history H s us (newest_history H is.levels s is is.stands) in
-            let passes : refusal s.rules s.chain b (by_all H s b handed us) ≡ None =
+            let whole : refusal s.rules s.chain b (by_all H s b handed us) ≡ None =
             subst (λ h. refusal s.rules s.chain b (by_all H s b handed h) ≡ None) same accepted in
             let e = by_all H s b handed us in
-            let each = once us s.rules s.chain b e passes
-            (full_pays H us (watched_by s) (external b s.chain.blocks) handed (middle us s.rules s.chain b e passes).1) in
+            let each = once us s.rules s.chain b e whole
+            (full_pays H us (watched_by s) (external b s.chain.blocks) handed (middle us s.rules s.chain b e whole).1) in
             let few = external_few s.rules.net s.rules.limits s.chain b spends fits shaped in
             let long = each_long us (external b s.chain.blocks) e.numbers each.0 in
             let many = ap length same_external in
-            subst (λ ns. IsReady H s hash ns spends.new) (sym (right_so.numbers ∙ ap (λ h. entries_shown H h handed) same))
+            subst (λ ns. IsReady H s hash ns spends.new) (sym (are.1 ∙ ap (λ h. entries_shown H h handed) same))
             (subst (IsReady H s hash e.numbers) (sym (ap (λ (x : BlockSpends). x.new) shaped.spends))
             (can_take H s is e.numbers (new_records b s.chain.blocks) (each_live us (external b s.chain.blocks) e.numbers each.0) each.1
-            (room s.rules s.chain b e passes) hash (omega (arith, few, long, many))))
+            (room s.rules s.chain b e whole) hash (omega (arith, few, long, many))))
 
         pub gone : (hash : Digest) (t : BridgeState) → hash ≡ block_hash_of b → t ≡ bridge_with H s hash shown.numbers.items spends.new
-            → IsGone H s b handed t
-        gone hash t at next =
-            record {
-              honest = not_forged;
-              passes = accepted;
-              next = next ∙ (ap₂ (λ h ns. bridge_with H s h ns spends.new) at right_so.numbers
-                  ∙ ap (bridge_with H s (block_hash_of b) (entries_shown H (history_of s) handed))
-                  (ap (λ (x : BlockSpends). x.new) shaped.spends));
-            }
-
--- what holds at a fault
-pub err_weaker : {T : Type 0} (P Q : RuleFault → Type 0) (result : Result T RuleFault) → ((fault : RuleFault) → P fault → Q fault) → IfErr result P
-    → IfErr result Q
-err_weaker P Q (Ok x) f h = tt
-err_weaker P Q (Err e) f h = f e h
+            → IsTaken H s b handed true t
+        gone hash t at next = (
+          not_forged,
+          accepted,
+          next ∙ (ap₂ (λ h ns. bridge_with H s h ns spends.new) at are.1
+              ∙ ap (bridge_with H s (block_hash_of b) (entries_shown H (history_of s) handed))
+              (ap (λ (x : BlockSpends). x.new) shaped.spends)),
+        )
 
 -- ---- what stands beside a block
 
@@ -286,38 +295,22 @@ module _ (H : List ℕ → Digest) (v : View) (ext : List Outside) where
       (ap (λ h. first_of (view_step H v ext h ∷ [])) is ∙ ap (λ x. option_or x None) e)
 
 module _ (H : List ℕ → Digest) (s : BridgeState) (ext : List Outside) where
-  abbrev seen : View
-  seen = view_of H (watched_by s) (history_of s)
-
-  read_right : (m : Message) (shown : Option Shown) → first_of (message_steps ext (read m)) ≡ None → IsAcceptedBy H s ext m shown
-      → AreRight H s ext (read m) shown
-  read_right m None passes a = record {
-    passes = none-both (message_steps ext (read m)) (view_step H seen ext (read m) ∷ []) passes
-        (ap (λ x. option_or (option_map Why.Proof x) None) a.0);
-    wrong = a.1;
-  }
-  read_right m (Some shown) passes a =
-      record {
-        passes = none-both (message_steps ext (read m)) (view_step H seen ext (read m) ∷ []) passes
-            (ap (λ x. option_or (option_map Why.Proof x) None) a.passes);
-        right = a.right;
-        numbers = a.numbers;
-        found = a.found;
-      }
-
   -- a message that was read
-  pub message_right : (handed : Handed) (m : Message) (shown : Option Shown) → handed ≡ read m → first_of (message_steps ext handed) ≡ None
-      → IsAcceptedBy H s ext m shown → AreRight H s ext handed shown
-  message_right handed m shown is passes a =
-      subst (λ h. AreRight H s ext h shown) (sym is) (read_right m shown (subst (λ h. first_of (message_steps ext h) ≡ None) is passes) a)
+  pub message_passes : (handed : Handed) (m : Message) → handed ≡ read m → first_of (message_steps ext handed) ≡ None
+      → proof_fault H (view_on H s) (points_of ext) m ≡ None → refusal_beside H s ext handed ≡ None
+  message_passes handed m is passes e =
+      none-both (message_steps ext handed) (view_step H (view_on H s) ext handed ∷ []) passes
+      (ap (λ h. first_of (view_step H (view_on H s) ext h ∷ [])) is ∙ ap (λ x. option_or (option_map Why.Proof x) None) e)
 
   -- and nothing at all
-  pub nothing_right : (handed : Handed) (shown : Shown) → handed ≡ nothing → first_of (message_steps ext handed) ≡ None → shown.numbers.items ≡ []
-      → shown.found.items ≡ [] → AreRight H s ext handed (Some shown)
-  nothing_right handed shown is passes numbers found =
-      subst (λ h. IsRightOf H (watched_by s) (history_of s) ext h shown) (sym is)
-      (let p : first_of (message_steps ext nothing) ≡ None = subst (λ h. first_of (message_steps ext h) ≡ None) is passes in
-      record { passes = none-both (message_steps ext nothing) (None ∷ []) p refl; right = refl; numbers = numbers; found = found })
+  pub nothing_passes : (handed : Handed) → handed ≡ nothing → first_of (message_steps ext handed) ≡ None → refusal_beside H s ext handed ≡ None
+  nothing_passes handed is passes =
+      none-both (message_steps ext handed) (view_step H (view_on H s) ext handed ∷ []) passes
+      (ap (λ h. first_of (view_step H (view_on H s) ext h ∷ [])) is)
+
+  pub nothing_shows : (handed : Handed) (numbers : List ℕ) → handed ≡ nothing → numbers ≡ []
+      → Shows H (watched_by s) (history_of s) ext handed (Some numbers)
+  nothing_shows handed numbers is none = subst (λ h. Shows H (watched_by s) (history_of s) ext h (Some numbers)) (sym is) (refl, none)
 
 -- ---- a message, by forest and index
 
@@ -326,11 +319,11 @@ module _ (H : List ℕ → Digest) (s : BridgeState) (is : IsBridge H s) (ext : 
   here : IsHistory H s.entries s.held (history_of s)
   here = own_history H s is
 
-  fault-same : fault_in H s.entries (look known) ext m ≡ fault_for H s ext m
+  fault-same : proof_fault H (view_in H s.entries (look known)) (points_of ext) m ≡ proof_fault H (view_on H s) (points_of ext) m
   fault-same = fault_same H (watched_by s) s.entries (history_of s) known ext m here.entries_are are
 
-  pub refused_for : (fault : RuleFault) → IsFirst (option_map Why.Proof (fault_in H s.entries (look known) ext m)) fault
-      → IsFirst (option_map Why.Proof (fault_for H s ext m)) fault
+  pub refused_for : (fault : RuleFault) → IsFirst (option_map Why.Proof (proof_fault H (view_in H s.entries (look known)) (points_of ext) m)) fault
+      → IsFirst (option_map Why.Proof (proof_fault H (view_on H s) (points_of ext) m)) fault
   refused_for (Refused why) e = ap (option_map Why.Proof) (sym fault-same) ∙ e
   refused_for NoMemory e = tt
 
@@ -338,23 +331,14 @@ module _ (H : List ℕ → Digest) (s : BridgeState) (is : IsBridge H s) (ext : 
     pub hashes_many : (hashes' : List Digest) → hashes' ≡ hashes → length hashes' ≡ length (need t.leaves t.targets)
     hashes_many hashes' e = ap length (e ∙ checked.full.hashes_are H) ∙ length-map (need t.leaves t.targets) _
 
-    shown-so : (hashes' : List Digest) (numbers : Option (Vec ℕ)) → hashes' ≡ hashes → IsShownBy H s.entries s.held ext m t hashes' numbers
-        → IsShown H (watched_by s) (history_of s) ext m numbers
-    shown-so hashes' numbers e by =
-        by (history_of s) (watched_by s) here
+    pub accepted_by : proof_fault H (view_on H s) (points_of ext) m ≡ None
+    accepted_by = sym fault-same ∙ checked.passes
+
+    pub shown_by : (hashes' : List Digest) (x y : Option (Vec ℕ)) → hashes' ≡ hashes
+        → ShowsByEach H s.entries s.held ext m t hashes' (option_map (λ all. all.items) x) → x ≡ y
+        → Shows H (watched_by s) (history_of s) ext (read m) (option_map (λ all. all.items) y)
+    shown_by hashes' x y e by at =
+        subst (λ (z : Option (Vec ℕ)). Shows H (watched_by s) (history_of s) ext (read m) (option_map (λ all. all.items) z)) at
+        (by (history_of s) (watched_by s) here
         (subst (λ xs. AreHashes m t (known_at H (watched_by s) (history_of s)) xs) (sym e)
-        (subst (λ k. AreHashes m t k hashes) (same_known H (watched_by s) (history_of s) known are) checked.full))
-
-    pub accepted_right : (hashes' : List Digest) (x : Option (Vec ℕ)) (numbers : Vec ℕ) (shown : Shown) → hashes' ≡ hashes
-        → IsShownBy H s.entries s.held ext m t hashes' x → x ≡ Some numbers → shown.numbers.items ≡ numbers.items →
-        shown.found.items ≡ map found_of (rests_of m.proof.spends) → IsAcceptedBy H s ext m (Some shown)
-    accepted_right hashes' x numbers shown e by at same found =
-        let w = subst (IsShown H (watched_by s) (history_of s) ext m) at (shown-so hashes' x e by) in
-        record { passes = sym fault-same ∙ checked.passes; right = w.0; numbers = same ∙ w.1; found = found }
-
-    pub accepted_wrong : (hashes' : List Digest) (x : Option (Vec ℕ)) → hashes' ≡ hashes → IsShownBy H s.entries s.held ext m t hashes' x
-        → x ≡ None → IsAcceptedBy H s ext m None
-    accepted_wrong hashes' x e by at = (
-      sym fault-same ∙ checked.passes,
-      subst (IsShown H (watched_by s) (history_of s) ext m) at (shown-so hashes' x e by),
-    )
+        (subst (λ k. AreHashes m t k hashes) (same_known H (watched_by s) (history_of s) known are) checked.full)))

@@ -1,39 +1,22 @@
 -- What the calls on a block answer.
-use Rattle.std.specs.Prelude.{◌≡◌, ◌≢◌, ℕ, ◌+◌, ◌<◌, ◌≤◌, ◌^◌, true, false, not, List, [], ◌∷◌, ◌++◌, map, take, length, Option, Some, None, is_some}
-use Rattle.std.specs.Prelude.{⊤, if◌then◌else◌, All, AllPairs}
-use Rattle.std.specs.List.{filter}
+use Rattle.std.specs.Prelude.{◌≡◌, ◌≢◌, ℕ, ◌+◌, ◌<◌, ◌≤◌, ◌^◌, true, false, List, [], ◌∷◌, ◌++◌, map, take, length, Option, Some, None}
+use Rattle.std.specs.Prelude.{if◌then◌else◌, All, AllPairs}
 use Rattle.uo_digest.specs.declared.digest.Digest.{Digest}
 use Rattle.forest_place.specs.declared.place.Place.{Place}
-use Rattle.forest_model.specs.Cover.{need}
-use Rattle.forest_model.specs.Standing.{digest_at}
 use Rattle.block_codec.specs.Block.{Block}
 use Rattle.leaf_record.specs.Leaf.{Leaf, Rest}
-use Rattle.leaf_record.specs.History.{somes}
 use Rattle.forest_place.specs.Places.{is_before_place}
-use Rattle.proof_wire.specs.BlockProof.{BlockProof, spends_of}
 use Rattle.block_rules.specs.Blocks.{external}
 use Rattle.block_rules.specs.declared.chain.Found.{Found}
 use Rattle.block_rules.specs.declared.chain.Outside.{Outside}
-use Rattle.block_rules.specs.declared.refusal.Refusal.{Refusal}
 use Rattle.block_rules.specs.Money.{found_of}
-use Rattle.block_rules.specs.Steps.{first_of}
-use Rattle.cache_model.specs.Known.{is_known}
-use Rattle.node_rules.specs.Messages.{Message, sent, targets}
 use Rattle.node_rules.specs.Proving.{written_text}
 use Rattle.live_forest.specs.State as forest
-use Rattle.live_forest.specs.Proving.{proof_of}
-use Rattle.live_forest.specs.declared.batch.Sibling.{Sibling}
 use Rattle.output_index.specs.Held.{Held, is_live, is_spent}
 use Rattle.reorg_undo.specs.Undo.{UndoRecord}
-use Rattle.bridge_prover.specs.Own.{newest_in, missing_in, leaves_in, own_in, numbered, spent_in, cut_in}
-use Rattle.bridge_prover.specs.declared.message.Draft.{Draft}
-use Rattle.bridge_prover.specs.Bridge.{BridgeState, target_of, refusal_on, spends_by, message_by, bridge_with, after_block, dropped}
-use Rattle.bridge_prover.specs.Watched.{scripts_of, kept_in, places_in}
+use Rattle.bridge_prover.specs.Own.{first_missing, newest_in, leaves_in, own_in, numbered, spent_in, cut_in}
+use Rattle.bridge_prover.specs.Bridge.{BridgeState, refusal_on, message_by, bridge_with, after_block, dropped}
 use Rattle.bridge_prover.specs.Standing.{IsBridge}
-
--- the first external input of which no live entry is held
-abbrev pub first_missing : List Held → List Outside → Option Refusal
-first_missing hs ext = first_of (map (missing_in hs) ext)
 
 -- these are the entries that the external inputs spend, none of which is missing, and this is what they are
 pub record AreFound (hs : List Held) (ext : List Outside) (numbers : List ℕ) (found : List Found) (rests : List Rest) : Type 0 where
@@ -41,44 +24,6 @@ pub record AreFound (hs : List Held) (ext : List Outside) (numbers : List ℕ) (
   pub passes : first_missing hs ext ≡ None
   pub are : found ≡ map (λ leaf. found_of leaf.rest) (leaves_in hs numbers)
   pub shown : rests ≡ map (λ leaf. leaf.rest) (leaves_in hs numbers)
-
--- the proof of these entries, without the hashes that are known where the kept entries stand at these places
-abbrev pub proof_beside : (List ℕ → Digest) → List Place → List (Option Digest) → List Held → List ℕ → BlockProof
-proof_beside H kept es hs numbers =
-    let spends = spends_by es hs numbers in
-    let ts = targets (length es) (sent false (record { spends = spends; hashes = [] })) in
-    record {
-      spends = spends;
-      hashes = somes
-          (map (λ p. digest_at H es p.row p.off) (filter (λ p. not (is_known (length es) kept p)) (need (length es) ts)));
-    }
-
--- the hashes of siblings, without those that are known where the kept entries stand at these places
-abbrev pub hashes_unknown : ℕ → List Place → List Sibling → List Digest
-hashes_unknown n kept siblings = map (λ s. s.digest) (filter (λ s. not (is_known n kept s.place)) siblings)
-
--- the message that a draft gives of these entries, of which spent has the same in ascending order
-abbrev pub drafted : (List ℕ → Digest) → List (Option Digest) → List ℕ → List ℕ → Draft → Message
-drafted H es numbers spent d = sent d.lean
-    (record { spends = spends_of (map (target_of es) numbers) d.rests; hashes = hashes_unknown (length es) d.kept.targets (proof_of H es spent) })
-
--- it has the kept places of this forest, and a rest for each of these entries
-abbrev pub IsDraft : List (Option Digest) → List ℕ → Option Draft → Type 0
-IsDraft es numbers None = ⊤
-IsDraft es numbers (Some d) = (d.kept.leaves ≡ length es) × (length d.rests ≡ length numbers)
-
--- it is for those who get the messages of this bridge, and has these rests
-pub record IsDraftIn (s : BridgeState) (shown : List Rest) (d : Draft) : Type 0 where
-  pub lean : d.lean ≡ is_some s.watch
-  pub leaves : d.kept.leaves ≡ length s.entries
-  pub kept : d.kept.targets ≡ places_in s.entries (kept_in (scripts_of s.watch) s.held)
-  pub rests : d.rests ≡ shown
-
--- there is one exactly where something is spent from outside
-abbrev pub IsDraftOf : BridgeState → List Outside → List Rest → Option Draft → Type 0
-IsDraftOf s [] rests draft = draft ≡ None
-IsDraftOf s (at ∷ ext) rests None = ⊥
-IsDraftOf s (at ∷ ext) rests (Some d) = IsDraftIn s rests d
 
 -- x stands at the head of the one list, of whose others rest makes one list with what it is given
 abbrev pub merged_under : Place → (List Place → List Place) → List Place → List Place
@@ -106,8 +51,8 @@ pub record IsReady (H : List ℕ → Digest) (s : BridgeState) (hash : Digest) (
   pub old_gone : All (λ i. forest.is_live (bridge_with H s hash numbers new).entries i ≡ false) (dropped s.undo)
   pub next : IsBridge H (bridge_with H s hash numbers new)
 
--- no step fails, this is what is passed on, and this is what the bridge keeps then
-pub record IsProved (H : List ℕ → Digest) (s : BridgeState) (b : Block) (message : Option (List ℕ)) (t : BridgeState) : Type
+-- no rule is broken, this is what is passed on, and this is what the bridge keeps then
+pub record IsPassed (H : List ℕ → Digest) (s : BridgeState) (b : Block) (message : Option (List ℕ)) (t : BridgeState) : Type
     0 where
   pub passes : refusal_on s b ≡ None
   pub says : message ≡ written_text (external b s.chain.blocks)

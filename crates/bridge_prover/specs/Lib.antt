@@ -7,6 +7,7 @@ pub mod Laws
 pub mod Full
 pub mod Throughout
 -- what only this crate's own proofs and private functions cite
+pub mod Draft
 pub mod Judged
 pub mod Shown
 pub mod Taken

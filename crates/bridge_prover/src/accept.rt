@@ -4,7 +4,9 @@ ghost use Rattle.block_rules.specs.declared.refusal.Refusal.TheVariants as Why;
 ghost use Rattle.cache_model.specs.Cache.{look};
 ghost use Rattle.cache_model.specs.Lists.{AscendByPlace};
 ghost use Rattle.node_rules.specs.Judged.{IsFirst};
-ghost use Rattle.bridge_prover.specs.Shown.{IsChecked, fault_in};
+ghost use Rattle.node_rules.specs.Accepting.{proof_fault};
+ghost use Rattle.node_rules.specs.Messages.{points_of};
+ghost use Rattle.bridge_prover.specs.Shown.{IsChecked, view_in};
 
 use crate::claims::claimed_leaves;
 use block_rules::{Outside, Refusal, RuleFault};
@@ -43,7 +45,8 @@ pub(crate) fn check_proof<D: Digester, L: Ledger>(
     ensures ok { IfOk result (λ checked. IsChecked D.digest_of forest.now.entries (look known.now) external.now message.now checked.targets
         checked.hashes.items) }
     ensures err { IfErr result (λ fault. IsFirst
-        (option_map Why.Proof (fault_in D.digest_of forest.now.entries (look known.now) external.now message.now)) fault) }
+        (option_map Why.Proof (proof_fault D.digest_of (view_in D.digest_of forest.now.entries (look known.now)) (points_of external.now) message.now))
+        fault) }
 {
     let targets = targets_of(alloc, forest.leaves(), message)?;
     let hashes = full_hashes(alloc, message, &targets, known)?;

@@ -103,8 +103,9 @@ impl<D: Digester> Bridge<D> {
     ghost use Rattle.bridge_prover.specs.Watched.{scripts_of, kept_in, places_in, known_list};
     ghost use Rattle.bridge_prover.specs.Bridge.{bridge_with, fresh_bridge, gone_back, message_by, message_on, most_steps, next_bridge, refusal_on};
     ghost use Rattle.bridge_prover.specs.Bridge.{spends_by, spent_by, undone_by, verdict_on};
-    ghost use Rattle.bridge_prover.specs.Own.{leaves_in};
-    ghost use Rattle.bridge_prover.specs.Judged.{AreFound, IsDraft, IsDraftOf, IsProved, IsReady, drafted, first_missing};
+    ghost use Rattle.bridge_prover.specs.Own.{first_missing, leaves_in};
+    ghost use Rattle.bridge_prover.specs.Draft.{IsDraft, draft_beside, drafted};
+    ghost use Rattle.bridge_prover.specs.Judged.{AreFound, IsPassed, IsReady};
     ghost use Rattle.bridge_prover.specs.Laws.{KnowsAsOwn, LevelsTold, SaysAsOwn};
     ghost use Rattle.bridge_prover.specs.Standing.{IsBridge, HoldsSame};
 
@@ -305,7 +306,7 @@ impl<D: Digester> Bridge<D> {
 
     // What the message beside a block tells besides the proof, where what it spends from outside has these rests: none where that is nothing.
     fn draft(&self, external: &[Outside], rests: Rests) -> Result<Option<Draft>, NoMemory>
-        ensures { IfOk result (λ d. IsDraftOf self.now external.now rests d) }
+        ensures { IfOk result (λ d. d ≡ draft_beside self.now external.now rests) }
     {
         if external.is_empty() {
             return Ok(None);
@@ -411,7 +412,7 @@ impl<D: Digester> Bridge<D> {
         steps: &mut Steps<L>,
     ) -> Result<Option<Vec<u8>>, RuleFault>
         requires { hash ≡ block_hash_of block.now }
-        ensures ok { IfOk result (λ m. IsProved D.digest_of self.old block.now (option_map (λ bytes. bytes.items) m) self.new) }
+        ensures ok { IfOk result (λ m. IsPassed D.digest_of self.old block.now (option_map (λ bytes. bytes.items) m) self.new) }
         ensures err { IfErr result (λ fault. IsFirst (refusal_on self.old block.now) fault) }
         ensures stays { OnErr result (self.new ≡ self.old) }
         ensures steps { steps.new ≤ steps.old + most_steps self.old (BlockCame (Some block.now) nothing) }

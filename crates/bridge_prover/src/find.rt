@@ -4,9 +4,8 @@ ghost use Rattle.std.specs.List.{AllByRecursion};
 ghost use Rattle.block_rules.specs.Money.{found_of};
 ghost use Rattle.node_rules.specs.Messages.{point_of};
 ghost use Rattle.output_index.specs.Held.{leaf_at};
-ghost use Rattle.bridge_prover.specs.Own.{newest_in, leaves_in};
+ghost use Rattle.bridge_prover.specs.Own.{first_missing, newest_in, leaves_in};
 ghost use Rattle.node_rules.specs.Judged.{IsFirst};
-ghost use Rattle.bridge_prover.specs.Judged.{first_missing};
 
 use block_rules::{Found, Outside, Refusal, RuleFault};
 use leaf_record::RecordView;

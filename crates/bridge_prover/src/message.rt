@@ -9,7 +9,7 @@ ghost use Rattle.cache_model.specs.Known.{is_known as is_known_of};
 ghost use Rattle.live_forest.specs.State.{is_live};
 ghost use Rattle.proof_wire.specs.BlockProof.{message_text};
 ghost use Rattle.bridge_prover.specs.Bridge.{target_of};
-ghost use Rattle.bridge_prover.specs.Judged.{IsDraft, drafted, hashes_unknown};
+ghost use Rattle.bridge_prover.specs.Draft.{IsDraft, drafted, hashes_unknown};
 
 use cache_update::is_known;
 use forest_place::{Place, fixed_position};

@@ -1,11 +1,11 @@
 //! What the message beside a block shows: the entries at its targets, where they are what it says.
-ghost use Rattle.std.specs.Prelude.{◌≡◌, ◌↔◌, length, Some, IfOk, IsTrue};
+ghost use Rattle.std.specs.Prelude.{◌≡◌, ◌↔◌, map, length, Some, option_map, IfOk, IsTrue};
 ghost use Rattle.forest_model.specs.Cover.{need};
 ghost use Rattle.proof_wire.specs.BlockProof.{rests_of};
 ghost use Rattle.node_rules.specs.Messages.{points_of, claimed};
 ghost use Rattle.node_rules.specs.Right.{same_leaf};
 ghost use Rattle.node_rules.specs.Judged.{AreNamed};
-ghost use Rattle.bridge_prover.specs.Shown.{shown_at, shown_all, AreShown, DoHashesStand, IsShownBy};
+ghost use Rattle.bridge_prover.specs.Shown.{claimed_at, all_claimed, AreAllOf, ShowsByEach};
 
 use block_rules::Outside;
 use forest_place::Place;
@@ -36,7 +36,7 @@ fn entry_shown<D: Digester>(
     place: Place,
     claim: &RecordView<'_>,
 ) -> Option<u64>
-    ensures { result ≡ shown_at forest.now.entries outputs.now place claim.now }
+    ensures { result ≡ claimed_at forest.now.entries outputs.now place claim.now }
 {
     let number = forest.number_at(place)?;
     let found = outputs.output(number)?;
@@ -58,8 +58,9 @@ fn entries_shown<D: Digester>(
 ) -> Result<Option<Vec<u64>>, NoMemory>
     requires count { length message.now.proof.spends ≡ length external.now }
     requires places { length places.now ≡ length external.now }
-    ensures { IfOk result (λ numbers. AreShown
-        (shown_all forest.now.entries outputs.now places.now (claimed (points_of external.now) (rests_of message.now.proof.spends))) numbers) }
+    ensures { IfOk result (λ numbers. AreAllOf
+        (all_claimed forest.now.entries outputs.now places.now (claimed (points_of external.now) (rests_of message.now.proof.spends)))
+        (option_map (λ all. all.items) numbers)) }
 {
     let mut numbers = Vec::with_capacity(alloc, external.len())?;
     for i in 0..external.len() {
@@ -86,7 +87,7 @@ fn stands(found: Option<Digest>, digest: Digest) -> bool
 // Whether these are the digests that were found.
 fn do_hashes_stand(hashes: &[Digest], found: &[Option<Digest>]) -> bool
     requires { length hashes.now ≡ length found.now }
-    ensures { DoHashesStand hashes.now found.now result }
+    ensures { IsTrue result ↔ (map Some hashes.now ≡ found.now) }
 {
     for i in 0..hashes.len() {
         if !stands(found[i], hashes[i]) {
@@ -110,8 +111,8 @@ pub(crate) fn right_entries<D: Digester>(
     requires count { length message.now.proof.spends ≡ length external.now }
     requires named { AreNamed (length forest.now.entries) message.now targets.now }
     requires many { length hashes.now ≡ length (need targets.now.leaves targets.now.targets) }
-    ensures { IfOk result (λ numbers. IsShownBy D.digest_of forest.now.entries outputs.now external.now message.now targets.now hashes.now
-        numbers) }
+    ensures { IfOk result (λ numbers. ShowsByEach D.digest_of forest.now.entries outputs.now external.now message.now targets.now hashes.now
+        (option_map (λ all. all.items) numbers)) }
 {
     let Some(numbers) = entries_shown(alloc, forest, outputs, external, message, targets.places())?
     else {

@@ -1,5 +1,5 @@
 //! How a bridge judges an event with the message beside it.
-ghost use Rattle.std.specs.Prelude.{◌≡◌, ◌<◌, ◌^◌, length, option_copied, option_map, IfOk, IfErr, OnOk, OnErr};
+ghost use Rattle.std.specs.Prelude.{◌≡◌, ◌<◌, ◌^◌, length, option_copied, option_map, None, IfOk, IfErr, IfSome, OnOk, OnErr};
 ghost use Rattle.block_codec.specs.Reading.{block_in};
 ghost use Rattle.uo_base.specs.FeedEvent.{event_of};
 
@@ -31,10 +31,13 @@ impl<D: Digester> Bridge<D> {
     ghost use Rattle.node_rules.specs.Fitting.{EventFits, IsShort};
     ghost use Rattle.node_rules.specs.Judged.{IsFirst};
     ghost use Rattle.node_rules.specs.Machine.{BlockCame, event_in};
-    ghost use Rattle.node_rules.specs.Reading.{handed_in};
+    ghost use Rattle.node_rules.specs.Accepting.{proof_fault};
+    ghost use Rattle.node_rules.specs.Judging.{found_by};
+    ghost use Rattle.node_rules.specs.Messages.{points_of};
+    ghost use Rattle.node_rules.specs.Reading.{handed_in, read};
     ghost use Rattle.bridge_prover.specs.Full.{JudgesAsFull, LevelsJudged, history_of, judged_on, next_judged, verdict_in, watched_by};
-    ghost use Rattle.bridge_prover.specs.Shown.{AreKnown};
-    ghost use Rattle.bridge_prover.specs.Taken.{AreRight, AreNotTaken, IsAcceptedBy, IsTaken, IsNotTaken, fault_for};
+    ghost use Rattle.bridge_prover.specs.Shown.{AreKnown, Shows};
+    ghost use Rattle.bridge_prover.specs.Taken.{IsTaken, IsNotTaken, refusal_beside, view_on};
 
     /// Judges an event by all outputs and the message beside it, and goes on where it is accepted: the answer is the verdict of a
     /// node that holds every output, which refuses a proof for the reason for which the roots do not accept it, or that the event
@@ -166,10 +169,12 @@ impl<D: Digester> Bridge<D> {
         steps: &mut Steps<L>,
     ) -> Result<Option<Shown>, RuleFault>
         requires { length spends.now.external < 2 ^ 32 }
-        ensures ok { IfOk result (λ shown. AreRight D.digest_of self.old spends.now.external (handed_in (option_copied message.entry))
-            shown) }
-        ensures err { IfErr result (λ fault. AreNotTaken D.digest_of self.old spends.now.external (handed_in (option_copied message.entry))
-            fault) }
+        ensures passes { OnOk result (refusal_beside D.digest_of self.old spends.now.external (handed_in (option_copied message.entry)) ≡ None) }
+        ensures shows { IfOk result (λ shown. Shows D.digest_of (watched_by self.old) (history_of self.old) spends.now.external
+            (handed_in (option_copied message.entry)) (option_map (λ s. s.numbers.items) shown)) }
+        ensures found { IfOk result (λ shown. IfSome shown (λ s. s.found.items ≡ found_by (handed_in (option_copied message.entry)))) }
+        ensures err { IfErr result (λ fault. IsFirst
+            (refusal_beside D.digest_of self.old spends.now.external (handed_in (option_copied message.entry))) fault) }
         ensures stays { self.new ≡ self.old }
     {
         let Some(message) = message_rules(self.alloc, spends, message)? else {
@@ -193,9 +198,12 @@ impl<D: Digester> Bridge<D> {
         requires shown { length message.now.proof.spends ≡ length external.now }
         requires few { length external.now < 2 ^ 32 }
         requires known { AreKnown D.digest_of (watched_by self.old) (history_of self.old) known.now }
-        ensures ok { IfOk result (λ shown. IsAcceptedBy D.digest_of self.old external.now message.now shown) }
+        ensures passes { OnOk result (proof_fault D.digest_of (view_on D.digest_of self.old) (points_of external.now) message.now ≡ None) }
+        ensures shows { IfOk result (λ shown. Shows D.digest_of (watched_by self.old) (history_of self.old) external.now (read message.now)
+            (option_map (λ s. s.numbers.items) shown)) }
+        ensures found { IfOk result (λ shown. IfSome shown (λ s. s.found.items ≡ found_by (read message.now))) }
         ensures err { IfErr result (λ fault. IsFirst
-            (option_map Why.Proof (fault_for D.digest_of self.old external.now message.now)) fault) }
+            (option_map Why.Proof (proof_fault D.digest_of (view_on D.digest_of self.old) (points_of external.now) message.now)) fault) }
         ensures stays { self.new ≡ self.old }
     {
         let found = found_shown(self.alloc, message)?;

@@ -3,7 +3,7 @@ use Rattle.std.specs.List.{AllByRecursion, flat_map}
 use Rattle.std.proofs.lemmas.List.{take_all}
 use Rattle.forest_place.specs.Forest.{InForest}
 use Rattle.live_forest.specs.declared.batch.Sibling.{Sibling}
-use Rattle.bridge_prover.specs.Judged.{hashes_unknown}
+use Rattle.bridge_prover.specs.Draft.{hashes_unknown}
 use Rattle.bridge_prover.proofs.Showing.{row_more, all_in_row}
 use Rattle.bridge_prover.proofs.message.hashes_of.Goals as goal
 

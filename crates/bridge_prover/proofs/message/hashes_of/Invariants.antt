@@ -1,7 +1,7 @@
 use Rattle.std.proofs.Common.{◌≡◌, take}
 use Rattle.std.specs.List.{flat_map, AllByRecursion}
 use Rattle.uo_digest.specs.Reading.{IsDigest}
-use Rattle.bridge_prover.specs.Judged.{hashes_unknown}
+use Rattle.bridge_prover.specs.Draft.{hashes_unknown}
 use Rattle.bridge_prover.proofs.message.hashes_of.Given as goal
 
 abbrev pub invariant-loop-row : goal.invariant-loop-row

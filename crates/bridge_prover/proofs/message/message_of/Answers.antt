@@ -3,7 +3,7 @@ use Rattle.std.proofs.lemmas.List.{length-map}
 use Rattle.proof_wire.specs.BlockProof.{BlockProof, spends_of}
 use Rattle.node_rules.specs.Messages.{sent}
 use Rattle.bridge_prover.specs.Bridge.{target_of}
-use Rattle.bridge_prover.specs.Judged.{hashes_unknown}
+use Rattle.bridge_prover.specs.Draft.{hashes_unknown}
 use Rattle.bridge_prover.proofs.Showing.{live_too, proof_within}
 use Rattle.bridge_prover.proofs.message.message_of.Goals as goal
 

@@ -1,7 +1,7 @@
 use Rattle.std.proofs.Common.{◌≡◌, ◌++◌, take}
 use Rattle.std.specs.List.{AllByRecursion}
 use Rattle.uo_digest.specs.Reading.{IsDigest}
-use Rattle.bridge_prover.specs.Judged.{hashes_unknown}
+use Rattle.bridge_prover.specs.Draft.{hashes_unknown}
 use Rattle.bridge_prover.proofs.message.put_hashes.Given as goal
 
 abbrev pub invariant-loop-sibling : goal.invariant-loop-sibling

@@ -1,4 +1,5 @@
-use Rattle.std.proofs.Common.{length, sym, ap, ◌∙◌, arith}
+use Rattle.std.proofs.Common.{length, refl, sym, ap, ◌∙◌, arith}
+use Rattle.std.proofs.lemmas.Bool.{false≢true}
 use Rattle.std.proofs.lemmas.List.{length-map}
 use Rattle.bridge_prover.proofs.Showing.{at}
 use Rattle.bridge_prover.proofs.Righted.{none_shown, hash_wrong, all_right}
@@ -20,10 +21,10 @@ pub returns-then-do_hashes_stand : goal.returns-then-do_hashes_stand
 returns-then-do_hashes_stand g c = λ us scripts h full.
     all_right g.D.Digester.digest_of _ _ us scripts h c.args.external.now c.args.message.now c.args.targets.now c.requires.count
     c.requires.named c.places.result.now c.places.ensures c.args.hashes.now full c.needed.result.now c.needed.ensures _ _ c.in-Some.is
-    c.in_ok-numbers.ensures (c.if-do_hashes_stand.ensures ∙ (c.deref.ensures.value ∙ c.in_ok-found.ensures))
+    c.in_ok-numbers.ensures (c.if-do_hashes_stand.ensures.0 refl ∙ (c.deref.ensures.value ∙ c.in_ok-found.ensures))
 
 pub returns-else-do_hashes_stand : goal.returns-else-do_hashes_stand
 returns-else-do_hashes_stand g c = λ us scripts h full.
     hash_wrong g.D.Digester.digest_of _ _ us scripts h c.args.external.now c.args.message.now c.args.targets.now c.requires.count
     c.requires.named c.places.result.now c.places.ensures c.args.hashes.now full c.needed.result.now c.needed.ensures
-    (λ e. c.if-do_hashes_stand.ensures (e ∙ sym (c.deref.ensures.value ∙ c.in_ok-found.ensures)))
+    (λ e. false≢true (c.if-do_hashes_stand.ensures.1 (e ∙ sym (c.deref.ensures.value ∙ c.in_ok-found.ensures))))

@@ -3,7 +3,8 @@ use Rattle.block_rules.specs.Steps.{first_of}
 use Rattle.block_rules.specs.Money.{money_steps}
 use Rattle.node_rules.specs.Judged.{IsFirst}
 use Rattle.node_rules.proofs.Handing.{handed_on}
-use Rattle.bridge_prover.specs.Judged.{AreFound, first_missing}
+use Rattle.bridge_prover.specs.Judged.{AreFound}
+use Rattle.bridge_prover.specs.Own.{first_missing}
 use Rattle.bridge_prover.proofs.Deciding.{shape_refused, missing_refused, money_refused_by, found_count, ready_by, proved_by, steps_by}
 use Rattle.bridge_prover.proofs.bridge.Bridge.pass.Goals as goal
 

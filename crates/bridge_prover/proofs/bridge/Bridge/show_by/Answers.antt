@@ -1,13 +1,16 @@
-use Rattle.std.proofs.Common.{ap, refl, subst}
+use Rattle.std.proofs.Common.{ℕ, None, Some, ap, subst}
+use Rattle.std.specs.Global.{Vec}
 use Rattle.std.specs.Prelude.{option_map}
 use Rattle.block_rules.specs.declared.refusal.Refusal.TheVariants as Why
 use Rattle.cache_model.specs.Cache.{look}
+use Rattle.node_rules.specs.Accepting.{proof_fault}
 use Rattle.node_rules.specs.Judged.{IsFirst}
+use Rattle.node_rules.specs.Messages.{points_of}
 use Rattle.node_rules.proofs.Handing.{handed_on}
 use Rattle.bridge_prover.specs.Bridge.{BridgeState}
 use Rattle.bridge_prover.specs.Standing.{IsBridge}
-use Rattle.bridge_prover.specs.Shown.{IsChecked, IsShownBy, fault_in}
-use Rattle.bridge_prover.proofs.Taking.{refused_for, hashes_many, accepted_right, accepted_wrong}
+use Rattle.bridge_prover.specs.Shown.{IsChecked, ShowsByEach, view_in}
+use Rattle.bridge_prover.proofs.Taking.{refused_for, hashes_many, accepted_by, shown_by}
 use Rattle.bridge_prover.proofs.bridge.Bridge.show_by.Goals as goal
 
 pub returns-in_err-checked-clause-err : goal.returns-in_err-checked-clause-err
@@ -17,7 +20,8 @@ returns-in_err-checked-clause-err g c =
     let fault = c.in_err-checked.field-0.0 in
     handed_on _ _ fault c.from_residual-in_err-checked.ensures.1
     (refused_for H c.args.self.now is c.args.external.now c.args.message.now c.args.known.now c.requires.known fault
-    (subst (λ es. IsFirst (option_map Why.Proof (fault_in H es (look c.args.known.now) c.args.external.now c.args.message.now)) fault)
+    (subst (λ es. IsFirst (option_map Why.Proof (proof_fault H (view_in H es (look c.args.known.now)) (points_of c.args.external.now)
+    c.args.message.now)) fault)
     (ap (λ (s : BridgeState). s.entries) c.self.view_is) c.in_err-checked.ensures.err))
 
 pub right_entries-requires-clause-many : goal.right_entries-requires-clause-many
@@ -30,33 +34,55 @@ right_entries-requires-clause-many g c =
     c.in_ok-checked.checked.hashes.items) (ap (λ (s : BridgeState). s.entries) c.self.view_is) c.in_ok-checked.ensures.ok)
     _ c.deref.ensures.value
 
-pub returns-in_default-clause-ok : goal.returns-in_default-clause-ok
-returns-in_default-clause-ok g c =
+pub returns-in_default-clause-passes : goal.returns-in_default-clause-passes
+returns-in_default-clause-passes g c =
     let H = g.D.Digester.digest_of in
     let is = subst (IsBridge H) c.self.view_is c.self.invariant.0 in
-    accepted_wrong H c.args.self.now is c.args.external.now c.args.message.now c.args.known.now c.requires.known
+    accepted_by H c.args.self.now is c.args.external.now c.args.message.now c.args.known.now c.requires.known
     c.in_ok-checked.checked.targets c.in_ok-checked.checked.hashes.items
     (subst (λ es. IsChecked H es (look c.args.known.now) c.args.external.now c.args.message.now c.in_ok-checked.checked.targets
     c.in_ok-checked.checked.hashes.items) (ap (λ (s : BridgeState). s.entries) c.self.view_is) c.in_ok-checked.ensures.ok)
-    c.deref.result.now c.in_ok-right.right c.deref.ensures.value
-    (subst (λ hs. IsShownBy H c.args.self.now.entries hs c.args.external.now c.args.message.now c.in_ok-checked.checked.targets
-    c.deref.result.now c.in_ok-right.right) (ap (λ (s : BridgeState). s.held) c.self.view_is)
-    (subst (λ es. IsShownBy H es c.self.inside.outputs c.args.external.now c.args.message.now c.in_ok-checked.checked.targets
-    c.deref.result.now c.in_ok-right.right) (ap (λ (s : BridgeState). s.entries) c.self.view_is) c.in_ok-right.ensures))
+
+pub returns-in_default-clause-shows : goal.returns-in_default-clause-shows
+returns-in_default-clause-shows g c =
+    let H = g.D.Digester.digest_of in
+    let is = subst (IsBridge H) c.self.view_is c.self.invariant.0 in
+    let numbers = option_map (λ (all : Vec ℕ). all.items) c.in_ok-right.right in
+    shown_by H c.args.self.now is c.args.external.now c.args.message.now c.args.known.now c.requires.known
+    c.in_ok-checked.checked.targets c.in_ok-checked.checked.hashes.items
+    (subst (λ es. IsChecked H es (look c.args.known.now) c.args.external.now c.args.message.now c.in_ok-checked.checked.targets
+    c.in_ok-checked.checked.hashes.items) (ap (λ (s : BridgeState). s.entries) c.self.view_is) c.in_ok-checked.ensures.ok)
+    c.deref.result.now c.in_ok-right.right None c.deref.ensures.value
+    (subst (λ hs. ShowsByEach H c.args.self.now.entries hs c.args.external.now c.args.message.now c.in_ok-checked.checked.targets
+    c.deref.result.now numbers) (ap (λ (s : BridgeState). s.held) c.self.view_is)
+    (subst (λ es. ShowsByEach H es c.self.inside.outputs c.args.external.now c.args.message.now c.in_ok-checked.checked.targets
+    c.deref.result.now numbers) (ap (λ (s : BridgeState). s.entries) c.self.view_is) c.in_ok-right.ensures))
     c.in_default.is
 
-pub returns-clause-ok : goal.returns-clause-ok
-returns-clause-ok g c =
+pub returns-clause-passes : goal.returns-clause-passes
+returns-clause-passes g c =
     let H = g.D.Digester.digest_of in
     let is = subst (IsBridge H) c.self.view_is c.self.invariant.0 in
-    accepted_right H c.args.self.now is c.args.external.now c.args.message.now c.args.known.now c.requires.known
+    accepted_by H c.args.self.now is c.args.external.now c.args.message.now c.args.known.now c.requires.known
     c.in_ok-checked.checked.targets c.in_ok-checked.checked.hashes.items
     (subst (λ es. IsChecked H es (look c.args.known.now) c.args.external.now c.args.message.now c.in_ok-checked.checked.targets
     c.in_ok-checked.checked.hashes.items) (ap (λ (s : BridgeState). s.entries) c.self.view_is) c.in_ok-checked.ensures.ok)
-    c.deref.result.now c.in_ok-right.right c.in-Some.numbers (record { numbers = c.in-Some.numbers; found = c.in_ok-found.found })
-    c.deref.ensures.value
-    (subst (λ hs. IsShownBy H c.args.self.now.entries hs c.args.external.now c.args.message.now c.in_ok-checked.checked.targets
-    c.deref.result.now c.in_ok-right.right) (ap (λ (s : BridgeState). s.held) c.self.view_is)
-    (subst (λ es. IsShownBy H es c.self.inside.outputs c.args.external.now c.args.message.now c.in_ok-checked.checked.targets
-    c.deref.result.now c.in_ok-right.right) (ap (λ (s : BridgeState). s.entries) c.self.view_is) c.in_ok-right.ensures))
-    c.in-Some.is refl c.in_ok-found.ensures
+
+pub returns-clause-shows : goal.returns-clause-shows
+returns-clause-shows g c =
+    let H = g.D.Digester.digest_of in
+    let is = subst (IsBridge H) c.self.view_is c.self.invariant.0 in
+    let numbers = option_map (λ (all : Vec ℕ). all.items) c.in_ok-right.right in
+    shown_by H c.args.self.now is c.args.external.now c.args.message.now c.args.known.now c.requires.known
+    c.in_ok-checked.checked.targets c.in_ok-checked.checked.hashes.items
+    (subst (λ es. IsChecked H es (look c.args.known.now) c.args.external.now c.args.message.now c.in_ok-checked.checked.targets
+    c.in_ok-checked.checked.hashes.items) (ap (λ (s : BridgeState). s.entries) c.self.view_is) c.in_ok-checked.ensures.ok)
+    c.deref.result.now c.in_ok-right.right (Some c.in-Some.numbers) c.deref.ensures.value
+    (subst (λ hs. ShowsByEach H c.args.self.now.entries hs c.args.external.now c.args.message.now c.in_ok-checked.checked.targets
+    c.deref.result.now numbers) (ap (λ (s : BridgeState). s.held) c.self.view_is)
+    (subst (λ es. ShowsByEach H es c.self.inside.outputs c.args.external.now c.args.message.now c.in_ok-checked.checked.targets
+    c.deref.result.now numbers) (ap (λ (s : BridgeState). s.entries) c.self.view_is) c.in_ok-right.ensures))
+    c.in-Some.is
+
+pub returns-clause-found : goal.returns-clause-found
+returns-clause-found g c = c.in_ok-found.ensures

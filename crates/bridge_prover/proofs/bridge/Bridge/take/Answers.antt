@@ -7,8 +7,7 @@ use Rattle.node_rules.proofs.Counted.{external_few}
 use Rattle.node_rules.proofs.Handing.{handed_on}
 use Rattle.bridge_prover.specs.Bridge.{BridgeState, bridge_with}
 use Rattle.bridge_prover.specs.Judged.{IsReady}
-use Rattle.bridge_prover.specs.Taken.{AreRight}
-use Rattle.bridge_prover.proofs.Taking.{unshaped, not_shown, found_many, unpaid, shown_ready, gone}
+use Rattle.bridge_prover.proofs.Taking.{unshaped, not_shown, caught, found_many, unpaid, shown_ready, gone}
 use Rattle.bridge_prover.proofs.bridge.Bridge.take.Goals as goal
 
 pub returns-in_err-spends-clause-err : goal.returns-in_err-spends-clause-err
@@ -28,42 +27,42 @@ returns-in_err-shown-clause-err g c =
     (not_shown g.D.Digester.digest_of c.args.self.now c.args.block.now (handed_in (option_copied c.args.message)) c.in_ok-spends.spends
     c.in_ok-spends.ensures.judged c.in_err-shown.field-0.0 c.in_err-shown.ensures.err)
 
+pub returns-in_default-clause-ok : goal.returns-in_default-clause-ok
+returns-in_default-clause-ok g c =
+    caught g.D.Digester.digest_of c.args.self.now c.args.block.now (handed_in (option_copied c.args.message)) c.in_ok-spends.spends
+    c.in_ok-spends.ensures.judged _ c.in_ok-shown.ensures.passes c.in_ok-shown.ensures.shows _ c.in_default.is c.in_ok-shown.ensures.stays
+
 pub money_rules-requires : goal.money_rules-requires
 money_rules-requires g c =
-    let H = g.D.Digester.digest_of in
-    let handed = handed_in (option_copied c.args.message) in
-    let are = subst (AreRight H c.args.self.now c.in_ok-spends.spends.external handed) c.in-Some.is c.in_ok-shown.ensures.ok in
-    ap length c.deref.ensures.value ∙ found_many H c.args.self.now c.args.block.now handed c.in_ok-spends.spends
-    c.in_ok-spends.ensures.judged c.in-Some.shown are
+    ap length c.deref.ensures.value
+    ∙ found_many g.D.Digester.digest_of c.args.self.now c.args.block.now (handed_in (option_copied c.args.message)) c.in_ok-spends.spends
+    c.in_ok-spends.ensures.judged _ c.in_ok-shown.ensures.passes c.in_ok-shown.ensures.shows c.in_ok-shown.ensures.found c.in-Some.shown
+    c.in-Some.is
 
 pub take_in-requires : goal.take_in-requires
 take_in-requires g c =
     let H = g.D.Digester.digest_of in
-    let handed = handed_in (option_copied c.args.message) in
-    let are = subst (AreRight H c.args.self.now c.in_ok-spends.spends.external handed) c.in-Some.is c.in_ok-shown.ensures.ok in
     let paid : first_of (money_steps c.in_ok-spends.spends c.in-Some.shown.found.items) ≡ None =
     ap (λ xs. first_of (money_steps c.in_ok-spends.spends xs)) (sym c.deref.ensures.value) ∙ c.in-Ok.ensures.passes in
     subst (λ (x : BridgeState). IsReady H x c.args.hash c.in-Some.shown.numbers.items c.in_ok-spends.spends.new)
     (sym c.in_ok-shown.ensures.stays)
-    (shown_ready H c.args.self.now c.args.block.now handed c.in_ok-spends.spends c.in_ok-spends.ensures.judged c.in-Some.shown are paid
-    c.in_ok-spends.ensures.bridge c.bytes-bytes.ensures.fits c.args.hash)
+    (shown_ready H c.args.self.now c.args.block.now (handed_in (option_copied c.args.message)) c.in_ok-spends.spends
+    c.in_ok-spends.ensures.judged _ c.in_ok-shown.ensures.passes c.in_ok-shown.ensures.shows c.in_ok-shown.ensures.found c.in-Some.shown
+    c.in-Some.is paid c.in_ok-spends.ensures.bridge c.bytes-bytes.ensures.fits c.args.hash)
 
 pub returns-in-Ok-take_in-clause-ok : goal.returns-in-Ok-take_in-clause-ok
 returns-in-Ok-take_in-clause-ok g c =
     let H = g.D.Digester.digest_of in
-    let handed = handed_in (option_copied c.args.message) in
-    let are = subst (AreRight H c.args.self.now c.in_ok-spends.spends.external handed) c.in-Some.is c.in_ok-shown.ensures.ok in
     let paid : first_of (money_steps c.in_ok-spends.spends c.in-Some.shown.found.items) ≡ None =
     ap (λ xs. first_of (money_steps c.in_ok-spends.spends xs)) (sym c.deref.ensures.value) ∙ c.in-Ok.ensures.passes in
-    gone H c.args.self.now c.args.block.now handed c.in_ok-spends.spends c.in_ok-spends.ensures.judged c.in-Some.shown are paid c.args.hash
+    gone H c.args.self.now c.args.block.now (handed_in (option_copied c.args.message)) c.in_ok-spends.spends c.in_ok-spends.ensures.judged _
+    c.in_ok-shown.ensures.passes c.in_ok-shown.ensures.shows c.in_ok-shown.ensures.found c.in-Some.shown c.in-Some.is paid c.args.hash
     _ c.requires
     (c.in-Ok-take_in.ensures.next ∙ ap (λ (x : BridgeState). bridge_with H x c.args.hash c.in-Some.shown.numbers.items
     c.in_ok-spends.spends.new) c.in_ok-shown.ensures.stays)
 
 pub returns-clause-err : goal.returns-clause-err
 returns-clause-err g c =
-    let H = g.D.Digester.digest_of in
-    let handed = handed_in (option_copied c.args.message) in
-    let are = subst (AreRight H c.args.self.now c.in_ok-spends.spends.external handed) c.in-Some.is c.in_ok-shown.ensures.ok in
-    unpaid H c.args.self.now c.args.block.now handed c.in_ok-spends.spends c.in_ok-spends.ensures.judged c.in-Some.shown are c.in-Err.why
-    (ap (λ xs. first_of (money_steps c.in_ok-spends.spends xs)) (sym c.deref.ensures.value) ∙ c.in-Err.ensures)
+    unpaid g.D.Digester.digest_of c.args.self.now c.args.block.now (handed_in (option_copied c.args.message)) c.in_ok-spends.spends
+    c.in_ok-spends.ensures.judged _ c.in_ok-shown.ensures.passes c.in_ok-shown.ensures.shows c.in_ok-shown.ensures.found c.in-Some.shown
+    c.in-Some.is c.in-Err.why (ap (λ xs. first_of (money_steps c.in_ok-spends.spends xs)) (sym c.deref.ensures.value) ∙ c.in-Err.ensures)

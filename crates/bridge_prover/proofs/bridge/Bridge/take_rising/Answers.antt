@@ -13,7 +13,7 @@ use Rattle.bridge_prover.specs.Bridge.{BridgeState, dropped}
 use Rattle.bridge_prover.specs.Own.{numbered, spent_in, forgotten_in, cut_in, unspent_in}
 use Rattle.bridge_prover.specs.Watched.{scripts_of, noted_in}
 use Rattle.bridge_prover.specs.Standing.{IsBridge}
-use Rattle.bridge_prover.specs.Judged.{drafted}
+use Rattle.bridge_prover.specs.Draft.{drafted}
 use Rattle.bridge_prover.proofs.Holding.{holds_then, holds_still}
 use Rattle.bridge_prover.proofs.Returning.{spent_both, above_both, live_new, taken_back}
 use Rattle.bridge_prover.proofs.Sorting.{emptied_same, live_same}
