@@ -6,9 +6,10 @@ use Rattle.uo_digest.specs.declared.digest.Digest.{Digest}
 use Rattle.block_rules.specs.declared.refusal.Refusal.{Refusal}
 use Rattle.block_rules.specs.declared.verdict.Verdict.{Verdict}
 use Rattle.node_rules.specs.Judging.{Rules}
-use Rattle.node_rules.specs.Machine.{ChainEvent, BlockCame, RollbackCame, StrayCame, start, full_judge, goes_on, state_after, full_outcome}
-use Rattle.node_rules.specs.Fitting.{EventFits, StateFits}
-use Rattle.node_rules.specs.Laws.{IsSoundState}
+use Rattle.node_rules.specs.Machine.{ChainEvent, BlockCame, RollbackCame, StrayCame, OnEachLevel, start, full_judge, goes_on, state_after}
+use Rattle.node_rules.specs.Machine.{full_outcome}
+use Rattle.node_rules.specs.Fitting.{EventFits, LevelFits}
+use Rattle.node_rules.specs.Laws.{IsSound}
 use Rattle.node_rules.proofs.Fitting.{after_fits, start_fits}
 use Rattle.node_rules.proofs.Value.{after_sound, start_sound, full_judge-pays}
 use Rattle.bridge_prover.specs.Bridge.{BridgeState, fresh_bridge, bridge_by}
@@ -63,10 +64,11 @@ module _ (H : List ℕ → Digest) where
             is = next_judged_is_bridge H s e a.is;
             levels = o.state;
             stands = full.1;
-            fits = subst (λ r. StateFits r o.state) (sym (judged_rules s e))
-                (subst (StateFits s.rules) there (after_fits s.rules (full_judge H (watched_by s) s.rules) a.levels (e ∷ []) (fits, tt) a.fits));
-            sound = subst (λ r. IsSoundState r o.state) (sym (judged_rules s e))
-                (subst (IsSoundState s.rules) there (after_sound s.rules (full_judge H (watched_by s) s.rules)
+            fits = subst (λ r. OnEachLevel (LevelFits r) o.state) (sym (judged_rules s e))
+                (subst (OnEachLevel (LevelFits s.rules)) there
+                (after_fits s.rules (full_judge H (watched_by s) s.rules) a.levels (e ∷ []) (fits, tt) a.fits));
+            sound = subst (λ r. OnEachLevel (IsSound r) o.state) (sym (judged_rules s e))
+                (subst (OnEachLevel (IsSound s.rules)) there (after_sound s.rules (full_judge H (watched_by s) s.rules)
                 (full_judge-pays H (watched_by s) s.rules) a.levels (e ∷ []) a.sound));
           }
 

@@ -11,9 +11,9 @@ use Rattle.block_rules.specs.Blocks.{external}
 use Rattle.cache_model.specs.Known.{known_at}
 use Rattle.node_rules.specs.Messages.{points_of}
 use Rattle.node_rules.specs.Reading.{Handed, nothing, unread, read}
-use Rattle.node_rules.specs.Machine.{ChainEvent, BlockCame, RollbackCame, StrayCame, State}
-use Rattle.node_rules.specs.Fitting.{StateFits}
-use Rattle.node_rules.specs.Laws.{IsSoundState}
+use Rattle.node_rules.specs.Machine.{ChainEvent, BlockCame, RollbackCame, StrayCame, State, OnEachLevel}
+use Rattle.node_rules.specs.Fitting.{LevelFits}
+use Rattle.node_rules.specs.Laws.{IsSound}
 use Rattle.output_index.specs.Held.{Held}
 use Rattle.bridge_prover.specs.Bridge.{BridgeState, fresh_bridge}
 use Rattle.bridge_prover.specs.Standing.{Stands, IsBridge}
@@ -34,8 +34,8 @@ pub record IsAudit (H : List ℕ → Digest) (s : BridgeState) : Type 0 where
   pub is : IsBridge H s
   pub levels : State
   pub stands : Stands H levels s
-  pub fits : StateFits s.rules levels
-  pub sound : IsSoundState s.rules levels
+  pub fits : OnEachLevel (LevelFits s.rules) levels
+  pub sound : OnEachLevel (IsSound s.rules) levels
 
 -- no block and no output, for a reader of lean messages who watches these scripts
 abbrev pub fresh_audit : Net → Limits → List (List ℕ) → AuditState

@@ -44,9 +44,8 @@ pub(crate) fn check_proof<D: Digester, L: Ledger>(
     requires ascends { AscendByPlace known.now }
     ensures ok { IfOk result (λ checked. IsChecked D.digest_of forest.now.entries (look known.now) external.now message.now checked.targets
         checked.hashes.items) }
-    ensures err { IfErr result (λ fault. IsFirst
-        (option_map Why.Proof (proof_fault D.digest_of (view_in D.digest_of forest.now.entries (look known.now)) (points_of external.now) message.now))
-        fault) }
+    ensures err { IfErr result (λ fault. IsFirst (option_map Why.Proof
+        (proof_fault D.digest_of (view_in D.digest_of forest.now.entries (look known.now)) (points_of external.now) message.now)) fault) }
 {
     let targets = targets_of(alloc, forest.leaves(), message)?;
     let hashes = full_hashes(alloc, message, &targets, known)?;

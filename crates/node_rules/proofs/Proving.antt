@@ -15,11 +15,11 @@ use Rattle.proof_wire.specs.BlockProof.{message_text}
 use Rattle.block_rules.specs.declared.chain.Outside.{Outside}
 use Rattle.block_rules.specs.declared.refusal.Refusal.{Refusal}
 use Rattle.block_rules.specs.Blocks.{external}
-use Rattle.node_rules.specs.Fitting.{AreEventBytes, StateFits}
+use Rattle.node_rules.specs.Fitting.{AreEventBytes, LevelFits}
 use Rattle.node_rules.specs.Messages.{Message}
 use Rattle.node_rules.specs.Reading.{read, message_in, handed_in}
 use Rattle.node_rules.specs.Judging.{Rules, own, refusal, message_of, written}
-use Rattle.node_rules.specs.Machine.{ChainEvent, State, start, chain_of, event_in, own_judge, by_refusal, step, is_made, with_message}
+use Rattle.node_rules.specs.Machine.{ChainEvent, State, start, chain_of, event_in, own_judge, by_refusal, step, is_made, with_message, OnEachLevel}
 use Rattle.node_rules.specs.Machine.{proof_feed}
 use Rattle.node_rules.specs.Machine as Chain
 use Rattle.node_rules.specs.Proving.{written_text, text_beside, passed_on, proved_events, IsShortMessage, CanBeWritten}
@@ -51,7 +51,7 @@ module _ (H : List ℕ → Digest) (long : (x : List ℕ) → IsDigest (H x)) (r
     (few : rules.limits.leaves < 2 ^ 40) where
   -- the state fits, and has few levels
   record IsSmall (s : State) : Type 0 where
-    fits : StateFits rules s
+    fits : OnEachLevel (LevelFits rules) s
     levels : length s.older ≤ 100
 
   next_small : (s : State) (event : FeedEvent) → AreEventBytes event → IsSmall s → IsSmall (step rules own_judge s (event_in event)).state

@@ -11,8 +11,8 @@ use Rattle.block_rules.specs.declared.refusal.Refusal.{Refusal}
 use Rattle.block_rules.specs.Blocks.{new_records}
 use Rattle.node_rules.specs.Judging.{Rules, Evidence, refusal}
 use Rattle.node_rules.specs.Machine.{ChainEvent, BlockCame, RollbackCame, StrayCame, Level, State, Judge, chain_of, by_refusal, by_evidence, back}
-use Rattle.node_rules.specs.Machine.{step, start}
-use Rattle.node_rules.specs.Laws.{IsWithin, IsWithinLimits}
+use Rattle.node_rules.specs.Machine.{step, start, OnEachLevel}
+use Rattle.node_rules.specs.Laws.{IsWithin}
 use Rattle.node_rules.proofs.Fitting.{passes, length_spent}
 
 module _ (rules : Rules) (judge : Judge) where
@@ -21,16 +21,18 @@ module _ (rules : Rules) (judge : Judge) where
   taken_within (suc k) [] h = tt
   taken_within (suc k) (l ∷ ls) h = (h.0, taken_within k ls h.1)
 
-  back_within : (k : ℕ) (l : Level) (ls : List Level) → IsWithin rules l → AllByRecursion (IsWithin rules) ls → IsWithinLimits rules (back k l ls)
+  back_within : (k : ℕ) (l : Level) (ls : List Level) → IsWithin rules l → AllByRecursion (IsWithin rules) ls
+      → OnEachLevel (IsWithin rules) (back k l ls)
   back_within zero l ls h hs = (h, hs)
   back_within (suc k) l [] h hs = (h, tt)
   back_within (suc k) l (m ∷ ms) h hs = back_within k m ms hs.0 hs.1
 
-  evidence_within : (s : State) (b : Block) → IsWithinLimits rules s → (x : Option Evidence) → IsWithinLimits rules (by_evidence rules s b x).state
+  evidence_within : (s : State) (b : Block) → OnEachLevel (IsWithin rules) s → (x : Option Evidence)
+      → OnEachLevel (IsWithin rules) (by_evidence rules s b x).state
   evidence_within s b h None = h
   evidence_within s b h (Some e) = by_case (refusal rules (chain_of s.now) b e) refl
     where
-      by_case : (x : Option Refusal) → refusal rules (chain_of s.now) b e ≡ x → IsWithinLimits rules (by_refusal s b e x).state
+      by_case : (x : Option Refusal) → refusal rules (chain_of s.now) b e ≡ x → OnEachLevel (IsWithin rules) (by_refusal s b e x).state
       by_case (Some why) q = h
       by_case None q =
           let new = new_records b s.now.blocks in
@@ -41,7 +43,7 @@ module _ (rules : Rules) (judge : Judge) where
           let room = (passes rules (chain_of s.now) b e q).room in
           (omega (arith, long, same, count, room), taken_within 100 (s.now ∷ s.older) h)
 
-  pub step_within : (s : State) (e : ChainEvent) → IsWithinLimits rules s → IsWithinLimits rules (step rules judge s e).state
+  pub step_within : (s : State) (e : ChainEvent) → OnEachLevel (IsWithin rules) s → OnEachLevel (IsWithin rules) (step rules judge s e).state
   step_within s (BlockCame None m) h = h
   step_within s (BlockCame (Some b) m) h = evidence_within s b h (judge s.now b m)
   step_within s (RollbackCame k) h =
@@ -49,5 +51,5 @@ module _ (rules : Rules) (judge : Judge) where
   step_within s StrayCame h = h
 
 -- that of the start has none
-pub start_within : (rules : Rules) → IsWithinLimits rules start
+pub start_within : (rules : Rules) → OnEachLevel (IsWithin rules) start
 start_within rules = (omega arith, tt)

@@ -75,10 +75,12 @@ others-stay b n m other =
 
 -- ---- another bucket in the place of one
 
-cells_there : (at : ℕ) (list : List (List BucketCell)) (old : List BucketCell) → at < length list → old ≡ get_or list at old → slice_get list at ≡ Some old
+cells_there : (at : ℕ) (list : List (List BucketCell)) (old : List BucketCell) → at < length list → old ≡ get_or list at old
+    → slice_get list at ≡ Some old
 cells_there at list old l is = slice_get_read list (length list) at old refl l is
 
-pub in-bucket : (b m at : ℕ) (list : List (List BucketCell)) (cells : List BucketCell) → bucket_of b (length list) m ≡ at → slice_get list at ≡ Some cells
+pub in-bucket : (b m at : ℕ) (list : List (List BucketCell)) (cells : List BucketCell) → bucket_of b (length list) m ≡ at
+    → slice_get list at ≡ Some cells
     → in_buckets b list m ≡ in_cells cells m
 in-bucket b m at list cells s there = ap (λ x. in_place x m) (ap (slice_get list) s ∙ there)
 
@@ -109,7 +111,8 @@ others-set b mark at list old new l is others m o =
 
 -- ---- one bucket more
 
-pub split-same : (b first : ℕ) (list : List (List BucketCell)) (old added stays : List BucketCell) → first + 2 ^ b ≡ length list → length list < 2 ^ suc b
+pub split-same : (b first : ℕ) (list : List (List BucketCell)) (old added stays : List BucketCell) → first + 2 ^ b ≡ length list
+    → length list < 2 ^ suc b
     → slice_get list first ≡ Some old →
     ((m : ℕ) → bucket_of b (suc (length list)) m ≡ length list → in_cells added m ≡ in_cells old m) →
     ((m : ℕ) → bucket_of b (suc (length list)) m ≡ first → in_cells stays m ≡ in_cells old m) →
@@ -137,7 +140,8 @@ split-same b first list old added stays sum most there goes left m =
 
 -- ---- a bucket takes one mark, or has no room
 
-pub put-at : (put : Bool) (b mark number : ℕ) (list : List (List BucketCell)) (old new : List BucketCell) (at : ℕ) → at ≡ bucket_of b (length list) mark
+pub put-at : (put : Bool) (b mark number : ℕ) (list : List (List BucketCell)) (old new : List BucketCell) (at : ℕ)
+    → at ≡ bucket_of b (length list) mark
     → at < length list → old ≡ get_or list at old →
     OnTrue put (new ≡ old ++ record { mark = mark; number = number } ∷ []) → in_buckets b list mark ≡ None
     → OnTrue put (in_buckets b (set list at new) mark ≡ Some number)
@@ -159,7 +163,8 @@ put-others-at put b mark number list old new at l is made full = others-set b ma
 
 -- ---- the same as the code has it
 
-pub split-by : (b count power first : ℕ) (list more : List (List BucketCell)) (old added lent stays : List BucketCell) → count ≡ length list → power ≡ 2 ^ b
+pub split-by : (b count power first : ℕ) (list more : List (List BucketCell)) (old added lent stays : List BucketCell) → count ≡ length list
+    → power ≡ 2 ^ b
     → first ≡ count - power → 2 ^ b ≤ length list → length list < 2 ^ suc b →
     old ≡ get_or list first old → more ≡ list ++ added ∷ [] → lent ≡ get_or more first lent →
     added ≡ filter (is_own b (count + 1) count) old → stays ≡ filter (is_own b (count + 1) first) lent → (m : ℕ)
@@ -186,7 +191,8 @@ own-at b at n list cells len there own =
     (subst (λ k. AllByRecursion (λ c. bucket_of b k c.mark ≡ at) cells) (sym len) own)
 
 -- neither of the two has a mark that is sought elsewhere
-pub split-own : (b count power first : ℕ) (list more : List (List BucketCell)) (old added lent stays : List BucketCell) → count ≡ length list → power ≡ 2 ^ b
+pub split-own : (b count power first : ℕ) (list more : List (List BucketCell)) (old added lent stays : List BucketCell) → count ≡ length list
+    → power ≡ 2 ^ b
     → first ≡ count - power → 2 ^ b ≤ length list → more ≡ list ++ added ∷ [] →
     added ≡ filter (is_own b (count + 1) count) old → stays ≡ filter (is_own b (count + 1) first) lent → HasOwn b (set more first stays) (length list)
     × HasOwn b (set more first stays) (length list - 2 ^ b)

@@ -63,7 +63,8 @@ equal_some None n h = absurd (false≢true h)
 equal_some (Some t) n h = ap Some (eqb-true t n h)
 
 -- the oldest is the only one, where it is the newest too
-pub alone_from : (n m : ℕ) (es : List (ℕ × Entry)) (marks : MarkNumbers) → IsChained es marks → IsOldest (held_in es) n m → newest_with marks m ≡ Some n
+pub alone_from : (n m : ℕ) (es : List (ℕ × Entry)) (marks : MarkNumbers) → IsChained es marks → IsOldest (held_in es) n m
+    → newest_with marks m ≡ Some n
     → IsAlone (held_in es) n m
 alone_from n m es marks h oldest top j q =
     let l : IsLast (mark_at es) m Any (Some n) = subst (λ r. IsLast (mark_at es) m Any r) top (h.newest m) in

@@ -12,7 +12,7 @@ use Rattle.block_rules.specs.declared.verdict.Verdict.TheVariants.{Accepted}
 use Rattle.block_rules.specs.Blocks.{external}
 use Rattle.node_rules.specs.Reading.{Handed}
 use Rattle.node_rules.specs.Judging.{Rules, full, message_of, written}
-use Rattle.node_rules.specs.Laws.{IsTaken}
+use Rattle.node_rules.specs.Laws.{IsTakenByAll}
 use Rattle.node_rules.specs.Machine.{ChainEvent, BlockCame, RollbackCame, Level, State, Outcome, chain_of, full_judge, level_after, pushed}
 use Rattle.node_rules.specs.Machine.{by_refusal, by_evidence, back, rolled_back, event_in, step, full_outcome, is_made}
 use Rattle.compact_node.specs.Node.{NodeState, IsNode, LevelStands, Stands, verdict_on, next_node}
@@ -59,7 +59,7 @@ module _ (H : List ℕ → Digest) (rules : Rules) where
     abbrev handed : Handed
     handed = written (external b s.now.blocks) (message_of H None s.now.history (external b s.now.blocks))
 
-    abbrev taken : IsTaken H scripts rules (chain_of s.now) s.now.history b handed
+    abbrev taken : IsTakenByAll H scripts rules (chain_of s.now) s.now.history b handed
     taken = own_accepts H s.now.history leads.few None scripts tt rules (chain_of s.now) b leads.passes
 
     abbrev outcome : Level → Outcome

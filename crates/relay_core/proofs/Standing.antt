@@ -21,9 +21,9 @@ use Rattle.node_rules.specs.Messages.{Message}
 use Rattle.node_rules.specs.Reading.{Handed, read, handed_in, message_in}
 use Rattle.node_rules.specs.Judging.{Rules, Evidence, own, refusal, message_of, written}
 use Rattle.node_rules.specs.Proving.{written_text}
-use Rattle.node_rules.specs.Fitting.{AreEventBytes, EventFits, StateFits}
+use Rattle.node_rules.specs.Fitting.{AreEventBytes, EventFits, LevelFits}
 use Rattle.node_rules.specs.Machine.{ChainEvent, BlockCame, RollbackCame, Level, State, Outcome, chain_of, own_judge, level_after, pushed, by_refusal}
-use Rattle.node_rules.specs.Machine.{back, rolled_back, gone_to, verdict_by, is_made}
+use Rattle.node_rules.specs.Machine.{back, rolled_back, gone_to, verdict_by, is_made, OnEachLevel}
 use Rattle.bridge_prover.specs.Bridge.{BridgeState, refusal_on, verdict_on, after_block, bridge_by, next_bridge, gone_back, chain_back, message_by}
 use Rattle.bridge_prover.specs.Bridge.{message_on, told_if}
 use Rattle.bridge_prover.specs.Own.{own_in}
@@ -105,7 +105,7 @@ module _ (H : List ℕ → Digest) (long : Digests H) (rules : Rules) (few : rul
     newer : Level
     leads : Leads H rules t.now (record { block = bytes; message = message }) newer
     stands : Stands H (pushed newer t) s'
-    fits : StateFits rules (pushed newer t)
+    fits : OnEachLevel (LevelFits rules) (pushed newer t)
 
   -- the bridge stands for this state, with messages in full
   pub record IsBeside (s : BridgeState) (t : State) : Type 0 where
@@ -113,7 +113,7 @@ module _ (H : List ℕ → Digest) (long : Digests H) (rules : Rules) (few : rul
     pub no_watch : s.watch ≡ None
     pub is : IsBridge H s
     pub stands : Stands H t s
-    pub fits : StateFits rules t
+    pub fits : OnEachLevel (LevelFits rules) t
 
   as_own : (s : BridgeState) (t : State) (e : ChainEvent) → IsBeside s t
       → IsAsOwn H None rules t e (verdict_on s e) (message_on H s e) (next_bridge H s e)
@@ -154,7 +154,7 @@ module _ (H : List ℕ → Digest) (long : Digests H) (rules : Rules) (few : rul
         };
         stands = subst (λ x. Stands H (pushed newer t) (bridge_by x (after_block H s b) s)) accepts
             (subst (λ (x : Option Refusal). Stands H (by_refusal t b ev x).state (next_bridge H s e)) passes one.stands);
-        fits = subst (λ (x : Option Refusal). StateFits rules (by_refusal t b ev x).state) passes
+        fits = subst (λ (x : Option Refusal). OnEachLevel (LevelFits rules) (by_refusal t b ev x).state) passes
             (step_fits rules own_judge t e block_fits beside.fits);
       }
 
@@ -206,7 +206,8 @@ module _ (H : List ℕ → Digest) (long : Digests H) (rules : Rules) (few : rul
       same_parts : Sound Q (with_parts w.bridge [] w.chain)
       same_parts = subst (λ sent. Sound Q (record w { sent = sent })) (sym (append-nil w.sent)) same_world
 
-      beside_then : (e : ChainEvent) (t' : State) (s' : BridgeState) → s' ≡ next_bridge H w.bridge e → Stands H t' s' → StateFits rules t'
+      beside_then : (e : ChainEvent) (t' : State) (s' : BridgeState) → s' ≡ next_bridge H w.bridge e → Stands H t' s'
+          → OnEachLevel (LevelFits rules) t'
           → IsBeside s' t'
       beside_then e t' s' is stands fits = record {
         same_rules = ap (λ (s : BridgeState). s.rules) is ∙ (kept_rules H w.bridge e ∙ sound.beside.same_rules);
@@ -328,8 +329,8 @@ module _ (H : List ℕ → Digest) (long : Digests H) (rules : Rules) (few : rul
             deep_enough : (k : ℕ) → is_made (own_outcome rules t (RollbackCame k)).verdict ≡ true → nat_le k (length t.older) ≡ true
             deep_enough k made = ⊎_elim (λ x. x) (λ f. absurd (false≢true (rw f at made))) (cases_Bool (nat_le k (length t.older)))
 
-            gone_fits : (k : ℕ) → nat_le k (length t.older) ≡ true → StateFits rules (back k t.now t.older)
-            gone_fits k can' = subst (λ x. StateFits rules (Outcome.state
+            gone_fits : (k : ℕ) → nat_le k (length t.older) ≡ true → OnEachLevel (LevelFits rules) (back k t.now t.older)
+            gone_fits k can' = subst (λ x. OnEachLevel (LevelFits rules) (Outcome.state
                 (cond x (rolled_back k (back k t.now t.older)) (record { verdict = Some (TooDeep k (length t.older)); state = t })))) can'
                 (step_fits rules own_judge t (RollbackCame k) tt sound.beside.fits)
 
