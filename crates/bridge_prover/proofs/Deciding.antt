@@ -21,13 +21,12 @@ use Rattle.node_rules.specs.Proving.{written_text}
 use Rattle.node_rules.proofs.Newest.{all_found}
 use Rattle.forest_place.specs.Position.{rows}
 use Rattle.bridge_prover.proofs.Owning.{own_same}
-use Rattle.bridge_prover.specs.Own.{own_in, newest_in, leaves_in}
+use Rattle.bridge_prover.specs.Own.{own_in, first_missing, newest_in, leaves_in}
 use Rattle.node_rules.specs.Judged.{IsFirst}
 use Rattle.node_rules.proofs.Counted.{external_few}
 use Rattle.node_rules.proofs.Firsts.{first-in, first-behind, none-both}
 use Rattle.bridge_prover.specs.Bridge.{BridgeState, refusal_on, message_by, bridge_with}
 use Rattle.bridge_prover.specs.Judged.{AreFound, IsReady, IsPassed}
-use Rattle.bridge_prover.specs.Own.{first_missing}
 use Rattle.bridge_prover.specs.Standing.{IsBridge}
 use Rattle.bridge_prover.proofs.Gathering.{somes-map}
 use Rattle.bridge_prover.proofs.Next.{ready}

@@ -1,5 +1,5 @@
 -- Sets that are the bits of a word, as the code works them out.
-use Rattle.std.proofs.Common.{◌≡◌, ℕ, zero, suc, ◌+◌, ◌-◌, ◌*◌, ◌/◌, ◌%◌, ◌^◌, ◌<◌, ◌≤◌, refl, sym, ap, ◌∙◌, ⊎_elim, arith}
+use Rattle.std.proofs.Common.{◌≡◌, ℕ, zero, suc, ◌+◌, ◌-◌, ◌*◌, ◌/◌, ◌%◌, ◌^◌, ◌<◌, ◌≤◌, refl, sym, ap, ◌∙◌, ⊎_elim, arith, mod-eq_of_lt}
 use Rattle.std.specs.Prelude.{◌==◌, if◌then◌else◌, bit_and, bit_or}
 use Rattle.std.specs.Int.{Width}
 use Rattle.std.proofs.lemmas.Bool.{cases_lt}
@@ -29,7 +29,7 @@ rank_is n (suc i) =
 
 module _ (w : Width) where
   pub rank_all : (n : ℕ) → n < 2 ^ bits w → ones n ≡ rank (is_bit n) (bits w)
-  rank_all n few = ap ones (let e : n ≡ n % 2 ^ bits w = omega (arith, few) in e) ∙ sym (rank_is n (bits w))
+  rank_all n few = ap ones (sym (mod-eq_of_lt few)) ∙ sym (rank_is n (bits w))
 
   pub rank_bits : (n i : ℕ) → i < bits w → ones (bit_and n (1 * 2 ^ i % 2 ^ bits w - 1)) ≡ rank (is_bit n) i
   rank_bits n i h = ap (λ k. ones (bit_and n (k - 1))) (one_shl i (bits w) h) ∙ ap ones (and_mask n i) ∙ sym (rank_is n i)
