@@ -25,7 +25,7 @@ use Rattle.proof_shape.proofs.Gone.{target_bare, up_in}
 use Rattle.proof_verify.proofs.Planned.{covered_above, uncovered_stays}
 use Rattle.cache_model.specs.Undo.{is_same_place}
 use Rattle.cache_model.proofs.Undoing.{place_order}
-use Rattle.cache_update.specs.Descent.{IsStayingAbove, StandsBeneath, TellGoals}
+use Rattle.cache_update.specs.DeletionGoals.{IsStayingAbove, StandsBeneath, TellGoals}
 use Rattle.cache_update.proofs.Moves.{up_within, goes_within}
 
 no_cover : (x : Option Cover) → is_some x ≡ false → x ≡ None

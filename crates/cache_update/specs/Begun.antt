@@ -6,18 +6,18 @@ use Rattle.forest_model.specs.Deletion.{moved}
 use Rattle.proof_shape.specs.Targeted.{Targeted}
 use Rattle.cache_model.specs.Lists.{moved_leaves, leaf_places}
 use Rattle.leaf_cache.specs.Parted.{Parted}
-use Rattle.cache_update.specs.Descent.{TellGoals}
+use Rattle.cache_update.specs.DeletionGoals.{TellGoals}
 use Rattle.cache_update.specs.Differences.{where_stood}
 use Rattle.cache_update.specs.Marks.{BoxedRoom, HoldKnown, growth}
-use Rattle.cache_update.specs.declared.mark.Mark.{Mark}
-use Rattle.cache_update.specs.declared.mark.Room.{Room}
+use Rattle.cache_update.specs.declared.mark.CacheMark.{CacheMark}
+use Rattle.cache_update.specs.declared.mark.BlockRoom.{BlockRoom}
 
 -- the position to which what stands at a place goes
 abbrev pub new_position : ℕ → List Place → Place → Option ℕ
 new_position n ts p = option_map (λ q. position n q.row q.off) (moved n ts p.row p.off)
 
 -- room for a block of these targets and additions
-pub record IsRoom (t : Targeted) (p : Parted) (adds : ℕ) (r : Room) : Type 0 where
+pub record IsRoom (t : Targeted) (p : Parted) (adds : ℕ) (r : BlockRoom) : Type 0 where
   pub kept : r.kept ≡ record { leaves = t.leaves; targets = leaf_places (moved_leaves t.leaves t.targets p.kept) }
   pub before : r.before.items ≡ p.held
   pub held : length p.held + growth t.leaves adds < r.most
@@ -32,7 +32,7 @@ pub record IsRoom (t : Targeted) (p : Parted) (adds : ℕ) (r : Room) : Type 0 w
   pub empty : (r.lost.items ≡ []) × (r.gained.items ≡ []) × (r.moved.items ≡ [])
 
 -- a mark with this room, and nothing to undo
-pub record IsMark (t : Targeted) (p : Parted) (adds watched : ℕ) (r : BoxedRoom) (m : Mark) : Type 0 where
+pub record IsMark (t : Targeted) (p : Parted) (adds watched : ℕ) (r : BoxedRoom) (m : CacheMark) : Type 0 where
   pub leaves : m.leaves ≡ t.leaves
   pub adds_are : m.adds ≡ adds
   pub watched_are : m.watched ≡ watched
@@ -44,7 +44,7 @@ pub record IsMark (t : Targeted) (p : Parted) (adds watched : ℕ) (r : BoxedRoo
   pub room : m.room ≡ Some r
 
 -- a mark without room, over entries of which nothing is known
-pub record IsIdleMark (leaves adds : ℕ) (m : Mark) : Type 0 where
+pub record IsIdleMark (leaves adds : ℕ) (m : CacheMark) : Type 0 where
   pub leaves_are : m.leaves ≡ leaves
   pub adds_are : m.adds ≡ adds
   pub watched : m.watched ≡ 0

@@ -6,17 +6,17 @@ ghost use Rattle.forest_place.specs.Forest.{InForest};
 ghost use Rattle.forest_place.specs.Position.{positions_of};
 ghost use Rattle.cache_model.specs.Lists.{AscendByPlace, moved_leaves, leaf_places};
 ghost use Rattle.leaf_cache.specs.Parted.{HaveSameLists, IsParted};
-ghost use Rattle.cache_update.specs.Descent.{TellGoals};
+ghost use Rattle.cache_update.specs.DeletionGoals.{TellGoals};
 ghost use Rattle.cache_update.specs.Differences.{where_stood};
 ghost use Rattle.cache_update.specs.Begun.{IsRoom, IsMark, IsIdleMark, new_position};
 ghost use Rattle.cache_update.specs.Refused.{IsOfForest, IsKeptFault, IsBeginFault};
 ghost use Rattle.cache_update.specs.Marks.{AreOfForest, Fits, WasBegun, HoldKnown, growth, kept_back, held_back};
 
-use crate::descend::{goal_at, tell_goals};
+use crate::deletion_goals::{goal_at, tell_goals};
 use crate::fault::BeginFault;
-use crate::mark::{Mark, Room, Scratch};
+use crate::mark::{BlockRoom, CacheMark, HeldScratch};
 use forest_place::{Place, is_within, position};
-use leaf_cache::{Cache, Kept, Parts};
+use leaf_cache::{Cache, CacheLists, Kept};
 use proof_shape::{Survey, Targets};
 use std::alloc::Global;
 use uo_base::NoMemory;
@@ -52,7 +52,7 @@ fn are_held_in(n: u64, held: &[(Place, Digest)]) -> bool
 }
 
 // Whether the lists are those of a forest over `n` entries.
-fn is_of_forest(n: u64, parts: &Parts) -> bool
+fn is_of_forest(n: u64, parts: &CacheLists) -> bool
     requires { n < 2 ^ 40 }
     ensures forest { OnTrue result (AreOfForest n parts.now) }
     ensures other { OnFalse result (AreOfForest n parts.now → ⊥) }
@@ -171,15 +171,15 @@ fn places_of(alloc: Global, kept: &[Kept]) -> Result<Vec<(u64, Place)>, NoMemory
     Ok(kept.iter().map(|entry| stands_at(entry)).collect(alloc)?)
 }
 
-// Room for a block of this many additions, where this is told of its deletion.
+// BlockRoom for a block of this many additions, where this is told of its deletion.
 fn room_with(
     alloc: Global,
-    parts: &Parts,
+    parts: &CacheLists,
     targets: &Targets,
     adds: u64,
     kept: Survey,
     goals: Vec<Option<Place>>,
-) -> Result<Box<Room>, NoMemory>
+) -> Result<Box<BlockRoom>, NoMemory>
     requires kept { kept ≡ record {
       leaves = targets.now.leaves;
       targets =
@@ -192,11 +192,11 @@ fn room_with(
     let Some(most) = most_of(&kept, parts.held.len(), targets.leaves(), adds) else {
         return Err(NoMemory);
     };
-    let room = Room {
+    let room = BlockRoom {
         most,
         kept,
         before: Vec::from_slice(alloc, &parts.held)?,
-        scratch: Scratch {
+        scratch: HeldScratch {
             spare: Vec::with_capacity(alloc, most)?,
             moves: Vec::with_capacity(alloc, most)?,
             goals,
@@ -208,13 +208,13 @@ fn room_with(
     Ok(Box::new(alloc, room)?)
 }
 
-// Room for a block of these targets and this many additions.
+// BlockRoom for a block of these targets and this many additions.
 fn room_for(
     alloc: Global,
-    parts: &Parts,
+    parts: &CacheLists,
     targets: &Targets,
     adds: u64,
-) -> Result<Box<Room>, BeginFault>
+) -> Result<Box<BlockRoom>, BeginFault>
     requires kept { All (λ k. InForest targets.now.leaves k.place.row k.place.off) parts.now.kept }
     requires held { All (λ x. InForest targets.now.leaves x.0.row x.0.off) parts.now.held }
     requires ascends { AscendByPlace parts.now.held }
@@ -229,15 +229,15 @@ fn room_for(
 // A mark for a block of these targets and additions.
 fn mark_for(
     alloc: Global,
-    parts: &Parts,
+    parts: &CacheLists,
     targets: &Targets,
     adds: u64,
     watched: u64,
-    room: Box<Room>,
-) -> Result<Mark, NoMemory>
+    room: Box<BlockRoom>,
+) -> Result<CacheMark, NoMemory>
     ensures { IfOk result (λ m. IsMark targets.now parts.now adds watched room m) }
 {
-    Ok(Mark {
+    Ok(CacheMark {
         leaves: targets.leaves(),
         adds,
         watched,
@@ -251,17 +251,17 @@ fn mark_for(
 }
 
 // Whether nothing is kept or held, and nothing comes that is watched.
-fn is_idle(parts: &Parts, adds: u64, watched: u64) -> bool
+fn is_idle(parts: &CacheLists, adds: u64, watched: u64) -> bool
     ensures { OnTrue result ((0 < adds) × (watched ≡ 0) × (parts.now.kept ≡ []) × (parts.now.held ≡ [])) }
 {
     adds > 0 && watched == 0 && parts.kept.is_empty() && parts.held.is_empty()
 }
 
 // A mark for additions that change nothing. It takes no memory.
-fn idle_mark(alloc: Global, leaves: u64, adds: u64) -> Mark
+fn idle_mark(alloc: Global, leaves: u64, adds: u64) -> CacheMark
     ensures { IsIdleMark leaves adds result }
 {
-    Mark {
+    CacheMark {
         leaves,
         adds,
         watched: 0,
@@ -277,11 +277,11 @@ fn idle_mark(alloc: Global, leaves: u64, adds: u64) -> Mark
 // A mark for a block that changes nothing of the lists, which are empty.
 fn begin_idle(
     alloc: Global,
-    parts: &mut Parts,
+    parts: &mut CacheLists,
     targets: &Targets,
     adds: u64,
     watched: u64,
-) -> Result<Mark, NoMemory>
+) -> Result<CacheMark, NoMemory>
     requires adds { 0 < adds }
     requires watched { watched ≡ 0 }
     requires nothing_kept { parts.old.kept ≡ [] }
@@ -303,12 +303,12 @@ fn begin_idle(
 // A mark with this room, and room in the lists for what the block adds to them. Of 2^64 entries there is no room for one more.
 fn begin_with(
     alloc: Global,
-    parts: &mut Parts,
+    parts: &mut CacheLists,
     targets: &Targets,
     adds: u64,
     watched: u64,
-    room: Box<Room>,
-) -> Result<Mark, NoMemory>
+    room: Box<BlockRoom>,
+) -> Result<CacheMark, NoMemory>
     requires forest { AreOfForest targets.now.leaves parts.old }
     requires room { IsRoom targets.now parts.old adds room.value }
     requires ordered { IsParted parts.old }
@@ -334,11 +334,11 @@ fn begin_with(
 // A mark for a block, with the room that it takes, and room in the lists for what it adds to them.
 fn begin_changing(
     alloc: Global,
-    parts: &mut Parts,
+    parts: &mut CacheLists,
     targets: &Targets,
     adds: u64,
     watched: u64,
-) -> Result<Mark, BeginFault>
+) -> Result<CacheMark, BeginFault>
     ensures lists { HaveSameLists parts.new parts.old }
     ensures kept_room { parts.old.kept_room ≤ parts.new.kept_room }
     ensures held_room { parts.old.held_room ≤ parts.new.held_room }
@@ -359,11 +359,11 @@ fn begin_changing(
 // A mark for a block, and room in the lists for what the block adds to them.
 fn begin_in(
     alloc: Global,
-    parts: &mut Parts,
+    parts: &mut CacheLists,
     targets: &Targets,
     adds: u64,
     watched: u64,
-) -> Result<Mark, BeginFault>
+) -> Result<CacheMark, BeginFault>
     ensures lists { HaveSameLists parts.new parts.old }
     ensures kept_room { parts.old.kept_room ≤ parts.new.kept_room }
     ensures held_room { parts.old.held_room ≤ parts.new.held_room }
@@ -392,7 +392,7 @@ pub fn begin<D>(
     targets: &Targets,
     adds: u64,
     watched: u64,
-) -> Result<Mark, BeginFault>
+) -> Result<CacheMark, BeginFault>
     ensures lists { HaveSameLists cache.new.parts cache.old.parts }
     ensures watch { cache.new.watch ≡ cache.old.watch }
     ensures kept_room { cache.old.parts.kept_room ≤ cache.new.parts.kept_room }
@@ -408,7 +408,7 @@ pub fn begin<D>(
 }
 
 // The mark of a block that changes nothing of the lists, which are empty and stay so.
-fn unchanged_in(alloc: Global, parts: &mut Parts) -> Result<Mark, NoMemory>
+fn unchanged_in(alloc: Global, parts: &mut CacheLists) -> Result<CacheMark, NoMemory>
     requires kept { parts.old.kept ≡ [] }
     requires held { parts.old.held ≡ [] }
     ensures lists { HaveSameLists parts.new parts.old }
@@ -425,7 +425,7 @@ fn unchanged_in(alloc: Global, parts: &mut Parts) -> Result<Mark, NoMemory>
 
 /// The mark of a block of which a cache that keeps and holds nothing is told nothing, neither what it deletes nor what it adds, since
 /// none of its outputs is watched. What the cache keeps and holds stays nothing, and the mark gives it back.
-pub fn unchanged<D>(alloc: Global, cache: &mut Cache<D>) -> Result<Mark, NoMemory>
+pub fn unchanged<D>(alloc: Global, cache: &mut Cache<D>) -> Result<CacheMark, NoMemory>
     requires kept { cache.old.parts.kept ≡ [] }
     requires held { cache.old.parts.held ≡ [] }
     ensures lists { HaveSameLists cache.new.parts cache.old.parts }
