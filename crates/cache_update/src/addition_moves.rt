@@ -1,5 +1,5 @@
 //! What an addition leaves where it stands: all that stands beneath no slot below the highest empty root that is joined.
-ghost use Rattle.std.specs.Prelude.{◌≡◌, ◌+◌, ◌*◌, ◌/◌, ◌<◌, ◌≤◌, ◌^◌, true, false, length, get_or, All};
+ghost use Rattle.std.specs.Prelude.{◌≡◌, ◌+◌, ◌<◌, ◌≤◌, ◌^◌, true, false, length, All};
 ghost use Rattle.std.specs.Bool.{OnFalse};
 ghost use Rattle.forest_place.specs.Forest.{InForest};
 ghost use Rattle.forest_model.specs.Addition.{all_slots};

@@ -1,5 +1,5 @@
 //! Both lists of a cache after a deletion and after an addition.
-ghost use Rattle.std.specs.Prelude.{◌≡◌, ℕ, ◌+◌, ◌*◌, ◌<◌, ◌≤◌, ◌^◌, ◌++◌, true, length, filter, is_some, All, vec_len, vec_capacity};
+ghost use Rattle.std.specs.Prelude.{◌≡◌, ◌+◌, ◌*◌, ◌<◌, ◌≤◌, ◌^◌, ◌++◌, true, length, filter, is_some, All, vec_len, vec_capacity};
 ghost use Rattle.forest_model.specs.Addition.{all_slots};
 ghost use Rattle.cache_model.specs.Lists.{moved_leaves, leaf_places, leaves_more};
 ghost use Rattle.cache_model.specs.Steps.{held_deleted};

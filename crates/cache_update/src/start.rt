@@ -9,7 +9,7 @@ ghost use Rattle.leaf_cache.specs.Parted.{HaveSameLists, IsParted};
 ghost use Rattle.cache_update.specs.DeletionGoals.{TellGoals};
 ghost use Rattle.cache_update.specs.Differences.{where_stood};
 ghost use Rattle.cache_update.specs.Begun.{IsRoom, IsMark, IsIdleMark, new_position};
-ghost use Rattle.cache_update.specs.Refused.{IsOfForest, IsKeptFault, IsBeginFault};
+ghost use Rattle.cache_update.specs.Refused.{IsKeptFault, IsBeginFault};
 ghost use Rattle.cache_update.specs.Marks.{AreOfForest, Fits, WasBegun, HoldKnown, growth, kept_back, held_back};
 
 use crate::deletion_goals::{goal_at, tell_goals};

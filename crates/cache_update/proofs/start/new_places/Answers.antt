@@ -1,4 +1,4 @@
-use Rattle.std.proofs.Common.{◌≡◌, ℕ, List, MatchOption, Option, sym, ap, ◌∙◌, subst}
+use Rattle.std.proofs.Common.{◌≡◌, ℕ, List, MatchOption, Option, sym, ◌∙◌, subst}
 use Rattle.forest_model.specs.Cover.{HasShape}
 use Rattle.proof_shape.specs.Shape.{AreTargets, HasTargets}
 use Rattle.proof_shape.specs.Targeted.{Targeted}
