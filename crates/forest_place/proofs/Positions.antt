@@ -1,15 +1,16 @@
 -- Places and positions.
-use Rattle.std.proofs.Common.{◌≡◌, ℕ, zero, suc, ◌+◌, ◌-◌, ◌*◌, ◌/◌, ◌%◌, ◌^◌, ◌<◌, ◌≤◌, true, sym, ap, ap₂, ◌∙◌, subst, ⊎_elim, inl, inr, arith}
+use Rattle.std.proofs.Common.{◌≡◌, ℕ, zero, suc, ◌+◌, ◌-◌, ◌*◌, ◌/◌, ◌%◌, ◌^◌, ◌<◌, ◌≤◌, true, sym, ap, ◌∙◌, subst, ⊎_elim, arith}
 use Rattle.std.proofs.Common.{pow-suc, bit_or, mod-eq_of_lt}
-use Rattle.std.specs.Prelude.{◌⊎◌, ◌↔◌, nat_lt}
+use Rattle.std.specs.Prelude.{◌↔◌, nat_lt}
 use Rattle.std.proofs.Math.Nat.{le_of_mul-le-mul_right}
 use Rattle.std.proofs.Math.Pow.{pow_mono}
 use Rattle.std.proofs.lemmas.Nat.{pow_pos, pow_below, or_shifted, or_comm, pow-add, shl-shr}
-use Rattle.std.proofs.lemmas.Bool.{cases_Bool, cases_lt, cases_order, ltb-true, ltb-false, eqb-true}
+use Rattle.std.proofs.lemmas.Bool.{cases_Bool, cases_lt, ltb-true, ltb-false, eqb-true}
 use Rattle.forest_place.specs.declared.place.Place.{Place}
 use Rattle.forest_place.specs.Forest.{InForest, is_slot, root_off}
 use Rattle.forest_place.specs.Position.{rows, rows_within, row_start, position, IsLow, fixed_position}
 use Rattle.forest_place.specs.Places.{IsBefore}
+use Rattle.forest_place.proofs.Before.{place_order}
 use Rattle.forest_place.proofs.Slots.{in_forest_iff}
 
 below_pow : (n : ℕ) → n ≤ 2 ^ n
@@ -137,16 +138,6 @@ rises_within top p q w v b =
 pub position_rises : (n : ℕ) (p q : Place) → InForest n p.row p.off → InForest n q.row q.off → IsBefore p q
     → position n p.row p.off < position n q.row q.off
 position_rises n p q h k b = rises_within (rows n) p q (within_rows n p.row p.off h) (within_rows n q.row q.off k) b
-
-pub place_order : (p q : Place) → IsBefore p q ⊎ ((p ≡ q) ⊎ IsBefore q p)
-place_order p q =
-    ⊎_elim
-    (λ same. ⊎_elim
-    (λ e. inr (inl (ap₂ (λ (x y : ℕ). let z : Place = record { row = x; off = y } in z) same e)))
-    (⊎_elim (λ lt. inl (inr (same, lt))) (λ gt. inr (inr (inr (sym same, gt)))))
-    (cases_order p.off q.off))
-    (⊎_elim (λ lt. inl (inl lt)) (λ gt. inr (inr (inl gt))))
-    (cases_order p.row q.row)
 
 order_within : (top : ℕ) (p q : Place) → IsWithin top p → IsWithin top q → IsBefore p q ↔ (row_start top p.row + p.off < row_start top q.row + q.off)
 order_within top p q w v = (
