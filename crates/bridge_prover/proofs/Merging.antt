@@ -3,14 +3,14 @@ use Rattle.std.proofs.Common.{◌≡◌, ℕ, ◌+◌, ◌<◌, ◌≤◌, Bool,
 use Rattle.std.proofs.Common.{ap, ap₂, ◌∙◌, subst, ⊎_elim, inl, inr}
 use Rattle.std.specs.Prelude.{◌⊎◌, ◌&&◌, ◌||◌, not, is_some, filter_map, Option, None, option_map, if◌then◌else◌}
 use Rattle.std.specs.List.{filter, cons_option}
-use Rattle.std.proofs.lemmas.Bool.{cases_Bool, or_left, and_parts, false≢true}
+use Rattle.std.proofs.lemmas.Bool.{cases_Bool, and_parts, false≢true}
 use Rattle.std.proofs.lemmas.List.{drop_all, take_more}
 use Rattle.std.proofs.lemmas.List.Elements.{filter_map-append}
 use Rattle.uo_digest.specs.declared.digest.Digest.{Digest}
 use Rattle.forest_place.specs.declared.place.Place.{Place}
 use Rattle.forest_place.specs.Forest.{InForest, is_root, sibling_off}
-use Rattle.forest_place.specs.Places.{is_at, has_place, places, IsBefore, IsAscending}
-use Rattle.forest_place.proofs.Listed.{is_at-same, filter_has, filter_had, places_have, places_had}
+use Rattle.forest_place.specs.Places.{has_place, places, IsBefore, IsAscending}
+use Rattle.forest_place.proofs.Listed.{filter_has, filter_had, places_have, places_had, has_first}
 use Rattle.forest_place.proofs.Before.{means_before, comes_later}
 use Rattle.forest_place.proofs.Ascending.{ascending-filter, places_ascending, same_ascending}
 use Rattle.forest_model.specs.Cover.{cover, is_needed, need}
@@ -46,16 +46,13 @@ merge_ends out left right i j whole (inr none) =
 abbrev IsFirst : Place → List Place → Type 0
 IsFirst x zs = (z : Place) → has_place zs z.row z.off ≡ true → IsBefore x z
 
-head_has : (z : Place) (zs : List Place) → has_place (z ∷ zs) z.row z.off ≡ true
-head_has z zs = or_left (is_at z.row z.off z) _ (is_at-same z.row z.off)
-
 lead_left : (x : Place) (xs ys : List Place) → IsFirst x ys → merged (x ∷ xs) ys ≡ x ∷ merged xs ys
 lead_left x xs [] first = refl
-lead_left x xs (y ∷ ys) first = let t = means_before x y (first y (head_has y ys)) in rw t refl
+lead_left x xs (y ∷ ys) first = let t = means_before x y (first y (has_first y ys)) in rw t refl
 
 lead_right : (x : Place) (xs ys : List Place) → IsFirst x xs → merged xs (x ∷ ys) ≡ x ∷ merged xs ys
 lead_right x [] ys first = refl
-lead_right x (z ∷ xs) ys first = let f = comes_later x z (first z (head_has z xs)) in rw f refl
+lead_right x (z ∷ xs) ys first = let f = comes_later x z (first z (has_first z xs)) in rw f refl
 
 module _ (p q : Place → Bool) (apart : (x : Place) → q x ≡ true → p x ≡ false) where
   first_of_part : (t : Place → Bool) (x : Place) (xs : List Place) → IsFirst x xs → IsFirst x (filter t xs)

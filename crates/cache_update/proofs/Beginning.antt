@@ -3,16 +3,16 @@ use Rattle.std.proofs.Common.{◌≡◌, ℕ, ◌+◌, ◌<◌, ◌≤◌, List,
 use Rattle.std.proofs.Common.{⊎_elim, All, arith}
 use Rattle.std.specs.Prelude.{option_map, count_ones}
 use Rattle.std.specs.List.{cons_option}
-use Rattle.std.proofs.lemmas.Bool.{cases_Bool, true≢false, or_left, or_right}
+use Rattle.std.proofs.lemmas.Bool.{cases_Bool, true≢false}
 use Rattle.std.proofs.lemmas.List.{length-map}
 use Rattle.std.proofs.lemmas.List.Elements.{All-head, All-tail}
 use Rattle.uo_digest.specs.declared.digest.Digest.{Digest}
 use Rattle.forest_place.specs.declared.place.Place.{Place}
 use Rattle.forest_place.specs.Forest.{InForest}
-use Rattle.forest_place.specs.Places.{AreWithin, has_place, is_at}
+use Rattle.forest_place.specs.Places.{AreWithin, is_at}
 use Rattle.forest_place.specs.Position.{position, positions_of}
-use Rattle.forest_place.proofs.Listed.{is_at-same, same_from_is_at}
-use Rattle.forest_place.proofs.Positions.{one_position}
+use Rattle.forest_place.proofs.Listed.{same_from_is_at}
+use Rattle.forest_place.proofs.Positions.{same_places}
 use Rattle.forest_model.specs.Deletion.{moved}
 use Rattle.proof_shape.specs.Shape.{AreTargets}
 use Rattle.proof_shape.specs.Targeted.{Targeted}
@@ -44,22 +44,6 @@ positions_are n ts (k ∷ ks) = by_move (moved n ts k.place.row k.place.off) (po
     by_move None rest = rest
     by_move (Some q) rest = ap (λ ps. position n q.row q.off ∷ ps) rest
 
-within_rest : (n : ℕ) (p : Place) (ps : List Place) → AreWithin n (p ∷ ps) → AreWithin n ps
-within_rest n p ps a r o h = a r o (or_right (is_at r o p) (has_place ps r o) h)
-
-within_first : (n : ℕ) (p : Place) (ps : List Place) → AreWithin n (p ∷ ps) → InForest n p.row p.off
-within_first n p ps a = a p.row p.off (or_left (is_at p.row p.off p) (has_place ps p.row p.off) (is_at-same p.row p.off))
-
-places_same : (n : ℕ) (ps qs : List Place) → AreWithin n ps → AreWithin n qs → positions_of n ps ≡ positions_of n qs → ps ≡ qs
-places_same n [] [] a b e = refl
-places_same n [] (q ∷ qs) a b e = let z = ap length e in absurd (omega (arith, z))
-places_same n (p ∷ ps) [] a b e = let z = ap length e in absurd (omega (arith, z))
-places_same n (p ∷ ps) (q ∷ qs) a b e =
-    let first : position n p.row p.off ≡ position n q.row q.off = cc in
-    let rest : positions_of n ps ≡ positions_of n qs = cc in
-    ap₂ (λ x xs. x ∷ xs) (one_position n p q (within_first n p ps a) (within_first n q qs b) first)
-    (places_same n ps qs (within_rest n p ps a) (within_rest n q qs b) rest)
-
 kept_within : (n : ℕ) (ks : List Kept) → All (IsKeptIn n) ks → AreWithin n (leaf_places ks)
 kept_within n [] a r o h = absurd (true≢false (sym h))
 kept_within n (k ∷ ks) a r o h =
@@ -76,7 +60,7 @@ places_are n n' ts ks t numbers a e f are g =
     let are' : AreTargets n numbers t.targets = subst (λ (k : ℕ). AreTargets k numbers t.targets) e are in
     let within : AreWithin n t.targets = (λ r o h. are'.shape.within (record { row = r; off = o }) h) in
     ap₂ (λ (l : ℕ) (ps : List Place). let x : Targeted = record { leaves = l; targets = ps } in x) (f ∙ e)
-    (places_same n t.targets (leaf_places (moved_leaves n ts ks)) within (kept_within n (moved_leaves n ts ks) (moved_in n ts ks a))
+    (same_places n t.targets (leaf_places (moved_leaves n ts ks)) within (kept_within n (moved_leaves n ts ks) (moved_in n ts ks a))
     (are'.numbered ∙ g))
 
 -- a mark that was just made

@@ -1,18 +1,17 @@
 -- What a block leaves of a cache that keeps and holds nothing.
-use Rattle.std.proofs.Common.{◌≡◌, ℕ, zero, suc, ◌+◌, ◌*◌, ◌<◌, Bool, true, false, ◌||◌, ◌&&◌, not, cond, List, [], ◌∷◌, ◌++◌, filter, length, Option}
+use Rattle.std.proofs.Common.{◌≡◌, ℕ, zero, suc, ◌<◌, Bool, true, false, cond, List, [], ◌∷◌, ◌++◌, filter, length, Option}
 use Rattle.std.proofs.Common.{Some, None, is_some, refl, sym, ap, ap₂, ◌∙◌, subst, arith}
 use Rattle.std.proofs.lemmas.List.{append-nil}
 use Rattle.leaf_record.specs.Leaf.{Leaf}
 use Rattle.uo_digest.specs.declared.digest.Digest.{Digest}
 use Rattle.forest_place.specs.declared.place.Place.{Place}
-use Rattle.forest_place.specs.Forest.{is_root, sibling_off}
-use Rattle.forest_model.specs.Cover.{cover}
 use Rattle.forest_roots.specs.declared.joins.Join.{Join}
 use Rattle.cache_model.specs.declared.kept.Kept.{Kept}
 use Rattle.cache_model.specs.Cache.{is_root_held}
 use Rattle.cache_model.specs.Known.{is_known}
 use Rattle.cache_model.specs.Lists.{moved_leaves, leaf_places, leaves_more}
 use Rattle.cache_model.specs.Steps.{put_all, held_deleted}
+use Rattle.cache_model.proofs.Known.{none_known}
 use Rattle.leaf_cache.specs.Parted.{Parted}
 use Rattle.cache_update.specs.Begun.{IsIdleMark}
 use Rattle.cache_update.specs.Given.{kept_given, held_given}
@@ -22,23 +21,9 @@ use Rattle.cache_update.specs.declared.mark.CacheMark.{CacheMark}
 use Rattle.proof_shape.specs.Targeted.{Targeted}
 
 -- nothing is known where nothing is kept
-no_cover : (row off : ℕ) → cover [] row off ≡ None
-no_cover zero off = refl
-no_cover (suc row) off = rw (no_cover row (2 * off), no_cover row (2 * off + 1)) refl
-
-unknown : (n : ℕ) (p : Place) → is_known n [] p ≡ false
-unknown n p =
-    ap₂ (λ (a b : Bool). a || (not (is_root n p.row p.off) && not a && b)) (ap is_some (no_cover p.row p.off))
-    (ap is_some (no_cover p.row (sibling_off p.off)))
-    ∙ by_root (is_root n p.row p.off)
-  where
-    by_root : (b : Bool) → (false || (not b && not false && false)) ≡ false
-    by_root true = refl
-    by_root false = refl
-
 no_pair : (n : ℕ) (pairs : List (Place × Digest)) → filter (λ x. is_known n [] x.0) pairs ≡ []
 no_pair n [] = refl
-no_pair n (x ∷ pairs) = rw (unknown n x.0) (no_pair n pairs)
+no_pair n (x ∷ pairs) = rw (none_known n x.0) (no_pair n pairs)
 
 -- so a deletion leaves empty lists
 pub none_moved : (n : ℕ) (ts : List Place) (ks : List Kept) → ks ≡ [] → ks ≡ moved_leaves n ts ks
