@@ -30,7 +30,7 @@ use Rattle.block_rules.specs.declared.chain.Chain.{Chain}
 use Rattle.node_rules.specs.Judging.{Rules}
 use Rattle.state_text.specs.Stored.{places_of}
 use Rattle.state_text.specs.Fits.{LevelFits, IsKept, IsNext, AreLevels, IsState}
-use Rattle.state_text.specs.Fits.{IsLevel as IsStoredLevel}
+use Rattle.state_text.specs.Fits.{IsStoredLevel}
 use Rattle.state_text.specs.Cached.{CachedLevel, CachedState, entry_of, level_in, state_in, IsFilled}
 use Rattle.state_text.specs.Told.{level_tells, told_list}
 use Rattle.state_text.proofs.Filling.{shape_leaves}
