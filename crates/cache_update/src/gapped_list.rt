@@ -8,7 +8,8 @@ ghost use Rattle.cache_model.specs.Steps.{put as put_of};
 ghost use Rattle.cache_model.specs.Undo.{change, held_key, is_same_place};
 ghost use Rattle.cache_update.specs.GappedList.{EndsBefore, IsGap, around};
 
-use crate::put::{append, is_same};
+use crate::put::append;
+use cache_model::is_same;
 use forest_place::{Place, is_before};
 use uo_digest::Digest;
 

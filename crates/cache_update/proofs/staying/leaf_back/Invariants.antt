@@ -1,5 +1,5 @@
 use Rattle.std.proofs.Common.{◌≤◌, length}
-use Rattle.cache_update.proofs.deletion_goals.leaf_back.Given as goal
+use Rattle.cache_update.proofs.staying.leaf_back.Given as goal
 
 abbrev pub invariant-loop-at : goal.invariant-loop-at
 invariant-loop-at l = l.at ≤ length l.needed

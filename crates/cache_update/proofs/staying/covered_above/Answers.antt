@@ -3,8 +3,8 @@ use Rattle.forest_place.specs.Forest.{InForest}
 use Rattle.forest_model.specs.Cover.{cover}
 use Rattle.proof_shape.specs.Targeted.{Targeted}
 use Rattle.cache_update.proofs.Moves.{up_within}
-use Rattle.cache_update.proofs.Descending.{free_here, free_beside, on_free}
-use Rattle.cache_update.proofs.deletion_goals.covered_above.Goals as goal
+use Rattle.cache_update.proofs.Descending.{free_both, on_free}
+use Rattle.cache_update.proofs.staying.covered_above.Goals as goal
 
 pub covered_near-requires : goal.covered_near-requires
 covered_near-requires c =
@@ -20,12 +20,7 @@ above_covered c =
     ∙ (ap (λ (t : Targeted). is_some (cover t.targets c.parent.result.row c.parent.result.off)) c.survey.ensures
     ∙ ap₂ (λ r o. is_some (cover c.args.targets.now.targets r o)) (c.parent.ensures.row ∙ add-one c.args.place.row) c.parent.ensures.off)
 
-pub returns-clause-here : goal.returns-clause-here
-returns-clause-here c =
+pub returns : goal.returns
+returns c =
     on_free c.args.targets.now.targets c.args.place.row c.args.place.off c.covered_near.result.0 _ (above_covered c)
-    (free_here c.args.targets.now.targets c.args.place.row c.args.place.off)
-
-pub returns-clause-beside : goal.returns-clause-beside
-returns-clause-beside c =
-    on_free c.args.targets.now.targets c.args.place.row c.args.place.off c.covered_near.result.0 _ (above_covered c)
-    (free_beside c.args.targets.now.targets c.args.place.row c.args.place.off)
+    (free_both c.args.targets.now.targets c.args.place)

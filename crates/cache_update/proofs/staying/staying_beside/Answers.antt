@@ -1,7 +1,7 @@
 use Rattle.std.proofs.Common.{◌≡◌, false, sym, ◌∙◌, subst}
 use Rattle.forest_place.specs.Forest.{is_root}
 use Rattle.cache_update.proofs.Descending.{stays_beside}
-use Rattle.cache_update.proofs.deletion_goals.staying_beside.Goals as goal
+use Rattle.cache_update.proofs.staying.staying_beside.Goals as goal
 
 pub returns-then-is_same : goal.returns-then-is_same
 returns-then-is_same c =

@@ -2,7 +2,7 @@ use Rattle.std.proofs.Common.{◌∙◌, ap, is_some}
 use Rattle.forest_model.specs.Cover.{cover}
 use Rattle.proof_shape.specs.Targeted.{Targeted}
 use Rattle.cache_update.proofs.Descending.{stays_by, stays_uncovered}
-use Rattle.cache_update.proofs.deletion_goals.stays.Goals as goal
+use Rattle.cache_update.proofs.staying.stays.Goals as goal
 
 pub returns-then-is_beneath : goal.returns-then-is_beneath
 returns-then-is_beneath c = stays_by c.args.targets.now.leaves c.args.targets.now.targets c.leaves.ensures.targets.shape c.needed-2.result.now
