@@ -171,7 +171,7 @@ fn places_of(alloc: Global, kept: &[Kept]) -> Result<Vec<(u64, Place)>, NoMemory
     Ok(kept.iter().map(|entry| stands_at(entry)).collect(alloc)?)
 }
 
-// BlockRoom for a block of this many additions, where this is told of its deletion.
+// Room for a block of this many additions, where this is told of its deletion.
 fn room_with(
     alloc: Global,
     parts: &CacheLists,
@@ -208,7 +208,7 @@ fn room_with(
     Ok(Box::new(alloc, room)?)
 }
 
-// BlockRoom for a block of these targets and this many additions.
+// Room for a block of these targets and this many additions.
 fn room_for(
     alloc: Global,
     parts: &CacheLists,
