@@ -3,7 +3,9 @@ use Rattle.std.proofs.Common.{◌≡◌, ℕ, ◌+◌, ◌<◌, ◌≤◌, List,
 use Rattle.std.proofs.Common.{⊎_elim, All, arith}
 use Rattle.std.specs.Prelude.{option_map, count_ones}
 use Rattle.std.specs.List.{cons_option}
+use Rattle.std.specs.Prelude.{Result, IfOk}
 use Rattle.std.proofs.lemmas.Bool.{cases_Bool, true≢false}
+use Rattle.std.proofs.lemmas.Result.{IfOk-weaker}
 use Rattle.std.proofs.lemmas.List.{length-map}
 use Rattle.std.proofs.lemmas.List.Elements.{All-head, All-tail}
 use Rattle.uo_digest.specs.declared.digest.Digest.{Digest}
@@ -20,7 +22,7 @@ use Rattle.cache_model.specs.declared.kept.Kept.{Kept}
 use Rattle.cache_model.specs.Lists.{moved_leaves, leaf_places}
 use Rattle.leaf_cache.specs.Parted.{Parted, IsParted}
 use Rattle.cache_update.specs.declared.mark.CacheMark.{CacheMark}
-use Rattle.cache_update.specs.Begun.{new_position, IsRoom, IsMark}
+use Rattle.cache_update.specs.Begun.{BeginsBlock, new_position, IsRoom, IsMark}
 use Rattle.cache_update.specs.DeletionGoals.{TellGoals}
 use Rattle.cache_update.specs.Differences.{where_stood}
 use Rattle.cache_update.specs.Given.{kept_given}
@@ -67,14 +69,14 @@ places_are n n' ts ks t numbers a e f are g =
 module _ (t : Targeted) (p q : Parted) (adds watched : ℕ) (r : BoxedRoom) (m : CacheMark) (ordered : IsParted p) (forest : AreOfForest t.leaves p)
     (room : IsRoom t p adds r.value) (mark : IsMark t p adds watched r m) (kept : q.kept ≡ p.kept) (held : q.held ≡ p.held)
     (kept_room : length p.kept + watched < q.kept_room) (held_room : r.value.most ≤ q.held_room) where
-  pub begun_kept : kept_back m q.kept ≡ p.kept
+  begun_kept : kept_back m q.kept ≡ p.kept
   begun_kept =
       ap (kept_back m) kept
       ∙ (ap (λ (x : List Kept). kept_given x m.stood.items m.added.items p.kept) mark.taken
       ∙ (ap₂ (λ (s : List (ℕ × Place)) (j : List ℕ). kept_given [] s j p.kept) mark.stood mark.added
       ∙ fresh_back p.kept ordered.0))
 
-  pub begun_held : held_back m q.held ≡ p.held
+  begun_held : held_back m q.held ≡ p.held
   begun_held = ap (λ (x : Option BoxedRoom). held_from x m.lost.items m.gained.items q.held) mark.room ∙ room.before
 
   begun_room : HasRoomFor m q r.value
@@ -110,7 +112,7 @@ module _ (t : Targeted) (p q : Parted) (adds watched : ℕ) (r : BoxedRoom) (m :
         empty = room.empty;
       }
 
-  pub begun_fits : Fits m q
+  begun_fits : Fits m q
   begun_fits =
       let a = ap length begun_kept in
       let b = ap length begun_held in
@@ -121,7 +123,7 @@ module _ (t : Targeted) (p q : Parted) (adds watched : ℕ) (r : BoxedRoom) (m :
         left = subst (HasRoomLeft m q) (sym mark.room) begun_room;
       }
 
-  pub was_begun : WasBegun t m q
+  was_begun : WasBegun t m q
   was_begun =
       let count = ap count_ones mark.leaves in
       let long = ap length kept in
@@ -141,6 +143,36 @@ module _ (t : Targeted) (p q : Parted) (adds watched : ℕ) (r : BoxedRoom) (m :
         goals = subst (λ (hs : List (Place × Digest)). TellGoals t.leaves t.targets hs r.value.scratch.goals.items) (sym held) room.goals;
         each = room.each ∙ ap length (sym held);
       })
+
+  pub begins : BeginsBlock t adds watched p q m
+  begins = record {
+    fit = begun_fits;
+    begun = was_begun;
+    kept = begun_kept;
+    held = begun_held;
+    left = (mark.leaves, mark.adds_are, mark.watched_are);
+  }
+
+-- where a mark begins a block, what is said of it holds one by one
+module _ {E : Type 0} (r : Result CacheMark E) (t : Targeted) (adds watched : ℕ) (old new : Parted)
+    (h : IfOk r (BeginsBlock t adds watched old new)) where
+  abbrev Begins : CacheMark → Type 0
+  Begins = BeginsBlock t adds watched old new
+
+  pub begins-fits : IfOk r (λ m. Fits m new)
+  begins-fits = IfOk-weaker r Begins (λ m. Fits m new) (λ m b. b.fit) h
+
+  pub begins-begun : IfOk r (λ m. WasBegun t m new)
+  begins-begun = IfOk-weaker r Begins (λ m. WasBegun t m new) (λ m b. b.begun) h
+
+  pub begins-kept : IfOk r (λ m. kept_back m new.kept ≡ old.kept)
+  begins-kept = IfOk-weaker r Begins (λ m. kept_back m new.kept ≡ old.kept) (λ m b. b.kept) h
+
+  pub begins-held : IfOk r (λ m. held_back m new.held ≡ old.held)
+  begins-held = IfOk-weaker r Begins (λ m. held_back m new.held ≡ old.held) (λ m b. b.held) h
+
+  pub begins-left : IfOk r (λ m. (m.leaves ≡ t.leaves) × (m.adds ≡ adds) × (m.watched ≡ watched))
+  begins-left = IfOk-weaker r Begins (λ m. (m.leaves ≡ t.leaves) × (m.adds ≡ adds) × (m.watched ≡ watched)) (λ m b. b.left) h
 
 -- a mark with no block fits where there is room for what it gives back
 pub between_fits : (m : CacheMark) (p newer older : Parted) → m.room ≡ None → m.adds ≡ 0 → kept_back m newer.kept ≡ older.kept

@@ -13,7 +13,7 @@ use Rattle.cache_model.specs.Lists.{moved_leaves, leaf_places, leaves_more}
 use Rattle.cache_model.specs.Steps.{put_all, held_deleted}
 use Rattle.cache_model.proofs.Known.{none_known}
 use Rattle.leaf_cache.specs.Parted.{Parted}
-use Rattle.cache_update.specs.Begun.{IsIdleMark}
+use Rattle.cache_update.specs.Begun.{BeginsBlock, IsIdleMark}
 use Rattle.cache_update.specs.Given.{kept_given, held_given}
 use Rattle.cache_update.specs.Joins.{shown_by, added_by}
 use Rattle.cache_update.specs.Marks.{BoxedRoom, Fits, HasRoomLeft, IsIdle, WasBegun, IsUnusedIn, kept_back, held_back, held_from}
@@ -81,8 +81,18 @@ module _ (leaves adds : ℕ) (m : CacheMark) (p q : Parted) (idle : IsIdleMark l
         left = subst (HasRoomLeft m q) (sym idle.room) (λ lt. record { kept = kept ∙ no_kept; held = held ∙ no_held; watched = idle.watched });
       }
 
-  pub idle_begun : 0 < adds → (t : Targeted) → WasBegun t m q
+  idle_begun : 0 < adds → (t : Targeted) → WasBegun t m q
   idle_begun some t = subst (IsUnusedIn t m q) (sym idle.room) (omega (arith, some, idle.adds_are))
+
+  pub idle_begins : (t : Targeted) (watched : ℕ) → leaves ≡ t.leaves → 0 < adds → watched ≡ 0 → 0 < q.kept_room → 0 < q.held_room
+      → BeginsBlock t adds watched p q m
+  idle_begins t watched e some none a b = record {
+    fit = idle_fits a b;
+    begun = idle_begun some t;
+    kept = idle_kept;
+    held = idle_held;
+    left = (idle.leaves_are ∙ e, idle.adds_are, idle.watched ∙ sym none);
+  }
 
 -- a mark that only counts
 pub same_back : (m m' : CacheMark) (ks : List Kept) → m'.taken.items ≡ m.taken.items → m'.stood.items ≡ m.stood.items → m'.added.items ≡ m.added.items

@@ -2,7 +2,7 @@ use Rattle.std.proofs.Common.{sym, ap, ◌∙◌, subst, All}
 use Rattle.leaf_cache.specs.Parted.{Parted}
 use Rattle.cache_update.proofs.Refusing.{on_false}
 use Rattle.cache_update.proofs.Within.{IsHeldIn}
-use Rattle.cache_update.proofs.start.is_of_forest.Goals as goal
+use Rattle.cache_update.proofs.block_room.is_of_forest.Goals as goal
 
 pub returns-then-are_kept_in-clause-other : goal.returns-then-are_kept_in-clause-other
 returns-then-are_kept_in-clause-other c =

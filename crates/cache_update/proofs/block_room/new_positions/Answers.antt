@@ -3,7 +3,7 @@ use Rattle.cache_model.specs.declared.kept.Kept.{Kept}
 use Rattle.cache_update.specs.Begun.{new_position}
 use Rattle.cache_update.proofs.Passes.{gather_end}
 use Rattle.cache_update.proofs.Beginning.{positions_are}
-use Rattle.cache_update.proofs.start.new_positions.Goals as goal
+use Rattle.cache_update.proofs.block_room.new_positions.Goals as goal
 
 pub returns : goal.returns
 returns c =

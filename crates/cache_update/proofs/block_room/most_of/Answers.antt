@@ -1,7 +1,7 @@
 use Rattle.std.proofs.Common.{length, ap, ◌+◌, arith}
 use Rattle.forest_model.specs.Cover.{need}
 use Rattle.cache_update.proofs.Growing.{hold_known}
-use Rattle.cache_update.proofs.start.most_of.Goals as goal
+use Rattle.cache_update.proofs.block_room.most_of.Goals as goal
 
 pub returns-clause-known : goal.returns-clause-known
 returns-clause-known c =

@@ -1,7 +1,7 @@
 use Rattle.std.proofs.Common.{ℕ, ◌<◌, slice_index_or}
 use Rattle.forest_place.specs.Forest.{InForest}
 use Rattle.cache_model.specs.declared.kept.Kept.{Kept}
-use Rattle.cache_update.proofs.start.are_kept_in.Given as goal
+use Rattle.cache_update.proofs.block_room.are_kept_in.Given as goal
 
 abbrev pub invariant-loop-i : goal.invariant-loop-i
 invariant-loop-i l = record {

@@ -1,7 +1,7 @@
 use Rattle.std.proofs.Common.{◌-◌, refl, sym, ◌∙◌, subst}
 use Rattle.forest_place.specs.Forest.{InForest}
 use Rattle.cache_update.proofs.Moves.{goes_within}
-use Rattle.cache_update.proofs.start.note_position.Goals as goal
+use Rattle.cache_update.proofs.block_room.note_position.Goals as goal
 
 pub position-requires-clause-within : goal.position-requires-clause-within
 position-requires-clause-within c =

@@ -5,7 +5,7 @@ use Rattle.proof_shape.specs.Targeted.{Targeted}
 use Rattle.cache_model.specs.Lists.{moved_leaves, leaf_places}
 use Rattle.cache_update.proofs.Beginning.{places_are}
 use Rattle.cache_update.proofs.Rooted.{moved_shape}
-use Rattle.cache_update.proofs.start.new_places.Goals as goal
+use Rattle.cache_update.proofs.block_room.new_places.Goals as goal
 
 -- what a survey of these positions is, where there is one
 abbrev Found : ℕ → List ℕ → Option Targeted → Type 0
