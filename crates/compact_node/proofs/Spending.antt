@@ -96,7 +96,10 @@ module _ (H : List ℕ → Digest) (scripts : List (List ℕ)) (us : History) wh
     spending : (handed : Handed) → is_right_message H scripts us ext handed ≡ true
         → IsSpending H es (places_spent l.roots.leaves handed) (entries_shown H us handed) (hashes_spent H (view_over l) handed)
     spending nothing h = record { at = tt; right = λ r o within needed. absurd (false≢true (sym (none_needed (length es) (place r o)) ∙ needed)) }
-    spending (unread why) h = record { at = tt; right = λ r o within needed. absurd (false≢true (sym (none_needed (length es) (place r o)) ∙ needed)) }
+    spending (unread why) h = record {
+      at = tt;
+      right = λ r o within needed. absurd (false≢true (sym (none_needed (length es) (place r o)) ∙ needed));
+    }
     spending (read m) h =
         let base : IsSpending H es (targets (length us) m) (entries_shown H us (read m)) (hashes_by (length us) (known_at H scripts us) m) =
         record {

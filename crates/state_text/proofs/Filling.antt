@@ -155,7 +155,8 @@ module _ (H : List ℕ → Digest) (scripts : List (List ℕ)) (tip : Digest) (f
       → claims e (IsStoredLevel H scripts level → ⊥)
   level_denied e d =
       denied e (IsAccepted H f.leaves (root_in f) ts nothing_known leaves hs) (IsStoredLevel H scripts level)
-      (λ good. let l : IsStoredLevel H scripts (record { tip = tip; roots = f; kept = entries; hashes = hashes }) = subst (IsStoredLevel H scripts) is good in
+      (λ good. let l : IsStoredLevel H scripts (record { tip = tip; roots = f; kept = entries; hashes = hashes }) =
+      subst (IsStoredLevel H scripts) is good in
       subst (λ (x : List Place). IsAccepted H f.leaves (root_in f) x nothing_known leaves hs) (sym places)
       (subst (λ (x : List Digest). IsAccepted H f.leaves (root_in f) (places_of entries) nothing_known x hs) (sym shown)
       (subst (λ (x : List Digest). IsAccepted H f.leaves (root_in f) (places_of entries) nothing_known
