@@ -3,7 +3,7 @@ use Rattle.std.proofs.Common.{◌≡◌, ℕ, ◌+◌, ◌<◌, ◌≤◌, Bool,
 use Rattle.std.proofs.Common.{ap, ap₂, ◌∙◌, subst, ⊎_elim, inl, inr}
 use Rattle.std.specs.Prelude.{◌⊎◌, ◌&&◌, ◌||◌, not, is_some, filter_map, Option, None, option_map, if◌then◌else◌}
 use Rattle.std.specs.List.{filter, cons_option}
-use Rattle.std.proofs.lemmas.Bool.{cases_Bool, and_parts, false≢true}
+use Rattle.std.proofs.lemmas.Bool.{cases_Bool, and_parts, false≢true, not-true}
 use Rattle.std.proofs.lemmas.List.{drop_all, take_more}
 use Rattle.std.proofs.lemmas.List.Elements.{filter_map-append}
 use Rattle.uo_digest.specs.declared.digest.Digest.{Digest}
@@ -79,11 +79,7 @@ needed_apart : (n : ℕ) (ts : List Place) (x : Place) → is_needed n ts x ≡ 
 needed_apart n ts x e =
     let a = and_parts (not (is_root n x.row x.off) && not (is_some (cover ts x.row x.off))) (is_some (cover ts x.row (sibling_off x.off))) e in
     let b = and_parts (not (is_root n x.row x.off)) (not (is_some (cover ts x.row x.off))) a.0 in
-    is_not (is_some (cover ts x.row x.off)) b.1
-  where
-    is_not : (b : Bool) → not b ≡ true → b ≡ false
-    is_not true e = absurd (false≢true e)
-    is_not false e = refl
+    not-true (is_some (cover ts x.row x.off)) b.1
 
 abbrev is_covered : List Place → Place → Bool
 is_covered ts p = is_some (cover ts p.row p.off)
