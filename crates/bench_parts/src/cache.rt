@@ -6,10 +6,10 @@ use crate::names::name_of;
 use crate::outputs::record_of;
 use crate::stopwatch::Stopwatch;
 use crate::targets::{hashes_of, targets_of};
-use cache_update::{Mark, after_add, after_delete, begin, undo};
+use cache_update::{CacheMark, after_add, after_delete, begin, undo};
 use forest_place::Naming;
 use forest_roots::{Joins, Roots};
-use leaf_cache::{Cache, Kept, Parts, Watch};
+use leaf_cache::{Cache, CacheLists, Kept, Watch};
 use leaf_record::Record;
 use live_forest::Forest;
 use proof_shape::Targets;
@@ -39,7 +39,7 @@ fn kept_output(alloc: Global, number: u64, kept: u64) -> Option<Record> {
 fn add_all<L: Ledger>(
     alloc: Global,
     cache: &mut Cache<Sha512t256>,
-    mark: &mut Mark,
+    mark: &mut CacheMark,
     roots: &mut Roots<Sha512t256>,
     adds: u64,
     kept: u64,
@@ -67,7 +67,7 @@ fn add_all<L: Ledger>(
 // Additions of which none is watched.
 fn add_unwatched<L: Ledger>(
     cache: &mut Cache<Sha512t256>,
-    mark: &mut Mark,
+    mark: &mut CacheMark,
     roots: &mut Roots<Sha512t256>,
     adds: u64,
     steps: &mut Steps<L>,
@@ -159,7 +159,7 @@ fn cached_block<L: Ledger>(
     proof: &Proof,
     scratch: &mut Scratch,
     steps: &mut Steps<L>,
-) -> Option<Mark>
+) -> Option<CacheMark>
     ensures { IfSome result (λ m. Fits m cache.new.parts) }
 {
     let Some(targets) = targets_of(alloc, roots.leaves(), &proof.positions) else {
@@ -238,7 +238,7 @@ fn moved_between(older: &[Kept], newer: &[Kept]) -> u64 {
 }
 
 // The digests that a cache has otherwise, or not at all, and how many are at places where it has none.
-fn others(cache: &Cache<Sha512t256>, parts: &Parts) -> (u64, u64) {
+fn others(cache: &Cache<Sha512t256>, parts: &CacheLists) -> (u64, u64) {
     let mut other: u64 = 0;
     let mut none: u64 = 0;
     for (place, digest) in parts.held.iter() {

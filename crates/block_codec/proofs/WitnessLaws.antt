@@ -13,16 +13,16 @@ use Rattle.block_codec.specs.Merkle.{paired, level, merkle_root}
 use Rattle.block_codec.proofs.MerkleLaws.{above-paired, level-more, paired-fewer, paired-some, root-later, one-hash}
 
 -- A level that is reached; the hashes get fewer.
-pub record IsLevel (ids hashes : List Digest) : Type 0 where
+pub record IsMerkleLevel (ids hashes : List Digest) : Type 0 where
   pub number : ℕ
   pub level_is : level ids number ≡ hashes
   pub some : 0 < length hashes
   pub fewer : length hashes + number ≤ length ids
 
-pub level-start : (ids : List Digest) → 0 < length ids → IsLevel ids ids
+pub level-start : (ids : List Digest) → 0 < length ids → IsMerkleLevel ids ids
 level-start ids some = record { number = 0; level_is = refl; some = some; fewer = omega arith }
 
-pub level-next : (ids hashes above : List Digest) → 1 < length hashes → above ≡ paired hashes → IsLevel ids hashes → IsLevel ids above
+pub level-next : (ids hashes above : List Digest) → 1 < length hashes → above ≡ paired hashes → IsMerkleLevel ids hashes → IsMerkleLevel ids above
 level-next ids hashes above lt is l = record {
   number = l.number + 1;
   level_is = level-more ids l.number ∙ rw (l.level_is, is) (above-paired hashes lt);
@@ -30,7 +30,7 @@ level-next ids hashes above lt is l = record {
   fewer = omega (arith, paired-fewer hashes above lt is, l.fewer);
 }
 
-pub level-root : (ids hashes : List Digest) (root : Digest) → length hashes ≤ 1 → root ≡ get_or hashes 0 root → IsLevel ids hashes
+pub level-root : (ids hashes : List Digest) (root : Digest) → length hashes ≤ 1 → root ≡ get_or hashes 0 root → IsMerkleLevel ids hashes
     → root ≡ merkle_root ids
 level-root ids hashes root few is l =
     let top : level ids l.number ≡ root ∷ [] = l.level_is ∙ one-hash hashes root l.some few is in

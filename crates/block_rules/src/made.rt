@@ -1,5 +1,5 @@
 //! The outputs that a block has made so far.
-ghost use Rattle.std.specs.Prelude.{◌≡◌, ◌<◌, ◌≤◌, ◌+◌, ◌++◌, ◌^◌, length, option_map, [], Some, IfOk, OnOk};
+ghost use Rattle.std.specs.Prelude.{◌≡◌, ◌≤◌, ◌+◌, ◌++◌, length, option_map, [], Some, IfOk, OnOk};
 ghost use Rattle.tx_codec.specs.Reading.{first_output};
 ghost use Rattle.tx_codec.specs.Views.{output_of};
 ghost use Rattle.leaf_record.specs.History.{newest};

@@ -1,5 +1,5 @@
 //! The rules that look at a block by itself.
-ghost use Rattle.std.specs.Prelude.{◌≡◌, ◌<◌, ◌≤◌, ◌^◌, [], length, map, None, Some, IfOk, IfErr, OnOk};
+ghost use Rattle.std.specs.Prelude.{◌≡◌, ◌<◌, ◌≤◌, ◌^◌, length, map, None, Some, IfOk, IfErr, OnOk};
 ghost use Rattle.block_rules.specs.Judged.{ShapeJudged, FullJudged};
 ghost use Rattle.block_rules.specs.Money.{spends_of};
 ghost use Rattle.block_rules.specs.Rules.{value_fault};

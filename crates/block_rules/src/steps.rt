@@ -1,11 +1,11 @@
 //! The rules on a block alone, one a function, in the order in which they are asked.
-ghost use Rattle.std.specs.Prelude.{◌≡◌, ◌<◌, nat_le, [], length, IfOk, option_map};
+ghost use Rattle.std.specs.Prelude.{◌≡◌, ◌<◌, nat_le, length, IfOk, option_map};
 ghost use Rattle.std.specs.List.{list_any};
 ghost use Rattle.tx_codec.specs.Views.{input_of};
 ghost use Rattle.block_codec.specs.Block.{txids_of, weight_of};
 ghost use Rattle.block_codec.specs.Merkle.{is_same, merkle_of};
 ghost use Rattle.block_rules.specs.Steps.{unless};
-ghost use Rattle.block_rules.specs.Rules.{merkle_step, is_null, is_coinbase, has_too_much, has_value, coinbase_fault, value_fault};
+ghost use Rattle.block_rules.specs.Rules.{merkle_step, is_null, is_coinbase, has_value, coinbase_fault, value_fault};
 
 use crate::chain::Chain;
 use crate::refusal::Refusal;

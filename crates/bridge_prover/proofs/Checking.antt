@@ -16,6 +16,7 @@ use Rattle.proof_shape.specs.Targeted.{Targeted}
 use Rattle.proof_verify.specs.declared.fault.ProofFault.{ProofFault}
 use Rattle.proof_verify.specs.declared.fault.ProofFault.TheVariants as Fault
 use Rattle.proof_verify.specs.Verified.{IsProofFault, IsDeleted}
+use Rattle.proof_verify.proofs.Values.{asked_all}
 use Rattle.leaf_record.specs.Leaf.{Outpoint, leaf_text}
 use Rattle.leaf_record.specs.History.{somes, History}
 use Rattle.proof_wire.specs.BlockProof.{targets_of}
@@ -36,7 +37,7 @@ use Rattle.node_rules.specs.Known.{view_of}
 use Rattle.node_rules.specs.Judged.{AreNamed, AreHashes, IsOtherCount, TargetsJudged, HashesJudged}
 use Rattle.node_rules.proofs.Agreeing.{slots_alike}
 use Rattle.node_rules.proofs.Faults.{passes}
-use Rattle.node_rules.proofs.Serving.{asked_all, same_fault}
+use Rattle.node_rules.proofs.Serving.{same_fault}
 use Rattle.node_rules.proofs.Telling.{count_told, empty_told, other_told}
 use Rattle.node_rules.specs.Judged.{IsFirst}
 use Rattle.node_rules.specs.Refusing.{proof_refusal}

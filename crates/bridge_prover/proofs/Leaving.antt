@@ -1,15 +1,14 @@
 -- A bridge with a watch list: what is known to it is what is known by the history, and what its messages leave out.
-use Rattle.std.proofs.Common.{◌≡◌, ℕ, zero, suc, ◌+◌, ◌*◌, Bool, true, false, cond, List, [], ◌∷◌, map, length, get_or, Option, Some, None, refl, sym}
+use Rattle.std.proofs.Common.{◌≡◌, ℕ, Bool, true, false, cond, List, [], ◌∷◌, map, length, get_or, Option, Some, None, refl, sym}
 use Rattle.std.proofs.Common.{ap, ap₂, ◌∙◌, subst}
-use Rattle.std.specs.Prelude.{◌&&◌, ◌||◌, not, is_some, is_none, option_map, slice_get, if◌then◌else◌, IsSome, Result, Ok, Err, IfOk}
+use Rattle.std.specs.Prelude.{◌&&◌, not, is_some, is_none, option_map, slice_get, if◌then◌else◌, IsSome, Result, Ok, Err, IfOk}
 use Rattle.std.specs.List.{filter}
 use Rattle.std.proofs.lemmas.Bool.{false≢true}
 use Rattle.std.proofs.lemmas.List.{length-map}
 use Rattle.std.proofs.lemmas.Result.{IfOk-weaker}
 use Rattle.uo_digest.specs.declared.digest.Digest.{Digest}
 use Rattle.forest_place.specs.declared.place.Place.{Place}
-use Rattle.forest_place.specs.Forest.{is_root, sibling_off}
-use Rattle.forest_model.specs.Cover.{HasShape, cover, cover_of_halves, need}
+use Rattle.forest_model.specs.Cover.{HasShape, need}
 use Rattle.forest_model.specs.EntryPlace.{entry_place}
 use Rattle.forest_model.specs.Evaluation.{asked}
 use Rattle.forest_model.specs.Right.{entries}
@@ -20,6 +19,7 @@ use Rattle.cache_model.specs.Known.{is_known, kept, kept_places}
 use Rattle.cache_model.specs.Cache.{held}
 use Rattle.cache_model.specs.Lists.{kept_leaves, IsCacheOf}
 use Rattle.cache_model.proofs.Histories.{known_is, is_ordered}
+use Rattle.cache_model.proofs.Known.{none_known}
 use Rattle.proof_wire.specs.BlockProof.{BlockProof}
 use Rattle.node_rules.specs.Messages.{sent, targets}
 use Rattle.node_rules.specs.Judging.{known_for}
@@ -108,24 +108,6 @@ module _ (H : List ℕ → Digest) (s : BridgeState) (is : IsBridge H s) where
         (kept_rise (scripts_of s.watch) s.held is.rise))
 
 -- ---- what is left out
-
-no_cover : (row off : ℕ) → is_some (cover [] row off) ≡ false
-no_cover row off = ap is_some (none row off)
-  where
-    none : (row off : ℕ) → cover [] row off ≡ None
-    none zero off = refl
-    none (suc row) off = ap₂ (cover_of_halves row off) (none row (2 * off)) (none row (2 * off + 1))
-
--- no place is known where no entry is kept
-pub none_known : (n : ℕ) (p : Place) → is_known n [] p ≡ false
-none_known n p = ap₂ (λ (a b : Bool). a || b) (no_cover p.row p.off)
-    (and_false (not (is_root n p.row p.off)) (not (is_some (cover [] p.row p.off))) (is_some (cover [] p.row (sibling_off p.off)))
-    (no_cover p.row (sibling_off p.off)))
-  where
-    and_false : (a b c : Bool) → c ≡ false → (a && b && c) ≡ false
-    and_false true true c e = e
-    and_false true false c e = refl
-    and_false false b c e = refl
 
 module _ (H : List ℕ → Digest) (es : List (Option Digest)) where
   abbrev at : Place → Option Digest

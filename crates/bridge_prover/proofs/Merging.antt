@@ -1,17 +1,17 @@
 -- Two ascending lists of places as one: what is covered and what is needed are what is known.
 use Rattle.std.proofs.Common.{◌≡◌, ℕ, ◌+◌, ◌<◌, ◌≤◌, Bool, true, false, cond, List, [], ◌∷◌, ◌++◌, length, get_or, take, drop, append-nil, refl, sym}
-use Rattle.std.proofs.Common.{ap, ap₂, ◌∙◌, subst, arith, ⊎_elim, inl, inr}
-use Rattle.std.specs.Prelude.{◌⊎◌, ◌&&◌, ◌||◌, ◌==◌, not, nat_lt, is_some, filter_map, Option, None, option_map, if◌then◌else◌}
+use Rattle.std.proofs.Common.{ap, ap₂, ◌∙◌, subst, ⊎_elim, inl, inr}
+use Rattle.std.specs.Prelude.{◌⊎◌, ◌&&◌, ◌||◌, not, is_some, filter_map, Option, None, option_map, if◌then◌else◌}
 use Rattle.std.specs.List.{filter, cons_option}
-use Rattle.std.proofs.lemmas.Bool.{cases_Bool, or_cases, or_left, or_right, and_parts, false≢true, ltb-true, eqb-true, lt-ltb}
-use Rattle.std.proofs.Common.{eq-eqb}
+use Rattle.std.proofs.lemmas.Bool.{cases_Bool, and_parts, false≢true, not-true}
 use Rattle.std.proofs.lemmas.List.{drop_all, take_more}
 use Rattle.std.proofs.lemmas.List.Elements.{filter_map-append}
 use Rattle.uo_digest.specs.declared.digest.Digest.{Digest}
 use Rattle.forest_place.specs.declared.place.Place.{Place}
 use Rattle.forest_place.specs.Forest.{InForest, is_root, sibling_off}
-use Rattle.forest_place.specs.Places.{is_at, has_place, places, IsBefore, IsAscending, is_before_place}
-use Rattle.forest_place.proofs.Listed.{is_at-same, filter_has, filter_had, places_have, places_had}
+use Rattle.forest_place.specs.Places.{has_place, places, IsBefore, IsAscending}
+use Rattle.forest_place.proofs.Listed.{filter_has, filter_had, places_have, places_had, has_first}
+use Rattle.forest_place.proofs.Before.{means_before, comes_later}
 use Rattle.forest_place.proofs.Ascending.{ascending-filter, places_ascending, same_ascending}
 use Rattle.forest_model.specs.Cover.{cover, is_needed, need}
 use Rattle.forest_model.specs.Standing.{digest_at}
@@ -40,44 +40,19 @@ merge_ends out left right i j whole (inr none) =
     ap (λ x. (out ++ drop i left) ++ x) e ∙ (append-nil (out ++ drop i left)
     ∙ (ap (λ x. out ++ x) (sym (merged-nil (drop i left))) ∙ (ap (λ x. out ++ merged (drop i left) x) (sym e) ∙ whole)))
 
--- ---- which of two places comes first
-
-comes_first : (p q : Place) → IsBefore p q → is_before_place p q ≡ true
-comes_first p q (inl lower) = or_left (nat_lt p.row q.row) _ (lt-ltb p.row q.row lower)
-comes_first p q (inr same) = or_right (nat_lt p.row q.row) _ (rw (eq-eqb p.row q.row same.0, lt-ltb p.off q.off same.1) refl)
-
-before_means : (p q : Place) → is_before_place p q ≡ true → IsBefore p q
-before_means p q h =
-    ⊎_elim
-    (λ lower. inl (ltb-true p.row q.row lower))
-    (λ same. let b = and_parts (p.row == q.row) (nat_lt p.off q.off) same in inr (eqb-true p.row q.row b.0, ltb-true p.off q.off b.1))
-    (or_cases (nat_lt p.row q.row) ((p.row == q.row) && nat_lt p.off q.off) h)
-
-not_both : (p q : Place) → IsBefore p q → IsBefore q p → ⊥
-not_both p q (inl a) (inl b) = omega (arith, a, b)
-not_both p q (inl a) (inr b) = omega (arith, a, b.0)
-not_both p q (inr a) (inl b) = omega (arith, a.0, b)
-not_both p q (inr a) (inr b) = omega (arith, a.1, b.1)
-
-comes_later : (p q : Place) → IsBefore p q → is_before_place q p ≡ false
-comes_later p q lt = ⊎_elim (λ t. absurd (not_both p q lt (before_means q p t))) (λ f. f) (cases_Bool (is_before_place q p))
-
 -- ---- two parts of an ascending list
 
 -- the place comes before all of the list
 abbrev IsFirst : Place → List Place → Type 0
 IsFirst x zs = (z : Place) → has_place zs z.row z.off ≡ true → IsBefore x z
 
-head_has : (z : Place) (zs : List Place) → has_place (z ∷ zs) z.row z.off ≡ true
-head_has z zs = or_left (is_at z.row z.off z) _ (is_at-same z.row z.off)
-
 lead_left : (x : Place) (xs ys : List Place) → IsFirst x ys → merged (x ∷ xs) ys ≡ x ∷ merged xs ys
 lead_left x xs [] first = refl
-lead_left x xs (y ∷ ys) first = let t = comes_first x y (first y (head_has y ys)) in rw t refl
+lead_left x xs (y ∷ ys) first = let t = means_before x y (first y (has_first y ys)) in rw t refl
 
 lead_right : (x : Place) (xs ys : List Place) → IsFirst x xs → merged xs (x ∷ ys) ≡ x ∷ merged xs ys
 lead_right x [] ys first = refl
-lead_right x (z ∷ xs) ys first = let f = comes_later x z (first z (head_has z xs)) in rw f refl
+lead_right x (z ∷ xs) ys first = let f = comes_later x z (first z (has_first z xs)) in rw f refl
 
 module _ (p q : Place → Bool) (apart : (x : Place) → q x ≡ true → p x ≡ false) where
   first_of_part : (t : Place → Bool) (x : Place) (xs : List Place) → IsFirst x xs → IsFirst x (filter t xs)
@@ -104,11 +79,7 @@ needed_apart : (n : ℕ) (ts : List Place) (x : Place) → is_needed n ts x ≡ 
 needed_apart n ts x e =
     let a = and_parts (not (is_root n x.row x.off) && not (is_some (cover ts x.row x.off))) (is_some (cover ts x.row (sibling_off x.off))) e in
     let b = and_parts (not (is_root n x.row x.off)) (not (is_some (cover ts x.row x.off))) a.0 in
-    is_not (is_some (cover ts x.row x.off)) b.1
-  where
-    is_not : (b : Bool) → not b ≡ true → b ≡ false
-    is_not true e = absurd (false≢true e)
-    is_not false e = refl
+    not-true (is_some (cover ts x.row x.off)) b.1
 
 abbrev is_covered : List Place → Place → Bool
 is_covered ts p = is_some (cover ts p.row p.off)

@@ -7,10 +7,10 @@ mod plain;
 mod small;
 
 use crate::output;
-use cache_update::{Mark, after_add, after_delete, begin, between, step_back, undo};
+use cache_update::{CacheMark, after_add, after_delete, begin, between, step_back, undo};
 use forest_place::Place;
 use forest_roots::Roots;
-use leaf_cache::{Cache, Parts, Watch};
+use leaf_cache::{Cache, CacheLists, Watch};
 use leaf_record::Record;
 use proof_shape::Targets;
 use proof_verify::{Scratch, check_and_delete};
@@ -28,7 +28,7 @@ fn digest(byte: u8) -> Digest {
 // Adds an entry to the forest and to the cache.
 fn add<L: Ledger>(
     cache: &mut Cache<XorFold>,
-    mark: &mut Mark,
+    mark: &mut CacheMark,
     roots: &mut Roots<XorFold>,
     byte: u8,
     leaf: Option<Record>,
@@ -78,7 +78,7 @@ fn grow<L: Ledger>(
     cache: &mut Cache<XorFold>,
     roots: &mut Roots<XorFold>,
     steps: &mut Steps<L>,
-) -> Mark
+) -> CacheMark
     requires { roots.old.leaves ≡ 0 }
     ensures fits { Fits result cache.new.parts }
     ensures count { roots.new.leaves ≡ 4 }
@@ -103,7 +103,7 @@ fn spend<L: Ledger>(
     cache: &mut Cache<XorFold>,
     roots: &mut Roots<XorFold>,
     steps: &mut Steps<L>,
-) -> Mark
+) -> CacheMark
     requires { roots.old.leaves ≡ 4 }
     ensures { Fits result cache.new.parts }
 {
@@ -130,7 +130,7 @@ fn spend<L: Ledger>(
 }
 
 // Goes to these lists, by a mark between the cache's and them.
-fn leap(rt: &impl Abort, alloc: Global, cache: &mut Cache<XorFold>, older: &Parts) {
+fn leap(rt: &impl Abort, alloc: Global, cache: &mut Cache<XorFold>, older: &CacheLists) {
     let Ok(newer) = cache.seen().copy(alloc) else {
         panic!(rt; "no memory")
     };
@@ -141,7 +141,7 @@ fn leap(rt: &impl Abort, alloc: Global, cache: &mut Cache<XorFold>, older: &Part
 }
 
 // The lists before a mark's block, and how many digests they hold.
-fn held_before(rt: &impl Abort, alloc: Global, cache: &Cache<XorFold>, mark: &Mark) -> usize
+fn held_before(rt: &impl Abort, alloc: Global, cache: &Cache<XorFold>, mark: &CacheMark) -> usize
     requires { Fits mark.now cache.now.parts }
 {
     let Ok(mut parts) = cache.seen().copy(alloc) else {

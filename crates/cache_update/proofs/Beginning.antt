@@ -3,25 +3,27 @@ use Rattle.std.proofs.Common.{◌≡◌, ℕ, ◌+◌, ◌<◌, ◌≤◌, List,
 use Rattle.std.proofs.Common.{⊎_elim, All, arith}
 use Rattle.std.specs.Prelude.{option_map, count_ones}
 use Rattle.std.specs.List.{cons_option}
-use Rattle.std.proofs.lemmas.Bool.{cases_Bool, true≢false, or_left, or_right}
+use Rattle.std.specs.Prelude.{Result, IfOk}
+use Rattle.std.proofs.lemmas.Bool.{cases_Bool, true≢false}
+use Rattle.std.proofs.lemmas.Result.{IfOk-weaker}
 use Rattle.std.proofs.lemmas.List.{length-map}
 use Rattle.std.proofs.lemmas.List.Elements.{All-head, All-tail}
 use Rattle.uo_digest.specs.declared.digest.Digest.{Digest}
 use Rattle.forest_place.specs.declared.place.Place.{Place}
 use Rattle.forest_place.specs.Forest.{InForest}
-use Rattle.forest_place.specs.Places.{AreWithin, has_place, is_at}
+use Rattle.forest_place.specs.Places.{AreWithin, is_at}
 use Rattle.forest_place.specs.Position.{position, positions_of}
-use Rattle.forest_place.proofs.Listed.{is_at-same, same_from_is_at}
-use Rattle.forest_place.proofs.Positions.{one_position}
+use Rattle.forest_place.proofs.Listed.{same_from_is_at}
+use Rattle.forest_place.proofs.Positions.{same_places}
 use Rattle.forest_model.specs.Deletion.{moved}
 use Rattle.proof_shape.specs.Shape.{AreTargets}
 use Rattle.proof_shape.specs.Targeted.{Targeted}
 use Rattle.cache_model.specs.declared.kept.Kept.{Kept}
 use Rattle.cache_model.specs.Lists.{moved_leaves, leaf_places}
 use Rattle.leaf_cache.specs.Parted.{Parted, IsParted}
-use Rattle.cache_update.specs.declared.mark.Mark.{Mark}
-use Rattle.cache_update.specs.Begun.{new_position, IsRoom, IsMark}
-use Rattle.cache_update.specs.Descent.{TellGoals}
+use Rattle.cache_update.specs.declared.mark.CacheMark.{CacheMark}
+use Rattle.cache_update.specs.Begun.{BeginsBlock, new_position, IsRoom, IsMark}
+use Rattle.cache_update.specs.DeletionGoals.{TellGoals}
 use Rattle.cache_update.specs.Differences.{where_stood}
 use Rattle.cache_update.specs.Given.{kept_given}
 use Rattle.cache_update.specs.Marks.{BoxedRoom, AreOfForest, HasRoomFor, HasRoomLeft, Fits, IsUnusedIn, WasBegun, kept_back, held_back, held_from}
@@ -44,22 +46,6 @@ positions_are n ts (k ∷ ks) = by_move (moved n ts k.place.row k.place.off) (po
     by_move None rest = rest
     by_move (Some q) rest = ap (λ ps. position n q.row q.off ∷ ps) rest
 
-within_rest : (n : ℕ) (p : Place) (ps : List Place) → AreWithin n (p ∷ ps) → AreWithin n ps
-within_rest n p ps a r o h = a r o (or_right (is_at r o p) (has_place ps r o) h)
-
-within_first : (n : ℕ) (p : Place) (ps : List Place) → AreWithin n (p ∷ ps) → InForest n p.row p.off
-within_first n p ps a = a p.row p.off (or_left (is_at p.row p.off p) (has_place ps p.row p.off) (is_at-same p.row p.off))
-
-places_same : (n : ℕ) (ps qs : List Place) → AreWithin n ps → AreWithin n qs → positions_of n ps ≡ positions_of n qs → ps ≡ qs
-places_same n [] [] a b e = refl
-places_same n [] (q ∷ qs) a b e = let z = ap length e in absurd (omega (arith, z))
-places_same n (p ∷ ps) [] a b e = let z = ap length e in absurd (omega (arith, z))
-places_same n (p ∷ ps) (q ∷ qs) a b e =
-    let first : position n p.row p.off ≡ position n q.row q.off = cc in
-    let rest : positions_of n ps ≡ positions_of n qs = cc in
-    ap₂ (λ x xs. x ∷ xs) (one_position n p q (within_first n p ps a) (within_first n q qs b) first)
-    (places_same n ps qs (within_rest n p ps a) (within_rest n q qs b) rest)
-
 kept_within : (n : ℕ) (ks : List Kept) → All (IsKeptIn n) ks → AreWithin n (leaf_places ks)
 kept_within n [] a r o h = absurd (true≢false (sym h))
 kept_within n (k ∷ ks) a r o h =
@@ -76,21 +62,21 @@ places_are n n' ts ks t numbers a e f are g =
     let are' : AreTargets n numbers t.targets = subst (λ (k : ℕ). AreTargets k numbers t.targets) e are in
     let within : AreWithin n t.targets = (λ r o h. are'.shape.within (record { row = r; off = o }) h) in
     ap₂ (λ (l : ℕ) (ps : List Place). let x : Targeted = record { leaves = l; targets = ps } in x) (f ∙ e)
-    (places_same n t.targets (leaf_places (moved_leaves n ts ks)) within (kept_within n (moved_leaves n ts ks) (moved_in n ts ks a))
+    (same_places n t.targets (leaf_places (moved_leaves n ts ks)) within (kept_within n (moved_leaves n ts ks) (moved_in n ts ks a))
     (are'.numbered ∙ g))
 
 -- a mark that was just made
-module _ (t : Targeted) (p q : Parted) (adds watched : ℕ) (r : BoxedRoom) (m : Mark) (ordered : IsParted p) (forest : AreOfForest t.leaves p)
+module _ (t : Targeted) (p q : Parted) (adds watched : ℕ) (r : BoxedRoom) (m : CacheMark) (ordered : IsParted p) (forest : AreOfForest t.leaves p)
     (room : IsRoom t p adds r.value) (mark : IsMark t p adds watched r m) (kept : q.kept ≡ p.kept) (held : q.held ≡ p.held)
     (kept_room : length p.kept + watched < q.kept_room) (held_room : r.value.most ≤ q.held_room) where
-  pub begun_kept : kept_back m q.kept ≡ p.kept
+  begun_kept : kept_back m q.kept ≡ p.kept
   begun_kept =
       ap (kept_back m) kept
       ∙ (ap (λ (x : List Kept). kept_given x m.stood.items m.added.items p.kept) mark.taken
       ∙ (ap₂ (λ (s : List (ℕ × Place)) (j : List ℕ). kept_given [] s j p.kept) mark.stood mark.added
       ∙ fresh_back p.kept ordered.0))
 
-  pub begun_held : held_back m q.held ≡ p.held
+  begun_held : held_back m q.held ≡ p.held
   begun_held = ap (λ (x : Option BoxedRoom). held_from x m.lost.items m.gained.items q.held) mark.room ∙ room.before
 
   begun_room : HasRoomFor m q r.value
@@ -126,7 +112,7 @@ module _ (t : Targeted) (p q : Parted) (adds watched : ℕ) (r : BoxedRoom) (m :
         empty = room.empty;
       }
 
-  pub begun_fits : Fits m q
+  begun_fits : Fits m q
   begun_fits =
       let a = ap length begun_kept in
       let b = ap length begun_held in
@@ -137,7 +123,7 @@ module _ (t : Targeted) (p q : Parted) (adds watched : ℕ) (r : BoxedRoom) (m :
         left = subst (HasRoomLeft m q) (sym mark.room) begun_room;
       }
 
-  pub was_begun : WasBegun t m q
+  was_begun : WasBegun t m q
   was_begun =
       let count = ap count_ones mark.leaves in
       let long = ap length kept in
@@ -158,8 +144,38 @@ module _ (t : Targeted) (p q : Parted) (adds watched : ℕ) (r : BoxedRoom) (m :
         each = room.each ∙ ap length (sym held);
       })
 
+  pub begins : BeginsBlock t adds watched p q m
+  begins = record {
+    fit = begun_fits;
+    begun = was_begun;
+    kept = begun_kept;
+    held = begun_held;
+    left = (mark.leaves, mark.adds_are, mark.watched_are);
+  }
+
+-- where a mark begins a block, what is said of it holds one by one
+module _ {E : Type 0} (r : Result CacheMark E) (t : Targeted) (adds watched : ℕ) (old new : Parted)
+    (h : IfOk r (BeginsBlock t adds watched old new)) where
+  abbrev Begins : CacheMark → Type 0
+  Begins = BeginsBlock t adds watched old new
+
+  pub begins-fits : IfOk r (λ m. Fits m new)
+  begins-fits = IfOk-weaker r Begins (λ m. Fits m new) (λ m b. b.fit) h
+
+  pub begins-begun : IfOk r (λ m. WasBegun t m new)
+  begins-begun = IfOk-weaker r Begins (λ m. WasBegun t m new) (λ m b. b.begun) h
+
+  pub begins-kept : IfOk r (λ m. kept_back m new.kept ≡ old.kept)
+  begins-kept = IfOk-weaker r Begins (λ m. kept_back m new.kept ≡ old.kept) (λ m b. b.kept) h
+
+  pub begins-held : IfOk r (λ m. held_back m new.held ≡ old.held)
+  begins-held = IfOk-weaker r Begins (λ m. held_back m new.held ≡ old.held) (λ m b. b.held) h
+
+  pub begins-left : IfOk r (λ m. (m.leaves ≡ t.leaves) × (m.adds ≡ adds) × (m.watched ≡ watched))
+  begins-left = IfOk-weaker r Begins (λ m. (m.leaves ≡ t.leaves) × (m.adds ≡ adds) × (m.watched ≡ watched)) (λ m b. b.left) h
+
 -- a mark with no block fits where there is room for what it gives back
-pub between_fits : (m : Mark) (p newer older : Parted) → m.room ≡ None → m.adds ≡ 0 → kept_back m newer.kept ≡ older.kept
+pub between_fits : (m : CacheMark) (p newer older : Parted) → m.room ≡ None → m.adds ≡ 0 → kept_back m newer.kept ≡ older.kept
     → held_back m newer.held ≡ older.held → (p.kept ≡ newer.kept) × (p.held ≡ newer.held) →
     length older.kept < p.kept_room → length older.held < p.held_room → Fits m p
 between_fits m p newer older none done kept held same kept_room held_room =

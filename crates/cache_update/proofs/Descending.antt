@@ -25,7 +25,7 @@ use Rattle.proof_shape.proofs.Gone.{target_bare, up_in}
 use Rattle.proof_verify.proofs.Planned.{covered_above, uncovered_stays}
 use Rattle.cache_model.specs.Undo.{is_same_place}
 use Rattle.cache_model.proofs.Undoing.{place_order}
-use Rattle.cache_update.specs.Descent.{IsStayingAbove, StandsBeneath, TellGoals}
+use Rattle.cache_update.specs.DeletionGoals.{BothStay, IsStayingAbove, StandsBeneath, TellGoals}
 use Rattle.cache_update.proofs.Moves.{up_within, goes_within}
 
 no_cover : (x : Option Cover) → is_some x ≡ false → x ≡ None
@@ -43,15 +43,14 @@ half_stays ts r h x free side =
     side)
 
 -- neither a place nor its sibling is gone where no target stands at or beneath the one above them
-pub free_here : (ts : List Place) (r o : ℕ) → is_some (cover ts (suc r) (o / 2)) ≡ false → is_gone ts r o ≡ false
-free_here ts r o free = half_stays ts r (o / 2) o free
-    (⊎_elim (λ e. let z = e.0 in inl (omega (arith, z))) (λ e. let z = e.0 in inr (omega (arith, z))) (sibling_cases o))
-
-pub free_beside : (ts : List Place) (r o : ℕ) → is_some (cover ts (suc r) (o / 2)) ≡ false → is_gone ts r (sibling_off o) ≡ false
-free_beside ts r o free =
-    half_stays ts r (o / 2) (sibling_off o) free
-    (⊎_elim (λ e. let z = e.0 in let y = e.1 in inr (omega (arith, z, y))) (λ e. let z = e.0 in let y = e.1 in
-    inl (omega (arith, z, y))) (sibling_cases o))
+pub free_both : (ts : List Place) (p : Place) → is_some (cover ts (suc p.row) (p.off / 2)) ≡ false → BothStay ts p
+free_both ts p free = (
+  half_stays ts p.row (p.off / 2) p.off free
+      (⊎_elim (λ e. let z = e.0 in inl (omega (arith, z))) (λ e. let z = e.0 in inr (omega (arith, z))) (sibling_cases p.off)),
+  half_stays ts p.row (p.off / 2) (sibling_off p.off) free
+      (⊎_elim (λ e. let z = e.0 in let y = e.1 in inr (omega (arith, z, y))) (λ e. let z = e.0 in let y = e.1 in
+      inl (omega (arith, z, y))) (sibling_cases p.off)),
+)
 
 pub on_free : (ts : List Place) (r o : ℕ) (b : Bool) (P : Type 0) → b ≡ is_some (cover ts (suc r) (o / 2))
     → (is_some (cover ts (suc r) (o / 2)) ≡ false → P) → OnFalse b P
@@ -148,7 +147,7 @@ module _ (n : ℕ) (ts : List Place) (p q : Place) (h : InForest n p.row p.off) 
   pub goes_with : (goal : Option Place) → goal ≡ moved n ts q.row q.off → child_place false (p.off % 2) goal ≡ moved n ts p.row p.off
   goes_with goal e =
       ap (child_place false (p.off % 2)) (e ∙ ap₂ (moved n ts) above_row f.off)
-      ∙ sym (follows n ts p.row p.off h f.inner f.here f.beside)
+      ∙ sym (follows n ts p.row p.off h f.inner f.both.0 f.both.1)
 
   pub goal_inner : (goal : Option Place) → goal ≡ moved n ts q.row q.off → IfSome goal (λ to. (0 < to.row) × InForest n to.row to.off)
   goal_inner None e = tt
@@ -200,6 +199,5 @@ stays_beside n ts p s last (Some q) row off same inner h =
       inner = inner;
       row = h.row ∙ ap (λ k. k + 1) r;
       off = h.off ∙ (ap (λ k. k / 2) o ∙ sibling_half p.off);
-      here = sym (ap₂ (is_gone ts) r (ap sibling_off o ∙ sibling_twice p.off)) ∙ h.beside;
-      beside = sym (ap₂ (is_gone ts) r o) ∙ h.here;
+      both = (sym (ap₂ (is_gone ts) r (ap sibling_off o ∙ sibling_twice p.off)) ∙ h.both.1, sym (ap₂ (is_gone ts) r o) ∙ h.both.0);
     }

@@ -13,7 +13,7 @@ use Rattle.cache_model.specs.Steps.{put}
 use Rattle.cache_model.specs.Undo.{change, held_key, is_same_place}
 use Rattle.cache_model.proofs.Searching.{IsNarrowed, narrowed-start, narrowed-up, narrowed-down, narrowed-end, change_at, change_end}
 use Rattle.cache_model.proofs.Undoing.{place_order}
-use Rattle.cache_update.specs.Gaps.{IsGap, around, EndsBefore}
+use Rattle.cache_update.specs.GappedList.{IsGap, around, EndsBefore}
 use Rattle.cache_update.specs.Given.{digest_was, digest_none, undo_digests, held_given}
 use Rattle.cache_update.proofs.Undone.{undo_long, undo_no_longer, change_short}
 use Rattle.cache_update.proofs.Outs.{out_other, out_end}

@@ -1,44 +1,29 @@
 -- What a block leaves of a cache that keeps and holds nothing.
-use Rattle.std.proofs.Common.{◌≡◌, ℕ, zero, suc, ◌+◌, ◌*◌, ◌<◌, Bool, true, false, ◌||◌, ◌&&◌, not, cond, List, [], ◌∷◌, ◌++◌, filter, length, Option}
+use Rattle.std.proofs.Common.{◌≡◌, ℕ, zero, suc, ◌<◌, Bool, true, false, cond, List, [], ◌∷◌, ◌++◌, filter, length, Option}
 use Rattle.std.proofs.Common.{Some, None, is_some, refl, sym, ap, ap₂, ◌∙◌, subst, arith}
 use Rattle.std.proofs.lemmas.List.{append-nil}
 use Rattle.leaf_record.specs.Leaf.{Leaf}
 use Rattle.uo_digest.specs.declared.digest.Digest.{Digest}
 use Rattle.forest_place.specs.declared.place.Place.{Place}
-use Rattle.forest_place.specs.Forest.{is_root, sibling_off}
-use Rattle.forest_model.specs.Cover.{cover}
 use Rattle.forest_roots.specs.declared.joins.Join.{Join}
 use Rattle.cache_model.specs.declared.kept.Kept.{Kept}
 use Rattle.cache_model.specs.Cache.{is_root_held}
 use Rattle.cache_model.specs.Known.{is_known}
 use Rattle.cache_model.specs.Lists.{moved_leaves, leaf_places, leaves_more}
 use Rattle.cache_model.specs.Steps.{put_all, held_deleted}
+use Rattle.cache_model.proofs.Known.{none_known}
 use Rattle.leaf_cache.specs.Parted.{Parted}
-use Rattle.cache_update.specs.Begun.{IsIdleMark}
+use Rattle.cache_update.specs.Begun.{BeginsBlock, IsIdleMark}
 use Rattle.cache_update.specs.Given.{kept_given, held_given}
 use Rattle.cache_update.specs.Joins.{shown_by, added_by}
 use Rattle.cache_update.specs.Marks.{BoxedRoom, Fits, HasRoomLeft, IsIdle, WasBegun, IsUnusedIn, kept_back, held_back, held_from}
-use Rattle.cache_update.specs.declared.mark.Mark.{Mark}
+use Rattle.cache_update.specs.declared.mark.CacheMark.{CacheMark}
 use Rattle.proof_shape.specs.Targeted.{Targeted}
 
 -- nothing is known where nothing is kept
-no_cover : (row off : ℕ) → cover [] row off ≡ None
-no_cover zero off = refl
-no_cover (suc row) off = rw (no_cover row (2 * off), no_cover row (2 * off + 1)) refl
-
-unknown : (n : ℕ) (p : Place) → is_known n [] p ≡ false
-unknown n p =
-    ap₂ (λ (a b : Bool). a || (not (is_root n p.row p.off) && not a && b)) (ap is_some (no_cover p.row p.off))
-    (ap is_some (no_cover p.row (sibling_off p.off)))
-    ∙ by_root (is_root n p.row p.off)
-  where
-    by_root : (b : Bool) → (false || (not b && not false && false)) ≡ false
-    by_root true = refl
-    by_root false = refl
-
 no_pair : (n : ℕ) (pairs : List (Place × Digest)) → filter (λ x. is_known n [] x.0) pairs ≡ []
 no_pair n [] = refl
-no_pair n (x ∷ pairs) = rw (unknown n x.0) (no_pair n pairs)
+no_pair n (x ∷ pairs) = rw (none_known n x.0) (no_pair n pairs)
 
 -- so a deletion leaves empty lists
 pub none_moved : (n : ℕ) (ts : List Place) (ks : List Kept) → ks ≡ [] → ks ≡ moved_leaves n ts ks
@@ -72,7 +57,7 @@ none_added js d n leaf hs f g =
     (sym (ap (λ (xs : List (Place × Digest)). put_all xs []) (none_shown js d n (length js) 0))))
 
 -- a mark that was just made
-module _ (leaves adds : ℕ) (m : Mark) (p q : Parted) (idle : IsIdleMark leaves adds m) (no_kept : p.kept ≡ []) (no_held : p.held ≡ [])
+module _ (leaves adds : ℕ) (m : CacheMark) (p q : Parted) (idle : IsIdleMark leaves adds m) (no_kept : p.kept ≡ []) (no_held : p.held ≡ [])
     (kept : q.kept ≡ p.kept) (held : q.held ≡ p.held) where
   pub idle_kept : kept_back m q.kept ≡ p.kept
   idle_kept =
@@ -96,11 +81,21 @@ module _ (leaves adds : ℕ) (m : Mark) (p q : Parted) (idle : IsIdleMark leaves
         left = subst (HasRoomLeft m q) (sym idle.room) (λ lt. record { kept = kept ∙ no_kept; held = held ∙ no_held; watched = idle.watched });
       }
 
-  pub idle_begun : 0 < adds → (t : Targeted) → WasBegun t m q
+  idle_begun : 0 < adds → (t : Targeted) → WasBegun t m q
   idle_begun some t = subst (IsUnusedIn t m q) (sym idle.room) (omega (arith, some, idle.adds_are))
 
+  pub idle_begins : (t : Targeted) (watched : ℕ) → leaves ≡ t.leaves → 0 < adds → watched ≡ 0 → 0 < q.kept_room → 0 < q.held_room
+      → BeginsBlock t adds watched p q m
+  idle_begins t watched e some none a b = record {
+    fit = idle_fits a b;
+    begun = idle_begun some t;
+    kept = idle_kept;
+    held = idle_held;
+    left = (idle.leaves_are ∙ e, idle.adds_are, idle.watched ∙ sym none);
+  }
+
 -- a mark that only counts
-pub same_back : (m m' : Mark) (ks : List Kept) → m'.taken.items ≡ m.taken.items → m'.stood.items ≡ m.stood.items → m'.added.items ≡ m.added.items
+pub same_back : (m m' : CacheMark) (ks : List Kept) → m'.taken.items ≡ m.taken.items → m'.stood.items ≡ m.stood.items → m'.added.items ≡ m.added.items
     → kept_back m' ks ≡ kept_back m ks
 same_back m m' ks e f g =
     ap (λ (x : List Kept). kept_given x m'.stood.items m'.added.items ks) e
@@ -110,14 +105,14 @@ pub none_counted : (leaf : Option Leaf) (added new : List ℕ) (n : ℕ) (b : Bo
     → new ≡ added
 none_counted leaf added new n b e f g = let h : b ≡ false = e ∙ ap is_some f in g ∙ (ap (λ c. added ++ cond c (n ∷ []) []) h ∙ append-nil added)
 
-pub same_held : (m m' : Mark) (hs : List (Place × Digest)) → m.room ≡ None → m'.room ≡ None → m'.lost.items ≡ m.lost.items
+pub same_held : (m m' : CacheMark) (hs : List (Place × Digest)) → m.room ≡ None → m'.room ≡ None → m'.lost.items ≡ m.lost.items
     → m'.gained.items ≡ m.gained.items → held_back m' hs ≡ held_back m hs
 same_held m m' hs e f g h =
     ap (λ (r : Option BoxedRoom). held_from r m'.lost.items m'.gained.items hs) f
     ∙ (ap₂ (λ (x : List (Place × Digest)) (y : List Place). held_given x y hs) g h
     ∙ sym (ap (λ (r : Option BoxedRoom). held_from r m.lost.items m.gained.items hs) e))
 
-pub idle_on : (m m' : Mark) (p : Parted) → m'.room ≡ None → kept_back m' p.kept ≡ kept_back m p.kept → held_back m' p.held ≡ held_back m p.held
+pub idle_on : (m m' : CacheMark) (p : Parted) → m'.room ≡ None → kept_back m' p.kept ≡ kept_back m p.kept → held_back m' p.held ≡ held_back m p.held
     → m'.watched ≡ 0 → IsIdle m p → Fits m p → Fits m' p
 idle_on m m' p none kept held watched idle fits =
     let k = ap length kept in let h = ap length held in let a = fits.kept_room in let b = fits.held_room in

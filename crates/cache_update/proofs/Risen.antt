@@ -22,7 +22,7 @@ use Rattle.cache_model.specs.Steps.{put_all}
 use Rattle.cache_model.specs.Undo.{held_key}
 use Rattle.cache_model.proofs.Raising.{raised-step, raised-joined, raised-same, slot_from}
 use Rattle.cache_update.specs.Joins.{is_empty_of}
-use Rattle.cache_update.specs.Rising.{AreFull, stays}
+use Rattle.cache_update.specs.AdditionMoves.{AreFull, stays}
 use Rattle.cache_update.proofs.Raised.{put_again}
 
 module _ (e : ℕ → Bool) (n m top : ℕ) (all : all_slots n m ≡ true) (full : (row : ℕ) → top ≤ row → row < m → e row ≡ false) where

@@ -3,12 +3,12 @@ use Rattle.std.proofs.Common.{◌≡◌, ℕ, true, List, [], ◌∷◌, ◌++�
 use Rattle.std.proofs.Common.{All}
 use Rattle.std.specs.Prelude.{◌⊎◌}
 use Rattle.std.specs.List.{cons_option}
-use Rattle.std.proofs.lemmas.Bool.{or_cases, or_left, or_right, true≢false, false≢true, false_from_ne_true}
+use Rattle.std.proofs.lemmas.Bool.{or_cases, or_right, true≢false, false≢true, false_from_ne_true}
 use Rattle.std.proofs.lemmas.List.Elements.{All-nil, All-cons, All-head, All-tail, All-append}
 use Rattle.forest_place.specs.declared.place.Place.{Place}
 use Rattle.forest_place.specs.Forest.{InForest}
 use Rattle.forest_place.specs.Places.{is_at, has_place, IsDistinct}
-use Rattle.forest_place.proofs.Listed.{is_at-same, same_from_is_at}
+use Rattle.forest_place.proofs.Listed.{same_from_is_at, has_first}
 use Rattle.forest_model.specs.Cover.{is_above, HasShape}
 use Rattle.proof_shape.proofs.Longer.{not_above_itself}
 use Rattle.cache_update.proofs.Spans.{AreApart, in_itself, apart_turned, not_apart_in, is_above_in}
@@ -22,9 +22,6 @@ IsPlaceIn n p = InForest n p.row p.off
 abbrev pub LieApart : List Place → Type 0
 LieApart [] = Unit {0}
 LieApart (p ∷ ps) = All (AreApart p) ps × LieApart ps
-
-pub has_head : (p : Place) (ps : List Place) → has_place (p ∷ ps) p.row p.off ≡ true
-has_head p ps = or_left (is_at p.row p.off p) (has_place ps p.row p.off) (is_at-same p.row p.off)
 
 pub has_more : (p : Place) (ps : List Place) (r o : ℕ) → has_place ps r o ≡ true → has_place (p ∷ ps) r o ≡ true
 has_more p ps r o h = or_right (is_at r o p) (has_place ps r o) h
@@ -40,7 +37,7 @@ each_has P (p ∷ ps) a q h =
 
 pub each_from : (P : Place → Type 0) (ps : List Place) → ((q : Place) → has_place ps q.row q.off ≡ true → P q) → All P ps
 each_from P [] f = All-nil P
-each_from P (p ∷ ps) f = All-cons P p ps (f p (has_head p ps)) (each_from P ps (λ q h. f q (has_more p ps q.row q.off h)))
+each_from P (p ∷ ps) f = All-cons P p ps (f p (has_first p ps)) (each_from P ps (λ q h. f q (has_more p ps q.row q.off h)))
 
 -- two that are there are one, or apart
 one_or_apart : (ps : List Place) → LieApart ps → (p q : Place) → has_place ps p.row p.off ≡ true → has_place ps q.row q.off ≡ true
@@ -88,8 +85,8 @@ shape_rest n p ps s = record {
 shape_free : (n : ℕ) (p : Place) (ps : List Place) → HasShape n (p ∷ ps) → All (AreFree p) ps
 shape_free n p ps s = each_from (AreFree p) ps (λ q h. (
   λ a b. true≢false (sym h ∙ (ap₂ (has_place ps) (sym a) (sym b) ∙ s.distinct.0)),
-  s.apart p q (has_head p ps) (has_more p ps q.row q.off h),
-  s.apart q p (has_more p ps q.row q.off h) (has_head p ps),
+  s.apart p q (has_first p ps) (has_more p ps q.row q.off h),
+  s.apart q p (has_more p ps q.row q.off h) (has_first p ps),
 ))
 
 abbrev IsFreeIn : ℕ → (Place → Type 0) → Place → Place → Type 0
@@ -111,7 +108,7 @@ go_apart n P f g (p ∷ ps) s a = by_first (f p) refl (go_apart n P f g ps (shap
     by_first : (x : Option Place) → f p ≡ x → LieApart (filter_map f ps) → LieApart (cons_option x (filter_map f ps))
     by_first None e rest = rest
     by_first (Some x) e rest = (
-      passed (IsFreeIn n P p) (AreApart x) f (λ q y h k. g p q x y (s.within p (has_head p ps)) h.1 h.0 (All-head P p ps a) h.2 e k) ps
+      passed (IsFreeIn n P p) (AreApart x) f (λ q y h k. g p q x y (s.within p (has_first p ps)) h.1 h.0 (All-head P p ps a) h.2 e k) ps
           (free_in n P p ps (shape_free n p ps s) (shape_within n ps (shape_rest n p ps s)) (All-tail P p ps a)),
       rest,
     )

@@ -13,7 +13,7 @@ use Rattle.cache_model.specs.Search.{IsSplit}
 use Rattle.cache_model.specs.Undo.{is_same_place, held_key}
 use Rattle.cache_model.proofs.Searching.{IsNarrowed, narrowed-up, narrowed-down, narrowed-end, rises}
 use Rattle.cache_model.proofs.Undoing.{place_order}
-use Rattle.cache_update.specs.Descent.{NoneBefore}
+use Rattle.cache_update.specs.DeletionGoals.{NoneBefore}
 use Rattle.cache_update.specs.Differences.{AreBefore}
 
 module _ (hs : List (Place × Digest)) (p : Place) (at : ℕ) (n : AreBefore hs at p) where

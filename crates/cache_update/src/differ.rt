@@ -8,7 +8,7 @@ ghost use Rattle.cache_model.specs.Search.{IsSplit};
 ghost use Rattle.cache_model.specs.Undo.{held_key};
 ghost use Rattle.cache_update.specs.Differences.{AreBefore, lost as lost_of, gained as gained_of, moved_since};
 
-use crate::put::is_same;
+use cache_model::is_same;
 use forest_place::{Place, is_before};
 use leaf_cache::{Kept, place_of};
 use uo_digest::Digest;

@@ -1,10 +1,10 @@
 //! Both lists of a cache after a deletion and after an addition.
-ghost use Rattle.std.specs.Prelude.{◌≡◌, ℕ, ◌+◌, ◌*◌, ◌<◌, ◌≤◌, ◌^◌, ◌++◌, true, length, filter, is_some, All, vec_len, vec_capacity};
+ghost use Rattle.std.specs.Prelude.{◌≡◌, ◌+◌, ◌*◌, ◌<◌, ◌≤◌, ◌^◌, ◌++◌, true, length, filter, is_some, All, vec_len, vec_capacity};
 ghost use Rattle.forest_model.specs.Addition.{all_slots};
 ghost use Rattle.cache_model.specs.Lists.{moved_leaves, leaf_places, leaves_more};
 ghost use Rattle.cache_model.specs.Steps.{held_deleted};
 ghost use Rattle.leaf_cache.specs.Parted.{IsParted};
-ghost use Rattle.cache_update.specs.Descent.{TellGoals};
+ghost use Rattle.cache_update.specs.DeletionGoals.{TellGoals};
 ghost use Rattle.cache_update.specs.Joins.{is_empty_of, added_by};
 ghost use Rattle.cache_update.specs.Kept.{is_gone_leaf};
 ghost use Rattle.cache_update.specs.Marks.{AreOfForest, HoldsKnown, IsKnownIn, pairs_within};
@@ -12,10 +12,10 @@ ghost use Rattle.cache_update.specs.Marks.{AreOfForest, HoldsKnown, IsKnownIn, p
 use crate::add::add_held;
 use crate::delete::delete_held;
 use crate::keep::{add_kept, move_kept};
-use crate::mark::Scratch;
+use crate::mark::HeldScratch;
 use forest_place::Place;
 use forest_roots::Join;
-use leaf_cache::{Kept, Parts};
+use leaf_cache::{CacheLists, Kept};
 use leaf_record::Record;
 use proof_shape::{Survey, Targets};
 use uo_digest::Digest;
@@ -23,9 +23,9 @@ use uo_digest::Digest;
 // The lists become those after a deletion of `targets`, where `kept` are the places at which the kept entries stand then. The
 // entries that are spent are taken out.
 pub(crate) fn delete_from(
-    parts: &mut Parts,
+    parts: &mut CacheLists,
     taken: &mut Vec<Kept>,
-    scratch: &mut Scratch,
+    scratch: &mut HeldScratch,
     targets: &Targets,
     kept: &Survey,
     pairs: &[(Place, Digest)],
@@ -57,7 +57,7 @@ pub(crate) fn delete_from(
 
 // The lists become those after an addition to `n` entries that joined `joins`, where `leaf` is the output if it is watched.
 pub(crate) fn add_to(
-    parts: &mut Parts,
+    parts: &mut CacheLists,
     spare: &mut Vec<(Place, Digest)>,
     n: u64,
     digest: Digest,

@@ -7,7 +7,7 @@ use uo_digest::Digest;
 /// What a block took out of a cache, and which places it changed, with what was held there. It gives back the cache that was,
 /// over the one that the block left.
 #[derive(Drop)]
-pub struct Mark {
+pub struct CacheMark {
     // What is left of the block: additions to this many entries, and how many of them are watched.
     pub(crate) leaves: u64,
     pub(crate) adds: u64,
@@ -24,12 +24,12 @@ pub struct Mark {
     pub(crate) gained: Vec<Place>,
 
     // While the block goes on. It has a place of its own, so that a mark that is kept for long is small.
-    pub(crate) room: Option<Box<Room>>,
+    pub(crate) room: Option<Box<BlockRoom>>,
 }
 
 // Lists that a block changes a cache by, so that no change takes memory.
 #[derive(Drop)]
-pub(crate) struct Room {
+pub(crate) struct BlockRoom {
     // More than the cache holds digests at any time in this block.
     pub(crate) most: usize,
 
@@ -39,7 +39,7 @@ pub(crate) struct Room {
     // The held digests when the block began.
     pub(crate) before: Vec<(Place, Digest)>,
 
-    pub(crate) scratch: Scratch,
+    pub(crate) scratch: HeldScratch,
 
     // What the mark has once no addition is left.
     pub(crate) lost: Vec<(Place, Digest)>,
@@ -50,7 +50,7 @@ pub(crate) struct Room {
 // The held digests are built anew in the first list, and those that go elsewhere are gathered in the second. The third tells
 // where those that were held when the block began go, the last one first.
 #[derive(Drop)]
-pub(crate) struct Scratch {
+pub(crate) struct HeldScratch {
     pub(crate) spare: Vec<(Place, Digest)>,
     pub(crate) moves: Vec<(Place, Digest)>,
     pub(crate) goals: Vec<Option<Place>>,

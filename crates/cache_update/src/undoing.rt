@@ -2,11 +2,11 @@
 ghost use Rattle.std.specs.Prelude.{◌≡◌, ◌+◌, ◌<◌, ◌≤◌, ◌⊎◌, None, Some, map, length, option_map, vec_len, vec_capacity};
 ghost use Rattle.cache_model.specs.Lists.{AscendByNumber, AscendByPlace, leaf_key};
 ghost use Rattle.cache_model.specs.Undo.{change, is_same_number, is_before_number};
-ghost use Rattle.cache_update.specs.Gaps.{IsGap, around};
+ghost use Rattle.cache_update.specs.GappedList.{IsGap, around};
 ghost use Rattle.cache_update.specs.Given.{entry_was, entry_stood, entry_none, at_place, digest_was, digest_none, undo_entries, undo_digests};
 ghost use Rattle.cache_update.specs.Given.{kept_given, held_given};
 
-use crate::gap::{Gap, close, open, put_in, take_out};
+use crate::gapped_list::{Gap, close, open, put_in, take_out};
 use forest_place::Place;
 use leaf_cache::{Kept, index_of_number};
 use uo_digest::Digest;

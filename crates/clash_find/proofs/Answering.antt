@@ -12,7 +12,8 @@ use Rattle.forest_place.specs.declared.place.Place.{Place}
 use Rattle.forest_place.specs.Forest.{InForest, is_root, is_slot, root_off}
 use Rattle.forest_place.specs.Places.{is_at, has_place, places, IsAscending, IsBefore, IsDistinct}
 use Rattle.forest_place.specs.Position.{position}
-use Rattle.forest_place.proofs.Ascending.{before_itself, places_ascending}
+use Rattle.forest_place.proofs.Before.{before_itself}
+use Rattle.forest_place.proofs.Ascending.{places_ascending}
 use Rattle.forest_place.proofs.Listed.{place, is_at-same, places_had, places_have, same_from_is_at}
 use Rattle.forest_place.proofs.Positions.{position_rises}
 use Rattle.forest_place.proofs.Parts.{InForest-root, is_root-root_off, root_off-is_root}

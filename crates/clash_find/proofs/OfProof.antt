@@ -15,12 +15,12 @@ use Rattle.forest_model.proofs.Lists.{need_ascending, map_from}
 use Rattle.leaf_record.specs.Leaf.{Leaf, LeafFits, leaf_text}
 use Rattle.leaf_record.specs.History.{History}
 use Rattle.output_index.specs.Held.{Held, leaf_at}
-use Rattle.node_rules.proofs.Serving.{asked_all}
 use Rattle.clash_find.specs.Clashes.{TextClash}
 use Rattle.clash_find.specs.Answers.{StandForHistory, AcceptsAll, IsAnswerIn}
 use Rattle.clash_find.specs.Found.{IsFirstPair}
 use Rattle.clash_find.specs.Searched.{digests_of, AreFound, IsSearched}
 use Rattle.clash_find.proofs.Answering.{IsReady, accepts, differs, right, exact, some_found}
+use Rattle.proof_verify.proofs.Values.{asked_all}
 
 -- the hashes of all needed places are those by their ranks
 pub all_shown : (H : List ℕ → Digest) (n : ℕ) (ts : List Place) (hs : List Digest) → length hs ≡ length (need n ts)

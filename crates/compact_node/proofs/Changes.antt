@@ -1,15 +1,16 @@
 -- The changes of a deletion as one list.
 use Rattle.std.proofs.Common.{◌≡◌, ℕ, zero, suc, ◌+◌, ◌-◌, ◌*◌, ◌/◌, ◌^◌, ◌<◌, Bool, true, false, ◌&&◌, ◌||◌, List, [], ◌∷◌, map, length, get_or}
-use Rattle.std.proofs.Common.{Option, Some, None, is_some, refl, sym, ap, ◌∙◌, ⊎_elim, lt-ltb, eq-eqb, arith}
+use Rattle.std.proofs.Common.{Option, Some, None, is_some, refl, sym, ap, ◌∙◌, ⊎_elim, lt-ltb, arith}
 use Rattle.std.specs.Bool.{OnFalse}
-use Rattle.std.specs.Prelude.{not, option_map, filter_map, option_and_then, nat_lt, ◌==◌, Contains, All}
+use Rattle.std.specs.Prelude.{not, option_map, filter_map, option_and_then, Contains, All}
 use Rattle.std.proofs.lemmas.Bool.{cases_Bool, false≢true, false_from_ne_true, and_parts, and_from, or_left, or_right}
 use Rattle.std.proofs.lemmas.Option.{none-some, same_Some}
 use Rattle.std.proofs.lemmas.List.Elements.{All-nil, All-cons, All-contains_itself}
 use Rattle.uo_digest.specs.declared.digest.Digest.{Digest}
 use Rattle.forest_place.specs.declared.place.Place.{Place}
 use Rattle.forest_place.specs.Forest.{InForest}
-use Rattle.forest_place.specs.Places.{is_at, has_place, places, IsBefore, IsAscending, is_within, is_before_place}
+use Rattle.forest_place.specs.Places.{is_at, has_place, places, IsAscending, is_within}
+use Rattle.forest_place.proofs.Before.{means_before}
 use Rattle.forest_place.proofs.Listed.{place, is_at-same, same_from_is_at, filter_has, filter_had, places_have, places_had}
 use Rattle.forest_model.specs.Standing.{digest_at}
 use Rattle.forest_model.specs.Cover.{cover, is_needed}
@@ -37,14 +38,6 @@ use Rattle.compact_node.specs.After.{left_at, left_of, changes_of, held_without}
 
 -- ---- lists of pairs that ascend
 
-before_from : (p q : Place) → IsBefore p q → is_before_place p q ≡ true
-before_from p q h =
-    ⊎_elim
-    (λ lt. or_left (nat_lt p.row q.row) ((p.row == q.row) && nat_lt p.off q.off) (lt-ltb p.row q.row lt))
-    (λ e. or_right (nat_lt p.row q.row) ((p.row == q.row) && nat_lt p.off q.off)
-    (and_from (p.row == q.row) (nat_lt p.off q.off) (eq-eqb p.row q.row e.0) (lt-ltb p.off q.off e.1)))
-    h
-
 find_had : (xs : List (Place × Digest)) (k : Place) (v : Place × Digest) → find is_same_place held_key k xs ≡ Some v
     → has_place (map (λ x. x.0) xs) k.row k.off ≡ true
 find_had [] k v e = absurd (none-some v e)
@@ -56,7 +49,7 @@ find_had (x ∷ xs) k v e =
 
 ascends : (xs : List (Place × Digest)) → IsAscending (map (λ x. x.0) xs) → AscendByPlace xs
 ascends [] a = tt
-ascends (x ∷ xs) a = ((λ k v e. before_from x.0 k (a.0 k (find_had xs k v e))), ascends xs a.1)
+ascends (x ∷ xs) a = ((λ k v e. means_before x.0 k (a.0 k (find_had xs k v e))), ascends xs a.1)
 
 -- what is in such a list is found
 contained : (xs : List (Place × Digest)) → AscendByPlace xs → (q : Place) (d : Digest) → Contains xs (q, d) → look xs q.row q.off ≡ Some d

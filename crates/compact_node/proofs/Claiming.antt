@@ -15,6 +15,7 @@ use Rattle.forest_model.specs.Cover.{is_needed, need}
 use Rattle.forest_model.specs.Evaluation.{IsAccepted, asked, hash_of, nothing_known}
 use Rattle.forest_roots.specs.Stump.{Stump, IsStump, root_in}
 use Rattle.proof_shape.specs.Targeted.{Targeted}
+use Rattle.proof_shape.proofs.Untargeted.{none_covered, none_needed}
 use Rattle.proof_verify.specs.declared.fault.ProofFault.{ProofFault}
 use Rattle.proof_verify.specs.declared.fault.ProofFault.TheVariants as Found
 use Rattle.proof_verify.specs.Verified.{IsProofFault, IsDeleted, AreRootsAfter}
@@ -48,7 +49,6 @@ use Rattle.forest_model.specs.Evaluation.{evaluation}
 use Rattle.block_rules.proofs.Firsts.{first_of-append}
 use Rattle.node_rules.proofs.Firsts.{first-behind}
 use Rattle.compact_node.proofs.Deletions.{is_without}
-use Rattle.compact_node.proofs.Spending.{cover-none, needed-none}
 use Rattle.node_rules.proofs.ClaimedLeaves.{leaves-long}
 
 somes-map : {X : Type 0} (xs : List X) → somes (map Some xs) ≡ xs
@@ -73,7 +73,7 @@ filter-none t [] none = refl
 filter-none t (x ∷ xs) none = rw (none x) (filter-none t xs none)
 
 need-none : (n : ℕ) → need n [] ≡ []
-need-none n = filter-none (is_needed n []) (places n) (λ p. needed-none n p.row p.off)
+need-none n = filter-none (is_needed n []) (places n) (none_needed n)
 
 -- ---- what targets and hashes are refused for
 
@@ -228,9 +228,9 @@ alone x why e = ap (λ z. option_or z None) e
 nothing_wrong : (H : List ℕ → Digest) (f : Stump) (fault : ProofFault) → IsProofFault H f [] [] [] fault → ⊥
 nothing_wrong H f (Found.HashCount want got) (wanted, given, other) = other (given ∙ sym (wanted ∙ ap length (need-none f.leaves)))
 nothing_wrong H f (Found.EmptyRoot row) (count, greatest) =
-    none-some greatest.beneath (sym (cover-none row (root_off f.leaves row)) ∙ greatest.covered)
+    none-some greatest.beneath (sym (none_covered row (root_off f.leaves row)) ∙ greatest.covered)
 nothing_wrong H f (Found.RootDiffers row had computed) (count, never, greatest, was, is) =
-    none-some greatest.beneath (sym (cover-none row (root_off f.leaves row)) ∙ greatest.covered)
+    none-some greatest.beneath (sym (none_covered row (root_off f.leaves row)) ∙ greatest.covered)
 
 -- the steps on the message pass, and this is left of the roots
 pub record IsTaken (H : List ℕ → Digest) (v : View) (f : Stump) (ext : List Outside) (handed : Handed) (g : Stump) : Type

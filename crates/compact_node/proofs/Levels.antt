@@ -12,7 +12,7 @@ use Rattle.uo_digest.specs.declared.digest.Digest.{Digest}
 use Rattle.forest_place.specs.declared.place.Place.{Place}
 use Rattle.forest_place.specs.Forest.{root_off}
 use Rattle.forest_place.specs.Places.{has_place, places}
-use Rattle.forest_place.proofs.Listed.{places_had}
+use Rattle.forest_place.proofs.Listed.{places_had, has_first}
 use Rattle.forest_place.proofs.Parts.{parts-suc}
 use Rattle.forest_model.specs.Cover.{Cover, HasShape, cover}
 use Rattle.forest_model.specs.Evaluation.{IsAccepted, nothing_known}
@@ -24,13 +24,13 @@ use Rattle.cache_model.proofs.Climbing.{covered_up}
 use Rattle.leaf_cache.specs.Parted.{Parted}
 use Rattle.cache_update.specs.Beside.{IsRooted, AreOfRoots}
 use Rattle.cache_update.specs.Marks.{kept_back, held_back}
-use Rattle.cache_update.proofs.Shaped.{IsPlaceIn, has_head, has_more, each_from}
+use Rattle.cache_update.proofs.Shaped.{IsPlaceIn, has_more, each_from}
 use Rattle.cache_update.proofs.Within.{IsHeldIn, passed}
 use Rattle.block_rules.specs.declared.chain.Chain.{Chain}
 use Rattle.node_rules.specs.Judging.{Rules}
 use Rattle.state_text.specs.Stored.{places_of}
 use Rattle.state_text.specs.Fits.{LevelFits, IsKept, IsNext, AreLevels, IsState}
-use Rattle.state_text.specs.Fits.{IsLevel as IsStoredLevel}
+use Rattle.state_text.specs.Fits.{IsStoredLevel}
 use Rattle.state_text.specs.Cached.{CachedLevel, CachedState, entry_of, level_in, state_in, IsFilled}
 use Rattle.state_text.specs.Told.{level_tells, told_list}
 use Rattle.state_text.proofs.Filling.{shape_leaves}
@@ -75,7 +75,7 @@ numbers_below scripts n (k ∷ ks) a = All-cons (λ (j : Kept). j.number < n) k 
 each_place : (P : Place → Type 0) (ks : List Kept) → ((p : Place) → has_place (leaf_places ks) p.row p.off ≡ true → P p)
     → All (λ (k : Kept). P k.place) ks
 each_place P [] f = All-nil (λ (k : Kept). P k.place)
-each_place P (k ∷ ks) f = All-cons (λ (j : Kept). P j.place) k ks (f k.place (has_head k.place (leaf_places ks)))
+each_place P (k ∷ ks) f = All-cons (λ (j : Kept). P j.place) k ks (f k.place (has_first k.place (leaf_places ks)))
     (each_place P ks (λ p h. f p (has_more k.place (leaf_places ks) p.row p.off h)))
 
 abbrev paired : Place → Digest → Place × Digest

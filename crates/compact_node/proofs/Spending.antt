@@ -1,13 +1,13 @@
 -- What a right message spends, and the roots and lists without it and with what is added.
-use Rattle.std.proofs.Common.{◌≡◌, ℕ, zero, suc, ◌+◌, ◌*◌, ◌<◌, ◌^◌, Bool, true, false, cond, List, [], ◌∷◌, ◌++◌, map, length, Option, Some, None}
+use Rattle.std.proofs.Common.{◌≡◌, ℕ, suc, ◌+◌, ◌<◌, ◌^◌, Bool, true, false, cond, List, [], ◌∷◌, ◌++◌, map, length, Option, Some, None}
 use Rattle.std.proofs.Common.{is_some, refl, sym, ap, ◌∙◌, subst, arith, append_assoc, append-nil, length-set}
-use Rattle.std.specs.Prelude.{◌&&◌, not, option_map}
+use Rattle.std.specs.Prelude.{option_map}
 use Rattle.std.proofs.Math.Path.{fun_ext}
 use Rattle.std.proofs.lemmas.Bool.{false≢true}
 use Rattle.std.proofs.lemmas.List.{map-append}
 use Rattle.uo_digest.specs.declared.digest.Digest.{Digest}
 use Rattle.forest_place.specs.declared.place.Place.{Place}
-use Rattle.forest_place.specs.Forest.{InForest, is_slot, is_root, root_off, sibling_off}
+use Rattle.forest_place.specs.Forest.{InForest, is_slot, root_off}
 use Rattle.forest_place.proofs.Listed.{place}
 use Rattle.forest_model.specs.Cover.{cover, is_needed, need}
 use Rattle.forest_model.specs.Standing.{digest_at, root}
@@ -45,22 +45,7 @@ use Rattle.compact_node.specs.Node.{LevelState, view_over, places_spent, hashes_
 use Rattle.forest_roots.proofs.Additions.{with_leaf-leaves, with_leaf-adds, with_leaf-stump}
 use Rattle.compact_node.proofs.Changes.{changes_serve}
 use Rattle.compact_node.proofs.Deletions.{without-leaves, without-slot}
-
--- ---- nothing is needed where nothing is a target
-
-pub cover-none : (row off : ℕ) → cover [] row off ≡ None
-cover-none zero off = refl
-cover-none (suc row) off = rw (cover-none row (2 * off), cover-none row (2 * off + 1)) refl
-
-ends_false : (a b c : Bool) → c ≡ false → (a && b && c) ≡ false
-ends_false true true c e = e
-ends_false true false c e = refl
-ends_false false b c e = refl
-
-pub needed-none : (n row off : ℕ) → is_needed n [] (place row off) ≡ false
-needed-none n row off =
-    ends_false (not (is_root n row off)) (not (is_some (cover [] row off))) (is_some (cover [] row (sibling_off off)))
-    (ap is_some (cover-none row (sibling_off off)))
+use Rattle.proof_shape.proofs.Untargeted.{none_needed}
 
 -- ---- the hashes of all needed places are those of the forest
 
@@ -110,8 +95,11 @@ module _ (H : List ℕ → Digest) (scripts : List (List ℕ)) (us : History) wh
 
     spending : (handed : Handed) → is_right_message H scripts us ext handed ≡ true
         → IsSpending H es (places_spent l.roots.leaves handed) (entries_shown H us handed) (hashes_spent H (view_over l) handed)
-    spending nothing h = record { at = tt; right = λ r o within needed. absurd (false≢true (sym (needed-none (length es) r o) ∙ needed)) }
-    spending (unread why) h = record { at = tt; right = λ r o within needed. absurd (false≢true (sym (needed-none (length es) r o) ∙ needed)) }
+    spending nothing h = record { at = tt; right = λ r o within needed. absurd (false≢true (sym (none_needed (length es) (place r o)) ∙ needed)) }
+    spending (unread why) h = record {
+      at = tt;
+      right = λ r o within needed. absurd (false≢true (sym (none_needed (length es) (place r o)) ∙ needed));
+    }
     spending (read m) h =
         let base : IsSpending H es (targets (length us) m) (entries_shown H us (read m)) (hashes_by (length us) (known_at H scripts us) m) =
         record {

@@ -5,10 +5,8 @@ use Rattle.std.proofs.lemmas.Bool.{cases_Bool, false≢true, or_cases, or_left, 
 use Rattle.std.proofs.lemmas.List.Folds.{list_any-append}
 use Rattle.forest_place.specs.declared.place.Place.{Place}
 use Rattle.forest_place.specs.Places.{is_at, has_place, IsDistinct, IsBefore, IsAscending, places, places_from, row_places}
+use Rattle.forest_place.proofs.Before.{before_itself, before_both}
 use Rattle.forest_place.proofs.Listed.{place, is_at-same, same_from_is_at, filter_had, row_had, rows_had}
-
-pub before_itself : (p : Place) → IsBefore p p → ⊥
-before_itself p h = ⊎_elim (λ a. let z : ⊥ = omega (arith, a) in z) (λ b. let z : ⊥ = omega (arith, b.1) in z) h
 
 pub distinct_from_ascending : (ps : List Place) → IsAscending ps → IsDistinct ps
 distinct_from_ascending [] h = tt
@@ -44,13 +42,6 @@ rows_ascending n (suc k) row =
     let a = row_had row 0 (n / 2 ^ row) p.row p.off i in
     let b = rows_had n k (suc row) q.row q.off j in
     inl (omega (arith, a.0, b.1)))
-
-before_both : (p q : Place) → IsBefore p q → IsBefore q p → ⊥
-before_both p q h k =
-    ⊎_elim
-    (λ a. ⊎_elim (λ b. let z : ⊥ = omega (arith, a, b) in z) (λ b. let z : ⊥ = omega (arith, a, b.0) in z) k)
-    (λ a. ⊎_elim (λ b. let z : ⊥ = omega (arith, a.0, b) in z) (λ b. let z : ⊥ = omega (arith, a.1, b.1) in z) k)
-    h
 
 -- behind equal first places, a place of the one list is in the other
 behind_first : (p q : Place) (ps qs : List Place) → p ≡ q → IsAscending (p ∷ ps)

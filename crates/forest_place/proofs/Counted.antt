@@ -10,7 +10,7 @@ use Rattle.std.proofs.lemmas.Map.Keys.{IsDistinct-cons}
 use Rattle.std.proofs.lemmas.Map.Made.{length-le_from_is_member}
 use Rattle.forest_place.specs.declared.place.Place.{Place}
 use Rattle.forest_place.specs.Places.{has_place, is_at, IsDistinct as HasNoRepeat}
-use Rattle.forest_place.proofs.Listed.{same_Bools, is_at-same, same_from_is_at}
+use Rattle.forest_place.proofs.Listed.{same_Bools, is_at-same, same_from_is_at, is_at-turned}
 
 -- two places are one
 same_spot : Place → Place → Bool
@@ -20,13 +20,9 @@ spots : IsEquivalence same_spot
 unfolding same_spot
 spots = record {
   refl = λ p. is_at-same p.row p.off;
-  symm = λ p q. same_Bools (is_at p.row p.off q) (is_at q.row q.off p) (λ e. flip p q e) (λ e. flip q p e);
+  symm = λ p q. same_Bools (is_at p.row p.off q) (is_at q.row q.off p) (is_at-turned p q) (is_at-turned q p);
   congr = λ p q r e. let same : q ≡ p = same_from_is_at p.row p.off q e in ap (λ (x : Place). is_at x.row x.off r) (sym same);
 }
-  where
-    flip : (p q : Place) → is_at p.row p.off q ≡ true → is_at q.row q.off p ≡ true
-    flip p q e = let same : q ≡ p = same_from_is_at p.row p.off q e in
-        subst (λ (x : Place). is_at x.row x.off p ≡ true) (sym same) (is_at-same p.row p.off)
 
 others : (p : Place) (ps : List Place) → has_place ps p.row p.off ≡ false → AllByRecursion (λ q. same_spot p q ≡ false) ps
 unfolding same_spot

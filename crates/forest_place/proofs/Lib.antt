@@ -4,6 +4,7 @@ pub mod Siblings
 pub mod Differing
 pub mod Listed
 pub mod Counted
+pub mod Before
 pub mod Ascending
 pub mod Positions
 pub mod Numbered

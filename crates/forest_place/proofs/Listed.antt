@@ -1,12 +1,12 @@
 -- Lists of places: what is in one.
-use Rattle.std.proofs.Common.{◌≡◌, ℕ, zero, suc, ◌+◌, ◌/◌, ◌^◌, ◌<◌, ◌≤◌, Bool, true, false, List, [], ◌∷◌, filter, refl, sym, ap, ◌∙◌, subst, ap₂}
-use Rattle.std.proofs.Common.{⊎_elim, arith, eq-eqb}
+use Rattle.std.proofs.Common.{◌≡◌, ℕ, zero, suc, ◌+◌, ◌/◌, ◌^◌, ◌<◌, ◌≤◌, Bool, true, false, List, [], ◌∷◌, ◌++◌, filter, refl, sym, ap, ◌∙◌, subst}
+use Rattle.std.proofs.Common.{ap₂, ⊎_elim, arith, eq-eqb}
 use Rattle.std.specs.Prelude.{◌==◌}
 use Rattle.std.proofs.lemmas.Bool.{cases_Bool, and_from, and_parts, false≢true, eqb-true, or_cases, or_left, or_right, cases_eq}
 use Rattle.std.proofs.lemmas.List.Folds.{list_any-append}
 use Rattle.forest_place.specs.declared.place.Place.{Place}
 use Rattle.forest_place.specs.Forest.{InForest}
-use Rattle.forest_place.specs.Places.{is_at, has_place, places, places_from, row_places}
+use Rattle.forest_place.specs.Places.{is_at, has_place, AreWithin, places, places_from, row_places}
 use Rattle.forest_place.proofs.Parts.{row_below}
 
 -- tests that are true together are one
@@ -28,6 +28,20 @@ same_from_is_at r o p h =
     let a : p.row ≡ r = eqb-true _ _ e.0 in
     let b : p.off ≡ o = eqb-true _ _ e.1 in
     ap₂ (λ (x y : ℕ). let q : Place = record { row = x; off = y } in q) a b
+
+pub is_at-turned : (p q : Place) → is_at p.row p.off q ≡ true → is_at q.row q.off p ≡ true
+is_at-turned p q h = subst (λ (x : Place). is_at x.row x.off p ≡ true) (sym (same_from_is_at p.row p.off q h)) (is_at-same p.row p.off)
+
+-- the first place of a list, and the others
+pub has_first : (p : Place) (ps : List Place) → has_place (p ∷ ps) p.row p.off ≡ true
+has_first p ps = or_left (is_at p.row p.off p) (has_place ps p.row p.off) (is_at-same p.row p.off)
+
+pub within_rest : (n : ℕ) (p : Place) (ps : List Place) → AreWithin n (p ∷ ps) → AreWithin n ps
+within_rest n p ps h r o i = h r o (or_right (is_at r o p) (has_place ps r o) i)
+
+-- the places of the first of two lists
+pub has_left : (ps qs : List Place) (r o : ℕ) → has_place ps r o ≡ true → has_place (ps ++ qs) r o ≡ true
+has_left ps qs r o h = list_any-append (is_at r o) ps qs ∙ or_left (has_place ps r o) (has_place qs r o) h
 
 -- a filter keeps the places that pass
 pub filter_has : (p : Place → Bool) (xs : List Place) (r o : ℕ) → has_place xs r o ≡ true → p (place r o) ≡ true → has_place (filter p xs) r o ≡ true

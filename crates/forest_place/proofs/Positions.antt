@@ -1,15 +1,17 @@
 -- Places and positions.
-use Rattle.std.proofs.Common.{◌≡◌, ℕ, zero, suc, ◌+◌, ◌-◌, ◌*◌, ◌/◌, ◌%◌, ◌^◌, ◌<◌, ◌≤◌, true, sym, ap, ap₂, ◌∙◌, subst, ⊎_elim, inl, inr, arith}
-use Rattle.std.proofs.Common.{pow-suc, bit_or, mod-eq_of_lt}
-use Rattle.std.specs.Prelude.{◌⊎◌, ◌↔◌, nat_lt}
+use Rattle.std.proofs.Common.{◌≡◌, ℕ, zero, suc, ◌+◌, ◌-◌, ◌*◌, ◌/◌, ◌%◌, ◌^◌, ◌<◌, ◌≤◌, true, sym, ap, ◌∙◌, subst, ⊎_elim, arith}
+use Rattle.std.proofs.Common.{List, [], ◌∷◌, length, refl, ap₂, pow-suc, bit_or, mod-eq_of_lt}
+use Rattle.std.specs.Prelude.{◌↔◌, nat_lt}
 use Rattle.std.proofs.Math.Nat.{le_of_mul-le-mul_right}
 use Rattle.std.proofs.Math.Pow.{pow_mono}
 use Rattle.std.proofs.lemmas.Nat.{pow_pos, pow_below, or_shifted, or_comm, pow-add, shl-shr}
-use Rattle.std.proofs.lemmas.Bool.{cases_Bool, cases_lt, cases_order, ltb-true, ltb-false, eqb-true}
+use Rattle.std.proofs.lemmas.Bool.{cases_Bool, cases_lt, ltb-true, ltb-false, eqb-true}
 use Rattle.forest_place.specs.declared.place.Place.{Place}
 use Rattle.forest_place.specs.Forest.{InForest, is_slot, root_off}
-use Rattle.forest_place.specs.Position.{rows, rows_within, row_start, position, IsLow, fixed_position}
-use Rattle.forest_place.specs.Places.{IsBefore}
+use Rattle.forest_place.specs.Position.{rows, rows_within, row_start, position, positions_of, IsLow, fixed_position}
+use Rattle.forest_place.specs.Places.{IsBefore, AreWithin}
+use Rattle.forest_place.proofs.Before.{place_order}
+use Rattle.forest_place.proofs.Listed.{has_first, within_rest}
 use Rattle.forest_place.proofs.Slots.{in_forest_iff}
 
 below_pow : (n : ℕ) → n ≤ 2 ^ n
@@ -138,16 +140,6 @@ pub position_rises : (n : ℕ) (p q : Place) → InForest n p.row p.off → InFo
     → position n p.row p.off < position n q.row q.off
 position_rises n p q h k b = rises_within (rows n) p q (within_rows n p.row p.off h) (within_rows n q.row q.off k) b
 
-pub place_order : (p q : Place) → IsBefore p q ⊎ ((p ≡ q) ⊎ IsBefore q p)
-place_order p q =
-    ⊎_elim
-    (λ same. ⊎_elim
-    (λ e. inr (inl (ap₂ (λ (x y : ℕ). let z : Place = record { row = x; off = y } in z) same e)))
-    (⊎_elim (λ lt. inl (inr (same, lt))) (λ gt. inr (inr (inr (sym same, gt)))))
-    (cases_order p.off q.off))
-    (⊎_elim (λ lt. inl (inl lt)) (λ gt. inr (inr (inl gt))))
-    (cases_order p.row q.row)
-
 order_within : (top : ℕ) (p q : Place) → IsWithin top p → IsWithin top q → IsBefore p q ↔ (row_start top p.row + p.off < row_start top q.row + q.off)
 order_within top p q w v = (
   rises_within top p q w v,
@@ -172,6 +164,17 @@ one_within top p q w v e =
 
 pub one_position : (n : ℕ) (p q : Place) → InForest n p.row p.off → InForest n q.row q.off → position n p.row p.off ≡ position n q.row q.off → p ≡ q
 one_position n p q h k e = one_within (rows n) p q (within_rows n p.row p.off h) (within_rows n q.row q.off k) e
+
+-- places of the forest that have the same positions are the same
+pub same_places : (n : ℕ) (ps qs : List Place) → AreWithin n ps → AreWithin n qs → positions_of n ps ≡ positions_of n qs → ps ≡ qs
+same_places n [] [] a b e = refl
+same_places n [] (q ∷ qs) a b e = let z = ap length e in absurd (omega (arith, z))
+same_places n (p ∷ ps) [] a b e = let z = ap length e in absurd (omega (arith, z))
+same_places n (p ∷ ps) (q ∷ qs) a b e =
+    let first : position n p.row p.off ≡ position n q.row q.off = cc in
+    let rest : positions_of n ps ≡ positions_of n qs = cc in
+    ap₂ (λ x xs. x ∷ xs) (one_position n p q (a p.row p.off (has_first p ps)) (b q.row q.off (has_first q qs)) first)
+    (same_places n ps qs (within_rest n p ps a) (within_rest n q qs b) rest)
 
 -- `2 << top` is not cut
 pub shifted : (top : ℕ) → top ≤ 40 → 2 * 2 ^ top % 2 ^ 64 ≡ 2 ^ (top + 1)

@@ -9,7 +9,7 @@ use Rattle.std.proofs.lemmas.List.{ext_get_or}
 use Rattle.std.proofs.lemmas.List.Sums.{sum_by-cons}
 use Rattle.uo_digest.specs.declared.digest.Digest.{Digest}
 use Rattle.forest_place.specs.Forest.{is_slot}
-use Rattle.forest_place.proofs.Parts.{parts-suc}
+use Rattle.forest_place.proofs.Parts.{half_pow}
 use Rattle.forest_model.specs.Content.{pair}
 use Rattle.forest_model.specs.Addition.{all_slots, join_root, carried_digest}
 use Rattle.forest_model.proofs.Ones.{slot_below, joined_slots_are}
@@ -147,12 +147,8 @@ module _ (H : List ℕ → Digest) where
 
 -- ---- they are the additions of entries
 
-half_first : (n row : ℕ) → n / 2 ^ suc row ≡ n / 2 / 2 ^ row
-half_first n zero = parts-suc n 0 ∙ (let e : n / 1 / 2 ≡ n / 2 / 1 = omega arith in e)
-half_first n (suc row) = parts-suc n (suc row) ∙ ap (λ k. k / 2) (half_first n row) ∙ sym (parts-suc (n / 2) row)
-
 slot_up : (n row : ℕ) → is_slot n (suc row) ≡ is_slot (n / 2) row
-slot_up n row = ap (λ k. k % 2 == 1) (half_first n row)
+slot_up n row = ap (λ k. k % 2 == 1) (half_pow n row)
 
 pub whole : (n : ℕ) → n / 2 ^ 0 ≡ n
 whole n = omega arith

@@ -1,17 +1,17 @@
 -- Known hashes are found by one pass over them, and given ones are filled in between.
 use Rattle.std.proofs.Common.{◌≡◌, ◌≢◌, ℕ, zero, suc, ◌+◌, ◌<◌, Bool, true, false, List, [], ◌∷◌, ◌++◌, map, length, get_or, take, drop, filter}
 use Rattle.std.proofs.Common.{Option, Some, None, refl, sym, ap, ◌∙◌, subst, ap₂, ⊎_elim, inl, inr, arith, append_assoc}
-use Rattle.std.specs.Prelude.{◌⊎◌, ◌&&◌, ◌==◌, nat_lt, cond, is_none, slice_get, unwrap_or}
-use Rattle.std.proofs.lemmas.Bool.{cases_Bool, cases_lt, cases_eq, eqb-true, ltb-true, false≢true, false_from_ne_true, or_left, or_right, or_cases}
-use Rattle.std.proofs.lemmas.Bool.{and_parts}
+use Rattle.std.specs.Prelude.{◌⊎◌, cond, is_none, slice_get, unwrap_or}
+use Rattle.std.proofs.lemmas.Bool.{cases_Bool, cases_lt, cases_eq, false≢true, false_from_ne_true, or_left, or_right}
 use Rattle.std.proofs.lemmas.List.{drop_all, drop_more, take_more, length-drop, map-append}
 use Rattle.std.proofs.lemmas.List.Sums.{sum_by-cons}
 use Rattle.std.proofs.lemmas.Option.{none-some, same_Some}
 use Rattle.uo_digest.specs.declared.digest.Digest.{Digest}
 use Rattle.forest_place.specs.declared.place.Place.{Place}
-use Rattle.forest_place.specs.Places.{is_at, has_place, IsDistinct, IsBefore, IsAscending, is_before_place}
+use Rattle.forest_place.specs.Places.{is_at, has_place, IsDistinct, IsBefore, IsAscending}
 use Rattle.forest_place.proofs.Listed.{place, is_at-same, same_from_is_at}
-use Rattle.forest_place.proofs.Ascending.{before_itself, distinct_from_ascending}
+use Rattle.forest_place.proofs.Before.{before_itself, before_trans, before_means}
+use Rattle.forest_place.proofs.Ascending.{distinct_from_ascending}
 use Rattle.forest_model.specs.Cover.{need}
 use Rattle.forest_model.specs.Evaluation.{beside, asked}
 use Rattle.forest_model.proofs.Lists.{need_ascending}
@@ -25,16 +25,9 @@ use Rattle.node_rules.specs.Filled.{IsFrom, nones, filled, IsNextHash}
 
 -- ---- the order of places
 
-before_all : (p q r : Place) → IsBefore p q → IsBefore q r → IsBefore p r
-before_all p q r a b =
-    ⊎_elim
-    (λ low. ⊎_elim (λ low'. inl (omega (arith, low, low'))) (λ same. inl (omega (arith, low, same.0))) b)
-    (λ same. ⊎_elim (λ low. inl (omega (arith, low, same.0))) (λ same'. inr (omega (arith, same.0, same'.0), omega (arith, same.1, same'.1))) b)
-    a
-
 -- what comes before a place comes before all from there on
 before_from : (p q r : Place) → IsBefore p q → IsFrom q r → IsBefore p r
-before_from p q r a b = ⊎_elim (λ e. subst (IsBefore p) e a) (λ c. before_all p q r a c) b
+before_from p q r a b = ⊎_elim (λ e. subst (IsBefore p) e a) (λ c. before_trans p q r a c) b
 
 -- what comes before a place is not there
 not_there : (p q : Place) → IsBefore p q → is_at q.row q.off p ≡ false
@@ -72,16 +65,9 @@ is_there (k ∷ ks) q h =
     (λ (other : is_at q.row q.off k.0 ≡ false). let later = is_there ks q (rw other at h) in (later.0, rw other later.1))
     (cases_Bool (is_at q.row q.off k.0))
 
-comes_before : (p q : Place) → is_before_place p q ≡ true → IsBefore p q
-comes_before p q t =
-    ⊎_elim
-    (λ low. inl (ltb-true p.row q.row low))
-    (λ same. let both = and_parts (p.row == q.row) (nat_lt p.off q.off) same in inr (eqb-true p.row q.row both.0, ltb-true p.off q.off both.1))
-    (or_cases (nat_lt p.row q.row) ((p.row == q.row) && nat_lt p.off q.off) t)
-
 ascending : (ks : List Entry) → AscendByPlace ks → IsAscending (map (λ (k : Entry). k.0) ks)
 ascending [] a = tt
-ascending (k ∷ ks) a = (λ q h. let there = is_there ks q h in comes_before k.0 q (a.0 q there.0 there.1), ascending ks a.1)
+ascending (k ∷ ks) a = (λ q h. let there = is_there ks q h in before_means k.0 q (a.0 q there.0 there.1), ascending ks a.1)
 
 -- an entry that comes before a place is passed
 pub passed : (ks : List Entry) (i : ℕ) (d : Entry) (p q : Place) → i < length ks → IsBefore (get_or ks i d).0 p → IsFrom p q
@@ -115,7 +101,7 @@ here_alone ks i d q ascends lt not_before =
     ⊎_elim
     (λ (at : is_at q.row q.off k.0 ≡ true). rw (e, at) refl)
     (λ (other : is_at q.row q.off k.0 ≡ false).
-    let later = none_known (drop (i + 1) ks) q (λ p h. before_all q k.0 p (behind other (in_order k.0 q not_before)) (a.0 p h)) in
+    let later = none_known (drop (i + 1) ks) q (λ p h. before_trans q k.0 p (behind other (in_order k.0 q not_before)) (a.0 p h)) in
     rw (e, other) (sym later))
     (cases_Bool (is_at q.row q.off k.0))
   where

@@ -1,7 +1,7 @@
 -- The hashes of all needed places serve as those of a message in full.
-use Rattle.std.proofs.Common.{◌≡◌, ℕ, zero, suc, ◌+◌, ◌*◌, Bool, true, false, List, [], ◌∷◌, map, length, filter, Option, Some, None, refl, sym, ap}
+use Rattle.std.proofs.Common.{◌≡◌, ℕ, zero, suc, ◌+◌, ◌*◌, Bool, true, false, List, [], ◌∷◌, map, length, Option, Some, None, refl, sym, ap}
 use Rattle.std.proofs.Common.{◌∙◌, subst, ap₂, ⊎_elim, eq-eqb}
-use Rattle.std.specs.Prelude.{◌==◌, is_none, if◌then◌else◌}
+use Rattle.std.specs.Prelude.{◌==◌, if◌then◌else◌}
 use Rattle.std.specs.Option.{option_or}
 use Rattle.std.proofs.lemmas.Bool.{cases_Bool}
 use Rattle.std.proofs.lemmas.List.{length-map, map-id}
@@ -24,14 +24,7 @@ use Rattle.block_rules.specs.declared.refusal.ProofRefusal.TheVariants.{HashCoun
 use Rattle.node_rules.specs.Messages.{Message, in_full, named, targets, known_to}
 use Rattle.node_rules.specs.Accepting.{View, shape_fault, leaves_of, proof_fault, at_cover, first_slot, empty_root, root_differs}
 use Rattle.node_rules.specs.Judged.{AreHashes}
-
--- with nothing known, all that is needed is asked for
-pub asked_all : (n : ℕ) (ts : List Place) → asked n ts nothing_known ≡ need n ts
-asked_all n ts = keeps (need n ts)
-  where
-    keeps : (ps : List Place) → filter (λ p. is_none (nothing_known p.row p.off)) ps ≡ ps
-    keeps [] = refl
-    keeps (p ∷ ps) = ap (λ (l : List Place). p ∷ l) (keeps ps)
+use Rattle.proof_verify.proofs.Values.{asked_all}
 
 -- ---- the evaluation of a cover asks for the hashes of needed places alone
 

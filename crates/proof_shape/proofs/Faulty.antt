@@ -12,6 +12,7 @@ use Rattle.forest_place.specs.declared.naming.Naming.{Naming}
 use Rattle.forest_place.specs.Named.{number_by, place_by}
 use Rattle.forest_place.proofs.NamedLaws.{one_number, place_by-number}
 use Rattle.forest_place.specs.Places.{AreWithin, place_in}
+use Rattle.forest_place.proofs.Listed.{has_first, within_rest}
 use Rattle.forest_model.specs.Cover.{HasShape}
 use Rattle.proof_shape.specs.declared.fault.ShapeFault.{ShapeFault}
 use Rattle.proof_shape.specs.declared.fault.ShapeFault.TheVariants.{Outside, Repeated, Beneath, NoMemory}
@@ -19,7 +20,7 @@ use Rattle.proof_shape.specs.Shape.{is_crossing, AreTargetsBy, HasTargetsBy, IsS
 use Rattle.proof_shape.specs.declared.paths.Paths.{Paths}
 use Rattle.proof_shape.specs.Moves.{ArePaths}
 use Rattle.proof_shape.specs.Found.{IsFront, IsSoundLength, IsFaultAt, IsPlaceFault, crosses}
-use Rattle.proof_shape.proofs.Ordered.{has_at, has_first, within_rest}
+use Rattle.proof_shape.proofs.Ordered.{has_at}
 
 take_of_take : (xs : List ℕ) (i k : ℕ) → i ≤ k → take i (take k xs) ≡ take i xs
 take_of_take xs zero k h = refl

@@ -12,7 +12,7 @@ use Rattle.forest_place.specs.Forest.{InForest, is_root, sibling_off}
 use Rattle.forest_place.specs.Places.{has_place, AreWithin}
 use Rattle.forest_place.proofs.Parts.{parts-suc, half_pow, InForest-up, InForest-left, InForest-right, not_root-left, not_root-right, row_below}
 use Rattle.forest_place.proofs.Siblings.{sibling_off-left, sibling_off-right}
-use Rattle.forest_place.proofs.Listed.{place}
+use Rattle.forest_place.proofs.Listed.{place, has_first}
 use Rattle.forest_model.specs.Cover.{cover, is_needed, need, HasShape, is_above}
 use Rattle.forest_model.specs.Deletion.{is_gone, moved, child_place}
 use Rattle.forest_model.proofs.Covers.{needed_parts}
@@ -23,7 +23,7 @@ use Rattle.proof_shape.specs.Shape.{has_number}
 use Rattle.proof_shape.specs.Moves.{GoneTell, TellGone, HasNeighbours, AreApart, HasAll, CoversTell}
 use Rattle.proof_shape.specs.Survey.{pos}
 use Rattle.proof_shape.specs.Swept.{ArePositions}
-use Rattle.proof_shape.proofs.Ordered.{has_first, has_where, sorted_number_is}
+use Rattle.proof_shape.proofs.Ordered.{has_where, sorted_number_is}
 use Rattle.forest_place.specs.Position.{position, positions_of}
 use Rattle.std.specs.List.Sorted.{IsNonDecreasing, IsPermutation}
 use Rattle.proof_shape.proofs.Needing.{covered_up, covered_target}

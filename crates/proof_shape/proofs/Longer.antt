@@ -13,9 +13,6 @@ use Rattle.forest_model.specs.Cover.{is_above, HasShape}
 use Rattle.proof_shape.specs.Found.{crosses}
 use Rattle.proof_shape.proofs.Ordered.{has_at}
 
-pub has_left : (xs ys : List Place) (r o : ℕ) → has_place xs r o ≡ true → has_place (xs ++ ys) r o ≡ true
-has_left xs ys r o h = list_any-append (is_at r o) xs ys ∙ or_left (has_place xs r o) (has_place ys r o) h
-
 pub has_cases : (xs : List Place) (p : Place) (r o : ℕ) → has_place (xs ++ p ∷ []) r o ≡ true → (has_place xs r o ≡ true) ⊎ (p ≡ place r o)
 has_cases xs p r o h =
     ⊎_elim (λ a. inl a)

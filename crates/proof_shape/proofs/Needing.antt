@@ -15,7 +15,7 @@ use Rattle.forest_place.specs.Forest.{InForest, is_root, sibling_off}
 use Rattle.forest_place.specs.Places.{is_at, has_place, IsBefore, IsAscending, AreWithin, place_in, IsNear}
 use Rattle.forest_place.proofs.Parts.{InForest-left, InForest-right, not_root-left, not_root-right, double_half, double_half_odd}
 use Rattle.forest_place.proofs.Siblings.{sibling_cases, sibling_twice, sibling_within, sibling_no_root}
-use Rattle.forest_place.proofs.Listed.{same_Bools, place, same_from_is_at}
+use Rattle.forest_place.proofs.Listed.{same_Bools, place, same_from_is_at, has_first, within_rest}
 use Rattle.forest_place.proofs.Ascending.{same_ascending}
 use Rattle.forest_place.proofs.Positions.{position_order}
 use Rattle.forest_place.specs.Position.{positions_of}
@@ -24,7 +24,7 @@ use Rattle.forest_model.proofs.Covers.{needed_parts}
 use Rattle.forest_model.proofs.Lists.{need_has, need_had, need_ascending}
 use Rattle.proof_shape.specs.Shape.{has_number}
 use Rattle.proof_shape.specs.Swept.{ArePositions, IsSwept}
-use Rattle.proof_shape.proofs.Ordered.{has_at, has_first, has_where, within_rest, number_is, sorted_number_is, sorted_from_rising}
+use Rattle.proof_shape.proofs.Ordered.{has_at, has_where, number_is, sorted_number_is, sorted_from_rising}
 use Rattle.proof_shape.specs.Survey.{IsCoverOf, pos, up, is_top, has, Rises, needed_beside, needed_of}
 use Rattle.proof_shape.specs.Moves.{CoversTell}
 use Rattle.proof_shape.proofs.Longer.{place_where}

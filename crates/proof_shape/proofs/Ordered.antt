@@ -4,7 +4,7 @@ use Rattle.std.proofs.Common.{ap₂, ⊎_elim, inl, inr, arith, eq-eqb, ne_eqb, 
 use Rattle.std.specs.Prelude.{◌==◌, ◌⊎◌, Result, Ok, Err, is_ok, MatchResult}
 use Rattle.std.specs.List.{AllByRecursion, IsDistinct}
 use Rattle.std.specs.List.Sorted.{IsNonDecreasing, IsStrictlyIncreasing, IsPermutation}
-use Rattle.std.proofs.lemmas.Bool.{cases_Bool, cases_lt, cases_eq, false≢true, true≢false, false_from_ne_true, or_cases, or_left, or_right, or_parts}
+use Rattle.std.proofs.lemmas.Bool.{cases_Bool, cases_lt, cases_eq, false≢true, true≢false, false_from_ne_true, or_cases, or_parts}
 use Rattle.std.proofs.lemmas.Bool.{or_from}
 use Rattle.std.proofs.lemmas.List.Folds.{list_any_at, list_any-append}
 use Rattle.std.proofs.lemmas.List.{take_more}
@@ -16,7 +16,7 @@ use Rattle.forest_place.specs.declared.place.Place.{Place}
 use Rattle.forest_place.specs.Forest.{InForest}
 use Rattle.forest_place.specs.Places.{is_at, has_place, IsDistinct as HasNoRepeat, AreWithin}
 use Rattle.forest_place.specs.Position.{position, positions_of}
-use Rattle.forest_place.proofs.Listed.{place, is_at-same, same_from_is_at}
+use Rattle.forest_place.proofs.Listed.{place, is_at-same, same_from_is_at, has_first, within_rest}
 use Rattle.forest_place.proofs.Positions.{one_position}
 use Rattle.proof_shape.specs.Shape.{has_number}
 
@@ -58,12 +58,6 @@ found_is xs x (Err i) h =
 -- a place of a list, by its index
 pub has_at : (ps : List Place) (i : ℕ) (d : Place) → i < length ps → has_place ps (get_or ps i d).row (get_or ps i d).off ≡ true
 has_at ps i d h = list_any_at (is_at (get_or ps i d).row (get_or ps i d).off) ps i d h (is_at-same (get_or ps i d).row (get_or ps i d).off)
-
-pub has_first : (p : Place) (ps : List Place) → has_place (p ∷ ps) p.row p.off ≡ true
-has_first p ps = or_left (is_at p.row p.off p) (has_place ps p.row p.off) (is_at-same p.row p.off)
-
-pub within_rest : (n : ℕ) (p : Place) (ps : List Place) → AreWithin n (p ∷ ps) → AreWithin n ps
-within_rest n p ps h r o i = h r o (or_right (is_at r o p) (has_place ps r o) i)
 
 -- the positions of one place more
 pub positions_more : (n : ℕ) (ps : List Place) (i : ℕ) (d : Place) → i < length ps

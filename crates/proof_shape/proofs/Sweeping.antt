@@ -14,11 +14,12 @@ use Rattle.forest_place.proofs.Parts.{InForest-up}
 use Rattle.forest_place.proofs.Positions.{position_rises, position_order, one_position, position_small, rows_least}
 use Rattle.std.proofs.Math.Pow.{pow_mono}
 use Rattle.forest_place.specs.Places.{AreWithin, place_in}
+use Rattle.forest_place.proofs.Listed.{has_left}
 use Rattle.proof_shape.specs.Shape.{has_number}
 use Rattle.proof_shape.specs.Swept.{IsPushed, IsClimbed, ClimbsNext, NumberNext, IsSweep}
 use Rattle.proof_shape.specs.Survey.{pos, up, is_top, has}
 use Rattle.proof_shape.proofs.Ordered.{has_at}
-use Rattle.proof_shape.proofs.Longer.{has_left, has_cases}
+use Rattle.proof_shape.proofs.Longer.{has_cases}
 
 -- the place above comes later
 pub self_up : (n : ℕ) (p : Place) → InForest n p.row p.off → is_top n p ≡ false → pos n p < pos n (up p)

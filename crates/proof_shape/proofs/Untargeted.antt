@@ -21,7 +21,7 @@ ends_false true true c e = e
 ends_false true false c e = refl
 ends_false false b c e = refl
 
-none_needed : (n : ℕ) (p : Place) → is_needed n [] p ≡ false
+pub none_needed : (n : ℕ) (p : Place) → is_needed n [] p ≡ false
 none_needed n p =
     ends_false (not (is_root n p.row p.off)) (not (is_some (cover [] p.row p.off))) (is_some (cover [] p.row (sibling_off p.off)))
     (ap is_some (none_covered p.row (sibling_off p.off)))

@@ -23,7 +23,7 @@ use Rattle.cache_model.specs.Lists.{leaf_places, leaf_key, AscendByNumber, Ascen
 use Rattle.cache_model.specs.Undo.{find, is_same_number}
 use Rattle.state_text.specs.declared.entry.StoredEntry.{StoredEntry}
 use Rattle.state_text.specs.Stored.{LevelValue, StandsWithin, places_of, leaves_of}
-use Rattle.state_text.specs.Fits.{NumbersRise, AreKept, IsLevel}
+use Rattle.state_text.specs.Fits.{NumbersRise, AreKept, IsStoredLevel}
 use Rattle.state_text.specs.declared.fault.StateFault.{StateFault}
 use Rattle.state_text.specs.Reading.{claims}
 use Rattle.state_text.proofs.Judged.{denied}
@@ -152,10 +152,11 @@ module _ (H : List ℕ → Digest) (scripts : List (List ℕ)) (tip : Digest) (f
     (ts : List Place) (leaves hs : List Digest) (places : ts ≡ places_of entries)
     (shown : leaves ≡ map (λ leaf. H (leaf_text leaf)) (leaves_of entries)) (same : hs ≡ hashes) where
   pub level_denied : (e : StateFault) → claims e (IsAccepted H f.leaves (root_in f) ts nothing_known leaves hs → ⊥)
-      → claims e (IsLevel H scripts level → ⊥)
+      → claims e (IsStoredLevel H scripts level → ⊥)
   level_denied e d =
-      denied e (IsAccepted H f.leaves (root_in f) ts nothing_known leaves hs) (IsLevel H scripts level)
-      (λ good. let l : IsLevel H scripts (record { tip = tip; roots = f; kept = entries; hashes = hashes }) = subst (IsLevel H scripts) is good in
+      denied e (IsAccepted H f.leaves (root_in f) ts nothing_known leaves hs) (IsStoredLevel H scripts level)
+      (λ good. let l : IsStoredLevel H scripts (record { tip = tip; roots = f; kept = entries; hashes = hashes }) =
+      subst (IsStoredLevel H scripts) is good in
       subst (λ (x : List Place). IsAccepted H f.leaves (root_in f) x nothing_known leaves hs) (sym places)
       (subst (λ (x : List Digest). IsAccepted H f.leaves (root_in f) (places_of entries) nothing_known x hs) (sym shown)
       (subst (λ (x : List Digest). IsAccepted H f.leaves (root_in f) (places_of entries) nothing_known
@@ -192,7 +193,7 @@ all_more P (z ∷ xs) x a p = (a.0, all_more P xs x a.1 p)
 pub levels_more : (H : List ℕ → Digest) (scripts : List (List ℕ)) (ls : List LevelValue) (made : List CachedLevel) (l : LevelValue) (m : CachedLevel)
     → AreMadeLevels H scripts ls made → IsMadeLevel H scripts l m → AreMadeLevels H scripts (ls ++ l ∷ []) (made ++ m ∷ [])
 levels_more H scripts ls made l m a is = record {
-  sound = all_more (IsLevel H scripts) ls l a.sound is.sound;
+  sound = all_more (IsStoredLevel H scripts) ls l a.sound is.sound;
   same = map-append level_in made (m ∷ []) ∙ ap₂ (λ (x : List LevelValue) (y : LevelValue). x ++ y ∷ []) a.same is.same;
   filled = all_more (IsFilled H) made m a.filled is.filled;
 }

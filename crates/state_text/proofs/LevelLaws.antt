@@ -32,7 +32,7 @@ use Rattle.state_text.specs.declared.entry.StoredEntry.{StoredEntry}
 use Rattle.forest_place.specs.Named.{version_of}
 use Rattle.forest_place.proofs.NamedLaws.{one_naming}
 use Rattle.state_text.specs.Stored.{StateValue, places_of, leaves_of, body_text, IsTextOf, IsOfVersion}
-use Rattle.state_text.specs.Fits.{RootFits, LevelFits, ScriptFits, IsLevel, IsNext, AreLevels}
+use Rattle.state_text.specs.Fits.{RootFits, LevelFits, ScriptFits, IsStoredLevel, IsNext, AreLevels}
 use Rattle.leaf_cache.specs.Watched.{IsScript}
 use Rattle.state_text.specs.OfHistory.{stump_of, level_kept, digests_at, level_of, IsChained, AreChained, HistoryHasState, OneState}
 use Rattle.state_text.proofs.KeptLaws.{AreKeptAt, all_kept, shape, target_stands, leaves_shown, are_kept, kept_fit, few_kept}
@@ -175,7 +175,7 @@ module _ (H : List ℕ → Digest) (long : (x : List ℕ) → IsDigest (H x)) (s
         ∙ root_computed H es ts nothing_known leaves hashes shown (λ r o d h. absurd (none-some d h)) there_asked row beneath slot e;
   }
 
-  pub level_sound : IsLevel H scripts (level_of H scripts l)
+  pub level_sound : IsStoredLevel H scripts (level_of H scripts l)
   level_sound = record { kept = record { rise = stand.rise; each = are_kept H scripts us kept stand.each }; proved = proved }
 
   pub level_fits : LevelFits most (level_of H scripts l)
@@ -224,7 +224,7 @@ module _ (H : List ℕ → Digest) (long : (x : List ℕ) → IsDigest (H x)) (s
       (level_fits H long scripts l blocks most few wide, all_fit (blocks - 1) (length l.history) ls (omega (arith, le, c.0.within)) c.1)
 
   all_sound : (blocks bound : ℕ) (ls : List Level) → bound ≤ most → AreChained blocks bound ls
-      → AllByRecursion (IsLevel H scripts) (map (level_of H scripts) ls)
+      → AllByRecursion (IsStoredLevel H scripts) (map (level_of H scripts) ls)
   all_sound blocks bound [] le c = tt
   all_sound blocks bound (l ∷ ls) le c = (
     level_sound H long scripts l blocks bound (omega (arith, le, few)) c.0,

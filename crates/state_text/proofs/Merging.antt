@@ -1,16 +1,15 @@
 -- Two ascending lists of places as one.
 use Rattle.std.proofs.Common.{◌≡◌, ℕ, zero, suc, ◌+◌, ◌<◌, ◌≤◌, true, false, List, [], ◌∷◌, ◌++◌, map, length, get_or, take, drop, append-nil, refl}
 use Rattle.std.proofs.Common.{sym, ap, ◌∙◌, subst, arith, ⊎_elim, inl, inr, add-one}
-use Rattle.std.specs.Prelude.{◌⊎◌, ◌&&◌, ◌==◌, nat_lt}
+use Rattle.std.specs.Prelude.{◌⊎◌}
 use Rattle.std.specs.List.{AllByRecursion}
-use Rattle.std.proofs.lemmas.Bool.{cases_Bool, or_cases, or_left, or_right, and_parts, false≢true, ltb-true, eqb-true, lt-ltb}
-use Rattle.std.proofs.Common.{eq-eqb}
+use Rattle.std.proofs.lemmas.Bool.{cases_Bool, or_cases, or_left, or_right, false≢true}
 use Rattle.std.proofs.lemmas.List.{drop_all}
 use Rattle.uo_digest.specs.declared.digest.Digest.{Digest}
 use Rattle.forest_place.specs.declared.place.Place.{Place}
 use Rattle.forest_place.specs.Places.{is_at, has_place, IsBefore, IsAscending, is_before_place}
+use Rattle.forest_place.proofs.Before.{before_means, before_trans, other_way}
 use Rattle.forest_place.proofs.Listed.{same_from_is_at, is_at-same}
-use Rattle.forest_place.proofs.Positions.{place_order}
 use Rattle.state_text.specs.Merged.{merged_under, merged, paired}
 
 abbrev Held : Type 0
@@ -95,30 +94,9 @@ merged-had (x ∷ xs) ys r o h = under (λ zs k. merged-had xs zs r o k) ys h
 
 -- ---- its order
 
-pub before_means : (p q : Place) → is_before_place p q ≡ true → IsBefore p q
-before_means p q h =
-    ⊎_elim
-    (λ lower. inl (ltb-true p.row q.row lower))
-    (λ same. let b = and_parts (p.row == q.row) (nat_lt p.off q.off) same in inr (eqb-true p.row q.row b.0, ltb-true p.off q.off b.1))
-    (or_cases (nat_lt p.row q.row) ((p.row == q.row) && nat_lt p.off q.off) h)
-
-pub means_before : (p q : Place) → IsBefore p q → is_before_place p q ≡ true
-means_before p q (inl lower) = or_left (nat_lt p.row q.row) _ (lt-ltb p.row q.row lower)
-means_before p q (inr same) = or_right (nat_lt p.row q.row) _ (rw (eq-eqb p.row q.row same.0, lt-ltb p.off q.off same.1) refl)
-
-pub before_trans : (p q r : Place) → IsBefore p q → IsBefore q r → IsBefore p r
-before_trans p q r (inl a) (inl b) = inl (omega (arith, a, b))
-before_trans p q r (inl a) (inr b) = inl (omega (arith, a, b.0))
-before_trans p q r (inr a) (inl b) = inl (omega (arith, a.0, b))
-before_trans p q r (inr a) (inr b) = inr (omega (arith, a.0, b.0), omega (arith, a.1, b.1))
-
 -- no place is in both lists
 abbrev pub AreApart : List Held → List Held → Type 0
 AreApart xs ys = (r o : ℕ) → has_place (places_in xs) r o ≡ true → has_place (places_in ys) r o ≡ true → ⊥
-
-other_way : (p q : Place) → is_before_place p q ≡ false → (p ≡ q → ⊥) → IsBefore q p
-other_way p q f ne = ⊎_elim (λ lt. absurd (false≢true (sym f ∙ means_before p q lt))) (λ rest. ⊎_elim (λ same. absurd (ne same)) (λ gt. gt) rest)
-    (place_order p q)
 
 first-has : (x : Held) (xs : List Held) → has_place (places_in (x ∷ xs)) x.0.row x.0.off ≡ true
 first-has x xs = or_left (is_at x.0.row x.0.off x.0) _ (is_at-same x.0.row x.0.off)

@@ -1,29 +1,16 @@
 -- Places as targets.
-use Rattle.std.proofs.Common.{◌≡◌, ℕ, List, [], ◌∷◌, length, Result, Ok, Err, refl, sym, ap, ap₂, ◌∙◌, subst, arith}
+use Rattle.std.proofs.Common.{◌≡◌, ℕ, List, Result, Ok, Err, sym, ◌∙◌, subst}
 use Rattle.std.specs.Prelude.{MatchResult}
 use Rattle.forest_place.specs.declared.place.Place.{Place}
 use Rattle.forest_place.specs.Places.{AreWithin}
-use Rattle.forest_place.specs.Position.{position, positions_of}
-use Rattle.forest_place.proofs.Positions.{one_position}
+use Rattle.forest_place.specs.Position.{positions_of}
+use Rattle.forest_place.proofs.Positions.{same_places}
 use Rattle.forest_model.specs.Cover.{HasShape}
 use Rattle.proof_shape.specs.Shape.{AreTargets, HasTargets}
 use Rattle.proof_shape.specs.Targeted.{Targeted}
-use Rattle.proof_shape.proofs.Ordered.{has_first, within_rest}
 use Rattle.state_text.specs.declared.fault.StateFault.{StateFault}
 use Rattle.state_text.specs.Reading.{claims}
 use Rattle.state_text.proofs.Judged.{denied}
-
--- places by their positions
-same_places : (n : ℕ) (ts ps : List Place) → AreWithin n ts → AreWithin n ps → positions_of n ts ≡ positions_of n ps → ts ≡ ps
-same_places n [] [] within inside e = refl
-same_places n [] (p ∷ ps) within inside e = absurd (omega (arith, ap length e))
-same_places n (t ∷ ts) [] within inside e = absurd (omega (arith, ap length e))
-same_places n (t ∷ ts) (p ∷ ps) within inside e =
-    let first : position n t.row t.off ≡ position n p.row p.off = cc in
-    let others : positions_of n ts ≡ positions_of n ps = cc in
-    ap₂ (λ (x : Place) (xs : List Place). x ∷ xs)
-    (one_position n t p (within t.row t.off (has_first t ts)) (inside p.row p.off (has_first p ps)) first)
-    (same_places n ts ps (within_rest n t ts within) (within_rest n p ps inside) others)
 
 module _ (n : ℕ) (places : List Place) (positions : List ℕ) (within : AreWithin n places) (numbers : positions ≡ positions_of n places) where
   targets_same : (ts : List Place) → AreTargets n positions ts → ts ≡ places

@@ -9,12 +9,13 @@ use Rattle.forest_place.specs.declared.place.Place.{Place}
 use Rattle.forest_place.specs.Forest.{InForest}
 use Rattle.forest_place.specs.Places.{is_at, has_place, places, IsAscending}
 use Rattle.forest_place.proofs.Listed.{place, same_from_is_at, filter_has, filter_had, places_have, places_had}
+use Rattle.forest_place.proofs.Before.{means_before}
 use Rattle.forest_place.proofs.Ascending.{ascending-filter, places_ascending, same_ascending}
 use Rattle.cache_model.specs.Cache.{look}
 use Rattle.cache_model.specs.Lists.{AscendByPlace}
 use Rattle.cache_model.specs.Undo.{find, is_same_place, held_key}
 use Rattle.state_text.specs.Told.{told_list}
-use Rattle.state_text.proofs.Merging.{places_in, means_before}
+use Rattle.state_text.proofs.Merging.{places_in}
 
 -- the place is one of the forest, and this is told of it
 abbrev pub IsHeld : ℕ → (Place → Option Digest) → Place × Digest → Type 0

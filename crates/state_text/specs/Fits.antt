@@ -66,7 +66,7 @@ pub record AreKept (scripts : List (List ℕ)) (n : ℕ) (kept : List StoredEntr
 
 -- the hashes prove the kept entries: they stand at places of which none is another or above another,
 -- under roots that are not empty, there is a hash for each needed place, and each slot evaluates to its root
-pub record IsLevel (H : List ℕ → Digest) (scripts : List (List ℕ)) (l : LevelValue) : Type 0 where
+pub record IsStoredLevel (H : List ℕ → Digest) (scripts : List (List ℕ)) (l : LevelValue) : Type 0 where
   pub kept : AreKept scripts l.roots.leaves l.kept
   pub proved : IsAccepted H l.roots.leaves (root_in l.roots) (places_of l.kept) nothing_known (map (λ leaf. H (leaf_text leaf)) (leaves_of l.kept))
       l.hashes
@@ -97,7 +97,7 @@ pub record IsSound (H : List ℕ → Digest) (most : ℕ) (s : StateValue) : Typ
   pub counts : AreCounts s.blocks (length s.levels)
   pub scripts : AreWatched s.scripts
   pub chain : AreLevels s.blocks most s.levels
-  pub levels : AllByRecursion (IsLevel H s.scripts) s.levels
+  pub levels : AllByRecursion (IsStoredLevel H s.scripts) s.levels
 
 -- the state of a node that has at most so many entries
 pub record IsState (H : List ℕ → Digest) (most : ℕ) (s : StateValue) : Type 0 where

@@ -8,7 +8,7 @@ use Rattle.uo_digest.specs.declared.digest.Digest.{Digest}
 use Rattle.leaf_cache.specs.Watched.{IsScript}
 use Rattle.forest_place.specs.declared.naming.Naming.TheVariants.{FixedPosition}
 use Rattle.state_text.specs.Stored.{LevelValue, level_text}
-use Rattle.state_text.specs.Fits.{IsLevel}
+use Rattle.state_text.specs.Fits.{IsStoredLevel}
 use Rattle.state_text.specs.Cached.{CachedLevel, level_in, IsFilled}
 
 -- each comes before the next one, by bytes
@@ -29,11 +29,11 @@ kept_text l = level_text FixedPosition (level_in l)
 
 -- what was made of a level that was read
 pub record IsMadeLevel (H : List ℕ → Digest) (scripts : List (List ℕ)) (l : LevelValue) (made : CachedLevel) : Type 0 where
-  pub sound : IsLevel H scripts l
+  pub sound : IsStoredLevel H scripts l
   pub same : level_in made ≡ l
   pub filled : IsFilled H made
 
 pub record AreMadeLevels (H : List ℕ → Digest) (scripts : List (List ℕ)) (ls : List LevelValue) (made : List CachedLevel) : Type 0 where
-  pub sound : AllByRecursion (IsLevel H scripts) ls
+  pub sound : AllByRecursion (IsStoredLevel H scripts) ls
   pub same : map level_in made ≡ ls
   pub filled : AllByRecursion (IsFilled H) made

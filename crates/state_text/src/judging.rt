@@ -4,7 +4,7 @@ ghost use Rattle.std.specs.List.{AllByRecursion};
 ghost use Rattle.forest_roots.specs.Stump.{root_in};
 ghost use Rattle.leaf_record.specs.Leaf.{leaf_text};
 ghost use Rattle.state_text.specs.Stored.{StandsWithin, LevelValue, places_of, leaves_of as leaves_in};
-ghost use Rattle.state_text.specs.Fits.{AreKept, IsLevel, IsNext, AreLevels, AreCounts, IsSound};
+ghost use Rattle.state_text.specs.Fits.{AreKept, IsStoredLevel, IsNext, AreLevels, AreCounts, IsSound};
 ghost use Rattle.state_text.specs.Cached.{entry_of, level_in, state_in, IsFilled};
 ghost use Rattle.state_text.specs.Reading.{claims, Judges};
 ghost use Rattle.state_text.specs.Ordered.{IsMadeLevel, AreMadeLevels};
@@ -18,7 +18,7 @@ use crate::state::StoredState;
 use crate::targets::targets_of;
 use crate::telling::told_of;
 use forest_place::Place;
-use leaf_cache::{Kept, Parts, Watch};
+use leaf_cache::{CacheLists, Kept, Watch};
 use leaf_record::{LeafBuf, Leaves, RecordView, leaf_digests};
 use std::alloc::Global;
 use std::sync::ledger::Ledger;
@@ -111,7 +111,7 @@ fn judge_level<D: Digester, L: Ledger>(
     room: &mut LeafBuf<D>,
     steps: &mut Steps<L>,
 ) -> Result<StoredLevel<D>, StateFault>
-    ensures { MatchResult result (λ l. IsMadeLevel D.digest_of watch.now level l) (λ e. claims e (IsLevel D.digest_of watch.now level → ⊥)) }
+    ensures { MatchResult result (λ l. IsMadeLevel D.digest_of watch.now level l) (λ e. claims e (IsStoredLevel D.digest_of watch.now level → ⊥)) }
 {
     let (tip, roots, kept, hashes) = level.into_parts();
     let n = roots.leaves();
@@ -124,7 +124,7 @@ fn judge_level<D: Digester, L: Ledger>(
     Ok(StoredLevel {
         tip,
         roots,
-        parts: Parts { kept, held },
+        parts: CacheLists { kept, held },
     })
 }
 
@@ -135,7 +135,7 @@ fn judge_levels<D: Digester, L: Ledger>(
     steps: &mut Steps<L>,
 ) -> Result<Vec<StoredLevel<D>>, StateFault>
     ensures { MatchResult result (λ made. AreMadeLevels D.digest_of watch.now levels.items made.items)
-        (λ e. claims e (AllByRecursion (IsLevel D.digest_of watch.now) levels.items → ⊥)) }
+        (λ e. claims e (AllByRecursion (IsStoredLevel D.digest_of watch.now) levels.items → ⊥)) }
 {
     let mut room = LeafBuf::new(alloc)?;
     let mut made = Vec::with_capacity(alloc, levels.len())?;

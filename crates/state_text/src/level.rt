@@ -1,7 +1,7 @@
 //! A level that is stored.
 
 use forest_roots::Roots;
-use leaf_cache::Parts;
+use leaf_cache::CacheLists;
 use std::marker::Model;
 use uo_digest::Digest;
 
@@ -13,7 +13,7 @@ pub struct StoredLevel<D> {
     /// The roots of all entries.
     pub roots: Roots<D>,
     /// The entries that are kept, and the digests that are held for them.
-    pub parts: Parts,
+    pub parts: CacheLists,
 }
 
 impl<D> Model for StoredLevel<D> {

@@ -33,11 +33,11 @@ use Rattle.cache_model.specs.Undo.{is_same_number}
 use Rattle.cache_model.proofs.Proving.{proof_climbed}
 use Rattle.block_rules.specs.declared.chain.Chain.{Chain}
 use Rattle.node_rules.proofs.Righting.{got, got_entry}
-use Rattle.node_rules.proofs.Serving.{asked_all}
 use Rattle.compact_node.specs.Node.{LevelState, NodeState, IsNode}
 use Rattle.ticket_check.specs.Judging.{TicketRight}
 use Rattle.ticket_check.specs.Written.{kept_entry, ticket_with}
 use Rattle.ticket_check.specs.Laws.{KeptTicketsAreRight}
+use Rattle.proof_verify.proofs.Values.{asked_all}
 
 -- ---- what is found
 

@@ -25,6 +25,7 @@ use Rattle.proof_shape.specs.Targeted.{Targeted}
 use Rattle.proof_verify.specs.declared.fault.ProofFault.{ProofFault}
 use Rattle.proof_verify.specs.declared.fault.ProofFault.TheVariants as Fault
 use Rattle.proof_verify.specs.Verified.{IsProofFault, IsDeleted}
+use Rattle.proof_verify.proofs.Values.{asked_all}
 use Rattle.block_rules.specs.declared.refusal.ProofRefusal.{ProofRefusal}
 use Rattle.block_rules.specs.declared.refusal.ProofRefusal.TheVariants.{Outside}
 use Rattle.node_rules.specs.Messages.{Message, named, targets}
@@ -34,7 +35,6 @@ use Rattle.node_rules.proofs.Faults.{accepted, passes}
 use Rattle.node_rules.proofs.Placing.{named_by}
 use Rattle.node_rules.proofs.Righting.{right_is_tested, no_none}
 use Rattle.node_rules.proofs.Same.{is_same-true, is_same-same}
-use Rattle.node_rules.proofs.Serving.{asked_all}
 use Rattle.node_rules.proofs.Shapes.{shape_passes}
 use Rattle.node_rules.proofs.Telling.{count_told, empty_told, other_told}
 use Rattle.ticket_check.specs.Tickets.{Ticket}

@@ -3,7 +3,7 @@ use Rattle.std.specs.Prelude.{◌≡◌, ℕ, ◌<◌, ◌^◌, List, [], length
 use Rattle.std.specs.Borrow.{Bor}
 use Rattle.uo_base.specs.Reading.{things, HasThings}
 use Rattle.tx_codec.specs.declared.body.Core.{Core}
-use Rattle.tx_codec.specs.declared.whole.Parts.{Parts}
+use Rattle.tx_codec.specs.declared.whole.TxParts.{TxParts}
 use Rattle.tx_codec.specs.Transaction.{Input, Output, Transaction, core_text, tx_text, Fits}
 use Rattle.tx_codec.specs.Reading.{input_at, output_at, stack_at}
 
@@ -39,7 +39,7 @@ abbrev pub HasStacks : ℕ → Option (Bor (List ℕ)) → Type 0
 HasStacks n None = Unit {0}
 HasStacks n (Some bytes) = HasThings stack_at n bytes.now
 
-abbrev pub whole : Parts → Transaction
+abbrev pub whole : TxParts → Transaction
 whole p = record {
   version = p.version;
   inputs = inputs_of p.core;
@@ -49,12 +49,12 @@ whole p = record {
 }
 
 -- each list can be read
-pub record IsParts (p : Parts) : Type 0 where
+pub record IsParts (p : TxParts) : Type 0 where
   pub is_core : IsCore p.core
   pub has_stacks : HasStacks p.core.input_count p.stacks
 
 -- the bytes are the transaction's text
-pub record IsTxView (bytes : List ℕ) (p : Parts) : Type 0 where
+pub record IsTxView (bytes : List ℕ) (p : TxParts) : Type 0 where
   pub parts : IsParts p
   pub fits : Fits (whole p)
   pub text : bytes ≡ tx_text (whole p)

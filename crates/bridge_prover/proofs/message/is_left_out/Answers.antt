@@ -1,7 +1,7 @@
 use Rattle.std.proofs.Common.{◌≡◌, [], sym, ◌∙◌}
 use Rattle.std.proofs.lemmas.Bool.{eqb-true}
 use Rattle.std.proofs.lemmas.List.{nil_from_length}
-use Rattle.bridge_prover.proofs.Leaving.{none_known}
+use Rattle.cache_model.proofs.Known.{none_known}
 use Rattle.bridge_prover.proofs.message.is_left_out.Goals as goal
 
 pub returns-then-is_empty : goal.returns-then-is_empty

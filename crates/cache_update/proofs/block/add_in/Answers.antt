@@ -6,8 +6,8 @@ use Rattle.std.specs.Option.{option_to_list}
 use Rattle.cache_model.specs.declared.kept.Kept.{Kept}
 use Rattle.cache_update.specs.Joins.{is_empty_of}
 use Rattle.cache_update.specs.Marks.{BoxedRoom, HasRoomLeft, HasRoomFor, AreOfForest, IsIdle, held_from}
-use Rattle.cache_update.specs.declared.mark.Mark.{Mark}
-use Rattle.cache_update.specs.declared.mark.Room.{Room}
+use Rattle.cache_update.specs.declared.mark.CacheMark.{CacheMark}
+use Rattle.cache_update.specs.declared.mark.BlockRoom.{BlockRoom}
 use Rattle.cache_update.specs.Given.{kept_given}
 use Rattle.cache_update.proofs.Giving.{stood_key}
 use Rattle.cache_model.specs.Undo.{Ascends, is_same_number, is_before_number}
@@ -96,7 +96,7 @@ pub returns-clause-fits : goal.returns-clause-fits
 returns-clause-fits c =
     let was = sym c.count_one.ensures.room ∙ (sym c.take.ensures.value ∙ c.in-Some.is) in
     let kept = ap length (returns-clause-kept_back c) in
-    let held = ap length (c.go_on.ensures.held ∙ (ap (λ (r : Room). r.before.items) c.deref_mut.ensures.value
+    let held = ap length (c.go_on.ensures.held ∙ (ap (λ (r : BlockRoom). r.before.items) c.deref_mut.ensures.value
     ∙ sym (ap (λ (r : Option BoxedRoom). held_from r c.args.mark.now.lost.items c.args.mark.now.gained.items c.args.parts.now.held) was))) in
     record {
       kept_room = omega (arith, kept, c.requires.fits.kept_room, c.add_to.ensures.kept_room);
@@ -127,14 +127,14 @@ returns-in_default-clause-kept_back c =
     let idle : IsIdle c.args.mark.now c.args.parts.now =
     subst (HasRoomLeft c.args.mark.now c.args.parts.now) was c.requires.fits.left c.requires.left in
     let none = unwatched c.args.leaf c.args.mark.now.watched c.requires.watched idle.watched in
-    let left : Mark = record c.count_one.new.self { room = c.take.new.self } in
+    let left : CacheMark = record c.count_one.new.self { room = c.take.new.self } in
     same_back c.args.mark.now left c.args.parts.now.kept c.count_one.ensures.taken c.count_one.ensures.stood
     (none_counted c.args.leaf c.args.mark.now.added.items _ c.args.mark.now.leaves c.is_some.result c.is_some.ensures none c.count_one.ensures.added)
 
 pub returns-in_default-clause-held_back : goal.returns-in_default-clause-held_back
 returns-in_default-clause-held_back c =
     let was : c.args.mark.now.room ≡ None = sym c.count_one.ensures.room ∙ (sym c.take.ensures.value ∙ c.in_default.is) in
-    let left : Mark = record c.count_one.new.self { room = c.take.new.self } in
+    let left : CacheMark = record c.count_one.new.self { room = c.take.new.self } in
     same_held c.args.mark.now left c.args.parts.now.held was c.take.ensures.after c.count_one.ensures.lost c.count_one.ensures.gained
 
 pub returns-in_default-clause-fits : goal.returns-in_default-clause-fits
@@ -143,6 +143,6 @@ returns-in_default-clause-fits c =
     let idle : IsIdle c.args.mark.now c.args.parts.now =
     subst (HasRoomLeft c.args.mark.now c.args.parts.now) was c.requires.fits.left c.requires.left in
     let none = unwatched c.args.leaf c.args.mark.now.watched c.requires.watched idle.watched in
-    let left : Mark = record c.count_one.new.self { room = c.take.new.self } in
+    let left : CacheMark = record c.count_one.new.self { room = c.take.new.self } in
     idle_on c.args.mark.now left c.args.parts.now c.take.ensures.after (returns-in_default-clause-kept_back c) (returns-in_default-clause-held_back c)
     (omega (arith, c.count_one.ensures.watched, idle.watched)) idle c.requires.fits

@@ -1,7 +1,7 @@
 use Rattle.std.proofs.Common.{◌≡◌, ◌<◌, ℕ, length, Option, None, refl, sym, ap, ◌∙◌, subst, All, arith}
 use Rattle.cache_model.specs.Lists.{moved_leaf}
-use Rattle.cache_update.specs.declared.mark.Mark.{Mark}
-use Rattle.cache_update.specs.declared.mark.Room.{Room}
+use Rattle.cache_update.specs.declared.mark.CacheMark.{CacheMark}
+use Rattle.cache_update.specs.declared.mark.BlockRoom.{BlockRoom}
 use Rattle.cache_update.specs.Marks.{BoxedRoom, HasRoomLeft, HasRoomFor, AreOfForest, IsUnused, IsUnusedIn, IsKnownIn, IsIdle, held_from}
 use Rattle.cache_update.specs.Marks.{pairs_within}
 use Rattle.proof_shape.specs.Targeted.{Targeted}
@@ -57,7 +57,7 @@ pub returns-clause-fits : goal.returns-clause-fits
 returns-clause-fits c =
     let was = sym c.take.ensures.value ∙ c.in-Some.is in
     let kept = ap length (returns-clause-kept_back c) in
-    let held = ap length (c.go_on.ensures.held ∙ (ap (λ (r : Room). r.before.items) c.deref_mut-lists.ensures.value
+    let held = ap length (c.go_on.ensures.held ∙ (ap (λ (r : BlockRoom). r.before.items) c.deref_mut-lists.ensures.value
     ∙ sym (ap (λ (r : Option BoxedRoom). held_from r c.args.mark.now.lost.items c.args.mark.now.gained.items c.args.parts.now.held) was))) in
     record {
       kept_room = omega (arith, kept, c.requires.fits.kept_room, c.delete_from.ensures.kept_room);
@@ -84,7 +84,7 @@ returns-in_default-clause-held c =
 pub returns-in_default-clause-held_back : goal.returns-in_default-clause-held_back
 returns-in_default-clause-held_back c =
     let was : c.args.mark.now.room ≡ None = sym c.take.ensures.value ∙ c.in_default.is in
-    let left : Mark = record c.args.mark.now { room = c.take.new.self } in
+    let left : CacheMark = record c.args.mark.now { room = c.take.new.self } in
     same_held c.args.mark.now left c.args.parts.now.held was c.take.ensures.after refl refl
 
 pub returns-in_default-clause-fits : goal.returns-in_default-clause-fits
@@ -92,5 +92,5 @@ returns-in_default-clause-fits c =
     let was : c.args.mark.now.room ≡ None = sym c.take.ensures.value ∙ c.in_default.is in
     let some : 0 < c.args.mark.now.adds = subst (IsUnusedIn c.args.targets.now c.args.mark.now c.args.parts.now) was c.requires.begun in
     let idle : IsIdle c.args.mark.now c.args.parts.now = subst (HasRoomLeft c.args.mark.now c.args.parts.now) was c.requires.fits.left some in
-    let left : Mark = record c.args.mark.now { room = c.take.new.self } in
+    let left : CacheMark = record c.args.mark.now { room = c.take.new.self } in
     idle_on c.args.mark.now left c.args.parts.now c.take.ensures.after refl (returns-in_default-clause-held_back c) idle.watched idle c.requires.fits

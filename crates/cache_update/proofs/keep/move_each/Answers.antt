@@ -1,4 +1,4 @@
-use Rattle.std.proofs.Common.{◌++◌, ◌∷◌, [], sym, ap, ◌∙◌, subst, arith, cond, All, drop, add-one}
+use Rattle.std.proofs.Common.{sym, ◌∙◌, subst, arith, All, drop, add-one}
 use Rattle.forest_place.specs.Forest.{InForest}
 use Rattle.cache_model.specs.declared.kept.Kept.{Kept}
 use Rattle.cache_update.proofs.Keeps.{left_on, left_set, at_place, stay_on, not_gone, go_on, taken_on, drop_removed}

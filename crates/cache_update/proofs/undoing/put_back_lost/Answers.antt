@@ -1,7 +1,7 @@
 use Rattle.std.proofs.Common.{◌≡◌, ◌+◌, ◌-◌, ◌<◌, refl, take, map, length, arith}
 use Rattle.forest_place.specs.Places.{is_before_place}
 use Rattle.cache_model.specs.Undo.{is_same_place, held_key}
-use Rattle.cache_update.specs.Gaps.{around}
+use Rattle.cache_update.specs.GappedList.{around}
 use Rattle.cache_update.specs.Given.{digest_was, undo_digests}
 use Rattle.cache_update.proofs.Undone.{undo_start, undo_on}
 use Rattle.cache_update.proofs.Gapped.{has_gap, room_starts, room_stays, room_kept}

@@ -1,6 +1,6 @@
 use Rattle.std.proofs.Common.{◌≡◌, ◌+◌, ◌<◌, ◌≤◌, ◌⊎◌, take, length, map}
 use Rattle.cache_model.specs.Lists.{AscendByPlace}
-use Rattle.cache_update.specs.Gaps.{IsGap, around}
+use Rattle.cache_update.specs.GappedList.{IsGap, around}
 use Rattle.cache_update.specs.Given.{digest_was, undo_digests}
 use Rattle.cache_update.proofs.undoing.put_back_lost.Given as goal
 

@@ -1,4 +1,4 @@
-use Rattle.std.proofs.Common.{◌≡◌, ◌≤◌, map, vec_len, vec_capacity}
+use Rattle.std.proofs.Common.{◌≡◌, map, vec_len, vec_capacity}
 use Rattle.cache_model.specs.Lists.{AscendByNumber}
 use Rattle.cache_update.specs.Given.{entry_was, undo_entries}
 use Rattle.cache_update.proofs.undoing.put_back_taken.Given as goal

@@ -1,5 +1,5 @@
 use Rattle.std.specs.Prelude.{insert}
-use Rattle.std.proofs.Common.{Some, ◌++◌, ◌∷◌, [], refl, sym, ap, ◌∙◌, arith, cond, eq-eqb, ne_eqb}
+use Rattle.std.proofs.Common.{Some, refl, sym, ap, ◌∙◌, arith, cond, eq-eqb, ne_eqb}
 use Rattle.std.proofs.lemmas.List.{set_split}
 use Rattle.cache_model.specs.declared.kept.Kept.{Kept}
 use Rattle.cache_model.specs.Undo.{is_same_number}

@@ -1,5 +1,5 @@
 use Rattle.std.proofs.Common.{arith}
-use Rattle.cache_update.specs.Gaps.{around}
+use Rattle.cache_update.specs.GappedList.{around}
 use Rattle.cache_update.proofs.Gapped.{room_between}
 use Rattle.cache_update.proofs.undoing.undo_around.Goals as goal
 

@@ -1,4 +1,4 @@
-use Rattle.std.proofs.Common.{arith, rules, ap, ◌∙◌, take_all}
+use Rattle.std.proofs.Common.{arith, ◌∙◌}
 use Rattle.std.proofs.lemmas.Nat.{ones-le}
 use Rattle.compact_node.proofs.Taking.{appended_some, appended_count, appended_all}
 use Rattle.compact_node.proofs.unwatched.push_all.Goals as goal

@@ -1,4 +1,4 @@
-use Rattle.std.proofs.Common.{◌≡◌, ◌+◌, ◌*◌, ◌-◌, ◌≤◌, length, map, take, ℕ}
+use Rattle.std.proofs.Common.{◌≡◌, ◌+◌, ◌*◌, ◌-◌, ◌≤◌, length, map, take}
 use Rattle.std.specs.Prelude.{count_ones}
 use Rattle.leaf_record.specs.Leaf.{leaf_text}
 use Rattle.compact_node.specs.After.{with_leaves}

@@ -5,7 +5,7 @@ use Rattle.state_text.specs.Cached.{level_in}
 use Rattle.state_text.specs.Ordered.{AreMadeLevels}
 use Rattle.std.proofs.lemmas.Result.{err_from_is_err_and}
 use Rattle.std.specs.List.{AllByRecursion}
-use Rattle.state_text.specs.Fits.{IsLevel}
+use Rattle.state_text.specs.Fits.{IsStoredLevel}
 use Rattle.state_text.proofs.Judged.{denied}
 use Rattle.state_text.proofs.Filling.{all_one, levels_more}
 use Rattle.state_text.proofs.judging.judge_levels.Goals as goal
@@ -18,7 +18,7 @@ loop-level-init g c = record {
 
 pub returns-in_err-judge_level : goal.returns-in_err-judge_level
 returns-in_err-judge_level g c =
-    let Good = IsLevel g.D.Digester.digest_of c.args.watch.now in
+    let Good = IsStoredLevel g.D.Digester.digest_of c.args.watch.now in
     let p = err_from_is_err_and c.from_residual-in_err-judge_level.result c.from_residual-in_err-judge_level.ensures.1 in
     let split = c.loop-level.invariant.rest ∙ ap (λ xs. c.loop-level.yielded ++ xs) c.in-Some.ensures.steps.0 in
     rw (p.1, p.2) (denied _ (Good c.in-Some.level) (AllByRecursion Good c.args.levels.items)
