@@ -19,8 +19,8 @@ use Rattle.proof_verify.specs.declared.origin.Half.TheVariants.{Covered, Needed}
 use Rattle.proof_verify.specs.declared.origin.Origin.{Origin}
 use Rattle.proof_verify.specs.declared.origin.Origin.TheVariants.{Target, Halves}
 
-pub first_taken : (os : List Origin) (k : ℕ) → k ≡ min 16 (length os) → take k os ≡ take 16 os
-first_taken os k e = ap (λ n. take n os) e ∙ take_min 16 os
+pub first_taken : (os : List Origin) (k : ℕ) → k ≡ min 8 (length os) → take k os ≡ take 8 os
+first_taken os k e = ap (λ n. take n os) e ∙ take_min 8 os
 
 module _ (leaves hashes m : ℕ) where
   half_below : (x : Half) → IsHalfWithin m hashes x → is_half_below m x ≡ true
@@ -43,7 +43,7 @@ module _ (leaves hashes m : ℕ) where
 
 module _ (os : List Origin) (m : ℕ) where
   abbrev next : List Origin
-  next = take 16 (drop m os)
+  next = take 8 (drop m os)
 
   abbrev count : ℕ
   count = prefix_len (is_below m) next
@@ -54,17 +54,17 @@ module _ (os : List Origin) (m : ℕ) where
   within : count ≤ length next
   within = prefix_len-le-length (is_below m) next
 
-  next_long : length next ≡ min 16 (length os - m)
-  next_long = length-take 16 (drop m os) ∙ ap (min 16) (length-drop m os)
+  next_long : length next ≡ min 8 (length os - m)
+  next_long = length-take 8 (drop m os) ∙ ap (min 8) (length-drop m os)
 
-  pub batch_few : length (batch_at os m) ≤ 16
+  pub batch_few : length (batch_at os m) ≤ 8
   batch_few = omega (arith, long, within, next_long)
 
   pub batch_within : m ≤ length os → m + length (batch_at os m) ≤ length os
   batch_within le = omega (arith, le, long, within, next_long)
 
-  next_place : (i : ℕ) → i < 16 → origin_at next i ≡ origin_at os (m + i)
-  next_place i lt = get_or-take 16 (drop m os) i (Target 0) lt ∙ get_or-drop m os i (Target 0)
+  next_place : (i : ℕ) → i < 8 → origin_at next i ≡ origin_at os (m + i)
+  next_place i lt = get_or-take 8 (drop m os) i (Target 0) lt ∙ get_or-drop m os i (Target 0)
 
   place : (i : ℕ) → i < length (batch_at os m) → origin_at (batch_at os m) i ≡ origin_at os (m + i)
   place i lt =
@@ -104,16 +104,16 @@ module _ (os : List Origin) (m : ℕ) where
       let few = batch_few in
       let e = long in
       let same : batch_at os m ≡ take (length (batch_at os m)) (drop m os) =
-      take-take count 16 (drop m os) (omega (arith, few, e)) ∙ ap (λ k. take k (drop m os)) (sym e) in
+      take-take count 8 (drop m os) (omega (arith, few, e)) ∙ ap (λ k. take k (drop m os)) (sym e) in
       ap (count_by is_inner) (take-add m (length (batch_at os m)) os)
       ∙ (sum_by-append (λ o. cond (is_inner o) 1 0) (take m os) (take (length (batch_at os m)) (drop m os))
       ∙ ap (λ l. count_by is_inner (take m os) + count_by is_inner l) (sym same))
 
 -- how a batch is taken
-pub batch_told : (os : List Origin) (m n : ℕ) (rest next batch : List Origin) → rest ≡ drop m os → next ≡ take 16 rest
+pub batch_told : (os : List Origin) (m n : ℕ) (rest next batch : List Origin) → rest ≡ drop m os → next ≡ take 8 rest
     → n ≡ prefix_len (is_below m) next → batch ≡ take n next → batch ≡ batch_at os m
 batch_told os m n rest next batch a b c d =
-    d ∙ (ap (λ k. take k next) c ∙ ap (λ l. take_while (is_below m) l) (b ∙ ap (take 16) a))
+    d ∙ (ap (λ k. take k next) c ∙ ap (λ l. take_while (is_below m) l) (b ∙ ap (take 8) a))
 
 abbrev nothing : Node
 nothing = record { digest = record { 0 = [] }; left = None }

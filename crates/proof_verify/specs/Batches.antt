@@ -19,9 +19,9 @@ abbrev pub is_below : ℕ → Origin → Bool
 is_below m (Target i) = true
 is_below m (Halves x y) = is_half_below m x && is_half_below m y
 
--- the places from index m on that want none but those before it, and not more than 16
+-- the places from index m on that want none but those before it, and not more than 8
 abbrev pub batch_at : List Origin → ℕ → List Origin
-batch_at os m = take_while (is_below m) (take 16 (drop m os))
+batch_at os m = take_while (is_below m) (take 8 (drop m os))
 
 -- each of the places is made of the first m covered places, of one of so many leaves, or of so many hashes
 abbrev pub AreWithin : ℕ → ℕ → ℕ → List Origin → Type 0

@@ -10,8 +10,8 @@ use crate::origin::Origin;
 use std::sync::ledger::Ledger;
 use uo_digest::{Digest, Digester, Steps};
 
-// A place takes at most two digests, so these are enough for 16 places.
-const PAIRS: usize = 32;
+// A place takes at most two digests, so these are enough for 8 places.
+const PAIRS: usize = 16;
 
 // Where the pairs of a batch and their digests lie. What is in it does not matter.
 #[derive(Drop)]
@@ -161,7 +161,7 @@ fn settle<D: Digester>(
     }
 }
 
-// The nodes of at most 16 places, all of which are made of nodes that are there.
+// The nodes of at most 8 places, all of which are made of nodes that are there.
 pub(crate) fn evaluate_batch<D: Digester, L: Ledger>(
     origins: &[Origin],
     leaves: &[Digest],
@@ -172,7 +172,7 @@ pub(crate) fn evaluate_batch<D: Digester, L: Ledger>(
     steps: &mut Steps<L>,
 )
     requires within { AreWithin (length below.now) (length leaves.now) (length hashes.now) origins.now }
-    requires few { length origins.now ≤ 16 }
+    requires few { length origins.now ≤ 8 }
     requires long { length nodes.old ≡ length origins.now }
     ensures nodes { nodes.new ≡ map (node_from D.digest_of leaves.now hashes.now below.now) origins.now }
     ensures steps { steps.new ≤ steps.old + 2 * count_by is_inner origins.now }

@@ -1,6 +1,7 @@
 -- Lists of digests that are made in parts.
-use Rattle.std.proofs.Common.{◌≡◌, ℕ, suc, ◌+◌, ◌≤◌, List, [], ◌∷◌, ◌++◌, length, map, take, drop, get_or, refl, sym, ap, ◌∙◌, arith}
+use Rattle.std.proofs.Common.{◌≡◌, ℕ, suc, ◌+◌, ◌≤◌, List, [], ◌∷◌, ◌++◌, length, map, take, drop, get_or, refl, sym, ap, ◌∙◌, subst, arith}
 use Rattle.std.proofs.Math.Seq.{take-add, take-append_seam}
+use Rattle.std.proofs.lemmas.List.{length-map, map-append}
 use Rattle.std.proofs.lemmas.Grind.{common_steps}
 use Rattle.std.specs.Borrow.{Bor}
 use Rattle.digest_lanes.specs.Texts.{IsGivenAt}
@@ -35,6 +36,16 @@ four_of f (a ∷ b ∷ c ∷ []) d is = absurd (omega (arith, is))
 four_of f (a ∷ b ∷ c ∷ e ∷ []) d is = refl
 four_of f (a ∷ b ∷ c ∷ e ∷ g ∷ xs) d is = absurd (omega (arith, is))
 
+-- those of them that are asked for
+pub front_of : {X : Type 0} (f : X → Digest) (xs part rest : List X) (all front out : List Digest) → part ≡ xs → all ≡ map f (part ++ rest)
+    → front ≡ take (length xs) all → out ≡ front → out ≡ map f xs
+front_of f xs part rest all front out is made taken put =
+    put
+    ∙ taken
+    ∙ ap (take (length xs)) (made ∙ ap (λ l. map f (l ++ rest)) is ∙ map-append f xs rest)
+    ∙ ap (λ n. take n (map f xs ++ map f rest)) (sym (length-map xs f))
+    ∙ take-append_seam (map f xs) (map f rest)
+
 -- eight of them
 pub same_eight : {a b c d e f g h i j k l m n o p : List ℕ} → a ≡ i → b ≡ j → c ≡ k → d ≡ l → e ≡ m → f ≡ n → g ≡ o → h ≡ p
     → ◌≡◌ {A = List Digest}
@@ -65,3 +76,9 @@ put_part f xs out from n part rest le before is =
     ∙ ap (take (from + n)) parts
     ∙ ap (λ k. take k (map f (take (from + n) xs) ++ rest)) (sym long)
     ∙ take-append_seam (map f (take (from + n) xs)) rest
+
+-- the last part
+pub put_last : {X : Type 0} (f : X → Digest) (xs : List X) (out : List Digest) (from n : ℕ) (part rest : List Digest)
+    → from + n ≡ length xs → AreGiven f xs out from → part ≡ map f (take n (drop from xs)) → AreGiven f xs (take from out ++ (part ++ rest)) (length xs)
+put_last f xs out from n part rest whole before is =
+    subst (AreGiven f xs (take from out ++ (part ++ rest))) whole (put_part f xs out from n part rest (omega (arith, whole)) before is)

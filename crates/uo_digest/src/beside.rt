@@ -33,7 +33,47 @@ fn put_four(pairs: &[(Digest, Digest)], from: usize, out: &mut [Digest])
     out[from..from + 4].copy_from_slice(&four);
 }
 
-/// The digest of each pair, as one text of 64 bytes: four at a time, and the rest alone.
+// The digests of up to four pairs, side by side: where there are fewer, blanks stand behind them.
+fn digest_few(pairs: &[(Digest, Digest)], out: &mut [Digest])
+    requires count { length out.old ≡ length pairs.now }
+    requires few { length pairs.now ≤ 4 }
+    ensures { out.new ≡ map (λ (pair : Digested × Digested). record { 0 = sha512_256 (pair.0.0 ++ pair.1.0) }) pairs.now }
+{
+    let blank = Digest([0; 32]);
+    let mut four = [(blank, blank); 4];
+    four.split_at_mut(pairs.len()).0.copy_from_slice(pairs);
+    let digests = four_digests(&four);
+    out.copy_from_slice(digests.split_at(pairs.len()).0);
+}
+
+// The digests of fewer than four pairs. Side by side two take less than one after the other, and three no more than two.
+fn digest_rest(pairs: &[(Digest, Digest)], out: &mut [Digest])
+    requires count { length out.old ≡ length pairs.now }
+    requires few { length pairs.now < 4 }
+    ensures { out.new ≡ map (λ (pair : Digested × Digested). record { 0 = sha512_256 (pair.0.0 ++ pair.1.0) }) pairs.now }
+{
+    if pairs.len() > 1 {
+        return digest_few(pairs, out);
+    }
+    'each: for i in 0..pairs.len() {
+        let (left, right) = pairs[i];
+        let text = pair_text(left, right);
+        out[i] = Digest(<Sha512_256 as sha2::Digest>::digest(&text));
+    }
+}
+
+// Puts the digests of the last pairs, fewer than four, behind those before them.
+fn put_rest(pairs: &[(Digest, Digest)], from: usize, out: &mut [Digest])
+    requires count { length out.old ≡ length pairs.now }
+    requires within { from ≤ length pairs.now }
+    requires few { length pairs.now < from + 4 }
+    requires before { AreGiven (λ (pair : Digested × Digested). record { 0 = sha512_256 (pair.0.0 ++ pair.1.0) }) pairs.now out.old from }
+    ensures { AreGiven (λ (pair : Digested × Digested). record { 0 = sha512_256 (pair.0.0 ++ pair.1.0) }) pairs.now out.new (length pairs.now) }
+{
+    digest_rest(&pairs[from..], &mut out[from..]);
+}
+
+/// The digest of each pair, as one text of 64 bytes: four at a time, two or three at the end as well, and one at the end alone.
 pub(crate) fn digest_pairs(pairs: &[(Digest, Digest)], out: &mut [Digest])
     requires { length out.old ≡ length pairs.now }
     ensures { out.new ≡ map (λ (pair : Digested × Digested). record { 0 = sha512_256 (pair.0.0 ++ pair.1.0) }) pairs.now }
@@ -42,11 +82,7 @@ pub(crate) fn digest_pairs(pairs: &[(Digest, Digest)], out: &mut [Digest])
     'fours: for four in 0..fours {
         put_four(pairs, 4 * four, out);
     }
-    'rest: for i in 4 * fours..pairs.len() {
-        let (left, right) = pairs[i];
-        let text = pair_text(left, right);
-        out[i] = Digest(<Sha512_256 as sha2::Digest>::digest(&text));
-    }
+    put_rest(pairs, 4 * fours, out);
 }
 
 // The digest of each whole text, one by one.

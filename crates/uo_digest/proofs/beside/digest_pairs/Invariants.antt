@@ -6,6 +6,3 @@ use Rattle.uo_digest.proofs.beside.digest_pairs.Given as goal
 
 abbrev pub invariant-fours : goal.invariant-fours
 invariant-fours l = AreGiven (λ (pair : Digested × Digested). record { 0 = sha512_256 (pair.0.0 ++ pair.1.0) }) l.pairs l.out (4 * l.four)
-
-abbrev pub invariant-rest : goal.invariant-rest
-invariant-rest l = AreGiven (λ (pair : Digested × Digested). record { 0 = sha512_256 (pair.0.0 ++ pair.1.0) }) l.pairs l.out l.i
