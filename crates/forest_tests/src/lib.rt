@@ -1,5 +1,4 @@
-//! Tests of the forest, its places, its roots, the targets of a deletion, the check of proofs and the whole forest in place, and of outputs, what
-//! undoes their blocks, and watch lists.
+//! Tests of places, of roots, of the targets of a deletion and the check of proofs, and of outputs, what undoes their blocks, and watch lists.
 //!
 //! They stand in a crate of their own, so that none of these crates is proved a second time for them.
 #![tactic(auto)]

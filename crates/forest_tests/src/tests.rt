@@ -1,10 +1,7 @@
 mod deletions;
-mod live;
 mod outputs;
 mod places;
-mod plain;
 mod roots;
 mod targets;
 mod undone;
 mod watched;
-mod whole;

@@ -1,7 +1,6 @@
 //! Proofs that were evaluated by hand.
 ghost use Rattle.std.specs.Prelude.{◌≡◌, ◌<◌};
 
-mod small;
 mod steps;
 
 use crate::digest;
@@ -13,21 +12,17 @@ use std::alloc::Global;
 use std::marker::Brand;
 use std::process::Abort;
 use std::sync::ledger::{Blank, Ledger};
-use uo_digest::{Digest, Digester, Steps, XorFold};
+use uo_digest::{Digest, Steps, XorFold};
 
-pub(crate) fn place(row: u8, off: u64) -> Place {
+fn place(row: u8, off: u64) -> Place {
     Place { row, off }
 }
 
-pub(crate) fn same_roots<D: Digester>(left: &Roots<D>, right: &Roots<D>) -> bool {
-    left.leaves() == right.leaves() && (0..40).all(|row| left.root(row) == right.root(row))
-}
-
 // Reads targets, reserves the scratch for them, and checks a proof.
-pub(crate) fn check<D: Digester, L: Ledger>(
+fn check<L: Ledger>(
     rt: &impl Abort,
     alloc: Global,
-    roots: &mut Roots<D>,
+    roots: &mut Roots<XorFold>,
     positions: &[u64],
     leaves: &[Digest],
     hashes: &[Digest],

@@ -1,4 +1,0 @@
-use Rattle.forest_tests.proofs.tests.deletions.small.deletes_by_sha.Given as goal
-
-abbrev pub ghosts-check_all : goal.ghosts-check_all
-ghosts-check_all g a = record { name = a.blank.name; parts = a.blank.parts }

@@ -1,4 +1,0 @@
-use Rattle.forest_tests.proofs.tests.live.changes_on_pages.Given as goal
-
-abbrev pub ghosts-check_changes : goal.ghosts-check_changes
-ghosts-check_changes g a = record { name = a.blank.name; parts = a.blank.parts }

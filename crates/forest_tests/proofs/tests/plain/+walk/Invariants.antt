@@ -1,4 +1,0 @@
-use Rattle.forest_tests.proofs.tests.plain.+walk.Given as goal
-
-abbrev pub decreases-walk : goal.decreases-walk
-decreases-walk g l = l.row

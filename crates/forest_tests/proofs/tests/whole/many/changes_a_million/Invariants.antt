@@ -1,4 +1,0 @@
-use Rattle.forest_tests.proofs.tests.whole.many.changes_a_million.Given as goal
-
-abbrev pub ghosts-check_many : goal.ghosts-check_many
-ghosts-check_many g a = record { name = a.blank.name; parts = a.blank.parts }
