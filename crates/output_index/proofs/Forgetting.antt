@@ -81,10 +81,10 @@ alone-without n m q hs h j is =
     (λ o. h j (sym (mark-without_other q j hs o) ∙ is))
     (cases_eq j q)
 
-pub to_forget-without : (n q : ℕ) (leaving : EntryToForget) (hs : List Held) → q ≢ n → IsToForget hs q leaving → IsToForget (without n hs) q leaving
-to_forget-without n q leaving hs o h = record {
+pub to_forget-without : (n q : ℕ) (known : EntryToForget) (hs : List Held) → q ≢ n → IsToForget hs q known → IsToForget (without n hs) q known
+to_forget-without n q known hs o h = record {
   mark = mark-without_other n q hs o ∙ h.mark;
-  alone = OnTrue_from leaving.alone (IsAlone (without n hs) q leaving.mark) (λ t. alone-without q leaving.mark n hs (OnTrue_at t h.alone));
+  alone = OnTrue_from known.alone (IsAlone (without n hs) q known.mark) (λ t. alone-without q known.mark n hs (OnTrue_at t h.alone));
 }
 
 -- the only one tells no older one, and is told of its mark
