@@ -13,7 +13,7 @@ use leaf_cache::{Cache, CacheLists, Kept, Watch};
 use leaf_record::Record;
 use live_forest::Forest;
 use proof_shape::Targets;
-use proof_verify::{Scratch, check_and_delete};
+use proof_verify::{ProofScratch, check_and_delete};
 use std::alloc::Global;
 use std::io;
 use std::sync::ledger::Ledger;
@@ -124,7 +124,7 @@ fn bare_block<L: Ledger>(
     alloc: Global,
     roots: &mut Roots<Sha512t256>,
     proof: &Proof,
-    scratch: &mut Scratch,
+    scratch: &mut ProofScratch,
     steps: &mut Steps<L>,
 ) -> bool {
     let Some(targets) = targets_of(alloc, roots.leaves(), &proof.positions) else {
@@ -157,7 +157,7 @@ fn cached_block<L: Ledger>(
     cache: &mut Cache<Sha512t256>,
     roots: &mut Roots<Sha512t256>,
     proof: &Proof,
-    scratch: &mut Scratch,
+    scratch: &mut ProofScratch,
     steps: &mut Steps<L>,
 ) -> Option<CacheMark>
     ensures { IfSome result (λ m. Fits m cache.new.parts) }
@@ -265,7 +265,7 @@ fn measure_mark<R: Print, L: Ledger>(
     let Ok(older) = cache.seen().copy(alloc) else {
         return println!(rt; "  no block");
     };
-    let mut scratch = Scratch::new(alloc);
+    let mut scratch = ProofScratch::new(alloc);
     let mut then = roots.copy();
     let Some(mark) = cached_block(alloc, cache, &mut then, proof, &mut scratch, steps) else {
         return println!(rt; "  no block");
@@ -296,12 +296,12 @@ fn time_block<R: CpuClock, L: Ledger>(
     proof: &Proof,
     steps: &mut Steps<L>,
 ) -> io::Result<Times> {
-    let mut scratch = Scratch::new(alloc);
+    let mut scratch = ProofScratch::new(alloc);
     let mut then = roots.copy();
     let mut watch = Stopwatch::start(rt)?;
     let accepted = bare_block(alloc, &mut then, proof, &mut scratch, steps);
     let bare = watch.lap(rt)?;
-    let mut scratch = Scratch::new(alloc);
+    let mut scratch = ProofScratch::new(alloc);
     let mut then = roots.copy();
     let mut watch = Stopwatch::start(rt)?;
     let mark = cached_block(alloc, cache, &mut then, proof, &mut scratch, steps);

@@ -10,7 +10,7 @@ use Rattle.leaf_record.specs.History.{somes, Entry, entry_if, History, newer, ne
 use Rattle.block_rules.specs.declared.origins.Origins.{Origins}
 use Rattle.block_rules.specs.Blocks.{is_spendable, leaf_of, made_from, made_by, Placed, placed_from, Spend, once_taken, taken, spends_from, left_from}
 use Rattle.block_rules.specs.Blocks.{groups_from, left_of_all}
-use Rattle.block_rules.specs.Kept.{kept_from}
+use Rattle.block_rules.specs.KeptOutputs.{kept_from}
 use Rattle.block_rules.specs.Known.{origin_at, history_at}
 use Rattle.block_rules.specs.Laws.{latest}
 use Rattle.block_rules.proofs.Latest.{found, is_of, found-cons}

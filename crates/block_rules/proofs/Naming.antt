@@ -14,9 +14,9 @@ use Rattle.leaf_record.specs.History.{History}
 use Rattle.block_rules.specs.declared.origins.Origins.{Origins}
 use Rattle.block_rules.specs.declared.outpoint.TxidKey.{TxidKey}
 use Rattle.block_rules.specs.declared.made.Named.{Named}
-use Rattle.block_rules.specs.declared.made.Made.{Made}
+use Rattle.block_rules.specs.declared.made_outputs.MadeOutputs.{MadeOutputs}
 use Rattle.block_rules.specs.Blocks.{is_spendable}
-use Rattle.block_rules.specs.Kept.{Kept, kept_from}
+use Rattle.block_rules.specs.KeptOutputs.{KeptOutput, kept_from}
 use Rattle.block_rules.specs.Keys.{key_of_id, id_cmp}
 use Rattle.block_rules.specs.Known.{txid_at, leaf_at, history_at, history, NoneOf, IsNewest, IsPlaced, IsNamed, AreOf, Knows, KnowsAll}
 use Rattle.block_rules.proofs.Apart.{map_append}
@@ -199,7 +199,7 @@ module _ (ids : List Digest) (named : List Named) (old new : BTreeMap TxidKey �
   pub names_on : IsNamed ids more new (length h) h
   names_on = record { few = omega arith; placed = placed_more; newest = names_more }
 
-pub named_all : (o : Origins) (outputs : List (Option Kept)) (named more : List Named) (old new : BTreeMap TxidKey ℕ) (known size end place : ℕ)
+pub named_all : (o : Origins) (outputs : List (Option KeptOutput)) (named more : List Named) (old new : BTreeMap TxidKey ℕ) (known size end place : ℕ)
     (before : Option ℕ) (key : TxidKey) → place ≡ length named → key ≡ key_of_id (txid_at o.txids.items place) → size ≡ length outputs → end ≡ size →
     IsNamed o.txids.items named old known (history_at o outputs) → AreOf o.txids.items (length named) known (history_at o outputs)
     → before ≡ tree.get id_cmp old key → tree.Updates id_cmp old new key (Some place) →
@@ -217,7 +217,7 @@ named_all o outputs named more old new known size end place before key at k e f 
 
 -- ---- of what was made
 
-pub added_knows : (old next : Made) (t : ℕ) (outputs : List Output) → t ≡ length old.named.items → KnowsAll old
+pub added_knows : (old next : MadeOutputs) (t : ℕ) (outputs : List Output) → t ≡ length old.named.items → KnowsAll old
     → next.outputs.items ≡ old.outputs.items ++ kept_from t 0 outputs →
     next.origins ≡ old.origins → next.named.items ≡ old.named.items → next.known ≡ old.known → next.newest ≡ old.newest → Knows next
 added_knows old next t outputs place all added origins named known newest =

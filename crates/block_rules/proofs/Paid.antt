@@ -26,7 +26,7 @@ use Rattle.block_rules.specs.Paying.{outside_count, outside_sum, IsCounted, Pays
 use Rattle.block_rules.specs.Walk.{Walked, IsWalked, new_at}
 use Rattle.block_rules.proofs.Firsts.{option_or-none, unless-passed}
 use Rattle.block_rules.specs.declared.origins.Origins.{Origins}
-use Rattle.block_rules.specs.Kept.{Kept}
+use Rattle.block_rules.specs.KeptOutputs.{KeptOutput}
 use Rattle.block_rules.specs.Known.{leaf_at, history_at}
 use Rattle.block_rules.proofs.Spending.{leaves_of, leaves_left}
 
@@ -100,12 +100,13 @@ counted b height w few g =
     }
 
 -- the records of what is left are new
-new_are : (b : Block) (height : ℕ) (o : Origins) (outputs : List (Option Kept)) (w : Walked) → w.left ≡ history_at o outputs → IsWalked b height w
+new_are : (b : Block) (height : ℕ) (o : Origins) (outputs : List (Option KeptOutput)) (w : Walked) → w.left ≡ history_at o outputs
+    → IsWalked b height w
     → map (leaf_at o) (new_at height outputs) ≡ new_records b height
 new_are b zero o outputs w e g = refl
 new_are b (suc h) o outputs w e g = leaves_left o outputs ∙ (ap somes (sym e) ∙ g.left)
 
-pub new_is : (b : Block) (height : ℕ) (o : Origins) (outputs left : List (Option Kept)) (w : Walked) → w.left ≡ history_at o outputs
+pub new_is : (b : Block) (height : ℕ) (o : Origins) (outputs left : List (Option KeptOutput)) (w : Walked) → w.left ≡ history_at o outputs
     → IsWalked b height w → left ≡ map Some (new_at height outputs) → history_at o left ≡ map Some (new_records b height)
 new_is b height o outputs left w e g l =
     ap (history_at o) l ∙ (leaves_of o (new_at height outputs) ∙ ap (map Some) (new_are b height o outputs w e g))

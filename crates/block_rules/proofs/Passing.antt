@@ -9,7 +9,7 @@ use Rattle.block_rules.specs.declared.chain.Found.{Found}
 use Rattle.block_rules.specs.declared.chain.Outside.{Outside}
 use Rattle.block_rules.specs.declared.origins.Origins.{Origins}
 use Rattle.block_rules.specs.Blocks.{outpoint_of, Placed, placed_from, taken, spends_from, left_from, external_in}
-use Rattle.block_rules.specs.Kept.{Kept, kept_from}
+use Rattle.block_rules.specs.KeptOutputs.{KeptOutput, kept_from}
 use Rattle.block_rules.specs.Known.{leaf_at, history_at}
 use Rattle.block_rules.specs.Money.{Bill, output_sum, own_found}
 use Rattle.block_rules.specs.Walk.{spend_at, kept_of, first_kept, bill_for, Walked}
@@ -51,14 +51,14 @@ first_is o [] tx e = absurd (none-some tx e)
 first_is o (c ∷ txs) tx e = sym (ap (kept_of o 0) (same_Some c tx e))
 
 -- what was left, and what a transaction adds
-pub adds_kept : (o p : Origins) (old new : List (Option Kept)) (t : ℕ) (tx : Transaction) (left : History) → p ≡ o
+pub adds_kept : (o p : Origins) (old new : List (Option KeptOutput)) (t : ℕ) (tx : Transaction) (left : History) → p ≡ o
     → new ≡ old ++ kept_from t 0 tx.outputs → history_at o old ≡ left → history_at p new ≡ left ++ kept_of o t tx
 adds_kept o p old new t tx left e n l =
     ap₂ (λ x xs. history_at x xs) e n
     ∙ (map_append (option_map (leaf_at o)) old (kept_from t 0 tx.outputs)
     ∙ ap (λ xs. xs ++ kept_of o t tx) l)
 
-pub pass_left : (o q r : Origins) (outs new : List (Option Kept)) (t : ℕ) (tx : Transaction) (h named : History) → q ≡ o → r ≡ q
+pub pass_left : (o q r : Origins) (outs new : List (Option KeptOutput)) (t : ℕ) (tx : Transaction) (h named : History) → q ≡ o → r ≡ q
     → new ≡ outs ++ kept_from t 0 tx.outputs → named ≡ h → history_at q outs ≡ left_from (placed_from t 0 tx.inputs) named →
     history_at r new ≡ left_from (placed_from t 0 tx.inputs) h ++ kept_of o t tx
 pass_left o q r outs new t tx h named a b n e l =

@@ -7,7 +7,7 @@ use Rattle.std.proofs.lemmas.Option.{none-some, same_Some}
 use Rattle.tx_codec.specs.Transaction.{Output}
 use Rattle.tx_codec.specs.Reading.{output_at, first_output}
 use Rattle.leaf_record.specs.Leaf.{longest_script}
-use Rattle.block_rules.specs.Kept.{kept_at, slot_of, IsSlotText}
+use Rattle.block_rules.specs.KeptOutputs.{kept_at, slot_of, IsSlotText}
 
 -- no output stands in front of no byte
 pub nothing_first : first_output [] ≡ None

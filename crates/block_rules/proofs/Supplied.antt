@@ -14,7 +14,8 @@ use Rattle.leaf_record.proofs.HistoryLaws.{newest_is, value_of, supply-append, s
 use Rattle.block_rules.specs.declared.chain.Found.{Found}
 use Rattle.block_rules.specs.declared.refusal.Refusal.TheVariants as Why
 use Rattle.block_rules.specs.Steps.{first_of, first_from}
-use Rattle.block_rules.specs.Blocks.{Origin, leaf_of, is_spendable, origin_of, made_from, made_by, made_first, Placed, placed_from, Spend, once_taken}
+use Rattle.block_rules.specs.Blocks.{OutputOrigin, leaf_of, is_spendable, origin_of, made_from, made_by, made_first, Placed, placed_from, Spend}
+use Rattle.block_rules.specs.Blocks.{once_taken}
 use Rattle.block_rules.specs.Blocks.{taken, spends_from, left_from, groups_from, groups, left_of_all, new_records, others}
 use Rattle.block_rules.specs.Money.{most_money, subsidy_at, output_sum, found_of, Bill, own_found, bills_of, claimed_by, spends_of, Paid, paid_from}
 use Rattle.block_rules.specs.Money.{found_after, paid_by, pays, overspend, fees, money_steps}
@@ -47,7 +48,7 @@ inside_spent (i ∷ is) fresh =
 abbrev output_amount : Output → ℕ
 output_amount o = o.amount
 
-made_most : (origin : Origin) (i : ℕ) (os : List Output) → sum_by amount_of (made_from origin i os) ≤ sum_by output_amount os
+made_most : (origin : OutputOrigin) (i : ℕ) (os : List Output) → sum_by amount_of (made_from origin i os) ≤ sum_by output_amount os
 made_most origin i [] = omega arith
 made_most origin i (o ∷ os) =
     let rest = made_most origin (suc i) os in

@@ -13,7 +13,7 @@ use Rattle.block_codec.specs.Block.{Block, block_hash_of}
 use Rattle.leaf_record.specs.History.{somes, History}
 use Rattle.leaf_record.proofs.HistoryLaws.{somes-live}
 use Rattle.block_rules.specs.declared.origins.Origins.{Origins}
-use Rattle.block_rules.specs.Blocks.{Origin, origin_of, placed_from, made_by, made_first, made_from, Spend, spends_from, left_from, groups_from}
+use Rattle.block_rules.specs.Blocks.{OutputOrigin, origin_of, placed_from, made_by, made_first, made_from, Spend, spends_from, left_from, groups_from}
 use Rattle.block_rules.specs.Blocks.{left_of_all, external_in, external, groups, others}
 use Rattle.block_rules.specs.Known.{ArisesFrom, txid_at, origin_at}
 use Rattle.block_rules.specs.Money.{bills_of}
@@ -41,10 +41,11 @@ origin_is : (b : Block) (height t : ℕ) (tx : Transaction) (o : Origins) (coinb
 origin_is b height t tx o coinbase a e c =
     let id : txid_at o.txids.items t ≡ txid_of tx =
     ap (λ ids. txid_at ids t) a.txids ∙ get_or_from_slice_get (map txid_of b.txs) t (txid_of tx) _ (map-get txid_of b.txs t tx e) in
-    ap (λ (x : Digest). let r : Origin = record { block = x; height = o.height; coinbase = t == 0; txid = txid_at o.txids.items t } in r) a.block
-    ∙ (ap (λ (x : ℕ). let r : Origin = record { block = block_hash_of b; height = x; coinbase = t == 0; txid = txid_at o.txids.items t } in
+    ap (λ (x : Digest). let r : OutputOrigin = record { block = x; height = o.height; coinbase = t == 0; txid = txid_at o.txids.items t } in r)
+    a.block
+    ∙ (ap (λ (x : ℕ). let r : OutputOrigin = record { block = block_hash_of b; height = x; coinbase = t == 0; txid = txid_at o.txids.items t } in
     r) a.height
-    ∙ ap₂ (λ (x : Bool) (y : Digest). let r : Origin = record { block = block_hash_of b; height = height; coinbase = x; txid = y } in r) c id)
+    ∙ ap₂ (λ (x : Bool) (y : Digest). let r : OutputOrigin = record { block = block_hash_of b; height = height; coinbase = x; txid = y } in r) c id)
 
 made_of : (b : Block) (height t : ℕ) (tx : Transaction) (o : Origins) (coinbase : Bool) → ArisesFrom b height o → slice_get b.txs t ≡ Some tx
     → (t == 0) ≡ coinbase → somes (kept_of o t tx) ≡ made_by (block_hash_of b) height coinbase tx

@@ -42,23 +42,23 @@ abbrev pub is_spendable : Output → Bool
 is_spendable output = not (begins_with_return output.script) && nat_le (length output.script) longest_script
 
 -- what made an output: the block, its height, whether the transaction is the coinbase, and its id
-pub record Origin : Type 0 where
+pub record OutputOrigin : Type 0 where
   pub block : Digest
   pub height : ℕ
   pub coinbase : Bool
   pub txid : Digest
 
-abbrev pub origin_of : Digest → ℕ → Bool → Transaction → Origin
+abbrev pub origin_of : Digest → ℕ → Bool → Transaction → OutputOrigin
 origin_of hash height coinbase tx = record { block = hash; height = height; coinbase = coinbase; txid = txid_of tx }
 
-abbrev pub leaf_of : Origin → ℕ → Output → Leaf
+abbrev pub leaf_of : OutputOrigin → ℕ → Output → Leaf
 leaf_of origin i output = record {
   point = record { txid = origin.txid; index = i };
   rest = record { block = origin.block; height = origin.height; coinbase = origin.coinbase; amount = output.amount; script = output.script };
 }
 
 -- the records of the spendable ones of these outputs, of which the first has the index i
-abbrev pub made_from : Origin → ℕ → List Output → List Leaf
+abbrev pub made_from : OutputOrigin → ℕ → List Output → List Leaf
 made_from origin i [] = []
 made_from origin i (output ∷ outputs) = if is_spendable output then leaf_of origin i output ∷ made_from origin (suc i) outputs else made_from origin
     (suc i) outputs

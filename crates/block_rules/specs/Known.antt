@@ -11,9 +11,9 @@ use Rattle.block_rules.specs.declared.chain.Found.{Found}
 use Rattle.block_rules.specs.declared.outpoint.TxidKey.{TxidKey}
 use Rattle.block_rules.specs.declared.origins.Origins.{Origins}
 use Rattle.block_rules.specs.declared.made.Named.{Named}
-use Rattle.block_rules.specs.declared.made.Made.{Made}
-use Rattle.block_rules.specs.Blocks.{Origin, leaf_of}
-use Rattle.block_rules.specs.Kept.{Kept}
+use Rattle.block_rules.specs.declared.made_outputs.MadeOutputs.{MadeOutputs}
+use Rattle.block_rules.specs.Blocks.{OutputOrigin, leaf_of}
+use Rattle.block_rules.specs.KeptOutputs.{KeptOutput}
 use Rattle.block_rules.specs.Keys.{key_of_id, id_cmp}
 use Rattle.block_rules.specs.Money.{found_of}
 
@@ -29,16 +29,16 @@ abbrev pub txid_at : List Digest → ℕ → Digest
 txid_at ids t = slice_index_or ids t (record { 0 = replicate 32 0 })
 
 -- what made the outputs of transaction t
-abbrev pub origin_at : Origins → ℕ → Origin
+abbrev pub origin_at : Origins → ℕ → OutputOrigin
 origin_at o t = record { block = o.block; height = o.height; coinbase = t == 0; txid = txid_at o.txids.items t }
 
-abbrev pub leaf_at : Origins → Kept → Leaf
+abbrev pub leaf_at : Origins → KeptOutput → Leaf
 leaf_at o kept = leaf_of (origin_at o kept.tx) kept.index (record { amount = kept.amount; script = kept.script })
 
-abbrev pub history_at : Origins → List (Option Kept) → History
+abbrev pub history_at : Origins → List (Option KeptOutput) → History
 history_at o outputs = map (option_map (leaf_at o)) outputs
 
-abbrev pub history : Made → History
+abbrev pub history : MadeOutputs → History
 history made = history_at made.origins made.outputs.items
 
 -- ---- what is asked for
@@ -100,11 +100,11 @@ AreOf ids t known h = (n : ℕ) (leaf : Leaf) → known ≤ n → slice_get h n 
     × (known + leaf.point.index ≡ n)
 
 -- all but those of the last transaction are named
-pub record Knows (made : Made) : Type 0 where
+pub record Knows (made : MadeOutputs) : Type 0 where
   pub front : IsNamed made.origins.txids.items made.named.items made.newest made.known (history made)
   pub last : AreOf made.origins.txids.items (length made.named.items) made.known (history made)
 
 -- all are
-pub record KnowsAll (made : Made) : Type 0 where
+pub record KnowsAll (made : MadeOutputs) : Type 0 where
   pub front : IsNamed made.origins.txids.items made.named.items made.newest made.known (history made)
   pub all : made.known ≡ length made.outputs.items

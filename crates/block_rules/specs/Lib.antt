@@ -8,7 +8,7 @@ pub mod Judged
 pub mod Laws
 -- what only this crate's own proofs and private functions cite
 pub mod Keys
-pub mod Kept
+pub mod KeptOutputs
 pub mod Known
 pub mod Walk
 pub mod Seen

@@ -8,7 +8,7 @@ use Rattle.block_rules.specs.declared.origins.Origins.{Origins}
 use Rattle.block_rules.specs.declared.walk.Walk.{Walk}
 use Rattle.block_rules.specs.Blocks.{outpoint_of, placed_from, Spend, spends_from, left_from, left_of_all, external_in, external, groups, made_first}
 use Rattle.block_rules.specs.Blocks.{others}
-use Rattle.block_rules.specs.Kept.{Kept, kept_from}
+use Rattle.block_rules.specs.KeptOutputs.{KeptOutput, kept_from}
 use Rattle.block_rules.specs.Known.{history_at, history}
 use Rattle.block_rules.specs.Money.{Bill, output_sum, own_found, bills_of}
 
@@ -57,6 +57,6 @@ abbrev pub seen : Walk → Walked
 seen w = record { left = history w.made; outsides = w.external.items; bills = w.bills.items }
 
 -- what is new at a height: nothing at height 0, else what is left
-abbrev pub new_at : ℕ → List (Option Kept) → List Kept
+abbrev pub new_at : ℕ → List (Option KeptOutput) → List KeptOutput
 new_at zero outputs = []
 new_at (suc h) outputs = somes outputs

@@ -16,7 +16,7 @@ mod double;
 mod fault;
 mod issue;
 mod laws;
-mod made;
+mod made_outputs;
 mod money;
 mod origins;
 mod outpoint;

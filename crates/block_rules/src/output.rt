@@ -19,9 +19,9 @@ pub(crate) struct MadeOutput<'a> {
 impl<'a> Model for MadeOutput<'a> {
     ghost use Rattle.std.specs.Prelude.{◌≤◌, length};
     ghost use Rattle.leaf_record.specs.Leaf.{longest_script};
-    ghost use Rattle.block_rules.specs.Kept.{Kept};
+    ghost use Rattle.block_rules.specs.KeptOutputs.{KeptOutput};
 
-    ghost Value = { Kept };
+    ghost Value = { KeptOutput };
 
     ghost view = { λ o. record { tx = o.tx; index = o.index; amount = o.amount; script = o.script.now } };
 
@@ -40,9 +40,9 @@ pub(crate) struct OutputSlot<'a> {
 
 impl<'a> Model for OutputSlot<'a> {
     ghost use Rattle.std.specs.Prelude.{Option};
-    ghost use Rattle.block_rules.specs.Kept.{Kept, IsSlotText, slot_of};
+    ghost use Rattle.block_rules.specs.KeptOutputs.{KeptOutput, IsSlotText, slot_of};
 
-    ghost Value = { Option Kept };
+    ghost Value = { Option KeptOutput };
 
     ghost view = { λ s. slot_of s.tx s.index s.text.now };
 

@@ -7,7 +7,7 @@ ghost use Rattle.block_rules.specs.Money.{own_found};
 ghost use Rattle.block_rules.specs.Walk.{spend_at, kept_of, walked_on, begins, IsWalked, seen};
 
 use crate::chain::{Found, Outside};
-use crate::made::Made;
+use crate::made_outputs::MadeOutputs;
 use crate::origins::Origins;
 use crate::spends::TxMoney;
 use crate::sums::output_sum;
@@ -20,7 +20,7 @@ use uo_base::NoMemory;
 #[derive(Drop)]
 pub(crate) struct Walk<'a> {
     /// What is left of what its transactions made.
-    pub made: Made<'a>,
+    pub made: MadeOutputs<'a>,
     /// The inputs that spend outputs of other blocks.
     pub external: Vec<Outside>,
     /// What each transaction behind the coinbase spends of the block's own, and makes.
@@ -128,7 +128,7 @@ fn begin<'a>(alloc: Global, block: &BlockView<'a>, height: u32) -> Result<Walk<'
     ensures known { IfOk result (λ walk. Knows walk.made) }
 {
     let origins = Origins::new(alloc, block, height)?;
-    let mut made = Made::new(alloc, origins, outputs_of(block))?;
+    let mut made = MadeOutputs::new(alloc, origins, outputs_of(block))?;
     made.add(0, block.tx(0))?;
     Ok(Walk {
         made,

@@ -13,7 +13,7 @@ use forest_roots::Roots;
 use leaf_cache::{Cache, CacheLists, Watch};
 use leaf_record::Record;
 use proof_shape::Targets;
-use proof_verify::{Scratch, check_and_delete};
+use proof_verify::{ProofScratch, check_and_delete};
 use std::alloc::Global;
 use std::marker::Brand;
 use std::process::Abort;
@@ -113,7 +113,7 @@ fn spend<L: Ledger>(
     let Ok(mut mark) = begin(alloc, cache, &targets, 0, 0) else {
         panic!(rt; "no memory")
     };
-    let mut scratch = Scratch::new(alloc);
+    let mut scratch = ProofScratch::new(alloc);
     let Ok(()) = scratch.reserve(&targets) else {
         panic!(rt; "no memory")
     };

@@ -31,17 +31,17 @@ use Rattle.leaf_record.specs.History.{History}
 use Rattle.leaf_record.proofs.LeafLaws.{one_leaf, leaf_long}
 use Rattle.forest_place.specs.Places.{place_in}
 use Rattle.proof_shape.proofs.Ordered.{has_at}
-use Rattle.proof_verify.specs.Evaluation.{IsMade, IsEvaluatedAt, AreEvaluatedAt}
+use Rattle.proof_verify.specs.Evaluation.{IsPreimage, IsEvaluatedAt, AreEvaluatedAt}
 use Rattle.proof_verify.specs.declared.evaluation.CoveredPlace.{CoveredPlace}
-use Rattle.proof_verify.specs.declared.evaluation.Made.{Made}
-use Rattle.proof_verify.specs.declared.evaluation.Made.TheVariants.{Target, Halves}
+use Rattle.proof_verify.specs.declared.evaluation.Preimage.{Preimage}
+use Rattle.proof_verify.specs.declared.evaluation.Preimage.TheVariants.{Target, Halves}
 use Rattle.block_rules.specs.Steps.{first_of}
 use Rattle.output_index.specs.Held.{Held, leaf_at}
 use Rattle.node_rules.specs.Right.{is_digest}
 use Rattle.node_rules.proofs.Same.{bytes_eq-same, bytes_eq-true, is_same-same, is_same-true}
 use Rattle.node_rules.proofs.Serving.{AreSame, same_value, same_cover, hash_of_all}
 use Rattle.clash_find.specs.Clashes.{TextClash}
-use Rattle.clash_find.specs.Texts.{tree_text, text_at, claim_text, made_text, AreDigests, IsWithin}
+use Rattle.clash_find.specs.Texts.{tree_text, text_at, claim_text, preimage_text, AreDigests, IsWithin}
 use Rattle.clash_find.specs.Found.{text_of_cover, differing, pair_over, pair_at, first_pair}
 use Rattle.clash_find.specs.Searched.{digests_of, DoRootsAgree, IsClashAt, IsCompared, AreCompared}
 use Rattle.clash_find.proofs.Agreement.{value_of, node_text, cover_text, HasDigests, AgreeAt, found, right_agrees}
@@ -98,7 +98,7 @@ differing-same x y d e = ap (λ (b : Bool). if b then None else Some (let c : Te
     (subst (λ z. bytes_eq x z ≡ true) e (bytes_eq-same x))
 
 place_of_item : (items : List CoveredPlace) (i : ℕ) → place_in (map (λ (item : CoveredPlace). item.place) items) i
-    ≡ (get_or items i (record { place = record { row = 0; off = 0 }; made = Target 0; digest = record { 0 = [] } })).place
+    ≡ (get_or items i (record { place = record { row = 0; off = 0 }; preimage = Target 0; digest = record { 0 = [] } })).place
 place_of_item [] i = refl
 place_of_item (x ∷ items) zero = refl
 place_of_item (x ∷ items) (suc i) = place_of_item items i
@@ -211,7 +211,7 @@ module _ (H : List ℕ → Digest) (long : (x : List ℕ) → IsDigest (H x)) (u
         ∙ sym (same_value H n ts hashes full_hashes same_hash (λ r o. H (leaf_texts r o)) c same)
 
     abbrev blank : CoveredPlace
-    blank = record { place = record { row = 0; off = 0 }; made = Target 0; digest = record { 0 = [] } }
+    blank = record { place = record { row = 0; off = 0 }; preimage = Target 0; digest = record { 0 = [] } }
 
     -- what is said of one item
     record IsItem (item : CoveredPlace) : Type 0 where
@@ -219,8 +219,8 @@ module _ (H : List ℕ → Digest) (long : (x : List ℕ) → IsDigest (H x)) (u
       beneath : Cover
       covered : cover ts item.place.row item.place.off ≡ Some beneath
       digest : item.digest ≡ V beneath
-      text : made_text rs item.made ≡ cover_text_of beneath
-      whole : AreDigests item.made → HasDigests H es text_of ts leaf_texts hashes beneath
+      text : preimage_text rs item.preimage ≡ cover_text_of beneath
+      whole : AreDigests item.preimage → HasDigests H es text_of ts leaf_texts hashes beneath
       own : H (cover_text_of beneath) ≡ V beneath
       listed : Contains (value_texts H leaf_texts hashes beneath) (cover_text_of beneath)
       form : (beneath ≡ target item.place.row item.place.off) ⊎ ((a : Cover) × (b : Cover) × (beneath ≡ both a b))
@@ -232,36 +232,36 @@ module _ (H : List ℕ → Digest) (long : (x : List ℕ) → IsDigest (H x)) (u
         ∙ (sym (beside_slice [] ts (map leaf_text rs) i ready.shape.distinct long_list lt) ∙ ap (λ (q : Place). leaf_texts q.row q.off) e)
 
     item_from : (item : CoveredPlace) → IsEvaluatedAt H n ts (digests_of H rs) ready.full item → IsItem item
-    item_from item e = by_made e.beneath e.covered e.digest item.made refl e.made
+    item_from item e = by_made e.beneath e.covered e.digest item.preimage refl e.preimage
       where
         same : (c : Cover) → cover ts item.place.row item.place.off ≡ Some c → AreSame H n ts hashes full_hashes same_hash c
         same c q = same_cover H n ts hashes full_hashes same_hash item.place.row item.place.off c e.within q
 
         by_made : (c : Cover) → cover ts item.place.row item.place.off ≡ Some c
-            → item.digest ≡ evaluation H n ts nothing_known (digests_of H rs) ready.full c → (made : Made) → item.made ≡ made →
-            IsMade H n ts (digests_of H rs) ready.full item.place c item.made → IsItem item
+            → item.digest ≡ evaluation H n ts nothing_known (digests_of H rs) ready.full c → (made : Preimage) → item.preimage ≡ made →
+            IsPreimage H n ts (digests_of H rs) ready.full item.place c item.preimage → IsItem item
         by_made (target a b) q d (Target i) is made =
             let w = target_is ts item.place.row item.place.off a b q in
             let at : target item.place.row item.place.off ≡ target a b = ap₂ target (sym w.0) (sym w.1) in
-            let here = subst (λ (x : Made). IsMade H n ts (digests_of H rs) ready.full item.place (target a b) x) is made in
+            let here = subst (λ (x : Preimage). IsPreimage H n ts (digests_of H rs) ready.full item.place (target a b) x) is made in
             record {
               within = e.within;
               beneath = target a b;
               covered = q;
               digest = d ∙ evaluates (target a b) (same (target a b) q);
-              text = ap (made_text rs) is ∙ (target_text item.place i here.0 here.1 ∙ ap cover_text_of at);
+              text = ap (preimage_text rs) is ∙ (target_text item.place i here.0 here.1 ∙ ap cover_text_of at);
               whole = λ h. tt;
               own = refl;
               listed = Contains-first _ [];
               form = inl (sym at);
             }
         by_made (target a b) q d (Halves x y) is made =
-            absurd (subst (λ (x : Made). IsMade H n ts (digests_of H rs) ready.full item.place (target a b) x) is made)
+            absurd (subst (λ (x : Preimage). IsPreimage H n ts (digests_of H rs) ready.full item.place (target a b) x) is made)
         by_made (given a b) q d z is made = absurd made
         by_made (both l r) q d (Target i) is made =
-            absurd (subst (λ (x : Made). IsMade H n ts (digests_of H rs) ready.full item.place (both l r) x) is made)
+            absurd (subst (λ (x : Preimage). IsPreimage H n ts (digests_of H rs) ready.full item.place (both l r) x) is made)
         by_made (both l r) q d (Halves x y) is made =
-            let here = subst (λ (x : Made). IsMade H n ts (digests_of H rs) ready.full item.place (both l r) x) is made in
+            let here = subst (λ (x : Preimage). IsPreimage H n ts (digests_of H rs) ready.full item.place (both l r) x) is made in
             let s = same (both l r) q in
             let left : x ≡ V l = here.0 ∙ evaluates l s.0 in
             let right : y ≡ V r = here.1 ∙ evaluates r s.1 in
@@ -270,7 +270,7 @@ module _ (H : List ℕ → Digest) (long : (x : List ℕ) → IsDigest (H x)) (u
               beneath = both l r;
               covered = q;
               digest = d ∙ evaluates (both l r) s;
-              text = ap (made_text rs) is ∙ ap₂ (λ (x y : Digest). x.0 ++ y.0) left right;
+              text = ap (preimage_text rs) is ∙ ap₂ (λ (x y : Digest). x.0 ++ y.0) left right;
               whole = λ h. let w = subst AreDigests is h in (subst IsDigest left w.0, subst IsDigest right w.1);
               own = refl;
               listed = Contains-first _ _;
@@ -533,13 +533,13 @@ module _ (H : List ℕ → Digest) (long : (x : List ℕ) → IsDigest (H x)) (u
 -- the targets of the items are among the leaves
 pub targets_within : (H : List ℕ → Digest) (n : ℕ) (ts : List Place) (rs : List Leaf) (leaves full : List Digest) (items : List CoveredPlace)
     → length rs ≡ length ts → AreEvaluatedAt H n ts leaves full items →
-    (i : ℕ) (d : CoveredPlace) → i < length items → IsWithin (length rs) (get_or items i d).made
+    (i : ℕ) (d : CoveredPlace) → i < length items → IsWithin (length rs) (get_or items i d).preimage
 targets_within H n ts rs leaves full items few evaluated i d lt = by_made (get_or items i d) (evaluated.each i d lt)
   where
-    by_made : (item : CoveredPlace) → IsEvaluatedAt H n ts leaves full item → IsWithin (length rs) item.made
-    by_made item e = at e.beneath item.made e.made
+    by_made : (item : CoveredPlace) → IsEvaluatedAt H n ts leaves full item → IsWithin (length rs) item.preimage
+    by_made item e = at e.beneath item.preimage e.preimage
       where
-        at : (c : Cover) (made : Made) → IsMade H n ts leaves full item.place c made → IsWithin (length rs) made
+        at : (c : Cover) (made : Preimage) → IsPreimage H n ts leaves full item.place c made → IsWithin (length rs) made
         at (target a b) (Target j) h = let l = h.0 in omega (arith, l, few)
         at (target a b) (Halves x y) h = tt
         at (given a b) (Target j) h = absurd h

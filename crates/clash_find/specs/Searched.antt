@@ -10,7 +10,7 @@ use Rattle.proof_verify.specs.Evaluation.{AreEvaluatedAt}
 use Rattle.proof_verify.specs.declared.evaluation.CoveredPlace.{CoveredPlace}
 use Rattle.output_index.specs.Held.{Held}
 use Rattle.clash_find.specs.Clashes.{TextClash}
-use Rattle.clash_find.specs.Texts.{text_at, made_text, AreDigests}
+use Rattle.clash_find.specs.Texts.{text_at, preimage_text, AreDigests}
 
 -- the digests of the leaf texts
 abbrev pub digests_of : (List ℕ → Digest) → List Leaf → List Digest
@@ -30,7 +30,7 @@ pub record IsClashAt (H : List ℕ → Digest) (es : List (Option Digest)) (outp
     (c : TextClash) : Type 0 where
   pub same : digest_at H es item.place.row item.place.off ≡ Some item.digest
   pub first : text_at H es outputs item.place.row item.place.off ≡ Some c.first
-  pub second : c.second ≡ made_text rs item.made
+  pub second : c.second ≡ preimage_text rs item.preimage
   pub differ : c.first ≢ c.second
   pub digest : c.digest ≡ item.digest
 
@@ -39,7 +39,7 @@ abbrev pub IsCompared : (List ℕ → Digest) → List (Option Digest) → List 
 IsCompared H es outputs rs item (Some c) = IsClashAt H es outputs rs item c
 IsCompared H es outputs rs item None =
     digest_at H es item.place.row item.place.off ≡ Some item.digest → (x : List ℕ) → text_at H es outputs item.place.row item.place.off ≡ Some x
-    → (x ≡ made_text rs item.made) × AreDigests item.made
+    → (x ≡ preimage_text rs item.preimage) × AreDigests item.preimage
 
 -- at the first of the places, or at none of them
 abbrev pub AreCompared : (List ℕ → Digest) → List (Option Digest) → List Held → List Leaf → List CoveredPlace → Option TextClash → Type 0

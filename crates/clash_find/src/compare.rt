@@ -31,7 +31,7 @@ fn clash_at<D: Digester>(
     item: CoveredPlace,
 ) -> Result<Option<Clash>, NoMemory>
     requires within { InForest (length forest.now.entries) item.place.row item.place.off }
-    requires target { IsWithin (length leaves.now) item.made }
+    requires target { IsWithin (length leaves.now) item.preimage }
     ensures { IfOk result (λ clash. IsCompared D.digest_of forest.now.entries outputs.now leaves.now item clash) }
 {
     if !stands(forest.digest_at(item.place), item.digest) {
@@ -40,7 +40,7 @@ fn clash_at<D: Digester>(
     let Some(first) = node_text(alloc, forest, outputs, item.place)? else {
         return Ok(None);
     };
-    let second = proof_text(alloc, leaves, item.made)?;
+    let second = proof_text(alloc, leaves, item.preimage)?;
     if are_same(&first, &second) {
         return Ok(None);
     }
@@ -61,7 +61,7 @@ pub(crate) fn first_clash<D: Digester>(
 ) -> Result<Option<Clash>, NoMemory>
     requires within { (i : ℕ) (d : Covered) → i < length items.now
         → InForest (length forest.now.entries) (get_or items.now i d).place.row (get_or items.now i d).place.off }
-    requires targets { (i : ℕ) (d : Covered) → i < length items.now → IsWithin (length leaves.now) (get_or items.now i d).made }
+    requires targets { (i : ℕ) (d : Covered) → i < length items.now → IsWithin (length leaves.now) (get_or items.now i d).preimage }
     ensures { IfOk result (λ clash. AreCompared D.digest_of forest.now.entries outputs.now leaves.now items.now clash) }
 {
     for item in items {

@@ -10,16 +10,16 @@ use Rattle.std.proofs.lemmas.List.{get_or-take, get_or-drop, get_or_append_left,
 use Rattle.std.proofs.lemmas.List.Sums.{prefix_len-le-length, prefix_len_passes, prefix_len_stops, sum_by-append}
 use Rattle.std.proofs.lemmas.List.Folds.{length-prefix_len}
 use Rattle.uo_digest.specs.declared.digest.Digest.{Digest}
-use Rattle.proof_verify.specs.Origins.{origin_at}
-use Rattle.proof_verify.specs.Nodes.{join_nodes, node_at, half_node, node_from, IsHalfWithin, IsWithin, CanEvaluate, is_inner, AreEvaluated}
+use Rattle.proof_verify.specs.PlaceSources.{source_at}
+use Rattle.proof_verify.specs.PlaceNodes.{join_nodes, node_at, half_node, node_from, IsHalfWithin, IsWithin, CanEvaluate, is_inner, AreEvaluated}
 use Rattle.proof_verify.specs.Batches.{is_half_below, is_below, batch_at, AreWithin}
-use Rattle.proof_verify.specs.declared.node.Node.{Node}
-use Rattle.proof_verify.specs.declared.origin.Half.{Half}
-use Rattle.proof_verify.specs.declared.origin.Half.TheVariants.{Covered, Needed}
-use Rattle.proof_verify.specs.declared.origin.Origin.{Origin}
-use Rattle.proof_verify.specs.declared.origin.Origin.TheVariants.{Target, Halves}
+use Rattle.proof_verify.specs.declared.place_node.PlaceNode.{PlaceNode}
+use Rattle.proof_verify.specs.declared.place_source.Half.{Half}
+use Rattle.proof_verify.specs.declared.place_source.Half.TheVariants.{Covered, Needed}
+use Rattle.proof_verify.specs.declared.place_source.PlaceSource.{PlaceSource}
+use Rattle.proof_verify.specs.declared.place_source.PlaceSource.TheVariants.{Target, Halves}
 
-pub first_taken : (os : List Origin) (k : ℕ) → k ≡ min 8 (length os) → take k os ≡ take 8 os
+pub first_taken : (os : List PlaceSource) (k : ℕ) → k ≡ min 8 (length os) → take k os ≡ take 8 os
 first_taken os k e = ap (λ n. take n os) e ∙ take_min 8 os
 
 module _ (leaves hashes m : ℕ) where
@@ -27,7 +27,7 @@ module _ (leaves hashes m : ℕ) where
   half_below (Covered k) w = lt-ltb k m w
   half_below (Needed j) w = refl
 
-  below_from : (o : Origin) → IsWithin m leaves hashes o → is_below m o ≡ true
+  below_from : (o : PlaceSource) → IsWithin m leaves hashes o → is_below m o ≡ true
   below_from (Target i) w = refl
   below_from (Halves x y) w = and_from (is_half_below m x) (is_half_below m y) (half_below x w.0) (half_below y w.1)
 
@@ -35,14 +35,14 @@ module _ (leaves hashes m : ℕ) where
   half_within k (Covered j) e w = ltb-true j m e
   half_within k (Needed j) e w = w
 
-  within_from : (k : ℕ) (o : Origin) → is_below m o ≡ true → IsWithin k leaves hashes o → IsWithin m leaves hashes o
+  within_from : (k : ℕ) (o : PlaceSource) → is_below m o ≡ true → IsWithin k leaves hashes o → IsWithin m leaves hashes o
   within_from k (Target i) e w = w
   within_from k (Halves x y) e w =
       let both = and_parts (is_half_below m x) (is_half_below m y) e in
       (half_within k x both.0 w.0, half_within k y both.1 w.1)
 
-module _ (os : List Origin) (m : ℕ) where
-  abbrev next : List Origin
+module _ (os : List PlaceSource) (m : ℕ) where
+  abbrev next : List PlaceSource
   next = take 8 (drop m os)
 
   abbrev count : ℕ
@@ -63,10 +63,10 @@ module _ (os : List Origin) (m : ℕ) where
   pub batch_within : m ≤ length os → m + length (batch_at os m) ≤ length os
   batch_within le = omega (arith, le, long, within, next_long)
 
-  next_place : (i : ℕ) → i < 8 → origin_at next i ≡ origin_at os (m + i)
+  next_place : (i : ℕ) → i < 8 → source_at next i ≡ source_at os (m + i)
   next_place i lt = get_or-take 8 (drop m os) i (Target 0) lt ∙ get_or-drop m os i (Target 0)
 
-  place : (i : ℕ) → i < length (batch_at os m) → origin_at (batch_at os m) i ≡ origin_at os (m + i)
+  place : (i : ℕ) → i < length (batch_at os m) → source_at (batch_at os m) i ≡ source_at os (m + i)
   place i lt =
       let few = batch_few in
       let e = long in
@@ -82,9 +82,9 @@ module _ (os : List Origin) (m : ℕ) where
       (λ none.
       let stops = prefix_len_stops (is_below m) next (Target 0) (omega (arith, none, n, lt)) in
       let first : count ≡ 0 = omega (arith, none) in
-      let same : origin_at next count ≡ origin_at os m =
-      ap (origin_at next) first ∙ (next_place 0 (omega arith) ∙ ap (origin_at os) (omega arith)) in
-      absurd (false≢true (sym stops ∙ (ap (is_below m) same ∙ below_from leaves hashes m (origin_at os m) (can m lt)))))
+      let same : source_at next count ≡ source_at os m =
+      ap (source_at next) first ∙ (next_place 0 (omega arith) ∙ ap (source_at os) (omega arith)) in
+      absurd (false≢true (sym stops ∙ (ap (is_below m) same ∙ below_from leaves hashes m (source_at os m) (can m lt)))))
       (cases_lt 0 count)
 
   pub batch_can : (leaves hashes : ℕ) → CanEvaluate os leaves hashes → AreWithin m leaves hashes (batch_at os m)
@@ -93,10 +93,10 @@ module _ (os : List Origin) (m : ℕ) where
       let few = batch_few in
       let w = within in
       let n = next_long in
-      let below : is_below m (origin_at os (m + i)) ≡ true =
+      let below : is_below m (source_at os (m + i)) ≡ true =
       ap (is_below m) (sym (next_place i (omega (arith, lt, few)))) ∙ prefix_len_passes (is_below m) next i (Target 0) (omega (arith, lt, e)) in
       subst (λ o. IsWithin m leaves hashes o) (sym (place i lt))
-      (within_from leaves hashes m (m + i) (origin_at os (m + i)) below (can (m + i) (omega (arith, lt, e, w, n))))
+      (within_from leaves hashes m (m + i) (source_at os (m + i)) below (can (m + i) (omega (arith, lt, e, w, n))))
 
   -- the inner places of the batch are counted behind those before it
   pub batch_counted : count_by is_inner (take (m + length (batch_at os m)) os) ≡ count_by is_inner (take m os) + count_by is_inner (batch_at os m)
@@ -110,31 +110,31 @@ module _ (os : List Origin) (m : ℕ) where
       ∙ ap (λ l. count_by is_inner (take m os) + count_by is_inner l) (sym same))
 
 -- how a batch is taken
-pub batch_told : (os : List Origin) (m n : ℕ) (rest next batch : List Origin) → rest ≡ drop m os → next ≡ take 8 rest
+pub batch_told : (os : List PlaceSource) (m n : ℕ) (rest next batch : List PlaceSource) → rest ≡ drop m os → next ≡ take 8 rest
     → n ≡ prefix_len (is_below m) next → batch ≡ take n next → batch ≡ batch_at os m
 batch_told os m n rest next batch a b c d =
     d ∙ (ap (λ k. take k next) c ∙ ap (λ l. take_while (is_below m) l) (b ∙ ap (take 8) a))
 
-abbrev nothing : Node
+abbrev nothing : PlaceNode
 nothing = record { digest = record { 0 = [] }; left = None }
 
-module _ (H : List ℕ → Digest) (os : List Origin) (leaves hashes : List Digest) where
-  alike_half : (xs ys : List Node) (m : ℕ) → ((k : ℕ) → k < m → node_at xs k ≡ node_at ys k) → (x : Half) → IsHalfWithin m (length hashes) x
+module _ (H : List ℕ → Digest) (os : List PlaceSource) (leaves hashes : List Digest) where
+  alike_half : (xs ys : List PlaceNode) (m : ℕ) → ((k : ℕ) → k < m → node_at xs k ≡ node_at ys k) → (x : Half) → IsHalfWithin m (length hashes) x
       → half_node xs hashes x ≡ half_node ys hashes x
   alike_half xs ys m same (Covered k) w = same k w
   alike_half xs ys m same (Needed j) w = refl
 
   -- what a place is made of tells its node
-  alike : (xs ys : List Node) (m : ℕ) → ((k : ℕ) → k < m → node_at xs k ≡ node_at ys k) → (o : Origin)
+  alike : (xs ys : List PlaceNode) (m : ℕ) → ((k : ℕ) → k < m → node_at xs k ≡ node_at ys k) → (o : PlaceSource)
       → IsWithin m (length leaves) (length hashes) o → node_from H leaves hashes xs o ≡ node_from H leaves hashes ys o
   alike xs ys m same (Target i) w = refl
   alike xs ys m same (Halves x y) w = ap₂ (join_nodes H) (alike_half xs ys m same x w.0) (alike_half xs ys m same y w.1)
 
-  module _ (m : ℕ) (nodes below part rest : List Node) where
-    abbrev all : List Node
+  module _ (m : ℕ) (nodes below part rest : List PlaceNode) where
+    abbrev all : List PlaceNode
     all = below ++ (part ++ rest)
 
-    abbrev batch : List Origin
+    abbrev batch : List PlaceSource
     batch = batch_at os m
 
     module _ (can : CanEvaluate os (length leaves) (length hashes)) (lt : m < length os) (e : AreEvaluated H os leaves hashes m nodes)
@@ -151,13 +151,13 @@ module _ (H : List ℕ → Digest) (os : List Origin) (leaves hashes : List Dige
       same : (k : ℕ) → k < m → node_at all k ≡ node_at nodes k
       same k low = kept k low ∙ (ap (λ l. node_at l k) is ∙ get_or-take m nodes k nothing low)
 
-      old : (j : ℕ) → j < m → node_at all j ≡ node_from H leaves hashes all (origin_at os j)
+      old : (j : ℕ) → j < m → node_at all j ≡ node_from H leaves hashes all (source_at os j)
       old j low =
           same j low
           ∙ (e.nodes_are j low
-          ∙ sym (alike all nodes j (λ k a. same k (omega (arith, a, low))) (origin_at os j) (can j (omega (arith, low, lt)))))
+          ∙ sym (alike all nodes j (λ k a. same k (omega (arith, a, low))) (source_at os j) (can j (omega (arith, low, lt)))))
 
-      new : (j : ℕ) → j < m + length batch → m ≤ j → node_at all j ≡ node_from H leaves hashes all (origin_at os j)
+      new : (j : ℕ) → j < m + length batch → m ≤ j → node_at all j ≡ node_from H leaves hashes all (source_at os j)
       new j high ge =
           let inside : j - m < length batch = omega (arith, high, ge) in
           let long = part_long in
@@ -165,14 +165,14 @@ module _ (H : List ℕ → Digest) (os : List Origin) (leaves hashes : List Dige
           ∙ (get_or_append_left part rest nothing (j - m) (omega (arith, inside, long))
           ∙ (ap (λ l. node_at l (j - m)) made
           ∙ (get_or-map (node_from H leaves hashes below) batch (j - m) (Target 0) nothing inside
-          ∙ (alike below all m (λ k a. sym (kept k a)) (origin_at batch (j - m)) (batch_can os m (length leaves) (length hashes) can (j - m) inside)
-          ∙ ap (node_from H leaves hashes all) (place os m (j - m) inside ∙ ap (origin_at os) (omega (arith, ge)))))))
+          ∙ (alike below all m (λ k a. sym (kept k a)) (source_at batch (j - m)) (batch_can os m (length leaves) (length hashes) can (j - m) inside)
+          ∙ ap (node_from H leaves hashes all) (place os m (j - m) inside ∙ ap (source_at os) (omega (arith, ge)))))))
 
       evaluated_at : length all ≡ length os → AreEvaluated H os leaves hashes (m + length batch) all
       evaluated_at whole = record { long = whole; nodes_are = λ j l. ⊎_elim (old j) (new j l) (cases_lt j m) }
 
   -- the nodes of a batch stand behind those before it, and what stands behind them stays
-  pub evaluated_on : (m : ℕ) (batch : List Origin) (nodes below part above : List Node) → CanEvaluate os (length leaves) (length hashes)
+  pub evaluated_on : (m : ℕ) (batch : List PlaceSource) (nodes below part above : List PlaceNode) → CanEvaluate os (length leaves) (length hashes)
       → m < length os → AreEvaluated H os leaves hashes m nodes → batch ≡ batch_at os m → below ≡ take m nodes
       → part ≡ map (node_from H leaves hashes below) batch → length above + m ≡ length nodes
       → AreEvaluated H os leaves hashes (m + length batch) (below ++ (part ++ drop (length batch) above))
@@ -187,6 +187,6 @@ module _ (H : List ℕ → Digest) (os : List Origin) (leaves hashes : List Dige
       length-append below (part ++ drop (length batch) above) in
       let inner : length (part ++ drop (length batch) above) ≡ length part + length (drop (length batch) above) =
       length-append part (drop (length batch) above) in
-      subst (λ (l : List Origin). AreEvaluated H os leaves hashes (m + length l) (below ++ (part ++ drop (length batch) above))) (sym told)
+      subst (λ (l : List PlaceSource). AreEvaluated H os leaves hashes (m + length l) (below ++ (part ++ drop (length batch) above))) (sym told)
       (evaluated_at m nodes below part (drop (length batch) above) can lt e is (made ∙ ap (map (node_from H leaves hashes below)) told)
       (omega (arith, long, front, some, count, within, behind, outer, inner, left)))

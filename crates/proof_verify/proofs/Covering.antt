@@ -15,29 +15,29 @@ use Rattle.forest_model.specs.Cover.{Cover, target, cover, need, HasShape}
 use Rattle.forest_place.specs.Places.{place_in}
 use Rattle.proof_shape.specs.Survey.{has, IsCoverOf}
 use Rattle.proof_shape.proofs.Longer.{place_where}
-use Rattle.proof_verify.specs.Origins.{origin_at, AreHalves, IsTargetAt}
-use Rattle.proof_verify.specs.Nodes.{IsWithin, IsHalfWithin, CanEvaluate, AreEvaluated}
-use Rattle.proof_verify.specs.Room.{IsPlan}
-use Rattle.proof_verify.specs.Evaluation.{IsMade, IsEvaluatedAt, AreEvaluatedAt}
-use Rattle.proof_verify.specs.Gathered.{made_from, item_from, AreHalvesWithin, AreHalfwise}
+use Rattle.proof_verify.specs.PlaceSources.{source_at, AreHalves, IsTargetAt}
+use Rattle.proof_verify.specs.PlaceNodes.{IsWithin, IsHalfWithin, CanEvaluate, AreEvaluated}
+use Rattle.proof_verify.specs.Reserved.{IsPlan}
+use Rattle.proof_verify.specs.Evaluation.{IsPreimage, IsEvaluatedAt, AreEvaluatedAt}
+use Rattle.proof_verify.specs.Gathered.{preimage_from, item_from, AreHalvesWithin, AreHalfwise}
 use Rattle.proof_verify.specs.declared.evaluation.CoveredPlace.{CoveredPlace}
-use Rattle.proof_verify.specs.declared.node.Node.{Node}
-use Rattle.proof_verify.specs.declared.origin.Half.{Half}
-use Rattle.proof_verify.specs.declared.origin.Half.TheVariants.{Covered, Needed}
-use Rattle.proof_verify.specs.declared.origin.Origin.{Origin}
-use Rattle.proof_verify.specs.declared.origin.Origin.TheVariants.{Target, Halves}
+use Rattle.proof_verify.specs.declared.place_node.PlaceNode.{PlaceNode}
+use Rattle.proof_verify.specs.declared.place_source.Half.{Half}
+use Rattle.proof_verify.specs.declared.place_source.Half.TheVariants.{Covered, Needed}
+use Rattle.proof_verify.specs.declared.place_source.PlaceSource.{PlaceSource}
+use Rattle.proof_verify.specs.declared.place_source.PlaceSource.TheVariants.{Target, Halves}
 use Rattle.proof_verify.proofs.Planned.{inside, is_covered}
 use Rattle.proof_verify.proofs.Values.{target_cover, nodes_are, halves_are}
 
 -- halves that stand before a place are among all nodes
-pub halfwise : (os : List Origin) (leaves hashes nodes : ℕ) → length os ≡ nodes → CanEvaluate os leaves hashes → AreHalfwise os nodes hashes
-halfwise os leaves hashes nodes long can i lt = wider (origin_at os i) (can i lt)
+pub halfwise : (os : List PlaceSource) (leaves hashes nodes : ℕ) → length os ≡ nodes → CanEvaluate os leaves hashes → AreHalfwise os nodes hashes
+halfwise os leaves hashes nodes long can i lt = wider (source_at os i) (can i lt)
   where
     wider_half : (x : Half) → IsHalfWithin i hashes x → IsHalfWithin nodes hashes x
     wider_half (Covered k) w = omega (arith, w, lt, long)
     wider_half (Needed j) w = w
 
-    wider : (o : Origin) → IsWithin i leaves hashes o → AreHalvesWithin nodes hashes o
+    wider : (o : PlaceSource) → IsWithin i leaves hashes o → AreHalvesWithin nodes hashes o
     wider (Target k) w = tt
     wider (Halves x y) w = (wider_half x w.0, wider_half y w.1)
 
@@ -51,40 +51,40 @@ by_index cs (suc k) le =
     (map-range_with_len_more (place_in cs) 0 k k (omega arith) ∙ (ap (λ ps. ps ++ place_in cs k ∷ []) (by_index cs k (omega (arith, le)))
     ∙ sym (take_more cs k (record { row = 0; off = 0 }) lt)))
 
-module _ (H : List ℕ → Digest) (n : ℕ) (ts cs : List Place) (os : List Origin) (plan : IsPlan n ts cs os) (shape : HasShape n ts)
+module _ (H : List ℕ → Digest) (n : ℕ) (ts cs : List Place) (os : List PlaceSource) (plan : IsPlan n ts cs os) (shape : HasShape n ts)
     (leaves hashes : List Digest) (leaves_long : length leaves ≡ length ts) (hashes_long : length hashes ≡ length (need n ts))
-    (nodes : List Node) (evaluated : AreEvaluated H os leaves hashes (length os) nodes) where
+    (nodes : List PlaceNode) (evaluated : AreEvaluated H os leaves hashes (length os) nodes) where
   some_cover : (x : Option Cover) → is_some x ≡ true → (c : Cover) × (x ≡ Some c)
   some_cover None e = absurd (false≢true e)
   some_cover (Some c) e = (c, refl)
 
   made_is : (m : ℕ) (c : Cover) → m < length cs → cover ts (place_in cs m).row (place_in cs m).off ≡ Some c
-      → IsMade H n ts leaves hashes (place_in cs m) c (made_from hashes nodes (origin_at os m))
+      → IsPreimage H n ts leaves hashes (place_in cs m) c (preimage_from hashes nodes (source_at os m))
   made_is m c lt e = by_target (cases_Bool (has ts (place_in cs m)))
     where
       p : Place
       p = place_in cs m
 
-      as_target : (o : Origin) → IsTargetAt ts (place_in cs m) o → has ts (place_in cs m) ≡ true
-          → IsMade H n ts leaves hashes (place_in cs m) c (made_from hashes nodes o)
+      as_target : (o : PlaceSource) → IsTargetAt ts (place_in cs m) o → has ts (place_in cs m) ≡ true
+          → IsPreimage H n ts leaves hashes (place_in cs m) c (preimage_from hashes nodes o)
       as_target (Target i) w it =
           let is : target (place_in cs m).row (place_in cs m).off ≡ c =
           same_Some _ c (sym (target_cover ts (place_in cs m).row (place_in cs m).off it) ∙ e) in
-          subst (λ (x : Cover). IsMade H n ts leaves hashes (place_in cs m) x (made_from hashes nodes (Target i))) is w
+          subst (λ (x : Cover). IsPreimage H n ts leaves hashes (place_in cs m) x (preimage_from hashes nodes (Target i))) is w
       as_target (Halves x y) w it = absurd w
 
-      as_inner : (o : Origin) → origin_at os m ≡ o → has ts (place_in cs m) ≡ false
-          → IsMade H n ts leaves hashes (place_in cs m) c (made_from hashes nodes o)
+      as_inner : (o : PlaceSource) → source_at os m ≡ o → has ts (place_in cs m) ≡ false
+          → IsPreimage H n ts leaves hashes (place_in cs m) c (preimage_from hashes nodes o)
       as_inner (Target i) is none = absurd (subst (AreHalves n cs (place_in cs m)) is (plan.inner m lt none).1)
       as_inner (Halves x y) is none =
           let w = halves_are n ts cs os plan shape leaves hashes leaves_long hashes_long H nodes evaluated m x y c lt is none e in
-          subst (λ (k : Cover). IsMade H n ts leaves hashes (place_in cs m) k (made_from hashes nodes (Halves x y))) (sym w.2)
-          (ap (λ (z : Node). z.digest) w.3, ap (λ (z : Node). z.digest) w.4)
+          subst (λ (k : Cover). IsPreimage H n ts leaves hashes (place_in cs m) k (preimage_from hashes nodes (Halves x y))) (sym w.2)
+          (ap (λ (z : PlaceNode). z.digest) w.3, ap (λ (z : PlaceNode). z.digest) w.4)
 
       by_target : (has ts (place_in cs m) ≡ true) ⊎ (has ts (place_in cs m) ≡ false)
-          → IsMade H n ts leaves hashes (place_in cs m) c (made_from hashes nodes (origin_at os m))
-      by_target (inl it) = as_target (origin_at os m) (plan.targets m lt it) it
-      by_target (inr none) = as_inner (origin_at os m) refl none
+          → IsPreimage H n ts leaves hashes (place_in cs m) c (preimage_from hashes nodes (source_at os m))
+      by_target (inl it) = as_target (source_at os m) (plan.targets m lt it) it
+      by_target (inr none) = as_inner (source_at os m) refl none
 
   item_is : (m : ℕ) → m < length cs → IsEvaluatedAt H n ts leaves hashes (item_from cs os nodes hashes m)
   unfolding some_cover
@@ -94,8 +94,9 @@ module _ (H : List ℕ → Digest) (n : ℕ) (ts cs : List Place) (os : List Ori
         within = inside n ts cs plan.cover_is m lt;
         beneath = c.0;
         covered = c.1;
-        digest = ap (λ (z : Node). z.digest) (nodes_are n ts cs os plan shape leaves hashes leaves_long hashes_long H nodes evaluated m lt c.0 c.1);
-        made = made_is m c.0 lt c.1;
+        digest = ap (λ (z : PlaceNode). z.digest) (nodes_are n ts cs os plan shape leaves hashes leaves_long hashes_long H nodes evaluated m lt c.0
+            c.1);
+        preimage = made_is m c.0 lt c.1;
       }
 
   pub items_are : (items : List CoveredPlace) → items ≡ map (item_from cs os nodes hashes) (range_with_len 0 (length cs))

@@ -6,29 +6,29 @@ use Rattle.std.proofs.lemmas.List.{length-append, length-map, append-nil, map-ap
 use Rattle.std.proofs.lemmas.List.Concat.{flat_map-append}
 use Rattle.std.proofs.lemmas.List.Sums.{sum_by-cons}
 use Rattle.uo_digest.specs.declared.digest.Digest.{Digest}
-use Rattle.proof_verify.specs.Origins.{origin_at}
-use Rattle.proof_verify.specs.Nodes.{half_node, IsWithin, is_inner}
+use Rattle.proof_verify.specs.PlaceSources.{source_at}
+use Rattle.proof_verify.specs.PlaceNodes.{half_node, IsWithin, is_inner}
 use Rattle.proof_verify.specs.Gathered.{AreHalvesWithin, AreHalfwise}
 use Rattle.proof_verify.specs.Batches.{AreWithin, pairs_left, pairs_for}
-use Rattle.proof_verify.specs.declared.node.Node.{Node}
-use Rattle.proof_verify.specs.declared.origin.Origin.{Origin}
-use Rattle.proof_verify.specs.declared.origin.Origin.TheVariants.{Target, Halves}
+use Rattle.proof_verify.specs.declared.place_node.PlaceNode.{PlaceNode}
+use Rattle.proof_verify.specs.declared.place_source.PlaceSource.{PlaceSource}
+use Rattle.proof_verify.specs.declared.place_source.PlaceSource.TheVariants.{Target, Halves}
 
-pub one_inner : (o : Origin) → cond (is_inner o) 1 0 ≤ 1
+pub one_inner : (o : PlaceSource) → cond (is_inner o) 1 0 ≤ 1
 one_inner (Target i) = omega arith
 one_inner (Halves x y) = omega arith
 
-module _ (nodes : List Node) (hashes : List Digest) where
+module _ (nodes : List PlaceNode) (hashes : List Digest) where
   one_left : (l r : Option Digest) → length (pairs_left l r) ≤ 1
   one_left None r = omega arith
   one_left (Some l) None = omega arith
   one_left (Some l) (Some r) = omega arith
 
-  pub two_for : (o : Origin) → length (pairs_for nodes hashes o) ≤ 2 * cond (is_inner o) 1 0
+  pub two_for : (o : PlaceSource) → length (pairs_for nodes hashes o) ≤ 2 * cond (is_inner o) 1 0
   two_for (Target i) = omega arith
   two_for (Halves x y) = let a = one_left (half_node nodes hashes x).left (half_node nodes hashes y).left in omega (arith, a)
 
-  pub queued_few : (os : List Origin) → length (flat_map (pairs_for nodes hashes) os) ≤ 2 * count_by is_inner os
+  pub queued_few : (os : List PlaceSource) → length (flat_map (pairs_for nodes hashes) os) ≤ 2 * count_by is_inner os
   queued_few [] = omega arith
   queued_few (o ∷ os) =
       let f = pairs_for nodes hashes in
@@ -73,9 +73,9 @@ written_more h xs ys i d y lt e before is =
     take_more_set ys i y (omega (arith, lt, e)) ∙ ((λ k. before k ++ is k ∷ []) ∙ sym (map_more h xs i d lt))
 
 -- places that are within some nodes have their halves there
-pub halves_within : (nodes leaves hashes : ℕ) (os : List Origin) → AreWithin nodes leaves hashes os → AreHalfwise os nodes hashes
-halves_within nodes leaves hashes os can i lt = one (origin_at os i) (can i lt)
+pub halves_within : (nodes leaves hashes : ℕ) (os : List PlaceSource) → AreWithin nodes leaves hashes os → AreHalfwise os nodes hashes
+halves_within nodes leaves hashes os can i lt = one (source_at os i) (can i lt)
   where
-    one : (o : Origin) → IsWithin nodes leaves hashes o → AreHalvesWithin nodes hashes o
+    one : (o : PlaceSource) → IsWithin nodes leaves hashes o → AreHalvesWithin nodes hashes o
     one (Target k) w = tt
     one (Halves x y) w = w

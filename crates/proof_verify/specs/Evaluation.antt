@@ -8,16 +8,16 @@ use Rattle.forest_model.specs.Cover.{Cover, target, given, both, cover}
 use Rattle.forest_model.specs.Evaluation.{evaluation, nothing_known}
 use Rattle.proof_shape.specs.Survey.{IsCoverOf}
 use Rattle.proof_verify.specs.declared.evaluation.CoveredPlace.{CoveredPlace}
-use Rattle.proof_verify.specs.declared.evaluation.Made.{Made}
-use Rattle.proof_verify.specs.declared.evaluation.Made.TheVariants as Of
+use Rattle.proof_verify.specs.declared.evaluation.Preimage.{Preimage}
+use Rattle.proof_verify.specs.declared.evaluation.Preimage.TheVariants as Of
 
 -- what is digested for a cover: a target's leaf text, or what two halves come to
-abbrev pub IsMade : (List ℕ → Digest) → ℕ → List Place → List Digest → List Digest → Place → Cover → Made → Type 0
-IsMade H n ts leaves hashes p (target row off) (Of.Target i) = (i < length ts) × (place_in ts i ≡ p)
-IsMade H n ts leaves hashes p (target row off) (Of.Halves x y) = ⊥
-IsMade H n ts leaves hashes p (given row off) made = ⊥
-IsMade H n ts leaves hashes p (both l r) (Of.Target i) = ⊥
-IsMade H n ts leaves hashes p (both l r) (Of.Halves x y) = (x ≡ evaluation H n ts nothing_known leaves hashes l)
+abbrev pub IsPreimage : (List ℕ → Digest) → ℕ → List Place → List Digest → List Digest → Place → Cover → Preimage → Type 0
+IsPreimage H n ts leaves hashes p (target row off) (Of.Target i) = (i < length ts) × (place_in ts i ≡ p)
+IsPreimage H n ts leaves hashes p (target row off) (Of.Halves x y) = ⊥
+IsPreimage H n ts leaves hashes p (given row off) preimage = ⊥
+IsPreimage H n ts leaves hashes p (both l r) (Of.Target i) = ⊥
+IsPreimage H n ts leaves hashes p (both l r) (Of.Halves x y) = (x ≡ evaluation H n ts nothing_known leaves hashes l)
     × (y ≡ evaluation H n ts nothing_known leaves hashes r)
 
 -- a covered place with what the proof comes to there
@@ -26,7 +26,7 @@ pub record IsEvaluatedAt (H : List ℕ → Digest) (n : ℕ) (ts : List Place) (
   pub beneath : Cover
   pub covered : cover ts item.place.row item.place.off ≡ Some beneath
   pub digest : item.digest ≡ evaluation H n ts nothing_known leaves hashes beneath
-  pub made : IsMade H n ts leaves hashes item.place beneath item.made
+  pub preimage : IsPreimage H n ts leaves hashes item.place beneath item.preimage
 
 -- all covered places, in ascending position
 pub record AreEvaluatedAt (H : List ℕ → Digest) (n : ℕ) (ts : List Place) (leaves hashes : List Digest) (items : List CoveredPlace) : Type 0 where

@@ -2,11 +2,11 @@
 pub mod Verified
 pub mod Evaluation
 -- what only this crate's own proofs and private functions cite
-pub mod Origins
-pub mod Going
-pub mod Landings
-pub mod Nodes
+pub mod PlaceSources
+pub mod Destinations
+pub mod NewPlaces
+pub mod PlaceNodes
 pub mod Judged
-pub mod Room
+pub mod Reserved
 pub mod Gathered
 pub mod Batches

@@ -4,12 +4,12 @@ ghost use Rattle.std.specs.List.{range_with_len};
 ghost use Rattle.forest_place.specs.Position.{rows};
 ghost use Rattle.forest_model.specs.Cover.{need};
 ghost use Rattle.proof_verify.specs.Evaluation.{AreEvaluatedAt};
-ghost use Rattle.proof_verify.specs.Gathered.{made_from, item_from, AreHalvesWithin, AreHalfwise};
+ghost use Rattle.proof_verify.specs.Gathered.{preimage_from, item_from, AreHalvesWithin, AreHalfwise};
 ghost use Rattle.proof_verify.specs.Verified.{above_targets};
 
 use crate::evaluate::evaluate;
-use crate::node::{Node, half};
-use crate::origin::Origin;
+use crate::place_node::{PlaceNode, half};
+use crate::place_source::PlaceSource;
 use crate::plan::plan_of;
 use forest_place::Place;
 use proof_shape::Survey;
@@ -20,7 +20,7 @@ use uo_digest::{Digest, Digester, Steps};
 
 /// What is digested at a covered place.
 #[derive(Clone, Copy, Debug, PartialEq, Eq)]
-pub enum Made {
+pub enum Preimage {
     /// The leaf text of the target at this index.
     Target(usize),
     /// The digests of the place's two halves.
@@ -31,21 +31,21 @@ pub enum Made {
 #[derive(Clone, Copy, Debug, PartialEq, Eq)]
 pub struct CoveredPlace {
     pub place: Place,
-    pub made: Made,
+    pub preimage: Preimage,
     pub digest: Digest,
 }
 
 // What is digested at a covered place, by what it is made of.
-fn made_of(origin: Origin, nodes: &[Node], hashes: &[Digest]) -> Made
-    requires { AreHalvesWithin (length nodes.now) (length hashes.now) origin }
-    ensures { result ≡ made_from hashes.now nodes.now origin }
+fn preimage_of(source: PlaceSource, nodes: &[PlaceNode], hashes: &[Digest]) -> Preimage
+    requires { AreHalvesWithin (length nodes.now) (length hashes.now) source }
+    ensures { result ≡ preimage_from hashes.now nodes.now source }
 {
-    match origin {
-        Origin::Target(i) => Made::Target(i),
-        Origin::Halves(left, right) => {
+    match source {
+        PlaceSource::Target(i) => Preimage::Target(i),
+        PlaceSource::Halves(left, right) => {
             let left = half(nodes, hashes, left);
             let right = half(nodes, hashes, right);
-            Made::Halves(*left.0, *right.0)
+            Preimage::Halves(*left.0, *right.0)
         }
     }
 }
@@ -54,21 +54,21 @@ fn made_of(origin: Origin, nodes: &[Node], hashes: &[Digest]) -> Made
 fn gather(
     alloc: Global,
     covered: &[Place],
-    origins: &[Origin],
-    nodes: &[Node],
+    sources: &[PlaceSource],
+    nodes: &[PlaceNode],
     hashes: &[Digest],
 ) -> Result<Vec<CoveredPlace>, AllocError>
-    requires origins { length origins.now ≡ length covered.now }
+    requires sources { length sources.now ≡ length covered.now }
     requires nodes { length nodes.now ≡ length covered.now }
-    requires within { AreHalfwise origins.now (length nodes.now) (length hashes.now) }
+    requires within { AreHalfwise sources.now (length nodes.now) (length hashes.now) }
     ensures { IfOk result (λ items. items.items
-        ≡ map (item_from covered.now origins.now nodes.now hashes.now) (range_with_len 0 (length covered.now))) }
+        ≡ map (item_from covered.now sources.now nodes.now hashes.now) (range_with_len 0 (length covered.now))) }
 {
     let mut items = Vec::with_capacity(alloc, covered.len())?;
     for i in 0..covered.len() {
         items.push(CoveredPlace {
             place: covered[i],
-            made: made_of(origins[i], nodes, hashes),
+            preimage: preimage_of(sources[i], nodes, hashes),
             digest: nodes[i].digest,
         })?;
     }
@@ -96,12 +96,12 @@ pub fn evaluate_covered<D: Digester, L: Ledger>(
     let (covered, positions) = targets.covered();
     // That the targets have shape.
     let _count = targets.leaves();
-    let (origins, _) = plan_of(alloc, targets, covered, positions)?;
-    let nothing = Node {
+    let (sources, _) = plan_of(alloc, targets, covered, positions)?;
+    let nothing = PlaceNode {
         digest: Digest([0; 32]),
         left: None,
     };
-    let mut nodes = vec![in alloc; nothing; origins.len()]?;
-    evaluate::<D, L>(&origins, leaves, hashes, &mut nodes, steps);
-    Ok(gather(alloc, covered, &origins, &nodes, hashes)?)
+    let mut nodes = vec![in alloc; nothing; sources.len()]?;
+    evaluate::<D, L>(&sources, leaves, hashes, &mut nodes, steps);
+    Ok(gather(alloc, covered, &sources, &nodes, hashes)?)
 }

@@ -11,7 +11,7 @@ use Rattle.forest_model.specs.Evaluation.{evaluation, nothing_known, IsAccepted}
 use Rattle.forest_roots.specs.Stump.{Stump, root_in}
 use Rattle.proof_verify.specs.Evaluation.{IsEvaluatedAt, AreEvaluatedAt}
 use Rattle.proof_verify.specs.declared.evaluation.CoveredPlace.{CoveredPlace}
-use Rattle.proof_verify.specs.declared.evaluation.Made.TheVariants.{Target}
+use Rattle.proof_verify.specs.declared.evaluation.Preimage.TheVariants.{Target}
 use Rattle.proof_verify.proofs.Values.{asked_all}
 use Rattle.state_text.specs.Merged.{StandsIn, IsRightRoot, AreRightRoots}
 
@@ -42,7 +42,7 @@ module _ (H : List ℕ → Digest) (f : Stump) (ts : List Place) (leaves hashes 
   at_root right row c slot e =
       let top : is_root f.leaves row (root_off f.leaves row) ≡ true = is_root-root_off f.leaves row slot in
       let w = are.all row (root_off f.leaves row) c (InForest-root f.leaves row (root_off f.leaves row) top) e in
-      let none : CoveredPlace = record { place = record { row = 0; off = 0 }; made = Target 0; digest = record { 0 = [] } } in
+      let none : CoveredPlace = record { place = record { row = 0; off = 0 }; preimage = Target 0; digest = record { 0 = [] } } in
       by_item (get_or items w.0 none) (are.each w.0 none w.1) (all_at (IsRightRoot f) items right w.0 none w.1) (w.2 none)
     where
       by_item : (item : CoveredPlace) → IsEvaluatedAt H f.leaves ts leaves hashes item → IsRightRoot f item

@@ -29,7 +29,7 @@ use Rattle.proof_shape.specs.Survey.{IsCoverOf}
 use Rattle.proof_verify.specs.Judged.{pair_at}
 use Rattle.proof_verify.specs.Evaluation.{AreEvaluatedAt}
 use Rattle.proof_verify.specs.declared.evaluation.CoveredPlace.{CoveredPlace}
-use Rattle.proof_verify.specs.declared.evaluation.Made.TheVariants.{Target}
+use Rattle.proof_verify.specs.declared.evaluation.Preimage.TheVariants.{Target}
 use Rattle.proof_verify.proofs.Values.{asked_all}
 use Rattle.cache_model.specs.Known.{is_watched, kept_from, is_known}
 use Rattle.node_rules.proofs.Hashes.{hashes_there}
@@ -92,7 +92,7 @@ covered_from : (H : List ℕ → Digest) (n : ℕ) (ts : List Place) (leaves has
 covered_from H n ts leaves hashes items are = record {
   cover_is = subst (IsCoverOf n ts) (sym (map-map (λ (h : Place × Digest). h.0) told_pair items)) are.order;
   digests = λ m c lt e.
-      let none : CoveredPlace = record { place = record { row = 0; off = 0 }; made = Target 0; digest = record { 0 = [] } } in
+      let none : CoveredPlace = record { place = record { row = 0; off = 0 }; preimage = Target 0; digest = record { 0 = [] } } in
       let within : m < length items = omega (arith, lt, length-map items told_pair) in
       let at : pair_at (map told_pair items) m ≡ told_pair (get_or items m none) = get_or-map told_pair items m none in
       let is = are.each m none within in

@@ -11,7 +11,7 @@ use forest_place::{Place, position};
 use forest_roots::Roots;
 use leaf_cache::{Cache, Watch};
 use proof_shape::Targets;
-use proof_verify::{Scratch, check_and_delete};
+use proof_verify::{ProofScratch, check_and_delete};
 use std::alloc::{AllocError, Global};
 use std::marker::Brand;
 use std::process::Abort;
@@ -229,7 +229,7 @@ fn spend<D: Digester, L: Ledger>(
     let Ok(mut mark) = begin(alloc, cache, &targets, adds, adds) else {
         panic!(rt; "no mark")
     };
-    let mut scratch = Scratch::new(alloc);
+    let mut scratch = ProofScratch::new(alloc);
     let Ok(()) = scratch.reserve(&targets) else {
         panic!(rt; "no memory")
     };

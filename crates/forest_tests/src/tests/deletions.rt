@@ -7,7 +7,9 @@ use crate::digest;
 use forest_place::Place;
 use forest_roots::Roots;
 use proof_shape::{Survey, Targets};
-use proof_verify::{CoveredPlace, Made, ProofFault, Scratch, check_and_delete, evaluate_covered};
+use proof_verify::{
+    CoveredPlace, Preimage, ProofFault, ProofScratch, check_and_delete, evaluate_covered,
+};
 use std::alloc::Global;
 use std::marker::Brand;
 use std::process::Abort;
@@ -32,7 +34,7 @@ fn check<L: Ledger>(
     let Ok(targets) = Targets::new(alloc, roots.leaves(), positions) else {
         panic!(rt; "no targets")
     };
-    let mut scratch = Scratch::new(alloc);
+    let mut scratch = ProofScratch::new(alloc);
     let Ok(()) = scratch.reserve(&targets) else {
         panic!(rt; "no memory")
     };
@@ -144,9 +146,9 @@ fn names_a_slot<L: Ledger>(rt: &impl Abort, alloc: Global, steps: &mut Steps<L>)
     assert!(rt; fault == Some(want));
 }
 
-fn is_covered(item: &CoveredPlace, row: u8, made: Made, byte: u8) -> bool {
+fn is_covered(item: &CoveredPlace, row: u8, preimage: Preimage, byte: u8) -> bool {
     item.place == place(row, u64::from(row == 0))
-        && item.made == made
+        && item.preimage == preimage
         && item.digest == digest(byte)
 }
 
@@ -162,9 +164,9 @@ fn covers_of_four<L: Ledger>(rt: &impl Abort, alloc: Global, steps: &mut Steps<L
         panic!(rt; "no memory")
     };
     assert!(rt; items.len() == 3);
-    assert!(rt; is_covered(&items[0], 0, Made::Target(0), 2));
-    assert!(rt; is_covered(&items[1], 1, Made::Halves(digest(1), digest(2)), 3));
-    assert!(rt; is_covered(&items[2], 2, Made::Halves(digest(3), digest(12)), 15));
+    assert!(rt; is_covered(&items[0], 0, Preimage::Target(0), 2));
+    assert!(rt; is_covered(&items[1], 1, Preimage::Halves(digest(1), digest(2)), 3));
+    assert!(rt; is_covered(&items[2], 2, Preimage::Halves(digest(3), digest(12)), 15));
 }
 
 fn check_all<L: Ledger>(rt: &impl Abort, alloc: Global, blank: Blank)

@@ -1,21 +1,21 @@
 use Rattle.std.proofs.Common.{◌∙◌}
 use Rattle.std.proofs.lemmas.List.{length-set}
-use Rattle.proof_verify.specs.Nodes.{node_from}
+use Rattle.proof_verify.specs.PlaceNodes.{node_from}
 use Rattle.uo_digest.specs.Batches.{pair_digest}
 use Rattle.proof_verify.specs.Batches.{pairs_for}
-use Rattle.proof_verify.specs.declared.origin.Origin.TheVariants.{Target}
+use Rattle.proof_verify.specs.declared.place_source.PlaceSource.TheVariants.{Target}
 use Rattle.proof_verify.proofs.Queued.{made_front, made_behind, written_more}
 use Rattle.proof_verify.proofs.batch.settle.Goals as goal
 
 pub settle_place-requires-clause-made : goal.settle_place-requires-clause-made
 settle_place-requires-clause-made g c =
-    made_front (pairs_for c.args.below.now c.args.hashes.now) (pair_digest g.D.Digester.digest_of) c.args.origins.now c.loop-i.i (Target 0)
+    made_front (pairs_for c.args.below.now c.args.hashes.now) (pair_digest g.D.Digester.digest_of) c.args.sources.now c.loop-i.i (Target 0)
     c.loop-i-test.true c.loop-i.rest.now c.loop-i.invariant.made
 
 pub loop-i-preserved : goal.loop-i-preserved
 loop-i-preserved g c =
     let H = g.D.Digester.digest_of in
-    let os = c.args.origins.now in
+    let os = c.args.sources.now in
     let i = c.loop-i.i in
     let nodes = c.loop-i.nodes in
     let node = c.settle_place.result.0 in

@@ -5,7 +5,7 @@ use Rattle.proof_verify.proofs.evaluate.ready.Given as goal
 
 abbrev pub invariant-loop-count : goal.invariant-loop-count
 invariant-loop-count l =
-    (prefix_len (is_below l.made) l.origins ≡ l.count + prefix_len (is_below l.made) (drop l.count l.origins)) × (l.count ≤ length l.origins)
+    (prefix_len (is_below l.made) l.sources ≡ l.count + prefix_len (is_below l.made) (drop l.count l.sources)) × (l.count ≤ length l.sources)
 
 abbrev pub decreases-loop-count : goal.decreases-loop-count
-decreases-loop-count l = length l.origins - l.count
+decreases-loop-count l = length l.sources - l.count

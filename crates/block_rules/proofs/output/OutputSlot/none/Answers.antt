@@ -1,6 +1,6 @@
 use Rattle.std.proofs.Common.{ap}
 use Rattle.std.specs.Prelude.{option_map}
-use Rattle.block_rules.specs.Kept.{kept_at}
+use Rattle.block_rules.specs.KeptOutputs.{kept_at}
 use Rattle.block_rules.proofs.Slots.{nothing_first, empty_slot}
 use Rattle.block_rules.proofs.output.OutputSlot.none.Goals as goal
 
