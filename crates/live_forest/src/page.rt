@@ -70,7 +70,8 @@ fn take_out(cells: &mut Vec<Cell>, k: usize, next: bool)
 // For how many cells a page keeps room that has so many: one, or 8, 19, 30, 41, .. of them. By the C library's reckoning a piece of that many is as
 // large as 3, 7, 11, 15, .. records of the index. So whatever room one page leaves, records and other pages fill with no gap between them.
 fn room_for(len: usize) -> usize
-    ensures { len ≤ result }
+    ensures least { len ≤ result }
+    ensures most { result ≤ len + 10 }
 {
     if len <= 1 || len > FULL {
         return len;

@@ -1,5 +1,5 @@
 //! A page: the entries of 256 numbers.
-ghost use Rattle.std.specs.Prelude.{◌≡◌, ℕ, ◌<◌, ◌≤◌, set, length, None, Some, IsSome, option_map, OnOk, OnErr};
+ghost use Rattle.std.specs.Prelude.{◌≡◌, ℕ, ◌+◌, ◌<◌, ◌≤◌, set, length, None, Some, IsSome, option_map, OnOk, OnErr};
 ghost use Rattle.output_index.specs.Chains.{set_live, set_older};
 ghost use Rattle.output_index.specs.Pages.{entry_in};
 
@@ -103,7 +103,8 @@ impl Page {
 // For how many places a page keeps room that has so many: none, or 21, 43, 65, .. of them. By the C library's reckoning a piece of that many is as
 // large as 1, 2, 3, .. records. So whatever room one page leaves, records and other pages fill with no gap between them.
 fn room_for(len: usize) -> usize
-    ensures { len ≤ result }
+    ensures least { len ≤ result }
+    ensures most { result ≤ len + 21 }
 {
     if len == 0 || len > FULL {
         return len;
