@@ -14,6 +14,9 @@ use std::alloc::{AllocError, Global};
 use std::marker::Model;
 use uo_digest::Digest;
 
+// A new page has room for so many cells, the least of the rooms below that holds 128.
+const FULL: usize = 129;
+
 /// What is kept for the parts of 128 numbers, of those that are listed alone: a cell for each, in their order.
 ///
 /// Between two listed numbers next to each other there is one part that has them in its two halves, and each part with listed numbers in
@@ -64,16 +67,37 @@ fn take_out(cells: &mut Vec<Cell>, k: usize, next: bool)
     cell.gap = out.gap;
 }
 
-// Gives room back that is more than an eighth and two cells. Where there is no memory for fewer cells, the room stays.
+// For how many cells a page keeps room that has so many: one, or 8, 19, 30, 41, .. of them. By the C library's reckoning a piece of that many is as
+// large as 3, 7, 11, 15, .. records of the index. So whatever room one page leaves, records and other pages fill with no gap between them.
+fn room_for(len: usize) -> usize
+    ensures least { len ≤ result }
+    ensures most { result ≤ len + 10 }
+{
+    if len <= 1 || len > FULL {
+        return len;
+    }
+    (len + 2) / 11 * 11 + 8
+}
+
+// The same cells, with room for at least so many.
+fn with_room(alloc: Global, cells: &[Cell], room: usize) -> Result<Vec<Cell>, AllocError>
+    ensures { IfOk result (λ copy. copy.items ≡ cells.now) }
+{
+    let mut copy = Vec::with_capacity(alloc, room)?;
+    copy.extend_from_slice(cells)?;
+    Ok(copy)
+}
+
+// Gives room back that so many cells do not keep. Where there is no memory for fewer cells, the room stays.
 fn shrink(cells: &mut Vec<Cell>)
     ensures { cells.new.items ≡ cells.old.items }
 {
-    let len = cells.len();
-    if cells.capacity().saturating_sub(len) <= 2 + len / 8 {
+    let room = room_for(cells.len());
+    if cells.capacity() <= room {
         return;
     }
     let alloc = *cells.allocator();
-    if let Ok(fewer) = Vec::from_slice(alloc, cells) {
+    if let Ok(fewer) = with_room(alloc, cells, room) {
         *cells = fewer;
     }
 }
@@ -86,7 +110,7 @@ impl Page {
         Ok(Page {
             listed: 0,
             live: 0,
-            cells: Vec::with_capacity(alloc, 128)?,
+            cells: Vec::with_capacity(alloc, FULL)?,
         })
     }
 

@@ -147,10 +147,25 @@ fn boxed_entry(
             Ok(boxed)
         }
         None => {
-            spare.reserve(held + 1)?;
+            have_room(spare, held, alloc)?;
             BoxedEntry::new(alloc, leaf)
         }
     }
+}
+
+// Sees to it that there is room among the spare boxes, of which there is none, for one more than so many. The list is made anew, so that nothing is
+// moved to where nothing lies.
+fn have_room(spare: &mut Vec<BoxedEntry>, held: usize, alloc: Global) -> Result<(), AllocError>
+    requires none { vec_len spare.old ≡ 0 }
+    requires few { held + 1 < 2 ^ 64 }
+    ensures none { vec_len spare.new ≡ 0 }
+    ensures grows { vec_capacity spare.old ≤ vec_capacity spare.new }
+    ensures ok { OnOk result (held + 1 ≤ vec_capacity spare.new) }
+{
+    if spare.capacity() <= held {
+        *spare = Vec::with_capacity(alloc, (held + 1).saturating_add(held))?;
+    }
+    Ok(())
 }
 
 /// The page that a number is in.

@@ -1,5 +1,5 @@
 //! A page: the entries of 256 numbers.
-ghost use Rattle.std.specs.Prelude.{◌≡◌, ℕ, ◌<◌, ◌≤◌, set, length, None, Some, IsSome, option_map, OnOk, OnErr};
+ghost use Rattle.std.specs.Prelude.{◌≡◌, ℕ, ◌+◌, ◌<◌, ◌≤◌, set, length, None, Some, IsSome, option_map, OnOk, OnErr};
 ghost use Rattle.output_index.specs.Entries.{set_live, set_older};
 ghost use Rattle.output_index.specs.Pages.{entry_in};
 
@@ -8,6 +8,9 @@ use crate::entry::Entry;
 use crate::number_set::NumberSet;
 use std::alloc::{AllocError, Global};
 use std::marker::Model;
+
+// A new page has room for so many places, the least of the rooms below that holds 256.
+const FULL: usize = 263;
 
 /// The entries of 256 numbers that follow each other, with a place for those alone that are held. A number of which nothing is held takes a bit.
 #[derive(Drop)]
@@ -78,6 +81,7 @@ impl Page {
         ensures ok { OnOk result (self.new ≡ set self.old number (Some slot)) }
         ensures err { OnErr result (self.new ≡ self.old) }
     {
+        begin(&mut self.slots)?;
         self.slots.push(slot)?;
         self.held.put(number);
         Ok(())
@@ -97,13 +101,32 @@ impl Page {
     }
 }
 
-// Gives room back that is more than an eighth and two places, and all of it where none is held. Where there is no memory for fewer places, the
-// room stays.
+// For how many places a page keeps room that has so many: none, or 21, 43, 65, .. of them. By the C library's reckoning a piece of that many is as
+// large as 1, 2, 3, .. records. So whatever room one page leaves, records and other pages fill with no gap between them.
+fn room_for(len: usize) -> usize
+    ensures least { len ≤ result }
+    ensures most { result ≤ len + 21 }
+{
+    if len == 0 || len > FULL {
+        return len;
+    }
+    (len / 22 + 1) * 22 - 1
+}
+
+// Takes the room of a whole page, where there is none yet.
+fn begin(slots: &mut Vec<BoxedEntry>) -> Result<(), AllocError>
+    ensures { slots.new.items ≡ slots.old.items }
+{
+    if slots.capacity() == 0 {
+        slots.reserve_exact(FULL)?;
+    }
+    Ok(())
+}
+
+// Gives room back that so many places do not keep. Where there is no memory for fewer places, the room stays.
 fn shrink(slots: &mut Vec<BoxedEntry>)
     ensures { slots.new.items ≡ slots.old.items }
 {
-    let len = slots.len();
-    if len == 0 || slots.capacity() - len > 2 + len / 8 {
-        slots.shrink_to_fit();
-    }
+    let room = room_for(slots.len());
+    slots.shrink_to(room);
 }
