@@ -30,7 +30,12 @@ use proof_verify::Changes;
 use uo_digest::Digest;
 
 // The lists after the deletion of the block.
-fn delete_in(parts: &mut CacheLists, mark: &mut CacheMark, targets: &Targets, pairs: &[(Place, Digest)])
+fn delete_in(
+    parts: &mut CacheLists,
+    mark: &mut CacheMark,
+    targets: &Targets,
+    pairs: &[(Place, Digest)],
+)
     requires fits { Fits mark.old parts.old }
     requires begun { WasBegun targets.now mark.old parts.old }
     ensures kept { parts.new.kept ≡ moved_leaves targets.now.leaves targets.now.targets parts.old.kept }

@@ -102,7 +102,11 @@ fn take_over(lists: &mut CacheLists, copy: &mut CacheLists) -> Result<(), NoMemo
 }
 
 // The cache, which has nothing, gets these lists.
-fn fill<D: Digester>(alloc: Global, cache: &mut Cache<D>, parts: &CacheLists) -> Result<(), NoMemory>
+fn fill<D: Digester>(
+    alloc: Global,
+    cache: &mut Cache<D>,
+    parts: &CacheLists,
+) -> Result<(), NoMemory>
     requires { HasNothing cache.old.parts }
     ensures lists { OnOk result (HaveSameLists cache.new.parts parts.now) }
     ensures watch { cache.new.watch ≡ cache.old.watch }
