@@ -6,14 +6,14 @@ use crate::names::name_of;
 use crate::outputs::record_of;
 use crate::stopwatch::Stopwatch;
 use crate::targets::{hashes_of, targets_of};
-use cache_update::{CacheMark, after_add, after_delete, begin, undo};
+use cache_update::{Mark, after_add, after_delete, begin, undo};
 use forest_place::Naming;
 use forest_roots::{Joins, Roots};
-use leaf_cache::{Cache, CacheLists, Kept, Watch};
+use leaf_cache::{Cache, Parts, Kept, Watch};
 use leaf_record::Record;
 use live_forest::Forest;
 use proof_shape::Targets;
-use proof_verify::{ProofScratch, check_and_delete};
+use proof_verify::{Scratch, check_and_delete};
 use std::alloc::Global;
 use std::io;
 use std::sync::ledger::Ledger;
@@ -39,7 +39,7 @@ fn kept_output(alloc: Global, number: u64, kept: u64) -> Option<Record> {
 fn add_all<L: Ledger>(
     alloc: Global,
     cache: &mut Cache<Sha512t256>,
-    mark: &mut CacheMark,
+    mark: &mut Mark,
     roots: &mut Roots<Sha512t256>,
     adds: u64,
     kept: u64,
@@ -67,7 +67,7 @@ fn add_all<L: Ledger>(
 // Additions of which none is watched.
 fn add_unwatched<L: Ledger>(
     cache: &mut Cache<Sha512t256>,
-    mark: &mut CacheMark,
+    mark: &mut Mark,
     roots: &mut Roots<Sha512t256>,
     adds: u64,
     steps: &mut Steps<L>,
@@ -124,7 +124,7 @@ fn bare_block<L: Ledger>(
     alloc: Global,
     roots: &mut Roots<Sha512t256>,
     proof: &Proof,
-    scratch: &mut ProofScratch,
+    scratch: &mut Scratch,
     steps: &mut Steps<L>,
 ) -> bool {
     let Some(targets) = targets_of(alloc, roots.leaves(), &proof.positions) else {
@@ -157,9 +157,9 @@ fn cached_block<L: Ledger>(
     cache: &mut Cache<Sha512t256>,
     roots: &mut Roots<Sha512t256>,
     proof: &Proof,
-    scratch: &mut ProofScratch,
+    scratch: &mut Scratch,
     steps: &mut Steps<L>,
-) -> Option<CacheMark>
+) -> Option<Mark>
     ensures { IfSome result (λ m. Fits m cache.new.parts) }
 {
     let Some(targets) = targets_of(alloc, roots.leaves(), &proof.positions) else {
@@ -238,7 +238,7 @@ fn moved_between(older: &[Kept], newer: &[Kept]) -> u64 {
 }
 
 // The digests that a cache has otherwise, or not at all, and how many are at places where it has none.
-fn others(cache: &Cache<Sha512t256>, parts: &CacheLists) -> (u64, u64) {
+fn others(cache: &Cache<Sha512t256>, parts: &Parts) -> (u64, u64) {
     let mut other: u64 = 0;
     let mut none: u64 = 0;
     for (place, digest) in parts.held.iter() {
@@ -265,7 +265,7 @@ fn measure_mark<R: Print, L: Ledger>(
     let Ok(older) = cache.seen().copy(alloc) else {
         return println!(rt; "  no block");
     };
-    let mut scratch = ProofScratch::new(alloc);
+    let mut scratch = Scratch::new(alloc);
     let mut then = roots.copy();
     let Some(mark) = cached_block(alloc, cache, &mut then, proof, &mut scratch, steps) else {
         return println!(rt; "  no block");
@@ -296,12 +296,12 @@ fn time_block<R: CpuClock, L: Ledger>(
     proof: &Proof,
     steps: &mut Steps<L>,
 ) -> io::Result<Times> {
-    let mut scratch = ProofScratch::new(alloc);
+    let mut scratch = Scratch::new(alloc);
     let mut then = roots.copy();
     let mut watch = Stopwatch::start(rt)?;
     let accepted = bare_block(alloc, &mut then, proof, &mut scratch, steps);
     let bare = watch.lap(rt)?;
-    let mut scratch = ProofScratch::new(alloc);
+    let mut scratch = Scratch::new(alloc);
     let mut then = roots.copy();
     let mut watch = Stopwatch::start(rt)?;
     let mark = cached_block(alloc, cache, &mut then, proof, &mut scratch, steps);

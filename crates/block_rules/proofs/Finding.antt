@@ -11,7 +11,7 @@ use Rattle.leaf_record.specs.Leaf.{Outpoint, Leaf}
 use Rattle.leaf_record.specs.History.{History, Entry, newer, newest, same_point}
 use Rattle.leaf_record.proofs.HistoryLaws.{same_point-true, same_point-same, newest_is}
 use Rattle.block_rules.specs.declared.outpoint.TxidKey.{TxidKey}
-use Rattle.block_rules.specs.declared.made.Named.{Named}
+use Rattle.block_rules.specs.declared.made_outputs.Named.{Named}
 use Rattle.block_rules.specs.Blocks.{once_taken, taken}
 use Rattle.block_rules.specs.Keys.{key_of_id, id_cmp}
 use Rattle.block_rules.specs.Known.{txid_at, found_if, found_at, number_if, number_in, IsNewest, IsPlaced, IsNamed}

@@ -13,7 +13,7 @@ use Rattle.leaf_record.specs.Leaf.{Leaf}
 use Rattle.leaf_record.specs.History.{History}
 use Rattle.block_rules.specs.declared.origins.Origins.{Origins}
 use Rattle.block_rules.specs.declared.outpoint.TxidKey.{TxidKey}
-use Rattle.block_rules.specs.declared.made.Named.{Named}
+use Rattle.block_rules.specs.declared.made_outputs.Named.{Named}
 use Rattle.block_rules.specs.declared.made_outputs.MadeOutputs.{MadeOutputs}
 use Rattle.block_rules.specs.Blocks.{is_spendable}
 use Rattle.block_rules.specs.KeptOutputs.{KeptOutput, kept_from}

@@ -15,7 +15,7 @@ use leaf_record::LeafBuf;
 use live_forest::Forest;
 use node_rules::{full_hashes, proof_refusal_of, targets_of};
 use proof_shape::Targets;
-use proof_verify::{ProofScratch, check_and_delete};
+use proof_verify::{Scratch, check_and_delete};
 use proof_wire::MessageView;
 use std::alloc::Global;
 use std::sync::ledger::Ledger;
@@ -49,7 +49,7 @@ pub(crate) fn check_proof<D: Digester, L: Ledger>(
 {
     let targets = targets_of(alloc, forest.leaves(), message)?;
     let hashes = full_hashes(alloc, message, &targets, known)?;
-    let mut scratch = ProofScratch::new(alloc);
+    let mut scratch = Scratch::new(alloc);
     // What the deletion changes is not asked for.
     scratch.reserve_for(&targets, false)?;
     let leaves = claimed_leaves::<D, L>(alloc, room, external, message, steps)?;

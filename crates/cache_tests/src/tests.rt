@@ -7,13 +7,13 @@ mod plain;
 mod small;
 
 use crate::output;
-use cache_update::{CacheMark, after_add, after_delete, begin, between, step_back, undo};
+use cache_update::{Mark, after_add, after_delete, begin, between, step_back, undo};
 use forest_place::Place;
 use forest_roots::Roots;
-use leaf_cache::{Cache, CacheLists, Watch};
+use leaf_cache::{Cache, Parts, Watch};
 use leaf_record::Record;
 use proof_shape::Targets;
-use proof_verify::{ProofScratch, check_and_delete};
+use proof_verify::{Scratch, check_and_delete};
 use std::alloc::Global;
 use std::marker::Brand;
 use std::process::Abort;
@@ -28,7 +28,7 @@ fn digest(byte: u8) -> Digest {
 // Adds an entry to the forest and to the cache.
 fn add<L: Ledger>(
     cache: &mut Cache<XorFold>,
-    mark: &mut CacheMark,
+    mark: &mut Mark,
     roots: &mut Roots<XorFold>,
     byte: u8,
     leaf: Option<Record>,
@@ -78,7 +78,7 @@ fn grow<L: Ledger>(
     cache: &mut Cache<XorFold>,
     roots: &mut Roots<XorFold>,
     steps: &mut Steps<L>,
-) -> CacheMark
+) -> Mark
     requires { roots.old.leaves ≡ 0 }
     ensures fits { Fits result cache.new.parts }
     ensures count { roots.new.leaves ≡ 4 }
@@ -103,7 +103,7 @@ fn spend<L: Ledger>(
     cache: &mut Cache<XorFold>,
     roots: &mut Roots<XorFold>,
     steps: &mut Steps<L>,
-) -> CacheMark
+) -> Mark
     requires { roots.old.leaves ≡ 4 }
     ensures { Fits result cache.new.parts }
 {
@@ -113,7 +113,7 @@ fn spend<L: Ledger>(
     let Ok(mut mark) = begin(alloc, cache, &targets, 0, 0) else {
         panic!(rt; "no memory")
     };
-    let mut scratch = ProofScratch::new(alloc);
+    let mut scratch = Scratch::new(alloc);
     let Ok(()) = scratch.reserve(&targets) else {
         panic!(rt; "no memory")
     };
@@ -130,7 +130,7 @@ fn spend<L: Ledger>(
 }
 
 // Goes to these lists, by a mark between the cache's and them.
-fn leap(rt: &impl Abort, alloc: Global, cache: &mut Cache<XorFold>, older: &CacheLists) {
+fn leap(rt: &impl Abort, alloc: Global, cache: &mut Cache<XorFold>, older: &Parts) {
     let Ok(newer) = cache.seen().copy(alloc) else {
         panic!(rt; "no memory")
     };
@@ -141,7 +141,7 @@ fn leap(rt: &impl Abort, alloc: Global, cache: &mut Cache<XorFold>, older: &Cach
 }
 
 // The lists before a mark's block, and how many digests they hold.
-fn held_before(rt: &impl Abort, alloc: Global, cache: &Cache<XorFold>, mark: &CacheMark) -> usize
+fn held_before(rt: &impl Abort, alloc: Global, cache: &Cache<XorFold>, mark: &Mark) -> usize
     requires { Fits mark.now cache.now.parts }
 {
     let Ok(mut parts) = cache.seen().copy(alloc) else {

@@ -21,7 +21,7 @@ use Rattle.proof_shape.specs.Targeted.{Targeted}
 use Rattle.cache_model.specs.declared.kept.Kept.{Kept}
 use Rattle.cache_model.specs.Lists.{moved_leaves, leaf_places}
 use Rattle.leaf_cache.specs.Parted.{Parted, IsParted}
-use Rattle.cache_update.specs.declared.mark.CacheMark.{CacheMark}
+use Rattle.cache_update.specs.declared.mark.Mark.{Mark}
 use Rattle.cache_update.specs.Begun.{BeginsBlock, new_position, IsRoom, IsMark}
 use Rattle.cache_update.specs.DeletionGoals.{TellGoals}
 use Rattle.cache_update.specs.Differences.{where_stood}
@@ -66,7 +66,7 @@ places_are n n' ts ks t numbers a e f are g =
     (are'.numbered ∙ g))
 
 -- a mark that was just made
-module _ (t : Targeted) (p q : Parted) (adds watched : ℕ) (r : BoxedRoom) (m : CacheMark) (ordered : IsParted p) (forest : AreOfForest t.leaves p)
+module _ (t : Targeted) (p q : Parted) (adds watched : ℕ) (r : BoxedRoom) (m : Mark) (ordered : IsParted p) (forest : AreOfForest t.leaves p)
     (room : IsRoom t p adds r.value) (mark : IsMark t p adds watched r m) (kept : q.kept ≡ p.kept) (held : q.held ≡ p.held)
     (kept_room : length p.kept + watched < q.kept_room) (held_room : r.value.most ≤ q.held_room) where
   begun_kept : kept_back m q.kept ≡ p.kept
@@ -154,9 +154,9 @@ module _ (t : Targeted) (p q : Parted) (adds watched : ℕ) (r : BoxedRoom) (m :
   }
 
 -- where a mark begins a block, what is said of it holds one by one
-module _ {E : Type 0} (r : Result CacheMark E) (t : Targeted) (adds watched : ℕ) (old new : Parted)
+module _ {E : Type 0} (r : Result Mark E) (t : Targeted) (adds watched : ℕ) (old new : Parted)
     (h : IfOk r (BeginsBlock t adds watched old new)) where
-  abbrev Begins : CacheMark → Type 0
+  abbrev Begins : Mark → Type 0
   Begins = BeginsBlock t adds watched old new
 
   pub begins-fits : IfOk r (λ m. Fits m new)
@@ -175,7 +175,7 @@ module _ {E : Type 0} (r : Result CacheMark E) (t : Targeted) (adds watched : �
   begins-left = IfOk-weaker r Begins (λ m. (m.leaves ≡ t.leaves) × (m.adds ≡ adds) × (m.watched ≡ watched)) (λ m b. b.left) h
 
 -- a mark with no block fits where there is room for what it gives back
-pub between_fits : (m : CacheMark) (p newer older : Parted) → m.room ≡ None → m.adds ≡ 0 → kept_back m newer.kept ≡ older.kept
+pub between_fits : (m : Mark) (p newer older : Parted) → m.room ≡ None → m.adds ≡ 0 → kept_back m newer.kept ≡ older.kept
     → held_back m newer.held ≡ older.held → (p.kept ≡ newer.kept) × (p.held ≡ newer.held) →
     length older.kept < p.kept_room → length older.held < p.held_room → Fits m p
 between_fits m p newer older none done kept held same kept_room held_room =

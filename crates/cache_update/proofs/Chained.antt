@@ -12,7 +12,7 @@ use Rattle.cache_model.proofs.Undoing.{place_order, undone}
 use Rattle.leaf_cache.specs.Parted.{Parted, IsParted}
 use Rattle.cache_update.specs.Given.{digest_was, digest_none, undo_digests, held_given}
 use Rattle.cache_update.specs.Marks.{BoxedRoom, is_named, AreOfForest, HasRoomFor, HasRoomLeft, Fits, GivesInOrder, kept_back, held_back, held_from}
-use Rattle.cache_update.specs.declared.mark.CacheMark.{CacheMark}
+use Rattle.cache_update.specs.declared.mark.Mark.{Mark}
 use Rattle.cache_update.specs.declared.mark.BlockRoom.{BlockRoom}
 use Rattle.cache_update.proofs.Giving.{given_is}
 
@@ -30,14 +30,14 @@ given_ascends lost gained hs a =
     (undone is_same_place is_before_place held_key place_order (map digest_was lost) (undo_digests (map digest_none gained) hs)
     (undone is_same_place is_before_place held_key place_order (map digest_none gained) hs a (none_keep gained)).0 (was_keep lost)).0
 
-pub ascends_back : (m : CacheMark) (p : Parted) → IsParted p → Fits m p → AscendByNumber (kept_back m p.kept) × AscendByPlace (held_back m p.held)
+pub ascends_back : (m : Mark) (p : Parted) → IsParted p → Fits m p → AscendByNumber (kept_back m p.kept) × AscendByPlace (held_back m p.held)
 ascends_back m p o fits = ((given_is m.taken.items m.stood.items m.added.items p.kept o.0).0, by_room m.room fits.left)
   where
     by_room : (r : Option BoxedRoom) → HasRoomLeft m p r → AscendByPlace (held_from r m.lost.items m.gained.items p.held)
     by_room None h = given_ascends m.lost.items m.gained.items p.held o.1
     by_room (Some r) h = h.before
 
-pub in_order : (m : CacheMark) (p : Parted) → Fits m p → GivesInOrder m.room
+pub in_order : (m : Mark) (p : Parted) → Fits m p → GivesInOrder m.room
 in_order m p fits = by_room m.room fits.left
   where
     by_room : (r : Option BoxedRoom) → HasRoomLeft m p r → GivesInOrder r
@@ -45,7 +45,7 @@ in_order m p fits = by_room m.room fits.left
     by_room (Some r) h = h.before
 
 -- the same lists in more room
-module _ (m : CacheMark) (p q : Parted) (kept : q.kept ≡ p.kept) (held : q.held ≡ p.held) (kept_room : p.kept_room ≤ q.kept_room)
+module _ (m : Mark) (p q : Parted) (kept : q.kept ≡ p.kept) (held : q.held ≡ p.held) (kept_room : p.kept_room ≤ q.kept_room)
     (held_room : p.held_room ≤ q.held_room) where
   forest_more : AreOfForest m.leaves p → AreOfForest m.leaves q
   forest_more f = record {

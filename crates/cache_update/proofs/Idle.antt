@@ -17,7 +17,7 @@ use Rattle.cache_update.specs.Begun.{BeginsBlock, IsIdleMark}
 use Rattle.cache_update.specs.Given.{kept_given, held_given}
 use Rattle.cache_update.specs.Joins.{shown_by, added_by}
 use Rattle.cache_update.specs.Marks.{BoxedRoom, Fits, HasRoomLeft, IsIdle, WasBegun, IsUnusedIn, kept_back, held_back, held_from}
-use Rattle.cache_update.specs.declared.mark.CacheMark.{CacheMark}
+use Rattle.cache_update.specs.declared.mark.Mark.{Mark}
 use Rattle.proof_shape.specs.Targeted.{Targeted}
 
 -- nothing is known where nothing is kept
@@ -57,7 +57,7 @@ none_added js d n leaf hs f g =
     (sym (ap (λ (xs : List (Place × Digest)). put_all xs []) (none_shown js d n (length js) 0))))
 
 -- a mark that was just made
-module _ (leaves adds : ℕ) (m : CacheMark) (p q : Parted) (idle : IsIdleMark leaves adds m) (no_kept : p.kept ≡ []) (no_held : p.held ≡ [])
+module _ (leaves adds : ℕ) (m : Mark) (p q : Parted) (idle : IsIdleMark leaves adds m) (no_kept : p.kept ≡ []) (no_held : p.held ≡ [])
     (kept : q.kept ≡ p.kept) (held : q.held ≡ p.held) where
   pub idle_kept : kept_back m q.kept ≡ p.kept
   idle_kept =
@@ -95,7 +95,7 @@ module _ (leaves adds : ℕ) (m : CacheMark) (p q : Parted) (idle : IsIdleMark l
   }
 
 -- a mark that only counts
-pub same_back : (m m' : CacheMark) (ks : List Kept) → m'.taken.items ≡ m.taken.items → m'.stood.items ≡ m.stood.items → m'.added.items ≡ m.added.items
+pub same_back : (m m' : Mark) (ks : List Kept) → m'.taken.items ≡ m.taken.items → m'.stood.items ≡ m.stood.items → m'.added.items ≡ m.added.items
     → kept_back m' ks ≡ kept_back m ks
 same_back m m' ks e f g =
     ap (λ (x : List Kept). kept_given x m'.stood.items m'.added.items ks) e
@@ -105,14 +105,14 @@ pub none_counted : (leaf : Option Leaf) (added new : List ℕ) (n : ℕ) (b : Bo
     → new ≡ added
 none_counted leaf added new n b e f g = let h : b ≡ false = e ∙ ap is_some f in g ∙ (ap (λ c. added ++ cond c (n ∷ []) []) h ∙ append-nil added)
 
-pub same_held : (m m' : CacheMark) (hs : List (Place × Digest)) → m.room ≡ None → m'.room ≡ None → m'.lost.items ≡ m.lost.items
+pub same_held : (m m' : Mark) (hs : List (Place × Digest)) → m.room ≡ None → m'.room ≡ None → m'.lost.items ≡ m.lost.items
     → m'.gained.items ≡ m.gained.items → held_back m' hs ≡ held_back m hs
 same_held m m' hs e f g h =
     ap (λ (r : Option BoxedRoom). held_from r m'.lost.items m'.gained.items hs) f
     ∙ (ap₂ (λ (x : List (Place × Digest)) (y : List Place). held_given x y hs) g h
     ∙ sym (ap (λ (r : Option BoxedRoom). held_from r m.lost.items m.gained.items hs) e))
 
-pub idle_on : (m m' : CacheMark) (p : Parted) → m'.room ≡ None → kept_back m' p.kept ≡ kept_back m p.kept → held_back m' p.held ≡ held_back m p.held
+pub idle_on : (m m' : Mark) (p : Parted) → m'.room ≡ None → kept_back m' p.kept ≡ kept_back m p.kept → held_back m' p.held ≡ held_back m p.held
     → m'.watched ≡ 0 → IsIdle m p → Fits m p → Fits m' p
 idle_on m m' p none kept held watched idle fits =
     let k = ap length kept in let h = ap length held in let a = fits.kept_room in let b = fits.held_room in

@@ -9,7 +9,7 @@ use Rattle.leaf_cache.specs.Parted.{Parted, HaveSameLists}
 use Rattle.cache_update.specs.DeletionGoals.{TellGoals}
 use Rattle.cache_update.specs.Differences.{where_stood}
 use Rattle.cache_update.specs.Marks.{BoxedRoom, Fits, HoldKnown, WasBegun, growth, kept_back, held_back}
-use Rattle.cache_update.specs.declared.mark.CacheMark.{CacheMark}
+use Rattle.cache_update.specs.declared.mark.Mark.{Mark}
 use Rattle.cache_update.specs.declared.mark.BlockRoom.{BlockRoom}
 
 -- the same lists, with no less room
@@ -19,7 +19,7 @@ pub record KeepsLists (old new : Parted) : Type 0 where
   pub held_more : old.held_room ≤ new.held_room
 
 -- the mark fits the new lists and gives back the old ones, and all of the block is left
-pub record BeginsBlock (t : Targeted) (adds watched : ℕ) (old new : Parted) (m : CacheMark) : Type 0 where
+pub record BeginsBlock (t : Targeted) (adds watched : ℕ) (old new : Parted) (m : Mark) : Type 0 where
   pub fit : Fits m new
   pub begun : WasBegun t m new
   pub kept : kept_back m new.kept ≡ old.kept
@@ -46,7 +46,7 @@ pub record IsRoom (t : Targeted) (p : Parted) (adds : ℕ) (r : BlockRoom) : Typ
   pub empty : (r.lost.items ≡ []) × (r.gained.items ≡ []) × (r.moved.items ≡ [])
 
 -- a mark with this room, and nothing to undo
-pub record IsMark (t : Targeted) (p : Parted) (adds watched : ℕ) (r : BoxedRoom) (m : CacheMark) : Type 0 where
+pub record IsMark (t : Targeted) (p : Parted) (adds watched : ℕ) (r : BoxedRoom) (m : Mark) : Type 0 where
   pub leaves : m.leaves ≡ t.leaves
   pub adds_are : m.adds ≡ adds
   pub watched_are : m.watched ≡ watched
@@ -58,7 +58,7 @@ pub record IsMark (t : Targeted) (p : Parted) (adds watched : ℕ) (r : BoxedRoo
   pub room : m.room ≡ Some r
 
 -- a mark without room, over entries of which nothing is known
-pub record IsIdleMark (leaves adds : ℕ) (m : CacheMark) : Type 0 where
+pub record IsIdleMark (leaves adds : ℕ) (m : Mark) : Type 0 where
   pub leaves_are : m.leaves ≡ leaves
   pub adds_are : m.adds ≡ adds
   pub watched : m.watched ≡ 0

@@ -16,11 +16,11 @@ use Rattle.leaf_cache.specs.Parted.{Parted, IsParted}
 use Rattle.cache_update.specs.DeletionGoals.{TellGoals}
 use Rattle.cache_update.specs.Differences.{where_stood}
 use Rattle.cache_update.specs.Given.{kept_given, held_given}
-use Rattle.cache_update.specs.declared.mark.CacheMark.{CacheMark}
+use Rattle.cache_update.specs.declared.mark.Mark.{Mark}
 use Rattle.cache_update.specs.declared.mark.BlockRoom.{BlockRoom}
 
 -- the kept entries that a mark gives back over some
-abbrev pub kept_back : CacheMark → List Kept → List Kept
+abbrev pub kept_back : Mark → List Kept → List Kept
 kept_back m ks = kept_given m.taken.items m.stood.items m.added.items ks
 
 -- the room of a mark has a place of its own
@@ -33,7 +33,7 @@ held_from None lost gained hs = held_given lost gained hs
 held_from (Some r) lost gained hs = r.value.before.items
 
 -- the held digests that a mark gives back over some
-abbrev pub held_back : CacheMark → List (Place × Digest) → List (Place × Digest)
+abbrev pub held_back : Mark → List (Place × Digest) → List (Place × Digest)
 held_back m hs = held_from m.room m.lost.items m.gained.items hs
 
 -- what is given back of the held digests ascends
@@ -56,7 +56,7 @@ pub record AreOfForest (n : ℕ) (p : Parted) : Type 0 where
   pub held : All (λ x. InForest n x.0.row x.0.off) p.held
 
 -- there is room for what is left of the block: m says what is left, and r has the room
-pub record HasRoomFor (m : CacheMark) (p : Parted) (r : BlockRoom) : Type 0 where
+pub record HasRoomFor (m : Mark) (p : Parted) (r : BlockRoom) : Type 0 where
   pub ordered : IsParted p
   pub forest : AreOfForest m.leaves p
   pub named : All (λ k. is_named m.stood.items m.added.items k ≡ true) p.kept
@@ -73,18 +73,18 @@ pub record HasRoomFor (m : CacheMark) (p : Parted) (r : BlockRoom) : Type 0 wher
   pub empty : (r.lost.items ≡ []) × (r.gained.items ≡ []) × (r.moved.items ≡ [])
 
 -- nothing is kept or held, and nothing comes that is watched, so no addition changes anything
-pub record IsIdle (m : CacheMark) (p : Parted) : Type 0 where
+pub record IsIdle (m : Mark) (p : Parted) : Type 0 where
   pub kept : p.kept ≡ []
   pub held : p.held ≡ []
   pub watched : m.watched ≡ 0
 
 -- where there is no room, no addition is left, or it changes nothing
-abbrev pub HasRoomLeft : CacheMark → Parted → Option BoxedRoom → Type 0
+abbrev pub HasRoomLeft : Mark → Parted → Option BoxedRoom → Type 0
 HasRoomLeft m p None = 0 < m.adds → IsIdle m p
 HasRoomLeft m p (Some r) = HasRoomFor m p r.value
 
 -- a mark fits a cache with room for what it gives back, and for what is left of its block
-pub record Fits (m : CacheMark) (p : Parted) : Type 0 where
+pub record Fits (m : Mark) (p : Parted) : Type 0 where
   pub kept_room : length (kept_back m p.kept) < p.kept_room
   pub held_room : length (held_back m p.held) < p.held_room
   pub left : HasRoomLeft m p m.room
@@ -102,7 +102,7 @@ abbrev pub HoldsKnown : ℕ → List Place → ℕ → Type 0
 HoldsKnown n ps capacity = (most : ℕ) × HoldKnown n ps most × (most < capacity)
 
 -- the mark was begun with these targets over these lists, and neither it nor they were changed since
-pub record IsUnused (t : Targeted) (m : CacheMark) (p : Parted) (r : BlockRoom) : Type 0 where
+pub record IsUnused (t : Targeted) (m : Mark) (p : Parted) (r : BlockRoom) : Type 0 where
   pub leaves : t.leaves ≡ m.leaves
   pub kept : r.kept ≡ record { leaves = t.leaves; targets = leaf_places (moved_leaves t.leaves t.targets p.kept) }
   pub known : (most : ℕ) × HoldKnown t.leaves (leaf_places (moved_leaves t.leaves t.targets p.kept)) most × (most + growth m.leaves m.adds < r.most)
@@ -113,11 +113,11 @@ pub record IsUnused (t : Targeted) (m : CacheMark) (p : Parted) (r : BlockRoom) 
   pub each : vec_len r.scratch.goals ≡ length p.held
 
 -- a mark without room has additions left, so the cache that it fits keeps and holds nothing
-abbrev pub IsUnusedIn : Targeted → CacheMark → Parted → Option BoxedRoom → Type 0
+abbrev pub IsUnusedIn : Targeted → Mark → Parted → Option BoxedRoom → Type 0
 IsUnusedIn t m p None = 0 < m.adds
 IsUnusedIn t m p (Some r) = IsUnused t m p r.value
 
-abbrev pub WasBegun : Targeted → CacheMark → Parted → Type 0
+abbrev pub WasBegun : Targeted → Mark → Parted → Type 0
 WasBegun t m p = IsUnusedIn t m p m.room
 
 -- whether the place is one of the forest over n entries, and known where kept entries stand at these places

@@ -4,11 +4,11 @@ ghost use Rattle.cache_model.specs.Lists.{AscendByPlace};
 ghost use Rattle.leaf_cache.specs.Parted.{HaveSameLists};
 ghost use Rattle.cache_update.specs.Marks.{Fits, GivesInOrder, kept_back, held_back, held_from};
 
-use crate::mark::{BlockRoom, CacheMark};
+use crate::mark::{BlockRoom, Mark};
 use crate::put::copy_over;
 use crate::undoing::{undo_held, undo_kept};
 use forest_place::Place;
-use leaf_cache::{Cache, CacheLists, copies_of};
+use leaf_cache::{Cache, Parts, copies_of};
 use std::alloc::Global;
 use uo_base::NoMemory;
 use uo_digest::Digest;
@@ -34,14 +34,14 @@ fn give_held(
 }
 
 // The lists as they were.
-fn undo_in(parts: &mut CacheLists, mark: CacheMark)
+fn undo_in(parts: &mut Parts, mark: Mark)
     requires { Fits mark parts.old }
     ensures kept { parts.new.kept ≡ kept_back mark parts.old.kept }
     ensures held { parts.new.held ≡ held_back mark parts.old.held }
     ensures kept_room { parts.new.kept_room ≡ parts.old.kept_room }
     ensures held_room { parts.new.held_room ≡ parts.old.held_room }
 {
-    let CacheMark {
+    let Mark {
         taken,
         stood,
         added,
@@ -55,7 +55,7 @@ fn undo_in(parts: &mut CacheLists, mark: CacheMark)
 }
 
 /// The cache that the mark gives back. For a mark of `begin` this is the cache that `begin` met. Takes no memory.
-pub fn undo<D>(cache: &mut Cache<D>, mark: CacheMark)
+pub fn undo<D>(cache: &mut Cache<D>, mark: Mark)
     requires { Fits mark cache.old.parts }
     ensures kept { cache.new.parts.kept ≡ kept_back mark cache.old.parts.kept }
     ensures held { cache.new.parts.held ≡ held_back mark cache.old.parts.held }
@@ -67,7 +67,7 @@ pub fn undo<D>(cache: &mut Cache<D>, mark: CacheMark)
 }
 
 // How many digests the mark puts back, at most.
-fn more_held(mark: &CacheMark) -> usize
+fn more_held(mark: &Mark) -> usize
     ensures most { (hs : _) → length (held_back mark.now hs) ≤ length hs + result }
     ensures small { result < 2 ^ 63 }
 {
@@ -78,7 +78,7 @@ fn more_held(mark: &CacheMark) -> usize
 }
 
 /// The lists that the mark gives back over these. At an error they are as they were.
-pub fn step_back(alloc: Global, parts: &mut CacheLists, mark: &CacheMark) -> Result<(), NoMemory>
+pub fn step_back(alloc: Global, parts: &mut Parts, mark: &Mark) -> Result<(), NoMemory>
     requires { GivesInOrder mark.now.room }
     ensures kept { OnOk result (parts.new.kept ≡ kept_back mark.now parts.old.kept) }
     ensures held { OnOk result (parts.new.held ≡ held_back mark.now parts.old.held) }

@@ -20,22 +20,17 @@ ghost use Rattle.cache_update.specs.Joins.{is_empty_of, added_by};
 ghost use Rattle.cache_update.specs.Marks.{Fits, WasBegun, kept_back, held_back, pairs_within};
 
 use crate::lists::{add_to, delete_from};
-use crate::mark::CacheMark;
+use crate::mark::Mark;
 use forest_place::Place;
 use forest_roots::{Join, Joins};
-use leaf_cache::{Cache, CacheLists};
+use leaf_cache::{Cache, Parts};
 use leaf_record::Record;
 use proof_shape::Targets;
 use proof_verify::Changes;
 use uo_digest::Digest;
 
 // The lists after the deletion of the block.
-fn delete_in(
-    parts: &mut CacheLists,
-    mark: &mut CacheMark,
-    targets: &Targets,
-    pairs: &[(Place, Digest)],
-)
+fn delete_in(parts: &mut Parts, mark: &mut Mark, targets: &Targets, pairs: &[(Place, Digest)])
     requires fits { Fits mark.old parts.old }
     requires begun { WasBegun targets.now mark.old parts.old }
     ensures kept { parts.new.kept ≡ moved_leaves targets.now.leaves targets.now.targets parts.old.kept }
@@ -68,8 +63,8 @@ fn delete_in(
 
 // The lists after an addition of the block.
 fn add_in(
-    parts: &mut CacheLists,
-    mark: &mut CacheMark,
+    parts: &mut Parts,
+    mark: &mut Mark,
     n: u64,
     digest: Digest,
     joins: &[Join],
@@ -102,7 +97,7 @@ fn add_in(
     mark.go_on(room, parts);
 }
 
-impl CacheMark {
+impl Mark {
     // An addition fewer is left, and a watched one where this is watched.
     fn count_one(&mut self, is_watched: bool)
         requires left { 0 < self.old.adds }
@@ -137,7 +132,7 @@ impl CacheMark {
 /// The entries that are spent go, and what is known moves with its place; a digest of `changes` stands where it is known.
 pub fn after_delete<D>(
     cache: &mut Cache<D>,
-    mark: &mut CacheMark,
+    mark: &mut Mark,
     targets: &Targets,
     changes: &Changes<'_>,
 )
@@ -172,7 +167,7 @@ pub fn after_delete<D>(
 /// joined, and `leaf` the new entry where its script is watched. Takes no memory.
 pub fn after_add<D>(
     cache: &mut Cache<D>,
-    mark: &mut CacheMark,
+    mark: &mut Mark,
     n: u64,
     digest: Digest,
     joins: &Joins,

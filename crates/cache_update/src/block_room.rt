@@ -15,7 +15,7 @@ use crate::deletion_goals::{goal_at, tell_goals};
 use crate::fault::BeginFault;
 use crate::mark::{BlockRoom, HeldScratch};
 use forest_place::{Place, is_within, position};
-use leaf_cache::{CacheLists, Kept};
+use leaf_cache::{Kept, Parts};
 use proof_shape::{Survey, Targets};
 use std::alloc::Global;
 use uo_base::NoMemory;
@@ -51,7 +51,7 @@ fn are_held_in(n: u64, held: &[(Place, Digest)]) -> bool
 }
 
 // Whether the lists are those of a forest over `n` entries.
-pub(crate) fn is_of_forest(n: u64, parts: &CacheLists) -> bool
+pub(crate) fn is_of_forest(n: u64, parts: &Parts) -> bool
     requires { n < 2 ^ 40 }
     ensures forest { OnTrue result (AreOfForest n parts.now) }
     ensures other { OnFalse result (AreOfForest n parts.now → ⊥) }
@@ -159,7 +159,7 @@ fn most_of(kept: &Survey, held: usize, n: u64, adds: u64) -> Option<usize>
 // Room for a block of this many additions, where this is told of its deletion.
 fn room_with(
     alloc: Global,
-    parts: &CacheLists,
+    parts: &Parts,
     targets: &Targets,
     adds: u64,
     kept: Survey,
@@ -196,7 +196,7 @@ fn room_with(
 // Room for a block of these targets and this many additions.
 pub(crate) fn room_for(
     alloc: Global,
-    parts: &CacheLists,
+    parts: &Parts,
     targets: &Targets,
     adds: u64,
 ) -> Result<Box<BlockRoom>, BeginFault>

@@ -5,8 +5,8 @@ ghost use Rattle.leaf_cache.specs.Parted.{Parted as PartedCache, HaveSameLists};
 ghost use Rattle.cache_update.specs.Marks.{Fits, kept_back, held_back};
 
 use crate::differ::{note_all_gained, note_all_lost};
-use crate::mark::CacheMark;
-use leaf_cache::{Cache, CacheLists, Kept, copies_of};
+use crate::mark::Mark;
+use leaf_cache::{Cache, Kept, Parts, copies_of};
 use std::alloc::Global;
 use uo_base::NoMemory;
 
@@ -24,7 +24,7 @@ fn numbers_of(alloc: Global, kept: &[Kept]) -> Result<Vec<u64>, NoMemory>
 }
 
 // A mark with no block, that gives back the older lists over the newer ones: of the held digests it has what differs.
-fn differing(alloc: Global, newer: &CacheLists, older: &CacheLists) -> Result<CacheMark, NoMemory>
+fn differing(alloc: Global, newer: &Parts, older: &Parts) -> Result<Mark, NoMemory>
     ensures kept { IfOk result (λ m. kept_back m newer.now.kept ≡ older.now.kept) }
     ensures held { IfOk result (λ m. held_back m newer.now.held ≡ older.now.held) }
     ensures done { IfOk result (λ m. (m.room ≡ None) × (m.adds ≡ 0)) }
@@ -35,7 +35,7 @@ fn differing(alloc: Global, newer: &CacheLists, older: &CacheLists) -> Result<Ca
     let mut gained = Vec::with_capacity(alloc, newer.held.len())?;
     note_all_lost(&mut lost, &newer.held, &older.held);
     note_all_gained(&mut gained, &newer.held, &older.held);
-    Ok(CacheMark {
+    Ok(Mark {
         leaves: 0,
         adds: 0,
         watched: 0,
@@ -49,7 +49,7 @@ fn differing(alloc: Global, newer: &CacheLists, older: &CacheLists) -> Result<Ca
 }
 
 // Makes room for these lists.
-fn make_room(parts: &mut CacheLists, older: &CacheLists) -> Result<(), NoMemory>
+fn make_room(parts: &mut Parts, older: &Parts) -> Result<(), NoMemory>
     ensures lists { HaveSameLists parts.new parts.old }
     ensures kept_room { parts.old.kept_room ≤ parts.new.kept_room }
     ensures held_room { parts.old.held_room ≤ parts.new.held_room }
@@ -66,9 +66,9 @@ fn make_room(parts: &mut CacheLists, older: &CacheLists) -> Result<(), NoMemory>
 pub fn between<D>(
     alloc: Global,
     cache: &mut Cache<D>,
-    newer: &CacheLists,
-    older: &CacheLists,
-) -> Result<CacheMark, NoMemory>
+    newer: &Parts,
+    older: &Parts,
+) -> Result<Mark, NoMemory>
     ensures lists { HaveSameLists cache.new.parts cache.old.parts }
     ensures watch { cache.new.watch ≡ cache.old.watch }
     ensures kept_room { cache.old.parts.kept_room ≤ cache.new.parts.kept_room }

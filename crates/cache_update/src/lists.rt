@@ -15,7 +15,7 @@ use crate::keep::{add_kept, move_kept};
 use crate::mark::HeldScratch;
 use forest_place::Place;
 use forest_roots::Join;
-use leaf_cache::{CacheLists, Kept};
+use leaf_cache::{Kept, Parts};
 use leaf_record::Record;
 use proof_shape::{Survey, Targets};
 use uo_digest::Digest;
@@ -23,7 +23,7 @@ use uo_digest::Digest;
 // The lists become those after a deletion of `targets`, where `kept` are the places at which the kept entries stand then. The
 // entries that are spent are taken out.
 pub(crate) fn delete_from(
-    parts: &mut CacheLists,
+    parts: &mut Parts,
     taken: &mut Vec<Kept>,
     scratch: &mut HeldScratch,
     targets: &Targets,
@@ -57,7 +57,7 @@ pub(crate) fn delete_from(
 
 // The lists become those after an addition to `n` entries that joined `joins`, where `leaf` is the output if it is watched.
 pub(crate) fn add_to(
-    parts: &mut CacheLists,
+    parts: &mut Parts,
     spare: &mut Vec<(Place, Digest)>,
     n: u64,
     digest: Digest,

@@ -7,7 +7,7 @@ use uo_digest::Digest;
 /// What a block took out of a cache, and which places it changed, with what was held there. It gives back the cache that was,
 /// over the one that the block left.
 #[derive(Drop)]
-pub struct CacheMark {
+pub struct Mark {
     // What is left of the block: additions to this many entries, and how many of them are watched.
     pub(crate) leaves: u64,
     pub(crate) adds: u64,

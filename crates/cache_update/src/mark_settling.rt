@@ -4,12 +4,12 @@ ghost use Rattle.leaf_cache.specs.Parted.{Parted};
 ghost use Rattle.cache_update.specs.Marks.{Fits, kept_back, held_back, HasRoomFor, HasRoomLeft};
 
 use crate::differ::{note_all_gained, note_all_lost, note_all_moved};
-use crate::mark::{BlockRoom, CacheMark};
-use leaf_cache::CacheLists;
+use crate::mark::{BlockRoom, Mark};
+use leaf_cache::Parts;
 
-impl CacheMark {
+impl Mark {
     // Goes on with the block. Once no addition is left the mark has what differs, and the room is freed.
-    pub(crate) fn go_on(&mut self, room: Box<BlockRoom>, parts: &CacheLists)
+    pub(crate) fn go_on(&mut self, room: Box<BlockRoom>, parts: &Parts)
         requires { HasRoomFor self.old parts.now room.value }
         ensures kept { kept_back self.new parts.now.kept ≡ kept_back self.old parts.now.kept }
         ensures held { held_back self.new parts.now.held ≡ room.value.before.items }
@@ -26,7 +26,7 @@ impl CacheMark {
     }
 
     // What differs from the lists when the block began, and nothing else.
-    fn settle(&mut self, room: BlockRoom, parts: &CacheLists)
+    fn settle(&mut self, room: BlockRoom, parts: &Parts)
         requires room { HasRoomFor self.old parts.now room }
         requires done { self.old.adds ≡ 0 }
         ensures kept { kept_back self.new parts.now.kept ≡ kept_back self.old parts.now.kept }

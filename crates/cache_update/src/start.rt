@@ -9,9 +9,9 @@ ghost use Rattle.cache_update.specs.Marks.{AreOfForest, Fits, WasBegun, kept_bac
 
 use crate::block_room::{is_of_forest, room_for};
 use crate::fault::BeginFault;
-use crate::mark::{BlockRoom, CacheMark};
+use crate::mark::{BlockRoom, Mark};
 use forest_place::Place;
-use leaf_cache::{Cache, CacheLists, Kept};
+use leaf_cache::{Cache, Kept, Parts};
 use proof_shape::Targets;
 use std::alloc::Global;
 use uo_base::NoMemory;
@@ -33,15 +33,15 @@ fn places_of(alloc: Global, kept: &[Kept]) -> Result<Vec<(u64, Place)>, NoMemory
 // A mark for a block of these targets and additions.
 fn mark_for(
     alloc: Global,
-    parts: &CacheLists,
+    parts: &Parts,
     targets: &Targets,
     adds: u64,
     watched: u64,
     room: Box<BlockRoom>,
-) -> Result<CacheMark, NoMemory>
+) -> Result<Mark, NoMemory>
     ensures { IfOk result (λ m. IsMark targets.now parts.now adds watched room m) }
 {
-    Ok(CacheMark {
+    Ok(Mark {
         leaves: targets.leaves(),
         adds,
         watched,
@@ -55,17 +55,17 @@ fn mark_for(
 }
 
 // Whether nothing is kept or held, and nothing comes that is watched.
-fn is_idle(parts: &CacheLists, adds: u64, watched: u64) -> bool
+fn is_idle(parts: &Parts, adds: u64, watched: u64) -> bool
     ensures { OnTrue result ((0 < adds) × (watched ≡ 0) × (parts.now.kept ≡ []) × (parts.now.held ≡ [])) }
 {
     adds > 0 && watched == 0 && parts.kept.is_empty() && parts.held.is_empty()
 }
 
 // A mark for additions that change nothing. It takes no memory.
-fn idle_mark(alloc: Global, leaves: u64, adds: u64) -> CacheMark
+fn idle_mark(alloc: Global, leaves: u64, adds: u64) -> Mark
     ensures { IsIdleMark leaves adds result }
 {
-    CacheMark {
+    Mark {
         leaves,
         adds,
         watched: 0,
@@ -81,11 +81,11 @@ fn idle_mark(alloc: Global, leaves: u64, adds: u64) -> CacheMark
 // A mark for a block that changes nothing of the lists, which are empty.
 fn begin_idle(
     alloc: Global,
-    parts: &mut CacheLists,
+    parts: &mut Parts,
     targets: &Targets,
     adds: u64,
     watched: u64,
-) -> Result<CacheMark, NoMemory>
+) -> Result<Mark, NoMemory>
     requires adds { 0 < adds }
     requires watched { watched ≡ 0 }
     requires nothing_kept { parts.old.kept ≡ [] }
@@ -101,12 +101,12 @@ fn begin_idle(
 // A mark with this room, and room in the lists for what the block adds to them. Of 2^64 entries there is no room for one more.
 fn begin_with(
     alloc: Global,
-    parts: &mut CacheLists,
+    parts: &mut Parts,
     targets: &Targets,
     adds: u64,
     watched: u64,
     room: Box<BlockRoom>,
-) -> Result<CacheMark, NoMemory>
+) -> Result<Mark, NoMemory>
     requires forest { AreOfForest targets.now.leaves parts.old }
     requires room { IsRoom targets.now parts.old adds room.value }
     requires ordered { IsParted parts.old }
@@ -126,11 +126,11 @@ fn begin_with(
 // A mark for a block, with the room that it takes, and room in the lists for what it adds to them.
 fn begin_changing(
     alloc: Global,
-    parts: &mut CacheLists,
+    parts: &mut Parts,
     targets: &Targets,
     adds: u64,
     watched: u64,
-) -> Result<CacheMark, BeginFault>
+) -> Result<Mark, BeginFault>
     ensures lists { KeepsLists parts.old parts.new }
     ensures ok { IfOk result (BeginsBlock targets.now adds watched parts.old parts.new) }
     ensures err { IfErr result (λ fault. IsBeginFault targets.now.leaves parts.old fault) }
@@ -145,11 +145,11 @@ fn begin_changing(
 // A mark for a block, and room in the lists for what the block adds to them.
 fn begin_in(
     alloc: Global,
-    parts: &mut CacheLists,
+    parts: &mut Parts,
     targets: &Targets,
     adds: u64,
     watched: u64,
-) -> Result<CacheMark, BeginFault>
+) -> Result<Mark, BeginFault>
     ensures lists { KeepsLists parts.old parts.new }
     ensures ok { IfOk result (BeginsBlock targets.now adds watched parts.old parts.new) }
     ensures err { IfErr result (λ fault. IsBeginFault targets.now.leaves parts.old fault) }
@@ -172,7 +172,7 @@ pub fn begin<D>(
     targets: &Targets,
     adds: u64,
     watched: u64,
-) -> Result<CacheMark, BeginFault>
+) -> Result<Mark, BeginFault>
     ensures lists { HaveSameLists cache.new.parts cache.old.parts }
     ensures watch { cache.new.watch ≡ cache.old.watch }
     ensures kept_room { cache.old.parts.kept_room ≤ cache.new.parts.kept_room }
@@ -188,7 +188,7 @@ pub fn begin<D>(
 }
 
 // The mark of a block that changes nothing of the lists, which are empty and stay so.
-fn unchanged_in(alloc: Global, parts: &mut CacheLists) -> Result<CacheMark, NoMemory>
+fn unchanged_in(alloc: Global, parts: &mut Parts) -> Result<Mark, NoMemory>
     requires kept { parts.old.kept ≡ [] }
     requires held { parts.old.held ≡ [] }
     ensures lists { KeepsLists parts.old parts.new }
@@ -203,7 +203,7 @@ fn unchanged_in(alloc: Global, parts: &mut CacheLists) -> Result<CacheMark, NoMe
 
 /// The mark of a block of which a cache that keeps and holds nothing is told nothing, neither what it deletes nor what it adds, since
 /// none of its outputs is watched. What the cache keeps and holds stays nothing, and the mark gives it back.
-pub fn unchanged<D>(alloc: Global, cache: &mut Cache<D>) -> Result<CacheMark, NoMemory>
+pub fn unchanged<D>(alloc: Global, cache: &mut Cache<D>) -> Result<Mark, NoMemory>
     requires kept { cache.old.parts.kept ≡ [] }
     requires held { cache.old.parts.held ≡ [] }
     ensures lists { HaveSameLists cache.new.parts cache.old.parts }

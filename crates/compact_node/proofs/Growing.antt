@@ -15,7 +15,7 @@ use Rattle.cache_model.specs.declared.kept.Kept.{Kept}
 use Rattle.cache_model.specs.Known.{is_watched}
 use Rattle.cache_model.specs.Lists.{leaves_more}
 use Rattle.leaf_cache.specs.Parted.{Parted}
-use Rattle.cache_update.specs.declared.mark.CacheMark.{CacheMark}
+use Rattle.cache_update.specs.declared.mark.Mark.{Mark}
 use Rattle.cache_update.specs.Joins.{is_empty_of, added_by}
 use Rattle.cache_update.specs.Marks.{Fits}
 use Rattle.compact_node.specs.After.{with_leaf, with_leaves, kept_with, held_with, kept_with_all, held_with_all}
@@ -93,7 +93,7 @@ module _ (H : List ℕ → Digest) (scripts : List (List ℕ)) where
   held_more f (y ∷ ys) x hs = held_more (with_leaf H f (H (leaf_text y))) ys x (held_with H scripts f y hs)
 
 -- one change after the other
-pub goes_on : (m m' m'' : CacheMark) (p p' p'' : Parted) → GoesOn m p m' p' → GoesOn m' p' m'' p'' → GoesOn m p m'' p''
+pub goes_on : (m m' m'' : Mark) (p p' p'' : Parted) → GoesOn m p m' p' → GoesOn m' p' m'' p'' → GoesOn m p m'' p''
 goes_on m m' m'' p p' p'' a b = record {
   fits = b.fits;
   same_kept = b.same_kept ∙ a.same_kept;
@@ -104,8 +104,8 @@ goes_on m m' m'' p p' p'' a b = record {
 
 -- ---- after i outputs: left are those that come, where they are watched
 
-pub record IsGrowing (H : List ℕ → Digest) (scripts : List (List ℕ)) (f : Stump) (p : Parted) (m : CacheMark) (start : ℕ)
-    (new : List Leaf) (i : ℕ) (left : List (Option Leaf)) (roots : Stump) (now : Parted) (watch : List (List ℕ)) (mark : CacheMark) (steps : ℕ) : Type
+pub record IsGrowing (H : List ℕ → Digest) (scripts : List (List ℕ)) (f : Stump) (p : Parted) (m : Mark) (start : ℕ)
+    (new : List Leaf) (i : ℕ) (left : List (Option Leaf)) (roots : Stump) (now : Parted) (watch : List (List ℕ)) (mark : Mark) (steps : ℕ) : Type
     0 where
   pub appending : IsAppending H f start new i roots steps
   pub within : i ≤ length new
@@ -118,7 +118,7 @@ pub record IsGrowing (H : List ℕ → Digest) (scripts : List (List ℕ)) (f : 
   pub adds : mark.adds ≡ length left
   pub watched : mark.watched ≡ count_by is_some left
 
-module _ (H : List ℕ → Digest) (scripts : List (List ℕ)) (f : Stump) (p : Parted) (m : CacheMark) (start : ℕ)
+module _ (H : List ℕ → Digest) (scripts : List (List ℕ)) (f : Stump) (p : Parted) (m : Mark) (start : ℕ)
     (new : List Leaf) where
   pub growing_begins : (left : List (Option Leaf)) → Fits m p → left ≡ map (watched_leaf scripts) new → m.adds ≡ length new
       → m.watched ≡ count_by is_some left → m.leaves ≡ f.leaves →
@@ -136,7 +136,7 @@ module _ (H : List ℕ → Digest) (scripts : List (List ℕ)) (f : Stump) (p : 
     watched = watched;
   }
 
-  module _ (i : ℕ) (left : List (Option Leaf)) (roots : Stump) (now : Parted) (watch : List (List ℕ)) (mark : CacheMark) (steps : ℕ)
+  module _ (i : ℕ) (left : List (Option Leaf)) (roots : Stump) (now : Parted) (watch : List (List ℕ)) (mark : Mark) (steps : ℕ)
       (g : IsGrowing H scripts f p m start new i left roots now watch mark steps) where
     module _ (x : Option Leaf) (later : List (Option Leaf)) (head : left ≡ x ∷ later) where
       next : (slice_get (map (watched_leaf scripts) new) i ≡ Some x) × (later ≡ drop (i + 1) (map (watched_leaf scripts) new))
@@ -156,7 +156,7 @@ module _ (H : List ℕ → Digest) (scripts : List (List ℕ)) (f : Stump) (p : 
       growing_few few = omega (arith, few, g.appending.counted, growing_within)
 
       -- what the addition makes
-      pub grown_once : (leaf : Leaf) (d : Digest) (roots' : Stump) (now' : Parted) (watch' : List (List ℕ)) (mark' : CacheMark) (after : ℕ)
+      pub grown_once : (leaf : Leaf) (d : Digest) (roots' : Stump) (now' : Parted) (watch' : List (List ℕ)) (mark' : Mark) (after : ℕ)
           → slice_get new i ≡ Some leaf → d ≡ H (leaf_text leaf) →
           roots' ≡ with_leaf H roots d → after + count_ones roots'.leaves ≤ steps + 1 + count_ones roots.leaves →
           now'.kept ≡ leaves_more (is_empty_of (joins_of H roots d)) roots.leaves (length (joins_of H roots d)) x d now.kept →

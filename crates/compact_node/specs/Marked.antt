@@ -5,7 +5,7 @@ use Rattle.forest_place.specs.declared.place.Place.{Place}
 use Rattle.forest_roots.specs.Stump.{Stump}
 use Rattle.cache_model.specs.declared.kept.Kept.{Kept}
 use Rattle.leaf_cache.specs.Parted.{Parted}
-use Rattle.cache_update.specs.declared.mark.CacheMark.{CacheMark}
+use Rattle.cache_update.specs.declared.mark.Mark.{Mark}
 use Rattle.cache_update.specs.Marks.{Fits, kept_back, held_back}
 use Rattle.block_rules.specs.declared.chain.Chain.{Chain}
 use Rattle.node_rules.specs.Judging.{Rules}
@@ -15,10 +15,10 @@ use Rattle.compact_node.specs.Node.{LevelState, NodeState, IsNode}
 pub record PastState : Type 0 where
   pub chain : Chain
   pub roots : Stump
-  pub mark : CacheMark
+  pub mark : Mark
 
 -- the lists that a mark gives back, in the same room
-abbrev pub given_by : CacheMark → Parted → Parted
+abbrev pub given_by : Mark → Parted → Parted
 given_by m p = record { kept = kept_back m p.kept; held = held_back m p.held; kept_room = p.kept_room; held_room = p.held_room }
 
 -- a level with these lists
@@ -49,7 +49,7 @@ pub record IsMarked (rules : Rules) (scripts : List (List ℕ)) (chain : Chain) 
   pub marks : MarksFit past p
 
 -- behind a change the mark fits, and gives back what it gave back before
-pub record GoesOn (m : CacheMark) (p : Parted) (m' : CacheMark) (p' : Parted) : Type 0 where
+pub record GoesOn (m : Mark) (p : Parted) (m' : Mark) (p' : Parted) : Type 0 where
   pub fits : Fits m' p'
   pub same_kept : kept_back m' p'.kept ≡ kept_back m p.kept
   pub same_held : held_back m' p'.held ≡ held_back m p.held

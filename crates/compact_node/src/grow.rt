@@ -18,7 +18,7 @@ ghost use Rattle.compact_node.specs.Pending.{pending};
 
 use crate::unwatched::{grow_unwatched, watches_nothing};
 use block_rules::Spends;
-use cache_update::{BeginFault, CacheMark, after_add, after_delete, begin};
+use cache_update::{BeginFault, Mark, after_add, after_delete, begin};
 use forest_roots::{Joins, Roots};
 use leaf_cache::{Cache, Watch};
 use leaf_record::{LeafBuf, Record, RecordView, leaf_digests};
@@ -88,7 +88,7 @@ fn take_watched(left: &mut Vec<(u64, Record)>, i: u64) -> Option<Record>
 // Adds an entry, which is kept where it is watched.
 fn add<D: Digester, L: Ledger>(
     cache: &mut Cache<D>,
-    mark: &mut CacheMark,
+    mark: &mut Mark,
     roots: &mut Roots<D>,
     joins: &mut Joins,
     digest: Digest,
@@ -122,7 +122,7 @@ fn add<D: Digester, L: Ledger>(
 // Adds the block's new records, which have these digests, in their order. Of those that are watched the records are in `leaves`.
 fn append<D: Digester, L: Ledger>(
     cache: &mut Cache<D>,
-    mark: &mut CacheMark,
+    mark: &mut Mark,
     roots: &mut Roots<D>,
     joins: &mut Joins,
     spends: &Spends<'_>,
@@ -160,7 +160,7 @@ fn begin_block<D>(
     targets: &Targets,
     adds: u64,
     watched: u64,
-) -> Result<CacheMark, NoMemory>
+) -> Result<Mark, NoMemory>
     requires { IsOfForest targets.now.leaves cache.old.parts }
     ensures lists { HaveSameLists cache.new.parts cache.old.parts }
     ensures watch { cache.new.watch ≡ cache.old.watch }
@@ -190,7 +190,7 @@ fn grow_watched<D: Digester, L: Ledger>(
     changes: &Changes<'_>,
     spends: &Spends<'_>,
     steps: &mut Steps<L>,
-) -> Result<CacheMark, NoMemory>
+) -> Result<Mark, NoMemory>
     requires entries { targets.now.leaves ≡ roots.old.leaves }
     requires forest { IsOfForest roots.old.leaves cache.old.parts }
     requires few { roots.old.leaves + length spends.now.new < 2 ^ 40 }
@@ -235,7 +235,7 @@ pub(crate) fn grow<D: Digester, L: Ledger>(
     changes: &Changes<'_>,
     spends: &Spends<'_>,
     steps: &mut Steps<L>,
-) -> Result<CacheMark, NoMemory>
+) -> Result<Mark, NoMemory>
     requires entries { targets.now.leaves ≡ roots.old.leaves }
     requires forest { IsOfForest roots.old.leaves cache.old.parts }
     requires few { roots.old.leaves + length spends.now.new < 2 ^ 40 }

@@ -2,7 +2,7 @@
 ghost use Rattle.std.specs.Prelude.{◌≡◌};
 
 use block_rules::Chain;
-use cache_update::CacheMark;
+use cache_update::Mark;
 use forest_roots::PackedRoots;
 use std::marker::Model;
 
@@ -11,7 +11,7 @@ use std::marker::Model;
 pub(crate) struct Past<D> {
     pub(crate) chain: Chain,
     pub(crate) roots: PackedRoots<D>,
-    pub(crate) mark: CacheMark,
+    pub(crate) mark: Mark,
 }
 
 impl<D> Model for Past<D> {
@@ -34,7 +34,7 @@ impl<D> Drop for Past<D> {
 
 impl<D> Past<D> {
     /// Its chain, roots and mark.
-    pub(crate) fn into_parts(self) -> (Chain, PackedRoots<D>, CacheMark)
+    pub(crate) fn into_parts(self) -> (Chain, PackedRoots<D>, Mark)
         ensures { self ≡ record { chain = result.0; roots = result.1; mark = result.2 } }
     {
         let Past { chain, roots, mark } = self;

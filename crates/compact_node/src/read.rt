@@ -13,7 +13,7 @@ use crate::past::Past;
 use block_rules::Chain;
 use cache_update::between;
 use forest_roots::{Joins, Roots};
-use leaf_cache::{Cache, CacheLists, Watch};
+use leaf_cache::{Cache, Parts, Watch};
 use leaf_record::LeafBuf;
 use reorg_undo::Ring;
 use state_text::{StateFault, StoredLevel, StoredState};
@@ -90,7 +90,7 @@ fn older_of<D: Digester>(
 }
 
 // The lists, which have nothing, become those of the copy.
-fn take_over(lists: &mut CacheLists, copy: &mut CacheLists) -> Result<(), NoMemory>
+fn take_over(lists: &mut Parts, copy: &mut Parts) -> Result<(), NoMemory>
     requires { HasNothing lists.old }
     ensures lists { OnOk result (HaveSameLists lists.new copy.old) }
     ensures kept_room { lists.old.kept_room ≤ lists.new.kept_room }
@@ -105,7 +105,7 @@ fn take_over(lists: &mut CacheLists, copy: &mut CacheLists) -> Result<(), NoMemo
 fn fill<D: Digester>(
     alloc: Global,
     cache: &mut Cache<D>,
-    parts: &CacheLists,
+    parts: &Parts,
 ) -> Result<(), NoMemory>
     requires { HasNothing cache.old.parts }
     ensures lists { OnOk result (HaveSameLists cache.new.parts parts.now) }

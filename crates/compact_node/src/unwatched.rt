@@ -7,7 +7,7 @@ ghost use Rattle.cache_update.specs.Marks.{Fits, kept_back, held_back};
 ghost use Rattle.compact_node.specs.After.{with_leaves};
 
 use block_rules::Spends;
-use cache_update::{CacheMark, unchanged};
+use cache_update::{Mark, unchanged};
 use forest_roots::Roots;
 use leaf_cache::Cache;
 use leaf_record::{LeafBuf, put_leaf_digests};
@@ -83,7 +83,7 @@ pub(crate) fn grow_unwatched<D: Digester, L: Ledger>(
     room: &mut LeafBuf<D>,
     spends: &Spends<'_>,
     steps: &mut Steps<L>,
-) -> Result<CacheMark, NoMemory>
+) -> Result<Mark, NoMemory>
     requires nothing { HasNothing cache.old.parts }
     requires few { roots.old.leaves + length spends.now.new < 2 ^ 40 }
     ensures roots { OnOk result (roots.new ≡ with_leaves D.digest_of roots.old (map (λ leaf. D.digest_of (leaf_text leaf)) spends.now.new)) }

@@ -15,7 +15,7 @@ use crate::node::Node;
 use crate::past::Past;
 use cache_update::step_back;
 use forest_roots::Roots;
-use leaf_cache::CacheLists;
+use leaf_cache::Parts;
 use reorg_undo::Ring;
 use state_text::{write_front, write_level};
 use std::alloc::Global;
@@ -26,7 +26,7 @@ use uo_digest::{Digest, Digester};
 fn write_past<W: Sink, D: Digester>(
     alloc: Global,
     sink: &mut W,
-    parts: &mut CacheLists,
+    parts: &mut Parts,
     past: &Past<D>,
 ) -> Result<(), SinkFault>
     requires { CanBeWritten past.now parts.old.kept }
@@ -47,7 +47,7 @@ fn write_past<W: Sink, D: Digester>(
 fn write_older<W: Sink, D: Digester>(
     alloc: Global,
     sink: &mut W,
-    parts: &mut CacheLists,
+    parts: &mut Parts,
     older: &Ring<Past<D>>,
 ) -> Result<(), SinkFault>
     requires { AllCanBeWritten older.now parts.old.kept }
@@ -68,7 +68,7 @@ fn write_levels<W: Sink, D: Digester>(
     sink: &mut W,
     tip: Digest,
     roots: &Roots<D>,
-    parts: &mut CacheLists,
+    parts: &mut Parts,
     older: &Ring<Past<D>>,
 ) -> Result<(), SinkFault>
     requires newest { HasShape roots.now.leaves (leaf_places parts.old.kept) }

@@ -1,7 +1,7 @@
 -- What a cache ends as, where its parts are lent for writing.
 use Rattle.std.specs.Borrow.{Lends, Fml, RattleType, MutBor}
 use Rattle.leaf_cache.specs.contracts.cache.Cache.{the_row}
-use Rattle.leaf_cache.specs.contracts.cache_lists.CacheLists.{the_row as parts_row}
+use Rattle.leaf_cache.specs.contracts.parts.Parts.{the_row as parts_row}
 use Rattle.leaf_cache.specs.declared.cache.Cache.{Cache}
 use Rattle.leaf_cache.specs.Parted.{Parted}
 

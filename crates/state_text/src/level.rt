@@ -1,7 +1,7 @@
 //! A level that is stored.
 
 use forest_roots::Roots;
-use leaf_cache::CacheLists;
+use leaf_cache::Parts;
 use std::marker::Model;
 use uo_digest::Digest;
 
@@ -13,7 +13,7 @@ pub struct StoredLevel<D> {
     /// The roots of all entries.
     pub roots: Roots<D>,
     /// The entries that are kept, and the digests that are held for them.
-    pub parts: CacheLists,
+    pub parts: Parts,
 }
 
 impl<D> Model for StoredLevel<D> {

@@ -25,7 +25,7 @@ use crate::state::StoredState;
 use crate::targets::targets_of;
 use forest_place::{Naming, Place};
 use forest_roots::Roots;
-use leaf_cache::{CacheLists, Kept, Watch, digest_in};
+use leaf_cache::{Parts, Kept, Watch, digest_in};
 use leaf_record::{Record, RecordView, write_rest};
 use proof_shape::Survey;
 use std::alloc::Global;
@@ -261,7 +261,7 @@ fn level_bytes<D: Digester>(
     alloc: Global,
     tip: Digest,
     roots: &Roots<D>,
-    parts: &CacheLists,
+    parts: &Parts,
 ) -> Result<Vec<u8>, NoMemory>
     requires { HasShape roots.now.leaves (leaf_places parts.now.kept) }
     ensures { IfOk result (λ bytes. bytes.items
@@ -313,7 +313,7 @@ pub fn write_level<W: Sink, D: Digester>(
     sink: &mut W,
     tip: Digest,
     roots: &Roots<D>,
-    parts: &CacheLists,
+    parts: &Parts,
 ) -> Result<(), SinkFault>
     requires { HasShape roots.now.leaves (leaf_places parts.now.kept) }
     ensures whole { OnOk result (Appends (W.held sink.old) (W.held sink.new)

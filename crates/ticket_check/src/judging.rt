@@ -10,7 +10,7 @@ use forest_roots::Roots;
 use leaf_record::{LeafBuf, leaf_digest};
 use node_rules::proof_refusal_of;
 use proof_shape::Targets;
-use proof_verify::{ProofScratch, check_and_delete};
+use proof_verify::{Scratch, check_and_delete};
 use std::alloc::Global;
 use std::sync::ledger::Ledger;
 use uo_base::NoMemory;
@@ -32,7 +32,7 @@ fn fault_at<D: Digester, L: Ledger>(
     let mut room = LeafBuf::<D>::new(alloc)?;
     let leaf = leaf_digest::<D, L>(&mut room, &ticket.leaf(), steps);
     let hashes = copies_of(alloc, &ticket.hashes())?;
-    let mut scratch = ProofScratch::new(alloc);
+    let mut scratch = Scratch::new(alloc);
     // What the deletion changes is not asked for.
     scratch.reserve_for(targets, false)?;
     let mut copy = roots.copy();

@@ -6,12 +6,12 @@ ghost use Rattle.cache_update.specs.Marks.{Fits};
 
 use super::plain::{Plain, digest_at, is_known, part_at};
 use crate::output;
-use cache_update::{CacheMark, after_add, after_delete, begin, undo};
+use cache_update::{Mark, after_add, after_delete, begin, undo};
 use forest_place::{Place, position};
 use forest_roots::Roots;
 use leaf_cache::{Cache, Watch};
 use proof_shape::Targets;
-use proof_verify::{ProofScratch, check_and_delete};
+use proof_verify::{Scratch, check_and_delete};
 use std::alloc::{AllocError, Global};
 use std::marker::Brand;
 use std::process::Abort;
@@ -211,7 +211,7 @@ fn spend<D: Digester, L: Ledger>(
     spent: u32,
     adds: u64,
     steps: &mut Steps<L>,
-) -> CacheMark
+) -> Mark
     ensures fits { Fits result cache.new.parts }
     ensures left { result.adds ≡ adds }
     ensures watched { result.watched ≡ adds }
@@ -229,7 +229,7 @@ fn spend<D: Digester, L: Ledger>(
     let Ok(mut mark) = begin(alloc, cache, &targets, adds, adds) else {
         panic!(rt; "no mark")
     };
-    let mut scratch = ProofScratch::new(alloc);
+    let mut scratch = Scratch::new(alloc);
     let Ok(()) = scratch.reserve(&targets) else {
         panic!(rt; "no memory")
     };
@@ -248,7 +248,7 @@ fn add<D: Digester, L: Ledger>(
     rt: &impl Abort,
     alloc: Global,
     cache: &mut Cache<D>,
-    mark: &mut CacheMark,
+    mark: &mut Mark,
     roots: &mut Roots<D>,
     is_watched: bool,
     steps: &mut Steps<L>,
@@ -284,7 +284,7 @@ fn block<D: Digester, L: Ledger>(
     spent: u32,
     added: &[bool],
     steps: &mut Steps<L>,
-) -> CacheMark
+) -> Mark
     ensures fits { Fits result cache.new.parts }
 {
     let adds = added.len() as u64;

@@ -8,7 +8,7 @@ use forest_place::Place;
 use forest_roots::Roots;
 use proof_shape::{Survey, Targets};
 use proof_verify::{
-    CoveredPlace, Preimage, ProofFault, ProofScratch, check_and_delete, evaluate_covered,
+    CoveredPlace, Preimage, ProofFault, Scratch, check_and_delete, evaluate_covered,
 };
 use std::alloc::Global;
 use std::marker::Brand;
@@ -34,7 +34,7 @@ fn check<L: Ledger>(
     let Ok(targets) = Targets::new(alloc, roots.leaves(), positions) else {
         panic!(rt; "no targets")
     };
-    let mut scratch = ProofScratch::new(alloc);
+    let mut scratch = Scratch::new(alloc);
     let Ok(()) = scratch.reserve(&targets) else {
         panic!(rt; "no memory")
     };

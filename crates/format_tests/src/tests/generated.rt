@@ -1,5 +1,5 @@
 //! Feeds beside the lengths and the digests that an independent program gives.
-use chain_gen::{FeedCounts, GenFault, generate};
+use chain_gen::{Made, GenFault, generate};
 use std::test::Fail;
 use uo_base::{MemSink, Net};
 use uo_digest::{Digest, hex_plain};
@@ -107,6 +107,6 @@ fn a_sink_that_fails(rt: HostRuntime) -> Result<(), Fail> {
     assert!(rt; sink.held().len() < 8_121);
     let mut sink = MemSink::new(rt.alloc(), 100, Vec::new(rt.alloc()));
     let made = generate(rt.alloc(), 9, 51, Net::Main, &mut sink);
-    assert!(rt; matches!(made, Ok(FeedCounts { blocks: 51, .. })));
+    assert!(rt; matches!(made, Ok(Made { blocks: 51, .. })));
     Ok(())
 }

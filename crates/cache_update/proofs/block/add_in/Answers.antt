@@ -6,7 +6,7 @@ use Rattle.std.specs.Option.{option_to_list}
 use Rattle.cache_model.specs.declared.kept.Kept.{Kept}
 use Rattle.cache_update.specs.Joins.{is_empty_of}
 use Rattle.cache_update.specs.Marks.{BoxedRoom, HasRoomLeft, HasRoomFor, AreOfForest, IsIdle, held_from}
-use Rattle.cache_update.specs.declared.mark.CacheMark.{CacheMark}
+use Rattle.cache_update.specs.declared.mark.Mark.{Mark}
 use Rattle.cache_update.specs.declared.mark.BlockRoom.{BlockRoom}
 use Rattle.cache_update.specs.Given.{kept_given}
 use Rattle.cache_update.proofs.Giving.{stood_key}
@@ -127,14 +127,14 @@ returns-in_default-clause-kept_back c =
     let idle : IsIdle c.args.mark.now c.args.parts.now =
     subst (HasRoomLeft c.args.mark.now c.args.parts.now) was c.requires.fits.left c.requires.left in
     let none = unwatched c.args.leaf c.args.mark.now.watched c.requires.watched idle.watched in
-    let left : CacheMark = record c.count_one.new.self { room = c.take.new.self } in
+    let left : Mark = record c.count_one.new.self { room = c.take.new.self } in
     same_back c.args.mark.now left c.args.parts.now.kept c.count_one.ensures.taken c.count_one.ensures.stood
     (none_counted c.args.leaf c.args.mark.now.added.items _ c.args.mark.now.leaves c.is_some.result c.is_some.ensures none c.count_one.ensures.added)
 
 pub returns-in_default-clause-held_back : goal.returns-in_default-clause-held_back
 returns-in_default-clause-held_back c =
     let was : c.args.mark.now.room ≡ None = sym c.count_one.ensures.room ∙ (sym c.take.ensures.value ∙ c.in_default.is) in
-    let left : CacheMark = record c.count_one.new.self { room = c.take.new.self } in
+    let left : Mark = record c.count_one.new.self { room = c.take.new.self } in
     same_held c.args.mark.now left c.args.parts.now.held was c.take.ensures.after c.count_one.ensures.lost c.count_one.ensures.gained
 
 pub returns-in_default-clause-fits : goal.returns-in_default-clause-fits
@@ -143,6 +143,6 @@ returns-in_default-clause-fits c =
     let idle : IsIdle c.args.mark.now c.args.parts.now =
     subst (HasRoomLeft c.args.mark.now c.args.parts.now) was c.requires.fits.left c.requires.left in
     let none = unwatched c.args.leaf c.args.mark.now.watched c.requires.watched idle.watched in
-    let left : CacheMark = record c.count_one.new.self { room = c.take.new.self } in
+    let left : Mark = record c.count_one.new.self { room = c.take.new.self } in
     idle_on c.args.mark.now left c.args.parts.now c.take.ensures.after (returns-in_default-clause-kept_back c) (returns-in_default-clause-held_back c)
     (omega (arith, c.count_one.ensures.watched, idle.watched)) idle c.requires.fits

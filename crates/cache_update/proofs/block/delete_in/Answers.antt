@@ -1,6 +1,6 @@
 use Rattle.std.proofs.Common.{◌≡◌, ◌<◌, ℕ, length, Option, None, refl, sym, ap, ◌∙◌, subst, All, arith}
 use Rattle.cache_model.specs.Lists.{moved_leaf}
-use Rattle.cache_update.specs.declared.mark.CacheMark.{CacheMark}
+use Rattle.cache_update.specs.declared.mark.Mark.{Mark}
 use Rattle.cache_update.specs.declared.mark.BlockRoom.{BlockRoom}
 use Rattle.cache_update.specs.Marks.{BoxedRoom, HasRoomLeft, HasRoomFor, AreOfForest, IsUnused, IsUnusedIn, IsKnownIn, IsIdle, held_from}
 use Rattle.cache_update.specs.Marks.{pairs_within}
@@ -84,7 +84,7 @@ returns-in_default-clause-held c =
 pub returns-in_default-clause-held_back : goal.returns-in_default-clause-held_back
 returns-in_default-clause-held_back c =
     let was : c.args.mark.now.room ≡ None = sym c.take.ensures.value ∙ c.in_default.is in
-    let left : CacheMark = record c.args.mark.now { room = c.take.new.self } in
+    let left : Mark = record c.args.mark.now { room = c.take.new.self } in
     same_held c.args.mark.now left c.args.parts.now.held was c.take.ensures.after refl refl
 
 pub returns-in_default-clause-fits : goal.returns-in_default-clause-fits
@@ -92,5 +92,5 @@ returns-in_default-clause-fits c =
     let was : c.args.mark.now.room ≡ None = sym c.take.ensures.value ∙ c.in_default.is in
     let some : 0 < c.args.mark.now.adds = subst (IsUnusedIn c.args.targets.now c.args.mark.now c.args.parts.now) was c.requires.begun in
     let idle : IsIdle c.args.mark.now c.args.parts.now = subst (HasRoomLeft c.args.mark.now c.args.parts.now) was c.requires.fits.left some in
-    let left : CacheMark = record c.args.mark.now { room = c.take.new.self } in
+    let left : Mark = record c.args.mark.now { room = c.take.new.self } in
     idle_on c.args.mark.now left c.args.parts.now c.take.ensures.after refl (returns-in_default-clause-held_back c) idle.watched idle c.requires.fits

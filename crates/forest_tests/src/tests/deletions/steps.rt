@@ -5,7 +5,7 @@ ghost use Rattle.forest_place.specs.Position.{rows};
 use crate::digest;
 use forest_roots::Roots;
 use proof_shape::Targets;
-use proof_verify::{ProofScratch, check_and_delete};
+use proof_verify::{Scratch, check_and_delete};
 use std::alloc::Global;
 use std::marker::Brand;
 use std::process::Abort;
@@ -29,7 +29,7 @@ fn accept<L: Ledger>(
     let Ok(targets) = Targets::new(alloc, roots.leaves(), positions) else {
         panic!(rt; "no targets")
     };
-    let mut scratch = ProofScratch::new(alloc);
+    let mut scratch = Scratch::new(alloc);
     let Ok(()) = scratch.reserve(&targets) else {
         panic!(rt; "no memory")
     };

@@ -2,7 +2,7 @@ use Rattle.std.proofs.Common.{ℕ, ◌<◌, ◌^◌, Bool, true, false, [], refl
 use Rattle.proof_shape.proofs.Longer.{shape_none}
 use Rattle.proof_shape.proofs.Untargeted.{covers}
 use Rattle.proof_verify.specs.Reserved.{IsReserved, AreToldPlaces}
-use Rattle.proof_verify.proofs.proof_scratch.ProofScratch.for_none.Goals as goal
+use Rattle.proof_verify.proofs.scratch.Scratch.for_none.Goals as goal
 
 none_new : (tells : Bool) (n : ℕ) → AreToldPlaces tells n [] [] []
 none_new true n = record {

@@ -8,7 +8,7 @@ use Rattle.cache_update.specs.Given.{held_given}
 use Rattle.cache_update.proofs.Differing.{differences_give}
 use Rattle.cache_update.proofs.Passes.{from_nothing}
 use Rattle.cache_update.proofs.Marking.{settling_keeps}
-use Rattle.cache_update.proofs.mark.CacheMark.settle.Goals as goal
+use Rattle.cache_update.proofs.mark.Mark.settle.Goals as goal
 
 pub returns-clause-kept : goal.returns-clause-kept
 returns-clause-kept c =
