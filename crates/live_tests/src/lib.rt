@@ -3,7 +3,8 @@
 //! They stand in a crate of their own, so that none of these crates is proved a second time for them.
 #![tactic(auto)]
 
-ghost use Rattle.std.specs.Prelude.{◌≡◌, take, to_le_bytes, w64};
+ghost use Rattle.std.specs.Int.{w64, to_le_bytes};
+ghost use Rattle.std.specs.Prelude.{◌≡◌, take};
 
 #[cfg(test)]
 mod tests;

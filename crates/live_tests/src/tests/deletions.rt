@@ -126,13 +126,17 @@ fn judge<L: Ledger>(
     said: &[(Place, Digest)],
     steps: &mut Steps<L>,
 ) -> Result<Vec<(Place, Digest)>, ProofFault> {
+    let Ok(digests) = digests_of(alloc, said) else {
+        panic!(rt; "no memory")
+    };
     let mut scratch = Scratch::new(alloc);
-    let (Ok(()), Ok(digests)) = (scratch.reserve(targets), digests_of(alloc, said)) else {
+    let Ok(()) = scratch.reserve(targets) else {
         panic!(rt; "no memory")
     };
     let count = targets.len() as usize;
     assert!(rt; count <= digests.len() && targets.leaves() == roots.leaves());
     let (leaves, hashes) = digests.split_at(count);
+    assert!(rt; leaves.len() == count);
     match check_and_delete(roots, targets, leaves, hashes, &mut scratch, steps) {
         Ok(changes) => match Vec::from_slice(alloc, changes.pairs()) {
             Ok(pairs) => Ok(pairs),
@@ -177,7 +181,11 @@ fn pair_of(
 ) -> Option<usize>
     requires { InForest targets.now.leaves above.row above.off }
 {
-    if !targets.places().iter().any(|target| above != *target && is_above(above, *target)) {
+    if !targets
+        .places()
+        .iter()
+        .any(|target| above != *target && is_above(above, *target))
+    {
         return None;
     }
     let goes = targets.moved(above)?;

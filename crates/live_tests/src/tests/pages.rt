@@ -1,9 +1,7 @@
 //! Some hundred entries on several pages, of which some are let go.
 ghost use Rattle.std.specs.Prelude.{◌≡◌, ◌<◌};
 
-use super::beside::{
-    Both, Pick, add, add_all, check, cut, forget_each, spend_all, turn_each,
-};
+use super::beside::{Both, Pick, add, add_all, check, cut, forget_each, spend_all, turn_each};
 use live_forest::Forest;
 use std::alloc::{AllocError, Global};
 use std::marker::Brand;

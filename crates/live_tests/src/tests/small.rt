@@ -24,7 +24,7 @@ fn start<L: Ledger>(
         held: Vec::new(alloc),
     };
     both.forest.reserve(9)?;
-    for number in 1..8 {
+    for number in 1..8u64 {
         if forest >> number > 0 {
             add(rt, &mut both, steps)?;
         }
@@ -44,9 +44,10 @@ fn change<L: Ledger>(
     number: u64,
     steps: &mut Steps<L>,
 ) -> Result<(), AllocError> {
+    let leaves = both.forest.leaves();
     match number {
         0..=7 => turn(both, number, steps),
-        8..=10 => cut(both, both.forest.leaves().saturating_sub(number - 7), steps),
+        8..=10 => cut(both, leaves.saturating_sub(number - 7), steps),
         _ => add(rt, both, steps)?,
     }
     Ok(())
