@@ -9,7 +9,7 @@ use crate::targets::{hashes_of, targets_of};
 use cache_update::{Mark, after_add, after_delete, begin, undo};
 use forest_place::Naming;
 use forest_roots::{Joins, Roots};
-use leaf_cache::{Cache, Parts, Kept, Watch};
+use leaf_cache::{Cache, Kept, Parts, Watch};
 use leaf_record::Record;
 use live_forest::Forest;
 use proof_shape::Targets;

@@ -102,11 +102,7 @@ fn take_over(lists: &mut Parts, copy: &mut Parts) -> Result<(), NoMemory>
 }
 
 // The cache, which has nothing, gets these lists.
-fn fill<D: Digester>(
-    alloc: Global,
-    cache: &mut Cache<D>,
-    parts: &Parts,
-) -> Result<(), NoMemory>
+fn fill<D: Digester>(alloc: Global, cache: &mut Cache<D>, parts: &Parts) -> Result<(), NoMemory>
     requires { HasNothing cache.old.parts }
     ensures lists { OnOk result (HaveSameLists cache.new.parts parts.now) }
     ensures watch { cache.new.watch ≡ cache.old.watch }

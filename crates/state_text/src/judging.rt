@@ -18,7 +18,7 @@ use crate::state::StoredState;
 use crate::targets::targets_of;
 use crate::telling::told_of;
 use forest_place::Place;
-use leaf_cache::{Parts, Kept, Watch};
+use leaf_cache::{Kept, Parts, Watch};
 use leaf_record::{LeafBuf, Leaves, RecordView, leaf_digests};
 use std::alloc::Global;
 use std::sync::ledger::Ledger;

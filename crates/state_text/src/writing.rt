@@ -25,7 +25,7 @@ use crate::state::StoredState;
 use crate::targets::targets_of;
 use forest_place::{Naming, Place};
 use forest_roots::Roots;
-use leaf_cache::{Parts, Kept, Watch, digest_in};
+use leaf_cache::{Kept, Parts, Watch, digest_in};
 use leaf_record::{Record, RecordView, write_rest};
 use proof_shape::Survey;
 use std::alloc::Global;

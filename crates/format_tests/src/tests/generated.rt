@@ -1,5 +1,5 @@
 //! Feeds beside the lengths and the digests that an independent program gives.
-use chain_gen::{Made, GenFault, generate};
+use chain_gen::{GenFault, Made, generate};
 use std::test::Fail;
 use uo_base::{MemSink, Net};
 use uo_digest::{Digest, hex_plain};
