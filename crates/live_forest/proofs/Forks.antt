@@ -32,7 +32,8 @@ pub numbers_differ : (first last : ℕ) → first < last → 0 < bit_xor first l
 numbers_differ first last lt =
     ⊎_elim (λ e. let same = same_number first last e in absurd (omega (arith, same, lt))) (λ ne. omega (arith, ne)) (cases_eq (bit_xor first last) 0)
 
-pub fork_is : (first last r : ℕ) → first < last → 2 ^ r ≤ bit_xor first last → bit_xor first last < 2 * 2 ^ r → IsFork first last (last / 2 ^ r * 2 ^ r)
+pub fork_is : (first last r : ℕ) → first < last → 2 ^ r ≤ bit_xor first last → bit_xor first last < 2 * 2 ^ r
+    → IsFork first last (last / 2 ^ r * 2 ^ r)
 fork_is first last r lt least most =
     let some : 1 ≤ bit_xor first last / 2 ^ r = le-div 1 (bit_xor first last) (2 ^ r) (pow_pos r) (omega (arith, least)) in
     let few = div_below (bit_xor first last) (2 ^ r) 2 (pow_pos r) most in
@@ -133,8 +134,8 @@ module _ (s live : ℕ → Bool) (leaf gap : ℕ → Digest) (sub : (i : ℕ) �
       let own = when (has_part live (suc row) off) (gap (rank s (middle row off))) in
       let here' : has_part live row (2 * off + 1) ≡ true =
       ⊎_elim (λ l. absurd (true≢false (sym l ∙ part_none live s row (2 * off) sub none))) (λ r. r) (or_cases _ _ here) in
-      ap (λ a. of_halves a (has_part s row (2 * off + 1)) own (kept_by s live leaf gap row (2 * off)) (kept_by s live leaf gap row (2 * off + 1))) none
-      ∙ is here'
+      ap (λ a. of_halves a (has_part s row (2 * off + 1)) own (kept_by s live leaf gap row (2 * off)) (kept_by s live leaf gap row (2 * off + 1)))
+      none ∙ is here'
 
   -- for a part with one number
   pub kept_lone : (row off i : ℕ) → AreEnds s row off i i → has_part live row off ≡ true → kept_by s live leaf gap row off ≡ Some (leaf (rank s i))

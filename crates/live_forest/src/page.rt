@@ -33,8 +33,8 @@ impl Model for Page {
     ghost invariant = { λ s. IsPage (record { listed = s.listed; live = s.live; cells = s.cells.items }) };
 }
 
-// The digest of a part that has listed numbers, if something of it is live: that of its one number, or that of the gap in which the smallest part with
-// the same numbers meets.
+// The digest of a part that has listed numbers, if something of it is live: that of its one number, or that of the gap in which the smallest part
+// with the same numbers meets.
 fn digest_of(listed: u128, cells: &[Cell], row: u8, off: u64) -> &Digest
     requires row { row ≤ 7 }
     requires within { InForest 128 row off }

@@ -15,7 +15,8 @@ index-requires c =
     let e : 7 - suc c.args.row ≡ 7 - 1 - c.args.row = omega arith in
     omega (
       arith,
-      page_index c.args.n (length c.self.inside.pages.items) (suc c.args.row) c.args.off (omega (arith, c.if-row-lt-PAGE_ROW.true)) c.requires.within few,
+      page_index c.args.n (length c.self.inside.pages.items) (suc c.args.row) c.args.off
+          (omega (arith, c.if-row-lt-PAGE_ROW.true)) c.requires.within few,
       ap (λ k. c.args.off / 2 ^ k) e,
       c.self.inside.pages.ok.0,
     )
