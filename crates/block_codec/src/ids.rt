@@ -7,7 +7,7 @@ ghost use Rattle.uo_digest.specs.Batches.{AreGiven};
 
 use arrayvec::ArrayVec;
 use tx_codec::TxView;
-use uo_digest::{Digest, sha256d_all};
+use uo_digest::{Digest, sha256d, sha256d_all};
 
 /// How many texts are hashed together: a few KB on the stack, and enough that most of them find others of as many blocks.
 const BATCH: usize = 64;
@@ -115,7 +115,17 @@ fn put_batch(txs: &[TxView<'_>], out: &mut [Digest]) -> usize
     reach
 }
 
-// The ids of some transactions at the front, and how many these are. One alone has none to be hashed beside.
+// The id of one transaction. In the legacy form that is the hash of its text as it lies there.
+fn txid_alone(tx: &TxView<'_>) -> Digest
+    ensures { result ≡ txid_of tx.now }
+{
+    if tx.is_segwit() {
+        return tx.txid();
+    }
+    sha256d(tx.bytes())
+}
+
+// The ids of some transactions at the front, and how many these are. Fewer than eight are hashed one by one, so they take no room of a batch.
 fn put_front(txs: &[TxView<'_>], out: &mut [Digest]) -> usize
     requires count { length out.old ≡ length txs.now }
     requires some { 0 < length txs.now }
@@ -123,10 +133,10 @@ fn put_front(txs: &[TxView<'_>], out: &mut [Digest]) -> usize
     ensures on { 0 < result }
     ensures ids { AreGiven txid_of txs.now out.new result }
 {
-    if txs.len() > 1 {
+    if txs.len() >= 8 {
         return put_batch(txs, out);
     }
-    out[0] = txs[0].txid();
+    out[0] = txid_alone(&txs[0]);
     1
 }
 
