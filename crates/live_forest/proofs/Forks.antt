@@ -1,15 +1,17 @@
 -- What is kept for a part, by the first and the last of its listed numbers.
 use Rattle.std.proofs.Common.{◌≡◌, ◌≢◌, ℕ, zero, suc, ◌+◌, ◌-◌, ◌*◌, ◌/◌, ◌%◌, ◌^◌, ◌<◌, ◌≤◌, Bool, true, false, bit_xor, sym, ap, ap₂, ◌∙◌, ⊎_elim}
-use Rattle.std.proofs.Common.{arith, inl, inr, ◌⊎◌, Some}
+use Rattle.std.proofs.Common.{arith, inl, inr, ◌⊎◌, Some, List, length, get_or}
 use Rattle.std.specs.Prelude.{◌||◌}
 use Rattle.std.specs.Int.Bits.{xor_add_and}
 use Rattle.std.proofs.lemmas.Bool.{cases_Bool, cases_eq, cases_lt, cases_order, or_cases, true≢false}
+use Rattle.std.proofs.lemmas.List.{get_or_default}
 use Rattle.std.proofs.lemmas.Nat.{pow_pos, shr-shr, shr_split, le-div, div_below, xor_comm, xor_shr, and_le_l, and_le_r}
 use Rattle.uo_digest.specs.declared.digest.Digest.{Digest}
 use Rattle.forest_place.specs.Forest.{InForest}
 use Rattle.forest_place.proofs.Parts.{parts-suc}
 use Rattle.live_forest.specs.Sets.{has_part, rank, AreEnds}
-use Rattle.live_forest.specs.Pages.{middle, when, of_halves, kept_by, IsFork}
+use Rattle.live_forest.specs.declared.cell.Cell.{Cell}
+use Rattle.live_forest.specs.Pages.{no_cell, leaf_in, gap_in, middle, when, of_halves, kept_by, IsFork}
 use Rattle.live_forest.proofs.Bitmaps.{part_ends}
 use Rattle.live_forest.proofs.Ranks.{part_with, part_none, rank_above, rank_rises}
 use Rattle.live_forest.proofs.Parting.{parts_rise}
@@ -176,3 +178,11 @@ module _ (s live : ℕ → Bool) (leaf gap : ℕ → Digest) (sub : (i : ℕ) �
       (kept_fork row (2 * off + 1) first last q (ends_right s row off first last ends r) apart same))
       (half_cases first row off ends.first_here))
       (half_cases last row off ends.last_here)
+
+-- ---- what is read of a cell
+
+pub leaf_read : (cells : List Cell) (k j : ℕ) (d : Cell) → j ≡ k → k < length cells → leaf_in cells k ≡ (get_or cells j d).leaf
+leaf_read cells k j d e inside = ap (λ (x : Cell). x.leaf) (sym (ap (λ i. get_or cells i d) e ∙ get_or_default cells k d no_cell inside))
+
+pub gap_read : (cells : List Cell) (k j : ℕ) (d : Cell) → j ≡ k → k < length cells → gap_in cells k ≡ (get_or cells j d).gap
+gap_read cells k j d e inside = ap (λ (x : Cell). x.gap) (sym (ap (λ i. get_or cells i d) e ∙ get_or_default cells k d no_cell inside))

@@ -30,8 +30,8 @@ halves-requires-clause-within c =
 pub part-requires-clause-within : goal.part-requires-clause-within
 part-requires-clause-within c = InForest-left c.args.n c.args.row c.args.off c.requires.within
 
-pub part-requires-2-clause-within : goal.part-requires-2-clause-within
-part-requires-2-clause-within c = InForest-right c.args.n c.args.row c.args.off c.requires.within
+pub part-requires-else-row-lt-PAGE_ROW-clause-within : goal.part-requires-else-row-lt-PAGE_ROW-clause-within
+part-requires-else-row-lt-PAGE_ROW-clause-within c = InForest-right c.args.n c.args.row c.args.off c.requires.within
 
 pub returns-then-row-lt-PAGE_ROW-clause-left : goal.returns-then-row-lt-PAGE_ROW-clause-left
 returns-then-row-lt-PAGE_ROW-clause-left c =
