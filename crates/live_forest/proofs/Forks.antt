@@ -41,8 +41,7 @@ fork_is first last r lt least most =
     let few = div_below (bit_xor first last) (2 ^ r) 2 (pow_pos r) most in
     let one : bit_xor (first / 2 ^ r) (last / 2 ^ r) ≡ 1 = sym (xor_shr first last r)
     ∙ (let z : bit_xor first last / 2 ^ r ≡ 1 = omega (arith, some, few) in z) in
-    let next = next_number (first / 2 ^ r) (last / 2 ^ r) (parts_rise r first last (omega (arith, lt))) one in
-    (
+    let next = next_number (first / 2 ^ r) (last / 2 ^ r) (parts_rise r first last (omega (arith, lt))) one in (
       r,
       (λ e. let z : ⊥ = omega (arith, e, next.1) in z),
       omega (arith, next.0, next.1, parts-suc first r, parts-suc last r),

@@ -58,7 +58,10 @@ pub(crate) fn ends(bits: u128, row: u8, off: u64) -> (u64, u64)
     }
     let start = off << row;
     let here = bits_of(bits, row, off);
-    (start + here.trailing_zeros() as u64, start + here.ilog2() as u64)
+    (
+        start + here.trailing_zeros() as u64,
+        start + here.ilog2() as u64,
+    )
 }
 
 // How many numbers below one a set of numbers below 64 has.

@@ -92,7 +92,8 @@ returns-then-row-lt-PAGE_ROW-clause-put c =
     let page = c.index_mut-page.ensures.value ∙ get_or_default s.pages (number / 128) c.index_mut-page.result.now no_page within in
     rw (← c.self.view_is)
     (part_kept_low s number c.put_joined.new.self c.self.invariant within (c.put_joined.ensures.listed ∙ ap (λ p. p.listed) page) row
-    (Some c.args.own) c.if-row-lt-PAGE_ROW.true (subst (λ p. IsPartPut p c.put_joined.new.self row (number % 128) (Some c.args.own)) page c.put_joined.ensures.put))
+    (Some c.args.own) c.if-row-lt-PAGE_ROW.true
+    (subst (λ p. IsPartPut p c.put_joined.new.self row (number % 128) (Some c.args.own)) page c.put_joined.ensures.put))
 
 pub returns-then-row-lt-PAGE_ROW-clause-room : goal.returns-then-row-lt-PAGE_ROW-clause-room
 returns-then-row-lt-PAGE_ROW-clause-room c =
