@@ -3,9 +3,9 @@ use Rattle.std.proofs.Common.{◌≡◌, ◌≢◌, ℕ, zero, suc, ◌+◌, ◌
 use Rattle.std.proofs.Common.{arith, inl, inr, ◌⊎◌, Some, List, length, get_or}
 use Rattle.std.specs.Prelude.{◌||◌}
 use Rattle.std.specs.Int.Bits.{xor_add_and}
-use Rattle.std.proofs.lemmas.Bool.{cases_Bool, cases_eq, cases_lt, cases_order, or_cases, true≢false}
+use Rattle.std.proofs.lemmas.Bool.{cases_Bool, cases_eq, cases_order, or_cases, true≢false}
 use Rattle.std.proofs.lemmas.List.{get_or_default}
-use Rattle.std.proofs.lemmas.Nat.{pow_pos, shr-shr, shr_split, le-div, div_below, xor_comm, xor_shr, and_le_l, and_le_r}
+use Rattle.std.proofs.lemmas.Nat.{pow_pos, shr-shr, shr_split, le-div, div_below, xor_shr, and_le_l, and_le_r}
 use Rattle.uo_digest.specs.declared.digest.Digest.{Digest}
 use Rattle.forest_place.specs.Forest.{InForest}
 use Rattle.forest_place.proofs.Parts.{parts-suc}
@@ -13,7 +13,7 @@ use Rattle.live_forest.specs.Sets.{has_part, rank, AreEnds}
 use Rattle.live_forest.specs.declared.cell.Cell.{Cell}
 use Rattle.live_forest.specs.Pages.{no_cell, leaf_in, gap_in, middle, when, of_halves, kept_by, IsFork}
 use Rattle.live_forest.proofs.Bitmaps.{part_ends}
-use Rattle.live_forest.proofs.Ranks.{part_with, part_none, rank_above, rank_rises}
+use Rattle.live_forest.proofs.Ranks.{part_with, part_none}
 use Rattle.live_forest.proofs.Parting.{parts_rise}
 use Rattle.live_forest.proofs.Letting.{part_end}
 

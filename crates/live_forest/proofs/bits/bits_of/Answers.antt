@@ -1,4 +1,4 @@
-use Rattle.std.proofs.Common.{◌≡◌, ◌+◌, ◌*◌, ◌^◌, ◌<◌, ◌≤◌, arith}
+use Rattle.std.proofs.Common.{arith}
 use Rattle.std.proofs.lemmas.Nat.{one_shl}
 use Rattle.live_forest.proofs.Bitmaps.{part_ends, half_fits, bits_are}
 use Rattle.live_forest.proofs.bits.bits_of.Goals as goal

@@ -1,4 +1,4 @@
-use Rattle.std.proofs.Common.{◌<◌, arith}
+use Rattle.std.proofs.Common.{arith}
 use Rattle.live_forest.proofs.Bitmaps.{all_bits, some_bits}
 use Rattle.live_forest.proofs.bits.has_some.Goals as goal
 

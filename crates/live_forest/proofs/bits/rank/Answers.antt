@@ -1,4 +1,4 @@
-use Rattle.std.proofs.Common.{◌<◌, ◌≤◌, arith, ◌∙◌}
+use Rattle.std.proofs.Common.{arith, ◌∙◌}
 use Rattle.live_forest.proofs.Bitmaps.{rank_upto, rank_low_half, rank_high_half}
 use Rattle.live_forest.proofs.bits.rank.Goals as goal
 

@@ -1,4 +1,4 @@
-use Rattle.std.proofs.Common.{◌≡◌, ◌*◌, ◌/◌, ◌%◌, ◌^◌, ◌<◌, ◌≤◌, sym, subst, mod-eq_of_lt, arith}
+use Rattle.std.proofs.Common.{◌≡◌, ◌*◌, ◌/◌, ◌%◌, ◌^◌, sym, subst, mod-eq_of_lt, arith}
 use Rattle.std.proofs.lemmas.Nat.{shr_split}
 use Rattle.live_forest.specs.Pages.{IsFork}
 use Rattle.live_forest.proofs.Forks.{numbers_differ, fork_is}

@@ -1,4 +1,4 @@
-use Rattle.std.proofs.Common.{◌≡◌, ◌≢◌, ◌<◌, ◌≤◌, ◌/◌, ◌^◌, suc, length, Some, sym, ap, ◌∙◌, subst, arith, rules}
+use Rattle.std.proofs.Common.{◌≡◌, ◌<◌, ◌/◌, ◌^◌, suc, length, Some, ap, ◌∙◌, subst, arith, rules}
 use Rattle.live_forest.specs.Sets.{is_bit, rank, AreEnds}
 use Rattle.live_forest.specs.Pages.{leaf_in, gap_in, middle}
 use Rattle.live_forest.proofs.Ranks.{rank_above, rank_rises}

@@ -1,8 +1,7 @@
-use Rattle.std.proofs.Common.{◌≡◌, suc, ◌+◌, ◌*◌, ◌/◌, ◌^◌, Some, get_or, sym, ap, ap₂, ◌∙◌, subst, ⊎_elim, arith}
+use Rattle.std.proofs.Common.{◌+◌, ◌*◌, get_or, sym, ap, ap₂, ◌∙◌, subst, ⊎_elim, arith}
 use Rattle.std.specs.Prelude.{is_some}
 use Rattle.std.proofs.lemmas.Bool.{cases_eq}
 use Rattle.forest_model.specs.Content.{join_digests}
-use Rattle.live_forest.specs.Stores.{stored}
 use Rattle.live_forest.specs.Rows.{is_one, part_above, IsJoined}
 use Rattle.live_forest.proofs.Renewing.{one_at, step_same, step_more, put_step, put_joined}
 use Rattle.live_forest.proofs.waiting.put_each.Goals as goal

@@ -1,9 +1,7 @@
-use Rattle.std.proofs.Common.{◌≡◌, suc, ◌+◌, ◌*◌, ◌/◌, ◌^◌, ◌∙◌, Option, Some, sym, ap, ap₂, subst}
-use Rattle.uo_digest.specs.declared.digest.Digest.{Digest}
+use Rattle.std.proofs.Common.{◌≡◌, suc, ◌+◌, ◌*◌, ◌/◌, ◌^◌, ◌∙◌, Some, sym, ap, ap₂, subst}
 use Rattle.forest_model.specs.Content.{join_digests}
 use Rattle.forest_place.specs.Forest.{InForest}
 use Rattle.live_forest.specs.Stores.{stored}
-use Rattle.live_forest.proofs.Refreshing.{joined_halves}
 use Rattle.live_forest.proofs.Renewing.{renewed_put, renewed_noted}
 use Rattle.live_forest.proofs.waiting.renew.Goals as goal
 

@@ -1,6 +1,6 @@
-use Rattle.std.proofs.Common.{◌≡◌, true, sym, ap, ◌∙◌, subst}
-use Rattle.live_forest.specs.Sets.{is_bit, has_part}
-use Rattle.live_forest.specs.Pages.{PageState, IsKept}
+use Rattle.std.proofs.Common.{sym, ◌∙◌}
+use Rattle.live_forest.specs.Sets.{is_bit}
+use Rattle.live_forest.specs.Pages.{PageState}
 use Rattle.live_forest.proofs.Telling.{none_told, live_listed}
 use Rattle.live_forest.proofs.page.Page.part.Goals as goal
 
