@@ -4,12 +4,14 @@ use Rattle.std.proofs.Common.{arith}
 use Rattle.std.proofs.Common.{pow-suc, mod-eq_of_lt}
 use Rattle.std.specs.Prelude.{◌==◌, ◌||◌, not, bit_and}
 use Rattle.std.proofs.lemmas.Bool.{cases_lt, cases_eq, eq-eqb, ne_eqb, false≢true}
-use Rattle.std.proofs.lemmas.Nat.{pow_pos, shr-shr, mod-pow-add, and_mask, one_shl, field_of}
+use Rattle.std.proofs.lemmas.Nat.{pow_pos, shr-shr, mod-pow-add, mod_below, and_mask, ones_cat, ones-le, one_shl, field_of}
 use Rattle.std.proofs.lemmas.Nat.Bits.{bit_at_above, bit_at-zero, ones_shr}
 use Rattle.std.proofs.Math.Pow.{mod-mod-pow}
+use lib.Count.{ones}
+use Rattle.uo_base.proofs.Bits.{rank_is}
 use Rattle.forest_place.specs.Forest.{InForest}
 use Rattle.forest_place.proofs.Slots.{in_forest_iff}
-use Rattle.live_forest.specs.Sets.{is_bit, has_part}
+use Rattle.live_forest.specs.Sets.{is_bit, has_part, rank}
 
 one_or_none : (b : ℕ) → b < 2 → (b == 1) ≡ not (b == 0)
 one_or_none zero h = refl
@@ -19,7 +21,7 @@ one_or_none (suc (suc b)) h = elim (let z : ⊥ = omega arith in z) [ ]
 is_some_number : (n : ℕ) → 0 < n → not (n == 0) ≡ true
 is_some_number n some = ap not (ne_eqb n 0 (λ e. omega (arith, e, some)))
 
-is_no_number : (n : ℕ) → n ≡ 0 → not (n == 0) ≡ false
+pub is_no_number : (n : ℕ) → n ≡ 0 → not (n == 0) ≡ false
 is_no_number n none = ap not (eq-eqb n 0 none)
 
 -- a number in two parts is 0 where both are
@@ -67,6 +69,25 @@ part_bits x width h =
     let e : 64 - (64 - width) ≡ width = omega arith in
     ap (bit_and x) (ones_shr 64 (64 - width) le ∙ ap (λ k. 2 ^ k - 1) e) ∙ and_mask x width
 
+pub rank_upto : (n i : ℕ) → rank (is_bit n) i ≤ i
+rank_upto n i = omega (arith, rank_is n i, ones-le i (n % 2 ^ i) (mod_below n (2 ^ i) (pow_pos i)))
+
+-- of two halves with 64 bits each
+pub rank_low_half : (n i : ℕ) → i ≤ 64 → rank (is_bit (n % 2 ^ 64)) i ≡ rank (is_bit n) i
+rank_low_half n i le =
+    let e : 64 - i + i ≡ 64 = omega (arith, le) in
+    rank_is (n % 2 ^ 64) i ∙ ap (λ k. ones (n % 2 ^ k % 2 ^ i)) (sym e) ∙ ap ones (mod-mod-pow n (64 - i) i) ∙ sym (rank_is n i)
+
+pub rank_high_half : (n i : ℕ) → 64 ≤ i → ones (n % 2 ^ 64) + rank (is_bit (n / 2 ^ 64)) (i - 64) ≡ rank (is_bit n) i
+rank_high_half n i ge =
+    let k = i - 64 in
+    let e : k + 64 ≡ i = omega (arith, ge) in
+    let parts : n % 2 ^ (k + 64) ≡ n / 2 ^ 64 % 2 ^ k * 2 ^ 64 + n % 2 ^ 64 = mod-pow-add n k 64 in
+    let counted = ones_cat 64 (n / 2 ^ 64 % 2 ^ k) (n % 2 ^ 64) (mod_below n (2 ^ 64) (pow_pos 64)) in
+    let all : rank (is_bit n) i ≡ ones (n / 2 ^ 64 % 2 ^ k) + ones (n % 2 ^ 64) =
+    rank_is n i ∙ ap (λ j. ones (n % 2 ^ j)) (sym e) ∙ ap ones parts ∙ counted in
+    omega (arith, all, rank_is (n / 2 ^ 64) k)
+
 -- a part ends within the 128 numbers
 pub part_ends : (row off : ℕ) → row ≤ 7 → InForest 128 row off → (off + 1) * 2 ^ row ≤ 128
 part_ends row off low h = (in_forest_iff 128 row off).0 h
@@ -94,18 +115,18 @@ half_fits (suc (suc (suc (suc (suc zero))))) off low h = omega (arith, h)
 half_fits (suc (suc (suc (suc (suc (suc zero)))))) off low h = omega (arith, h)
 half_fits (suc (suc (suc (suc (suc (suc (suc row))))))) off low h = absurd (omega (arith, low))
 
--- the lowest bits of a range of 64
-half_bits : (n b w : ℕ) → b + w ≤ 64 → n % 2 ^ 64 / 2 ^ b % 2 ^ w ≡ n / 2 ^ b % 2 ^ w
-half_bits n b w le =
-    let e : 64 - b + b ≡ 64 = omega (arith, le) in
-    let f : 64 - b - w + w ≡ 64 - b = omega (arith, le) in
-    ap (λ k. n % 2 ^ k / 2 ^ b % 2 ^ w) (sym e) ∙ ap (λ x. x % 2 ^ w) (field_of n (64 - b) b)
-    ∙ ap (λ k. n / 2 ^ b % 2 ^ k % 2 ^ w) (sym f) ∙ mod-mod-pow (n / 2 ^ b) (64 - b - w) w
+-- the lowest bits of a range
+pub range_bits : (n all b w : ℕ) → b + w ≤ all → n % 2 ^ all / 2 ^ b % 2 ^ w ≡ n / 2 ^ b % 2 ^ w
+range_bits n all b w le =
+    let e : all - b + b ≡ all = omega (arith, le) in
+    let f : all - b - w + w ≡ all - b = omega (arith, le) in
+    ap (λ k. n % 2 ^ k / 2 ^ b % 2 ^ w) (sym e) ∙ ap (λ x. x % 2 ^ w) (field_of n (all - b) b)
+    ∙ ap (λ k. n / 2 ^ b % 2 ^ k % 2 ^ w) (sym f) ∙ mod-mod-pow (n / 2 ^ b) (all - b - w) w
 
-pub has_some_bits : (n row off word : ℕ) → row < 7 → InForest 128 row off
-    → word ≡ n / 2 ^ (off * 2 ^ row % 2 ^ 64 / 64 * 64) % 2 ^ 64
-    → not (bit_and (word / 2 ^ (off * 2 ^ row % 2 ^ 64 % 64)) ((2 ^ 64 - 1) / 2 ^ (64 - 1 * 2 ^ row % 2 ^ 32)) == 0) ≡ has_part (is_bit n) row off
-has_some_bits n row off word low h is =
+-- the bits of a part of up to 64 numbers
+pub bits_are : (n row off word : ℕ) → row < 7 → InForest 128 row off → word ≡ n / 2 ^ (off * 2 ^ row % 2 ^ 64 / 64 * 64) % 2 ^ 64
+    → bit_and (word / 2 ^ (off * 2 ^ row % 2 ^ 64 % 64)) ((2 ^ 64 - 1) / 2 ^ (64 - 1 * 2 ^ row % 2 ^ 32)) ≡ n / 2 ^ (off * 2 ^ row) % 2 ^ 2 ^ row
+bits_are n row off word low h is =
     let ends = part_ends row off (omega (arith, low)) h in
     let start = off * 2 ^ row in
     let few : start < 2 ^ 64 = omega (arith, ends) in
@@ -116,24 +137,25 @@ has_some_bits n row off word low h is =
     let wide : 2 ^ row ≤ 64 = omega (arith, fits) in
     let at : start / 64 * 64 + start % 64 ≡ start = omega arith in
     let word' : word ≡ n / 2 ^ (start / 64 * 64) % 2 ^ 64 = is ∙ ap (λ k. n / 2 ^ (k / 64 * 64) % 2 ^ 64) begin in
-    ap₂ (λ a b. not (bit_and (word / 2 ^ (a % 64)) ((2 ^ 64 - 1) / 2 ^ (64 - b)) == 0)) begin width
-    ∙ ap (λ x. not (x == 0))
-    (part_bits (word / 2 ^ (start % 64)) (2 ^ row) wide ∙ ap (λ x. x / 2 ^ (start % 64) % 2 ^ 2 ^ row) word'
-    ∙ half_bits (n / 2 ^ (start / 64 * 64)) (start % 64) (2 ^ row) fits
-    ∙ ap (λ x. x % 2 ^ 2 ^ row) (shr-shr n (start / 64 * 64) (start % 64) ∙ ap (λ k. n / 2 ^ k) at))
-    ∙ sym (has_part_is n row off)
+    ap₂ (λ a b. bit_and (word / 2 ^ (a % 64)) ((2 ^ 64 - 1) / 2 ^ (64 - b))) begin width
+    ∙ part_bits (word / 2 ^ (start % 64)) (2 ^ row) wide ∙ ap (λ x. x / 2 ^ (start % 64) % 2 ^ 2 ^ row) word'
+    ∙ range_bits (n / 2 ^ (start / 64 * 64)) 64 (start % 64) (2 ^ row) fits
+    ∙ ap (λ x. x % 2 ^ 2 ^ row) (shr-shr n (start / 64 * 64) (start % 64) ∙ ap (λ k. n / 2 ^ k) at)
+
+pub some_bits : (n row off here : ℕ) → here ≡ n / 2 ^ (off * 2 ^ row) % 2 ^ 2 ^ row → not (here == 0) ≡ has_part (is_bit n) row off
+some_bits n row off here is = ap (λ x. not (x == 0)) is ∙ sym (has_part_is n row off)
 
 -- all 128 bits
-pub all_bits : (n off : ℕ) → n < 2 ^ 128 → InForest 128 7 off → not (n == 0) ≡ has_part (is_bit n) 7 off
-all_bits n off few h =
-    let none : off * 2 ^ 7 ≡ 0 = omega (arith, h) in
-    let whole : n / 1 ≡ n = omega arith in
-    let same : n / 2 ^ (off * 2 ^ 7) % 2 ^ 2 ^ 7 ≡ n = ap (λ k. n / 2 ^ k % 2 ^ 128) none ∙ ap (λ x. x % 2 ^ 128) whole ∙ mod-eq_of_lt few in
-    ap (λ x. not (x == 0)) (sym same) ∙ sym (has_part_is n 7 off)
+pub all_start : (row off : ℕ) → InForest 128 row off → row ≡ 7 → off * 2 ^ row ≡ 0
+all_start row off h e =
+    let one : InForest 128 7 off = subst (λ k. InForest 128 k off) e h in
+    ap (λ k. off * 2 ^ k) e ∙ (let z : off * 2 ^ 7 ≡ 0 = omega (arith, one) in z)
 
-pub all_bits_of : (n row off : ℕ) → n < 2 ^ 128 → InForest 128 row off → row ≡ 7 → not (n == 0) ≡ has_part (is_bit n) row off
-all_bits_of n row off few h e =
-    all_bits n off few (subst (λ k. InForest 128 k off) e h) ∙ ap (λ k. has_part (is_bit n) k off) (sym e)
+pub all_bits : (n row off : ℕ) → n < 2 ^ 128 → InForest 128 row off → row ≡ 7 → n ≡ n / 2 ^ (off * 2 ^ row) % 2 ^ 2 ^ row
+all_bits n row off few h e =
+    let none = all_start row off h e in
+    let whole : n / 1 ≡ n = omega arith in
+    sym (ap₂ (λ k r. n / 2 ^ k % 2 ^ 2 ^ r) none e ∙ ap (λ x. x % 2 ^ 128) whole ∙ mod-eq_of_lt few)
 
 -- a number has no bits but its own
 pub last_below : (n number : ℕ) → n < 2 ^ 128 → ((i : ℕ) → i < 128 → is_bit n i ≡ true → i < number) → (i : ℕ) → is_bit n i ≡ true → i < number

@@ -1,7 +1,7 @@
 -- The way down from a part to those of all entries that it has: what is noted on it.
 use Rattle.std.proofs.Common.{◌≡◌, ◌≢◌, ℕ, zero, suc, ◌+◌, ◌-◌, ◌*◌, ◌/◌, ◌%◌, ◌^◌, ◌<◌, ◌≤◌, Bool, true, false, List, [], ◌∷◌, length, get_or}
 use Rattle.std.proofs.Common.{Option, Some, None, refl, sym, ap, ap₂, ◌∙◌, subst, ⊎_elim, ◌⊎◌, arith, eq-eqb, All}
-use Rattle.std.specs.Prelude.{◌==◌, not, nat_le, filter, option_map, Result, Ok, Err, OnOk}
+use Rattle.std.specs.Prelude.{◌==◌, not, nat_le, filter, option_map, is_some, Result, Ok, Err, OnOk}
 use Rattle.std.proofs.lemmas.Bool.{true≢false, cases_Bool, cases_lt, eqb-true, le-leb, lt-leb, leb-true, leb-false, not-true, and_parts, and_from}
 use Rattle.std.proofs.Math.Nat.{div-eq_of_lt}
 use Rattle.std.proofs.lemmas.List.Elements.{All-nil, All-cons, All-head, All-tail, All-weaker}
@@ -12,7 +12,7 @@ use Rattle.forest_place.specs.Forest.{InForest, is_root, sibling_off}
 use Rattle.forest_place.proofs.Parts.{parts-suc, not_root-left, not_root-right}
 use Rattle.forest_place.proofs.Siblings.{sibling_off-left, sibling_off-right}
 use Rattle.forest_place.proofs.Listed.{same_Bools}
-use Rattle.forest_model.specs.Content.{leaf, content}
+use Rattle.forest_model.specs.Content.{Tree, leaf, content}
 use Rattle.forest_model.specs.Standing.{tree_at}
 use Rattle.forest_model.specs.Cover.{Cover, cover, is_needed}
 use Rattle.forest_model.specs.Deletion.{StandAt}
@@ -20,6 +20,9 @@ use Rattle.forest_model.proofs.Deleting.{is_spent, place_at}
 use Rattle.forest_model.proofs.Covers.{some_from_test}
 use Rattle.forest_model.proofs.Living.{found_where_it_stands, content_none_iff}
 use Rattle.live_forest.specs.declared.batch.Sibling.{Sibling}
+use Rattle.live_forest.specs.Stores.{StoreState}
+use Rattle.live_forest.specs.Parts.{kept}
+use Rattle.live_forest.specs.Lookups.{AreAlike}
 use Rattle.live_forest.specs.State.{is_live}
 use Rattle.live_forest.specs.Proving.{beneath, AreIn, AreBehind, AreMore, AreOfPart}
 use Rattle.live_forest.proofs.Seeking.{within_left, within_right}
@@ -71,6 +74,15 @@ pub not_in : (es : List (Option Digest)) (row off i : ℕ) → content es row of
 not_in es row off i none live here =
     let some = some_from_test (get_or es i None) live in
     none-some some.0 (sym ((content_none_iff es row off).0 none i here) ∙ some.1)
+
+-- something is kept for one that has
+pub own_some : (es : List (Option Digest)) (parts : StoreState) → AreAlike es parts → (row off i : ℕ) → InForest (length es) row off
+    → is_live es i ≡ true → i / 2 ^ row ≡ off → is_some (kept es parts row off) ≡ true
+own_some es parts right row off i within live here = right.is row off within ∙ by (content es row off) refl
+  where
+    by : (x : Option Tree) → content es row off ≡ x → is_some (content es row off) ≡ true
+    by None e = absurd (not_in es row off i e live here)
+    by (Some t) e = ap is_some e
 
 pub in_one : (es : List (Option Digest)) (row off : ℕ) (numbers : List ℕ) → 0 < length numbers → AreIn es row off numbers
     → AreIn es row off (get_or numbers 0 0 ∷ [])

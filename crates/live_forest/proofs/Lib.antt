@@ -4,6 +4,7 @@ pub mod Telling
 pub mod Letting
 pub mod Seams
 pub mod Storing
+pub mod Ends
 pub mod Entries
 pub mod Ones
 pub mod Counting
@@ -14,6 +15,7 @@ pub mod Renewing
 pub mod Growing
 pub mod Lengthening
 pub mod Forgetting
+pub mod Forks
 pub mod Holding
 pub mod Seeking
 pub mod Ascending

@@ -83,7 +83,7 @@ head_spent x xs = or_left (x == x) (is_spent xs x) (eq-eqb x x refl)
 pub none_spent : (xs : List ℕ) (x : ℕ) → xs ≡ [] → is_spent xs x ≡ true → ⊥
 none_spent xs x e h = false≢true (ap (λ ys. is_spent ys x) (sym e) ∙ h)
 
-parts_rise : (row x y : ℕ) → x ≤ y → x / 2 ^ row ≤ y / 2 ^ row
+pub parts_rise : (row x y : ℕ) → x ≤ y → x / 2 ^ row ≤ y / 2 ^ row
 parts_rise row x y h = le-div (x / 2 ^ row) y (2 ^ row) (pow_pos row) (omega (arith, h, div-mul-le_self x (2 ^ row)))
 
 -- numbers that rise are parted by a bound on the parts in which they lie

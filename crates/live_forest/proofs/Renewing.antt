@@ -1,8 +1,7 @@
 -- Parts that are made anew row by row: a step of a row, and parts that wait.
-use Rattle.std.proofs.Common.{◌≡◌, ◌≢◌, ℕ, zero, suc, ◌+◌, ◌-◌, ◌*◌, ◌/◌, ◌^◌, ◌<◌, ◌≤◌, ◌⊎◌, inl, inr, Bool, true, false, List, [], ◌∷◌, length}
+use Rattle.std.proofs.Common.{◌≡◌, ◌≢◌, ℕ, zero, suc, ◌+◌, ◌-◌, ◌*◌, ◌/◌, ◌^◌, ◌<◌, ◌≤◌, ◌⊎◌, inl, inr, Bool, true, List, [], ◌∷◌, length}
 use Rattle.std.proofs.Common.{get_or, set, Option, Some, None, refl, sym, ap, ap₂, ◌∙◌, subst, ⊎_elim, arith, eq-eqb}
 use Rattle.std.specs.Prelude.{◌==◌}
-use Rattle.std.specs.List.{list_any}
 use Rattle.std.proofs.lemmas.Bool.{cases_eq, cases_lt, or_cases, eqb-true, false≢true}
 use Rattle.std.proofs.lemmas.List.{get_or-set_same, get_or-set_other, length-set, ext_get_or}
 use Rattle.std.proofs.lemmas.List.Folds.{list_any_at}
@@ -14,7 +13,7 @@ use Rattle.live_forest.specs.declared.waiting.Waiting.{Waiting}
 use Rattle.live_forest.specs.Stores.{StoreState, stored, is_listed, IsPartKept, HasRoomOf}
 use Rattle.live_forest.specs.Parts.{leaves_of, part_digest, AreParts}
 use Rattle.live_forest.specs.Rows.{IsJoined, HasNone, is_one, part_above, AreUntouched, KeepsEntries, AreBelow, IsRowStep, HasRoom, Waits, AreWaiting}
-use Rattle.live_forest.specs.Rows.{AreAll, IsRenewed, AreDone, AreTaken}
+use Rattle.live_forest.specs.Rows.{IsRenewed, AreDone, AreTaken}
 use Rattle.live_forest.proofs.Refreshing.{digest-joined, digest-leaf, joined_right, length-leaves_of, leaves_of-at, room_kept, room_same}
 
 -- ---- new entries

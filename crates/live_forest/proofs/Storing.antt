@@ -211,6 +211,37 @@ half_stored s row number side low small =
     ∙ ap₂ (λ a b. told (page_at s.pages a) row b) (half.0 ∙ page_of_part number (suc row) le)
     (half.1 ∙ ap (λ x. 2 * x + side) (inner_of_part number (suc row) le))
 
+-- the same of the part itself
+pub halves_stored : (s : StoreState) (row off rows : ℕ) → row < 7 → 7 - row ≡ suc rows
+    → (stored s row (2 * off) ≡ told (page_at s.pages (off / 2 ^ rows)) row (2 * (off % 2 ^ rows)))
+    × (stored s row (2 * off + 1) ≡ told (page_at s.pages (off / 2 ^ rows)) row (2 * (off % 2 ^ rows) + 1))
+halves_stored s row off rows low e =
+    let none : 2 * off ≡ 2 * off + 0 = omega arith in
+    let none' : 2 * (off % 2 ^ rows) + 0 ≡ 2 * (off % 2 ^ rows) = omega arith in (
+      ap (stored s row) none ∙ half 0 (omega arith) ∙ ap (told (page_at s.pages (off / 2 ^ rows)) row) none',
+      half 1 (omega arith),
+    )
+  where
+    half : (side : ℕ) → side < 2 → stored s row (2 * off + side) ≡ told (page_at s.pages (off / 2 ^ rows)) row (2 * (off % 2 ^ rows) + side)
+    half side small =
+        let inner = half_inner rows off side small in
+        stored_low s row (2 * off + side) (omega (arith, low))
+        ∙ ap (λ k. told (page_at s.pages ((2 * off + side) / 2 ^ k)) row ((2 * off + side) % 2 ^ k)) e
+        ∙ ap₂ (λ a b. told (page_at s.pages a) row b) inner.0 inner.1
+
+pub halves_of_page : (s : StoreState) (row number : ℕ) → row < 7
+    → (stored s row (2 * (number / 2 ^ suc row)) ≡ told (page_at s.pages (number / 128)) row (2 * (number % 128 / 2 ^ suc row)))
+    × (stored s row (2 * (number / 2 ^ suc row) + 1) ≡ told (page_at s.pages (number / 128)) row (2 * (number % 128 / 2 ^ suc row) + 1))
+halves_of_page s row number low =
+    let off = number / 2 ^ suc row in
+    let p = page_at s.pages (number / 128) in
+    let inner = number % 128 / 2 ^ suc row in
+    let none : 2 * off ≡ 2 * off + 0 = omega arith in
+    let none' : 2 * inner + 0 ≡ 2 * inner = omega arith in (
+      ap (stored s row) none ∙ half_stored s row number 0 low (omega arith) ∙ ap (told p row) none',
+      half_stored s row number 1 low (omega arith),
+    )
+
 pub halves_inner : (s : StoreState) (row number : ℕ) (own : Option Digest) → row < 7
     → IsOfHalves (stored s row (2 * (number / 2 ^ suc row))) (stored s row (2 * (number / 2 ^ suc row) + 1)) own
     → IsOfHalves (told (page_at s.pages (number / 128)) row (2 * (number % 128 / 2 ^ suc row)))
@@ -219,9 +250,5 @@ halves_inner s row number own low halves =
     let off = number / 2 ^ suc row in
     let p = page_at s.pages (number / 128) in
     let inner = number % 128 / 2 ^ suc row in
-    let none : 2 * off ≡ 2 * off + 0 = omega arith in
-    let none' : 2 * inner + 0 ≡ 2 * inner = omega arith in
-    let l : stored s row (2 * off) ≡ told p row (2 * inner) = ap (stored s row) none ∙ half_stored s row number 0 low (omega arith)
-    ∙ ap (told p row) none' in
-    let r : stored s row (2 * off + 1) ≡ told p row (2 * inner + 1) = half_stored s row number 1 low (omega arith) in
-    subst (λ x. IsOfHalves x (told p row (2 * inner + 1)) own) l (subst (λ x. IsOfHalves (stored s row (2 * off)) x own) r halves)
+    let both = halves_of_page s row number low in
+    subst (λ x. IsOfHalves x (told p row (2 * inner + 1)) own) both.0 (subst (λ x. IsOfHalves (stored s row (2 * off)) x own) both.1 halves)

@@ -7,16 +7,15 @@ use Rattle.std.proofs.lemmas.Bool.{cases_Bool, cases_eq, or_left, true≢false}
 use Rattle.std.proofs.lemmas.List.{get_or-set_same, get_or-set_other}
 use Rattle.std.proofs.lemmas.Nat.{pow_pos, shr-shr}
 use Rattle.uo_digest.specs.declared.digest.Digest.{Digest}
-use Rattle.forest_place.specs.declared.place.Place.{Place}
 use Rattle.forest_place.specs.Forest.{InForest}
-use Rattle.forest_place.proofs.Parts.{parts-suc, InForest-beneath, InForest-left, InForest-right}
+use Rattle.forest_place.proofs.Parts.{parts-suc, InForest-beneath}
 use Rattle.forest_place.proofs.Slots.{in_forest_iff}
 use Rattle.live_forest.specs.declared.cell.Cell.{Cell}
 use Rattle.live_forest.specs.Sets.{is_bit, has_part, rank, IsWith, IsWithout}
-use Rattle.live_forest.specs.Pages.{PageState, IsPage, no_cell, leaf_in, gap_in, middle, IsBranch, when, of_halves, kept_by, told, IsLeast}
+use Rattle.live_forest.specs.Pages.{PageState, IsPage, no_cell, leaf_in, gap_in, middle, IsBranch, when, of_halves, kept_by, told}
 use Rattle.live_forest.specs.Pages.{IsEntryPut, IsOfHalves}
 use Rattle.live_forest.specs.Pages.{IsPartPut}
-use Rattle.live_forest.proofs.Ranks.{rank_above, rank_rises, rank_one, right_rank, branch_one, part_other, part_none}
+use Rattle.live_forest.proofs.Ranks.{rank_above, rank_rises, rank_one, right_rank, branch_one, part_other, part_none, part_subset}
 
 -- ---- that something is kept
 
@@ -90,76 +89,7 @@ alike In listed listed' live live' leaf leaf' gap gap' a (suc row) off h =
     (alike In listed listed' live live' leaf leaf' gap gap' a row (2 * off) l)
     (alike In listed listed' live live' leaf leaf' gap gap' a row (2 * off + 1) r)
 
--- ---- the smallest part
-
-pub least_entry : (listed : ℕ → Bool) (off : ℕ) → IsLeast listed 0 off (record { row = 0; off = off })
-least_entry listed off = record {
-  low = omega arith;
-  up = (let z : off / 1 ≡ off = omega arith in z);
-  same = λ live leaf gap. refl;
-  split = λ r e. absurd (omega (arith, e));
-}
-
-pub least_branch : (listed : ℕ → Bool) (row off : ℕ) → IsBranch listed row off → IsLeast listed (suc row) off (record { row = suc row; off = off })
-least_branch listed row off b = record {
-  low = omega arith;
-  up = (let z : suc row - suc row ≡ 0 = omega arith in let one : off / 1 ≡ off = omega arith in ap (λ k. off / 2 ^ k) z ∙ one);
-  same = λ live leaf gap. refl;
-  split = λ r e. subst (λ k. IsBranch listed k off) (let z : row ≡ r = omega (arith, e) in z) b;
-}
-
-up_more : (row o off side : ℕ) (q : Place) → q.row ≤ row → q.off / 2 ^ (row - q.row) ≡ o → o / 2 ≡ off → q.off / 2 ^ (suc row - q.row) ≡ off
-up_more row o off side q low up half =
-    let e : suc row - q.row ≡ suc (row - q.row) = omega arith in
-    ap (λ k. q.off / 2 ^ k) e ∙ parts-suc q.off (row - q.row) ∙ ap (λ x. x / 2) up ∙ half
-
-pub least_right : (listed : ℕ → Bool) (row off : ℕ) (q : Place) → has_part listed row (2 * off) ≡ false → IsLeast listed row (2 * off + 1) q
-    → IsLeast listed (suc row) off q
-least_right listed row off q none least = record {
-  low = omega (arith, least.low);
-  up = up_more row (2 * off + 1) off 1 q least.low least.up (omega arith);
-  same = λ live leaf gap.
-      ap (λ b. of_halves b (has_part listed row (2 * off + 1)) (when (has_part live (suc row) off) (gap (rank listed (middle row off))))
-      (kept_by listed live leaf gap row (2 * off)) (kept_by listed live leaf gap row (2 * off + 1))) none ∙ least.same live leaf gap;
-  split = least.split;
-}
-
-pub least_left : (listed : ℕ → Bool) (row off : ℕ) (q : Place) → has_part listed row (2 * off) ≡ true → has_part listed row (2 * off + 1) ≡ false
-    → IsLeast listed row (2 * off) q → IsLeast listed (suc row) off q
-least_left listed row off q some none least = record {
-  low = omega (arith, least.low);
-  up = up_more row (2 * off) off 0 q least.low least.up (omega arith);
-  same = λ live leaf gap.
-      ap₂ (λ a b. of_halves a b (when (has_part live (suc row) off) (gap (rank listed (middle row off))))
-      (kept_by listed live leaf gap row (2 * off)) (kept_by listed live leaf gap row (2 * off + 1))) some none ∙ least.same live leaf gap;
-  split = least.split;
-}
-
--- ---- a row less
-
-pub row_back : (row : ℕ) → 0 < row → suc (row - 1) ≡ row
-row_back row some = omega arith
-
-pub half_left : (n row off : ℕ) → 0 < row → InForest n row off → InForest n (row - 1) (2 * off)
-half_left n row off some h = InForest-left n (row - 1) off (subst (λ k. InForest n k off) (sym (row_back row some)) h)
-
-pub half_right : (n row off : ℕ) → 0 < row → InForest n row off → InForest n (row - 1) (2 * off + 1)
-half_right n row off some h = InForest-right n (row - 1) off (subst (λ k. InForest n k off) (sym (row_back row some)) h)
-
-pub from_right : (listed : ℕ → Bool) (row off : ℕ) (q : Place) → 0 < row → has_part listed (row - 1) (2 * off) ≡ false
-    → IsLeast listed (row - 1) (2 * off + 1) q → IsLeast listed row off q
-from_right listed row off q some none least = subst (λ k. IsLeast listed k off q) (row_back row some) (least_right listed (row - 1) off q none least)
-
-pub from_left : (listed : ℕ → Bool) (row off : ℕ) (q : Place) → 0 < row → has_part listed (row - 1) (2 * off) ≡ true
-    → has_part listed (row - 1) (2 * off + 1) ≡ false → IsLeast listed (row - 1) (2 * off) q → IsLeast listed row off q
-from_left listed row off q some left none least =
-    subst (λ k. IsLeast listed k off q) (row_back row some) (least_left listed (row - 1) off q left none least)
-
-pub from_both : (listed : ℕ → Bool) (row off : ℕ) → 0 < row → has_part listed (row - 1) (2 * off) ≡ true
-    → has_part listed (row - 1) (2 * off + 1) ≡ true → IsLeast listed row off (record { row = row; off = off })
-from_both listed row off some left right =
-    subst (λ k. IsLeast listed k off (record { row = k; off = off })) (row_back row some)
-    (least_branch listed (row - 1) off (record { left = left; right = right }))
+-- ---- parts of a page
 
 -- the parts of a page that have one of its numbers
 pub page_within : (number k : ℕ) → number < 128 → k ≤ 7 → InForest 128 k (number / 2 ^ k)
@@ -171,13 +101,6 @@ page_within number k low le =
 
 pub above_is : (number row : ℕ) → number / 2 ^ (row + 1) ≡ number / 2 ^ suc row
 above_is number row = ap (λ k. number / 2 ^ k) (let z : row + 1 ≡ suc row = omega arith in z)
-
-pub least_within : (listed : ℕ → Bool) (n row off : ℕ) (q : Place) → IsLeast listed row off q → InForest n row off → InForest n q.row q.off
-least_within listed n row off q least h =
-    let low = least.low in
-    let e : q.row + (row - q.row) ≡ row = omega arith in
-    InForest-beneath n (row - q.row) q.row q.off
-    (subst (λ x. InForest n x (q.off / 2 ^ (row - q.row))) (sym e) (subst (λ x. InForest n row x) (sym least.up) h))
 
 -- ---- where a cell is
 
@@ -207,46 +130,19 @@ module _ (p : PageState) (page : IsPage p) where
         page.full,
       )
 
-  -- the smallest part of one with something live has a cell, which tells what is kept
-  pub least_live : (row off : ℕ) (q : Place) → IsLeast (is_bit p.listed) row off q → has_part (is_bit p.live) row off ≡ true
-      → has_part (is_bit p.live) q.row q.off ≡ true
-  least_live row off q least live =
-      sym (some_told p q.row q.off page) ∙ ap is_some (sym (least.same (is_bit p.live) (leaf_in p.cells) (gap_in p.cells)))
-      ∙ some_told p row off page ∙ live
+-- something of a part with something live is listed
+pub live_listed : (p : PageState) (row off : ℕ) → IsPage p → has_part (is_bit p.live) row off ≡ true → has_part (is_bit p.listed) row off ≡ true
+live_listed p row off page here = part_subset (is_bit p.live) (is_bit p.listed) row off page.within here
 
-  pub least_entry_index : (row off : ℕ) (q : Place) → IsLeast (is_bit p.listed) row off q → has_part (is_bit p.live) row off ≡ true
-      → InForest 128 row off → q.row ≡ 0 → (q.off < 128) × (rank (is_bit p.listed) q.off < length p.cells)
-  least_entry_index row off q least live h bottom =
-      let here : has_part (is_bit p.live) 0 q.off ≡ true = ap (λ r. has_part (is_bit p.live) r q.off) (sym bottom)
-      ∙ least_live row off q least live in
-      let within : InForest 128 0 q.off = subst (λ r. InForest 128 r q.off) bottom (least_within (is_bit p.listed) 128 row off q least h) in
-      (within, entry_index q.off within (page.within q.off here))
+pub joined_branch : (p : PageState) (row off : ℕ) → IsPage p → is_some (told p row (2 * off)) ≡ true → is_some (told p row (2 * off + 1)) ≡ true
+    → IsBranch (is_bit p.listed) row off
+joined_branch p row off page left right = record {
+  left = live_listed p row (2 * off) page (sym (some_told p row (2 * off) page) ∙ left);
+  right = live_listed p row (2 * off + 1) page (sym (some_told p row (2 * off + 1) page) ∙ right);
+}
 
-  pub least_gap_index : (row off : ℕ) (q : Place) → IsLeast (is_bit p.listed) row off q → InForest 128 row off → (r : ℕ) → q.row ≡ suc r
-      → (middle r q.off < 128) × (rank (is_bit p.listed) (middle r q.off) < length p.cells)
-  least_gap_index row off q least h r up =
-      let within : InForest 128 (suc r) q.off = subst (λ k. InForest 128 k q.off) up (least_within (is_bit p.listed) 128 row off q least h) in
-      (middle_low r q.off within, gap_index r q.off within (least.split r up))
-
-  pub least_told : (row off : ℕ) (q : Place) (d : Digest) → IsLeast (is_bit p.listed) row off q → has_part (is_bit p.live) row off ≡ true
-      → (q.row ≡ 0 → d ≡ leaf_in p.cells (rank (is_bit p.listed) q.off))
-      → ((r : ℕ) → q.row ≡ suc r → d ≡ gap_in p.cells (rank (is_bit p.listed) (middle r q.off))) → Some d ≡ told p row off
-  least_told row off q d least live leaf gap = by_row q.row refl
-    where
-      by_row : (k : ℕ) → q.row ≡ k → Some d ≡ told p row off
-      by_row zero e =
-          let here : has_part (is_bit p.live) 0 q.off ≡ true = ap (λ r. has_part (is_bit p.live) r q.off) (sym e) ∙ least_live row off q least live in
-          sym (least.same (is_bit p.live) (leaf_in p.cells) (gap_in p.cells) ∙ ap (λ r. told p r q.off) e
-          ∙ ap₂ when here (sym (leaf e)))
-      by_row (suc r) e =
-          let here : has_part (is_bit p.live) (suc r) q.off ≡ true =
-          ap (λ k. has_part (is_bit p.live) k q.off) (sym e) ∙ least_live row off q least live in
-          let b = least.split r e in
-          let left = told p r (2 * q.off) in
-          let right = told p r (2 * q.off + 1) in
-          let own = when (has_part (is_bit p.live) (suc r) q.off) (gap_in p.cells (rank (is_bit p.listed) (middle r q.off))) in
-          sym (least.same (is_bit p.live) (leaf_in p.cells) (gap_in p.cells) ∙ ap (λ k. told p k q.off) e
-          ∙ ap₂ (λ x y. of_halves x y own left right) b.left b.right ∙ ap₂ when here (sym (gap r e)))
+pub joined_live : (p : PageState) (row off : ℕ) → IsPage p → is_some (told p row (2 * off)) ≡ true → has_part (is_bit p.live) (suc row) off ≡ true
+joined_live p row off page left = or_left _ _ (sym (some_told p row (2 * off) page) ∙ left)
 
 -- ---- an entry is put
 

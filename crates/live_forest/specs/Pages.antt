@@ -1,9 +1,8 @@
 -- A page: what is kept for the parts of 128 numbers. A part is among the 2^row numbers from off * 2^row on.
-use Rattle.std.specs.Prelude.{◌≡◌, ◌≢◌, ℕ, zero, suc, ◌+◌, ◌-◌, ◌*◌, ◌/◌, ◌%◌, ◌^◌, ◌<◌, ◌≤◌, ◌⊎◌, Bool, true, false, List, [], length, get_or}
+use Rattle.std.specs.Prelude.{◌≡◌, ◌≢◌, ℕ, zero, suc, ◌+◌, ◌*◌, ◌/◌, ◌%◌, ◌^◌, ◌<◌, ◌≤◌, ◌⊎◌, Bool, true, false, List, [], length, get_or}
 use Rattle.std.specs.Prelude.{Option, Some, None}
 use Rattle.std.specs.Prelude.{is_some, if◌then◌else◌}
 use Rattle.uo_digest.specs.declared.digest.Digest.{Digest}
-use Rattle.forest_place.specs.declared.place.Place.{Place}
 use Rattle.forest_place.specs.Forest.{InForest, sibling_off}
 use Rattle.live_forest.specs.declared.cell.Cell.{Cell}
 use Rattle.live_forest.specs.Sets.{is_bit, has_part, rank}
@@ -65,12 +64,15 @@ kept_by listed live leaf gap (suc row) off = of_halves (has_part listed row (2 *
 abbrev pub told : PageState → ℕ → ℕ → Option Digest
 told p row off = kept_by (is_bit p.listed) (is_bit p.live) (leaf_in p.cells) (gap_in p.cells) row off
 
--- the smallest part that has the same listed numbers
-pub record IsLeast (listed : ℕ → Bool) (row off : ℕ) (q : Place) : Type 0 where
-  pub low : q.row ≤ row
-  pub up : q.off / 2 ^ (row - q.row) ≡ off
-  pub same : (live : ℕ → Bool) (leaf gap : ℕ → Digest) → kept_by listed live leaf gap row off ≡ kept_by listed live leaf gap q.row q.off
-  pub split : (r : ℕ) → q.row ≡ suc r → IsBranch listed r q.off
+-- this is kept for a part of which something is live, whatever else of the listed numbers is
+abbrev pub IsKept : (listed : ℕ → Bool) → List Cell → ℕ → ℕ → Digest → Type 0
+IsKept listed cells row off d = (live : ℕ → Bool) → ((i : ℕ) → live i ≡ true → listed i ≡ true) → has_part live row off ≡ true
+    → kept_by listed live (leaf_in cells) (gap_in cells) row off ≡ Some d
+
+-- the halves of the smallest part that has both numbers meet here
+abbrev pub IsFork : ℕ → ℕ → ℕ → Type 0
+IsFork first last at = (row : ℕ) × (first / 2 ^ row ≢ last / 2 ^ row) × (first / 2 ^ suc row ≡ last / 2 ^ suc row)
+    × (at ≡ middle row (last / 2 ^ suc row))
 
 -- this is kept for a number from now on, and for each part without it what was kept
 pub record IsEntryPut (p p' : PageState) (number : ℕ) (entry : Option Digest) : Type 0 where

@@ -1,7 +1,7 @@
 //! A set of numbers below 128, as the bits of a number.
 ghost use Rattle.std.specs.Prelude.{◌≡◌, ◌≢◌, ℕ, ◌+◌, ◌*◌, ◌/◌, ◌%◌, ◌^◌, ◌<◌, ◌≤◌, true, false};
 ghost use Rattle.forest_place.specs.Forest.{InForest};
-ghost use Rattle.live_forest.specs.Sets.{is_bit, has_part, rank as rank_of, IsWith, IsWithout};
+ghost use Rattle.live_forest.specs.Sets.{is_bit, has_part, rank as rank_of, IsWith, IsWithout, AreEnds};
 
 /// Whether the set has a number.
 pub(crate) fn has(bits: u128, number: u64) -> bool
@@ -23,6 +23,17 @@ fn half_of(bits: u128, number: u64) -> u64
     }
 }
 
+// The bits of the 2^row numbers from off * 2^row on.
+fn bits_of(bits: u128, row: u8, off: u64) -> u64
+    requires row { row < 7 }
+    requires within { InForest 128 row off }
+    ensures { result ≡ bits / 2 ^ (off * 2 ^ row) % 2 ^ 2 ^ row }
+{
+    let start = off << row;
+    let width: u32 = 1 << row;
+    (half_of(bits, start) >> (start % 64)) & (u64::MAX >> (64 - width))
+}
+
 /// Whether the set has one of the 2^row numbers from off * 2^row on.
 pub(crate) fn has_some(bits: u128, row: u8, off: u64) -> bool
     requires row { row ≤ 7 }
@@ -32,9 +43,33 @@ pub(crate) fn has_some(bits: u128, row: u8, off: u64) -> bool
     if row == 7 {
         return bits != 0;
     }
+    bits_of(bits, row, off) != 0
+}
+
+/// The first and the last of these numbers that the set has, if it has one.
+pub(crate) fn ends(bits: u128, row: u8, off: u64) -> (u64, u64)
+    requires row { row ≤ 7 }
+    requires within { InForest 128 row off }
+    requires some { has_part (is_bit bits) row off ≡ true }
+    ensures { AreEnds (is_bit bits) row off result.0 result.1 }
+{
+    if row == 7 {
+        return (bits.trailing_zeros() as u64, bits.ilog2() as u64);
+    }
     let start = off << row;
-    let width: u32 = 1 << row;
-    (half_of(bits, start) >> (start % 64)) & (u64::MAX >> (64 - width)) != 0
+    let here = bits_of(bits, row, off);
+    (
+        start + here.trailing_zeros() as u64,
+        start + here.ilog2() as u64,
+    )
+}
+
+// How many numbers below one a set of numbers below 64 has.
+fn count_below(half: u64, number: u64) -> usize
+    requires { number < 64 }
+    ensures { result ≡ rank_of (is_bit half) number }
+{
+    (half & ((1 << number) - 1)).count_ones() as usize
 }
 
 /// How many numbers below one the set has.
@@ -42,7 +77,11 @@ pub(crate) fn rank(bits: u128, number: u64) -> usize
     requires { number < 128 }
     ensures { result ≡ rank_of (is_bit bits) number }
 {
-    (bits & ((1 << number) - 1)).count_ones() as usize
+    let low = (bits % (1 << 64)) as u64;
+    if number < 64 {
+        return count_below(low, number);
+    }
+    low.count_ones() as usize + count_below((bits >> 64) as u64, number - 64)
 }
 
 /// The set with a number.

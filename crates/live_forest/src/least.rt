@@ -1,45 +1,19 @@
-//! The smallest part with the same numbers.
+//! Where parts with listed numbers in both halves meet.
 ghost use Rattle.std.specs.Prelude.{◌≡◌, ◌↔◌, suc, ◌+◌, ◌*◌, ◌^◌, ◌<◌, ◌≤◌, true};
 ghost use Rattle.forest_place.specs.Forest.{InForest};
 ghost use Rattle.live_forest.specs.Sets.{is_bit};
-ghost use Rattle.live_forest.specs.Pages.{IsLeast, middle as middle_of, IsBranch, MeetsNext};
+ghost use Rattle.live_forest.specs.Pages.{IsFork, middle as middle_of, IsBranch, MeetsNext};
 
 use crate::bits::has_some;
 use forest_place::{Place, sibling};
 
-/// The smallest part that has the same listed numbers. Mostly that is the part itself.
-pub(crate) fn least(listed: u128, row: u8, off: u64) -> Place
-    requires row { row ≤ 7 }
-    requires within { InForest 128 row off }
-    ensures { IsLeast (is_bit listed) row off result }
+/// Where the halves meet of the smallest part that has both of two numbers: the first number of its right half.
+pub(crate) fn fork(first: u64, last: u64) -> u64
+    requires { first < last }
+    ensures { IsFork first last result }
 {
-    if row == 0 {
-        return Place { row, off };
-    }
-    if is_branch(listed, row - 1, off) {
-        return Place { row, off };
-    }
-    least_beneath(listed, row, off)
-}
-
-// The same on a way down.
-fn least_beneath(listed: u128, row: u8, off: u64) -> Place
-    requires row { row ≤ 7 }
-    requires within { InForest 128 row off }
-    ensures { IsLeast (is_bit listed) row off result }
-{
-    if row == 0 {
-        return Place { row, off };
-    }
-    let left = has_some(listed, row - 1, 2 * off);
-    let right = has_some(listed, row - 1, 2 * off + 1);
-    if !left {
-        least_beneath(listed, row - 1, 2 * off + 1)
-    } else if !right {
-        least_beneath(listed, row - 1, 2 * off)
-    } else {
-        Place { row, off }
-    }
+    let row = (first ^ last).ilog2();
+    last >> row << row
 }
 
 /// Where the halves of a part of the row above meet.

@@ -3,13 +3,11 @@ ghost use Rattle.std.specs.Prelude.{◌≡◌, ◌≢◌, ℕ, suc, ◌+◌, ◌
 ghost use Rattle.std.specs.Prelude.{IfOk};
 ghost use Rattle.forest_place.specs.Forest.{InForest};
 ghost use Rattle.live_forest.specs.Sets.{is_bit, has_part, rank as rank_of, IsWith, IsWithout};
-ghost use Rattle.live_forest.specs.Pages.{PageState, told, leaf_in, gap_in, middle as middle_of, IsBranch, IsEntryPut, IsPartPut, IsOfHalves};
-ghost use Rattle.live_forest.specs.Pages.{AreOfHalves, IsTakenOut};
+ghost use Rattle.live_forest.specs.Pages.{PageState, told, IsKept, IsEntryPut, IsPartPut, IsOfHalves, AreOfHalves, IsTakenOut};
 
-use crate::bits::{has, has_some, rank, with, without};
+use crate::bits::{ends, has, has_some, rank, with, without};
 use crate::cell::Cell;
-use crate::least::{is_branch, least, meets_next, middle};
-use forest_place::Place;
+use crate::least::{fork, is_branch, meets_next, middle};
 use std::alloc::{AllocError, Global};
 use std::marker::Model;
 use uo_digest::Digest;
@@ -38,18 +36,20 @@ impl Model for Page {
     ghost invariant = { λ s. IsPage (record { listed = s.listed; live = s.live; cells = s.cells.items }) };
 }
 
-// The digest of the smallest part with some listed numbers.
-fn digest_of(listed: u128, cells: &[Cell], part: Place) -> Digest
-    requires row { part.row ≤ 7 }
-    requires leaf { part.row ≡ 0 → (part.off < 128) × (rank_of (is_bit listed) part.off < length cells.now) }
-    requires gap { (r : ℕ) → part.row ≡ suc r → (middle_of r part.off < 128) × (rank_of (is_bit listed) (middle_of r part.off) < length cells.now) }
-    ensures leaf { part.row ≡ 0 → result ≡ leaf_in cells.now (rank_of (is_bit listed) part.off) }
-    ensures gap { (r : ℕ) → part.row ≡ suc r → result ≡ gap_in cells.now (rank_of (is_bit listed) (middle_of r part.off)) }
+// The digest of a part that has listed numbers, if something of it is live: that of its one number, or that of the gap in which the smallest part
+// with the same numbers meets.
+fn digest_of(listed: u128, cells: &[Cell], row: u8, off: u64) -> &Digest
+    requires row { row ≤ 7 }
+    requires within { InForest 128 row off }
+    requires some { has_part (is_bit listed) row off ≡ true }
+    requires full { length cells.now ≡ rank_of (is_bit listed) 128 }
+    ensures { IsKept (is_bit listed) cells.now row off result.now }
 {
-    if part.row == 0 {
-        cells[rank(listed, part.off)].leaf
+    let (first, last) = ends(listed, row, off);
+    if first == last {
+        &cells[rank(listed, first)].leaf
     } else {
-        cells[rank(listed, middle(part.row - 1, part.off))].gap
+        &cells[rank(listed, fork(first, last))].gap
     }
 }
 
@@ -140,7 +140,17 @@ impl Page {
         if !has_some(self.live, row, off) {
             return None;
         }
-        Some(digest_of(self.listed, &self.cells, least(self.listed, row, off)))
+        Some(*digest_of(self.listed, &self.cells, row, off))
+    }
+
+    /// What is kept for the halves of a part of the row above.
+    pub fn halves(&self, row: u8, off: u64) -> (Option<Digest>, Option<Digest>)
+        requires row { row < 7 }
+        requires within { InForest 128 (suc row) off }
+        ensures left { result.0 ≡ told self.now row (2 * off) }
+        ensures right { result.1 ≡ told self.now row (2 * off + 1) }
+    {
+        (self.part(row, 2 * off), self.part(row, 2 * off + 1))
     }
 
     /// Keeps an entry, live or not.
@@ -178,6 +188,20 @@ impl Page {
         };
         let cell = &mut self.cells[rank(self.listed, middle(row, off))];
         cell.gap = digest;
+    }
+
+    /// Keeps a digest for the part of the row above that has a listed number, where both its halves have something.
+    pub fn put_joined(&mut self, row: u8, number: u64, own: Digest)
+        requires number { number < 128 }
+        requires row { row < 7 }
+        requires listed { is_bit self.old.listed number ≡ true }
+        requires left { is_some (told self.old row (2 * (number / 2 ^ suc row))) ≡ true }
+        requires right { is_some (told self.old row (2 * (number / 2 ^ suc row) + 1)) ≡ true }
+        ensures put { IsPartPut self.old self.new row number (Some own) }
+        ensures listed { self.new.listed ≡ self.old.listed }
+    {
+        let cell = &mut self.cells[rank(self.listed, middle(row, number >> (row + 1)))];
+        cell.gap = own;
     }
 
     /// Lists a number behind all that are. It is not live.

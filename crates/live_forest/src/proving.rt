@@ -1,7 +1,7 @@
 //! What proves entries: the digests that stand beside the ways down to them, all of them from one walk down. It goes through each part once,
 //! and where it reads the halves of one does not hang on what another has.
 ghost use Rattle.std.specs.Prelude.{◌≡◌, ◌≢◌, ℕ, List, suc, ◌++◌, ◌∷◌, ◌/◌, ◌^◌, ◌<◌, ◌≤◌, [], true, length, filter, map, take, drop, not, nat_le};
-ghost use Rattle.std.specs.Prelude.{Some, All, IfOk, OnOk, OnErr};
+ghost use Rattle.std.specs.Prelude.{Some, All, IfOk, OnOk, OnErr, is_some};
 ghost use Rattle.std.specs.List.{filter_map, flat_map};
 ghost use Rattle.std.specs.List.Sorted.{IsNonDecreasing};
 ghost use Rattle.forest_place.specs.Forest.{InForest};
@@ -10,7 +10,8 @@ ghost use Rattle.forest_model.specs.Content.{content};
 ghost use Rattle.forest_model.specs.Deletion.{StandAt};
 ghost use Rattle.forest_model.specs.Standing.{tree_at};
 ghost use Rattle.forest_model.specs.EntryPlace.{entry_place};
-ghost use Rattle.live_forest.specs.Parts.{entries_in, AreParts};
+ghost use Rattle.live_forest.specs.Lookups.{AreAlike};
+ghost use Rattle.live_forest.specs.Parts.{entries_in, kept, AreParts};
 ghost use Rattle.live_forest.specs.Proving.{places_of, standing, proof_of, in_row, list_of, HasRows, HasPlaces, AreIn, AreBehind, AreMore};
 ghost use Rattle.live_forest.specs.Proving.{AreOfPart, AreFrom, behind};
 ghost use Rattle.live_forest.specs.State.{is_live};
@@ -197,6 +198,22 @@ fn push_each(places: &mut Vec<Place>, place: Place, numbers: &[u64]) -> Result<(
     Ok(())
 }
 
+// Whether something is live in a part, which has these entries of those that are sought: one that has some is not looked at.
+fn has_live(store: &Store, n: u64, part: Place, numbers: &[u64]) -> bool
+    requires small { length (entries_in n store.now) < 2 ^ 40 }
+    requires room { n ≤ store.now.len }
+    requires alike { AreAlike (entries_in n store.now) store.now }
+    requires within { InForest (length (entries_in n store.now)) part.row part.off }
+    requires inside { AreIn (entries_in n store.now) part.row part.off numbers.now }
+    ensures { result ≡ is_some (kept (entries_in n store.now) store.now part.row part.off) }
+{
+    if numbers.is_empty() {
+        has_in(store, n, part.row, part.off)
+    } else {
+        true
+    }
+}
+
 // Goes down from a part, which has these entries and whose tree stands at this place, to the entries, and notes what is beside the way.
 fn descend<D: Digester>(
     store: &Store,
@@ -234,15 +251,15 @@ fn descend<D: Digester>(
         return push_each(places, place, numbers);
     }
     let (left, right) = children(part);
-    let on_left = has_in(store, n, left.row, left.off);
+    let (low, high) = numbers.split_at(count_upto(numbers, left.row, left.off));
+    let on_left = has_live(store, n, left, low);
     if !on_left {
         return descend::<D>(store, n, right, place, numbers, rows, places);
     }
-    let on_right = has_in(store, n, right.row, right.off);
+    let on_right = has_live(store, n, right, high);
     if !on_right {
         return descend::<D>(store, n, left, place, numbers, rows, places);
     }
-    let (low, high) = numbers.split_at(count_upto(numbers, left.row, left.off));
     let (below_left, below_right) = children(place);
     descend::<D>(store, n, left, below_left, low, rows, places)?;
     descend::<D>(store, n, right, below_right, high, rows, places)

@@ -136,6 +136,22 @@ impl Store {
         }
     }
 
+    /// What is kept for the halves of a part of the row above, of those that `n` entries have.
+    pub fn halves(&self, n: u64, row: u8, off: u64) -> (Option<Digest>, Option<Digest>)
+        requires small { n < 2 ^ 40 }
+        requires room { n ≤ self.now.len }
+        requires within { InForest n (suc row) off }
+        ensures left { result.0 ≡ stored self.now row (2 * off) }
+        ensures right { result.1 ≡ stored self.now row (2 * off + 1) }
+    {
+        if row < PAGE_ROW {
+            let rows = PAGE_ROW - 1 - row;
+            self.pages[(off >> rows) as usize].halves(row, off % (1 << rows))
+        } else {
+            (self.part(n, row, 2 * off), self.part(n, row, 2 * off + 1))
+        }
+    }
+
     /// Keeps an entry, live or not.
     pub fn put_entry(&mut self, number: u64, entry: Option<Digest>)
         requires room { number < self.old.len }
@@ -162,6 +178,25 @@ impl Store {
             page.put_part(row, number % 128, own);
         } else {
             self.high[seam(row - PAGE_ROW, number >> (row + 1))] = own;
+        }
+    }
+
+    /// Keeps a digest for the part of the row above that has an entry, of those that `n` entries have. Both its halves have something.
+    pub fn put_joined(&mut self, n: u64, row: u8, number: u64, own: Digest)
+        requires small { n < 2 ^ 40 }
+        requires room { n ≤ self.old.len }
+        requires within { InForest n (suc row) (number / 2 ^ suc row) }
+        requires listed { is_listed self.old.pages number ≡ true }
+        requires left { is_some (stored self.old row (2 * (number / 2 ^ suc row))) ≡ true }
+        requires right { is_some (stored self.old row (2 * (number / 2 ^ suc row) + 1)) ≡ true }
+        ensures put { IsPartKept self.old self.new row number (Some own) }
+        ensures room { HasRoomOf self.old self.new }
+    {
+        if row < PAGE_ROW {
+            let page = &mut self.pages[(number >> PAGE_ROW) as usize];
+            page.put_joined(row, number % 128, own);
+        } else {
+            self.high[seam(row - PAGE_ROW, number >> (row + 1))] = Some(own);
         }
     }
 

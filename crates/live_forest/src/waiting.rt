@@ -1,5 +1,5 @@
 //! Parts of one row that are made anew, of which many are digested side by side.
-ghost use Rattle.std.specs.Prelude.{◌≡◌, ℕ, Bool, true, suc, ◌+◌, ◌*◌, ◌/◌, ◌^◌, ◌<◌, ◌≤◌, Some, length, get_or, set};
+ghost use Rattle.std.specs.Prelude.{◌≡◌, ℕ, Bool, true, suc, ◌+◌, ◌*◌, ◌/◌, ◌^◌, ◌<◌, ◌≤◌, Some, length, get_or, set, is_some};
 ghost use Rattle.uo_digest.specs.declared.digest.Digest.{Digest as Digested};
 ghost use Rattle.forest_model.specs.Content.{join_digests};
 ghost use Rattle.forest_place.specs.Forest.{InForest};
@@ -73,8 +73,7 @@ pub(crate) fn renew<D: Digester>(
     ensures few { waiting.new.count ≤ waiting.old.count + 1 }
 {
     let off = part_of(number, row);
-    let left = store.part(n, row, 2 * off);
-    let right = store.part(n, row, 2 * off + 1);
+    let (left, right) = store.halves(n, row, off);
     match left {
         None => store.put_part(n, row, number, right),
         Some(l) => match right {
@@ -92,13 +91,15 @@ fn put_each<D: Digester>(store: &mut Store, n: u64, row: u8, numbers: &[u64], di
     requires count { length digests.now ≡ length numbers.now }
     requires within { (j : ℕ) → j < length numbers.now → InForest n (suc row) (part_above numbers.now row j) }
     requires listed { (j : ℕ) → j < length numbers.now → is_listed store.old.pages (get_or numbers.now j 0) ≡ true }
+    requires left { (j : ℕ) → j < length numbers.now → is_some (stored store.old row (2 * part_above numbers.now row j)) ≡ true }
+    requires right { (j : ℕ) → j < length numbers.now → is_some (stored store.old row (2 * part_above numbers.now row j + 1)) ≡ true }
     requires digests { (j : ℕ) (d : Digested) → j < length numbers.now → let off = part_above numbers.now row j in
         Some (get_or digests.now j d) ≡ join_digests D.digest_of (stored store.old row (2 * off)) (stored store.old row (2 * off + 1)) }
     ensures step { (new : ℕ → Bool) → AreAll new numbers.now (length numbers.now) → IsRowStep D.digest_of new row store.old store.new }
     ensures done { (j : ℕ) → j < length numbers.now → IsJoined D.digest_of store.new row (part_above numbers.now row j) }
 {
     for j in 0..numbers.len() {
-        store.put_part(n, row, numbers[j], Some(digests[j]));
+        store.put_joined(n, row, numbers[j], digests[j]);
     }
 }
 

@@ -1,4 +1,4 @@
-use Rattle.std.proofs.Common.{◌≤◌, arith}
+use Rattle.std.proofs.Common.{arith}
 use Rattle.live_forest.proofs.Bitmaps.{half_low, half_high}
 use Rattle.live_forest.proofs.bits.half_of.Goals as goal
 

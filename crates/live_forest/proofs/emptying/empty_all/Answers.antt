@@ -1,4 +1,4 @@
-use Rattle.std.proofs.Common.{◌<◌, ◌≤◌, sym, ◌∙◌, arith}
+use Rattle.std.proofs.Common.{◌∙◌, arith}
 use Rattle.live_forest.specs.Rows.{is_one}
 use Rattle.live_forest.proofs.Refreshing.{room_kept}
 use Rattle.live_forest.proofs.Renewing.{kept_leaves, rows_begin}

@@ -1,4 +1,4 @@
-use Rattle.std.proofs.Common.{◌+◌, ◌≤◌, ◌<◌, true, ◌∙◌, arith}
+use Rattle.std.proofs.Common.{◌∙◌, arith}
 use Rattle.live_forest.specs.Rows.{is_one}
 use Rattle.live_forest.proofs.Renewing.{step_same, step_more, taken_begins}
 use Rattle.live_forest.proofs.emptying.gather.Goals as goal

@@ -1,4 +1,4 @@
-use Rattle.std.proofs.Common.{◌≡◌, suc, ◌+◌, ◌≤◌, ◌∙◌, subst, arith}
+use Rattle.std.proofs.Common.{◌≡◌, suc, ◌+◌, ◌∙◌, subst, arith}
 use Rattle.live_forest.specs.Rows.{is_one, AreBelow}
 use Rattle.live_forest.proofs.Renewing.{step_same, step_more, done_ends}
 use Rattle.live_forest.proofs.emptying.renew_row.Goals as goal

@@ -1,4 +1,4 @@
-use Rattle.std.proofs.Common.{◌≤◌, arith}
+use Rattle.std.proofs.Common.{arith}
 use Rattle.live_forest.specs.Rows.{is_one}
 use Rattle.live_forest.proofs.Renewing.{step_more, taken_ends}
 use Rattle.live_forest.proofs.emptying.renew_some.Goals as goal

@@ -1,4 +1,4 @@
-use Rattle.std.proofs.Common.{◌≡◌, suc, ◌+◌, ◌/◌, ◌^◌, get_or, arith}
+use Rattle.std.proofs.Common.{arith}
 use Rattle.live_forest.specs.Rows.{is_one}
 use Rattle.live_forest.proofs.Renewing.{one_at, step_same, taken_skipped, taken_renewed}
 use Rattle.live_forest.proofs.emptying.take_in.Goals as goal

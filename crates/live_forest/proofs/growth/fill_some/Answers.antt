@@ -1,4 +1,4 @@
-use Rattle.std.proofs.Common.{◌≤◌, arith}
+use Rattle.std.proofs.Common.{arith}
 use Rattle.std.specs.Prelude.{nat_le}
 use Rattle.live_forest.proofs.Renewing.{step_more}
 use Rattle.live_forest.proofs.Growing.{all_later, spanned_ends}

@@ -1,4 +1,4 @@
-use Rattle.std.proofs.Common.{◌≡◌, suc, ◌+◌, ◌*◌, ◌-◌, ◌/◌, ◌^◌, ◌<◌, ◌≤◌, ◌∙◌, ap, subst, sym, arith}
+use Rattle.std.proofs.Common.{suc, ◌/◌, ◌^◌, ◌≤◌, ◌∙◌, ap, subst, sym, arith}
 use Rattle.std.specs.Prelude.{nat_le}
 use Rattle.std.proofs.lemmas.Bool.{le-leb}
 use Rattle.forest_place.specs.Forest.{InForest}

@@ -1,4 +1,4 @@
-use Rattle.std.proofs.Common.{◌+◌, ◌≤◌, length, take, ap, ◌∙◌, arith}
+use Rattle.std.proofs.Common.{◌+◌, length, take, ap, ◌∙◌, arith}
 use Rattle.std.specs.Prelude.{nat_le}
 use Rattle.live_forest.proofs.Refreshing.{room_kept}
 use Rattle.live_forest.proofs.Renewing.{kept_leaves, rows_begin}

@@ -42,21 +42,49 @@ returns-then-part-eq0-clause-noted g t c =
     (way_one es ts all at H c.args.part c.args.place c.args.numbers.now has.0 (omega (arith, c.if-part-eq0.true)) has.1 c.requires.stands w))
     c.push_each.ensures
 
-pub has_in-on_left-requires-clause-within : goal.has_in-on_left-requires-clause-within
-has_in-on_left-requires-clause-within g t c =
+pub has_live-on_left-requires-clause-within : goal.has_live-on_left-requires-clause-within
+has_live-on_left-requires-clause-within g t c =
     let es = (entries_in c.args.n c.args.store.now) in
     let p = c.args.part in
     let halves = halves_of (length es) p c.children.result.0 c.children.result.1 (omega (arith, c.if-part-eq0.false)) c.requires.within
     c.children.ensures.rows c.children.ensures.left c.children.ensures.right in
     halves.left_within
 
-pub has_in-on_right-requires-clause-within : goal.has_in-on_right-requires-clause-within
-has_in-on_right-requires-clause-within g t c =
+pub has_live-on_right-requires-clause-within : goal.has_live-on_right-requires-clause-within
+has_live-on_right-requires-clause-within g t c =
     let es = (entries_in c.args.n c.args.store.now) in
     let p = c.args.part in
     let halves = halves_of (length es) p c.children.result.0 c.children.result.1 (omega (arith, c.if-part-eq0.false)) c.requires.within
     c.children.ensures.rows c.children.ensures.left c.children.ensures.right in
     halves.right_within
+
+pub has_live-on_left-requires-clause-alike : goal.has_live-on_left-requires-clause-alike
+has_live-on_left-requires-clause-alike g t c =
+    alike g.D.Digester.digest_of (entries_in c.args.n c.args.store.now) c.args.store.now c.requires.right
+
+pub has_live-on_right-requires-clause-alike : goal.has_live-on_right-requires-clause-alike
+has_live-on_right-requires-clause-alike g t c =
+    alike g.D.Digester.digest_of (entries_in c.args.n c.args.store.now) c.args.store.now c.requires.right
+
+pub has_live-on_left-requires-clause-inside : goal.has_live-on_left-requires-clause-inside
+has_live-on_left-requires-clause-inside g t c =
+    let es = (entries_in c.args.n c.args.store.now) in
+    let p = c.args.part in
+    let halves = halves_of (length es) p c.children.result.0 c.children.result.1 (omega (arith, c.if-part-eq0.false)) c.requires.within
+    c.children.ensures.rows c.children.ensures.left c.children.ensures.right in
+    subst (AreIn es c.children.result.0.row c.children.result.0.off) (sym (c.split_at.ensures.front ∙ c.count_upto.ensures.upto))
+    (in_low es p c.children.result.0 c.children.result.1 c.args.numbers.now halves c.children.ensures.left c.children.ensures.right
+    c.requires.inside)
+
+pub has_live-on_right-requires-clause-inside : goal.has_live-on_right-requires-clause-inside
+has_live-on_right-requires-clause-inside g t c =
+    let es = (entries_in c.args.n c.args.store.now) in
+    let p = c.args.part in
+    let halves = halves_of (length es) p c.children.result.0 c.children.result.1 (omega (arith, c.if-part-eq0.false)) c.requires.within
+    c.children.ensures.rows c.children.ensures.left c.children.ensures.right in
+    subst (AreIn es c.children.result.1.row c.children.result.1.off) (sym (c.split_at.ensures.back ∙ c.count_upto.ensures.beyond))
+    (in_high es p c.children.result.0 c.children.result.1 c.args.numbers.now halves c.children.ensures.left c.children.ensures.right
+    c.requires.inside)
 
 pub descend-requires : goal.descend-requires
 descend-requires g t c κs within =
@@ -68,13 +96,13 @@ descend-requires g t c κs within =
     let halves = halves_of (length es) p c.children.result.0 c.children.result.1 (omega (arith, c.if-part-eq0.false)) c.requires.within
     c.children.ensures.rows c.children.ensures.left c.children.ensures.right in
     let none : None ≡ kept es parts (p.row - 1) (2 * p.off) =
-    (none_of _ _ c.has_in-on_left.ensures c.if-not-on_left.true) ∙ (ap₂ (kept es parts) halves.left_row c.children.ensures.left) in
+    (none_of _ _ c.has_live-on_left.ensures c.if-not-on_left.true) ∙ (ap₂ (kept es parts) halves.left_row c.children.ensures.left) in
     let stands : tree_at es q.row q.off ≡ content es c.children.result.1.row c.children.result.1.off =
     rw (halves.right_row, c.children.ensures.right)
     (stands_right H es parts c.requires.right p.row p.off q halves.some c.requires.within c.requires.stands none) in
     let nothing : content es c.children.result.0.row c.children.result.0.off ≡ None =
     tree_none es parts (alike H es parts c.requires.right) c.children.result.0.row c.children.result.0.off halves.left_within
-    ((none_of _ _ c.has_in-on_left.ensures c.if-not-on_left.true)) in
+    ((none_of _ _ c.has_live-on_left.ensures c.if-not-on_left.true)) in
     let inside = in_right es p c.children.result.0 c.children.result.1 c.args.numbers.now halves c.children.ensures.left c.children.ensures.right
     c.requires.inside nothing in (
       omega (arith, c.decreases, halves.right_row, halves.some),
@@ -103,13 +131,13 @@ descend-requires-then-not-on_right g t c κs within =
     let halves = halves_of (length es) p c.children.result.0 c.children.result.1 (omega (arith, c.if-part-eq0.false)) c.requires.within
     c.children.ensures.rows c.children.ensures.left c.children.ensures.right in
     let none : None ≡ kept es parts (p.row - 1) (2 * p.off + 1) =
-    (none_of _ _ c.has_in-on_right.ensures c.if-not-on_right.true) ∙ (ap₂ (kept es parts) halves.right_row c.children.ensures.right) in
+    (none_of _ _ c.has_live-on_right.ensures c.if-not-on_right.true) ∙ (ap₂ (kept es parts) halves.right_row c.children.ensures.right) in
     let stands : tree_at es q.row q.off ≡ content es c.children.result.0.row c.children.result.0.off =
     rw (halves.left_row, c.children.ensures.left)
     (stands_left H es parts c.requires.right p.row p.off q halves.some c.requires.within c.requires.stands none) in
     let nothing : content es c.children.result.1.row c.children.result.1.off ≡ None =
     tree_none es parts (alike H es parts c.requires.right) c.children.result.1.row c.children.result.1.off halves.right_within
-    ((none_of _ _ c.has_in-on_right.ensures c.if-not-on_right.true)) in
+    ((none_of _ _ c.has_live-on_right.ensures c.if-not-on_right.true)) in
     let inside = in_left es p c.children.result.0 c.children.result.1 c.args.numbers.now halves c.children.ensures.left c.children.ensures.right
     c.requires.inside nothing in (
       omega (arith, c.decreases, halves.left_row, halves.some),
@@ -138,7 +166,7 @@ returns-then-not-on_left-clause-noted g t c =
     let halves = halves_of (length es) p c.children.result.0 c.children.result.1 (omega (arith, c.if-part-eq0.false)) c.requires.within
     c.children.ensures.rows c.children.ensures.left c.children.ensures.right in
     let none : None ≡ kept es parts (p.row - 1) (2 * p.off) =
-    (none_of _ _ c.has_in-on_left.ensures c.if-not-on_left.true) ∙ (ap₂ (kept es parts) halves.left_row c.children.ensures.left) in
+    (none_of _ _ c.has_live-on_left.ensures c.if-not-on_left.true) ∙ (ap₂ (kept es parts) halves.left_row c.children.ensures.left) in
     let nothing : content es c.children.result.1.row (2 * p.off) ≡ None = ap (λ r. content es r (2 * p.off)) halves.right_row
     ∙ tree_none es parts (alike H es parts c.requires.right) (p.row - 1) (2 * p.off)
     (within_left (length es) p.row p.off halves.some c.requires.within) none in
@@ -155,7 +183,7 @@ returns-then-not-on_right-clause-noted g t c =
     let halves = halves_of (length es) p c.children.result.0 c.children.result.1 (omega (arith, c.if-part-eq0.false)) c.requires.within
     c.children.ensures.rows c.children.ensures.left c.children.ensures.right in
     let none : None ≡ kept es parts (p.row - 1) (2 * p.off + 1) =
-    (none_of _ _ c.has_in-on_right.ensures c.if-not-on_right.true) ∙ (ap₂ (kept es parts) halves.right_row c.children.ensures.right) in
+    (none_of _ _ c.has_live-on_right.ensures c.if-not-on_right.true) ∙ (ap₂ (kept es parts) halves.right_row c.children.ensures.right) in
     let nothing : content es c.children.result.0.row (2 * p.off + 1) ≡ None = ap (λ r. content es r (2 * p.off + 1)) halves.left_row
     ∙ tree_none es parts (alike H es parts c.requires.right) (p.row - 1) (2 * p.off + 1)
     (within_right (length es) p.row p.off halves.some c.requires.within) none in
@@ -180,8 +208,8 @@ children-requires-2-clause-row g t c =
     let q = c.args.place in
     let halves = halves_of (length es) p c.children.result.0 c.children.result.1 (omega (arith, c.if-part-eq0.false)) c.requires.within
     c.children.ensures.rows c.children.ensures.left c.children.ensures.right in
-    let has_left = some_of _ _ c.has_in-on_left.ensures c.if-not-on_left.false in
-    let has_right = some_of _ _ c.has_in-on_right.ensures c.if-not-on_right.false in
+    let has_left = some_of _ _ c.has_live-on_left.ensures c.if-not-on_left.false in
+    let has_right = some_of _ _ c.has_live-on_right.ensures c.if-not-on_right.false in
     let left : Some has_left.0 ≡ kept es parts (p.row - 1) (2 * p.off) =
     has_left.1 ∙ (ap₂ (kept es parts) halves.left_row c.children.ensures.left) in
     let right : Some has_right.0 ≡ kept es parts (p.row - 1) (2 * p.off + 1) =
@@ -203,8 +231,8 @@ descend-requires-2 g t c κs within =
     let q = c.args.place in
     let halves = halves_of (length es) p c.children.result.0 c.children.result.1 (omega (arith, c.if-part-eq0.false)) c.requires.within
     c.children.ensures.rows c.children.ensures.left c.children.ensures.right in
-    let has_left = some_of _ _ c.has_in-on_left.ensures c.if-not-on_left.false in
-    let has_right = some_of _ _ c.has_in-on_right.ensures c.if-not-on_right.false in
+    let has_left = some_of _ _ c.has_live-on_left.ensures c.if-not-on_left.false in
+    let has_right = some_of _ _ c.has_live-on_right.ensures c.if-not-on_right.false in
     let left : Some has_left.0 ≡ kept es parts (p.row - 1) (2 * p.off) =
     has_left.1 ∙ (ap₂ (kept es parts) halves.left_row c.children.ensures.left) in
     let right : Some has_right.0 ≡ kept es parts (p.row - 1) (2 * p.off + 1) =
@@ -248,8 +276,8 @@ descend-requires-3 g t c κs within =
     let q = c.args.place in
     let halves = halves_of (length es) p c.children.result.0 c.children.result.1 (omega (arith, c.if-part-eq0.false)) c.requires.within
     c.children.ensures.rows c.children.ensures.left c.children.ensures.right in
-    let has_left = some_of _ _ c.has_in-on_left.ensures c.if-not-on_left.false in
-    let has_right = some_of _ _ c.has_in-on_right.ensures c.if-not-on_right.false in
+    let has_left = some_of _ _ c.has_live-on_left.ensures c.if-not-on_left.false in
+    let has_right = some_of _ _ c.has_live-on_right.ensures c.if-not-on_right.false in
     let left : Some has_left.0 ≡ kept es parts (p.row - 1) (2 * p.off) =
     has_left.1 ∙ (ap₂ (kept es parts) halves.left_row c.children.ensures.left) in
     let right : Some has_right.0 ≡ kept es parts (p.row - 1) (2 * p.off + 1) =
@@ -293,8 +321,8 @@ returns-clause-noted g t c =
     let q = c.args.place in
     let halves = halves_of (length es) p c.children.result.0 c.children.result.1 (omega (arith, c.if-part-eq0.false)) c.requires.within
     c.children.ensures.rows c.children.ensures.left c.children.ensures.right in
-    let has_left = some_of _ _ c.has_in-on_left.ensures c.if-not-on_left.false in
-    let has_right = some_of _ _ c.has_in-on_right.ensures c.if-not-on_right.false in
+    let has_left = some_of _ _ c.has_live-on_left.ensures c.if-not-on_left.false in
+    let has_right = some_of _ _ c.has_live-on_right.ensures c.if-not-on_right.false in
     let left : Some has_left.0 ≡ kept es parts (p.row - 1) (2 * p.off) =
     has_left.1 ∙ (ap₂ (kept es parts) halves.left_row c.children.ensures.left) in
     let right : Some has_right.0 ≡ kept es parts (p.row - 1) (2 * p.off + 1) =

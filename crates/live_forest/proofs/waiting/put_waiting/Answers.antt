@@ -1,4 +1,5 @@
-use Rattle.std.proofs.Common.{◌≡◌, ℕ, suc, ◌+◌, ◌*◌, ◌/◌, ◌^◌, ◌∙◌, ◌++◌, ◌<◌, List, [], Some, length, take, get_or, sym, ap, ap₂, subst, arith}
+use Rattle.std.proofs.Common.{◌≡◌, suc, ◌+◌, ◌*◌, ◌/◌, ◌^◌, ◌∙◌, ◌++◌, ◌<◌, List, [], Some, take, get_or, sym, ap, ap₂, subst, arith}
+use Rattle.std.specs.Prelude.{is_some}
 use Rattle.std.proofs.lemmas.List.{get_or-map, get_or-take, length-take-le}
 use Rattle.uo_digest.specs.declared.digest.Digest.{Digest}
 use Rattle.forest_place.specs.Forest.{InForest}
@@ -23,6 +24,28 @@ put_each-requires-clause-listed g c = λ j lt.
     let long = length-take-le w.count w.numbers (omega (arith, room.numbers, room.few)) in
     let low : j < w.count = omega (arith, lt, long) in
     ap (is_listed c.args.store.now.pages) (get_or-take w.count w.numbers j 0 low) ∙ c.requires.waiting.listed j low
+
+pub put_each-requires-clause-left : goal.put_each-requires-clause-left
+put_each-requires-clause-left g c = λ j lt.
+    let w = c.args.waiting.now in
+    let row = c.args.row in
+    let room = c.requires.waiting.room in
+    let long = length-take-le w.count w.numbers (omega (arith, room.numbers, room.few)) in
+    let low : j < w.count = omega (arith, lt, long) in
+    let none : Digest × Digest = (record { 0 = [] }, record { 0 = [] }) in
+    ap (λ i. is_some (stored c.args.store.now row (2 * (i / 2 ^ suc row)))) (get_or-take w.count w.numbers j 0 low)
+    ∙ ap is_some (c.requires.waiting.left j none low)
+
+pub put_each-requires-clause-right : goal.put_each-requires-clause-right
+put_each-requires-clause-right g c = λ j lt.
+    let w = c.args.waiting.now in
+    let row = c.args.row in
+    let room = c.requires.waiting.room in
+    let long = length-take-le w.count w.numbers (omega (arith, room.numbers, room.few)) in
+    let low : j < w.count = omega (arith, lt, long) in
+    let none : Digest × Digest = (record { 0 = [] }, record { 0 = [] }) in
+    ap (λ i. is_some (stored c.args.store.now row (2 * (i / 2 ^ suc row) + 1))) (get_or-take w.count w.numbers j 0 low)
+    ∙ ap is_some (c.requires.waiting.right j none low)
 
 pub put_each-requires-clause-digests : goal.put_each-requires-clause-digests
 put_each-requires-clause-digests g c = λ j d lt.
