@@ -36,7 +36,7 @@ returns-in_default-clause-shows g c =
 
 pub returns-in_default-clause-found : goal.returns-in_default-clause-found
 returns-in_default-clause-found g c =
-    c.new-2.ensures.items ∙ sym (ap found_by (c.in_ok-message.ensures.is ∙ ap handed_as c.in_default.is))
+    c.new-in_default.ensures.items ∙ sym (ap found_by (c.in_ok-message.ensures.is ∙ ap handed_as c.in_default.is))
 
 pub returns-clause-passes : goal.returns-clause-passes
 returns-clause-passes g c =
