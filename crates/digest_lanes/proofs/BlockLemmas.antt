@@ -1,5 +1,5 @@
 -- Parts of a text that goes on, and of the bytes behind its last whole block.
-use Rattle.std.proofs.Common.{◌≡◌, ℕ, ◌+◌, ◌-◌, ◌*◌, ◌/◌, ◌%◌, ◌<◌, ◌≤◌, ◌∷◌, List, ◌++◌, length, take, drop, replicate, slice_set, arith, refl, sym}
+use Rattle.std.proofs.Common.{◌≡◌, ℕ, ◌+◌, ◌-◌, ◌≤◌, ◌∷◌, List, ◌++◌, length, take, drop, replicate, slice_set, arith, refl, sym}
 use Rattle.std.proofs.Common.{ap, ◌∙◌, length-append, length-drop, add-one}
 use Rattle.std.proofs.Math.Seq.{drop-append-add, set-append_seam, take-append-add}
 use Rattle.std.proofs.lemmas.List.{append_assoc, drop-append-le, drop-replicate, length-replicate, length-take-le, take-append-drop, take-append-le}

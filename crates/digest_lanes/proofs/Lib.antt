@@ -6,5 +6,5 @@ pub mod BlockLemmas
 pub mod Pair256Lemmas
 pub mod EightLemmas
 pub mod Pair512Lemmas
-pub mod FourLemmas
+pub mod LaneLemmas
 mod ChMaj

@@ -1,6 +1,6 @@
 -- Texts that go on behind whole blocks.
-use Rattle.std.proofs.Common.{◌≡◌, ℕ, zero, suc, ◌+◌, ◌*◌, ◌-◌, ◌/◌, ◌%◌, ◌^◌, ◌≤◌, List, ◌++◌, length, replicate, take, drop, arith, refl, sym, ap}
-use Rattle.std.proofs.Common.{◌∙◌, length-append, add-one, add-zero}
+use Rattle.std.proofs.Common.{◌≡◌, ℕ, zero, suc, ◌+◌, ◌*◌, ◌-◌, ◌/◌, ◌%◌, ◌^◌, ◌≤◌, List, ◌++◌, length, replicate, take, drop, arith, sym, ap}
+use Rattle.std.proofs.Common.{◌∙◌, length-append, add-zero}
 use Rattle.std.proofs.Math.Seq.{drop-append-add}
 use Rattle.std.proofs.lemmas.List.{append_assoc, length-replicate}
 use Rattle.sha2.specs.Sha512.{compress, digest_bytes, hash_after, initial_hash_512_256, padded_message, padding, sha512_256}

@@ -1,10 +1,11 @@
 -- The one block of a text of two halves of 32 bytes.
-use Rattle.std.proofs.Common.{◌≡◌, ℕ, ◌≤◌, ◌+◌, ◌-◌, ◌/◌, List, [], ◌∷◌, ◌++◌, length, take, slice_index, slice_index_or, arith, refl, sym, ap, ◌∙◌}
+use Rattle.std.proofs.Common.{◌≡◌, ℕ, ◌≤◌, ◌<◌, ◌+◌, ◌-◌, ◌/◌, List, [], ◌∷◌, ◌++◌, length, take, slice_index, slice_index_or, arith, refl, sym, ap, ◌∙◌}
 use Rattle.std.proofs.Common.{length-append}
 use Rattle.std.proofs.lemmas.List.{get_or_append_left, get_or-append_right, take_all}
 use Rattle.std.specs.Int.{w64, to_be_bytes}
-use Rattle.digest_lanes.specs.Lanes.{lane}
-use Rattle.digest_lanes.proofs.FourLemmas.{slice_index-lane}
+use lib.ListN.{get_or}
+use Rattle.digest_lanes.specs.Lanes.{lane, lane_of}
+use Rattle.digest_lanes.proofs.LaneLemmas.{slice_index-lane, word-lane}
 use Rattle.sha2.specs.Sha512.{compress, digest_bytes, first_words, hash_after, initial_hash_512_256, padded_message, padding, sha512_256, word_at}
 
 -- a word of the front of a text
@@ -71,6 +72,18 @@ sixteen b =
 pub first_words_sixteen : (b : List ℕ) → sixteen b ≡ first_words b 16
 unfolding first_words
 first_words_sixteen b = refl
+
+-- the words of a half
+pub four_words : (t : List ℕ) → word_at t 0 ∷ word_at t 8 ∷ word_at t 16 ∷ word_at t 24 ∷ [] ≡ first_words t 4
+unfolding first_words
+four_words t = refl
+
+-- one of them, of a half in a lane
+pub half_word : {V : Type 0} (word : V → ℕ → ℕ) (x : List V) (j k : ℕ) (v : V) (t : List ℕ) → length x ≡ 4 → k < 4
+    → lane_of word j x ≡ first_words t 4
+    → word (get_or x k v) j ≡ slice_index (word_at t 0 ∷ word_at t 8 ∷ word_at t 16 ∷ word_at t 24 ∷ []) k
+half_word word x j k v t long below same =
+    sym (word-lane word x j k v (omega arith)) ∙ ap (λ (s : List ℕ). slice_index s k) (same ∙ sym (four_words t))
 
 -- the words of the two halves, and those of the padding
 pub pair_block : (l r : List ℕ) → length l ≡ 32 → length r ≡ 32

@@ -1,12 +1,13 @@
-//! The one block of a text of 64 bytes, four at a time, and the digests of four states.
+//! The one block of a text of 64 bytes, four or two at a time, and the digests of four or two states.
 
 ghost use Rattle.std.specs.Prelude.{◌≡◌, ℕ, ◌+◌, ◌*◌, ◌^◌, ◌<◌, ◌≤◌, ◌++◌, List, [], length, take, slice_index, slice_index_or};
 ghost use Rattle.std.specs.Int.{w64, to_be_bytes};
 ghost use Rattle.sha2.specs.Sha512.{digest_bytes, first_words, initial_hash_512_256, padded_message, sha512_256, word_at};
-ghost use Rattle.digest_lanes.specs.Lanes.{lane};
+ghost use Rattle.digest_lanes.specs.Lanes.{lane, lane_of};
 
 use crate::block512::compress;
-use std::simd::u64x4;
+use crate::words512::Words;
+use std::simd::{u64x2, u64x4};
 
 // The word at byte `i` of a text, and what the caller can not see of a text in an array: its length.
 #[inline(always)]
@@ -28,6 +29,17 @@ fn load(text: &[u8; 32], i: usize) -> u64
 }
 
 #[inline(always)]
+fn load_two(texts: &[[u8; 32]; 2], i: usize) -> u64x2
+    requires { i + 8 ≤ 32 }
+    ensures word { (j : ℕ) → j < 2 → slice_index result j ≡ word_at (slice_index_or texts.now j []) i }
+    ensures long { (j : ℕ) → j < 2 → length (slice_index_or texts.now j []) ≡ 32 }
+{
+    let first = load(&texts[0], i);
+    let second = load(&texts[1], i);
+    u64x2::from_array([first, second])
+}
+
+#[inline(always)]
 fn load_four(texts: &[[u8; 32]; 4], i: usize) -> u64x4
     requires { i + 8 ≤ 32 }
     ensures word { (j : ℕ) → j < 4 → slice_index result j ≡ word_at (slice_index_or texts.now j []) i }
@@ -40,43 +52,61 @@ fn load_four(texts: &[[u8; 32]; 4], i: usize) -> u64x4
     u64x4::from_array([first, second, third, fourth])
 }
 
+// The words of two halves of texts.
+#[inline(always)]
+fn half_of_two(texts: &[[u8; 32]; 2]) -> [u64x2; 4]
+    ensures words { (j : ℕ) → j < 2 → lane j result ≡ first_words (slice_index_or texts.now j []) 4 }
+    ensures long { (j : ℕ) → j < 2 → length (slice_index_or texts.now j []) ≡ 32 }
+{
+    let first = load_two(texts, 0);
+    let second = load_two(texts, 8);
+    let third = load_two(texts, 16);
+    let fourth = load_two(texts, 24);
+    [first, second, third, fourth]
+}
+
+// The words of four halves of texts.
+#[inline(always)]
+fn half_of_four(texts: &[[u8; 32]; 4]) -> [u64x4; 4]
+    ensures words { (j : ℕ) → j < 4 → lane j result ≡ first_words (slice_index_or texts.now j []) 4 }
+    ensures long { (j : ℕ) → j < 4 → length (slice_index_or texts.now j []) ≡ 32 }
+{
+    let first = load_four(texts, 0);
+    let second = load_four(texts, 8);
+    let third = load_four(texts, 16);
+    let fourth = load_four(texts, 24);
+    [first, second, third, fourth]
+}
+
 // The words of the one block of each pair: the pair, the padding's bit, and the length of 512 bits.
 #[inline(always)]
-pub(crate) fn pair_words(left: &[[u8; 32]; 4], right: &[[u8; 32]; 4]) -> [u64x4; 16]
-    ensures words { (j : ℕ) → j < 4 → lane j result
-        ≡ first_words (padded_message (slice_index_or left.now j [] ++ slice_index_or right.now j [])) 16 }
-    ensures left { (j : ℕ) → j < 4 → length (slice_index_or left.now j []) ≡ 32 }
-    ensures right { (j : ℕ) → j < 4 → length (slice_index_or right.now j []) ≡ 32 }
+fn pair_words<W: Words>(left: [W; 4], right: [W; 4]) -> [W; 16]
+    ensures { (j : ℕ) → j < W.lanes → (l r : List ℕ) → length l ≡ 32 → length r ≡ 32 → lane_of W.word j left ≡ first_words l 4
+        → lane_of W.word j right ≡ first_words r 4 → lane_of W.word j result ≡ first_words (padded_message (l ++ r)) 16 }
 {
-    let l0 = load_four(left, 0);
-    let l1 = load_four(left, 8);
-    let l2 = load_four(left, 16);
-    let l3 = load_four(left, 24);
-    let r0 = load_four(right, 0);
-    let r1 = load_four(right, 8);
-    let r2 = load_four(right, 16);
-    let r3 = load_four(right, 24);
-    let bit = u64x4::splat(0x8000_0000_0000_0000);
-    let none = u64x4::splat(0);
-    let bits = u64x4::splat(512);
+    let [l0, l1, l2, l3] = left;
+    let [r0, r1, r2, r3] = right;
+    let bit = W::splat(0x8000_0000_0000_0000);
+    let none = W::splat(0);
+    let bits = W::splat(512);
     [
         l0, l1, l2, l3, r0, r1, r2, r3, bit, none, none, none, none, none, none, bits,
     ]
 }
 
 #[inline(always)]
-pub(crate) fn initial_state() -> [u64x4; 8]
-    ensures { (j : ℕ) → j < 4 → lane j result ≡ initial_hash_512_256 }
+pub(crate) fn initial_state<W: Words>() -> [W; 8]
+    ensures { (j : ℕ) → j < W.lanes → lane_of W.word j result ≡ initial_hash_512_256 }
 {
     [
-        u64x4::splat(0x2231_2194_fc2b_f72c),
-        u64x4::splat(0x9f55_5fa3_c84c_64c2),
-        u64x4::splat(0x2393_b86b_6f53_b151),
-        u64x4::splat(0x9638_7719_5940_eabd),
-        u64x4::splat(0x9628_3ee2_a88e_ffe3),
-        u64x4::splat(0xbe5e_1e25_5386_3992),
-        u64x4::splat(0x2b01_99fc_2c85_b8aa),
-        u64x4::splat(0x0eb7_2ddc_81c5_2ca2),
+        W::splat(0x2231_2194_fc2b_f72c),
+        W::splat(0x9f55_5fa3_c84c_64c2),
+        W::splat(0x2393_b86b_6f53_b151),
+        W::splat(0x9638_7719_5940_eabd),
+        W::splat(0x9628_3ee2_a88e_ffe3),
+        W::splat(0xbe5e_1e25_5386_3992),
+        W::splat(0x2b01_99fc_2c85_b8aa),
+        W::splat(0x0eb7_2ddc_81c5_2ca2),
     ]
 }
 
@@ -96,7 +126,21 @@ fn digest(a: u64, b: u64, c: u64, d: u64) -> [u8; 32]
 
 // The leftmost 256 bits of each state.
 #[inline(always)]
-pub(crate) fn digests(state: [u64x4; 8]) -> [[u8; 32]; 4]
+pub(crate) fn digests_of_two(state: [u64x2; 8]) -> [[u8; 32]; 2]
+    ensures { (j : ℕ) → j < 2 → slice_index_or result j [] ≡ take 32 (digest_bytes (lane j state) 8) }
+{
+    let [a0, a1] = state[0].to_array();
+    let [b0, b1] = state[1].to_array();
+    let [c0, c1] = state[2].to_array();
+    let [d0, d1] = state[3].to_array();
+    let first = digest(a0, b0, c0, d0);
+    let second = digest(a1, b1, c1, d1);
+    [first, second]
+}
+
+// The leftmost 256 bits of each state.
+#[inline(always)]
+pub(crate) fn digests_of_four(state: [u64x4; 8]) -> [[u8; 32]; 4]
     ensures { (j : ℕ) → j < 4 → slice_index_or result j [] ≡ take 32 (digest_bytes (lane j state) 8) }
 {
     let [a0, a1, a2, a3] = state[0].to_array();
@@ -110,11 +154,24 @@ pub(crate) fn digests(state: [u64x4; 8]) -> [[u8; 32]; 4]
     [first, second, third, fourth]
 }
 
+/// SHA-512/256 of each of two pairs of digests, as one text of 64 bytes.
+pub fn pairs_of_two(left: &[[u8; 32]; 2], right: &[[u8; 32]; 2]) -> [[u8; 32]; 2]
+    ensures { (j : ℕ) → j < 2 → slice_index_or result j [] ≡ sha512_256 (slice_index_or left.now j [] ++ slice_index_or right.now j []) }
+{
+    let near = half_of_two(left);
+    let far = half_of_two(right);
+    let words = pair_words(near, far);
+    let state = compress(initial_state(), words);
+    digests_of_two(state)
+}
+
 /// SHA-512/256 of each of four pairs of digests, as one text of 64 bytes.
 pub fn pairs_of_four(left: &[[u8; 32]; 4], right: &[[u8; 32]; 4]) -> [[u8; 32]; 4]
     ensures { (j : ℕ) → j < 4 → slice_index_or result j [] ≡ sha512_256 (slice_index_or left.now j [] ++ slice_index_or right.now j []) }
 {
-    let words = pair_words(left, right);
+    let near = half_of_four(left);
+    let far = half_of_four(right);
+    let words = pair_words(near, far);
     let state = compress(initial_state(), words);
-    digests(state)
+    digests_of_four(state)
 }

@@ -9,7 +9,7 @@ ghost use Rattle.digest_lanes.specs.Midstate.{IsMidstate, padded_behind};
 use crate::block512::compress;
 use crate::midstate::Midstate;
 use crate::padded512::Padded;
-use crate::pairs512::{digests, initial_state};
+use crate::pairs512::{digests_of_four, initial_state};
 use std::simd::u64x4;
 
 // The word at byte `i` of a block.
@@ -149,7 +149,7 @@ pub(crate) fn digest_four(
     ensures { (j : ℕ) → j < 4 → (before : List ℕ) → IsMidstate start.now before
         → slice_index_or result j [] ≡ sha512_256 (before ++ text_at texts.now (slice_index group.now j)) }
 {
-    digests(states_of(start, texts, group, blocks))
+    digests_of_four(states_of(start, texts, group, blocks))
 }
 
 /// The hash value behind a text of whole blocks.

@@ -22,6 +22,17 @@ given_all g (t ∷ texts) (d ∷ out) same given =
     ap (λ (x : Digest). x ∷ out) (digest_is d (g t.now) (given 0 d refl))
     ∙ ap (λ xs. of_bytes (g t.now) ∷ xs) (given_all g texts out (omega (arith, same)) (λ i. given (suc i)))
 
+-- two of them
+pub same_two : {a b p q : List ℕ} → a ≡ p → b ≡ q
+    → ◌≡◌ {A = List Digest} (of_bytes a ∷ of_bytes b ∷ []) (of_bytes p ∷ of_bytes q ∷ [])
+same_two i j = rw (i, j) refl
+
+pub two_of : {X : Type 0} (f : X → Digest) (xs : List X) (d : X) → length xs ≡ 2 → f (get_or xs 0 d) ∷ f (get_or xs 1 d) ∷ [] ≡ map f xs
+two_of f [] d is = absurd (omega (arith, is))
+two_of f (a ∷ []) d is = absurd (omega (arith, is))
+two_of f (a ∷ b ∷ []) d is = refl
+two_of f (a ∷ b ∷ c ∷ xs) d is = absurd (omega (arith, is))
+
 -- four of them
 pub same_four : {a b c d p q r s : List ℕ} → a ≡ p → b ≡ q → c ≡ r → d ≡ s
     → ◌≡◌ {A = List Digest} (of_bytes a ∷ of_bytes b ∷ of_bytes c ∷ of_bytes d ∷ []) (of_bytes p ∷ of_bytes q ∷ of_bytes r ∷ of_bytes s ∷ [])
@@ -31,20 +42,7 @@ pub four_of : {X : Type 0} (f : X → Digest) (xs : List X) (d : X) → length x
     → f (get_or xs 0 d) ∷ f (get_or xs 1 d) ∷ f (get_or xs 2 d) ∷ f (get_or xs 3 d) ∷ [] ≡ map f xs
 four_of f [] d is = absurd (omega (arith, is))
 four_of f (a ∷ []) d is = absurd (omega (arith, is))
-four_of f (a ∷ b ∷ []) d is = absurd (omega (arith, is))
-four_of f (a ∷ b ∷ c ∷ []) d is = absurd (omega (arith, is))
-four_of f (a ∷ b ∷ c ∷ e ∷ []) d is = refl
-four_of f (a ∷ b ∷ c ∷ e ∷ g ∷ xs) d is = absurd (omega (arith, is))
-
--- those of them that are asked for
-pub front_of : {X : Type 0} (f : X → Digest) (xs part rest : List X) (all front out : List Digest) → part ≡ xs → all ≡ map f (part ++ rest)
-    → front ≡ take (length xs) all → out ≡ front → out ≡ map f xs
-front_of f xs part rest all front out is made taken put =
-    put
-    ∙ taken
-    ∙ ap (take (length xs)) (made ∙ ap (λ l. map f (l ++ rest)) is ∙ map-append f xs rest)
-    ∙ ap (λ n. take n (map f xs ++ map f rest)) (sym (length-map xs f))
-    ∙ take-append_seam (map f xs) (map f rest)
+four_of f (a ∷ b ∷ xs) d is = ap (λ (rest : List Digest). f a ∷ f b ∷ rest) (two_of f xs d (omega (arith, is)))
 
 -- eight of them
 pub same_eight : {a b c d e f g h i j k l m n o p : List ℕ} → a ≡ i → b ≡ j → c ≡ k → d ≡ l → e ≡ m → f ≡ n → g ≡ o → h ≡ p
@@ -79,6 +77,7 @@ put_part f xs out from n part rest le before is =
 
 -- the last part
 pub put_last : {X : Type 0} (f : X → Digest) (xs : List X) (out : List Digest) (from n : ℕ) (part rest : List Digest)
-    → from + n ≡ length xs → AreGiven f xs out from → part ≡ map f (take n (drop from xs)) → AreGiven f xs (take from out ++ (part ++ rest)) (length xs)
+    → from + n ≡ length xs → AreGiven f xs out from → part ≡ map f (take n (drop from xs))
+    → AreGiven f xs (take from out ++ (part ++ rest)) (length xs)
 put_last f xs out from n part rest whole before is =
     subst (AreGiven f xs (take from out ++ (part ++ rest))) whole (put_part f xs out from n part rest (omega (arith, whole)) before is)

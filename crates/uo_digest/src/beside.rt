@@ -8,7 +8,7 @@ ghost use Rattle.uo_digest.specs.Batches.{AreGiven};
 
 use crate::Digest;
 use crate::pair::pair_text;
-use digest_lanes::{Front, pairs_of_four};
+use digest_lanes::{Front, pairs_of_four, pairs_of_two};
 use sha2::Sha512_256;
 
 // The digests of four pairs.
@@ -33,28 +33,33 @@ fn put_four(pairs: &[(Digest, Digest)], from: usize, out: &mut [Digest])
     out[from..from + 4].copy_from_slice(&four);
 }
 
-// The digests of up to four pairs, side by side: where there are fewer, blanks stand behind them.
-fn digest_few(pairs: &[(Digest, Digest)], out: &mut [Digest])
-    requires count { length out.old ≡ length pairs.now }
-    requires few { length pairs.now ≤ 4 }
-    ensures { out.new ≡ map (λ (pair : Digested × Digested). record { 0 = sha512_256 (pair.0.0 ++ pair.1.0) }) pairs.now }
+// The digests of two pairs.
+fn two_digests(pairs: &[(Digest, Digest)]) -> [Digest; 2]
+    requires { length pairs.now ≡ 2 }
+    ensures { result ≡ map (λ (pair : Digested × Digested). record { 0 = sha512_256 (pair.0.0 ++ pair.1.0) }) pairs.now }
 {
-    let blank = Digest([0; 32]);
-    let mut four = [(blank, blank); 4];
-    four.split_at_mut(pairs.len()).0.copy_from_slice(pairs);
-    let digests = four_digests(&four);
-    out.copy_from_slice(digests.split_at(pairs.len()).0);
+    let left = [pairs[0].0.0, pairs[1].0.0];
+    let right = [pairs[0].1.0, pairs[1].1.0];
+    let [first, second] = pairs_of_two(&left, &right);
+    [Digest(first), Digest(second)]
 }
 
-// The digests of fewer than four pairs. Side by side two take less than one after the other, and three no more than two.
-fn digest_rest(pairs: &[(Digest, Digest)], out: &mut [Digest])
+// Puts the digests of two pairs behind those before them.
+fn put_two(pairs: &[(Digest, Digest)], from: usize, out: &mut [Digest])
     requires count { length out.old ≡ length pairs.now }
-    requires few { length pairs.now < 4 }
+    requires within { from + 2 ≤ length pairs.now }
+    requires before { AreGiven (λ (pair : Digested × Digested). record { 0 = sha512_256 (pair.0.0 ++ pair.1.0) }) pairs.now out.old from }
+    ensures { AreGiven (λ (pair : Digested × Digested). record { 0 = sha512_256 (pair.0.0 ++ pair.1.0) }) pairs.now out.new (from + 2) }
+{
+    let two = two_digests(&pairs[from..from + 2]);
+    out[from..from + 2].copy_from_slice(&two);
+}
+
+// The digest of each pair, one by one.
+fn digest_pairs_alone(pairs: &[(Digest, Digest)], out: &mut [Digest])
+    requires { length out.old ≡ length pairs.now }
     ensures { out.new ≡ map (λ (pair : Digested × Digested). record { 0 = sha512_256 (pair.0.0 ++ pair.1.0) }) pairs.now }
 {
-    if pairs.len() > 1 {
-        return digest_few(pairs, out);
-    }
     'each: for i in 0..pairs.len() {
         let (left, right) = pairs[i];
         let text = pair_text(left, right);
@@ -62,18 +67,32 @@ fn digest_rest(pairs: &[(Digest, Digest)], out: &mut [Digest])
     }
 }
 
-// Puts the digests of the last pairs, fewer than four, behind those before them.
-fn put_rest(pairs: &[(Digest, Digest)], from: usize, out: &mut [Digest])
+// Puts the digests of the last pairs, made one by one, behind those before them.
+fn put_alone(pairs: &[(Digest, Digest)], from: usize, out: &mut [Digest])
     requires count { length out.old ≡ length pairs.now }
     requires within { from ≤ length pairs.now }
-    requires few { length pairs.now < from + 4 }
     requires before { AreGiven (λ (pair : Digested × Digested). record { 0 = sha512_256 (pair.0.0 ++ pair.1.0) }) pairs.now out.old from }
     ensures { AreGiven (λ (pair : Digested × Digested). record { 0 = sha512_256 (pair.0.0 ++ pair.1.0) }) pairs.now out.new (length pairs.now) }
 {
-    digest_rest(&pairs[from..], &mut out[from..]);
+    digest_pairs_alone(&pairs[from..], &mut out[from..]);
 }
 
-/// The digest of each pair, as one text of 64 bytes: four at a time, two or three at the end as well, and one at the end alone.
+// Puts the digests of the last pairs, fewer than four, behind those before them: two side by side, and one alone.
+fn put_rest(pairs: &[(Digest, Digest)], from: usize, out: &mut [Digest])
+    requires count { length out.old ≡ length pairs.now }
+    requires within { from ≤ length pairs.now }
+    requires before { AreGiven (λ (pair : Digested × Digested). record { 0 = sha512_256 (pair.0.0 ++ pair.1.0) }) pairs.now out.old from }
+    ensures { AreGiven (λ (pair : Digested × Digested). record { 0 = sha512_256 (pair.0.0 ++ pair.1.0) }) pairs.now out.new (length pairs.now) }
+{
+    if pairs.len() - from < 2 {
+        put_alone(pairs, from, out);
+    } else {
+        put_two(pairs, from, out);
+        put_alone(pairs, from + 2, out);
+    }
+}
+
+/// The digest of each pair, as one text of 64 bytes: four at a time, then two, and one at the end alone.
 pub(crate) fn digest_pairs(pairs: &[(Digest, Digest)], out: &mut [Digest])
     requires { length out.old ≡ length pairs.now }
     ensures { out.new ≡ map (λ (pair : Digested × Digested). record { 0 = sha512_256 (pair.0.0 ++ pair.1.0) }) pairs.now }

@@ -1,4 +1,4 @@
-use Rattle.std.proofs.Common.{ℕ, slice_index, inl, inr, arith, subst}
+use Rattle.std.proofs.Common.{slice_index, inl, inr, arith, subst}
 use Rattle.std.proofs.lemmas.Bool.{cases_lt}
 use Rattle.sha2.specs.Sha256.{sha256}
 use Rattle.digest_lanes.specs.Texts.{IsGivenAt, text_at}

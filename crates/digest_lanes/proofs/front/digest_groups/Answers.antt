@@ -1,7 +1,6 @@
-use Rattle.std.proofs.Common.{ℕ, ◌++◌, length, slice_index, inl, inr, arith, subst}
+use Rattle.std.proofs.Common.{◌++◌, slice_index, inl, inr, arith, subst}
 use Rattle.std.proofs.lemmas.Bool.{cases_lt}
 use Rattle.sha2.specs.Sha512.{sha512_256}
-use Rattle.digest_lanes.specs.Groups.{HasLength}
 use Rattle.digest_lanes.specs.Texts.{IsGivenAt, text_at}
 use Rattle.digest_lanes.proofs.MidstateLemmas.{blocks_made}
 use Rattle.digest_lanes.proofs.front.digest_groups.Goals as goal

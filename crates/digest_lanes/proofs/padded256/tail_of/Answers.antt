@@ -1,4 +1,4 @@
-use Rattle.std.proofs.Common.{rules, ◌-◌, ◌%◌, length, arith, refl, ◌∙◌}
+use Rattle.std.proofs.Common.{◌-◌, ◌%◌, length, arith, refl, ◌∙◌}
 use Rattle.std.specs.Int.{w64, to_be_bytes}
 use Rattle.digest_lanes.proofs.BlockLemmas.{tail_is}
 use Rattle.digest_lanes.proofs.padded256.tail_of.Goals as goal

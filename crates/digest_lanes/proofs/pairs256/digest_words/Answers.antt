@@ -1,4 +1,3 @@
-use Rattle.std.proofs.Common.{refl, sym}
 use Rattle.digest_lanes.specs.Lanes.{lane}
 use Rattle.digest_lanes.proofs.EightLemmas.{splat_lane, slice_index-lane}
 use Rattle.digest_lanes.proofs.Pair256Lemmas.{digest_block}

@@ -1,4 +1,4 @@
-use Rattle.digest_lanes.proofs.FourLemmas.{below_four}
+use Rattle.digest_lanes.proofs.LaneLemmas.{below_four}
 use Rattle.digest_lanes.proofs.pairs512.load_four.Goals as goal
 
 pub returns : goal.returns

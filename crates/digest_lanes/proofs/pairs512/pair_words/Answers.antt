@@ -1,26 +1,22 @@
-use Rattle.std.proofs.Common.{[], slice_index_or}
-use Rattle.digest_lanes.proofs.FourLemmas.{splat_lane}
-use Rattle.digest_lanes.proofs.Pair512Lemmas.{pair_block}
+use Rattle.std.proofs.Common.{arith}
+use Rattle.digest_lanes.proofs.Pair512Lemmas.{half_word, pair_block}
 use Rattle.digest_lanes.proofs.pairs512.pair_words.Goals as goal
 
 pub returns : goal.returns
-returns c =
-    record {
-      words = λ j h.
-          rw (
-            c.load_four-l0.ensures.word j h,
-            c.load_four-l1.ensures.word j h,
-            c.load_four-l2.ensures.word j h,
-            c.load_four-l3.ensures.word j h,
-            c.load_four-r0.ensures.word j h,
-            c.load_four-r1.ensures.word j h,
-            c.load_four-r2.ensures.word j h,
-            c.load_four-r3.ensures.word j h,
-            splat_lane 0x8000000000000000 j h,
-            splat_lane 0 j h,
-            splat_lane 512 j h,
-          ) (pair_block (slice_index_or c.args.left.now j []) (slice_index_or c.args.right.now j []) (c.load_four-l0.ensures.long j h)
-          (c.load_four-r0.ensures.long j h));
-      left = c.load_four-l0.ensures.long;
-      right = c.load_four-r0.ensures.long;
-    }
+returns g c j h = λ l r ll lr near far.
+    let word = g.W.Words.word in
+    let length-left = c.well_formed.0.1.0.1 in
+    let length-right = c.well_formed.1.0.1.0.1 in
+    rw (
+      half_word word c.args.left j 0 c.index-left-0.result l length-left (omega arith) near,
+      half_word word c.args.left j 1 c.index-left-1.result l length-left (omega arith) near,
+      half_word word c.args.left j 2 c.index-left-2.result l length-left (omega arith) near,
+      half_word word c.args.left j 3 c.index-left-3.result l length-left (omega arith) near,
+      half_word word c.args.right j 0 c.index-right-0.result r length-right (omega arith) far,
+      half_word word c.args.right j 1 c.index-right-1.result r length-right (omega arith) far,
+      half_word word c.args.right j 2 c.index-right-2.result r length-right (omega arith) far,
+      half_word word c.args.right j 3 c.index-right-3.result r length-right (omega arith) far,
+      c.splat-bit.ensures j h,
+      c.splat-none.ensures j h,
+      c.splat-bits.ensures j h,
+    ) (pair_block l r ll lr)

@@ -1,5 +1,5 @@
-use Rattle.std.proofs.Common.{◌≡◌, ◌/◌, length, slice_index, ap, sym, ◌∙◌, arith}
-use Rattle.sha2.specs.Sha256.{digest_bytes, hash_after, initial_hash_256, padded_message, sha256}
+use Rattle.std.proofs.Common.{slice_index, ap, ◌∙◌}
+use Rattle.sha2.specs.Sha256.{digest_bytes, sha256}
 use Rattle.digest_lanes.specs.Texts.{text_at}
 use Rattle.digest_lanes.proofs.Pair256Lemmas.{sha256_of_state}
 use Rattle.digest_lanes.proofs.texts256.digest_eight.Goals as goal

@@ -2,7 +2,7 @@ use Rattle.std.proofs.Common.{◌≡◌, ℕ, List, ◌*◌, ◌∷◌, [], slic
 use Rattle.sha2.specs.Sha512.{compress, hash_after}
 use Rattle.sha2.proofs.Absorbing512.{hash_after_next}
 use Rattle.digest_lanes.specs.Lanes.{lane}
-use Rattle.digest_lanes.proofs.FourLemmas.{below_four}
+use Rattle.digest_lanes.proofs.LaneLemmas.{below_four}
 use Rattle.digest_lanes.proofs.texts512.hash_blocks.Goals as goal
 
 pub each-init : goal.each-init

@@ -1,4 +1,4 @@
-use Rattle.std.proofs.Common.{◌≡◌, List, ℕ, ◌+◌, ◌-◌, ◌*◌, ◌/◌, length, take, drop, ap, sym, ◌∙◌, arith}
+use Rattle.std.proofs.Common.{◌≡◌, ◌+◌, ◌-◌, ◌*◌, ◌/◌, length, take, drop, ap, sym, ◌∙◌, arith}
 use Rattle.sha2.specs.Sha512.{compress, hash_after, initial_hash_512_256}
 use Rattle.sha2.proofs.Absorbing512.{hash_after_next}
 use Rattle.digest_lanes.proofs.texts512.hash_whole.Goals as goal

@@ -1,9 +1,8 @@
-use Rattle.std.proofs.Common.{◌≡◌, ℕ, List, ◌+◌, ◌<◌, ◌++◌, ◌∷◌, [], length, slice_index, slice_index_or, ap, ◌∙◌, sym, arith}
+use Rattle.std.proofs.Common.{◌≡◌, ℕ, List, ◌∷◌, [], length, slice_index, slice_index_or, ap, ◌∙◌, arith}
 use Rattle.sha2.specs.Sha512.{hash_after}
-use Rattle.digest_lanes.specs.Lanes.{lane}
 use Rattle.digest_lanes.specs.Midstate.{padded_behind}
 use Rattle.digest_lanes.specs.Texts.{text_at}
-use Rattle.digest_lanes.proofs.FourLemmas.{below_four}
+use Rattle.digest_lanes.proofs.LaneLemmas.{below_four}
 use Rattle.digest_lanes.proofs.ListLemmas.{text_there}
 use Rattle.digest_lanes.proofs.texts512.states_of.Goals as goal
 

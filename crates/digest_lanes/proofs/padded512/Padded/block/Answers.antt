@@ -1,4 +1,4 @@
-use Rattle.std.proofs.Common.{◌≡◌, ℕ, List, ◌+◌, ◌-◌, ◌*◌, ◌/◌, ◌≤◌, length, take, drop, arith, refl, sym, ap, ◌∙◌, length-append}
+use Rattle.std.proofs.Common.{◌≡◌, ◌+◌, ◌-◌, ◌*◌, ◌/◌, ◌≤◌, length, take, arith, sym, length-append}
 use Rattle.std.proofs.lemmas.List.{length-take-le}
 use Rattle.digest_lanes.proofs.BlockLemmas.{block_in_text, block_in_tail}
 use Rattle.digest_lanes.proofs.padded512.Padded.block.Goals as goal

@@ -1,4 +1,4 @@
-use Rattle.std.proofs.Common.{◌*◌, ◌/◌, length, arith, refl, ◌∙◌}
+use Rattle.std.proofs.Common.{◌*◌, ◌/◌, length, ◌∙◌}
 use Rattle.std.proofs.lemmas.List.{take_rest}
 use Rattle.digest_lanes.proofs.BlockLemmas.{padded_is}
 use Rattle.digest_lanes.proofs.Padding512Lemmas.{tail_padding}

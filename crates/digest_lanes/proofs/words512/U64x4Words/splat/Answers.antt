@@ -1,0 +1,5 @@
+use Rattle.digest_lanes.proofs.LaneLemmas.{splat_lane}
+use Rattle.digest_lanes.proofs.words512.U64x4Words.splat.Goals as goal
+
+pub returns : goal.returns
+returns c = splat_lane 4 c.args.all
