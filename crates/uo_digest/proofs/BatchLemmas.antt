@@ -79,6 +79,7 @@ put_part f xs out from n part rest le before is =
 
 -- the last part
 pub put_last : {X : Type 0} (f : X → Digest) (xs : List X) (out : List Digest) (from n : ℕ) (part rest : List Digest)
-    → from + n ≡ length xs → AreGiven f xs out from → part ≡ map f (take n (drop from xs)) → AreGiven f xs (take from out ++ (part ++ rest)) (length xs)
+    → from + n ≡ length xs → AreGiven f xs out from → part ≡ map f (take n (drop from xs))
+    → AreGiven f xs (take from out ++ (part ++ rest)) (length xs)
 put_last f xs out from n part rest whole before is =
     subst (AreGiven f xs (take from out ++ (part ++ rest))) whole (put_part f xs out from n part rest (omega (arith, whole)) before is)
