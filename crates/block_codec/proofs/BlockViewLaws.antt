@@ -26,7 +26,7 @@ count_below bytes txids b v = omega (arith, flat-longer tx_text tx-above b.txs, 
 pub ids_below : (bytes : List ℕ) (txids : List Digest) (b : Block) → IsBlockView bytes txids b → length txids < 2 ^ 32
 ids_below bytes txids b v = rw v.ids (simp length-map (count_below bytes txids b v))
 
-header_len : (h : HeaderView) → HeaderFits h → length (header_text h) ≡ 80
+pub header_len : (h : HeaderView) → HeaderFits h → length (header_text h) ≡ 80
 header_len h fits = simp length-append (omega (arith, fits.prev, fits.merkle))
 
 pub header_is_front : (bytes : List ℕ) (txids : List Digest) (b : Block) → IsBlockView bytes txids b → take 80 bytes ≡ header_text b.header

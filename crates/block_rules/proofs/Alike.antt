@@ -7,6 +7,7 @@ use Rattle.uo_digest.specs.declared.digest.Digest.{Digest}
 use Rattle.tx_codec.specs.Transaction.{Output, Transaction}
 use Rattle.leaf_record.specs.Leaf.{Outpoint, Leaf}
 use Rattle.leaf_record.specs.History.{somes, Entry, entry_if, History, newer, newest, same_point}
+use Rattle.leaf_record.proofs.HistoryLaws.{somes-append}
 use Rattle.block_rules.specs.declared.origins.Origins.{Origins}
 use Rattle.block_rules.specs.Blocks.{is_spendable, leaf_of, made_from, made_by, Placed, placed_from, Spend, once_taken, taken, spends_from, left_from}
 use Rattle.block_rules.specs.Blocks.{groups_from, left_of_all}
@@ -14,11 +15,6 @@ use Rattle.block_rules.specs.KeptOutputs.{kept_from}
 use Rattle.block_rules.specs.Known.{origin_at, history_at}
 use Rattle.block_rules.specs.Laws.{latest}
 use Rattle.block_rules.proofs.Latest.{found, is_of, found-cons}
-
-pub somes-append : {X : Type 0} (xs ys : List (Option X)) → somes (xs ++ ys) ≡ somes xs ++ somes ys
-somes-append [] ys = refl
-somes-append (None ∷ xs) ys = somes-append xs ys
-somes-append (Some x ∷ xs) ys = ap (λ zs. x ∷ zs) (somes-append xs ys)
 
 or_none : {X : Type 0} (x : Option X) → option_or x None ≡ x
 or_none None = refl

@@ -3,6 +3,7 @@ use Rattle.std.proofs.Common.{◌≡◌, ◌≢◌, ℕ, suc, true, false, List,
 use Rattle.std.specs.Prelude.{not}
 use Rattle.std.specs.List.{list_any, AllByRecursion, flat_map}
 use Rattle.std.proofs.lemmas.Bool.{cases_Bool, false≢true, or_parts, not-true}
+use Rattle.std.proofs.lemmas.List.{map-append}
 use Rattle.uo_digest.specs.declared.digest.Digest.{Digest}
 use Rattle.tx_codec.specs.Transaction.{Transaction}
 use Rattle.block_codec.specs.Block.{Block, block_hash_of}
@@ -58,15 +59,11 @@ spends_at : (is : List Placed) (fresh : History) → map (λ s. s.at) (spends_fr
 spends_at [] fresh = refl
 spends_at (i ∷ is) fresh = ap (λ xs. i ∷ xs) (spends_at is (taken i.point fresh))
 
-pub map_append : {X Y : Type 0} (f : X → Y) (xs ys : List X) → map f (xs ++ ys) ≡ map f xs ++ map f ys
-map_append f [] ys = refl
-map_append f (x ∷ xs) ys = ap (λ zs. f x ∷ zs) (map_append f xs ys)
-
 pub groups_at : (hash : Digest) (h t : ℕ) (txs : List Transaction) (fresh : History)
     → map (λ s. s.at) (flat_map (λ g. g) (groups_from hash h t txs fresh)) ≡ placed_of t txs
 groups_at hash h t [] fresh = refl
 groups_at hash h t (tx ∷ txs) fresh =
-    map_append (λ s. s.at) (spends_from (placed_from t 0 tx.inputs) fresh) _
+    map-append (λ s. s.at) (spends_from (placed_from t 0 tx.inputs) fresh) _
     ∙ ap₂ (λ xs ys. xs ++ ys) (spends_at (placed_from t 0 tx.inputs) fresh)
     (groups_at hash h (suc t) txs (left_from (placed_from t 0 tx.inputs) fresh ++ map Some (made_by hash h false tx)))
 

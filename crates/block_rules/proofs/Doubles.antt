@@ -5,6 +5,7 @@ use Rattle.std.specs.List.{list_any}
 use Rattle.std.specs.Option.{option_or}
 use Rattle.std.specs.BTreeSet as set
 use Rattle.std.specs.BTreeSet.{BTreeSet}
+use Rattle.uo_base.proofs.Lists.{drop-got}
 use Rattle.leaf_record.specs.Leaf.{Outpoint}
 use Rattle.leaf_record.specs.History.{same_point}
 use Rattle.tx_codec.specs.Transaction.{Input, Transaction}
@@ -16,7 +17,6 @@ use Rattle.block_rules.specs.Rules.{double}
 use Rattle.block_rules.specs.Keys.{point_of, key_cmp, HasPoints}
 use Rattle.block_rules.specs.Seen.{Reaches, Sees}
 use Rattle.block_rules.proofs.Keyed.{points_put}
-use Rattle.block_rules.proofs.Numbered.{drop-get}
 
 module _ (t i : ℕ) (before : List Outpoint) (whole more : List Placed) (input : Input) (rest left : List Input) (old : BTreeSet OutpointKey)
     (key : OutpointKey) (e : left ≡ input ∷ rest) (k : point_of key ≡ outpoint_of input)
@@ -53,7 +53,7 @@ module _ (t i : ℕ) (before : List Outpoint) (whole more : List Placed) (input 
 module _ (t : ℕ) (txs : List Transaction) (tx : Transaction) (whole : List Placed) (old new : BTreeSet OutpointKey)
     (r : Reaches [] whole (placed_of t (drop t txs)) old) (e : slice_get txs t ≡ Some tx) where
   split : double [] whole ≡ double r.points (placed_from t 0 tx.inputs ++ placed_of (suc t) (drop (suc t) txs))
-  split = r.same ∙ ap (λ xs. double r.points (placed_of t xs)) (drop-get txs t tx e)
+  split = r.same ∙ ap (λ xs. double r.points (placed_of t xs)) (drop-got txs t tx e)
 
   pub double_here : (i : ℕ) → Sees old tx.inputs (Some i) new → double [] whole ≡ Some (Why.Double t i)
   unfolding split

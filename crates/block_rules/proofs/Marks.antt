@@ -9,6 +9,8 @@ use Rattle.std.proofs.lemmas.Bool.{cases_Bool, false≢true, eqb-true}
 use Rattle.std.proofs.lemmas.List.Sorted.{IsPermutation-sym}
 use Rattle.std.proofs.lemmas.List.Kept.{AllPairs-from_increasing}
 use Rattle.std.proofs.lemmas.Map.Keys.{IsDistinct-from_apart, IsDistinct-IsPermutation, IsDistinct-head, IsDistinct-tail}
+use Rattle.std.proofs.lemmas.List.{map-append}
+use Rattle.uo_base.proofs.Lists.{drop-got}
 use Rattle.leaf_record.specs.Leaf.{Outpoint}
 use Rattle.leaf_record.specs.History.{same_point}
 use Rattle.leaf_record.proofs.HistoryLaws.{same_point-true}
@@ -18,8 +20,6 @@ use Rattle.block_rules.specs.Steps.{unless}
 use Rattle.block_rules.specs.Blocks.{outpoint_of, Placed, placed_from, placed_of}
 use Rattle.block_rules.specs.Rules.{double}
 use Rattle.block_rules.specs.Seen.{mark_of, marks_of}
-use Rattle.block_rules.proofs.Apart.{map_append}
-use Rattle.block_rules.proofs.Numbered.{drop-get}
 
 -- ---- the numbers of a block
 
@@ -34,8 +34,8 @@ marks_on t txs tx old new whole e n h =
     rw add-one
     (ap (λ xs. xs ++ marks_of (placed_of (suc t) (drop (suc t) txs))) (n ∙ ap (λ ms. old ++ ms) (sym (marks_from t 0 tx.inputs)))
     ∙ (append_assoc old (marks_of (placed_from t 0 tx.inputs)) (marks_of (placed_of (suc t) (drop (suc t) txs)))
-    ∙ (ap (λ ms. old ++ ms) (sym (map_append (λ at. mark_of at.point) (placed_from t 0 tx.inputs) (placed_of (suc t) (drop (suc t) txs))))
-    ∙ (ap (λ xs. old ++ marks_of (placed_of t xs)) (sym (drop-get txs t tx e)) ∙ h))))
+    ∙ (ap (λ ms. old ++ ms) (sym (map-append (λ at. mark_of at.point) (placed_from t 0 tx.inputs) (placed_of (suc t) (drop (suc t) txs))))
+    ∙ (ap (λ xs. old ++ marks_of (placed_of t xs)) (sym (drop-got txs t tx e)) ∙ h))))
 
 -- ---- different numbers
 

@@ -5,7 +5,7 @@ use Rattle.std.specs.Prelude.{bytes_eq, nat_lt, slice_get, option_map, if◌then
 use Rattle.std.specs.BTreeMap as tree
 use Rattle.std.specs.BTreeMap.{BTreeMap}
 use Rattle.std.proofs.lemmas.Bool.{cases_Bool, ltb-true, ltb-false}
-use Rattle.std.proofs.lemmas.List.{length-append, length-map, length-set}
+use Rattle.std.proofs.lemmas.List.{length-append, length-map, length-set, map-append}
 use Rattle.std.proofs.lemmas.Option.{none-some, same_Some}
 use Rattle.uo_digest.specs.declared.digest.Digest.{Digest}
 use Rattle.tx_codec.specs.Transaction.{Output}
@@ -19,7 +19,6 @@ use Rattle.block_rules.specs.Blocks.{is_spendable}
 use Rattle.block_rules.specs.KeptOutputs.{KeptOutput, kept_from}
 use Rattle.block_rules.specs.Keys.{key_of_id, id_cmp}
 use Rattle.block_rules.specs.Known.{txid_at, leaf_at, history_at, history, NoneOf, IsNewest, IsPlaced, IsNamed, AreOf, Knows, KnowsAll}
-use Rattle.block_rules.proofs.Apart.{map_append}
 use Rattle.block_rules.proofs.Keyed.{id_eq, same_digest}
 
 -- ---- lists by index
@@ -223,7 +222,7 @@ pub added_knows : (old next : MadeOutputs) (t : ℕ) (outputs : List Output) →
 added_knows old next t outputs place all added origins named known newest =
     let ids = old.origins.txids.items in
     let is : history next ≡ history old ++ history_at old.origins (kept_from t 0 outputs) =
-    ap₂ history_at origins added ∙ map_append (option_map (leaf_at old.origins)) old.outputs.items (kept_from t 0 outputs) in
+    ap₂ history_at origins added ∙ map-append (option_map (leaf_at old.origins)) old.outputs.items (kept_from t 0 outputs) in
     let long = length-map old.outputs.items (option_map (leaf_at old.origins)) in
     let whole : old.known ≡ length (history old) = all.all ∙ sym long in
     let front = added_named old.origins old.named.items old.newest old.known t outputs (history old) (history next) is whole all.front in

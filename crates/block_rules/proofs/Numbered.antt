@@ -1,30 +1,20 @@
 -- The first answer over a list, found from its front.
-use Rattle.std.proofs.Common.{◌≡◌, ℕ, zero, suc, ◌+◌, ◌≤◌, Bool, true, false, ◌||◌, List, [], ◌∷◌, drop, length, Option, Some, None, refl, sym, ap}
-use Rattle.std.proofs.Common.{◌∙◌, arith, add-one}
+use Rattle.std.proofs.Common.{◌≡◌, ℕ, suc, ◌+◌, ◌≤◌, Bool, true, false, ◌||◌, List, [], ◌∷◌, drop, length, Option, Some, None, sym, ap}
+use Rattle.std.proofs.Common.{◌∙◌, add-one}
 use Rattle.std.specs.Prelude.{slice_get}
 use Rattle.std.specs.List.{list_any}
 use Rattle.std.specs.Option.{option_or}
 use Rattle.std.proofs.lemmas.Option.{none-some, same_Some}
+use Rattle.std.proofs.lemmas.List.{drop_all}
+use Rattle.uo_base.proofs.Lists.{drop-got}
 use Rattle.tx_codec.specs.Transaction.{Transaction}
 use Rattle.block_rules.specs.Steps.{unless, first_from}
 use Rattle.block_rules.specs.Rules.{is_coinbase, has_no_null, has_value, coinbase_fault}
 
--- what is behind a front begins with the element there
-pub drop-get : {X : Type 0} (xs : List X) (k : ℕ) (x : X) → slice_get xs k ≡ Some x → drop k xs ≡ x ∷ drop (suc k) xs
-drop-get [] k x e = absurd (none-some x e)
-drop-get (y ∷ ys) zero x e = ap (λ z. z ∷ ys) (same_Some y x e)
-drop-get (y ∷ ys) (suc k) x e = drop-get ys k x e
-
-pub drop-all : {X : Type 0} (xs : List X) (k : ℕ) → length xs ≤ k → drop k xs ≡ []
-drop-all [] zero h = refl
-drop-all [] (suc k) h = refl
-drop-all (x ∷ xs) zero h = absurd (omega arith)
-drop-all (x ∷ xs) (suc k) h = drop-all xs k (omega arith)
-
 module _ {X Y : Type 0} (f : ℕ → X → Option Y) where
   from-get : (xs : List X) (k : ℕ) (x : X) → slice_get xs k ≡ Some x
       → first_from k f (drop k xs) ≡ option_or (f k x) (first_from (suc k) f (drop (suc k) xs))
-  from-get xs k x e = ap (first_from k f) (drop-get xs k x e)
+  from-get xs k x e = ap (first_from k f) (drop-got xs k x e)
 
   -- it is here
   pub stops-here : (xs : List X) (k : ℕ) (x : X) (y : Y) (whole : Option Y) → first_from k f (drop k xs) ≡ whole → slice_get xs k ≡ Some x
@@ -38,12 +28,12 @@ module _ {X Y : Type 0} (f : ℕ → X → Option Y) where
 
   -- it is nowhere
   pub none-left : (xs : List X) (k : ℕ) (whole : Option Y) → first_from k f (drop k xs) ≡ whole → length xs ≤ k → whole ≡ None
-  none-left xs k whole h l = sym h ∙ ap (first_from k f) (drop-all xs k l)
+  none-left xs k whole h l = sym h ∙ ap (first_from k f) (drop_all k xs l)
 
 module _ {X : Type 0} (p : X → Bool) where
   any-get : (xs : List X) (k : ℕ) (x : X) (whole : Bool) → list_any p (drop k xs) ≡ whole → slice_get xs k ≡ Some x
       → whole ≡ (p x || list_any p (drop (suc k) xs))
-  any-get xs k x whole h e = sym h ∙ ap (list_any p) (drop-get xs k x e)
+  any-get xs k x whole h e = sym h ∙ ap (list_any p) (drop-got xs k x e)
 
   -- one is here
   pub any-here : (xs : List X) (k : ℕ) (x : X) (whole : Bool) → list_any p (drop k xs) ≡ whole → slice_get xs k ≡ Some x → p x ≡ true → whole ≡ true
@@ -56,7 +46,7 @@ module _ {X : Type 0} (p : X → Bool) where
 
   -- none is anywhere
   pub any-none : (xs : List X) (k : ℕ) (whole : Bool) → list_any p (drop k xs) ≡ whole → length xs ≤ k → whole ≡ false
-  any-none xs k whole h l = sym h ∙ ap (list_any p) (drop-all xs k l)
+  any-none xs k whole h l = sym h ∙ ap (list_any p) (drop_all k xs l)
 
 pub unless-true : {X : Type 0} (b : Bool) (x : X) → b ≡ true → unless b x ≡ None
 unless-true b x e = ap (λ z. unless z x) e

@@ -1,7 +1,7 @@
 -- What one transaction takes and makes: input by input, and as a whole.
 use Rattle.std.proofs.Common.{◌≡◌, ℕ, suc, ◌+◌, List, [], ◌∷◌, ◌++◌, map, length, Option, Some, refl, sym, ap, ◌∙◌, ap₂, add-one, append_assoc}
 use Rattle.std.specs.Prelude.{slice_get, option_map}
-use Rattle.std.proofs.lemmas.List.{length-map}
+use Rattle.std.proofs.lemmas.List.{length-map, map-append}
 use Rattle.std.proofs.lemmas.Option.{none-some, same_Some}
 use Rattle.tx_codec.specs.Transaction.{Input, Transaction}
 use Rattle.leaf_record.specs.History.{History}
@@ -13,7 +13,7 @@ use Rattle.block_rules.specs.KeptOutputs.{KeptOutput, kept_from}
 use Rattle.block_rules.specs.Known.{leaf_at, history_at}
 use Rattle.block_rules.specs.Money.{Bill, output_sum, own_found}
 use Rattle.block_rules.specs.Walk.{spend_at, kept_of, first_kept, bill_for, Walked}
-use Rattle.block_rules.proofs.Apart.{map_append, external_in-append}
+use Rattle.block_rules.proofs.Apart.{external_in-append}
 
 module _ (t i : ℕ) (input : Input) (left rest : List Input) (h g : History) (e : left ≡ input ∷ rest) (k : g ≡ taken (outpoint_of input) h) where
   pub left_on : (whole : History) → left_from (placed_from t i left) h ≡ whole → left_from (placed_from t (i + 1) rest) g ≡ whole
@@ -55,7 +55,7 @@ pub adds_kept : (o p : Origins) (old new : List (Option KeptOutput)) (t : ℕ) (
     → new ≡ old ++ kept_from t 0 tx.outputs → history_at o old ≡ left → history_at p new ≡ left ++ kept_of o t tx
 adds_kept o p old new t tx left e n l =
     ap₂ (λ x xs. history_at x xs) e n
-    ∙ (map_append (option_map (leaf_at o)) old (kept_from t 0 tx.outputs)
+    ∙ (map-append (option_map (leaf_at o)) old (kept_from t 0 tx.outputs)
     ∙ ap (λ xs. xs ++ kept_of o t tx) l)
 
 pub pass_left : (o q r : Origins) (outs new : List (Option KeptOutput)) (t : ℕ) (tx : Transaction) (h named : History) → q ≡ o → r ≡ q
@@ -75,11 +75,11 @@ pub outs_are : (old new : List Outside) (t : ℕ) (tx : Transaction) (h named : 
     → new ≡ old ++ external_in (spends_from (placed_from t 0 tx.inputs) named) → new ≡ old ++ external_in (spends_from (placed_from t 0 tx.inputs) h)
 outs_are old new t tx h named e n = n ∙ ap (λ x. old ++ external_in (spends_from (placed_from t 0 tx.inputs) x)) e
 
-spends_len : (ats : List Placed) (h : History) → length (spends_from ats h) ≡ length ats
+pub spends_len : (ats : List Placed) (h : History) → length (spends_from ats h) ≡ length ats
 spends_len [] h = refl
 spends_len (at ∷ ats) h = ap (λ n. suc n) (spends_len ats (taken at.point h))
 
-placed_len : (t i : ℕ) (inputs : List Input) → length (placed_from t i inputs) ≡ length inputs
+pub placed_len : (t i : ℕ) (inputs : List Input) → length (placed_from t i inputs) ≡ length inputs
 placed_len t i [] = refl
 placed_len t i (input ∷ inputs) = ap (λ n. suc n) (placed_len t (suc i) inputs)
 

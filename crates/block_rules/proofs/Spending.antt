@@ -4,6 +4,7 @@ use Rattle.std.proofs.lemmas.List.{length-map}
 use Rattle.std.proofs.lemmas.Option.{none-some, same_Some, slice_get_read}
 use Rattle.std.specs.Prelude.{filter, slice_get, option_map}
 use Rattle.std.specs.Option.{is_some}
+use Rattle.uo_base.proofs.Lists.{got-map}
 use Rattle.leaf_record.specs.Leaf.{Leaf}
 use Rattle.leaf_record.specs.History.{somes, History}
 use Rattle.leaf_record.proofs.HistoryLaws.{somes-live}
@@ -43,11 +44,6 @@ whole_of us leaves e = e ∙ ap (map Some) (sym (somes_of us leaves e))
 pub whole_len : (o : Origins) (us : List (Option KeptOutput)) → IsWhole (history_at o us) → length us ≡ length (somes (history_at o us))
 whole_len o us w = sym (length-map us (option_map (leaf_at o))) ∙ (ap length w ∙ length-map (somes (history_at o us)) (λ x. Some x))
 
-map-get : {X Y : Type 0} (f : X → Y) (xs : List X) (k : ℕ) (x : X) → slice_get xs k ≡ Some x → slice_get (map f xs) k ≡ Some (f x)
-map-get f [] k x e = absurd (none-some x e)
-map-get f (y ∷ ys) zero x e = ap (λ z. Some (f z)) (same_Some y x e)
-map-get f (y ∷ ys) (suc k) x e = map-get f ys k x e
-
 some_at : (leaves : List Leaf) (i : ℕ) (u : Option Leaf) → slice_get (map Some leaves) i ≡ Some u → (leaf : Leaf) × (u ≡ Some leaf)
     × (slice_get leaves i ≡ Some leaf)
 some_at [] i u e = absurd (none-some u e)
@@ -62,7 +58,7 @@ whole_at o us i u w lt e =
     let long = whole_len o us w in
     let at = slice_get_read us (length us) i u refl (omega (arith, lt, long)) e in
     let r = some_at (somes (history_at o us)) i (option_map (leaf_at o) u)
-    (ap (λ xs. slice_get xs i) (sym w) ∙ map-get (option_map (leaf_at o)) us i u at) in
+    (ap (λ xs. slice_get xs i) (sym w) ∙ got-map (option_map (leaf_at o)) us i u at) in
     by_case u r.0 r.1 r.2
   where
     by_case : (x : Option KeptOutput) (leaf : Leaf) → option_map (leaf_at o) x ≡ Some leaf → slice_get (somes (history_at o us)) i ≡ Some leaf

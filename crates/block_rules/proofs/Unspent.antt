@@ -4,7 +4,7 @@ use Rattle.std.proofs.Common.{subst, ap₂, ⊎_elim, arith, append_assoc}
 use Rattle.std.specs.Prelude.{option_map, slice_get}
 use Rattle.std.specs.List.{AllByRecursion}
 use Rattle.std.proofs.lemmas.Bool.{cases_Bool}
-use Rattle.std.proofs.lemmas.List.{length-map, length-append, length-set}
+use Rattle.std.proofs.lemmas.List.{length-map, length-append, length-set, map-append}
 use Rattle.std.proofs.lemmas.Option.{none-some, same_Some}
 use Rattle.uo_digest.specs.declared.digest.Digest.{Digest}
 use Rattle.tx_codec.specs.Transaction.{Transaction}
@@ -16,7 +16,7 @@ use Rattle.block_rules.specs.Blocks.{Placed, placed_from, placed_of, made_by, ma
 use Rattle.block_rules.specs.Blocks.{others}
 use Rattle.block_rules.specs.Rules.{double}
 use Rattle.block_rules.specs.Laws.{spent_in_order, literal_numbers, all_made, all_numbers}
-use Rattle.block_rules.proofs.Apart.{Apart, apart_others, apart_right, all_map, map_append}
+use Rattle.block_rules.proofs.Apart.{Apart, apart_others, apart_right, all_map}
 use Rattle.block_rules.proofs.Latest.{all_both}
 
 newer-other : (p : Outpoint) (r : Leaf) (x : Option Entry) → r.point ≢ p → newer p None x ≡ newer p (Some r) x
@@ -143,7 +143,7 @@ blocks_left hash height t (tx ∷ txs) fresh made apart h long =
     all_map more (λ j e.
     newest-append j.point (left_from is fresh) (map Some new)
     ∙ (ap₂ (λ n x. shifted n x (newest j.point (map Some new))) (long' ∙ sym base_long) e
-    ∙ (sym (newest-append j.point (map Some made) (map Some new)) ∙ ap (newest j.point) (sym (map_append (λ r. Some r) made new))))) w.1 in
+    ∙ (sym (newest-append j.point (map Some made) (map Some new)) ∙ ap (newest j.point) (sym (map-append (λ r. Some r) made new))))) w.1 in
     let next_long : length (left_from is fresh ++ map Some new) ≡ length (made ++ new) =
     length-append (left_from is fresh) (map Some new) ∙ (ap₂ (λ x y. x + y) long' (length-map new (λ x. Some x)) ∙ sym (length-append made new)) in
     let below : AllByRecursion (λ n. n < length fresh) lit = subst (λ k. AllByRecursion (λ n. n < k) lit) (sym long) (numbers_below is made) in
@@ -153,7 +153,7 @@ blocks_left hash height t (tx ∷ txs) fresh made apart h long =
     ∙ (ap (λ x. x ++ (map Some new ++ later_on)) w.0
     ∙ sym (order-append lit fresh (map Some new ++ later_on) below)))
     ∙ (sym (order-join lit rest_numbers (fresh ++ (map Some new ++ later_on)))
-    ∙ ap (λ x. spent_in_order (lit ++ rest_numbers) (fresh ++ x)) (sym (map_append (λ r. Some r) new (made_later hash height txs)))))
+    ∙ ap (λ x. spent_in_order (lit ++ rest_numbers) (fresh ++ x)) (sym (map-append (λ r. Some r) new (made_later hash height txs)))))
 
 start_same : (is : List Placed) (us : History) → Same is us us
 start_same [] us = tt
@@ -169,5 +169,5 @@ unspent b h none =
     let numbers = all_numbers hash (suc h) 1 (others b.txs) made in
     ap somes (blocks_left hash (suc h) 1 (others b.txs) (map Some made) made (apart_others b.txs none)
     (start_same (placed_of 1 (others b.txs)) (map Some made)) (length-map made (λ x. Some x))
-    ∙ ap (spent_in_order numbers) (sym (map_append (λ r. Some r) made (made_later hash (suc h) (others b.txs)))
+    ∙ ap (spent_in_order numbers) (sym (map-append (λ r. Some r) made (made_later hash (suc h) (others b.txs)))
     ∙ ap (map (λ r. Some r)) (sym (all_made-is hash (suc h) (others b.txs) made))))

@@ -1,25 +1,25 @@
 -- One walk over a block finds what its definitions say.
-use Rattle.std.proofs.Common.{◌≡◌, ℕ, zero, suc, ◌+◌, ◌<◌, ◌≤◌, Bool, true, false, List, [], ◌∷◌, ◌++◌, map, drop, length, Some, refl, sym, ap, ◌∙◌}
+use Rattle.std.proofs.Common.{◌≡◌, ℕ, suc, ◌+◌, ◌<◌, ◌≤◌, Bool, true, false, List, [], ◌∷◌, ◌++◌, map, drop, length, Some, refl, sym, ap, ◌∙◌}
 use Rattle.std.proofs.Common.{ap₂, subst, ⊎_elim, arith, add-one, append_assoc}
 use Rattle.std.specs.Prelude.{slice_get, ◌==◌}
 use Rattle.std.specs.List.{flat_map}
 use Rattle.std.proofs.lemmas.Bool.{cases_Bool, eqb-true}
-use Rattle.std.proofs.lemmas.List.{append-nil}
-use Rattle.std.proofs.lemmas.Option.{none-some, same_Some, get_or_from_slice_get}
+use Rattle.std.proofs.lemmas.List.{append-nil, drop_all}
+use Rattle.std.proofs.lemmas.Option.{get_or_from_slice_get}
+use Rattle.uo_base.proofs.Lists.{got-map, drop-got}
 use Rattle.uo_digest.specs.declared.digest.Digest.{Digest}
 use Rattle.tx_codec.specs.Transaction.{Transaction}
 use Rattle.tx_codec.specs.Ids.{txid_of}
 use Rattle.block_codec.specs.Block.{Block, block_hash_of}
 use Rattle.leaf_record.specs.History.{somes, History}
-use Rattle.leaf_record.proofs.HistoryLaws.{somes-live}
+use Rattle.leaf_record.proofs.HistoryLaws.{somes-live, somes-append}
 use Rattle.block_rules.specs.declared.origins.Origins.{Origins}
 use Rattle.block_rules.specs.Blocks.{OutputOrigin, origin_of, placed_from, made_by, made_first, made_from, Spend, spends_from, left_from, groups_from}
 use Rattle.block_rules.specs.Blocks.{left_of_all, external_in, external, groups, others}
 use Rattle.block_rules.specs.Known.{ArisesFrom, txid_at, origin_at}
 use Rattle.block_rules.specs.Money.{bills_of}
 use Rattle.block_rules.specs.Walk.{Walked, kept_of, first_kept, walked_on, begins, bill_for, IsWalked}
-use Rattle.block_rules.proofs.Alike.{somes-append, groups_alike, kept_alike}
-use Rattle.block_rules.proofs.Numbered.{drop-get, drop-all}
+use Rattle.block_rules.proofs.Alike.{groups_alike, kept_alike}
 
 -- with what is still to come, what was met is what the whole block has
 pub record IsWalking (b : Block) (height t : ℕ) (w : Walked) : Type 0 where
@@ -31,16 +31,11 @@ pub record IsWalking (b : Block) (height t : ℕ) (w : Walked) : Type 0 where
 
 -- ---- what makes the outputs of a transaction
 
-map-get : {X Y : Type 0} (f : X → Y) (xs : List X) (k : ℕ) (x : X) → slice_get xs k ≡ Some x → slice_get (map f xs) k ≡ Some (f x)
-map-get f [] k x e = absurd (none-some x e)
-map-get f (y ∷ ys) zero x e = ap (λ z. Some (f z)) (same_Some y x e)
-map-get f (y ∷ ys) (suc k) x e = map-get f ys k x e
-
 origin_is : (b : Block) (height t : ℕ) (tx : Transaction) (o : Origins) (coinbase : Bool) → ArisesFrom b height o → slice_get b.txs t ≡ Some tx
     → (t == 0) ≡ coinbase → origin_at o t ≡ origin_of (block_hash_of b) height coinbase tx
 origin_is b height t tx o coinbase a e c =
     let id : txid_at o.txids.items t ≡ txid_of tx =
-    ap (λ ids. txid_at ids t) a.txids ∙ get_or_from_slice_get (map txid_of b.txs) t (txid_of tx) _ (map-get txid_of b.txs t tx e) in
+    ap (λ ids. txid_at ids t) a.txids ∙ get_or_from_slice_get (map txid_of b.txs) t (txid_of tx) _ (got-map txid_of b.txs t tx e) in
     ap (λ (x : Digest). let r : OutputOrigin = record { block = x; height = o.height; coinbase = t == 0; txid = txid_at o.txids.items t } in r)
     a.block
     ∙ (ap (λ (x : ℕ). let r : OutputOrigin = record { block = block_hash_of b; height = x; coinbase = t == 0; txid = txid_at o.txids.items t } in
@@ -107,18 +102,18 @@ module _ (b : Block) (height t : ℕ) (tx : Transaction) (o : Origins) (w : Walk
   outs_on =
       append_assoc w.outsides (external_in spends) _
       ∙ (ap (λ gs. w.outsides ++ (external_in spends ++ flat_map external_in gs)) alike.0
-      ∙ (sym (ap (λ xs. w.outsides ++ flat_map external_in (groups_from (block_hash_of b) height t xs w.left)) (drop-get b.txs t tx e)) ∙ h.outs))
+      ∙ (sym (ap (λ xs. w.outsides ++ flat_map external_in (groups_from (block_hash_of b) height t xs w.left)) (drop-got b.txs t tx e)) ∙ h.outs))
 
   billed_on : (w.bills ++ bill_for t tx w.left ∷ []) ++ bills_of (groups_from (block_hash_of b) height (suc t) rest as_kept) rest
       ≡ bills_of (groups b height) (others b.txs)
   billed_on =
       append_assoc w.bills (bill_for t tx w.left ∷ []) _
       ∙ (ap (λ gs. w.bills ++ (bill_for t tx w.left ∷ bills_of gs rest)) alike.0
-      ∙ (sym (ap (λ xs. w.bills ++ bills_of (groups_from (block_hash_of b) height t xs w.left) xs) (drop-get b.txs t tx e)) ∙ h.billed))
+      ∙ (sym (ap (λ xs. w.bills ++ bills_of (groups_from (block_hash_of b) height t xs w.left) xs) (drop-got b.txs t tx e)) ∙ h.billed))
 
   left_on : somes (left_of_all (block_hash_of b) height (suc t) rest as_kept)
       ≡ somes (left_of_all (block_hash_of b) height 1 (others b.txs) (map Some (made_first (block_hash_of b) height b.txs)))
-  left_on = alike.1 ∙ (sym (ap (λ xs. somes (left_of_all (block_hash_of b) height t xs w.left)) (drop-get b.txs t tx e)) ∙ h.left)
+  left_on = alike.1 ∙ (sym (ap (λ xs. somes (left_of_all (block_hash_of b) height t xs w.left)) (drop-got b.txs t tx e)) ∙ h.left)
 
   pub walks_on : (next : Walked) → next ≡ walked_on t tx (kept_of o t tx) w → IsWalking b height (t + 1) next
   walks_on next n = subst (IsWalking b height (t + 1)) (sym n)
@@ -126,7 +121,7 @@ module _ (b : Block) (height t : ℕ) (tx : Transaction) (o : Origins) (w : Walk
 
 pub walk_ends : (b : Block) (height t : ℕ) (w : Walked) → length b.txs ≤ t → IsWalking b height t w → IsWalked b height w
 walk_ends b height t w l h =
-    let none = drop-all b.txs t l in
+    let none = drop_all t b.txs l in
     let hash = block_hash_of b in
     record {
       outs = sym (append-nil w.outsides) ∙ (sym (ap (λ xs. w.outsides ++ flat_map external_in (groups_from hash height t xs w.left)) none) ∙ h.outs);

@@ -6,6 +6,7 @@ use Rattle.std.specs.List.{cons_option}
 use Rattle.std.proofs.lemmas.Bool.{false≢true, true≢false, or_cases, or_left, or_right, and_from, eqb-false}
 use Rattle.std.proofs.lemmas.List.Elements.{All-cons, All-nil}
 use Rattle.std.proofs.lemmas.Option.{none-some, same_Some}
+use Rattle.std.proofs.Math.Bool.{or-false}
 use Rattle.uo_digest.specs.declared.digest.Digest.{Digest}
 use Rattle.forest_place.specs.declared.place.Place.{Place}
 use Rattle.forest_model.specs.Content.{Tree, inner, content, digest_of}
@@ -98,11 +99,7 @@ module _ (H : List ℕ → Digest) (es : List (Option Digest)) (d : Digest) (w :
   last_watched row = by_root (content es row (root_off (length es) row))
     where
       by_root : (x : Option Tree) → has_watched w (onto es d x (last_tree es d row)) ≡ (has_watched w (last_tree es d row) || root_watched x)
-      by_root None = sym (or_false (has_watched w (last_tree es d row)))
-        where
-          or_false : (b : Bool) → (b || false) ≡ b
-          or_false true = refl
-          or_false false = refl
+      by_root None = sym (or-false (has_watched w (last_tree es d row)))
       by_root (Some l) = swapped (has_watched w l) (has_watched w (last_tree es d row))
         where
           swapped : (a b : Bool) → (a || b) ≡ (b || a)

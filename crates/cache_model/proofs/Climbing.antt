@@ -13,11 +13,11 @@ use Rattle.forest_place.proofs.Listed.{place, is_at-same, same_from_is_at}
 use Rattle.forest_place.proofs.Parts.{parts-suc, InForest-up, InForest-beneath, not_root-down, half_pow}
 use Rattle.forest_place.proofs.Siblings.{sibling_cases, sibling_twice, sibling_within, sibling_no_root}
 use Rattle.forest_model.specs.Cover.{Cover, cover, cover_of_halves, need}
-use Rattle.forest_model.proofs.Covers.{some_from_test, needed_parts, uncovered_halves}
+use Rattle.forest_model.proofs.Covers.{some_from_test, needed_parts}
 use Rattle.forest_model.proofs.Lists.{need_has, need_had, need_ascending}
 use Rattle.cache_model.specs.Cache.{look}
 use Rattle.cache_model.specs.Climbed.{led, beside_way}
-use Rattle.proof_shape.proofs.Needing.{covered_target}
+use Rattle.proof_shape.proofs.Needing.{covered_target, covered_above}
 
 -- the siblings of a place and of those above it, in k rows, up to the root
 abbrev pub siblings : ℕ → ℕ → ℕ → ℕ → List Place
@@ -59,23 +59,6 @@ covered_alone p (suc r) o h =
     (some_half r o (cover (p ∷ []) r (2 * o)) (cover (p ∷ []) r (2 * o + 1)) (rw f at h)))
     (cases_Bool (has_place (p ∷ []) (suc r) o))
 
-none_not_some : {X : Type 0} (x : Option X) → x ≡ None → is_some x ≡ true → ⊥
-none_not_some None e h = false≢true h
-none_not_some (Some x) e h = none-some x (sym e)
-
--- the place above a covered one is covered
-pub covered_up : (ts : List Place) (r o : ℕ) → is_some (cover ts r o) ≡ true → is_some (cover ts (suc r) (o / 2)) ≡ true
-covered_up ts r o h = by_above (cover ts (suc r) (o / 2)) refl
-  where
-    by_above : (x : Option Cover) → cover ts (suc r) (o / 2) ≡ x → is_some x ≡ true
-    by_above (Some x) e = refl
-    by_above None e =
-        let w = uncovered_halves ts r (o / 2) e in
-        ⊎_elim
-        (λ z. let y : 2 * (o / 2) ≡ o = omega (arith, z) in absurd (none_not_some (cover ts r o) (ap (cover ts r) (sym y) ∙ w.0) h))
-        (λ z. let y : 2 * (o / 2) + 1 ≡ o = omega (arith, z) in absurd (none_not_some (cover ts r o) (ap (cover ts r) (sym y) ∙ w.1) h))
-        (cases_eq (o % 2) 0)
-
 led_none : (x : Option Digest) (ds : List Digest) → x ≡ None → map Some (led x ds) ≡ []
 led_none None ds e = refl
 led_none (Some d) ds e = absurd (none-some d (sym e))
@@ -89,7 +72,7 @@ module _ (n : ℕ) (p : Place) where
   IsOnWay r o = InForest n r o × (is_some (cover (p ∷ []) r o) ≡ true)
 
   way_up : (r o : ℕ) → IsOnWay r o → is_root n r o ≡ false → IsOnWay (suc r) (o / 2)
-  way_up r o h other = (InForest-up n r o h.0 other, covered_up (p ∷ []) r o h.1)
+  way_up r o h other = (InForest-up n r o h.0 other, covered_above (p ∷ []) r o h.1)
 
   -- the sibling of a place on the way is needed
   beside_needed : (r o : ℕ) → IsOnWay r o → is_root n r o ≡ false → has_place (need n (p ∷ [])) r (sibling_off o) ≡ true

@@ -14,28 +14,25 @@ use Rattle.forest_place.proofs.Listed.{place}
 use Rattle.forest_place.proofs.Parts.{half_pow, row_below, InForest-up}
 use Rattle.forest_place.proofs.Positions.{position_rises}
 use Rattle.forest_place.proofs.Siblings.{sibling_cases, sibling_half, sibling_twice, sibling_within}
-use Rattle.forest_model.specs.Cover.{Cover, cover, need, HasShape}
+use Rattle.forest_model.specs.Cover.{cover, need, HasShape}
 use Rattle.forest_model.specs.Deletion.{is_gone, moved, child_place}
-use Rattle.forest_model.proofs.Covers.{uncovered_halves, needed_parts}
+use Rattle.forest_model.proofs.Covers.{uncovered_halves, needed_parts, none_from_test}
 use Rattle.forest_model.proofs.Lists.{need_had}
 use Rattle.forest_model.proofs.Moving.{moved-step, moved-root}
 use Rattle.proof_shape.specs.Targeted.{NoneGonePast}
 use Rattle.proof_shape.proofs.Ordered.{has_at}
 use Rattle.proof_shape.proofs.Gone.{target_bare, up_in}
-use Rattle.proof_verify.proofs.Planned.{covered_above, uncovered_stays}
+use Rattle.proof_shape.proofs.Needing.{covered_above}
+use Rattle.proof_verify.proofs.Planned.{uncovered_stays}
 use Rattle.cache_model.specs.Undo.{is_same_place}
 use Rattle.cache_model.proofs.Undoing.{place_order}
 use Rattle.cache_update.specs.DeletionGoals.{BothStay, IsStayingAbove, StandsBeneath, TellGoals}
 use Rattle.cache_update.proofs.Moves.{up_within, goes_within}
 
-no_cover : (x : Option Cover) → is_some x ≡ false → x ≡ None
-no_cover None e = refl
-no_cover (Some c) e = absurd (true≢false e)
-
 -- neither half of a place with no target is gone
 half_stays : (ts : List Place) (r h x : ℕ) → is_some (cover ts (suc r) h) ≡ false → (x ≡ 2 * h) ⊎ (x ≡ 2 * h + 1) → is_gone ts r x ≡ false
 half_stays ts r h x free side =
-    let halves = uncovered_halves ts r h (no_cover (cover ts (suc r) h) free) in
+    let halves = uncovered_halves ts r h (none_from_test (cover ts (suc r) h) free) in
     uncovered_stays ts r x
     (⊎_elim
     (λ l. ap (λ y. is_some (cover ts r y)) l ∙ ap is_some halves.0)

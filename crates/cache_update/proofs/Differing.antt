@@ -8,6 +8,7 @@ use Rattle.std.proofs.lemmas.List.Elements.{All-nil, All-cons, All-head, All-tai
 use Rattle.std.proofs.lemmas.List.{map-append}
 use Rattle.std.proofs.lemmas.Option.{none-some, same_Some}
 use Rattle.std.proofs.lemmas.Slice.Eq.{bytes_eq-Decides}
+use Rattle.forest_model.proofs.Covers.{none_from_test}
 use Rattle.uo_digest.specs.declared.digest.Digest.{Digest}
 use Rattle.uo_digest.proofs.DigestLaws.{digest_is}
 use Rattle.forest_place.specs.declared.place.Place.{Place}
@@ -66,10 +67,6 @@ all_looked (x ∷ xs) a =
 abbrev pub HasFormer : List (Place × Digest) → Place × Option Digest → Type 0
 HasFormer older c = c.1 ≡ look older c.0.row c.0.off
 
-some_not : {X : Type 0} (x : Option X) → is_some x ≡ false → x ≡ None
-some_not None e = refl
-some_not (Some x) e = absurd (true≢false e)
-
 lost_former : (newer older xs : List (Place × Digest)) → All (λ x. look older x.0.row x.0.off ≡ Some x.1) xs
     → All (HasFormer older) (filter_map (lost newer) xs)
 lost_former newer older [] a = All-nil (HasFormer older)
@@ -89,7 +86,8 @@ gained_former older (x ∷ xs) = by_test (is_some (look older x.0.row x.0.off)) 
     by_test : (b : Bool) → is_some (look older x.0.row x.0.off) ≡ b → All (HasFormer older) (filter_map (gained older) xs)
         → All (HasFormer older) (cons_option (cond b None (Some (x.0, None))) (filter_map (gained older) xs))
     by_test true e rest = rest
-    by_test false e rest = All-cons (HasFormer older) (x.0, None) (filter_map (gained older) xs) (sym (some_not (look older x.0.row x.0.off) e)) rest
+    by_test false e rest =
+        All-cons (HasFormer older) (x.0, None) (filter_map (gained older) xs) (sym (none_from_test (look older x.0.row x.0.off) e)) rest
 
 abbrev log_places : List (Place × Option Digest) → List Place
 log_places log = map (λ c. c.0) log

@@ -2,17 +2,15 @@
 use Rattle.std.proofs.Common.{◌≡◌, ℕ, zero, suc, ◌+◌, ◌-◌, ◌*◌, ◌/◌, ◌%◌, ◌^◌, ◌<◌, ◌≤◌, Bool, true, false, cond, List, Option, Some, None, refl, sym}
 use Rattle.std.proofs.Common.{ap, ◌∙◌, subst, ⊎_elim, inl, inr, arith, eqb-true}
 use Rattle.std.specs.Prelude.{◌⊎◌, ◌==◌}
-use Rattle.std.proofs.Math.Nat.{mul-le-mul_right, div-mul-le_self}
-use Rattle.std.proofs.lemmas.Nat.{pow-add, shr-shr}
 use Rattle.std.proofs.lemmas.Bool.{cases_Bool, cases_lt, true≢false}
 use Rattle.std.proofs.lemmas.Option.{none-some, same_Some}
 use Rattle.forest_place.specs.declared.place.Place.{Place}
 use Rattle.forest_place.specs.Forest.{InForest, is_root, is_slot, root_off, sibling_off}
 use Rattle.forest_place.proofs.Listed.{place}
-use Rattle.forest_place.proofs.Parts.{InForest-up, InForest-root, is_root-root_off}
+use Rattle.forest_place.proofs.Parts.{InForest-up, InForest-root, is_root-root_off, whole_parts}
 use Rattle.forest_model.specs.Addition.{all_slots, carried_place}
 use Rattle.forest_model.specs.Deletion.{is_gone, moved, child_place}
-use Rattle.forest_model.proofs.Moving.{moved-step, moved-root, moved-is_gone}
+use Rattle.forest_model.proofs.Moving.{moved-step, moved-root, moved_stays}
 use Rattle.cache_model.specs.Cache.{child, raised}
 use Rattle.cache_model.proofs.Raising.{raised-step, raised-joined, raised-same}
 use Rattle.cache_update.proofs.Moves.{goes_within}
@@ -35,12 +33,9 @@ record HasParent (n : ℕ) (ts : List Place) (r o : ℕ) (q : Place) : Type 0 wh
   to : ((is_gone ts r (sibling_off o) ≡ true) × (q ≡ parent)) ⊎ (q ≡ child (o % 2) parent)
 
 module _ (n : ℕ) (ts : List Place) where
-  pub stays : (r o : ℕ) (q : Place) → InForest n r o → moved n ts r o ≡ Some q → is_gone ts r o ≡ false
-  stays r o q h e = ⊎_elim (λ g. absurd (none-some q (sym (moved-is_gone n ts r o h g) ∙ e))) (λ k. k) (cases_Bool (is_gone ts r o))
-
   has_parent : (r o : ℕ) (q : Place) → InForest n r o → is_root n r o ≡ false → moved n ts r o ≡ Some q → HasParent n ts r o q
   has_parent r o q h not_root e =
-      let kept = stays r o q h e in
+      let kept = moved_stays n ts r o q h e in
       let z : child_place (is_gone ts r (sibling_off o)) (o % 2) (moved n ts (suc r) (o / 2)) ≡ Some q =
       rw (kept, not_root) at (sym (moved-step n ts r o h) ∙ e) in
       by_child (is_gone ts r (sibling_off o)) refl (moved n ts (suc r) (o / 2)) refl z
@@ -90,7 +85,7 @@ module _ (n : ℕ) (ts : List Place) where
           → moved n ts r u ≡ Some q → (v : HasParent n ts r o p) → p ≡ child (o % 2) v.parent
       to_side r o u p h i e ne a q b v =
           ⊎_elim
-          (λ s. absurd (true≢false (sym s.0 ∙ (ap (is_gone ts r) (beside o u e ne) ∙ stays r u q i b))))
+          (λ s. absurd (true≢false (sym s.0 ∙ (ap (is_gone ts r) (beside o u e ne) ∙ moved_stays n ts r u q i b))))
           (λ s. s)
           v.to
 
@@ -98,7 +93,7 @@ module _ (n : ℕ) (ts : List Place) where
   pub moved_root_is : (h : ℕ) (q : Place) → is_slot n h ≡ true → moved n ts h (root_off n h) ≡ Some q → q ≡ place h (root_off n h)
   moved_root_is h q slot e =
       let top = is_root-root_off n h slot in
-      let kept = stays h (root_off n h) q (InForest-root n h (root_off n h) top) e in
+      let kept = moved_stays n ts h (root_off n h) q (InForest-root n h (root_off n h) top) e in
       same_Some q (place h (root_off n h)) (sym e ∙ moved-root n ts h (root_off n h) kept top)
 
   pub moved_roots : (r h : ℕ) (p q : Place) → r < h → is_slot n r ≡ true → is_slot n h ≡ true → Unit {0} → Unit {0}
@@ -108,16 +103,6 @@ module _ (n : ℕ) (ts : List Place) where
       (subst (λ (y : Place). AreApart (place r (root_off n r)) y) (sym (moved_root_is h q b g)) (roots_apart n r h lt a b))
 
 -- ---- an addition
-
--- whole parts of a row come up to no more than those of a row below
-whole_parts : (n m h : ℕ) → m ≤ h → n / 2 ^ h * 2 ^ h ≤ n / 2 ^ m * 2 ^ m
-whole_parts n m h le =
-    let k = h - m in
-    let up : m + k ≡ h = omega (arith, le) in
-    let wide : 2 ^ h ≡ 2 ^ m * 2 ^ k = ap (λ x. 2 ^ x) (sym up) ∙ pow-add 2 m k in
-    let e : n / 2 ^ h ≡ n / 2 ^ m / 2 ^ k = ap (λ x. n / 2 ^ x) (sym up) ∙ sym (shr-shr n m k) in
-    let a = mul-le-mul_right (2 ^ m) (div-mul-le_self (n / 2 ^ m) (2 ^ k)) in
-    subst (λ x. x * 2 ^ h ≤ n / 2 ^ m * 2 ^ m) (sym e) (subst (λ y. n / 2 ^ m / 2 ^ k * y ≤ n / 2 ^ m * 2 ^ m) (sym wide) (omega (arith, a)))
 
 -- m rows are joined, of which e says whose roots are empty
 module _ (e : ℕ → Bool) (n m : ℕ) (all : all_slots n m ≡ true) where

@@ -8,6 +8,7 @@ use Rattle.std.proofs.lemmas.List.{append-nil, append_assoc}
 use Rattle.std.proofs.lemmas.List.Folds.{list_any-append}
 use Rattle.std.proofs.lemmas.List.Elements.{All-nil, All-cons, All-head, All-tail, All-append}
 use Rattle.std.proofs.lemmas.Option.{none-some, same_Some}
+use Rattle.std.proofs.Math.Bool.{or-false, or-true}
 use Rattle.uo_digest.specs.declared.digest.Digest.{Digest}
 use Rattle.leaf_record.specs.Leaf.{Leaf}
 use Rattle.forest_place.specs.declared.place.Place.{Place}
@@ -58,10 +59,6 @@ deleted_back n ts ks a = given_back (filter (is_gone_leaf n ts) ks) (map where_s
         (put_at (option_map where_stood y) (option_and_then (moved_leaf n ts) y)) ≡ y
     by_entry None = refl
     by_entry (Some k) = by_move k (moved n ts k.place.row k.place.off)
-
-or_none_false : (b : Bool) → (b || false) ≡ b
-or_none_false true = refl
-or_none_false false = refl
 
 -- each kept entry is named: it stood somewhere, or was added
 abbrev pub IsNamed : List (ℕ × Place) → List ℕ → Kept → Type 0
@@ -114,7 +111,7 @@ module _ (taken : List Kept) (stood : List (ℕ × Place)) (added : List ℕ) (k
             absurd (omega (arith, lt, same, last))
 
     added_among : (i : ℕ) → is_among i (added ++ n ∷ []) ≡ (is_among i added || is_same_number i n)
-    added_among i = list_any-append (is_same_number i) added (n ∷ []) ∙ ap (λ b. is_among i added || b) (or_none_false (is_same_number i n))
+    added_among i = list_any-append (is_same_number i) added (n ∷ []) ∙ ap (λ b. is_among i added || b) (or-false (is_same_number i n))
 
     pub added_back : (watched : Option Leaf) → kept_given taken stood (added ++ option_to_list (option_map (λ _. n) watched))
         (leaves_more e n m watched d ks) ≡ kept_given taken stood added ks
@@ -136,20 +133,16 @@ module _ (taken : List Kept) (stood : List (ℕ × Place)) (added : List ℕ) (k
             ≡ put_at (stood_of i stood) (cond (is_among i added) None (found i ks))
         by_number i true t =
             ap (λ b. put_at (stood_of i stood) (cond b None (found i (leaves_more e n m (Some leaf) d ks))))
-            (added_among i ∙ (ap (λ b. is_among i added || b) t ∙ or_true (is_among i added)))
+            (added_among i ∙ (ap (λ b. is_among i added || b) t ∙ or-true (is_among i added)))
             ∙ sym (ap (λ y. put_at (stood_of i stood) (cond (is_among i added) None y)) (no_number i t)
             ∙ ap (put_at (stood_of i stood)) (none_again (is_among i added)))
           where
-            or_true : (b : Bool) → (b || true) ≡ true
-            or_true true = refl
-            or_true false = refl
-
             none_again : (b : Bool) → cond b None None ≡ (let x : Option Kept = None in x)
             none_again true = refl
             none_again false = refl
         by_number i false t =
             ap₂ (λ b y. put_at (stood_of i stood) (cond b None y))
-            (added_among i ∙ (ap (λ b. is_among i added || b) t ∙ or_none_false (is_among i added)))
+            (added_among i ∙ (ap (λ b. is_among i added || b) t ∙ or-false (is_among i added)))
             (found_append i (raised_leaves e n m ks) new ∙ (ap (λ b. option_or (found i (raised_leaves e n m ks)) (cond b (Some new) None)) t
             ∙ (or_none (found i (raised_leaves e n m ks)) ∙ raised_found i)))
             ∙ same_again i (found i ks) refl

@@ -1,9 +1,9 @@
 -- What is taken out or changed at the index that a search gives.
-use Rattle.std.proofs.Common.{◌≡◌, ℕ, zero, suc, refl, ap₂, arith, ◌<◌, ◌≤◌, true, false, List, [], ◌∷◌, ◌++◌, length, get_or, take, drop, Option}
+use Rattle.std.proofs.Common.{◌≡◌, ℕ, suc, ap₂, ◌<◌, ◌≤◌, true, false, List, [], ◌∷◌, ◌++◌, length, get_or, take, drop, Option}
 use Rattle.std.proofs.Common.{Some, None, sym, ap, ◌∙◌, subst}
 use Rattle.std.specs.Prelude.{option_map}
 use Rattle.std.specs.List.{remove, cons_option}
-use Rattle.std.proofs.lemmas.List.{drop_all, take_all}
+use Rattle.std.proofs.lemmas.List.{drop_all, take_all, get_or_default}
 use Rattle.std.proofs.lemmas.Option.{none-some, same_Some}
 use Rattle.uo_digest.specs.declared.digest.Digest.{Digest}
 use Rattle.forest_place.specs.declared.place.Place.{Place}
@@ -82,16 +82,11 @@ module _ (ks : List Kept) (number : ℕ) (i : ℕ) (s : IsSplit is_before_number
       change_end is_same_number is_before_number leaf_key number_order number (λ now. Some new) ks i s ge
       ∙ (ap (λ ys. take i ks ++ new ∷ ys) (drop_all i ks ge) ∙ ap (λ ys. ys ++ new ∷ []) (take_all i ks ge))
 
-same_at : (ks : List Kept) (i : ℕ) (d e : Kept) → i < length ks → get_or ks i d ≡ get_or ks i e
-same_at [] i d e lt = absurd (omega arith)
-same_at (k ∷ ks) zero d e lt = refl
-same_at (k ∷ ks) (suc i) d e lt = same_at ks i d e (omega arith)
-
 -- the entry at the index, where its place is set
 pub placed_there : (ks : List Kept) (i number : ℕ) (p : Place) (x y : Kept) → i < length ks → x ≡ get_or ks i x → y ≡ get_or ks i y
     → number ≡ x.number →
     option_map (at_place (number, p)) (Some (get_or ks i x)) ≡ Some (record { number = y.number; leaf = y.leaf; place = p; digest = y.digest })
 placed_there ks i number p x y lt e f n =
-    let same : get_or ks i x ≡ y = same_at ks i x y lt ∙ sym f in
+    let same : get_or ks i x ≡ y = get_or_default ks i x y lt ∙ sym f in
     let is : number ≡ y.number = n ∙ ap leaf_key (e ∙ same) in
     ap₂ (λ (j : ℕ) (k : Kept). Some (at_place (j, p) k)) is same

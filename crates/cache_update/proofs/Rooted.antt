@@ -21,6 +21,7 @@ use Rattle.forest_model.specs.Deletion.{digest_without, root_after, is_gone, mov
 use Rattle.forest_model.specs.Evaluation.{hash_of, nothing_known}
 use Rattle.forest_model.specs.Addition.{all_slots, carried_place}
 use Rattle.forest_model.proofs.Adding.{parts_more, parts_same}
+use Rattle.forest_model.proofs.Moving.{moved_stays}
 use Rattle.forest_roots.specs.declared.joins.Join.{Join}
 use Rattle.forest_roots.specs.Stump.{Stump, root_in}
 use Rattle.forest_roots.specs.Joined.{IsAdded, joins_of}
@@ -35,7 +36,7 @@ use Rattle.cache_update.specs.Beside.{IsRooted, AreOfRoots}
 use Rattle.cache_update.specs.Joins.{is_empty_of, added_by}
 use Rattle.cache_update.specs.Marks.{pairs_within}
 use Rattle.cache_update.proofs.Apart.{GoesWithRoot, with_root, free_apart}
-use Rattle.cache_update.proofs.Going.{moved_up, moved_halves, moved_roots, moved_root_is, stays, rise, IsMet, carried, raised_up, raised_halves}
+use Rattle.cache_update.proofs.Going.{moved_up, moved_halves, moved_roots, moved_root_is, rise, IsMet, carried, raised_up, raised_halves}
 use Rattle.cache_update.proofs.Going.{raised_roots, root_in_made, last_in_made, root_beside_last}
 use Rattle.cache_update.proofs.Growing.{free_above}
 use Rattle.cache_update.proofs.Joined.{joins_are}
@@ -165,7 +166,7 @@ module _ (H : List ℕ → Digest) (f g : Stump) (ts : List Place) (hashes : Lis
       let to = moved_root_is f.leaves ts w.h w.to slot w.goes in
       let i : IsIn q (place w.h (root_off f.leaves w.h)) = subst (IsIn q) to w.within in
       let same : row ≡ w.h = same_slot f.leaves q w.h row slot i (subst (λ k. IsSlotOf k q.row q.off row) after.leaves s) in
-      let kept = stays f.leaves ts w.h (root_off f.leaves w.h) w.to
+      let kept = moved_stays f.leaves ts w.h (root_off f.leaves w.h) w.to
       (InForest-root f.leaves w.h (root_off f.leaves w.h) (is_root-root_off f.leaves w.h slot)) w.goes in
       ap (λ x. is_some (root_in g x)) same ∙ root_left w.h slot kept (rooted w.h w.of_slot)
 

@@ -3,7 +3,6 @@ use Rattle.std.proofs.Common.{◌≡◌, ℕ, zero, suc, ◌+◌, ◌-◌, ◌/�
 use Rattle.std.proofs.Common.{Option, Some, None, is_some, refl, sym, ap, ap₂, ◌∙◌, subst, All, arith}
 use Rattle.std.specs.Prelude.{option_map}
 use Rattle.std.specs.List.{AllByRecursion}
-use Rattle.std.proofs.lemmas.Bool.{false≢true}
 use Rattle.std.proofs.lemmas.Option.{none-some, same_Some}
 use Rattle.std.proofs.lemmas.List.{length-drop, length-map, drop_all}
 use Rattle.std.proofs.lemmas.List.Elements.{All-nil, All-cons}
@@ -14,13 +13,13 @@ use Rattle.forest_place.specs.Forest.{root_off}
 use Rattle.forest_place.specs.Places.{has_place, places}
 use Rattle.forest_place.proofs.Listed.{places_had, has_first}
 use Rattle.forest_place.proofs.Parts.{parts-suc}
-use Rattle.forest_model.specs.Cover.{Cover, HasShape, cover}
+use Rattle.forest_model.specs.Cover.{HasShape, cover}
 use Rattle.forest_model.specs.Evaluation.{IsAccepted, nothing_known}
+use Rattle.forest_model.proofs.Covers.{some_from_test}
 use Rattle.forest_roots.specs.Stump.{Stump, root_in}
-use Rattle.proof_shape.proofs.Needing.{covered_target}
+use Rattle.proof_shape.proofs.Needing.{covered_target, covered_above}
 use Rattle.cache_model.specs.declared.kept.Kept.{Kept}
 use Rattle.cache_model.specs.Lists.{leaf_places}
-use Rattle.cache_model.proofs.Climbing.{covered_up}
 use Rattle.leaf_cache.specs.Parted.{Parted}
 use Rattle.cache_update.specs.Beside.{IsRooted, AreOfRoots}
 use Rattle.cache_update.specs.Marks.{kept_back, held_back}
@@ -43,28 +42,24 @@ use Rattle.compact_node.proofs.Marks.{length-behind}
 -- ---- the lists of a level are of its roots
 
 -- what stands above a covered place is covered
-covered_above : (ts : List Place) (k r o : ℕ) → is_some (cover ts r o) ≡ true → is_some (cover ts (r + k) (o / 2 ^ k)) ≡ true
-covered_above ts zero r o h =
+covered_higher : (ts : List Place) (k r o : ℕ) → is_some (cover ts r o) ≡ true → is_some (cover ts (r + k) (o / 2 ^ k)) ≡ true
+covered_higher ts zero r o h =
     let row : r ≡ r + 0 = omega arith in
     let off : o ≡ o / 2 ^ 0 = (let z : o ≡ o / 1 = omega arith in z) in
     ap₂ (λ (a b : ℕ). is_some (cover ts a b)) (sym row) (sym off) ∙ h
-covered_above ts (suc k) r o h =
+covered_higher ts (suc k) r o h =
     let row : r + suc k ≡ suc (r + k) = omega arith in
-    ap₂ (λ (a b : ℕ). is_some (cover ts a b)) row (parts-suc o k) ∙ covered_up ts (r + k) (o / 2 ^ k) (covered_above ts k r o h)
-
-some_of : (x : Option Cover) → is_some x ≡ true → (c : Cover) × (x ≡ Some c)
-some_of None e = absurd (false≢true e)
-some_of (Some c) e = (c, refl)
+    ap₂ (λ (a b : ℕ). is_some (cover ts a b)) row (parts-suc o k) ∙ covered_above ts (r + k) (o / 2 ^ k) (covered_higher ts k r o h)
 
 module _ (H : List ℕ → Digest) (f : Stump) (ts : List Place) (leaves hashes : List Digest)
     (a : IsAccepted H f.leaves (root_in f) ts nothing_known leaves hashes) where
   -- the slot of a target evaluates to its root, so it has one
   rooted : (p : Place) → has_place ts p.row p.off ≡ true → IsRooted f p
   rooted p h row slot =
-      let up = covered_above ts (row - p.row) p.row p.off (covered_target ts p.row p.off h) in
+      let up = covered_higher ts (row - p.row) p.row p.off (covered_target ts p.row p.off h) in
       let at : p.row + (row - p.row) ≡ row = omega (arith, slot.up) in
       let top : is_some (cover ts row (root_off f.leaves row)) ≡ true = ap₂ (λ (r o : ℕ). is_some (cover ts r o)) (sym at) (sym slot.beneath) ∙ up in
-      let beneath = some_of (cover ts row (root_off f.leaves row)) top in
+      let beneath = some_from_test (cover ts row (root_off f.leaves row)) top in
       ap is_some (a.agrees row beneath.0 slot.slot beneath.1)
 
 numbers_below : (scripts : List (List ℕ)) (n : ℕ) (ks : List Kept) → AllByRecursion (IsKept scripts n) (map entry_of ks)

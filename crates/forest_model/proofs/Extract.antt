@@ -42,7 +42,7 @@ entry_of H text (Some r ∷ us) zero d e = record { rec = r; live = refl; shown 
 entry_of H text (u ∷ us) (suc i) d e = let w = entry_of H text us i d e in record { rec = w.rec; live = w.live; shown = w.shown; digest = w.digest }
 
 -- a target stands at or beneath what is covered
-target_beneath : (ts : List Place) (r o : ℕ) (c : Cover) → cover ts r o ≡ Some c → (q : Place) × (k : ℕ) × (has_place ts q.row q.off ≡ true)
+pub target_beneath : (ts : List Place) (r o : ℕ) (c : Cover) → cover ts r o ≡ Some c → (q : Place) × (k : ℕ) × (has_place ts q.row q.off ≡ true)
     × (q.row + k ≡ r) × (q.off / 2 ^ k ≡ o)
 target_beneath ts zero o c e =
     ⊎_elim (λ it. (place 0 o, 0, it, refl, (let z : o / 1 ≡ o = omega arith in z))) (λ other. absurd (none-some c (rw other at e)))
@@ -109,7 +109,7 @@ Beside-given r o t (at_given q) = q
 Beside-target : {P Q : ℕ → ℕ → Tree → Type 0} (r o : ℕ) (t : Tree) → Beside P Q (target r o) t → P r o t
 Beside-target r o t (at_target p) = p
 
-cover-target : (ts : List Place) (r o : ℕ) → has_place ts r o ≡ true → cover ts r o ≡ Some (target r o)
+pub cover-target : (ts : List Place) (r o : ℕ) → has_place ts r o ≡ true → cover ts r o ≡ Some (target r o)
 cover-target ts zero o it = rw it refl
 cover-target ts (suc r) o it = rw it refl
 

@@ -8,7 +8,7 @@ use Rattle.forest_place.proofs.Parts.{half_pow}
 use Rattle.forest_place.proofs.Slots.{in_forest_iff}
 
 -- numbers that differ in no bit
-xor_same : (a b : ℕ) → bit_xor a b ≡ 0 → a ≡ b
+pub xor_same : (a b : ℕ) → bit_xor a b ≡ 0 → a ≡ b
 xor_same a b e = omega (arith, e, xor_add_and a b, and_le_l a b, and_le_r a b)
 
 -- numbers that differ in the lowest bit alone

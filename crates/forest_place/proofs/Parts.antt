@@ -1,8 +1,10 @@
 -- The parts of a row: n / 2^row of them, half as many in the next row.
 use Rattle.std.proofs.Common.{◌≡◌, ℕ, zero, suc, ◌+◌, ◌*◌, ◌/◌, ◌%◌, ◌^◌, ◌<◌, ◌≤◌, true, false, sym, subst, ⊎_elim, arith, add-one, one-add}
+use Rattle.std.proofs.Common.{◌-◌, ap, ◌∙◌}
 use Rattle.std.specs.Prelude.{◌==◌}
-use Rattle.std.proofs.lemmas.Nat.{shr-shr}
+use Rattle.std.proofs.lemmas.Nat.{shr-shr, pow-add}
 use Rattle.std.proofs.lemmas.Bool.{and_parts, and_from, eqb-true, eqb-false, eq-eqb, ne_eqb, and_left, and_right, and_cases, false_from_ne_true}
+use Rattle.std.proofs.Math.Nat.{mul-le-mul_right, div-mul-le_self}
 use Rattle.forest_place.specs.Forest.{InForest, is_root, is_slot, root_off}
 
 pub parts-suc : (n r : ℕ) → n / 2 ^ suc r ≡ n / 2 ^ r / 2
@@ -89,3 +91,13 @@ InForest-beneath n (suc k) r o h =
     let e : r + suc k ≡ suc r + k = omega arith in
     InForest-down n r o (InForest-beneath n k (suc r) (o / 2)
     (subst (λ x. InForest n (suc r + k) x) (half_pow o k) (subst (λ x. InForest n x (o / 2 ^ suc k)) e h)))
+
+-- where a larger part begins, no larger than where a smaller one does
+pub whole_parts : (n m h : ℕ) → m ≤ h → n / 2 ^ h * 2 ^ h ≤ n / 2 ^ m * 2 ^ m
+whole_parts n m h le =
+    let k = h - m in
+    let up : m + k ≡ h = omega (arith, le) in
+    let wide : 2 ^ h ≡ 2 ^ m * 2 ^ k = ap (λ x. 2 ^ x) (sym up) ∙ pow-add 2 m k in
+    let e : n / 2 ^ h ≡ n / 2 ^ m / 2 ^ k = ap (λ x. n / 2 ^ x) (sym up) ∙ sym (shr-shr n m k) in
+    let a = mul-le-mul_right (2 ^ m) (div-mul-le_self (n / 2 ^ m) (2 ^ k)) in
+    subst (λ x. x * 2 ^ h ≤ n / 2 ^ m * 2 ^ m) (sym e) (subst (λ y. n / 2 ^ m / 2 ^ k * y ≤ n / 2 ^ m * 2 ^ m) (sym wide) (omega (arith, a)))

@@ -1,8 +1,8 @@
 -- The digests beside a way up, row by row.
-use Rattle.std.proofs.Common.{◌≡◌, ℕ, zero, suc, ◌+◌, ◌-◌, ◌/◌, ◌<◌, ◌≤◌, List, [], ◌∷◌, ◌++◌, length, get_or, Option, Some, None, refl, sym, ap, ap₂}
+use Rattle.std.proofs.Common.{◌≡◌, ℕ, suc, ◌+◌, ◌-◌, ◌/◌, ◌<◌, ◌≤◌, List, [], ◌∷◌, ◌++◌, length, get_or, Option, Some, None, sym, ap, ap₂}
 use Rattle.std.proofs.Common.{◌∙◌, arith, eq-eqb, ne_eqb, Result, Ok, Err, Vec, Global}
 use Rattle.std.specs.Prelude.{option_map, IfOk, IfSome}
-use Rattle.std.proofs.lemmas.List.{append_assoc, append-nil}
+use Rattle.std.proofs.lemmas.List.{append_assoc, append-nil, get_or_default}
 use Rattle.uo_digest.specs.declared.digest.Digest.{Digest}
 use Rattle.forest_place.specs.declared.place.Place.{Place}
 use Rattle.forest_place.specs.Forest.{sibling_off}
@@ -48,11 +48,6 @@ module _ (hs : List (Place × Digest)) (all xs : List Digest) (r o : ℕ) (h : x
       let e : 40 - r ≡ 0 = omega (arith, ge) in
       sym (append-nil xs) ∙ (ap (λ k. xs ++ beside_way k hs r o) (sym e) ∙ h)
 
-any_default : (xs : List Kept) (i : ℕ) (d e : Kept) → i < length xs → get_or xs i d ≡ get_or xs i e
-any_default [] i d e lt = absurd (omega arith)
-any_default (x ∷ xs) zero d e lt = refl
-any_default (x ∷ xs) (suc i) d e lt = any_default xs i d e (omega arith)
-
 -- what is found of a number
 module _ (ks : List Kept) (number i : ℕ) (s : IsSplit is_before_number leaf_key number ks i) where
   pub entry_end : length ks ≤ i → None ≡ find is_same_number leaf_key number ks
@@ -61,7 +56,7 @@ module _ (ks : List Kept) (number i : ℕ) (s : IsSplit is_before_number leaf_ke
   pub entry_there : (d e : Kept) → e ≡ get_or ks i e → i < length ks → (get_or ks i d).number ≡ number
       → Some e ≡ find is_same_number leaf_key number ks
   entry_there d e is lt same =
-      ap Some (is ∙ any_default ks i e d lt)
+      ap Some (is ∙ get_or_default ks i e d lt)
       ∙ sym (find_split is_same_number is_before_number leaf_key number_order number ks i s
       ∙ find_at is_same_number is_before_number leaf_key number_order number ks i d lt (eq-eqb number (get_or ks i d).number (sym same)))
 

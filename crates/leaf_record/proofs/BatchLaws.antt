@@ -10,24 +10,19 @@ use Rattle.std.proofs.lemmas.List.{take_more_set, flat_map_more, map_push}
 use Rattle.std.proofs.lemmas.List.Concat.{length-flat_map}
 use Rattle.std.proofs.lemmas.List.Sums.{sum-map, sum_by-cons}
 use Rattle.std.proofs.lemmas.Option.{slice_get_within, get_or_from_slice_get}
-use Rattle.std.proofs.Math.Seq.{take-add, take-append_seam}
-use Rattle.std.proofs.lemmas.Grind.{common_steps}
+use Rattle.std.proofs.Math.Seq.{take-add}
+use Rattle.uo_base.proofs.Lists.{all-append}
 use Rattle.uo_digest.specs.declared.digest.Digest.{Digest}
-use Rattle.uo_digest.specs.Batches.{AreGiven}
 use Rattle.leaf_record.specs.Leaf.{Leaf, LeafFits, tag, output_text, leaf_text}
 use Rattle.leaf_record.specs.Batches.{parts_of}
 use Rattle.leaf_record.proofs.LeafLaws.{behind_tags}
 
 -- ---- each leaf fits
 
-all_both : (xs ys : List Leaf) → AllByRecursion LeafFits xs → AllByRecursion LeafFits ys → AllByRecursion LeafFits (xs ++ ys)
-all_both [] ys first second = second
-all_both (x ∷ xs) ys first second = (first.0, all_both xs ys first.1 second)
-
 pub fit_on : (leaves : List Leaf) (from n : ℕ) → AllByRecursion LeafFits (take from leaves) → AllByRecursion LeafFits (take n (drop from leaves))
     → AllByRecursion LeafFits (take (from + n) leaves)
 fit_on leaves from n first second =
-    subst (AllByRecursion LeafFits) (sym (take-add from n leaves)) (all_both (take from leaves) (take n (drop from leaves)) first second)
+    subst (AllByRecursion LeafFits) (sym (take-add from n leaves)) (all-append LeafFits (take from leaves) (take n (drop from leaves)) first second)
 
 -- ---- texts are put
 
@@ -73,7 +68,7 @@ putting_more {leaves} {from} {room} {lengths} {count} {end} leaf new next p is f
           ∙ ap (λ (t : List ℕ). t ++ output_text leaf) p.texts
           ∙ flat_map_more output_text [] (take count (drop from leaves)) leaf
           ∙ ap (flat_map output_text) (sym one);
-      fit = subst (AllByRecursion LeafFits) (sym one) (all_both (take count (drop from leaves)) (leaf ∷ []) p.fit (fits, tt));
+      fit = subst (AllByRecursion LeafFits) (sym one) (all-append LeafFits (take count (drop from leaves)) (leaf ∷ []) p.fit (fits, tt));
       within = le;
       begins = λ e. absurd (omega (arith, e));
     }
@@ -155,17 +150,3 @@ pub digests_behind : (digest : List ℕ → Digest) (texts : List (Bor (List ℕ
     → map (λ (t : Bor (List ℕ)). digest ((tag ++ tag) ++ t.now)) texts ≡ map (λ leaf. digest (leaf_text leaf)) leaves
 digests_behind digest texts leaves are =
     values_of (λ text. digest ((tag ++ tag) ++ text)) texts ∙ ap (map (λ text. digest ((tag ++ tag) ++ text))) are ∙ tagged digest leaves
-
--- a part is put behind what is before it
-pub put_part : {X : Type 0} (f : X → Digest) (xs : List X) (out : List Digest) (from n : ℕ) (part rest : List Digest)
-    → from + n ≤ length xs → AreGiven f xs out from → part ≡ map f (take n (drop from xs))
-    → take (from + n) (take from out ++ (part ++ rest)) ≡ map f (take (from + n) xs)
-put_part f xs out from n part rest le before is =
-    let long : length (map f (take (from + n) xs)) ≡ from + n = grind (arith, common_steps) in
-    let parts : map f (take from xs) ++ (map f (take n (drop from xs)) ++ rest) ≡ map f (take (from + n) xs) ++ rest =
-    rw (take-add from n xs) (grind (arith, common_steps)) in
-    ap (λ ds. take (from + n) (ds ++ (part ++ rest))) before
-    ∙ ap (λ ds. take (from + n) (map f (take from xs) ++ (ds ++ rest))) is
-    ∙ ap (take (from + n)) parts
-    ∙ ap (λ k. take k (map f (take (from + n) xs) ++ rest)) (sym long)
-    ∙ take-append_seam (map f (take (from + n) xs)) rest

@@ -4,13 +4,34 @@ use Rattle.std.proofs.Common.{ap₂, ⊎_elim, arith, sum_by}
 use Rattle.std.specs.Prelude.{◌==◌, slice_get, bytes_eq, if◌then◌else◌}
 use Rattle.std.specs.List.{AllByRecursion}
 use Rattle.std.specs.Cmp.Lexicographic.{same_text}
-use Rattle.std.proofs.Common.{eq-eqb}
+use Rattle.std.proofs.Common.{eq-eqb, ◌≤◌}
 use Rattle.std.proofs.lemmas.Bool.{cases_Bool, and_from, and_parts, eqb-true}
 use Rattle.std.proofs.lemmas.Slice.Eq.{bytes_eq-Decides}
 use Rattle.std.proofs.lemmas.List.Sums.{sum_by-cons}
 use Rattle.std.proofs.lemmas.Option.{none-some, same_Some}
+use Rattle.std.proofs.lemmas.List.{length-set}
 use Rattle.leaf_record.specs.Leaf.{Outpoint, Leaf}
 use Rattle.leaf_record.specs.History.{somes, same_point, History, Entry, entry_if, later, newer, newest, spent, amount_of, supply}
+
+-- ---- lists with gaps
+
+pub somes-map : {X : Type 0} (xs : List X) → somes (map Some xs) ≡ xs
+somes-map [] = refl
+somes-map (x ∷ xs) = ap (λ ys. x ∷ ys) (somes-map xs)
+
+pub somes-append : {X : Type 0} (xs ys : List (Option X)) → somes (xs ++ ys) ≡ somes xs ++ somes ys
+somes-append [] ys = refl
+somes-append (None ∷ xs) ys = somes-append xs ys
+somes-append (Some x ∷ xs) ys = ap (λ zs. x ∷ zs) (somes-append xs ys)
+
+pub somes_few : {X : Type 0} (xs : List (Option X)) → length (somes xs) ≤ length xs
+somes_few [] = omega arith
+somes_few (None ∷ xs) = omega (arith, somes_few xs)
+somes_few (Some x ∷ xs) = omega (arith, somes_few xs)
+
+pub length-spent : (ns : List ℕ) (us : History) → length (spent ns us) ≡ length us
+length-spent [] us = refl
+length-spent (n ∷ ns) us = length-set (spent ns us) n None ∙ length-spent ns us
 
 -- ---- outpoints
 

@@ -2,7 +2,7 @@
 use Rattle.std.proofs.Common.{◌≡◌, ℕ, zero, suc, ◌+◌, ◌*◌, ◌/◌, ◌%◌, ◌^◌, true, List, length, get_or, Option, Some, None, refl, sym, ap, ◌∙◌, subst}
 use Rattle.std.proofs.Common.{⊎_elim, inl, inr, arith}
 use Rattle.std.specs.Prelude.{option_and_then}
-use Rattle.std.proofs.lemmas.Bool.{cases_Bool, cases_eq}
+use Rattle.std.proofs.lemmas.Bool.{cases_eq}
 use Rattle.std.proofs.lemmas.Nat.{shr-shr}
 use Rattle.std.proofs.lemmas.Option.{none-some, same_Some}
 use Rattle.uo_digest.specs.declared.digest.Digest.{Digest}
@@ -12,12 +12,13 @@ use Rattle.forest_place.specs.Places.{has_place}
 use Rattle.forest_place.proofs.Parts.{parts-suc, half_pow, InForest-beneath}
 use Rattle.forest_model.specs.Content.{Tree, leaf, inner, content}
 use Rattle.forest_model.specs.Standing.{half, tree_at}
-use Rattle.forest_model.specs.Cover.{Cover, cover, cover_of_halves}
+use Rattle.forest_model.specs.Cover.{Cover, cover}
 use Rattle.forest_model.specs.Deletion.{entries_without, tree_without, StandAt}
 use Rattle.forest_model.proofs.Climbs.{tree_at-up, nothing_beneath, inner_from_half}
 use Rattle.forest_model.proofs.Deleting.{is_spent, get_or-entries_without, content-entries_without, target_entry, place_at, stays_whole}
 use Rattle.forest_model.proofs.Living.{content_none_iff}
 use Rattle.forest_model.proofs.Unique.{HasLeaf, EachLeaf, join_cases, leaf_from, content-leaves, content-part, tree_at-leaves}
+use Rattle.forest_model.proofs.Extract.{target_beneath as beneath_cover}
 
 -- a target at or beneath a place
 record HasTarget (ts : List Place) (r o : ℕ) : Type 0 where
@@ -28,36 +29,10 @@ record HasTarget (ts : List Place) (r o : ℕ) : Type 0 where
   beneath : off / 2 ^ deep ≡ o
   is : has_place ts row off ≡ true
 
-target_here : (ts : List Place) (r o : ℕ) → has_place ts r o ≡ true → HasTarget ts r o
-target_here ts r o it = record { deep = 0; row = r; off = o; up = omega arith; beneath = (let z : o / 1 ≡ o = omega arith in z); is = it }
-
-target_above : (ts : List Place) (r o p : ℕ) → p / 2 ≡ o → HasTarget ts r p → HasTarget ts (suc r) o
-target_above ts r o p e h = record {
-  deep = suc h.deep;
-  row = h.row;
-  off = h.off;
-  up = omega (arith, h.up);
-  beneath = parts-suc h.off h.deep ∙ (ap (λ x. x / 2) h.beneath ∙ e);
-  is = h.is;
-}
-
 -- what is covered has a target
 target_beneath : (ts : List Place) (r o : ℕ) (c : Cover) → cover ts r o ≡ Some c → HasTarget ts r o
-target_beneath ts zero o c e =
-    ⊎_elim (λ it. target_here ts zero o it) (λ other. absurd (none-some c (rw other at e))) (cases_Bool (has_place ts zero o))
-target_beneath ts (suc r) o c e =
-    ⊎_elim
-    (λ it. target_here ts (suc r) o it)
-    (λ other. of_halves (cover ts r (2 * o)) (cover ts r (2 * o + 1)) (rw other at e)
-    (λ d f. target_above ts r o (2 * o) (omega arith) (target_beneath ts r (2 * o) d f))
-    (λ d f. target_above ts r o (2 * o + 1) (omega arith) (target_beneath ts r (2 * o + 1) d f)))
-    (cases_Bool (has_place ts (suc r) o))
-  where
-    of_halves : (x y : Option Cover) → cover_of_halves r o x y ≡ Some c → ((d : Cover) → x ≡ Some d → HasTarget ts (suc r) o)
-        → ((d : Cover) → y ≡ Some d → HasTarget ts (suc r) o) → HasTarget ts (suc r) o
-    of_halves None None g left right = absurd (none-some c g)
-    of_halves None (Some d) g left right = right d refl
-    of_halves (Some d) y g left right = left d refl
+target_beneath ts r o c e =
+    let t = beneath_cover ts r o c e in record { deep = t.1; row = t.0.row; off = t.0.off; up = t.3; beneath = t.4; is = t.2 }
 
 half_has : (i side : ℕ) (l r s : Tree) → half side (Some (inner l r)) ≡ Some s → HasLeaf i s → HasLeaf i (inner l r)
 half_has i zero l r s e h = inl (subst (HasLeaf i) (sym (same_Some l s e)) h)

@@ -9,6 +9,7 @@ use Rattle.std.proofs.lemmas.Nat.{pow_pos, shr-shr, shr_split, le-div, div_below
 use Rattle.uo_digest.specs.declared.digest.Digest.{Digest}
 use Rattle.forest_place.specs.Forest.{InForest}
 use Rattle.forest_place.proofs.Parts.{parts-suc}
+use Rattle.forest_place.proofs.Differing.{xor_same}
 use Rattle.live_forest.specs.Sets.{has_part, rank, AreEnds}
 use Rattle.live_forest.specs.declared.cell.Cell.{Cell}
 use Rattle.live_forest.specs.Pages.{no_cell, leaf_in, gap_in, middle, when, of_halves, kept_by, IsFork}
@@ -19,20 +20,17 @@ use Rattle.live_forest.proofs.Letting.{part_end}
 
 -- ---- where two numbers part
 
-same_number : (a b : ℕ) → bit_xor a b ≡ 0 → a ≡ b
-same_number a b e = omega (arith, e, xor_add_and a b, and_le_l a b, and_le_r a b)
-
 -- numbers that differ in the lowest bit alone
 next_number : (a b : ℕ) → a ≤ b → bit_xor a b ≡ 1 → (b % 2 ≡ 1) × (a + 1 ≡ b)
 next_number a b le e =
     let half : bit_xor (a / 2) (b / 2) ≡ 0 = sym (xor_shr a b 1) ∙ (let z : bit_xor a b / 2 ≡ 0 = omega (arith, e) in z) in
-    let same : a / 2 ≡ b / 2 = same_number (a / 2) (b / 2) half in
+    let same : a / 2 ≡ b / 2 = xor_same (a / 2) (b / 2) half in
     let sum = xor_add_and a b in
     (omega (arith, same, e, le, sum, and_le_l a b, and_le_r a b), omega (arith, same, e, le, sum, and_le_l a b, and_le_r a b))
 
 pub numbers_differ : (first last : ℕ) → first < last → 0 < bit_xor first last
 numbers_differ first last lt =
-    ⊎_elim (λ e. let same = same_number first last e in absurd (omega (arith, same, lt))) (λ ne. omega (arith, ne)) (cases_eq (bit_xor first last) 0)
+    ⊎_elim (λ e. let same = xor_same first last e in absurd (omega (arith, same, lt))) (λ ne. omega (arith, ne)) (cases_eq (bit_xor first last) 0)
 
 pub fork_is : (first last r : ℕ) → first < last → 2 ^ r ≤ bit_xor first last → bit_xor first last < 2 * 2 ^ r
     → IsFork first last (last / 2 ^ r * 2 ^ r)

@@ -10,6 +10,7 @@ use Rattle.std.proofs.lemmas.List.FromFn.{length-map-range_with_len, get_or-map-
 use Rattle.uo_digest.specs.declared.digest.Digest.{Digest}
 use Rattle.forest_model.specs.Content.{content, digest_of, join_digests}
 use Rattle.forest_model.specs.Deletion.{entries_without}
+use Rattle.forest_model.proofs.Unique.{digest-join}
 use Rattle.forest_place.specs.Forest.{InForest}
 use Rattle.forest_place.proofs.Parts.{InForest-left, InForest-right}
 use Rattle.forest_place.proofs.Slots.{in_forest_iff}
@@ -19,7 +20,7 @@ use Rattle.live_forest.specs.Parts.{leaves_of, entries_in, kept, AreParts}
 use Rattle.live_forest.specs.Holding.{held_of, IsForest}
 use Rattle.live_forest.specs.State.{is_live, is_held, held_without}
 use Rattle.live_forest.proofs.Entries.{content-take}
-use Rattle.live_forest.proofs.Refreshing.{digest-joined, joined_halves, length-leaves_of, leaves_of-at}
+use Rattle.live_forest.proofs.Refreshing.{joined_halves, length-leaves_of, leaves_of-at}
 
 -- ---- lists
 
@@ -272,7 +273,7 @@ of_halves_stored H n s right = record {
   is = λ row off h.
       let leaves = leaves_of s in
       joined_halves H (stored s row (2 * off)) (stored s row (2 * off + 1)) (stored s (suc row) off)
-      (right.is (suc row) off h ∙ digest-joined H (content leaves row (2 * off)) (content leaves row (2 * off + 1))
+      (right.is (suc row) off h ∙ digest-join H (content leaves row (2 * off)) (content leaves row (2 * off + 1))
       ∙ ap₂ (join_digests H) (sym (right.is row (2 * off) (InForest-left n row off h)))
       (sym (right.is row (2 * off + 1) (InForest-right n row off h))));
 }

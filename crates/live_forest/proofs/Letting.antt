@@ -10,7 +10,7 @@ use Rattle.std.proofs.lemmas.List.Edits.{length-remove, get_or-remove_below, get
 use Rattle.std.proofs.lemmas.Nat.{pow_pos, pow-add, shr-shr, shr_split, mod_below, mul-le}
 use Rattle.uo_digest.specs.declared.digest.Digest.{Digest}
 use Rattle.forest_place.specs.Forest.{InForest, sibling_off}
-use Rattle.forest_place.proofs.Parts.{parts-suc, InForest-left, InForest-right}
+use Rattle.forest_place.proofs.Parts.{parts-suc, InForest-left, InForest-right, whole_parts}
 use Rattle.forest_place.proofs.Positions.{row_small}
 use Rattle.forest_place.proofs.Siblings.{sibling_cases}
 use Rattle.live_forest.specs.declared.cell.Cell.{Cell}
@@ -138,19 +138,6 @@ ends_within n q r le =
     ∙ (let z : (n / 2 ^ r + 1) * (w * 2 ^ k) ≡ (n / 2 ^ r + 1) * 2 ^ k * w = omega arith in z) in
     omega (arith, more, turned)
 
-starts_within : (n q r : ℕ) → q ≤ r → n / 2 ^ r * 2 ^ r ≤ n / 2 ^ q * 2 ^ q
-starts_within n q r le =
-    let k = r - q in
-    let e : q + k ≡ r = omega arith in
-    let w = 2 ^ q in
-    let power : 2 ^ r ≡ w * 2 ^ k = ap (λ x. 2 ^ x) (sym e) ∙ pow-add 2 q k in
-    let up : n / w / 2 ^ k ≡ n / 2 ^ r = shr-shr n q k ∙ ap (λ x. n / 2 ^ x) e in
-    let start : n / 2 ^ r * 2 ^ k ≤ n / w = omega (arith, part_start (n / w) k, ap (λ x. x * 2 ^ k) up) in
-    let more = mul-le (n / 2 ^ r * 2 ^ k) w (n / w) w start (omega arith) in
-    let turned : n / 2 ^ r * 2 ^ r ≡ n / 2 ^ r * 2 ^ k * w = ap (λ x. n / 2 ^ r * x) power
-    ∙ (let z : n / 2 ^ r * (w * 2 ^ k) ≡ n / 2 ^ r * 2 ^ k * w = omega arith in z) in
-    omega (arith, more, turned)
-
 two_rows : (q : ℕ) → 2 ^ suc q ≡ 2 ^ q * 2
 two_rows q = pow-suc 2 q
 
@@ -266,7 +253,7 @@ module _ (s t : ℕ → Bool) (number : ℕ) (gone : IsWithout s t number) (here
       ap (λ z. z * 2 ^ q) (let z : y ≡ number / 2 ^ suc q * 2 = omega (arith, half, beside, near.3) in z)
       ∙ (let z : number / 2 ^ suc q * 2 * 2 ^ q ≡ number / 2 ^ suc q * (2 ^ q * 2) = omega arith in z)
       ∙ ap (λ z. number / 2 ^ suc q * z) (sym (two_rows q)) in
-      let first : middle r o ≤ y * 2 ^ q = omega (arith, starts_within number (suc q) r (omega arith), ap (λ z. z * w) within, start) in
+      let first : middle r o ≤ y * 2 ^ q = omega (arith, whole_parts number (suc q) r (omega arith), ap (λ z. z * w) within, start) in
       let end : y * 2 ^ q + 2 ^ q ≤ number =
       omega (
         arith,

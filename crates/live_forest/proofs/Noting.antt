@@ -11,12 +11,13 @@ use Rattle.forest_model.specs.Content.{inner, join, content, digest_of}
 use Rattle.forest_model.specs.Standing.{tree_at, digest_at}
 use Rattle.forest_model.proofs.Climbs.{tree_at-forest}
 use Rattle.forest_model.proofs.Moving.{child_stands}
+use Rattle.forest_model.proofs.Deleting.{join-none}
 use Rattle.live_forest.specs.declared.batch.Sibling.{Sibling}
 use Rattle.live_forest.specs.Stores.{StoreState}
 use Rattle.live_forest.specs.Parts.{AreParts, kept}
 use Rattle.live_forest.specs.Proving.{HasRows}
 use Rattle.live_forest.proofs.Refreshing.{kept_right}
-use Rattle.live_forest.proofs.Seeking.{alike, tree_above, tree_some, tree_none, within_left, within_right, joined-none, node_high}
+use Rattle.live_forest.proofs.Seeking.{alike, tree_above, tree_some, tree_none, within_left, within_right, node_high}
 
 -- no row further up is in the forest
 pub all_rows : (n row : ℕ) (rows : List (List Sibling)) → length rows ≡ row → (0 < n / 2 ^ row → ⊥) → HasRows n rows
@@ -60,7 +61,7 @@ module _ (H : List ℕ → Digest) (es : List (Option Digest)) (parts : StoreSta
   stands_left row off q some h s e =
       s ∙ (tree_above es row off some ∙ (ap (join (content es (row - 1) (2 * off)))
       (tree_none es parts (alike H es parts right) (row - 1) (2 * off + 1) (within_right (length es) row off some h) e)
-      ∙ joined-none (content es (row - 1) (2 * off))))
+      ∙ join-none (content es (row - 1) (2 * off))))
 
   -- and one with something in both stands above them
   pub record AreHalves (row off : ℕ) (q : Place) : Type 0 where

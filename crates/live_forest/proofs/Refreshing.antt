@@ -7,7 +7,8 @@ use Rattle.std.proofs.lemmas.Nat.{shr-shr}
 use Rattle.std.proofs.lemmas.List.{get_or-set_same, get_or-set_other, length-set, ext_get_or}
 use Rattle.std.proofs.lemmas.List.FromFn.{length-map-range_with_len, get_or-map-range_with_len}
 use Rattle.uo_digest.specs.declared.digest.Digest.{Digest}
-use Rattle.forest_model.specs.Content.{Tree, leaf, join, content, digest_of, join_digests}
+use Rattle.forest_model.specs.Content.{Tree, leaf, content, digest_of, join_digests}
+use Rattle.forest_model.proofs.Unique.{digest-join}
 use Rattle.forest_place.specs.Forest.{InForest, sibling_off}
 use Rattle.forest_place.proofs.Parts.{parts-suc, InForest-down, InForest-left, InForest-right, not_root-down}
 use Rattle.forest_place.proofs.Siblings.{sibling_cases, sibling_within}
@@ -15,12 +16,6 @@ use Rattle.live_forest.specs.Pages.{IsOfHalves}
 use Rattle.live_forest.specs.Stores.{StoreState, stored, IsEntryKept, IsPartKept, HasRoomOf}
 use Rattle.live_forest.specs.Parts.{leaves_of, kept, part_digest, AreParts, ArePartsBut, AreBeside, pairs, digests_to}
 use Rattle.live_forest.proofs.Entries.{content-set_other, parts_before, path_below}
-
-pub digest-joined : (H : List ℕ → Digest) (x y : Option Tree)
-    → option_map (digest_of H) (join x y) ≡ join_digests H (option_map (digest_of H) x) (option_map (digest_of H) y)
-digest-joined H None y = refl
-digest-joined H (Some l) None = refl
-digest-joined H (Some l) (Some r) = refl
 
 pub digest-leaf : (H : List ℕ → Digest) (off : ℕ) (x : Option Digest) → x ≡ option_map (digest_of H) (option_map (leaf off) x)
 digest-leaf H off None = refl
@@ -119,7 +114,7 @@ pub joined_right : (H : List ℕ → Digest) (leaves : List (Option Digest)) (ro
     → left ≡ part_digest H leaves row (2 * o) → right ≡ part_digest H leaves row (2 * o + 1) → digest ≡ join_digests H left right
     → digest ≡ part_digest H leaves (suc row) o
 joined_right H leaves row o left right digest le re de =
-    de ∙ ap₂ (join_digests H) le re ∙ sym (digest-joined H (content leaves row (2 * o)) (content leaves row (2 * o + 1)))
+    de ∙ ap₂ (join_digests H) le re ∙ sym (digest-join H (content leaves row (2 * o)) (content leaves row (2 * o + 1)))
 
 -- the same for a row that is named by itself
 met_here : (number next row off other r : ℕ) → off ≡ number / 2 ^ row → other ≡ next / 2 ^ row → row < r → off / 2 ≡ other / 2

@@ -7,6 +7,7 @@ use Rattle.std.proofs.lemmas.List.{get_or-set_same, get_or-set_other, length-set
 use Rattle.std.proofs.lemmas.List.Folds.{list_any_at}
 use Rattle.uo_digest.specs.declared.digest.Digest.{Digest}
 use Rattle.forest_model.specs.Content.{content, join_digests}
+use Rattle.forest_model.proofs.Unique.{digest-join}
 use Rattle.forest_place.specs.Forest.{InForest}
 use Rattle.forest_place.proofs.Parts.{parts-suc, InForest-left, InForest-right}
 use Rattle.live_forest.specs.declared.waiting.Waiting.{Waiting}
@@ -14,7 +15,7 @@ use Rattle.live_forest.specs.Stores.{StoreState, stored, is_listed, IsPartKept, 
 use Rattle.live_forest.specs.Parts.{leaves_of, part_digest, AreParts}
 use Rattle.live_forest.specs.Rows.{IsJoined, HasNone, is_one, part_above, AreUntouched, KeepsEntries, AreBelow, IsRowStep, HasRoom, Waits, AreWaiting}
 use Rattle.live_forest.specs.Rows.{IsRenewed, AreDone, AreTaken}
-use Rattle.live_forest.proofs.Refreshing.{digest-joined, digest-leaf, joined_right, length-leaves_of, leaves_of-at, room_kept, room_same}
+use Rattle.live_forest.proofs.Refreshing.{digest-leaf, joined_right, length-leaves_of, leaves_of-at, room_kept, room_same}
 
 -- ---- new entries
 
@@ -243,7 +244,7 @@ module _ (H : List ℕ → Digest) where
   pub parts_joined : (n : ℕ) (s : StoreState) (r o : ℕ) → AreParts H n (leaves_of s) s → InForest n (suc r) o → IsJoined H s r o
   parts_joined n s r o right h =
       let leaves = leaves_of s in
-      right.is (suc r) o h ∙ digest-joined H (content leaves r (2 * o)) (content leaves r (2 * o + 1))
+      right.is (suc r) o h ∙ digest-join H (content leaves r (2 * o)) (content leaves r (2 * o + 1))
       ∙ ap₂ (join_digests H) (sym (right.is r (2 * o) (InForest-left n r o h))) (sym (right.is r (2 * o + 1) (InForest-right n r o h)))
 
   pub rows_begin : (n m : ℕ) (s s' : StoreState) (new : ℕ → Bool) → AreParts H n (leaves_of s) s → AreUntouched new s s'

@@ -15,6 +15,7 @@ use Rattle.forest_place.proofs.Siblings.{sibling_cases, sibling_off-left, siblin
 use Rattle.forest_model.proofs.Climbs.{tree_at-root, tree_at-up, tree_at-forest}
 use Rattle.forest_model.proofs.Moving.{child_stands}
 use Rattle.forest_model.proofs.Unique.{tree_at-rows}
+use Rattle.forest_model.proofs.Deleting.{join-none}
 use Rattle.live_forest.specs.Stores.{StoreState}
 use Rattle.live_forest.specs.Parts.{AreParts, kept}
 use Rattle.live_forest.specs.Lookups.{AreAlike, IsSmallest, IsPartAt}
@@ -28,10 +29,6 @@ none_of b (Some d) e gone = absurd (false≢true (sym gone ∙ e))
 pub some_of : (b : Bool) (x : Option Digest) → b ≡ is_some x → b ≡ true → (d : Digest) × (Some d ≡ x)
 some_of b None e there = absurd (true≢false (sym there ∙ e))
 some_of b (Some d) e there = (d, refl)
-
-pub joined-none : (x : Option Tree) → join x None ≡ x
-joined-none None = refl
-joined-none (Some t) = refl
 
 pub tree_above : (es : List (Option Digest)) (row off : ℕ) → 0 < row
     → content es row off ≡ join (content es (row - 1) (2 * off)) (content es (row - 1) (2 * off + 1))
@@ -103,7 +100,7 @@ module _ (es : List (Option Digest)) (parts : StoreState) (right : AreAlike es p
       record {
         within = s.within;
         same = tree_above es row off some ∙ ap (join (content es (row - 1) (2 * off)))
-            (tree_none (row - 1) (2 * off + 1) (within_right (length es) row off some h) e) ∙ joined-none (content es (row - 1) (2 * off)) ∙ s.same;
+            (tree_none (row - 1) (2 * off + 1) (within_right (length es) row off some h) e) ∙ join-none (content es (row - 1) (2 * off)) ∙ s.same;
         split = s.split;
       }
 
@@ -213,7 +210,7 @@ module _ (es : List (Option Digest)) (parts : StoreState) (right : AreAlike es p
       ap (λ k. content es k (off / 2)) e ∙ ap₂ (λ a b. join (content es row a) (content es row b)) l r
 
   joined_left : (x y : Option Tree) (t : Tree) → x ≡ Some t → (s : Tree) × (join x y ≡ Some s)
-  joined_left x None t e = (t, joined-none x ∙ e)
+  joined_left x None t e = (t, join-none x ∙ e)
   joined_left x (Some r) t e = (inner t r, ap (λ z. join z (Some r)) e)
 
   joined_right : (x y : Option Tree) (t : Tree) → y ≡ Some t → (s : Tree) × (join x y ≡ Some s)
@@ -241,7 +238,7 @@ module _ (es : List (Option Digest)) (parts : StoreState) (right : AreAlike es p
   place_same row off q within s e =
       let beside = tree_none row (sibling_off off) within e in
       s ∙ ⊎_elim
-      (λ even. halves_even row off even ∙ ap (join (content es row off)) beside ∙ joined-none (content es row off))
+      (λ even. halves_even row off even ∙ ap (join (content es row off)) beside ∙ join-none (content es row off))
       (λ odd. halves_odd row off odd ∙ ap (λ x. join x (content es row off)) beside)
       (odd_or_even off)
 

@@ -1,7 +1,7 @@
 -- Entries that are forgotten one after the other, and what is known of them before.
 use Rattle.std.proofs.Common.{◌≡◌, ◌≢◌, ℕ, zero, suc, ◌+◌, ◌<◌, ◌≤◌, true, false, List, [], ◌∷◌, ◌++◌, length, take, drop, get_or, Option, Some, None}
 use Rattle.std.proofs.Common.{refl, sym, ap, ◌∙◌, subst, ⊎_elim, arith}
-use Rattle.std.specs.Prelude.{AllPairs, option_map, is_some, nat_eq}
+use Rattle.std.specs.Prelude.{option_map, is_some, nat_eq}
 use Rattle.std.specs.List.{AllZip}
 use Rattle.std.specs.Option.{option_eq}
 use Rattle.std.proofs.lemmas.Bool.{cases_eq, cases_lt, eqb-true, false≢true, true≢false, OnTrue_at, OnTrue_from}
@@ -25,9 +25,6 @@ use Rattle.output_index.proofs.Holding.{leaf_at-in}
 pub without_all-more : (ns : List ℕ) (i : ℕ) (hs : List Held) → i < length ns
     → without_all (drop i ns) hs ≡ without_all (drop (i + 1) ns) (without (get_or ns i 0) hs)
 without_all-more ns i hs lt = ap (λ ms. without_all ms hs) (drop_more ns i 0 lt)
-
-pub other_later : (ns : List ℕ) (i k : ℕ) → AllPairs (λ a b. a ≢ b) ns → i + 1 ≤ k → k < length ns → get_or ns k 0 ≢ get_or ns i 0
-other_later ns i k apart le lt e = apart i k 0 (omega arith) lt (sym e)
 
 -- ---- marks
 

@@ -1,8 +1,6 @@
 -- An element of a list that takes the place of another.
-use Rattle.std.proofs.Common.{◌≡◌, ◌≢◌, ℕ, zero, suc, ◌<◌, List, [], ◌∷◌, ◌++◌, Some, set, take, drop, length, refl, sym, ap, ◌∙◌, arith}
+use Rattle.std.proofs.Common.{◌≡◌, ◌≢◌, ℕ, zero, suc, ◌<◌, List, [], ◌∷◌, ◌++◌, Some, set, length, refl, ap, arith}
 use Rattle.std.specs.Prelude.{slice_get}
-use Rattle.std.proofs.lemmas.List.{append-nil, drop_all}
-use Rattle.std.proofs.Math.Seq.{take-length}
 
 pub get-set_same : {X : Type 0} (i : ℕ) (one : X) (xs : List X) → i < length xs → slice_get (set xs i one) i ≡ Some one
 get-set_same i one [] l = absurd (omega (arith, l))
@@ -29,9 +27,3 @@ get-last one (x ∷ xs) = get-last one xs
 pub length-one_more : {X : Type 0} (one : X) (xs : List X) → length (xs ++ one ∷ []) ≡ suc (length xs)
 length-one_more one [] = refl
 length-one_more one (x ∷ xs) = ap suc (length-one_more one xs)
-
--- a list whose elements were written over
-pub refilled : {X : Type 0} (n : ℕ) (xs ys : List X) → length xs ≡ length ys → length ys ≡ n → take n (xs ++ drop (length xs) ys) ≡ xs
-refilled n xs ys e f =
-    let none : drop (length xs) ys ≡ [] = drop_all (length xs) ys (omega (arith, e)) in
-    ap (λ l. take n (xs ++ l)) none ∙ (ap (take n) (append-nil xs) ∙ (ap (λ k. take k xs) (sym (e ∙ f)) ∙ take-length xs))

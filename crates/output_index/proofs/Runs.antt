@@ -1,21 +1,11 @@
 -- Entries that are forgotten a few at a time.
-use Rattle.std.proofs.Common.{◌≡◌, ◌≢◌, ℕ, zero, suc, ◌+◌, ◌-◌, ◌<◌, ◌≤◌, true, List, [], ◌∷◌, ◌++◌, length, take, drop, get_or, refl, sym, ap, ◌∙◌}
+use Rattle.std.proofs.Common.{◌≡◌, ◌≢◌, ℕ, suc, ◌+◌, ◌-◌, ◌<◌, ◌≤◌, true, List, [], ◌∷◌, ◌++◌, length, take, drop, get_or, refl, sym, ap, ◌∙◌}
 use Rattle.std.proofs.Common.{arith}
 use Rattle.std.specs.Prelude.{All, AllPairs}
-use Rattle.std.proofs.lemmas.List.{take-append-drop, get_or-take, get_or-drop, length-drop}
+use Rattle.std.proofs.lemmas.List.{take-append-drop, get_or-take, get_or-drop, length-drop, get_or_default}
+use Rattle.uo_base.proofs.Lists.{take_few}
 use Rattle.output_index.specs.Held.{Held, is_spent, without, without_all}
 use Rattle.output_index.proofs.HeldLaws.{spent-without_other}
-
-pub take_few : (k : ℕ) (ns : List ℕ) → length (take k ns) ≤ k
-take_few zero ns = omega arith
-take_few (suc k) [] = omega arith
-take_few (suc k) (n ∷ ns) = let r = take_few k ns in omega (arith, r)
-
--- what is read within a list does not depend on what is read past its end
-same_there : (ns : List ℕ) (i d : ℕ) → i < length ns → get_or ns i d ≡ get_or ns i 0
-same_there [] i d l = absurd (omega (arith, l))
-same_there (n ∷ ns) zero d l = refl
-same_there (n ∷ ns) (suc i) d l = same_there ns i d (omega (arith, l))
 
 without_all-append : (ns ms : List ℕ) (hs : List Held) → without_all (ns ++ ms) hs ≡ without_all ms (without_all ns hs)
 without_all-append [] ms hs = refl
@@ -44,7 +34,7 @@ spent-behind k ns hs few apart spent j d l =
         let t : length (take k ns) ≤ k = take_few k ns in
         let below : i < k = omega (arith, b, t) in
         let same : get_or (take k ns) i 0 ≡ get_or ns i 0 = get_or-take k ns i 0 below in
-        let dead : get_or ns i d ≡ get_or ns i 0 = same_there ns i d (omega (arith, below, few)) in
+        let dead : get_or ns i d ≡ get_or ns i 0 = get_or_default ns i d 0 (omega (arith, below, few)) in
         apart i (k + j) d (omega (arith, below)) within (dead ∙ (sym same ∙ sym e))
 
 -- and no two of them are the same

@@ -15,9 +15,10 @@ use Rattle.forest_place.proofs.Siblings.{sibling_off-left, sibling_off-right}
 use Rattle.forest_place.proofs.Listed.{place, has_first}
 use Rattle.forest_model.specs.Cover.{cover, is_needed, need, HasShape, is_above}
 use Rattle.forest_model.specs.Deletion.{is_gone, moved, child_place}
-use Rattle.forest_model.proofs.Covers.{needed_parts}
+use Rattle.forest_model.proofs.Covers.{needed_parts, some_from_test}
 use Rattle.forest_model.proofs.Lists.{need_has, need_had}
 use Rattle.forest_model.proofs.Moving.{moved-step, moved-is_gone}
+use Rattle.forest_model.proofs.Extract.{target_beneath as beneath_cover}
 use Rattle.proof_shape.specs.Targeted.{IsBeneathTarget, NoneGonePast, IsGoneAt}
 use Rattle.proof_shape.specs.Shape.{has_number}
 use Rattle.proof_shape.specs.Moves.{GoneTell, TellGone, HasNeighbours, AreApart, HasAll, CoversTell}
@@ -33,31 +34,7 @@ use Rattle.proof_shape.proofs.Parents.{ups, cover_above, above_covered}
 -- a target stands at or beneath what is covered
 pub target_beneath : (ts : List Place) (r o : ℕ) → is_some (cover ts r o) ≡ true → (q : Place) × (k : ℕ) × (has_place ts q.row q.off ≡ true)
     × (q.row + k ≡ r) × (q.off / 2 ^ k ≡ o)
-target_beneath ts zero o c = by_target (cases_Bool (has_place ts zero o))
-  where
-    by_target : (has_place ts zero o ≡ true) ⊎ (has_place ts zero o ≡ false) → (q : Place) × (k : ℕ) × (has_place ts q.row q.off ≡ true)
-        × (q.row + k ≡ 0) × (q.off / 2 ^ k ≡ o)
-    by_target (inl it) = (place 0 o, 0, it, refl, (let z : o / 1 ≡ o = omega arith in z))
-    by_target (inr e) = absurd (false≢true (rw e at c))
-target_beneath ts (suc r) o c =
-    ⊎_elim
-    (λ it. (place (suc r) o, 0, it, (let z : suc r + 0 ≡ suc r = omega arith in z), (let z : o / 1 ≡ o = omega arith in z)))
-    (λ below. ⊎_elim
-    (λ left. up_from (2 * o) (let z : (2 * o) / 2 ≡ o = omega arith in z) (target_beneath ts r (2 * o) left))
-    (λ right. up_from (2 * o + 1) (let z : (2 * o + 1) / 2 ≡ o = omega arith in z) (target_beneath ts r (2 * o + 1) right))
-    (or_cases (is_some (cover ts r (2 * o))) (is_some (cover ts r (2 * o + 1))) below))
-    (or_cases (has_place ts (suc r) o) (is_some (cover ts r (2 * o)) || is_some (cover ts r (2 * o + 1))) (sym (covered_up ts r o) ∙ c))
-  where
-    up_from : (p : ℕ) → p / 2 ≡ o → (q : Place) × (k : ℕ) × (has_place ts q.row q.off ≡ true) × (q.row + k ≡ r) × (q.off / 2 ^ k ≡ p)
-        → (q : Place) × (k : ℕ) × (has_place ts q.row q.off ≡ true) × (q.row + k ≡ suc r) × (q.off / 2 ^ k ≡ o)
-    up_from p e w = (
-      w.0,
-      suc w.1,
-      w.2,
-      (let z : w.0.row + suc w.1 ≡ suc r = omega (arith, w.3) in z),
-      parts-suc w.0.off w.1 ∙ ap (λ x. x / 2) w.4
-          ∙ e,
-    )
+target_beneath ts r o c = let s = some_from_test (cover ts r o) c in beneath_cover ts r o s.0 s.1
 
 module _ (n : ℕ) (ts : List Place) (shape : HasShape n ts) where
   -- a target has no target beneath

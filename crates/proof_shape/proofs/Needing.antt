@@ -210,6 +210,17 @@ covered_up ts r o =
     by_halves (Some c) None = refl
     by_halves (Some c) (Some d) = refl
 
+-- what lies above what is covered is covered
+pub covered_above : (ts : List Place) (r o : ℕ) → is_some (cover ts r o) ≡ true → is_some (cover ts (suc r) (o / 2)) ≡ true
+covered_above ts r o c =
+    covered_up ts r (o / 2) ∙ or_right (has_place ts (suc r) (o / 2)) (is_some (cover ts r (2 * (o / 2))) || is_some (cover ts r (2 * (o / 2) + 1)))
+    (⊎_elim
+    (λ even. let e : 2 * (o / 2) ≡ o = omega (arith, even) in
+    or_left (is_some (cover ts r (2 * (o / 2)))) (is_some (cover ts r (2 * (o / 2) + 1))) (ap (λ x. is_some (cover ts r x)) e ∙ c))
+    (λ odd. let e : 2 * (o / 2) + 1 ≡ o = omega (arith, odd) in or_right (is_some (cover ts r (2 * (o / 2)))) (is_some (cover ts r (2 * (o / 2) + 1)))
+    (ap (λ x. is_some (cover ts r x)) e ∙ c))
+    (cases_eq (o % 2) 0))
+
 pub covered_target : (ts : List Place) (r o : ℕ) → has_place ts r o ≡ true → is_some (cover ts r o) ≡ true
 covered_target ts zero o h = rw h refl
 covered_target ts (suc r) o h = rw h refl

@@ -3,6 +3,7 @@ use Rattle.std.proofs.Common.{◌≡◌, ℕ, zero, suc, ◌+◌, ◌*◌, ◌/�
 use Rattle.std.proofs.Common.{subst, ⊎_elim, inl, inr, arith, eq-eqb, eqb-true}
 use Rattle.std.specs.Prelude.{◌⊎◌, ◌==◌}
 use Rattle.std.proofs.lemmas.Bool.{cases_Bool, false≢true, false_from_ne_true, or_cases, or_left, or_right, or_from, cases_eq}
+use Rattle.std.proofs.Math.Bool.{or-false}
 use Rattle.forest_place.specs.declared.place.Place.{Place}
 use Rattle.forest_place.specs.Forest.{InForest, sibling_off}
 use Rattle.forest_place.specs.Places.{has_place, is_at, AreWithin}
@@ -72,11 +73,7 @@ cover_ups ns zero o =
     covered_up (ups ns) 0 o ∙
     (ap₂ (λ x y. x || y) (has_ups ns 0 o ∙ ap₂ (λ x y. x || y) (sym (cover_low ns (2 * o))) (sym (cover_low ns (2 * o + 1))))
     (or_from _ _ (cover_low (ups ns) (2 * o) ∙ none_low ns (2 * o)) (cover_low (ups ns) (2 * o + 1) ∙ none_low ns (2 * o + 1))) ∙
-    or_false (is_some (cover ns 0 (2 * o)) || is_some (cover ns 0 (2 * o + 1))))
-  where
-    or_false : (b : Bool) → (b || false) ≡ b
-    or_false true = refl
-    or_false false = refl
+    or-false (is_some (cover ns 0 (2 * o)) || is_some (cover ns 0 (2 * o + 1))))
 cover_ups ns (suc r) o =
     covered_up (ups ns) (suc r) o ∙
     (ap₂ (λ x y. x || y) (has_ups ns (suc r) o) (ap₂ (λ x y. x || y) (cover_ups ns r (2 * o)) (cover_ups ns r (2 * o + 1))) ∙

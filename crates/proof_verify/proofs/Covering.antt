@@ -1,9 +1,9 @@
 -- What is gathered of the covered places is what the proof comes to at each.
-use Rattle.std.proofs.Common.{◌≡◌, ℕ, zero, suc, ◌+◌, ◌<◌, ◌≤◌, true, false, List, [], ◌∷◌, ◌++◌, take, map, length, get_or, Option, Some, None}
+use Rattle.std.proofs.Common.{◌≡◌, ℕ, zero, suc, ◌+◌, ◌<◌, ◌≤◌, true, false, List, [], ◌∷◌, ◌++◌, take, map, length, get_or, Some}
 use Rattle.std.proofs.Common.{is_some, refl, sym, ap, ◌∙◌, subst, inl, inr, arith}
 use Rattle.std.specs.Prelude.{◌⊎◌}
 use Rattle.std.specs.List.{range_with_len}
-use Rattle.std.proofs.lemmas.Bool.{cases_Bool, false≢true}
+use Rattle.std.proofs.lemmas.Bool.{cases_Bool}
 use Rattle.std.proofs.lemmas.List.{take_more, take_all}
 use Rattle.std.proofs.lemmas.Simd.{map-map}
 use Rattle.std.proofs.lemmas.List.FromFn.{get_or-map-range_with_len, length-map-range_with_len, map-range_with_len_more}
@@ -12,6 +12,8 @@ use Rattle.uo_digest.specs.declared.digest.Digest.{Digest}
 use Rattle.forest_place.specs.declared.place.Place.{Place}
 use Rattle.forest_place.proofs.Listed.{place}
 use Rattle.forest_model.specs.Cover.{Cover, target, cover, need, HasShape}
+use Rattle.forest_model.proofs.Covers.{some_from_test}
+use Rattle.forest_model.proofs.Extract.{cover-target}
 use Rattle.forest_place.specs.Places.{place_in}
 use Rattle.proof_shape.specs.Survey.{has, IsCoverOf}
 use Rattle.proof_shape.proofs.Longer.{place_where}
@@ -27,7 +29,7 @@ use Rattle.proof_verify.specs.declared.place_source.Half.TheVariants.{Covered, N
 use Rattle.proof_verify.specs.declared.place_source.PlaceSource.{PlaceSource}
 use Rattle.proof_verify.specs.declared.place_source.PlaceSource.TheVariants.{Target, Halves}
 use Rattle.proof_verify.proofs.Planned.{inside, is_covered}
-use Rattle.proof_verify.proofs.Values.{target_cover, nodes_are, halves_are}
+use Rattle.proof_verify.proofs.Values.{nodes_are, halves_are}
 
 -- halves that stand before a place are among all nodes
 pub halfwise : (os : List PlaceSource) (leaves hashes nodes : ℕ) → length os ≡ nodes → CanEvaluate os leaves hashes → AreHalfwise os nodes hashes
@@ -54,10 +56,6 @@ by_index cs (suc k) le =
 module _ (H : List ℕ → Digest) (n : ℕ) (ts cs : List Place) (os : List PlaceSource) (plan : IsPlan n ts cs os) (shape : HasShape n ts)
     (leaves hashes : List Digest) (leaves_long : length leaves ≡ length ts) (hashes_long : length hashes ≡ length (need n ts))
     (nodes : List PlaceNode) (evaluated : AreEvaluated H os leaves hashes (length os) nodes) where
-  some_cover : (x : Option Cover) → is_some x ≡ true → (c : Cover) × (x ≡ Some c)
-  some_cover None e = absurd (false≢true e)
-  some_cover (Some c) e = (c, refl)
-
   made_is : (m : ℕ) (c : Cover) → m < length cs → cover ts (place_in cs m).row (place_in cs m).off ≡ Some c
       → IsPreimage H n ts leaves hashes (place_in cs m) c (preimage_from hashes nodes (source_at os m))
   made_is m c lt e = by_target (cases_Bool (has ts (place_in cs m)))
@@ -69,7 +67,7 @@ module _ (H : List ℕ → Digest) (n : ℕ) (ts cs : List Place) (os : List Pla
           → IsPreimage H n ts leaves hashes (place_in cs m) c (preimage_from hashes nodes o)
       as_target (Target i) w it =
           let is : target (place_in cs m).row (place_in cs m).off ≡ c =
-          same_Some _ c (sym (target_cover ts (place_in cs m).row (place_in cs m).off it) ∙ e) in
+          same_Some _ c (sym (cover-target ts (place_in cs m).row (place_in cs m).off it) ∙ e) in
           subst (λ (x : Cover). IsPreimage H n ts leaves hashes (place_in cs m) x (preimage_from hashes nodes (Target i))) is w
       as_target (Halves x y) w it = absurd w
 
@@ -87,9 +85,8 @@ module _ (H : List ℕ → Digest) (n : ℕ) (ts cs : List Place) (os : List Pla
       by_target (inr none) = as_inner (source_at os m) refl none
 
   item_is : (m : ℕ) → m < length cs → IsEvaluatedAt H n ts leaves hashes (item_from cs os nodes hashes m)
-  unfolding some_cover
   item_is m lt =
-      let c = some_cover (cover ts (place_in cs m).row (place_in cs m).off) (is_covered n ts cs plan.cover_is m lt) in
+      let c = some_from_test (cover ts (place_in cs m).row (place_in cs m).off) (is_covered n ts cs plan.cover_is m lt) in
       record {
         within = inside n ts cs plan.cover_is m lt;
         beneath = c.0;

@@ -1,3 +1,4 @@
+pub mod Lists
 pub mod Formats
 pub mod GrewLaws
 pub mod CompactLaws

@@ -1,3 +1,3 @@
 pub mod DigestLaws
 mod Columns
-mod BatchLemmas
+pub mod BatchLemmas

@@ -1,6 +1,7 @@
 use Rattle.std.proofs.Common.{◌++◌, ◌∙◌, take, drop}
+use Rattle.uo_digest.proofs.BatchLemmas.{put_part}
 use Rattle.leaf_record.specs.Leaf.{tag, leaf_text}
-use Rattle.leaf_record.proofs.BatchLaws.{cut_texts, digests_behind, put_part}
+use Rattle.leaf_record.proofs.BatchLaws.{cut_texts, digests_behind}
 use Rattle.leaf_record.proofs.batch.digest_batch.Goals as goal
 
 pub returns-clause-given : goal.returns-clause-given

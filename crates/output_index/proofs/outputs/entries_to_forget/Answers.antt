@@ -1,9 +1,9 @@
 use Rattle.std.proofs.Common.{false, take, length, sym, ap, subst, arith}
 use Rattle.std.proofs.lemmas.Slice.Zip.{AllZip-long}
+use Rattle.uo_base.proofs.Lists.{take_few}
 use Rattle.output_index.specs.declared.read_entry.ReadEntry.{ReadEntry}
 use Rattle.output_index.specs.Forgetting.{IsRead, IsToForget, AreRead}
 use Rattle.output_index.proofs.Forgetting.{zip-more, zip-at}
-use Rattle.output_index.proofs.Runs.{take_few}
 use Rattle.output_index.proofs.outputs.entries_to_forget.Goals as goal
 
 pub bounds-read-at : goal.bounds-read-at

@@ -1,10 +1,11 @@
 use Rattle.std.proofs.Common.{ℕ, false, ap, sym, subst, ◌∙◌, arith, get_or, drop, ◌+◌, refl}
 use Rattle.std.proofs.lemmas.Slice.Zip.{AllZip-long}
+use Rattle.uo_base.proofs.Lists.{other_later}
 use Rattle.output_index.specs.declared.entry_to_forget.EntryToForget.{EntryToForget}
 use Rattle.output_index.specs.Held.{is_spent, without_all}
 use Rattle.output_index.specs.Forgetting.{IsToForget}
 use Rattle.output_index.proofs.HeldLaws.{spent-without_other}
-use Rattle.output_index.proofs.Forgetting.{without_all-more, other_later, to_forget-without, zip-at}
+use Rattle.output_index.proofs.Forgetting.{without_all-more, to_forget-without, zip-at}
 use Rattle.output_index.proofs.outputs.forget_each.Goals as goal
 
 pub loop-at-init : goal.loop-at-init

@@ -1,8 +1,8 @@
 use Rattle.std.proofs.Common.{take, arith}
 use Rattle.std.proofs.lemmas.Slice.Zip.{AllZip-long}
+use Rattle.uo_base.proofs.Lists.{take_few}
 use Rattle.output_index.specs.Forgetting.{IsRead}
 use Rattle.output_index.proofs.Forgetting.{zip-more}
-use Rattle.output_index.proofs.Runs.{take_few}
 use Rattle.output_index.proofs.outputs.read_entries.Goals as goal
 
 pub push-requires : goal.push-requires

@@ -1,11 +1,11 @@
 use Rattle.std.proofs.Common.{◌≡◌, List, map, length, sym, ap, ◌∙◌, subst, arith}
 use Rattle.std.specs.Prelude.{count_by}
 use Rattle.std.specs.List.{range_with_len}
+use Rattle.uo_base.proofs.Lists.{refilled}
 use Rattle.proof_verify.specs.PlaceNodes.{CanEvaluate, AreEvaluated, is_inner}
 use Rattle.proof_verify.specs.Gathered.{AreHalfwise, item_from}
 use Rattle.proof_verify.specs.declared.place_node.PlaceNode.{PlaceNode}
 use Rattle.proof_verify.specs.declared.place_source.PlaceSource.{PlaceSource}
-use Rattle.proof_verify.proofs.Links.{refilled}
 use Rattle.proof_verify.proofs.Values.{can}
 use Rattle.proof_verify.proofs.Counts.{above_few, inner_count}
 use Rattle.proof_verify.proofs.Covering.{halfwise, items_are}

@@ -3,7 +3,7 @@ use Rattle.std.specs.List.{refill}
 use Rattle.output_index.specs.declared.bucket_cell.BucketCell.{BucketCell}
 use Rattle.output_index.specs.Buckets.{in_cells, IsFirstAt}
 use Rattle.std.proofs.lemmas.List.{length-set}
-use Rattle.output_index.proofs.Replacing.{refilled}
+use Rattle.uo_base.proofs.Lists.{refilled}
 use Rattle.output_index.proofs.Cells.{set-first, set-first-others}
 use Rattle.output_index.proofs.bucket.Bucket.set.Goals as goal
 
