@@ -4,7 +4,7 @@ ghost use Rattle.std.specs.Prelude.{◌≤◌};
 mod batches;
 
 use crate::length_of;
-use digest_lanes::{Front, double_pairs_of_eight, pairs_of_four, sha256d_each};
+use digest_lanes::{Front, double_pairs_of_eight, pairs_of_four, pairs_of_two, sha256d_each};
 use sha2::{Digest, Sha256, Sha512_256};
 use std::alloc::{AllocError, Global};
 use std::process::Abort;
@@ -143,6 +143,7 @@ fn pairs(rt: HostRuntime) {
     let near = [left[0], left[1], left[2], left[3]];
     let far = [right[0], right[1], right[2], right[3]];
     let four = pairs_of_four(&near, &far);
+    let two = pairs_of_two(&[left[0], left[1]], &[right[0], right[1]]);
     for j in 0..8 {
         let mut text = [0u8; 64];
         text[..32].copy_from_slice(&left[j]);
@@ -151,6 +152,9 @@ fn pairs(rt: HostRuntime) {
         assert!(rt; doubles[j] == Sha256::digest(first.as_slice()));
         if j < 4 {
             assert!(rt; four[j] == Sha512_256::digest(text.as_slice()));
+        }
+        if j < 2 {
+            assert!(rt; two[j] == four[j]);
         }
     }
 }
