@@ -19,6 +19,7 @@ use Rattle.proof_verify.specs.Verified.{IsProofFault, IsDeleted}
 use Rattle.proof_verify.proofs.Values.{asked_all}
 use Rattle.leaf_record.specs.Leaf.{Outpoint, leaf_text}
 use Rattle.leaf_record.specs.History.{somes, History}
+use Rattle.leaf_record.proofs.HistoryLaws.{somes-map}
 use Rattle.proof_wire.specs.BlockProof.{targets_of}
 use Rattle.block_rules.specs.declared.chain.Outside.{Outside}
 use Rattle.block_rules.specs.declared.fault.RuleFault.{RuleFault}
@@ -42,8 +43,8 @@ use Rattle.node_rules.proofs.Telling.{count_told, empty_told, other_told}
 use Rattle.node_rules.specs.Judged.{IsFirst}
 use Rattle.node_rules.specs.Refusing.{proof_refusal}
 use Rattle.node_rules.proofs.ClaimedLeaves.{leaves-long}
+use Rattle.node_rules.proofs.Told.{targeted}
 use Rattle.bridge_prover.specs.Shown.{AreKnown, IsChecked, view_in}
-use Rattle.bridge_prover.proofs.Gathering.{somes-map}
 
 -- ---- what is refused of targets and hashes is a fault of the proof
 
@@ -120,9 +121,6 @@ same_in_slots H points m n f g known h =
     (slots_alike (λ row c. empty_root (f row) row) (λ row c. empty_root (g row) row) n ts n (λ row c s. ap (λ x. empty_root x row) (h row s)))
     (slots_alike (λ row c. root_differs (f row) (value c) row) (λ row c. root_differs (g row) (value c) row) n ts n
     (λ row c s. ap (λ x. root_differs x (value c) row) (h row s)))
-
-targeted : (t : Targeted) (n : ℕ) (ts : List Place) → t.leaves ≡ n → t.targets ≡ ts → t ≡ record { leaves = n; targets = ts }
-targeted t n ts a b = ap₂ (λ (k : ℕ) (ps : List Place). let x : Targeted = record { leaves = k; targets = ps } in x) a b
 
 module _ (H : List ℕ → Digest) (es : List (Option Digest)) (known : ℕ → ℕ → Option Digest) (ext : List Outside)
     (m : Message) where

@@ -5,6 +5,7 @@ use Rattle.uo_digest.specs.declared.digest.Digest.{Digest}
 use Rattle.block_codec.specs.Block.{Block, BlockFits, block_hash_of}
 use Rattle.leaf_record.specs.Leaf.{Leaf, Rest}
 use Rattle.leaf_record.specs.History.{somes}
+use Rattle.leaf_record.proofs.HistoryLaws.{somes-map}
 use Rattle.block_rules.specs.declared.chain.Found.{Found}
 use Rattle.block_rules.specs.declared.chain.Outside.{Outside}
 use Rattle.block_rules.specs.declared.fault.RuleFault.{RuleFault}
@@ -28,7 +29,6 @@ use Rattle.node_rules.proofs.Firsts.{first-in, first-behind, none-both}
 use Rattle.bridge_prover.specs.Bridge.{BridgeState, refusal_on, message_by, bridge_with}
 use Rattle.bridge_prover.specs.Judged.{AreFound, IsReady, IsPassed}
 use Rattle.bridge_prover.specs.Standing.{IsBridge}
-use Rattle.bridge_prover.proofs.Gathering.{somes-map}
 use Rattle.bridge_prover.proofs.Next.{ready}
 
 one_first : (x : Option Refusal) (fault : RuleFault) → IsFirst x fault → IsFirst (first_of (x ∷ [])) fault

@@ -24,7 +24,7 @@ use Rattle.bridge_prover.specs.Standing.{Stands, IsBridge}
 use Rattle.bridge_prover.specs.Laws.{LevelsTold}
 use Rattle.bridge_prover.specs.Full.{watched_by, history_of, is_forged_on, full_refusal_on, unless_forged, judged_on, after_shown, kept_if}
 use Rattle.bridge_prover.specs.Full.{next_judged, BridgeIsFull, NextJudgedIsBridge, LevelsJudged}
-use Rattle.bridge_prover.proofs.Giving.{length-after}
+use Rattle.node_rules.proofs.Running.{length-after}
 use Rattle.bridge_prover.proofs.Historied.{is_history, newest_history}
 use Rattle.bridge_prover.proofs.Next.{at_level, at-then, room, there}
 use Rattle.bridge_prover.proofs.Refining.{bridge_is_own, next_is_bridge}

@@ -1,17 +1,18 @@
 -- What undoes the newest blocks, while the index changes and records are dropped.
-use Rattle.std.proofs.Common.{◌≡◌, ◌≢◌, ℕ, zero, suc, ◌+◌, ◌<◌, ◌≤◌, true, false, List, [], ◌∷◌, ◌++◌, map, set, length, take, get_or, Option, Some}
-use Rattle.std.proofs.Common.{None, refl, sym, ap, ap₂, ◌∙◌, subst, ⊎_elim, arith}
+use Rattle.std.proofs.Common.{◌≡◌, ◌≢◌, ℕ, zero, suc, ◌<◌, ◌≤◌, true, false, List, [], ◌∷◌, map, set, length, take, get_or, Option, Some}
+use Rattle.std.proofs.Common.{None, refl, sym, ap, ◌∙◌, subst, ⊎_elim, arith}
 use Rattle.std.specs.Prelude.{slice_get, option_map, AllPairs}
 use Rattle.std.specs.List.{AllByRecursion}
 use Rattle.std.proofs.lemmas.Bool.{cases_Bool}
-use Rattle.std.proofs.lemmas.List.{length-set, length-append, length-map}
 use Rattle.std.proofs.lemmas.Option.{none-some, same_Some, slice_get_within}
+use Rattle.uo_base.proofs.Lists.{got_front}
 use Rattle.leaf_record.specs.Leaf.{Leaf}
 use Rattle.leaf_record.specs.History.{History, spent}
-use Rattle.leaf_record.proofs.HistoryLaws.{get-spent}
+use Rattle.leaf_record.proofs.HistoryLaws.{get-spent, length-spent}
 use Rattle.node_rules.specs.Judging.{history_after}
 use Rattle.node_rules.specs.Machine.{Level}
 use Rattle.node_rules.proofs.Newest.{AllDiffer}
+use Rattle.node_rules.proofs.Running.{length-after}
 use Rattle.output_index.specs.Held.{Held, leaf_at, is_live, is_spent, with_live, without, NumbersRise}
 use Rattle.output_index.specs.Indexed.{IsIndexOf}
 use Rattle.output_index.proofs.HeldLaws.{leaf-without_other, spent-without_other, spent_from}
@@ -40,11 +41,6 @@ got_none [] i e = refl
 got_none (x ∷ xs) zero e = same_Some x None e
 got_none (x ∷ xs) (suc i) e = got_none xs i e
 
-got_front : {X : Type 0} (xs ys : List X) (i : ℕ) (x : X) → slice_get xs i ≡ Some x → slice_get (xs ++ ys) i ≡ Some x
-got_front [] ys i x e = absurd (none-some x e)
-got_front (z ∷ xs) ys zero x e = e
-got_front (z ∷ xs) ys (suc i) x e = got_front xs ys i x e
-
 differ_at : (n : ℕ) (ns : List ℕ) → ((j d : ℕ) → j < length ns → n ≢ get_or ns j d) → AllByRecursion (λ m. n ≢ m) ns
 differ_at n [] h = tt
 differ_at n (m ∷ ns) h = (h 0 0 (omega arith), differ_at n ns (λ j d lt. h (suc j) d (omega (arith, lt))))
@@ -57,13 +53,6 @@ differ_from (n ∷ ns) a = (
 )
 
 -- ---- what was spent stays spent
-
-pub length-spent : (ns : List ℕ) (us : History) → length (spent ns us) ≡ length us
-length-spent [] us = refl
-length-spent (n ∷ ns) us = length-set (spent ns us) n None ∙ length-spent ns us
-
-pub length-after : (us : History) (ns : List ℕ) (new : List Leaf) → length (history_after us ns new) ≡ length us + length new
-length-after us ns new = length-append (spent ns us) (map Some new) ∙ ap₂ (λ a b. a + b) (length-spent ns us) (length-map new Some)
 
 abbrev pub IsGone : History → ℕ → Type 0
 IsGone us n = slice_get us n ≡ Some None

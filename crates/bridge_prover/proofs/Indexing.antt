@@ -1,7 +1,7 @@
 -- The index while a block spends and adds, and while it is undone.
-use Rattle.std.proofs.Common.{◌≡◌, ◌≢◌, ℕ, suc, ◌+◌, ◌<◌, ◌≤◌, Bool, true, false, cond, List, [], ◌∷◌, ◌++◌, length, take, drop, get_or, Some, refl}
+use Rattle.std.proofs.Common.{◌≡◌, ℕ, suc, ◌+◌, ◌<◌, ◌≤◌, Bool, true, false, cond, List, [], ◌∷◌, ◌++◌, length, take, drop, get_or, Some, refl}
 use Rattle.std.proofs.Common.{sym, ap, ◌∙◌, subst, ⊎_elim, arith, ne_eqb, eq-eqb}
-use Rattle.std.specs.Prelude.{◌==◌, ◌&&◌, ◌||◌, not, nat_lt, slice_get, AllPairs}
+use Rattle.std.specs.Prelude.{◌==◌, ◌&&◌, ◌||◌, not, nat_lt, slice_get}
 use Rattle.std.proofs.lemmas.Bool.{cases_Bool, cases_eq, lt-ltb, le-ltb, ltb-true, ltb-false}
 use Rattle.std.proofs.lemmas.List.{drop_more}
 use Rattle.leaf_record.specs.Leaf.{Leaf}
@@ -17,9 +17,6 @@ spent_step xs i hs lt = ap (λ ys. spent_in ys hs) (drop_more xs i 0 lt)
 pub unspent_step : (xs : List ℕ) (i : ℕ) (hs : List Held) → i < length xs
     → unspent_in (drop i xs) hs ≡ unspent_in (drop (i + 1) xs) (with_live (get_or xs i 0) true hs)
 unspent_step xs i hs lt = ap (λ ys. unspent_in ys hs) (drop_more xs i 0 lt)
-
-pub other_later : (xs : List ℕ) (i k : ℕ) → AllPairs (λ a b. a ≢ b) xs → i + 1 ≤ k → k < length xs → get_or xs k 0 ≢ get_or xs i 0
-other_later xs i k apart le lt e = apart i k 0 (omega arith) lt (sym e)
 
 -- ---- new entries
 pub numbered-push : (n : ℕ) (new : List Leaf) (leaf : Leaf)

@@ -3,7 +3,7 @@ use Rattle.std.proofs.Common.{◌≡◌, ℕ, suc, ◌+◌, ◌-◌, ◌/◌, �
 use Rattle.std.proofs.Common.{Some, None, Result, Ok, Err, IfOk, refl, sym, ap, ap₂, ◌∙◌, subst, arith, ⊎_elim}
 use Rattle.std.specs.Prelude.{nat_lt, ◌==◌, option_map, unwrap_or, is_some}
 use Rattle.std.specs.List.{AllByRecursion, filter, cons_option}
-use Rattle.std.proofs.lemmas.List.{take_more}
+use Rattle.std.proofs.lemmas.List.{take_more, map-append}
 use Rattle.std.proofs.lemmas.List.Elements.{filter-append}
 use Rattle.std.proofs.lemmas.Bool.{false≢true, or_cases, and_parts, false_from_ne_true, ltb-true, eqb-true}
 use Rattle.std.proofs.lemmas.Option.{none-some}
@@ -20,6 +20,7 @@ use Rattle.forest_model.specs.Cover.{HasShape, is_above}
 use Rattle.forest_model.proofs.Climbs.{tree_at-forest, nothing_beneath}
 use Rattle.forest_model.proofs.Living.{entry_found}
 use Rattle.leaf_record.specs.History.{somes}
+use Rattle.leaf_record.proofs.HistoryLaws.{somes-map}
 use Rattle.proof_shape.specs.Shape.{AreFixedTargets}
 use Rattle.proof_shape.specs.Targeted.{Targeted}
 use Rattle.node_rules.specs.Messages.{number_of}
@@ -27,7 +28,6 @@ use Rattle.node_rules.proofs.Placing.{named_by}
 use Rattle.live_forest.specs.State.{is_live}
 use Rattle.bridge_prover.specs.Bridge.{target_of}
 use Rattle.bridge_prover.specs.Watched.{places_in}
-use Rattle.bridge_prover.proofs.Gathering.{somes-map, map-append}
 use Rattle.bridge_prover.proofs.Noting.{Ascend}
 
 module _ (es : List (Option Digest)) where

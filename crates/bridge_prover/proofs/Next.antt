@@ -6,12 +6,14 @@ use Rattle.std.specs.List.{AllByRecursion}
 use Rattle.std.proofs.lemmas.Bool.{and_parts, ltb-true, leb-true}
 use Rattle.std.proofs.lemmas.List.{length-map, length-append, append-nil, set-append_left, length-take}
 use Rattle.std.proofs.lemmas.Option.{slice_get_within}
+use Rattle.std.proofs.lemmas.List.Elements.{All-from_recursion}
 use Rattle.uo_digest.specs.declared.digest.Digest.{Digest}
 use Rattle.forest_model.specs.Right.{entries}
 use Rattle.forest_model.specs.Deletion.{entries_without}
 use Rattle.block_codec.specs.Block.{Block}
 use Rattle.leaf_record.specs.Leaf.{Leaf, leaf_text}
 use Rattle.leaf_record.specs.History.{History, spent}
+use Rattle.leaf_record.proofs.HistoryLaws.{length-spent}
 use Rattle.block_rules.specs.declared.chain.Chain.{Chain}
 use Rattle.block_rules.specs.declared.refusal.Refusal.TheVariants as Why
 use Rattle.block_rules.specs.Steps.{unless, first_of}
@@ -23,6 +25,7 @@ use Rattle.node_rules.specs.Judging.{Rules, Evidence, own, refusal, history_afte
 use Rattle.node_rules.specs.Machine.{Level, State}
 use Rattle.node_rules.proofs.Righting.{got_back, got_entry}
 use Rattle.node_rules.proofs.Spending.{entries-after}
+use Rattle.node_rules.proofs.Running.{length-after}
 use Rattle.output_index.specs.Held.{Held, IsAbove, is_live, is_spent, leaf_at, with_live, NumbersRise}
 use Rattle.output_index.specs.Indexed.{IsIndexOf}
 use Rattle.output_index.proofs.Standing.{inserted_is_added, spent_is_spent, there_is_live}
@@ -34,9 +37,9 @@ use Rattle.bridge_prover.specs.Bridge.{BridgeState, refusal_on, record_of, dropp
 use Rattle.bridge_prover.specs.Judged.{IsReady}
 use Rattle.bridge_prover.specs.Standing.{IsLiveIn, Undoes, GiveBack, Stands, IsBridge}
 use Rattle.bridge_prover.proofs.Indexing.{above-numbered, append_same}
-use Rattle.bridge_prover.proofs.Owning.{all_index, own_same, live_each, apart}
+use Rattle.bridge_prover.proofs.Owning.{own_same, live_each, apart}
 use Rattle.bridge_prover.proofs.Rising.{all_mapped, rise-numbered, rise-spent, rise-forgotten, above-forgotten, leaf-append, leaf-spent}
-use Rattle.bridge_prover.proofs.Giving.{length-spent, length-after, differ_from, IsGone, gone_after, GoneIn, IsOld, all_old, give_held, give_taken}
+use Rattle.bridge_prover.proofs.Giving.{differ_from, IsGone, gone_after, GoneIn, IsOld, all_old, give_held, give_taken}
 use Rattle.bridge_prover.proofs.Giving.{got_none, give_forgotten, spent_there, index-forgotten}
 
 -- the bridge stands for these levels, and its index is in order
@@ -258,17 +261,17 @@ module _ (H : List ℕ → Digest) (s : BridgeState) (is : IsBridge H s) (ns : L
   -- it may be taken
   pub can_take : length ns < 2 ^ 32 → IsReady H s hash ns new
   can_take short = record {
-    live = all_index _ _ live-entries;
-    held = all_index _ _ live-held;
+    live = All-from_recursion _ _ live-entries;
+    held = All-from_recursion _ _ live-held;
     apart = differ;
     short = short;
     counted = ap length is.stands.entries ∙ (length-map t.now.history _ ∙ sym (ap (λ (c : Chain). c.leaves) is.stands.chain));
     few = omega (arith, fits.1, is.few);
     low = fits.0;
-    old = all_index _ _ (old_spent H t s here ns new live differ);
+    old = All-from_recursion _ _ (old_spent H t s here ns new live differ);
     old_apart = (old H t s here ns new live differ).1;
-    old_given = all_index _ _ old-given;
-    old_gone = all_index _ _ old-gone;
+    old_given = All-from_recursion _ _ old-given;
+    old_gone = All-from_recursion _ _ old-gone;
     next = there;
   }
 

@@ -4,12 +4,14 @@ use Rattle.std.proofs.Common.{ap, ap₂, ◌∙◌, subst, ⊎_elim, arith, ne_e
 use Rattle.std.specs.Prelude.{◌==◌, ◌&&◌, ◌||◌, not, nat_lt, option_map, is_some, slice_get, if◌then◌else◌}
 use Rattle.std.specs.List.{AllByRecursion, filter}
 use Rattle.std.proofs.lemmas.Bool.{cases_Bool, cases_eq, false≢true, eqb-true}
+use Rattle.std.proofs.Math.Bool.{or-false, or-true}
 use Rattle.leaf_record.specs.Leaf.{Leaf}
 use Rattle.leaf_record.specs.History.{History, Entry}
 use Rattle.cache_model.specs.Known.{is_watched, kept_from, kept}
 use Rattle.output_index.specs.Held.{Held, held_at, leaf_at, is_live, with_live_at, with_live, without, NumbersRise}
 use Rattle.output_index.specs.Indexed.{entry_of, lives, lives_from, IsIndexOf}
-use Rattle.output_index.proofs.HeldLaws.{leaf-without_other}
+use Rattle.output_index.proofs.HeldLaws.{leaf-without_other, leaf-without_same}
+use Rattle.output_index.proofs.Standing.{later_not}
 use Rattle.bridge_prover.specs.Own.{numbered, spent_in, forgotten_in, cut_in, unspent_in}
 use Rattle.bridge_prover.specs.Watched.{scripts_of, is_noted, noted_in, kept_in}
 use Rattle.bridge_prover.proofs.Gathering.{took_more}
@@ -148,19 +150,10 @@ module _ (scripts : List (List ℕ)) where
 
   -- ---- what is not held any more
 
-  gone-here : (n : ℕ) (hs : List Held) → leaf_at n (without n hs) ≡ None
-  gone-here n [] = refl
-  gone-here n (h ∷ hs) =
-      ⊎_elim
-      (λ t. ap (λ b. leaf_at n (cond (not b) (h ∷ without n hs) (without n hs))) t ∙ gone-here n hs)
-      (λ f. ap (λ b. leaf_at n (cond (not b) (h ∷ without n hs) (without n hs))) f
-      ∙ (ap (λ b. option_map (λ (x : Held). x.leaf) (if b then Some h else held_at n (without n hs))) f ∙ gone-here n hs))
-      (cases_Bool (h.number == n))
-
   gone-still : (n m : ℕ) (hs : List Held) → leaf_at n hs ≡ None → leaf_at n (without m hs) ≡ None
   gone-still n m hs e =
       ⊎_elim
-      (λ same. subst (λ k. leaf_at n (without k hs) ≡ None) same (gone-here n hs))
+      (λ same. subst (λ k. leaf_at n (without k hs) ≡ None) same (leaf-without_same n hs))
       (λ other. leaf-without_other m n hs other ∙ e)
       (cases_eq n m)
 
@@ -176,7 +169,7 @@ module _ (scripts : List (List ℕ)) where
       noted-forgotten ns (without n hs)
       ∙ (ap (filter (λ i. is_some (leaf_at i last))) (noted-filtered (λ i. not (i == n)) hs)
       ∙ filter_twice (λ i. is_some (leaf_at i last)) (λ i. not (i == n)) (λ i f. ap (λ k. is_some (leaf_at k last)) (is_same i (i == n) refl f)
-      ∙ ap is_some (gone-later n ns (without n hs) (gone-here n hs))) (noted_in scripts hs))
+      ∙ ap is_some (gone-later n ns (without n hs) (leaf-without_same n hs))) (noted_in scripts hs))
     where
       is_same : (i : ℕ) (b : Bool) → (i == n) ≡ b → not b ≡ false → i ≡ n
       is_same i true e f = eqb-true i n e
@@ -212,10 +205,6 @@ module _ (scripts : List (List ℕ)) where
       by_case true r = (a.0, r)
       by_case false r = r
 
-  none-live : (n : ℕ) (hs : List Held) → AllByRecursion (λ h. n < h.number) hs → is_live n hs ≡ false
-  none-live n [] a = refl
-  none-live n (h ∷ hs) a = ap (λ b. b && h.live || is_live n hs) (ne_eqb h.number n (λ e. let lt = a.0 in omega (arith, lt, e))) ∙ none-live n hs a.1
-
   abbrev kept_held : List Held → List Held
   kept_held hs = filter (λ (h : Held). h.live && is_noted scripts h) hs
 
@@ -229,13 +218,9 @@ module _ (scripts : List (List ℕ)) where
       (all_noted (λ i. is_live i (h ∷ hs) ≡ is_live i hs) hs (all_mapped (λ (x : Held). h.number < x.number)
       (λ (x : Held). is_live x.number (h ∷ hs) ≡ is_live x.number hs) (λ x lt. other_live h hs x.number lt) hs a))
 
-  or_none : (b : Bool) → (b || false) ≡ b
-  or_none true = refl
-  or_none false = refl
-
   first_live : (h : Held) (hs : List Held) → AllByRecursion (λ other. h.number < other.number) hs → is_live h.number (h ∷ hs) ≡ h.live
   first_live h hs a = ap (λ b. b && h.live || is_live h.number hs) (eq-eqb h.number h.number refl)
-      ∙ (ap (λ b. h.live || b) (none-live h.number hs a) ∙ or_none h.live)
+      ∙ (ap (λ b. h.live || b) (later_not h.number hs a) ∙ or-false h.live)
 
   pub kept-live : (hs : List Held) → NumbersRise hs → filter (λ i. is_live i hs) (noted_in scripts hs) ≡ kept_in scripts hs
   kept-live [] r = refl
@@ -315,12 +300,8 @@ module _ (scripts : List (List ℕ)) where
   kept_live [] = tt
   kept_live (h ∷ hs) = by_case (h.live && is_noted scripts h) refl
       (all_mapped (λ i. is_live i hs ≡ true) (λ i. is_live i (h ∷ hs) ≡ true)
-      (λ i e. ap (λ b. h.number == i && h.live || b) e ∙ or_true (h.number == i && h.live)) (kept_in scripts hs) (kept_live hs))
+      (λ i e. ap (λ b. h.number == i && h.live || b) e ∙ or-true (h.number == i && h.live)) (kept_in scripts hs) (kept_live hs))
     where
-      or_true : (b : Bool) → (b || true) ≡ true
-      or_true true = refl
-      or_true false = refl
-
       is_live_one : (b c : Bool) → (b && c) ≡ true → b ≡ true
       is_live_one true c e = refl
       is_live_one false c e = absurd (false≢true e)

@@ -28,13 +28,14 @@ use Rattle.live_forest.specs.Blocks.{all_restored}
 use Rattle.output_index.specs.Held.{Held}
 use Rattle.reorg_undo.specs.Undo.{UndoRecord}
 use Rattle.node_rules.specs.Machine.{gone_to}
+use Rattle.node_rules.proofs.Running.{length-after}
 use Rattle.bridge_prover.specs.Own.{own_in, cut_in, unspent_in}
 use Rattle.bridge_prover.specs.Bridge.{BridgeState, fresh_bridge, refusal_on, chain_before, chain_back, restored_in, verdict_on, bridge_with}
 use Rattle.bridge_prover.specs.Bridge.{bridge_by, after_block, undone_by, gone_back, next_bridge, proof_by, message_by, told_if, message_on}
 use Rattle.bridge_prover.specs.Judged.{CanUndo}
 use Rattle.bridge_prover.specs.Standing.{GiveBack, Stands, IsBridge}
 use Rattle.bridge_prover.specs.Laws.{own_outcome, text_by, BridgeIsOwn, FreshStands, FreshIsBridge, NextIsBridge}
-use Rattle.bridge_prover.proofs.Giving.{length-after, older_few}
+use Rattle.bridge_prover.proofs.Giving.{older_few}
 use Rattle.bridge_prover.proofs.Owning.{own_same, proof_same}
 use Rattle.bridge_prover.proofs.Next.{IsAt, at_level, at-then, own_live, own_apart, next_is}
 use Rattle.bridge_prover.proofs.Undoing.{at-undone, can_undo}

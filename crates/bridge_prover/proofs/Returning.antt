@@ -1,12 +1,14 @@
 -- Entries that a block spends, and that are live again once it is undone.
 use Rattle.std.proofs.Common.{◌≡◌, ℕ, zero, suc, ◌<◌, Bool, true, false, List, [], ◌∷◌, length, get_or, All, refl, sym, ap, ap₂, ◌∙◌, subst, ⊎_elim}
-use Rattle.std.proofs.Common.{arith, ne_eqb, eq-eqb, ◌++◌, ◌+◌, ◌≤◌}
+use Rattle.std.proofs.Common.{arith, eq-eqb, ◌++◌, ◌+◌, ◌≤◌}
 use Rattle.std.specs.Prelude.{◌==◌, ◌&&◌, ◌||◌, not}
 use Rattle.std.specs.List.{AllByRecursion, list_any}
 use Rattle.std.proofs.lemmas.Bool.{cases_Bool, eqb-true, false≢true, or_parts}
 use Rattle.std.proofs.lemmas.List.Elements.{recursion_from_All}
+use Rattle.std.proofs.Math.Bool.{or-true}
 use Rattle.leaf_record.specs.Leaf.{Leaf}
 use Rattle.output_index.specs.Held.{Held, is_live, is_spent, with_live_at, with_live, IsAbove, NumbersRise}
+use Rattle.output_index.proofs.Standing.{later_not}
 use Rattle.bridge_prover.specs.Own.{numbered, spent_in, cut_in, unspent_in}
 use Rattle.bridge_prover.proofs.Rising.{all_mapped, all_both, rise-numbered, above-spent}
 use Rattle.bridge_prover.proofs.Indexing.{above-numbered, live-numbered, cut_added}
@@ -84,10 +86,6 @@ given_all ns (h ∷ hs) a =
 
 -- ---- the entry of a live number is live
 
-none_live : (n : ℕ) (hs : List Held) → AllByRecursion (λ h. n < h.number) hs → is_live n hs ≡ false
-none_live n [] a = refl
-none_live n (h ∷ hs) a = ap (λ b. b && h.live || is_live n hs) (ne_eqb h.number n (λ e. let lt = a.0 in omega (arith, e, lt))) ∙ none_live n hs a.1
-
 first_live : (a b c : Bool) → (a && b || c) ≡ true → c ≡ false → b ≡ true
 first_live a true c l f = refl
 first_live true false c l f = absurd (false≢true (sym f ∙ l))
@@ -97,7 +95,7 @@ live_named : (n : ℕ) (hs : List Held) → NumbersRise hs → is_live n hs ≡ 
 live_named n [] r l = tt
 live_named n (h ∷ hs) r l = (
   λ t. first_live (h.number == n) h.live (is_live n hs) l
-      (none_live n hs (subst (λ m. AllByRecursion (λ (x : Held). m < x.number) hs) (eqb-true h.number n t) r.0)),
+      (later_not n hs (subst (λ m. AllByRecursion (λ (x : Held). m < x.number) hs) (eqb-true h.number n t) r.0)),
   ⊎_elim
       (λ t. all_mapped (λ (x : Held). h.number < x.number) (λ (x : Held). (x.number == n) ≡ true → x.live ≡ true)
       (λ x lt s. let e = eqb-true h.number n t in let q = eqb-true x.number n s in absurd (omega (arith, e, q, lt))) hs r.0)
@@ -124,14 +122,10 @@ given_back ns hs r a = given_all ns hs (all_named ns hs r (recursion_from_All (�
 
 -- ---- what is spent
 
-or_true : (b : Bool) → (b || true) ≡ true
-or_true true = refl
-or_true false = refl
-
 listed : (ns : List ℕ) (k d : ℕ) → k < length ns → list_any (λ n. get_or ns k d == n) ns ≡ true
 listed [] k d lt = absurd (omega (arith, lt))
 listed (n ∷ ns) zero d lt = ap (λ b. b || list_any (λ m. n == m) ns) (eq-eqb n n refl)
-listed (n ∷ ns) (suc k) d lt = ap (λ b. get_or ns k d == n || b) (listed ns k d (omega (arith, lt))) ∙ or_true (get_or ns k d == n)
+listed (n ∷ ns) (suc k) d lt = ap (λ b. get_or ns k d == n || b) (listed ns k d (omega (arith, lt))) ∙ or-true (get_or ns k d == n)
 
 spent_one : (i : ℕ) (ns : List ℕ) (hs : List Held) → list_any (λ n. i == n) ns ≡ true → is_live i hs ≡ true → is_spent i (spent_in ns hs) ≡ true
 spent_one i ns [] m l = absurd (false≢true l)
@@ -143,7 +137,7 @@ spent_one i ns (h ∷ hs) m l =
     ∙ ap (λ b. b && true || is_spent i (spent_in ns hs)) t)
     (λ f. ap (λ b. (set_at false ns h).number == i && not (set_at false ns h).live || b)
     (spent_one i ns hs m (subst (λ b. (b && h.live || is_live i hs) ≡ true) f l))
-    ∙ or_true ((set_at false ns h).number == i && not (set_at false ns h).live))
+    ∙ or-true ((set_at false ns h).number == i && not (set_at false ns h).live))
     (cases_Bool (h.number == i))
 
 -- live entries are spent once these numbers were spent

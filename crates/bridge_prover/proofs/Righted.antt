@@ -6,6 +6,7 @@ use Rattle.std.specs.Global.{Vec}
 use Rattle.std.proofs.lemmas.Bool.{and_from}
 use Rattle.std.proofs.lemmas.List.{length-map, length-drop, map-append, take_all, drop_more}
 use Rattle.std.proofs.lemmas.Option.{none-some, same_Some, slice_get-get_or, slice_get-map}
+use Rattle.uo_base.proofs.Lists.{one_more}
 use Rattle.uo_digest.specs.declared.digest.Digest.{Digest}
 use Rattle.forest_place.specs.declared.place.Place.{Place}
 use Rattle.forest_place.proofs.Ascending.{distinct_from_ascending}
@@ -18,6 +19,7 @@ use Rattle.forest_model.proofs.Lists.{need_ascending}
 use Rattle.forest_model.proofs.Unique.{tree_at-leaves}
 use Rattle.leaf_record.specs.Leaf.{Rest, Leaf, leaf_text}
 use Rattle.leaf_record.specs.History.{somes, History}
+use Rattle.leaf_record.proofs.HistoryLaws.{somes-map}
 use Rattle.proof_wire.specs.BlockProof.{rests_of}
 use Rattle.proof_shape.specs.Targeted.{Targeted}
 use Rattle.block_rules.specs.declared.chain.Outside.{Outside}
@@ -31,14 +33,12 @@ use Rattle.node_rules.specs.Filled.{filled}
 use Rattle.node_rules.proofs.Filling.{filled_is}
 use Rattle.node_rules.proofs.Judging.{known_is}
 use Rattle.node_rules.proofs.Righting.{got, got_entry, digests_from, digests_back}
-use Rattle.node_rules.proofs.Told.{one_more}
 use Rattle.cache_model.specs.Known.{known_at}
 use Rattle.output_index.specs.Held.{Held, leaf_at, NumbersRise}
 use Rattle.output_index.specs.Indexed.{IsIndexOf}
 use Rattle.output_index.proofs.Standing.{there_is_live}
 use Rattle.node_rules.proofs.ClaimedLeaves.{claim_at, claims-long}
 use Rattle.bridge_prover.specs.Shown.{IsHistory, if_claimed, claimed_at, all_claimed, AreAllOf, Shows}
-use Rattle.bridge_prover.proofs.Gathering.{somes-map}
 
 -- ---- the loop over the spends
 

@@ -4,6 +4,7 @@ use Rattle.std.specs.Prelude.{◌==◌, ◌&&◌, ◌||◌, not, nat_lt, option_
 use Rattle.std.specs.List.{AllByRecursion, filter, list_any}
 use Rattle.std.proofs.lemmas.Bool.{cases_Bool, eqb-true, ltb-false}
 use Rattle.std.proofs.lemmas.Option.{none-some}
+use Rattle.uo_base.proofs.Lists.{all-append}
 use Rattle.leaf_record.specs.Leaf.{Leaf}
 use Rattle.output_index.specs.Held.{Held, held_at, leaf_at, is_live, is_spent, with_live_at, with_live, IsAbove, NumbersRise}
 use Rattle.output_index.proofs.HeldLaws.{above-with_live}
@@ -19,10 +20,6 @@ pub all_both : {X : Type 0} (P Q R : X → Type 0) → ((x : X) → P x → Q x 
     → AllByRecursion R xs
 all_both P Q R f [] a b = tt
 all_both P Q R f (x ∷ xs) a b = (f x a.0 b.0, all_both P Q R f xs a.1 b.1)
-
-all_append : {X : Type 0} (P : X → Type 0) (xs ys : List X) → AllByRecursion P xs → AllByRecursion P ys → AllByRecursion P (xs ++ ys)
-all_append P [] ys a b = b
-all_append P (x ∷ xs) ys a b = (a.0, all_append P xs ys a.1 b)
 
 all_filtered : {X : Type 0} (P : X → Type 0) (p : X → Bool) (xs : List X) → AllByRecursion P xs → AllByRecursion P (filter p xs)
 all_filtered P p [] a = tt
@@ -117,7 +114,7 @@ numbered-rise n (x ∷ new) = (numbered-above n (suc n) new (omega arith), numbe
 pub rise-numbered : (n : ℕ) (new : List Leaf) (hs : List Held) → NumbersRise hs → IsAbove n hs → NumbersRise (hs ++ numbered n new)
 rise-numbered n new [] r a = numbered-rise n new
 rise-numbered n new (h ∷ hs) r a = (
-  all_append (λ (x : Held). h.number < x.number) hs (numbered n new) r.0 (numbered-above h.number n new a.0),
+  all-append (λ (x : Held). h.number < x.number) hs (numbered n new) r.0 (numbered-above h.number n new a.0),
   rise-numbered n new hs r.1 a.1,
 )
 

@@ -5,7 +5,7 @@ use Rattle.std.specs.Prelude.{◌==◌, ◌&&◌, option_map, unwrap_or, is_some
 use Rattle.std.specs.List.{AllByRecursion, filter, filter_map, flat_map}
 use Rattle.std.specs.List.Sorted.{IsPermutation}
 use Rattle.std.proofs.Math.Path.{fun_ext}
-use Rattle.std.proofs.lemmas.List.{append-nil, append_assoc, get_or-map, length-map, take_more}
+use Rattle.std.proofs.lemmas.List.{append-nil, append_assoc, get_or-map, length-map, take_more, map-append}
 use Rattle.std.proofs.lemmas.List.Concat.{flat_map-append, flat_map-cons}
 use Rattle.std.proofs.lemmas.List.Elements.{filter-append, recursion_from_All}
 use Rattle.std.proofs.lemmas.List.Sorted.{All-permutation, list_any-IsPermutation}
@@ -41,7 +41,7 @@ use Rattle.output_index.proofs.HeldLaws.{live_is_held}
 use Rattle.bridge_prover.specs.Bridge.{target_of, spend_of, spends_by}
 use Rattle.bridge_prover.specs.Own.{leaves_in}
 use Rattle.bridge_prover.specs.Draft.{hashes_unknown}
-use Rattle.bridge_prover.proofs.Gathering.{map-append, mapped_more}
+use Rattle.bridge_prover.proofs.Gathering.{mapped_more}
 
 pub live_within : (es : List (Option Digest)) (i : ℕ) (p : Place) → is_some (get_or es i None) ≡ true
     → tree_at es p.row p.off ≡ option_map (leaf i) (get_or es i None) → InForest (length es) p.row p.off

@@ -5,14 +5,17 @@ use Rattle.std.specs.Prelude.{◌==◌, ◌||◌, slice_get, option_map, is_some
 use Rattle.std.specs.List.{AllByRecursion, list_any}
 use Rattle.std.proofs.lemmas.List.{length-map, length-append, length-take, append-nil, get_or-take}
 use Rattle.std.proofs.lemmas.Option.{slice_get_within}
+use Rattle.std.proofs.lemmas.List.Elements.{All-from_recursion}
 use Rattle.uo_digest.specs.declared.digest.Digest.{Digest}
 use Rattle.forest_model.specs.Right.{entries}
 use Rattle.forest_model.specs.Deletion.{entries_without}
 use Rattle.leaf_record.specs.Leaf.{Leaf, leaf_text}
 use Rattle.leaf_record.specs.History.{History, somes, spent}
+use Rattle.leaf_record.proofs.HistoryLaws.{length-spent}
 use Rattle.block_rules.specs.declared.chain.Chain.{Chain}
 use Rattle.node_rules.specs.Machine.{Level}
 use Rattle.node_rules.proofs.Righting.{got_back, got_entry}
+use Rattle.node_rules.proofs.Running.{length-after}
 use Rattle.live_forest.specs.State as forest
 use Rattle.live_forest.specs.Blocks.{all_restored}
 use Rattle.live_forest.proofs.Undoing.{undone}
@@ -25,9 +28,8 @@ use Rattle.bridge_prover.specs.Bridge.{BridgeState, restored_at, restored_in, un
 use Rattle.bridge_prover.specs.Judged.{CanUndo}
 use Rattle.bridge_prover.specs.Standing.{IsLiveIn, Undoes, AreHeld, GiveBack}
 use Rattle.bridge_prover.proofs.Indexing.{append_same, cut_all, cut_above, cut_step}
-use Rattle.bridge_prover.proofs.Owning.{all_index}
 use Rattle.bridge_prover.proofs.Rising.{all_mapped, all_both, rise-filter, rise-unspent, above-unspent, leaf-unspent, leaf-cut}
-use Rattle.bridge_prover.proofs.Giving.{length-spent, length-after, differ_from, IsGone, spent_gone, all_gone, give_held, spent_there, WasLive}
+use Rattle.bridge_prover.proofs.Giving.{differ_from, IsGone, spent_gone, all_gone, give_held, spent_there, WasLive}
 use Rattle.bridge_prover.proofs.Giving.{got_none, index-unspent}
 use Rattle.bridge_prover.proofs.Next.{IsAt, entries-then}
 
@@ -195,14 +197,15 @@ module _ (H : List ℕ → Digest) (s : BridgeState) (now older : Level) (ls : L
       added = λ i le lt. let l = all_live i le (omega (arith, lt, entries_long)) in
           ap is_some (entry_at i ∙ ap (option_map (λ r. H (leaf_text r))) (got_back now.history i l.0 l.1));
       added_held = λ i le lt. let l = all_live i le lt in (there_is_live i l.0 s.held now.history k.rise k.index l.1).0;
-      given = all_index _ _ (all_mapped (WasLive left older.history) (λ n. n < length (take u.leaves s.entries))
+      given = All-from_recursion _ _ (all_mapped (WasLive left older.history) (λ n. n < length (take u.leaves s.entries))
           (λ n v. let below = slice_get_within older.history n (Some v.leaf) v.live in omega (arith, below, leaves, front_long)) u.spent was_live);
-      spent = all_index _ _ (all_both (WasLive left older.history) (IsGone now.history) (λ n. forest.is_live (take u.leaves s.entries) n ≡ false)
+      spent = All-from_recursion _ _
+          (all_both (WasLive left older.history) (IsGone now.history) (λ n. forest.is_live (take u.leaves s.entries) n ≡ false)
           (λ n v gone.
           let below = slice_get_within older.history n (Some v.leaf) v.live in
           ap is_some (get_or-take u.leaves s.entries n None (omega (arith, below, leaves))
           ∙ (entry_at n ∙ ap (option_map (λ r. H (leaf_text r))) (got_none now.history n gone))))
           u.spent was_live (subst (λ x. AllByRecursion (IsGone x) u.spent) (sym w.after) (all_gone older.history u.spent w.new w.live)));
-      spent_held = all_index _ _ (all_mapped (WasLive left older.history) (λ n. is_spent n left ≡ true) (λ n v. v.spent) u.spent was_live);
+      spent_held = All-from_recursion _ _ (all_mapped (WasLive left older.history) (λ n. is_spent n left ≡ true) (λ n v. v.spent) u.spent was_live);
       apart = w.apart;
     }

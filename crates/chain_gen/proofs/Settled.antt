@@ -9,6 +9,7 @@ use Rattle.std.proofs.lemmas.List.{length-append, length-map, length-drop, get_o
 use Rattle.std.proofs.lemmas.List.Edits.{remove-append_left, remove-append_right}
 use Rattle.std.proofs.lemmas.List.FromFn.{length-range_with_len, get_or-range_with_len}
 use Rattle.std.proofs.Math.Seq.{take-length}
+use Rattle.uo_base.proofs.Lists.{all-append}
 use Rattle.chain_gen.specs.declared.coin.Coin.{Coin}
 use Rattle.chain_gen.specs.Draws.{next_word, drawn}
 use Rattle.chain_gen.specs.Coins.{zeros, is_ripe, ripe_from, coin_at}
@@ -23,10 +24,6 @@ purse height coins = record { height = height; coins = coins }
 
 -- ---- lists
 
-all_append : {X : Type 0} (P : X → Type 0) (xs ys : List X) → AllByRecursion P xs → AllByRecursion P ys → AllByRecursion P (xs ++ ys)
-all_append P [] ys a b = b
-all_append P (x ∷ xs) ys a b = (a.0, all_append P xs ys a.1 b)
-
 all_take : {X : Type 0} (P : X → Type 0) (n : ℕ) (xs : List X) → AllByRecursion P xs → AllByRecursion P (take n xs)
 all_take P zero xs a = tt
 all_take P (suc n) [] a = tt
@@ -38,7 +35,7 @@ all_drop P (suc n) [] a = tt
 all_drop P (suc n) (x ∷ xs) a = all_drop P n xs a.1
 
 all_remove : {X : Type 0} (P : X → Type 0) (xs : List X) (i : ℕ) → AllByRecursion P xs → AllByRecursion P (remove xs i)
-all_remove P xs i a = all_append P (take i xs) (drop (suc i) xs) (all_take P i xs a) (all_drop P (suc i) xs a)
+all_remove P xs i a = all-append P (take i xs) (drop (suc i) xs) (all_take P i xs a) (all_drop P (suc i) xs a)
 
 all_each : {X : Type 0} (P Q : X → Type 0) (xs : List X) → ((x : X) → P x → Q x) → AllByRecursion P xs → AllByRecursion Q xs
 all_each P Q [] f a = tt
@@ -63,7 +60,7 @@ pub ripe-less : (height : ℕ) (coins : List Coin) (k : ℕ) → AllRipe height 
 ripe-less height coins k r = all_remove (λ c. is_ripe height c ≡ true) coins k r
 
 pub ripe-more : (height : ℕ) (coins more : List Coin) → AllRipe height coins → AllRipe height more → AllRipe height (coins ++ more)
-ripe-more height coins more r s = all_append (λ c. is_ripe height c ≡ true) coins more r s
+ripe-more height coins more r s = all-append (λ c. is_ripe height c ≡ true) coins more r s
 
 -- ---- places of the ripe ones
 

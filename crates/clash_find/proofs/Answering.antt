@@ -7,6 +7,7 @@ use Rattle.std.specs.Option.{option_or}
 use Rattle.std.proofs.lemmas.Bool.{cases_Bool, cases_eq, cases_lt, false≢true, false_from_ne_true, or_cases, or_left, or_right}
 use Rattle.std.proofs.lemmas.List.{length-map, get_or_default}
 use Rattle.std.proofs.lemmas.Option.{none-some, same_Some, slice_get-map}
+use Rattle.std.proofs.lemmas.List.Elements.{All-from_recursion}
 use Rattle.uo_digest.specs.declared.digest.Digest.{Digest}
 use Rattle.forest_place.specs.declared.place.Place.{Place}
 use Rattle.forest_place.specs.Forest.{InForest, is_root, is_slot, root_off}
@@ -85,7 +86,7 @@ first-is f (q ∷ qs) p c a i e before =
 is_there : (d : Digest) (x : Option Digest) → x ≡ Some d → is_digest d x ≡ true
 is_there d x e = ap (is_digest d) e ∙ is_same-same d
 
-there_is : (d : Digest) (x : Option Digest) → is_digest d x ≡ true → x ≡ Some d
+pub there_is : (d : Digest) (x : Option Digest) → is_digest d x ≡ true → x ≡ Some d
 there_is d None h = absurd (false≢true h)
 there_is d (Some e) h = ap Some (sym (is_same-true d e h))
 
@@ -123,7 +124,7 @@ target_is ts (suc r) o a b e =
     no_target (Some x) (Some y) e = absurd (let z = same_Some _ _ e in cc)
 
 -- what has a digest is there
-standing : (H : List ℕ → Digest) (x : Option Tree) (d : Digest) → option_map (digest_of H) x ≡ Some d → (t : Tree) × (x ≡ Some t)
+pub standing : (H : List ℕ → Digest) (x : Option Tree) (d : Digest) → option_map (digest_of H) x ≡ Some d → (t : Tree) × (x ≡ Some t)
     × (digest_of H t ≡ d)
 standing H None d e = absurd (none-some d e)
 standing H (Some t) d e = (t, refl, same_Some _ _ e)
@@ -178,7 +179,7 @@ module _ (H : List ℕ → Digest) (long : (x : List ℕ) → IsDigest (H x)) (u
   each_entry = entry_texts H leaf_text long LeafFits no_pair one_leaf us fit
 
   -- a node that stands has a text
-  node_shown : (r o : ℕ) (t : Tree) → tree_at es r o ≡ Some t → text_at H es outputs r o ≡ Some (node_text_of t)
+  pub node_shown : (r o : ℕ) (t : Tree) → tree_at es r o ≡ Some t → text_at H es outputs r o ≡ Some (node_text_of t)
   node_shown r o t s = ap (option_and_then (tree_text H outputs)) s ∙ by_tree t s
     where
       by_tree : (t : Tree) → tree_at es r o ≡ Some t → tree_text H outputs t ≡ Some (node_text_of t)
@@ -195,6 +196,14 @@ module _ (H : List ℕ → Digest) (long : (x : List ℕ) → IsDigest (H x)) (u
   -- what a cover comes to, by the digests of the leaves
   comes_to : (c : Cover) → evaluation H n ts k (digests_of H rs) hs c ≡ V c
   comes_to c = value-same H (beside (H []) ts (digests_of H rs)) (λ r o. H (leaf_texts r o)) hashes (leaves_are H leaf_text ts rs) c
+
+  pub leaf_other : AllByRecursion LeafFits rs → (r o : ℕ) → length (leaf_texts r o) ≢ 64
+  leaf_other fits r o = beside_other ts (map leaf_text rs) r o (all_other rs fits)
+    where
+      all_other : (ls : List Leaf) → AllByRecursion LeafFits ls → All (λ x. length x ≢ 64) (map leaf_text ls)
+      all_other [] h j d lt = absurd (omega (arith, lt))
+      all_other (l ∷ ls) h zero d lt = no_pair l h.0
+      all_other (l ∷ ls) h (suc j) d lt = all_other ls h.1 j d (omega (arith, lt))
 
   module _ (items : List CoveredPlace) (ready : IsReady H n ts rs k hs items) where
     -- ---- what the items say, by what is digested with the shown hashes and the known ones
@@ -343,29 +352,17 @@ module _ (H : List ℕ → Digest) (long : (x : List ℕ) → IsDigest (H x)) (u
         let g = compared w.0 blank w.1 digest (node_text_of t) (node_shown item.place.row item.place.off t there) in
         (g.0 ∙ (it.text ∙ ap cover_text_of same), subst (HasDigests H es text_of ts leaf_texts hashes) same (it.whole g.1))
 
-    leaf_other : (r o : ℕ) → length (leaf_texts r o) ≢ 64
-    leaf_other r o = beside_other ts (map leaf_text rs) r o (all_other rs ready.fit)
-      where
-        all_other : (ls : List Leaf) → AllByRecursion LeafFits ls → All (λ x. length x ≢ 64) (map leaf_text ls)
-        all_other [] h j d lt = absurd (omega (arith, lt))
-        all_other (l ∷ ls) h zero d lt = no_pair l h.0
-        all_other (l ∷ ls) h (suc j) d lt = all_other ls h.1 j d (omega (arith, lt))
-
-    all_fit : (ls : List Leaf) → AllByRecursion LeafFits ls → All LeafFits ls
-    all_fit [] h j d lt = absurd (omega (arith, lt))
-    all_fit (l ∷ ls) h zero d lt = h.0
-    all_fit (l ∷ ls) h (suc j) d lt = all_fit ls h.1 j d (omega (arith, lt))
-
     pub right : DoRootsAgree H es items true → AreCompared H es outputs rs items None → IsRight H leaf_text us ts k rs hs
     right agree compared =
-        right_from_found H leaf_text long LeafFits no_pair one_leaf us fit ts k rs hs (all_fit rs ready.fit) (accepts agree)
+        right_from_found H leaf_text long LeafFits no_pair one_leaf us fit ts k rs hs (All-from_recursion LeafFits rs ready.fit) (accepts agree)
         (λ row c slot e.
         let o = root_off n row in
         let top = is_root-root_off n row slot in
         let h = InForest-root n row o top in
         let w = standing H (content es row o) (V c) (root_is agree row c slot e) in
         let s : tree_at es row o ≡ Some w.0 = tree_at-root es row o top ∙ w.1 in
-        (w.0, s, found H es text_of ts leaf_texts hashes long leaf_other each_entry (agree_everywhere compared) row o c w.0 h e s (sym w.2)))
+        let other = leaf_other ready.fit in
+        (w.0, s, found H es text_of ts leaf_texts hashes long other each_entry (agree_everywhere compared) row o c w.0 h e s (sym w.2)))
 
     -- ---- which clash is found
 

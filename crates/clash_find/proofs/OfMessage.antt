@@ -28,13 +28,14 @@ use Rattle.node_rules.specs.Accepting.{proof_fault}
 use Rattle.node_rules.specs.Judged.{AreNamed, TargetsJudged, AreHashes, HashesJudged}
 use Rattle.node_rules.proofs.Faults.{accepted, passes}
 use Rattle.node_rules.proofs.Righting.{right_is_tested}
+use Rattle.node_rules.proofs.Told.{targets_are, named_all}
+use Rattle.node_rules.proofs.ClaimedLeaves.{message-long}
 use Rattle.clash_find.specs.Clashes.{TextClash}
 use Rattle.clash_find.specs.Texts.{claims}
 use Rattle.clash_find.specs.Answers.{StandForHistory, IsAnswer}
 use Rattle.clash_find.specs.Found.{clash_at, clash_in}
 use Rattle.clash_find.specs.Searched.{digests_of, AreFound, IsSearched}
-use Rattle.clash_find.proofs.Claiming.{claims-long}
-use Rattle.clash_find.proofs.Refusing.{targets_are, named_all, targets_long, no_shape, no_count}
+use Rattle.clash_find.proofs.Refusing.{targets_long, no_shape, no_count}
 use Rattle.clash_find.proofs.Answering.{IsReady, accepts, differs, right, exact, some_found}
 
 module _ (H : List ℕ → Digest) (long : (x : List ℕ) → IsDigest (H x)) (outputs : List Held) (ext : List Outside) (m : Message)
@@ -115,7 +116,7 @@ module _ (H : List ℕ → Digest) (long : (x : List ℕ) → IsDigest (H x)) (o
     ready : IsReady H n ts rs k hs w.searched.items
     ready = record {
       shape = subst (λ (x : Targeted). HasShape x.leaves x.targets) same w.shape;
-      each_leaf = claims-long ext m count ∙ (sym count ∙ (sym (targets_long n m t w.named_so) ∙ ap (λ (x : Targeted). length x.targets) same));
+      each_leaf = message-long ext m count ∙ (sym count ∙ (sym (targets_long n m t w.named_so) ∙ ap (λ (x : Targeted). length x.targets) same));
       count = here.count;
       full = full;
       hashes_are = here.hashes_are H;
@@ -205,7 +206,7 @@ module _ (H : List ℕ → Digest) (long : (x : List ℕ) → IsDigest (H x)) (o
   pub leaves_long : (n0 : ℕ) (t : Targeted) (ext0 : List Outside) (seen : List Leaf) → ext0 ≡ ext → AreNamed n0 m t → seen ≡ claims ext0 m
       → length seen ≡ length t.targets
   leaves_long n0 t ext0 seen same a is = ap length (is ∙ ap (λ x. claims x m) same)
-      ∙ (claims-long ext m count ∙ (sym count ∙ sym (targets_long n0 m t a)))
+      ∙ (message-long ext m count ∙ (sym count ∙ sym (targets_long n0 m t a)))
 
   -- where the targets or the hashes are refused
   pub shape_refused : (es0 : List (Option Digest)) (n0 : ℕ) (fault : RuleFault) (why : Refusal) → n0 ≡ length es0 → TargetsJudged n0 m (Err fault)

@@ -1,11 +1,9 @@
 -- What is refused of the targets or the hashes of a message is a fault of its proof.
-use Rattle.std.proofs.Common.{◌≡◌, ◌≢◌, ℕ, List, [], ◌∷◌, map, length, Option, Some, None, Err, refl, sym, ap, ap₂, ◌∙◌, subst}
+use Rattle.std.proofs.Common.{◌≡◌, ◌≢◌, ℕ, List, [], length, Option, Some, None, Err, sym, ap, ◌∙◌, subst}
 use Rattle.std.proofs.lemmas.List.{length-map}
 use Rattle.std.proofs.lemmas.Option.{none-some}
 use Rattle.uo_digest.specs.declared.digest.Digest.{Digest}
-use Rattle.forest_place.specs.declared.place.Place.{Place}
 use Rattle.forest_model.specs.Cover.{need}
-use Rattle.leaf_record.specs.History.{somes}
 use Rattle.proof_shape.specs.Targeted.{Targeted}
 use Rattle.block_rules.specs.declared.chain.Outside.{Outside}
 use Rattle.block_rules.specs.declared.fault.RuleFault.TheVariants.{Refused}
@@ -17,6 +15,7 @@ use Rattle.node_rules.specs.Messages.{Message, point_of, points_of, named, targe
 use Rattle.node_rules.specs.Accepting.{View, shape_fault, proof_fault}
 use Rattle.node_rules.specs.Judged.{AreNamed, TargetsJudged, HashesJudged, AreHashes, IsOtherCount}
 use Rattle.node_rules.proofs.Faults.{length-named, accepted}
+use Rattle.node_rules.proofs.Told.{targets_are}
 
 targets_refused : (n : ℕ) (m : Message) (why : Refusal) → TargetsJudged n m (Err (Refused why)) → shape_fault n [] 0 (named n m) ≢ None
 targets_refused n m Why.Block h e = h
@@ -65,20 +64,6 @@ hashes_refused m t known (Why.Missing x i) h = absurd h
 hashes_refused m t known (Why.Immature x i) h = absurd h
 hashes_refused m t known (Why.Overspend x) h = absurd h
 hashes_refused m t known (Why.Subsidy c a) h = absurd h
-
-somes-map : {X : Type 0} (xs : List X) → somes (map Some xs) ≡ xs
-somes-map [] = refl
-somes-map (x ∷ xs) = ap (λ ys. x ∷ ys) (somes-map xs)
-
-targeted : (t : Targeted) (n : ℕ) (ts : List Place) → t.leaves ≡ n → t.targets ≡ ts → t ≡ record { leaves = n; targets = ts }
-targeted t n ts a b = ap₂ (λ (k : ℕ) (ps : List Place). let x : Targeted = record { leaves = k; targets = ps } in x) a b
-
--- the targets are those of the message
-pub targets_are : (n : ℕ) (m : Message) (t : Targeted) → AreNamed n m t → t ≡ record { leaves = n; targets = targets n m }
-targets_are n m t a = targeted t n (targets n m) a.leaves (sym (somes-map t.targets) ∙ ap somes (sym a.places))
-
-pub named_all : (n : ℕ) (m : Message) (t : Targeted) → AreNamed n m t → named n m ≡ map Some (targets n m)
-named_all n m t a = a.places ∙ ap (map Some) (sym (somes-map t.targets) ∙ ap somes (sym a.places))
 
 module _ (H : List ℕ → Digest) (n : ℕ) (ext : List Outside) (m : Message) (known : ℕ → ℕ → Option Digest) (roots : ℕ → Option Digest) where
   abbrev view : View

@@ -1,11 +1,12 @@
 -- The changes of a deletion as one list.
-use Rattle.std.proofs.Common.{◌≡◌, ℕ, zero, suc, ◌+◌, ◌-◌, ◌*◌, ◌/◌, ◌^◌, ◌<◌, Bool, true, false, ◌&&◌, ◌||◌, List, [], ◌∷◌, map, length, get_or}
+use Rattle.std.proofs.Common.{◌≡◌, ℕ, zero, suc, ◌-◌, ◌/◌, ◌^◌, ◌<◌, Bool, true, false, ◌&&◌, List, [], ◌∷◌, map, length, get_or}
 use Rattle.std.proofs.Common.{Option, Some, None, is_some, refl, sym, ap, ◌∙◌, ⊎_elim, lt-ltb, arith}
 use Rattle.std.specs.Bool.{OnFalse}
 use Rattle.std.specs.Prelude.{not, option_map, filter_map, option_and_then, Contains, All}
-use Rattle.std.proofs.lemmas.Bool.{cases_Bool, false≢true, false_from_ne_true, and_parts, and_from, or_left, or_right}
+use Rattle.std.proofs.lemmas.Bool.{cases_Bool, false≢true, false_from_ne_true, and_parts, and_from, or_left, or_right, not-true}
 use Rattle.std.proofs.lemmas.Option.{none-some, same_Some}
 use Rattle.std.proofs.lemmas.List.Elements.{All-nil, All-cons, All-contains_itself}
+use Rattle.proof_shape.proofs.Gone.{target_gone}
 use Rattle.uo_digest.specs.declared.digest.Digest.{Digest}
 use Rattle.forest_place.specs.declared.place.Place.{Place}
 use Rattle.forest_place.specs.Forest.{InForest}
@@ -15,9 +16,9 @@ use Rattle.forest_place.proofs.Listed.{place, is_at-same, same_from_is_at, filte
 use Rattle.forest_model.specs.Standing.{digest_at}
 use Rattle.forest_model.specs.Cover.{cover, is_needed}
 use Rattle.forest_model.specs.Evaluation.{hash_of, nothing_known}
-use Rattle.forest_model.specs.Deletion.{digest_without, entries_without, is_gone, moved, StandAt}
+use Rattle.forest_model.specs.Deletion.{digest_without, entries_without, moved, StandAt}
 use Rattle.forest_model.proofs.Covers.{some_from_test}
-use Rattle.forest_model.proofs.Moving.{moved-is_gone}
+use Rattle.forest_model.proofs.Moving.{moved_stays}
 use Rattle.forest_model.proofs.Pairs.{pair_right}
 use Rattle.proof_verify.specs.Verified.{IsChange, AreChanges, AreTold, above_targets}
 use Rattle.cache_model.specs.Cache.{look, ArePairs, HasPairs, IsPairOf}
@@ -94,10 +95,6 @@ not_from_false : (b : Bool) → b ≡ false → not b ≡ true
 not_from_false true e = absurd (false≢true (sym e))
 not_from_false false e = refl
 
-false_from_not : (b : Bool) → not b ≡ true → b ≡ false
-false_from_not true e = absurd (false≢true e)
-false_from_not false e = refl
-
 module _ (H : List ℕ → Digest) (n : ℕ) (ts : List Place) (hashes : List Digest) where
   abbrev left : Place → Option (Place × Digest)
   left p = left_of H n ts hashes p
@@ -118,7 +115,7 @@ module _ (H : List ℕ → Digest) (n : ℕ) (ts : List Place) (hashes : List Di
   above r o h =
       let w = filter_had test (places n) r o h in
       let both = and_parts (is_some (cover ts r o)) (not (has_place ts r o)) w.1 in
-      record { within = places_had n r o w.0; covered = both.0; no_target = false_from_not (has_place ts r o) both.1 }
+      record { within = places_had n r o w.0; covered = both.0; no_target = not-true (has_place ts r o) both.1 }
 
   all_above : All IsAbove (above_targets n ts)
   all_above = all_had IsAbove (above_targets n ts) above
@@ -210,13 +207,6 @@ module _ (H : List ℕ → Digest) (n : ℕ) (ts : List Place) (hashes : List Di
 module _ (H : List ℕ → Digest) (es : List (Option Digest)) (ts : List Place) (numbers : List ℕ) (hashes : List Digest) (at : StandAt es ts numbers)
     (right : (r o : ℕ) → InForest (length es) r o → is_needed (length es) ts (place r o) ≡ true
     → Some (hash_of H (length es) ts nothing_known hashes r o) ≡ digest_at H es r o) where
-  stays : (r o : ℕ) (q : Place) → InForest (length es) r o → moved (length es) ts r o ≡ Some q → is_gone ts r o ≡ false
-  stays r o q h m = false_from_ne_true _ (λ g. none-some q (sym (moved-is_gone (length es) ts r o h g) ∙ m))
-
-  target_gone : (r o : ℕ) → has_place ts r o ≡ true → is_gone ts r o ≡ true
-  target_gone zero o t = t
-  target_gone (suc r) o t = ap (λ b. b || (is_gone ts r (2 * o) && is_gone ts r (2 * o + 1))) t
-
   pair_of : (x : Place × Digest) → IsChange H (length es) ts hashes x.0 x.1
       → IsPairOf H (length es) ts (hash_of H (length es) ts nothing_known hashes) x
   pair_of x c = record {
@@ -225,7 +215,7 @@ module _ (H : List ℕ → Digest) (es : List (Option Digest)) (ts : List Place)
     covered = c.beneath;
     within = c.within;
     covered_is = c.covered;
-    stays = stays c.place.row c.place.off x.0 c.within c.goes;
+    stays = moved_stays (length es) ts c.place.row c.place.off x.0 c.within c.goes;
     goes = c.goes;
     left = c.digest;
   }
@@ -240,9 +230,9 @@ module _ (H : List ℕ → Digest) (es : List (Option Digest)) (ts : List Place)
         (λ p x a e. pair_of x (is_change H (length es) ts hashes p x a e)) (above_targets (length es) ts) (all_above H (length es) ts hashes))
         (All-nil (IsPairOf H (length es) ts (hash_of H (length es) ts nothing_known hashes)));
     each = λ r o c q h e m.
-        let gone = stays r o q h m in
+        let gone = moved_stays (length es) ts r o q h m in
         let w = pair_right H es ts numbers at (hash_of H (length es) ts nothing_known hashes) right r o c h e gone in
-        has_left H (length es) ts hashes r o q w.digest h (ap is_some e) (false_from_ne_true _ (λ t. false≢true (sym gone ∙ target_gone r o t)))
+        has_left H (length es) ts hashes r o q w.digest h (ap is_some e) (false_from_ne_true _ (λ t. false≢true (sym gone ∙ target_gone ts r o t)))
         (ap (λ x. left_at x (option_and_then (digest_without H (hash_of H (length es) ts nothing_known hashes)) (cover ts r o))) m
         ∙ ap (λ (x : Option Digest). left_at (Some q) x) (ap (option_and_then (digest_without H (hash_of H (length es) ts nothing_known hashes))) e
         ∙ w.evaluation));

@@ -19,7 +19,6 @@ use Rattle.proof_shape.proofs.Untargeted.{none_covered, none_needed}
 use Rattle.proof_verify.specs.declared.fault.ProofFault.{ProofFault}
 use Rattle.proof_verify.specs.declared.fault.ProofFault.TheVariants as Found
 use Rattle.proof_verify.specs.Verified.{IsProofFault, IsDeleted, AreRootsAfter}
-use Rattle.leaf_record.specs.History.{somes}
 use Rattle.proof_wire.specs.BlockProof.{BlockProof, targets_of}
 use Rattle.block_rules.specs.declared.chain.Found.{Found as FoundOutput}
 use Rattle.block_rules.specs.declared.chain.Outside.{Outside}
@@ -50,19 +49,7 @@ use Rattle.block_rules.proofs.Firsts.{first_of-append}
 use Rattle.node_rules.proofs.Firsts.{first-behind}
 use Rattle.compact_node.proofs.Deletions.{is_without}
 use Rattle.node_rules.proofs.ClaimedLeaves.{leaves-long}
-
-somes-map : {X : Type 0} (xs : List X) → somes (map Some xs) ≡ xs
-somes-map [] = refl
-somes-map (x ∷ xs) = ap (λ ys. x ∷ ys) (somes-map xs)
-
--- the targets are those of the message
-pub targets_are : (n : ℕ) (m : Message) (t : Targeted) → AreNamed n m t → t ≡ record { leaves = n; targets = targets n m }
-targets_are n m t a =
-    ap₂ (λ (k : ℕ) (ps : List Place). let x : Targeted = record { leaves = k; targets = ps } in
-    x) a.leaves (sym (somes-map t.targets) ∙ ap somes (sym a.places))
-
-named_all : (n : ℕ) (m : Message) (t : Targeted) → AreNamed n m t → named n m ≡ map Some (targets n m)
-named_all n m t a = a.places ∙ ap (map Some) (sym (somes-map t.targets) ∙ ap somes (sym a.places))
+use Rattle.node_rules.proofs.Told.{targets_are, named_all}
 
 filter-all : {X : Type 0} (xs : List X) → filter (λ x. true) xs ≡ xs
 filter-all [] = refl

@@ -6,6 +6,7 @@ use Rattle.std.proofs.lemmas.List.{length-map, take_all}
 use Rattle.std.proofs.lemmas.List.Sums.{sum_by-append}
 use Rattle.std.proofs.lemmas.Option.{same_Some, get_or_from_slice_get}
 use Rattle.std.proofs.lemmas.Nat.{ones-le}
+use Rattle.uo_base.proofs.Lists.{take_one, got-map}
 use Rattle.uo_digest.specs.declared.digest.Digest.{Digest}
 use Rattle.forest_place.specs.declared.place.Place.{Place}
 use Rattle.forest_roots.specs.Stump.{Stump}
@@ -14,6 +15,7 @@ use Rattle.leaf_record.specs.Leaf.{Leaf, leaf_text}
 use Rattle.cache_model.specs.declared.kept.Kept.{Kept}
 use Rattle.cache_model.specs.Known.{is_watched}
 use Rattle.cache_model.specs.Lists.{leaves_more}
+use Rattle.cache_model.proofs.Histories.{watched_is}
 use Rattle.leaf_cache.specs.Parted.{Parted}
 use Rattle.cache_update.specs.declared.mark.Mark.{Mark}
 use Rattle.cache_update.specs.Joins.{is_empty_of, added_by}
@@ -22,8 +24,7 @@ use Rattle.compact_node.specs.After.{with_leaf, with_leaves, kept_with, held_wit
 use Rattle.compact_node.specs.Judged.{watched_leaf}
 use Rattle.compact_node.specs.Marked.{GoesOn}
 use Rattle.forest_roots.proofs.Additions.{with_leaf-leaves}
-use Rattle.node_rules.proofs.ClaimedLeaves.{got-map}
-use Rattle.compact_node.proofs.Taking.{IsAppending, appending_begins, appended_once, take_one}
+use Rattle.compact_node.proofs.Taking.{IsAppending, appending_begins, appended_once}
 
 -- ---- lists whose head is taken off
 
@@ -54,10 +55,6 @@ dropped_long : {X : Type 0} (xs : List X) (i : ℕ) → i ≤ length xs → leng
 dropped_long xs zero h = omega arith
 dropped_long [] (suc i) h = absurd (omega (arith, h))
 dropped_long (x ∷ xs) (suc i) h = let e = dropped_long xs i (omega (arith, h)) in omega (arith, e)
-
-watched_is : (u : Leaf) (b : Bool) → is_some (cond b (Some u) (let none : Option Leaf = None in none)) ≡ b
-watched_is u true = refl
-watched_is u false = refl
 
 count_more : (x : Option Leaf) (xs : List (Option Leaf)) → count_by is_some (x ∷ xs) ≡ count_by is_some (x ∷ []) + count_by is_some xs
 count_more x xs = sum_by-append (λ (y : Option Leaf). cond (is_some y) 1 0) (x ∷ []) xs

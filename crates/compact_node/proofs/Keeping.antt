@@ -1,9 +1,10 @@
 -- A node stays one.
-use Rattle.std.proofs.Common.{◌≡◌, ℕ, zero, suc, ◌+◌, ◌<◌, ◌≤◌, ◌^◌, Bool, true, false, cond, List, [], ◌∷◌, ◌++◌, map, length, Option, Some, None}
-use Rattle.std.proofs.Common.{is_some, refl, ap, ◌∙◌, subst, ⊎_elim, arith}
+use Rattle.std.proofs.Common.{◌≡◌, ℕ, zero, suc, ◌+◌, ◌<◌, ◌≤◌, ◌^◌, cond, List, [], ◌∷◌, ◌++◌, map, length, Option, Some, None}
+use Rattle.std.proofs.Common.{refl, ap, ◌∙◌, subst, ⊎_elim, arith}
 use Rattle.std.specs.Prelude.{nat_le, nat_lt, take}
 use Rattle.std.proofs.lemmas.Bool.{cases_Bool, and_parts, ltb-true, leb-true}
 use Rattle.std.proofs.lemmas.List.{length-map}
+use Rattle.uo_base.proofs.Lists.{take_few}
 use Rattle.uo_digest.specs.declared.digest.Digest.{Digest}
 use Rattle.forest_place.specs.declared.place.Place.{Place}
 use Rattle.forest_roots.specs.Stump.{Stump, IsStump}
@@ -16,6 +17,7 @@ use Rattle.cache_model.specs.declared.kept.Kept.{Kept}
 use Rattle.cache_model.specs.Known.{is_watched}
 use Rattle.cache_model.specs.Lists.{moved_leaves, leaf_places, leaves_more}
 use Rattle.cache_model.specs.Steps.{held_deleted}
+use Rattle.cache_model.proofs.Histories.{watched_is}
 use Rattle.cache_update.specs.Beside.{AreOfRoots}
 use Rattle.cache_update.specs.Joins.{is_empty_of, added_by}
 use Rattle.cache_update.proofs.Rooted.{deleted_of_roots, added_of_roots}
@@ -57,10 +59,6 @@ without_of_roots H f ts hashes ks hs s a =
     (deleted_of_roots H f (without H f ts hashes) ts hashes after (changes_of H f.leaves ts hashes) ks hs a)
 
 -- ---- and with what is added
-
-watched_is : (u : Leaf) (b : Bool) → is_some (cond b (Some u) (let none : Option Leaf = None in none)) ≡ b
-watched_is u true = refl
-watched_is u false = refl
 
 module _ (H : List ℕ → Digest) (scripts : List (List ℕ)) where
   with_of_roots : (f : Stump) (leaf : Leaf) (ks : List Kept) (hs : List (Place × Digest)) → IsStump f → suc f.leaves < 2 ^ 40 → AreOfRoots f ks hs →
@@ -110,11 +108,6 @@ older-taken : (rules : Rules) (k : ℕ) (chain : Chain) (ls : List LevelState) �
 older-taken rules zero chain ls are = tt
 older-taken rules (suc k) chain [] are = tt
 older-taken rules (suc k) chain (l ∷ ls) are = (are.0, are.1, are.2, older-taken rules k l.chain ls are.3)
-
-length-take_le : {X : Type 0} (k : ℕ) (xs : List X) → length (take k xs) ≤ k
-length-take_le zero xs = omega arith
-length-take_le (suc k) [] = omega arith
-length-take_le (suc k) (x ∷ xs) = let h = length-take_le k xs in omega arith
 
 -- a node that went back is one
 pub back_is_node : (k : ℕ) (s : NodeState) → IsNode s → IsNode (gone_back k s)
@@ -184,7 +177,7 @@ module _ (H : List ℕ → Digest) (s : NodeState) (is : IsNode s) (b : Block) (
     newest = level-with;
     older = older-taken s.rules 100 (level_with H s.scripts s.newest b handed).chain (s.newest ∷ s.older)
         (refl, omega arith, is.newest, is.older);
-    kept = length-take_le 100 (s.newest ∷ s.older);
+    kept = take_few 100 (s.newest ∷ s.older);
     few = is.few;
     short = is.short;
   }

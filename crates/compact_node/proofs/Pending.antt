@@ -5,12 +5,11 @@ use Rattle.std.specs.Prelude.{slice_get, count_by}
 use Rattle.std.proofs.lemmas.List.{length-append, length-map, append-nil, drop_all, get_or-append_right}
 use Rattle.std.proofs.Math.Seq.{take-append_seam}
 use Rattle.std.proofs.lemmas.List.Sums.{sum_by-append}
-use Rattle.std.proofs.lemmas.Option.{none-some, same_Some}
+use Rattle.uo_base.proofs.Lists.{drop-got, got-map}
 use Rattle.leaf_record.specs.Leaf.{Leaf}
 use Rattle.cache_model.specs.Known.{is_watched}
 use Rattle.compact_node.specs.Judged.{watched_leaf}
 use Rattle.compact_node.specs.Pending.{pending}
-use Rattle.node_rules.proofs.ClaimedLeaves.{got-map}
 
 -- ---- the last of a list
 
@@ -26,11 +25,6 @@ front_is xs x =
     let same : length (xs ++ x ∷ []) - 1 ≡ length xs = omega (arith, long) in
     ap (λ k. take k (xs ++ x ∷ [])) same ∙ take-append_seam xs (x ∷ [])
 
-drop_head : {X : Type 0} (xs : List X) (i : ℕ) (x : X) → slice_get xs i ≡ Some x → drop i xs ≡ x ∷ drop (suc i) xs
-drop_head [] i x e = absurd (none-some x e)
-drop_head (y ∷ xs) zero x e = ap (λ z. z ∷ xs) (same_Some y x e)
-drop_head (y ∷ xs) (suc i) x e = drop_head xs i x e
-
 -- ---- what is pending
 
 module _ (scripts : List (List ℕ)) where
@@ -40,7 +34,7 @@ module _ (scripts : List (List ℕ)) where
       has ≡ had ++ cond (is_watched scripts (Some leaf)) ((i, leaf) ∷ []) [] → has ≡ pending scripts i (drop i new)
   pending_more new i j leaf had has e got f g =
       g ∙ (ap (λ xs. xs ++ cond (is_watched scripts (Some leaf)) ((i, leaf) ∷ []) []) (f ∙ ap (λ k. pending scripts k (drop k new)) e)
-      ∙ (by_test (is_watched scripts (Some leaf)) ∙ ap (pending scripts i) (sym (drop_head new i leaf got))))
+      ∙ (by_test (is_watched scripts (Some leaf)) ∙ ap (pending scripts i) (sym (drop-got new i leaf got))))
     where
       by_test : (b : Bool) → pending scripts (suc i) (drop (suc i) new) ++ cond b ((i, leaf) ∷ []) []
           ≡ cond b (pending scripts (suc i) (drop (suc i) new) ++ (i, leaf) ∷ []) (pending scripts (suc i) (drop (suc i) new))
@@ -122,12 +116,12 @@ pub watched_head : (scripts : List (List ℕ)) (new : List Leaf) (i : ℕ) (leaf
     → drop i (map (watched_leaf scripts) new) ≡ watched_leaf scripts leaf ∷ drop (i + 1) (map (watched_leaf scripts) new)
 watched_head scripts new i leaf got =
     let e : suc i ≡ i + 1 = omega arith in
-    drop_head (map (watched_leaf scripts) new) i (watched_leaf scripts leaf) (got-map (watched_leaf scripts) new i leaf got)
+    drop-got (map (watched_leaf scripts) new) i (watched_leaf scripts leaf) (got-map (watched_leaf scripts) new i leaf got)
     ∙ ap (λ k. watched_leaf scripts leaf ∷ drop k (map (watched_leaf scripts) new)) e
 
 pub pending_next : (scripts : List (List ℕ)) (new : List Leaf) (i : ℕ) (leaf : Leaf) (left : List (ℕ × Leaf)) → slice_get new i ≡ Some leaf
     → left ≡ pending scripts i (drop i new) → left ≡ pending scripts i (leaf ∷ drop (suc i) new)
-pending_next scripts new i leaf left got e = e ∙ ap (pending scripts i) (drop_head new i leaf got)
+pending_next scripts new i leaf left got e = e ∙ ap (pending scripts i) (drop-got new i leaf got)
 
 pub head_taken : (scripts : List (List ℕ)) (new : List Leaf) (i : ℕ) (leaf : Leaf) (x : Option Leaf) → slice_get new i ≡ Some leaf
     → x ≡ watched_leaf scripts leaf → drop i (map (watched_leaf scripts) new) ≡ x ∷ drop (i + 1) (map (watched_leaf scripts) new)

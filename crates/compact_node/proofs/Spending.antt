@@ -1,6 +1,6 @@
 -- What a right message spends, and the roots and lists without it and with what is added.
-use Rattle.std.proofs.Common.{◌≡◌, ℕ, suc, ◌+◌, ◌<◌, ◌^◌, Bool, true, false, cond, List, [], ◌∷◌, ◌++◌, map, length, Option, Some, None}
-use Rattle.std.proofs.Common.{is_some, refl, sym, ap, ◌∙◌, subst, arith, append_assoc, append-nil, length-set}
+use Rattle.std.proofs.Common.{◌≡◌, ℕ, suc, ◌+◌, ◌<◌, ◌^◌, true, false, cond, List, [], ◌∷◌, ◌++◌, map, length, Option, Some, None}
+use Rattle.std.proofs.Common.{refl, sym, ap, ◌∙◌, subst, arith, append_assoc, append-nil}
 use Rattle.std.specs.Prelude.{option_map}
 use Rattle.std.proofs.Math.Path.{fun_ext}
 use Rattle.std.proofs.lemmas.Bool.{false≢true}
@@ -14,7 +14,7 @@ use Rattle.forest_model.specs.Standing.{digest_at, root}
 use Rattle.forest_model.specs.Evaluation.{nothing_known, hash_of, asked}
 use Rattle.forest_model.specs.Right.{entries}
 use Rattle.forest_model.specs.Deletion.{entries_without, root_after, StandAt}
-use Rattle.forest_model.proofs.Deleting.{roots_after}
+use Rattle.forest_model.proofs.Deleting.{roots_after, length-entries_without}
 use Rattle.forest_model.proofs.Right.{hash_right}
 use Rattle.forest_roots.specs.Stump.{Stump, IsStump, StandsFor, root_in}
 use Rattle.forest_roots.specs.Joined.{joins_of}
@@ -27,7 +27,7 @@ use Rattle.cache_model.specs.Cache.{look, ArePairs}
 use Rattle.cache_model.specs.Known.{is_watched, known_at}
 use Rattle.cache_model.specs.Lists.{IsCacheOf, moved_leaves}
 use Rattle.cache_model.proofs.Lists.{same_count}
-use Rattle.cache_model.proofs.Histories.{left_cache, known_is}
+use Rattle.cache_model.proofs.Histories.{left_cache, known_is, entries-spent, watched_is}
 use Rattle.cache_update.specs.Joins.{added_by}
 use Rattle.cache_update.proofs.Changed.{added_stands_by, joins_slots}
 use Rattle.cache_update.proofs.Growing.{free_above}
@@ -39,7 +39,7 @@ use Rattle.node_rules.specs.Judging.{is_right_message, entries_shown}
 use Rattle.node_rules.proofs.Judging.{known_is as knowledge}
 use Rattle.node_rules.proofs.Righting.{right_is_tested}
 use Rattle.node_rules.proofs.Serving.{hash_of_all}
-use Rattle.node_rules.proofs.Spending.{entries-spent, right_stands}
+use Rattle.node_rules.proofs.Spending.{right_stands}
 use Rattle.compact_node.specs.After.{held_without, changes_of, with_leaf, with_leaves, kept_with, held_with, kept_with_all, held_with_all}
 use Rattle.compact_node.specs.Node.{LevelState, view_over, places_spent, hashes_over, hashes_spent, roots_spent, kept_spent, held_spent}
 use Rattle.forest_roots.proofs.Additions.{with_leaf-leaves, with_leaf-adds, with_leaf-stump}
@@ -57,10 +57,6 @@ AreRight H es ts hashes = (r o : ℕ) → InForest (length es) r o → is_needed
 pub record IsSpending (H : List ℕ → Digest) (es : List (Option Digest)) (ts : List Place) (numbers : List ℕ) (hashes : List Digest) : Type 0 where
   pub at : StandAt es ts numbers
   pub right : AreRight H es ts hashes
-
-pub length-without : (numbers : List ℕ) (es : List (Option Digest)) → length (entries_without numbers es) ≡ length es
-length-without [] es = refl
-length-without (n ∷ ns) es = length-set (entries_without ns es) n None ∙ length-without ns es
 
 module _ (H : List ℕ → Digest) (scripts : List (List ℕ)) (us : History) where
   abbrev es : List (Option Digest)
@@ -129,7 +125,7 @@ module _ (H : List ℕ → Digest) (scripts : List (List ℕ)) (us : History) wh
           let after = λ (n : ℕ) (old : Option Digest) (row : ℕ). root_after H (hash_of H n ts nothing_known hashes) old
           (cover ts row (root_off n row)) in
           let base : StandsFor H (entries_without numbers es) (roots_spent H l handed) = record {
-            leaves = without-leaves H f ts hashes ∙ (stands.leaves ∙ sym (length-without numbers es));
+            leaves = without-leaves H f ts hashes ∙ (stands.leaves ∙ sym (length-entries_without numbers es));
             roots = λ row slot.
                 let slot' : is_slot f.leaves row ≡ true = ap (λ n. is_slot n row) (sym (without-leaves H f ts hashes)) ∙ slot in
                 without-slot H f ts hashes stump row slot'
@@ -155,10 +151,6 @@ joins_end H f d =
     let w = free_above f.leaves (suc f.leaves) 0 refl (omega arith) in
     let j = joins_are H f (λ row. root_in f row) d w.0 w.2 w.3 (λ row e. refl) in
     ap (is_slot f.leaves) j.each ∙ w.3
-
-watched_is : (u : Leaf) (b : Bool) → is_some (cond b (Some u) (let none : Option Leaf = None in none)) ≡ b
-watched_is u true = refl
-watched_is u false = refl
 
 module _ (H : List ℕ → Digest) (scripts : List (List ℕ)) where
   -- roots and lists are those of this history

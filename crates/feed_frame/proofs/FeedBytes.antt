@@ -1,13 +1,11 @@
 -- What the events of a feed hold is bytes, where the feed is made of bytes.
 use Rattle.std.proofs.Common.{ℕ, zero, suc, ◌+◌, ◌-◌, nat_lt, Bool, true, false, cond, List, [], ◌∷◌, length, take, drop, Option, Some, None, Result}
-use Rattle.std.proofs.Common.{Ok, Err, arith, inl, inr}
+use Rattle.std.proofs.Common.{Ok, Err}
 use Rattle.std.specs.List.{AllByRecursion}
-use Rattle.std.proofs.lemmas.Bool.{cases_lt}
-use Rattle.std.proofs.lemmas.List.{get_or-take, get_or_past, length-take}
 use Rattle.uo_base.specs.declared.event.Net.{Net}
 use Rattle.uo_base.specs.FeedEvent.{FeedEvent, BlockCame, RollbackCame, StrayCame}
 use Rattle.uo_base.specs.Reading.{IsBytes}
-use Rattle.uo_base.proofs.Formats.{IsBytes-drop}
+use Rattle.uo_base.proofs.Formats.{IsBytes-drop, IsBytes-rest, IsBytes-take}
 use Rattle.feed_frame.specs.declared.fault.FeedFault.{FeedFault}
 use Rattle.feed_frame.specs.declared.fault.FeedFault.TheVariants.{Cut}
 use Rattle.feed_frame.specs.declared.head.Head.{Head}
@@ -16,16 +14,6 @@ use Rattle.feed_frame.specs.declared.head.Kind.TheVariants.{Block, Proof, Rollba
 use Rattle.feed_frame.specs.Events.{Events, ends_at, strayed, event_at, events_over, events_of}
 use Rattle.feed_frame.specs.Frames.{Frame, Frames, head_at, frame_behind, frame_of, frame_at, led_by_frame, frames_from, frames_of, past_limit}
 use Rattle.feed_frame.specs.Frames.{within}
-
-pub IsBytes-take : (n : ℕ) (bytes : List ℕ) → IsBytes bytes → IsBytes (take n bytes)
-IsBytes-take n bytes h i =
-    elim (cases_lt i n) [
-      | inl lt ↦ rw (get_or-take n bytes i 0 lt) (h i)
-      | inr le ↦ rw (get_or_past (take n bytes) i 0 (omega (arith, length-take n bytes))) (omega arith)
-    ]
-
-pub IsBytes-tail : (b : ℕ) (bytes : List ℕ) → IsBytes (b ∷ bytes) → IsBytes bytes
-IsBytes-tail b bytes h i = h (suc i)
 
 -- ---- frames
 
@@ -59,11 +47,11 @@ frame_bytes net offset bytes h = by (head_at net offset bytes)
 frames_bytes : (net : Net) (bytes : List ℕ) (offset past : ℕ) → IsBytes bytes → HaveBytes (frames_from net offset past bytes)
 unfolding frames_from HasBytesIf
 frames_bytes net [] offset past h = tt
-frames_bytes net (byte ∷ bytes) offset (suc past) h = frames_bytes net bytes (offset + 1) past (IsBytes-tail byte bytes h)
-frames_bytes net (zero ∷ bytes) offset zero h = frames_bytes net bytes (offset + 1) zero (IsBytes-tail zero bytes h)
+frames_bytes net (byte ∷ bytes) offset (suc past) h = frames_bytes net bytes (offset + 1) past (IsBytes-rest byte bytes h)
+frames_bytes net (zero ∷ bytes) offset zero h = frames_bytes net bytes (offset + 1) zero (IsBytes-rest zero bytes h)
 frames_bytes net (suc b ∷ bytes) offset zero h =
     by (frame_at net offset (suc b ∷ bytes)) (frame_bytes net offset (suc b ∷ bytes) h)
-    (λ end. frames_bytes net bytes (offset + 1) (end - (offset + 1)) (IsBytes-tail (suc b) bytes h))
+    (λ end. frames_bytes net bytes (offset + 1) (end - (offset + 1)) (IsBytes-rest (suc b) bytes h))
   where
     by : (r : Result Frame FeedFault) → HasBytesIf r → ((end : ℕ) → HaveBytes (frames_from net (offset + 1) (end - (offset + 1)) bytes))
         → HaveBytes (led_by_frame r (λ end. frames_from net (offset + 1) (end - (offset + 1)) bytes))

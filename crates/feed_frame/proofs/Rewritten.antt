@@ -1,14 +1,14 @@
 -- The events of a feed are written anew, and read again.
 use Rattle.std.proofs.Common.{◌≡◌, ℕ, zero, suc, ◌+◌, ◌-◌, ◌<◌, ◌≤◌, ◌^◌, nat_lt, eqb, Bool, true, false, cond, List, [], ◌∷◌, ◌++◌, length, take}
-use Rattle.std.proofs.Common.{drop, Option, Some, None, Result, Ok, Err, refl, sym, ap, subst, ◌∙◌, append_assoc, arith, inl, inr, length-append}
+use Rattle.std.proofs.Common.{drop, Option, Some, None, Result, Ok, Err, refl, sym, ap, subst, ◌∙◌, append_assoc, arith, length-append}
 use Rattle.std.specs.Int.{w32, to_le_bytes, from_le_bytes}
 use Rattle.std.specs.List.{AllByRecursion}
-use Rattle.std.proofs.lemmas.Bool.{cases_lt, ltb-false, eqb-true}
-use Rattle.std.proofs.lemmas.List.{get_or-take, get_or_past, length-take, length-drop}
+use Rattle.std.proofs.lemmas.Bool.{ltb-false, eqb-true}
+use Rattle.std.proofs.lemmas.List.{length-take, length-drop}
 use Rattle.uo_base.specs.declared.event.Net.{Net}
 use Rattle.uo_base.specs.FeedEvent.{FeedEvent, BlockCame, RollbackCame, StrayCame}
 use Rattle.uo_base.specs.Reading.{IsBytes}
-use Rattle.uo_base.proofs.Formats.{IsBytes-drop, wide32}
+use Rattle.uo_base.proofs.Formats.{IsBytes-drop, wide32, IsBytes-rest, IsBytes-take}
 use Rattle.feed_frame.specs.declared.fault.FeedFault.{FeedFault}
 use Rattle.feed_frame.specs.declared.fault.FeedFault.TheVariants.{Cut, TooLong, BadRollback}
 use Rattle.feed_frame.specs.declared.head.Head.{Head}
@@ -110,16 +110,6 @@ abbrev size_of : List Frame → ℕ
 size_of [] = 0
 size_of (frame ∷ frames) = (8 + length frame.body) + size_of frames
 
-IsBytes-take : (n : ℕ) (bytes : List ℕ) → IsBytes bytes → IsBytes (take n bytes)
-IsBytes-take n bytes h i =
-    elim (cases_lt i n) [
-      | inl lt ↦ rw (get_or-take n bytes i 0 lt) (h i)
-      | inr le ↦ rw (get_or_past (take n bytes) i 0 (omega (arith, length-take n bytes))) (omega arith)
-    ]
-
-IsBytes-tail : (b : ℕ) (bytes : List ℕ) → IsBytes (b ∷ bytes) → IsBytes bytes
-IsBytes-tail b bytes h i = h (suc i)
-
 record HeadFits (length_of : ℕ) (head : Head) : Type 0 where
   fits : length_fault head.kind head.offset head.length ≡ None
   room : 8 ≤ length_of
@@ -218,13 +208,13 @@ frames_fit : (net : Net) (bytes : List ℕ) (offset past : ℕ) → IsBytes byte
     → FramesFit (length bytes - past) (frames_from net offset past bytes).frames
 unfolding frames_from IsWithinIf
 frames_fit net [] offset past h = record { all = tt; size = omega arith }
-frames_fit net (byte ∷ bytes) offset (suc past) h = let f = frames_fit net bytes (offset + 1) past (IsBytes-tail byte bytes h) in
+frames_fit net (byte ∷ bytes) offset (suc past) h = let f = frames_fit net bytes (offset + 1) past (IsBytes-rest byte bytes h) in
     record { all = f.all; size = omega (arith, f.size) }
-frames_fit net (zero ∷ bytes) offset zero h = let f = frames_fit net bytes (offset + 1) zero (IsBytes-tail zero bytes h) in
+frames_fit net (zero ∷ bytes) offset zero h = let f = frames_fit net bytes (offset + 1) zero (IsBytes-rest zero bytes h) in
     record { all = f.all; size = omega (arith, f.size) }
 frames_fit net (suc b ∷ bytes) offset zero h =
     by (frame_at net offset (suc b ∷ bytes)) (frame_within net offset (suc b ∷ bytes) h)
-    (λ end. frames_fit net bytes (offset + 1) (end - (offset + 1)) (IsBytes-tail (suc b) bytes h))
+    (λ end. frames_fit net bytes (offset + 1) (end - (offset + 1)) (IsBytes-rest (suc b) bytes h))
   where
     by : (r : Result Frame FeedFault) → IsWithinIf offset (length (suc b ∷ bytes)) r
         → ((end : ℕ) → FramesFit (length bytes - (end - (offset + 1))) (frames_from net (offset + 1) (end - (offset + 1)) bytes).frames)

@@ -2,13 +2,13 @@
 use Rattle.std.proofs.Common.{◌≡◌, ℕ, ◌+◌, ◌≤◌, List, [], ◌∷◌, ◌++◌, map, length, take, Some, refl, ap, ◌∙◌, arith}
 use Rattle.std.specs.Prelude.{slice_get}
 use Rattle.std.proofs.lemmas.List.{length-map, take_all}
+use Rattle.uo_base.proofs.Lists.{one_more}
 use Rattle.uo_digest.specs.declared.digest.Digest.{Digest}
 use Rattle.forest_place.specs.declared.naming.Naming.TheVariants.{Position}
 use Rattle.forest_place.specs.Named.{place_by}
 use Rattle.leaf_record.specs.Leaf.{Rest}
 use Rattle.proof_wire.specs.BlockProof.{Spend, targets_of, rests_of}
 use Rattle.node_rules.specs.Messages.{Message}
-use Rattle.node_rules.proofs.Told.{one_more}
 use Rattle.message_upgrade.specs.Upgrade.{fixed_number, renamed}
 use Rattle.message_upgrade.proofs.Reading.{renamed_at}
 

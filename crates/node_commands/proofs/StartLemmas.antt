@@ -9,17 +9,15 @@ use Rattle.uo_base.specs.FeedEvent.{FeedEvent}
 use Rattle.uo_base.specs.Told.{Tells, IsLonger}
 use Rattle.uo_digest.specs.declared.digest.Digest.{Digest}
 use Rattle.leaf_cache.specs.Watched.{AreWatched}
-use Rattle.node_rules.specs.Fitting.{AreEventBytes}
-use Rattle.node_rules.specs.Fitting as Fitting
+use Rattle.node_rules.specs.Fitting.{AreEventBytes, EventFits}
 use Rattle.node_rules.specs.Judging.{Rules}
-use Rattle.node_rules.specs.Machine.{ChainEvent, BlockCame, RollbackCame, StrayCame, State, start, full_judge, event_in}
+use Rattle.node_rules.specs.Machine.{State, start, full_judge, event_in}
 use Rattle.node_rules.proofs.Fitting.{read_event_fits}
 use Rattle.state_text.specs.declared.fault.StateFault.{StateFault}
 use Rattle.state_text.specs.declared.fault.StateFault.TheVariants.{NotAState, Version}
 use Rattle.state_text.specs.Fits.{IsState}
 use Rattle.state_text.specs.Stored.{IsTextOf}
 use Rattle.state_text.specs.OfHistory.{IsHistory, state_of}
-use Rattle.state_text.specs.Reached.{EventFits}
 use Rattle.state_text.proofs.LevelLaws.{history_has_state, one_version}
 use Rattle.state_text.proofs.Reaching.{reached_is_history}
 use Rattle.compact_node.specs.Node.{NodeState, IsNode, Stands}
@@ -34,15 +32,9 @@ use Rattle.node_commands.proofs.FollowLemmas.{as-of-full}
 
 -- ---- what a node holds that holds every output
 
-fits_too : (e : ChainEvent) → Fitting.EventFits e → EventFits e
-fits_too (BlockCame None handed) f = tt
-fits_too (BlockCame (Some b) handed) f = f
-fits_too (RollbackCame k) f = tt
-fits_too StrayCame f = tt
-
 events_fit : (events : List FeedEvent) → AllByRecursion AreEventBytes events → AllByRecursion EventFits (map event_in events)
 events_fit [] all = tt
-events_fit (event ∷ events) all = (fits_too (event_in event) (read_event_fits event all.0), events_fit events all.1)
+events_fit (event ∷ events) all = (read_event_fits event all.0, events_fit events all.1)
 
 module _ (H : List ℕ → Digest) (long : (x : List ℕ) → length (H x).0 ≡ 32) (limits : Limits) (few : limits.leaves < 2 ^ 40) (net : Net)
     (scripts : List (List ℕ)) (watched : AreWatched scripts)

@@ -1,17 +1,14 @@
 -- The leaves that a message claims, gone through one by one.
-use Rattle.std.proofs.Common.{◌≡◌, ℕ, zero, suc, List, [], ◌∷◌, map, length, Some, refl, ap, ap₂, ◌∙◌, arith}
-use Rattle.std.specs.Prelude.{slice_get, option_map}
+use Rattle.std.proofs.Common.{◌≡◌, ℕ, zero, suc, List, [], ◌∷◌, length, Some, refl, ap, ap₂, ◌∙◌, arith}
+use Rattle.std.specs.Prelude.{slice_get}
 use Rattle.std.proofs.lemmas.List.{length-map}
-use Rattle.std.proofs.lemmas.Option.{none-some, same_Some, slice_get-map}
+use Rattle.std.proofs.lemmas.Option.{none-some, same_Some}
 use Rattle.uo_digest.specs.declared.digest.Digest.{Digest}
 use Rattle.leaf_record.specs.Leaf.{Rest, Leaf, leaf_text}
 use Rattle.proof_wire.specs.BlockProof.{rests_of}
 use Rattle.block_rules.specs.declared.chain.Outside.{Outside}
 use Rattle.node_rules.specs.Messages.{Message, point_of, points_of, claimed}
 use Rattle.node_rules.specs.Accepting.{leaves_of}
-
-pub got-map : {X Y : Type 0} (f : X → Y) (xs : List X) (i : ℕ) (x : X) → slice_get xs i ≡ Some x → slice_get (map f xs) i ≡ Some (f x)
-got-map f xs i x got = slice_get-map f xs i ∙ ap (option_map f) got
 
 pub claim_at : (ext : List Outside) (rests : List Rest) (i : ℕ) (at : Outside) (rest : Rest) → slice_get ext i ≡ Some at
     → slice_get rests i ≡ Some rest → slice_get (claimed (points_of ext) rests) i ≡ Some (record { point = point_of at; rest = rest })

@@ -30,7 +30,7 @@ use Rattle.node_rules.proofs.Written.{written_fits, written_short}
 
 -- ---- one message
 
-handed_again : (ext : List Outside) (m : Message) → message_in (message_text m) ≡ read m → handed_in (written_text ext m) ≡ written ext m
+pub handed_again : (ext : List Outside) (m : Message) → message_in (message_text m) ≡ read m → handed_in (written_text ext m) ≡ written ext m
 handed_again [] m e = refl
 handed_again (at ∷ ext) m e = e
 

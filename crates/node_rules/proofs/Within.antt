@@ -6,6 +6,7 @@ use Rattle.std.proofs.lemmas.Bool.{cases_Bool}
 use Rattle.std.proofs.lemmas.List.{length-map, length-append}
 use Rattle.leaf_record.specs.Leaf.{Leaf}
 use Rattle.leaf_record.specs.History.{spent}
+use Rattle.leaf_record.proofs.HistoryLaws.{length-spent}
 use Rattle.block_codec.specs.Block.{Block}
 use Rattle.block_rules.specs.declared.refusal.Refusal.{Refusal}
 use Rattle.block_rules.specs.Blocks.{new_records}
@@ -13,7 +14,7 @@ use Rattle.node_rules.specs.Judging.{Rules, Evidence, refusal}
 use Rattle.node_rules.specs.Machine.{ChainEvent, BlockCame, RollbackCame, StrayCame, Level, State, Judge, chain_of, by_refusal, by_evidence, back}
 use Rattle.node_rules.specs.Machine.{step, start, OnEachLevel}
 use Rattle.node_rules.specs.Laws.{IsWithin}
-use Rattle.node_rules.proofs.Fitting.{passes, length_spent}
+use Rattle.node_rules.proofs.Fitting.{passes}
 
 module _ (rules : Rules) (judge : Judge) where
   taken_within : (k : ℕ) (ls : List Level) → AllByRecursion (IsWithin rules) ls → AllByRecursion (IsWithin rules) (take k ls)
@@ -38,7 +39,7 @@ module _ (rules : Rules) (judge : Judge) where
           let new = new_records b s.now.blocks in
           let us = s.now.history in
           let long = length-append (spent e.numbers us) (map Some new) in
-          let same = length_spent e.numbers us in
+          let same = length-spent e.numbers us in
           let count = length-map new (λ (leaf : Leaf). Some leaf) in
           let room = (passes rules (chain_of s.now) b e q).room in
           (omega (arith, long, same, count, room), taken_within 100 (s.now ∷ s.older) h)

@@ -4,13 +4,14 @@ use Rattle.std.specs.Int.{w64, to_le_bytes}
 use Rattle.std.specs.List.{flat_map, AllByRecursion}
 use Rattle.std.proofs.lemmas.List.{length-map, map-append}
 use Rattle.uo_base.specs.Compact.{counted}
+use Rattle.uo_base.proofs.Lists.{all-push}
 use Rattle.uo_digest.specs.declared.digest.Digest.{Digest}
 use Rattle.uo_digest.specs.Reading.{digest_text}
 use Rattle.leaf_record.specs.Leaf.{Rest, RestFits, rest_text}
 use Rattle.proof_wire.specs.BlockProof.{Spend, BlockProof, SpendFits, ProofFits, rests_of, body_text, spends_of}
 use Rattle.proof_wire.specs.Making.{rests_made, IsOfRests, proof_made, IsOfSpends, IsMade}
 use Rattle.proof_wire.proofs.ProofLaws.{targets-spends, rests-spends, parts_fit, spends_fit, spends_told}
-use Rattle.proof_wire.proofs.RestsLaws.{rests_read, all_push, told_more}
+use Rattle.proof_wire.proofs.RestsLaws.{rests_read, told_more}
 
 module _ (targets text : List ℕ) (made : IsOfSpends targets text) where
   count : length targets ≡ length made.spends
@@ -60,7 +61,7 @@ module _ (targets text more more_text : List ℕ) (made : IsOfSpends targets tex
   pub one_more : IsOfSpends more more_text
   one_more = record {
     spends = made.spends ++ spend ∷ [];
-    fit = all_push SpendFits made.spends spend made.fit (record { target = small; rest = fits });
+    fit = all-push SpendFits made.spends spend made.fit (record { target = small; rest = fits });
     at = at ∙ ap (λ (ts : List ℕ). ts ++ target ∷ []) made.at ∙ sym (map-append (λ (s : Spend). s.target) made.spends (spend ∷ []));
     told = told ∙ ap (λ (t : List ℕ). t ++ rest_text rest) made.told ∙ sym (text_more made.spends spend);
   }

@@ -6,6 +6,7 @@ use Rattle.std.proofs.lemmas.List.{append-nil, length-append}
 use Rattle.std.proofs.lemmas.List.Concat.{flat_map-append, flat_map-cons}
 use Rattle.uo_base.specs.Reading.{times}
 use Rattle.uo_base.proofs.Formats.{repeated}
+use Rattle.uo_base.proofs.Lists.{all-push}
 use Rattle.leaf_record.specs.Leaf.{Rest, RestFits, payload_text, code_of, rest_text}
 use Rattle.leaf_record.specs.Reading.{rest_at}
 use Rattle.leaf_record.proofs.LeafLaws.{rest_lawful}
@@ -35,10 +36,6 @@ no_more_than_bytes n text made = omega (arith, rests_few made.rests made.fit, ma
 
 -- ---- one more
 
-pub all_push : {X : Type 0} (P : X → Type 0) (xs : List X) (x : X) → AllByRecursion P xs → P x → AllByRecursion P (xs ++ x ∷ [])
-all_push P [] x all fits = (fits, tt)
-all_push P (y ∷ ys) x all fits = (all.0, all_push P ys x all.1 fits)
-
 pub told_more : (rs : List Rest) (r : Rest) → flat_map rest_text (rs ++ r ∷ []) ≡ flat_map rest_text rs ++ rest_text r
 told_more rs r =
     flat_map-append rest_text rs (r ∷ [])
@@ -52,7 +49,7 @@ module _ (n : ℕ) (text more : List ℕ) (made : IsOfRests n text) (rest : Rest
   pub one_rest_more : IsOfRests (n + 1) more
   one_rest_more = record {
     rests = made.rests ++ rest ∷ [];
-    fit = all_push RestFits made.rests rest made.fit fits;
+    fit = all-push RestFits made.rests rest made.fit fits;
     count = length-append made.rests (rest ∷ []) ∙ ap (λ (k : ℕ). k + 1) made.count;
     told = told ∙ ap (λ (t : List ℕ). t ++ rest_text rest) made.told ∙ sym (told_more made.rests rest);
   }

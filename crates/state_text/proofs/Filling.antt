@@ -5,6 +5,7 @@ use Rattle.std.specs.List.{AllByRecursion}
 use Rattle.std.proofs.lemmas.Bool.{cases_Bool, or_cases, false≢true, lt-ltb, eqb-true}
 use Rattle.std.proofs.lemmas.Option.{none-some}
 use Rattle.std.proofs.lemmas.List.{map-append}
+use Rattle.uo_base.proofs.Lists.{all-push}
 use Rattle.uo_digest.specs.declared.digest.Digest.{Digest}
 use Rattle.leaf_record.specs.Leaf.{leaf_text}
 use Rattle.forest_place.specs.declared.place.Place.{Place}
@@ -186,16 +187,12 @@ pub all_one : {X : Type 0} (P : X → Type 0) (xs ys : List X) (x : X) → AllBy
 all_one P [] ys x a = a.0
 all_one P (z ∷ xs) ys x a = all_one P xs ys x a.1
 
-all_more : {X : Type 0} (P : X → Type 0) (xs : List X) (x : X) → AllByRecursion P xs → P x → AllByRecursion P (xs ++ x ∷ [])
-all_more P [] x a p = (p, tt)
-all_more P (z ∷ xs) x a p = (a.0, all_more P xs x a.1 p)
-
 pub levels_more : (H : List ℕ → Digest) (scripts : List (List ℕ)) (ls : List LevelValue) (made : List CachedLevel) (l : LevelValue) (m : CachedLevel)
     → AreMadeLevels H scripts ls made → IsMadeLevel H scripts l m → AreMadeLevels H scripts (ls ++ l ∷ []) (made ++ m ∷ [])
 levels_more H scripts ls made l m a is = record {
-  sound = all_more (IsStoredLevel H scripts) ls l a.sound is.sound;
+  sound = all-push (IsStoredLevel H scripts) ls l a.sound is.sound;
   same = map-append level_in made (m ∷ []) ∙ ap₂ (λ (x : List LevelValue) (y : LevelValue). x ++ y ∷ []) a.same is.same;
-  filled = all_more (IsFilled H) made m a.filled is.filled;
+  filled = all-push (IsFilled H) made m a.filled is.filled;
 }
 
 -- ---- two levels that say the same

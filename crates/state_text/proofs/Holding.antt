@@ -23,6 +23,7 @@ use Rattle.forest_model.specs.Evaluation.{asked, beside, evaluation, hash_of, no
 use Rattle.forest_model.specs.Right.{entries}
 use Rattle.forest_model.proofs.Lists.{need_has, need_had, need_ascending}
 use Rattle.forest_model.proofs.Right.{computed_at, hash_right}
+use Rattle.forest_model.proofs.Covers.{some_from_test}
 use Rattle.proof_shape.proofs.Needing.{ascending_from_rises}
 use Rattle.proof_shape.proofs.Ordered.{has_at}
 use Rattle.proof_shape.specs.Survey.{IsCoverOf}
@@ -102,10 +103,6 @@ covered_from H n ts leaves hashes items are = record {
       ∙ ap (evaluation H n ts nothing_known leaves hashes) (same_Some is.beneath c (sym is.covered ∙ beneath)));
 }
 
-some_is : (x : Option Cover) → is_some x ≡ true → (c : Cover) × (x ≡ Some c)
-some_is None e = absurd (false≢true e)
-some_is (Some c) e = (c, refl)
-
 none_is : (x : Option Cover) → not (is_some x) ≡ true → x ≡ None
 none_is None e = refl
 none_is (Some c) e = absurd (false≢true e)
@@ -154,7 +151,7 @@ module _ (H : List ℕ → Digest) (n : ℕ) (ts : List Place) (leaves hashes : 
         let p = (pair_at covered m).0 in
         let h = covered_has m lt in
         let within = are.cover_is.within p.row p.off h in
-        let c = some_is (cover ts p.row p.off) (sym (are.cover_is.covered p within) ∙ h) in
+        let c = some_from_test (cover ts p.row p.off) (sym (are.cover_is.covered p within) ∙ h) in
         (within, at_cover p c.0 c.1 ∙ ap (λ (d : Digest). let o : Option Digest = Some d in o) (sym (are.digests m c.0 lt c.1))))
 
     needed_sound : AllByRecursion (IsHeld n at) needed

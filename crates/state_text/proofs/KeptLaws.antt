@@ -7,7 +7,7 @@ use Rattle.std.proofs.lemmas.Bool.{cases_Bool, false≢true, or_cases, and_parts
 use Rattle.std.proofs.lemmas.Option.{none-some, same_Some}
 use Rattle.std.proofs.lemmas.List.{length-map}
 use Rattle.uo_digest.specs.declared.digest.Digest.{Digest}
-use Rattle.leaf_record.specs.Leaf.{Leaf, LeafFits, leaf_text}
+use Rattle.leaf_record.specs.Leaf.{Leaf, leaf_text}
 use Rattle.leaf_record.specs.History.{History}
 use Rattle.forest_place.specs.declared.place.Place.{Place}
 use Rattle.forest_place.specs.Places.{is_at, has_place, IsDistinct}
@@ -21,10 +21,12 @@ use Rattle.forest_model.proofs.Climbs.{tree_at-forest, nothing_beneath}
 use Rattle.forest_model.proofs.Living.{entry_found}
 use Rattle.cache_model.specs.Known.{is_watched}
 use Rattle.node_rules.proofs.Righting.{got_entry}
+use Rattle.node_rules.proofs.Fitting.{record_fits}
+use Rattle.node_rules.specs.Fitting.{HistoryFits}
 use Rattle.state_text.specs.declared.entry.StoredEntry.{StoredEntry}
 use Rattle.state_text.specs.Stored.{places_of, leaves_of}
 use Rattle.state_text.specs.Fits.{NumbersRise, IsKept, EntryFits}
-use Rattle.state_text.specs.OfHistory.{kept_entry, kept_entries, LiveFits, LeavesFit}
+use Rattle.state_text.specs.OfHistory.{kept_entry, kept_entries}
 
 module _ (H : List ℕ → Digest) (scripts : List (List ℕ)) (us : History) where
   abbrev pub es : List (Option Digest)
@@ -163,19 +165,14 @@ module _ (H : List ℕ → Digest) (scripts : List (List ℕ)) (us : History) wh
   are_kept [] a = tt
   are_kept (e ∷ kept) a = (record { below = omega (arith, a.0.below, same_length); watched = a.0.watched }, are_kept kept a.1)
 
-  leaf_fits : (vs : History) (k : ℕ) (r : Leaf) → LeavesFit vs → slice_get vs k ≡ Some (Some r) → LeafFits r
-  leaf_fits [] k r fit e = absurd (none-some _ e)
-  leaf_fits (v ∷ vs) zero r fit e = subst LiveFits (same_Some v (Some r) e) fit.0
-  leaf_fits (v ∷ vs) (suc k) r fit e = leaf_fits vs k r fit.1 e
-
-  pub kept_fit : length us < 2 ^ 40 → LeavesFit us → (kept : List StoredEntry) → AllByRecursion IsKeptAt kept
+  pub kept_fit : length us < 2 ^ 40 → HistoryFits us → (kept : List StoredEntry) → AllByRecursion IsKeptAt kept
       → AllByRecursion (EntryFits (length es)) kept
   kept_fit few fit [] a = tt
   kept_fit few fit (e ∷ kept) a = (
     record {
       number = omega (arith, few, a.0.below);
       place = tree_at-forest es e.place.row e.place.off _ a.0.stands;
-      leaf = leaf_fits us e.number e.leaf fit a.0.live;
+      leaf = record_fits us fit e.number e.leaf a.0.live;
     },
     kept_fit few fit kept a.1,
   )

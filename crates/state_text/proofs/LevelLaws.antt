@@ -1,15 +1,17 @@
 -- What a node that holds every output stores is the state of a node.
-use Rattle.std.proofs.Common.{◌≡◌, ℕ, zero, suc, ◌+◌, ◌-◌, ◌*◌, ◌/◌, ◌^◌, ◌<◌, ◌≤◌, Bool, true, cond, List, [], ◌∷◌, ◌++◌, map, length, get_or}
+use Rattle.std.proofs.Common.{◌≡◌, ℕ, zero, suc, ◌+◌, ◌-◌, ◌*◌, ◌/◌, ◌^◌, ◌<◌, ◌≤◌, true, cond, List, [], ◌∷◌, ◌++◌, map, length, get_or}
 use Rattle.std.proofs.Common.{Option, Some, None, refl, sym, ap, ◌∙◌, subst, arith, ⊎_elim}
-use Rattle.std.specs.Prelude.{option_map, filter}
+use Rattle.std.specs.Prelude.{option_map}
 use Rattle.std.specs.List.{AllByRecursion, range_with_len}
 use Rattle.std.proofs.lemmas.Bool.{cases_Bool, cases_lt}
 use Rattle.std.proofs.lemmas.Option.{none-some, same_Some}
 use Rattle.std.proofs.lemmas.List.{length-map, length-append, get_or_past}
 use Rattle.std.proofs.lemmas.List.FromFn.{get_or-map-range_with_len}
+use Rattle.uo_base.proofs.Lists.{filter_few}
 use Rattle.uo_digest.specs.declared.digest.Digest.{Digest}
 use Rattle.leaf_record.specs.Leaf.{Leaf, leaf_text}
 use Rattle.leaf_record.specs.History.{somes, History}
+use Rattle.leaf_record.proofs.HistoryLaws.{somes_few}
 use Rattle.uo_digest.specs.Reading.{IsDigest}
 use Rattle.forest_place.specs.declared.place.Place.{Place}
 use Rattle.forest_place.specs.Forest.{is_slot, root_off}
@@ -39,15 +41,6 @@ use Rattle.state_text.proofs.KeptLaws.{AreKeptAt, all_kept, shape, target_stands
 use Rattle.state_text.proofs.StateFormat.{one_body}
 
 -- ---- counts
-
-pub length-somes : {X : Type 0} (xs : List (Option X)) → length (somes xs) ≤ length xs
-length-somes [] = omega arith
-length-somes (None ∷ xs) = omega (arith, length-somes xs)
-length-somes (Some x ∷ xs) = omega (arith, length-somes xs)
-
-length-kept : {X : Type 0} (p : X → Bool) (xs : List X) → length (filter p xs) ≤ length xs
-length-kept p [] = omega arith
-length-kept p (x ∷ xs) = ⊎_elim (λ t. rw t (omega (arith, length-kept p xs))) (λ f. rw f (omega (arith, length-kept p xs))) (cases_Bool (p x))
 
 length-row : (row k m : ℕ) → length (row_places row k m) ≡ m
 length-row row k zero = refl
@@ -191,9 +184,9 @@ module _ (H : List ℕ → Digest) (long : (x : List ℕ) → IsDigest (H x)) (s
     kept = kept_fit H scripts us (omega (arith, few_entries, same_length)) c.fit kept stand.each;
     count_of_hashes = omega (
       arith,
-      length-somes (map (λ p. digest_at H es p.row p.off) (need (length es) ts)),
+      somes_few (map (λ p. digest_at H es p.row p.off) (need (length es) ts)),
       length-map (need (length es) ts) (λ p. digest_at H es p.row p.off),
-      length-kept (is_needed (length es) ts) (places (length es)),
+      filter_few (is_needed (length es) ts) (places (length es)),
       few_places (length es),
       few_entries,
     );

@@ -2,9 +2,9 @@
 use Rattle.std.proofs.Common.{◌≡◌, ℕ, zero, suc, ◌^◌, ◌<◌, ◌≤◌, eqb, true, false, List, [], ◌∷◌, ◌++◌, length, get_or, replicate, Option, Some, None}
 use Rattle.std.proofs.Common.{refl, sym, ap, ap₂, subst, ◌∙◌, append_assoc, arith, ⊎_elim}
 use Rattle.std.proofs.lemmas.Bool.{cases_Bool, cases_lt, eqb-true, false≢true}
-use Rattle.std.proofs.lemmas.List.{get_or-set_same, get_or-set_other, length-set, get_or_past}
+use Rattle.std.proofs.lemmas.List.{get_or-set_same, get_or-set_other, length-set, get_or_past, ext_get_or}
 use Rattle.uo_base.specs.Reading.{IsBytes, ◌>>=◌}
-use Rattle.uo_base.proofs.Formats.{Took, Lawful, same, bind_some, some_is, found, not_both}
+use Rattle.uo_base.proofs.Formats.{Took, Lawful, same, bind_some, some_is, found, not_both, IsBytes-rest}
 use Rattle.uo_digest.specs.declared.digest.Digest.{Digest}
 use Rattle.uo_digest.specs.Reading.{digest_in_front}
 use Rattle.uo_digest.proofs.DigestLaws.{digest_lawful}
@@ -13,9 +13,6 @@ use Rattle.forest_roots.specs.Stump.{Stump, IsStump, root_in, with_root, empty_r
 use Rattle.state_text.specs.Stored.{root_text, roots_text}
 use Rattle.state_text.specs.Fits.{RootFits}
 use Rattle.state_text.specs.Reading.{root_at, roots_at}
-
-pub bytes-tail : (b : ℕ) (bytes : List ℕ) → IsBytes (b ∷ bytes) → IsBytes bytes
-bytes-tail b bytes h i = h (suc i)
 
 -- ---- one root
 
@@ -47,13 +44,13 @@ root_took (b ∷ bytes) r rest is_bytes e =
     let z : b ≡ 0 = eqb-true b 0 zero in
     let e' = some_is (None, bytes) (r, rest) (sym (mark-none bytes) ∙ (ap (λ (k : ℕ). root_at (k ∷ bytes)) (sym z) ∙ e)) in
     subst (λ (p : Option Digest × List ℕ). Took (b ∷ bytes) (root_text p.0) p.1 (RootFits p.0)) e'
-    (record { fits = tt; parts = ap (λ (k : ℕ). k ∷ bytes) z; rest_bytes = bytes-tail b bytes is_bytes }))
+    (record { fits = tt; parts = ap (λ (k : ℕ). k ∷ bytes) z; rest_bytes = IsBytes-rest b bytes is_bytes }))
     (λ more. ⊎_elim
     (λ one.
     let z : b ≡ 1 = eqb-true b 1 one in
     let s = bind_some (digest_in_front bytes) (λ d. Some (full d.0, d.1)) (r, rest)
     (sym (mark-some bytes) ∙ (ap (λ (k : ℕ). root_at (k ∷ bytes)) (sym z) ∙ e)) in
-    let t = digest_lawful.took bytes s.0.0 s.0.1 (bytes-tail b bytes is_bytes) s.1 in
+    let t = digest_lawful.took bytes s.0.0 s.0.1 (IsBytes-rest b bytes is_bytes) s.1 in
     let made : Option Digest × List ℕ = (full s.0.0, s.0.1) in
     subst (λ (p : Option Digest × List ℕ). Took (b ∷ bytes) (root_text p.0) p.1 (RootFits p.0)) (some_is made (r, rest) s.2)
     (record { fits = t.fits; parts = ap₂ (λ (k : ℕ) (x : List ℕ). k ∷ x) z t.parts; rest_bytes = t.rest_bytes }))
@@ -85,17 +82,11 @@ record IsOver (k : ℕ) (f g : Stump) : Type 0 where
   above : (row : ℕ) → k ≤ row → root_in g row ≡ root_in f row
   digests : (row : ℕ) → row < k → RootFits (root_in g row)
 
-same_rows : (xs ys : List (Option Digest)) → length xs ≡ length ys → ((k : ℕ) → get_or xs k None ≡ get_or ys k None) → xs ≡ ys
-same_rows [] [] n h = refl
-same_rows [] (y ∷ ys) n h = absurd (omega (arith, n))
-same_rows (x ∷ xs) [] n h = absurd (omega (arith, n))
-same_rows (x ∷ xs) (y ∷ ys) n h = ap₂ (λ z zs. z ∷ zs) (h 0) (same_rows xs ys (omega (arith, n)) (λ k. h (suc k)))
-
 abbrev stump_of : ℕ → List (Option Digest) → Stump
 stump_of n rows = record { leaves = n; rows = rows }
 
 none_over : (f g : Stump) → IsBlank 0 f → IsOver 0 f g → f ≡ g
-none_over f g b o = ap₂ stump_of (sym o.leaves) (same_rows f.rows g.rows (b.forty ∙ sym o.forty) (λ k. sym (o.above k (omega arith))))
+none_over f g b o = ap₂ stump_of (sym o.leaves) (ext_get_or None f.rows g.rows (b.forty ∙ sym o.forty) (λ k lt. sym (o.above k (omega arith))))
 
 -- one root more
 with_blank : (k : ℕ) (f : Stump) (r : Option Digest) → is_slot f.leaves k ≡ true → IsBlank (suc k) f → IsBlank k (with_root f k r)

@@ -5,18 +5,18 @@ use Rattle.std.specs.Prelude.{bytes_eq}
 use Rattle.std.specs.Global.{Vec}
 use Rattle.std.specs.List.{insert}
 use Rattle.std.specs.declared.cmp.Ordering.{Ordering}
-use Rattle.std.specs.declared.cmp.Ordering.TheVariants.{Less, Equal, Greater}
+use Rattle.std.specs.declared.cmp.Ordering.TheVariants.{Less}
 use Rattle.std.specs.Ordering.{nat_cmp, is_lt}
 use Rattle.std.specs.Cmp.Lexicographic.{slice_cmp}
 use Rattle.std.proofs.lemmas.Cmp.{nat_list_cmp_total}
 use Rattle.std.proofs.lemmas.List.{length-drop, length-take-le, get_or-take, get_or_default, take_more}
-use Rattle.std.proofs.lemmas.Bool.{cases_Bool, false≢true}
+use Rattle.std.proofs.lemmas.Bool.{cases_Bool}
 use Rattle.std.proofs.lemmas.Option.{none-some}
 use Rattle.std.proofs.lemmas.List.Edits.{insert_end}
 use Rattle.cache_model.specs.Undo.{find}
 use Rattle.cache_model.specs.Search.{IsSplit}
 use Rattle.leaf_cache.specs.Watched.{AreWatched, ScriptsAscend, is_before_script, script_key, put_script}
-use Rattle.leaf_cache.proofs.Scripts.{script_order, put_new}
+use Rattle.leaf_cache.proofs.Scripts.{script_order, put_new, less}
 use Rattle.state_text.specs.Ordered.{ScriptsRise, AreScripts}
 
 abbrev order : List ℕ → List ℕ → Ordering
@@ -58,11 +58,6 @@ rise-none vs i some le = few_rise (drop (i - 1) vs) (omega (arith, length-drop (
 less_is : (a b : List ℕ) → order a b ≡ Less → is_before_script a b ≡ true
 less_is a b e = ap is_lt e
 
-is_less : (o : Ordering) → is_lt o ≡ true → o ≡ Less
-is_less Less e = refl
-is_less Equal e = absurd (false≢true e)
-is_less Greater e = absurd (false≢true e)
-
 before_found : (x : List ℕ) (xs : List (List ℕ)) → ScriptsRise (x ∷ xs) → (k v : List ℕ) → find bytes_eq script_key k xs ≡ Some v
     → is_before_script x k ≡ true
 before_found x [] rise k v e = absurd (none-some v e)
@@ -81,7 +76,7 @@ rise [] a = tt
 rise (x ∷ []) a = tt
 rise (x ∷ y ∷ more) a =
     let found : find bytes_eq script_key y (y ∷ more) ≡ Some y = rw (script_order.itself y) refl in
-    (is_less (order x y) (a.0 y y found), rise (y ∷ more) a.1)
+    (less (order x y) (a.0 y y found), rise (y ∷ more) a.1)
 
 pub scripts_watched : (xs : List (List ℕ)) → AreScripts xs → AreWatched xs
 scripts_watched xs s = record { few = s.few; each = s.each; ascend = ascend xs s.rise }

@@ -10,7 +10,7 @@ use Rattle.uo_base.specs.declared.event.Net.TheVariants.{Main, Regtest}
 use Rattle.uo_base.specs.Reading.{IsBytes, ◌>>=◌, byte_at, number_at, times}
 use Rattle.uo_base.specs.Compact.{sized, sized_at, counted, counted_at}
 use Rattle.uo_base.proofs.Formats.{Took, Lawful, same, led, ended, tested, repeated, bind_some, passed, not_both, some_is, Always, u32_lawful}
-use Rattle.uo_base.proofs.Formats.{u64_lawful}
+use Rattle.uo_base.proofs.Formats.{u64_lawful, IsBytes-rest}
 use Rattle.uo_base.proofs.CompactLaws.{AreCounted, counted_lawful, sized_lawful}
 use Rattle.uo_digest.specs.declared.digest.Digest.{Digest}
 use Rattle.uo_digest.specs.Reading.{digest_text, IsDigest}
@@ -21,7 +21,7 @@ use Rattle.forest_roots.specs.Stump.{Stump, IsStump, root_in, empty_roots}
 use Rattle.state_text.specs.Stored.{LevelValue, StateValue, net_code, roots_text, entry_text, level_text, body_text}
 use Rattle.state_text.specs.Fits.{RootFits, EntryFits, LevelFits, ScriptFits, StateFits}
 use Rattle.state_text.specs.Reading.{leaves_at, roots_at, entry_at, head_at, level_at, net_at, front_at, body_at, whole_at}
-use Rattle.state_text.proofs.RootFormat.{bytes-tail, AreRoots, roots_lawful}
+use Rattle.state_text.proofs.RootFormat.{AreRoots, roots_lawful}
 use Rattle.state_text.proofs.EntryFormat.{entry_lawful}
 
 -- ---- a level
@@ -164,13 +164,13 @@ net_took (b ∷ bytes) net rest is_bytes e =
     let z : b ≡ 0 = eqb-true b 0 zero in
     subst (λ (p : Net × List ℕ). Took (b ∷ bytes) (net_code p.0 ∷ []) p.1 (Unit {0}))
     (some_is (Main, bytes) (net, rest) (sym (net_main bytes) ∙ (ap (λ (k : ℕ). net_at (k ∷ bytes)) (sym z) ∙ e)))
-    (record { fits = tt; parts = ap (λ (k : ℕ). k ∷ bytes) z; rest_bytes = bytes-tail b bytes is_bytes }))
+    (record { fits = tt; parts = ap (λ (k : ℕ). k ∷ bytes) z; rest_bytes = IsBytes-rest b bytes is_bytes }))
     (λ more. ⊎_elim
     (λ one.
     let z : b ≡ 1 = eqb-true b 1 one in
     subst (λ (p : Net × List ℕ). Took (b ∷ bytes) (net_code p.0 ∷ []) p.1 (Unit {0}))
     (some_is (Regtest, bytes) (net, rest) (sym (net_regtest bytes) ∙ (ap (λ (k : ℕ). net_at (k ∷ bytes)) (sym z) ∙ e)))
-    (record { fits = tt; parts = ap (λ (k : ℕ). k ∷ bytes) z; rest_bytes = bytes-tail b bytes is_bytes }))
+    (record { fits = tt; parts = ap (λ (k : ℕ). k ∷ bytes) z; rest_bytes = IsBytes-rest b bytes is_bytes }))
     (λ other. absurd (not_both (net_at (b ∷ bytes)) (net, rest) (net_other b bytes more other) e))
     (cases_Bool (eqb b 1)))
     (cases_Bool (eqb b 0))
@@ -186,7 +186,7 @@ byte_took : (bytes : List ℕ) (n : ℕ) (rest : List ℕ) → IsBytes bytes →
 byte_took [] n rest is_bytes e = absurd cc
 byte_took (b ∷ bytes) n rest is_bytes e =
     subst (λ (p : ℕ × List ℕ). Took (b ∷ bytes) (p.0 ∷ []) p.1 (p.0 < 256)) (some_is (b, bytes) (n, rest) e)
-    (record { fits = is_bytes 0; parts = refl; rest_bytes = bytes-tail b bytes is_bytes })
+    (record { fits = is_bytes 0; parts = refl; rest_bytes = IsBytes-rest b bytes is_bytes })
 
 byte_lawful : Lawful (λ n. n < 256) (λ n. n ∷ []) byte_at
 byte_lawful = record { took = byte_took; again = λ n rest fits. refl }

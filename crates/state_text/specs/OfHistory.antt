@@ -1,9 +1,9 @@
 -- The state of a node that holds every output, and what holds of it.
 use Rattle.std.specs.Prelude.{◌≡◌, ℕ, suc, ◌-◌, ◌<◌, ◌≤◌, ◌^◌, List, [], ◌∷◌, map, length, Option, Some, None, if◌then◌else◌}
-use Rattle.std.specs.List.{range_with_len, cons_option, AllByRecursion}
+use Rattle.std.specs.List.{range_with_len, cons_option}
 use Rattle.uo_base.specs.declared.event.Net.{Net}
 use Rattle.uo_digest.specs.declared.digest.Digest.{Digest}
-use Rattle.leaf_record.specs.Leaf.{Leaf, LeafFits, leaf_text}
+use Rattle.leaf_record.specs.Leaf.{Leaf, leaf_text}
 use Rattle.leaf_record.specs.History.{somes, History}
 use Rattle.uo_digest.specs.Reading.{IsDigest}
 use Rattle.forest_place.specs.declared.place.Place.{Place}
@@ -15,6 +15,7 @@ use Rattle.forest_model.specs.Right.{entries}
 use Rattle.forest_roots.specs.Stump.{Stump}
 use Rattle.cache_model.specs.Known.{is_watched}
 use Rattle.node_rules.specs.Machine.{Level, State, no_tip}
+use Rattle.node_rules.specs.Fitting.{HistoryFits}
 use Rattle.state_text.specs.declared.entry.StoredEntry.{StoredEntry}
 use Rattle.state_text.specs.Stored.{LevelValue, StateValue, places_of, IsTextOf}
 use Rattle.leaf_cache.specs.Watched.{AreWatched}
@@ -55,18 +56,10 @@ state_of H net scripts s = record { net = net; blocks = s.now.blocks; scripts = 
 
 -- ---- what holds of the levels of such a node
 
--- each live output has a leaf text
-abbrev pub LiveFits : Option Leaf → Type 0
-LiveFits None = Unit {0}
-LiveFits (Some leaf) = LeafFits leaf
-
-abbrev pub LeavesFit : History → Type 0
-LeavesFit us = AllByRecursion LiveFits us
-
 pub record IsChained (blocks most : ℕ) (l : Level) : Type 0 where
   pub blocks_are : l.blocks ≡ blocks
   pub tip : IsDigest l.tip
-  pub fit : LeavesFit l.history
+  pub fit : HistoryFits l.history
   pub within : length l.history ≤ most
   pub start_tip : blocks ≡ 0 → l.tip ≡ no_tip
   pub start_history : blocks ≡ 0 → l.history ≡ []

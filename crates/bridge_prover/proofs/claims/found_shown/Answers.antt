@@ -1,8 +1,7 @@
 use Rattle.std.proofs.Common.{ap, sym, ◌∙◌, Some}
+use Rattle.uo_base.proofs.Lists.{one_more, got-map}
 use Rattle.proof_wire.specs.BlockProof.{rests_of}
 use Rattle.block_rules.specs.Money.{found_of}
-use Rattle.node_rules.proofs.Told.{one_more}
-use Rattle.node_rules.proofs.ClaimedLeaves.{got-map}
 use Rattle.bridge_prover.proofs.claims.found_shown.Goals as goal
 
 pub loop-i-preserved : goal.loop-i-preserved

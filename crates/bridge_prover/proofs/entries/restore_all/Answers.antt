@@ -1,9 +1,9 @@
 use Rattle.std.proofs.Common.{◌≡◌, ◌+◌, ◌≤◌, ◌∷◌, [], length, get_or, ap, ◌∙◌, subst, arith}
+use Rattle.uo_base.proofs.Lists.{other_later}
 use Rattle.forest_place.specs.Position.{rows}
 use Rattle.live_forest.specs.State.{is_live, is_held}
 use Rattle.live_forest.proofs.Undoing.{length-restored}
 use Rattle.bridge_prover.specs.Bridge.{restored_in}
-use Rattle.bridge_prover.proofs.Indexing.{other_later}
 use Rattle.bridge_prover.proofs.Restoring.{restored_more, live-restored_other}
 use Rattle.bridge_prover.proofs.entries.restore_all.Goals as goal
 

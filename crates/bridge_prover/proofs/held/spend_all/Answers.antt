@@ -1,7 +1,8 @@
 use Rattle.std.proofs.Common.{ap, sym, ◌∙◌, arith, get_or, drop, ◌+◌}
+use Rattle.uo_base.proofs.Lists.{other_later}
 use Rattle.output_index.specs.Held.{is_live}
 use Rattle.bridge_prover.specs.Own.{spent_in}
-use Rattle.bridge_prover.proofs.Indexing.{spent_step, other_later}
+use Rattle.bridge_prover.proofs.Indexing.{spent_step}
 use Rattle.bridge_prover.proofs.Rising.{live-with_other}
 use Rattle.bridge_prover.proofs.held.spend_all.Goals as goal
 

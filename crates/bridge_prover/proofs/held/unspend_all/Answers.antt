@@ -1,7 +1,8 @@
 use Rattle.std.proofs.Common.{ap, sym, ◌∙◌, arith, get_or, drop, ◌+◌}
+use Rattle.uo_base.proofs.Lists.{other_later}
 use Rattle.output_index.specs.Held.{is_spent}
 use Rattle.bridge_prover.specs.Own.{unspent_in}
-use Rattle.bridge_prover.proofs.Indexing.{unspent_step, other_later}
+use Rattle.bridge_prover.proofs.Indexing.{unspent_step}
 use Rattle.bridge_prover.proofs.Rising.{spent-with_other}
 use Rattle.bridge_prover.proofs.held.unspend_all.Goals as goal
 

@@ -1,6 +1,6 @@
 use Rattle.std.proofs.Common.{◌∙◌, arith}
 use Rattle.std.proofs.lemmas.List.{take_all}
-use Rattle.node_rules.proofs.Told.{one_more}
+use Rattle.uo_base.proofs.Lists.{one_more}
 use Rattle.ticket_check.proofs.target.copies_of.Goals as goal
 
 pub loop-i-preserved : goal.loop-i-preserved
