@@ -8,7 +8,7 @@ use std::fmt;
 use uo_digest::Digest;
 
 /// Why a ticket is not accepted.
-#[derive(Clone, Copy, Debug, PartialEq, Eq)]
+#[derive(Clone, Copy)]
 pub enum CheckFault {
     /// The text is no ticket.
     Form,
@@ -36,7 +36,7 @@ impl fmt::Display for CheckFault {
 }
 
 /// What a bridge replies to a follower.
-#[derive(Clone, Copy, Debug, PartialEq, Eq)]
+#[derive(Clone, Copy)]
 pub enum ReplyKind {
     /// The block behind the follower's newest one.
     Next,
@@ -81,7 +81,7 @@ impl fmt::Display for TipText<'_> {
 }
 
 /// A line of the report, without the byte that ends it.
-#[derive(Clone, Copy, Debug, PartialEq, Eq)]
+#[derive(Clone, Copy)]
 pub enum Line {
     /// What the node says of an event.
     Verdict(Verdict),
