@@ -260,3 +260,9 @@ climbed-root ids hashes k root few is c =
       none : (l p : ℕ) → level ids k ≡ root ∷ [] → (l < k) ⊎ (k ≤ l) → IsRepeat (level ids l) p → ⊥
       none l p top (inl below) r = no-repeat (level ids l) 0 (c.clear l below) p r
       none l p top (inr above) r = let alone = rw (root-later ids root k l above top) at r.inside in absurd (omega (arith, alone))
+
+-- one id is the root
+pub one-id : (ids : List Digest) (d : Digest) → length ids ≡ 1 → (merkle_of ids ≡ Root (get_or ids 0 d)) × IsRoot ids (get_or ids 0 d)
+one-id [] d one = absurd (omega (arith, one))
+one-id (only ∷ ids) d one =
+    climbed-root (only ∷ ids) (only ∷ ids) 0 only (omega (arith, one)) refl (climbed-start (only ∷ ids) (omega (arith, one)) (omega (arith, one)))

@@ -7,7 +7,7 @@ ghost use Rattle.uo_digest.specs.Batches.{AreGiven};
 
 use arrayvec::ArrayVec;
 use tx_codec::TxView;
-use uo_digest::{Digest, sha256d, sha256d_all};
+use uo_digest::{Digest, sha256d_all};
 
 /// How many texts are hashed together: a few KB on the stack, and enough that most of them find others of as many blocks.
 const BATCH: usize = 64;
@@ -115,14 +115,11 @@ fn put_batch(txs: &[TxView<'_>], out: &mut [Digest]) -> usize
     reach
 }
 
-// The id of one transaction. In the legacy form that is the hash of its text as it lies there.
+// The id of one transaction.
 fn txid_alone(tx: &TxView<'_>) -> Digest
     ensures { result ≡ txid_of tx.now }
 {
-    if tx.is_segwit() {
-        return tx.txid();
-    }
-    sha256d(tx.bytes())
+    tx.txid()
 }
 
 // The ids of some transactions at the front, and how many these are. Fewer than eight are hashed one by one, so they take no room of a batch.

@@ -129,6 +129,9 @@ pub fn merkle_root_of(alloc: Global, ids: &[Digest]) -> Result<MerkleOutcome, No
     ensures exact { IfOk result (λ outcome. outcome ≡ merkle_of ids.now) }
     ensures meaning { IfOk result (IsMerkle ids.now) }
 {
+    if let [only] = ids {
+        return Ok(MerkleOutcome::Root(*only));
+    }
     Ok(climb(Vec::from_slice(alloc, ids)?))
 }
 

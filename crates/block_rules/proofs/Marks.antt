@@ -1,7 +1,7 @@
 -- Where numbers that stand for outpoints are all different, no outpoint is spent twice.
 use Rattle.std.proofs.Common.{◌≡◌, ℕ, suc, ◌+◌, Bool, false, List, [], ◌∷◌, ◌++◌, map, drop, Some, None, refl, sym, ap, ◌∙◌, subst, ⊎_elim, arith}
 use Rattle.std.proofs.Common.{add-one, append_assoc, ne_eqb, eq-eqb}
-use Rattle.std.specs.Prelude.{◌==◌, slice_get, not, ◌||◌}
+use Rattle.std.specs.Prelude.{◌==◌, slice_get, not, ◌||◌, ◌≤◌, length, IfSome, Option}
 use Rattle.std.specs.List.{list_any, AllByRecursion, IsDistinct}
 use Rattle.std.specs.Option.{option_or}
 use Rattle.std.specs.List.Sorted.{IsStrictlyIncreasing, IsPermutation}
@@ -75,3 +75,16 @@ differ_none ats marks sorted e perm rising =
     (IsDistinct-from_apart eq sorted (λ i j d lt k. ne_eqb _ _ (λ e. let z = AllPairs-from_increasing sorted rising i j d lt k in
     absurd (omega (arith, z, e))))) in
     none_double [] ats (subst (IsDistinct eq) e d) (none_before ats)
+
+-- ---- one input
+
+one_input : (inputs : List Input) → length inputs ≤ 1 → double [] (placed_from 0 0 inputs ++ []) ≡ None
+one_input [] few = refl
+one_input (input ∷ []) few = refl
+one_input (input ∷ next ∷ inputs) few = absurd (omega (arith, few))
+
+pub one_differs : (txs : List Transaction) (tx : Transaction) → length txs ≡ 1 → slice_get txs 0 ≡ Some tx → length tx.inputs ≤ 1
+    → double [] (placed_of 0 txs) ≡ None
+one_differs [] tx one at few = absurd (omega (arith, one))
+one_differs (t ∷ []) tx one at few = one_input t.inputs (subst (λ (x : Option Transaction). IfSome x (λ y. length y.inputs ≤ 1)) (sym at) few)
+one_differs (t ∷ next ∷ txs) tx one at few = absurd (omega (arith, one))

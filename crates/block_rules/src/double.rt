@@ -18,11 +18,18 @@ use uo_base::NoMemory;
 pub(crate) fn double_step(alloc: Global, block: &BlockView<'_>) -> Result<Option<Refusal>, NoMemory>
     ensures { IfOk result (λ step. step ≡ double [] (placed_of 0 block.now.txs)) }
 {
-    if all_differ(alloc, block)? {
+    if has_one_input(block) || all_differ(alloc, block)? {
         Ok(None)
     } else {
         first_double(alloc, block)
     }
+}
+
+// Whether there is but one input, as in a block that has a coinbase alone.
+fn has_one_input(block: &BlockView<'_>) -> bool
+    ensures { IsTrue result → double [] (placed_of 0 block.now.txs) ≡ None }
+{
+    block.tx_count() == 1 && block.tx(0).input_count() <= 1
 }
 
 // Whether numbers that stand for the outpoints tell them all apart. They do in nearly every block in which none is spent

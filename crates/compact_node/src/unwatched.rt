@@ -19,6 +19,9 @@ use uo_digest::{Digest, Digester, Steps};
 /// The digests of how many new entries are held at a time, at most: enough for rows that are digested side by side, in 32 KB.
 const BATCH: u64 = 1024;
 
+/// The digests of so few new entries are held without taking memory.
+const FEW: usize = 8;
+
 // Whether no script is watched, and so nothing is kept or held.
 pub(crate) fn watches_nothing<D>(cache: &Cache<D>) -> bool
     ensures { OnTrue result ((cache.now.watch ≡ []) × HasNothing cache.now.parts) }
@@ -74,6 +77,29 @@ fn push_all<D: Digester, L: Ledger>(
     }
 }
 
+// The same, in room that is taken here: none for a few.
+fn push_in_room<D: Digester, L: Ledger>(
+    alloc: Global,
+    roots: &mut Roots<D>,
+    room: &mut LeafBuf<D>,
+    spends: &Spends<'_>,
+    steps: &mut Steps<L>,
+) -> Result<(), NoMemory>
+    requires { roots.old.leaves + length spends.now.new < 2 ^ 40 }
+    ensures roots { OnOk result (roots.new ≡ with_leaves D.digest_of roots.old (map (λ leaf. D.digest_of (leaf_text leaf)) spends.now.new)) }
+    ensures steps { steps.new ≤ steps.old + 2 * length spends.now.new + 40 }
+{
+    let count = spends.new_count();
+    if count <= FEW as u64 {
+        let mut digests = [Digest([0; 32]); FEW];
+        push_all(roots, room, spends, &mut digests, steps);
+        return Ok(());
+    }
+    let mut digests = vec![in alloc; Digest([0; 32]); count.min(BATCH) as usize]?;
+    push_all(roots, room, spends, &mut digests, steps);
+    Ok(())
+}
+
 /// The roots behind a block, whose new records come: of these none is watched, and nothing is kept or held. The mark gives the cache
 /// back. The memory is taken before the first change.
 pub(crate) fn grow_unwatched<D: Digester, L: Ledger>(
@@ -96,9 +122,7 @@ pub(crate) fn grow_unwatched<D: Digester, L: Ledger>(
     ensures held_room { cache.old.parts.held_room ≤ cache.new.parts.held_room }
     ensures steps { steps.new ≤ steps.old + 2 * length spends.now.new + 40 }
 {
-    let held = spends.new_count().min(BATCH).max(1);
-    let mut digests = vec![in alloc; Digest([0; 32]); held as usize]?;
     let mark = unchanged(alloc, cache)?;
-    push_all(roots, room, spends, &mut digests, steps);
+    push_in_room(alloc, roots, room, spends, steps)?;
     Ok(mark)
 }
