@@ -5,8 +5,8 @@
 //! - `bits`: a set of numbers below 128, as the bits of a number.
 //! - `page` and `least`: what is kept for the parts of 128 entries. Those that are live or may be again are *listed*, and have a cell each, of 64
 //!   bytes: the digest of the entry, and that of the one part whose halves meet between it and the listed entry before it. So a part is found by
-//!   counting bits. A page takes 64 bytes, and as many cells as it has room for: at most ten more than it has listed entries, and none more where
-//!   that is one at most, or, since its entries were listed, all 128 of them and one.
+//!   counting bits. A page takes 64 bytes, and 64 for each cell that it has room for: at most ten more than it has listed entries, or 129 until the
+//!   first of them is let go.
 //! - `store`: all pages, and a list of the digests of the parts of several pages, of 33 bytes a page.
 //! - `refresh`: an entry is written, and the parts above it are made right. `emptying` and `growth` write several, and then go row by row, where
 //!   many parts are digested side by side (`waiting`).
