@@ -167,3 +167,17 @@ last_below n number few last i e =
 
 pub no_bits : (i : ℕ) → is_bit 0 i ≡ false
 no_bits i = ap (λ x. x == 1) (bit_at-zero i)
+
+-- the count below a number, from the count in the half that has it
+pub rank_in_low : (n i half k : ℕ) → i < 64 → half ≡ n / 2 ^ (i / 64 * 64) % 2 ^ 64 → k ≡ rank (is_bit half) (i % 64) → k ≡ rank (is_bit n) i
+rank_in_low n i half k lt is counted =
+    let at : i % 64 ≡ i = omega (arith, lt) in
+    counted ∙ ap₂ (λ b j. rank (is_bit b) j) (is ∙ sym (half_low n i lt)) at ∙ rank_low_half n i (omega (arith, lt))
+
+pub rank_in_high : (n i half before k : ℕ) → n < 2 ^ 128 → 64 ≤ i → i < 128 → half ≡ n / 2 ^ (i / 64 * 64) % 2 ^ 64 → before ≡ ones (n % 2 ^ 64)
+    → k ≡ rank (is_bit half) (i % 64) → before + k ≡ rank (is_bit n) i
+rank_in_high n i half before k fits ge lt is low counted =
+    let at : i % 64 ≡ i - 64 = omega (arith, ge, lt) in
+    let high : k ≡ rank (is_bit (n / 2 ^ 64)) (i - 64) =
+    counted ∙ ap₂ (λ b j. rank (is_bit b) j) (is ∙ sym (half_high n i fits ge lt)) at in
+    ap₂ (λ a b. a + b) low high ∙ rank_high_half n i ge

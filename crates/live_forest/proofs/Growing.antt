@@ -60,7 +60,7 @@ all_later before numbers count later = λ j lt. le-leb before (get_or numbers j 
 
 module _ (H : List ℕ → Digest) (n before : ℕ) where
   pub spanned_begins : (s : StoreState) (row from : ℕ) (w : Waiting) → HasRoom w
-      → AreSpanned H n s before row from from (record { numbers = w.numbers; pairs = w.pairs; count = 0 })
+      → AreSpanned H n s before row from from (record { numbers = w.numbers; count = 0 })
   spanned_begins s row from w room = record {
     done = λ o ge lt. absurd (omega (arith, ge, lt));
     waiting = none_waits H n row s w room;

@@ -1,8 +1,8 @@
 -- Parts that are made anew row by row: a step of a row, and parts that wait.
-use Rattle.std.proofs.Common.{◌≡◌, ◌≢◌, ℕ, zero, suc, ◌+◌, ◌-◌, ◌*◌, ◌/◌, ◌^◌, ◌<◌, ◌≤◌, ◌⊎◌, inl, inr, Bool, true, List, [], ◌∷◌, length}
+use Rattle.std.proofs.Common.{◌≡◌, ◌≢◌, ℕ, zero, suc, ◌+◌, ◌-◌, ◌*◌, ◌/◌, ◌^◌, ◌<◌, ◌≤◌, ◌⊎◌, inl, inr, Bool, true, false, List, [], ◌∷◌, length}
 use Rattle.std.proofs.Common.{get_or, set, Option, Some, None, refl, sym, ap, ap₂, ◌∙◌, subst, ⊎_elim, arith, eq-eqb}
-use Rattle.std.specs.Prelude.{◌==◌}
-use Rattle.std.proofs.lemmas.Bool.{cases_eq, cases_lt, or_cases, eqb-true, false≢true}
+use Rattle.std.specs.Prelude.{◌==◌, is_some}
+use Rattle.std.proofs.lemmas.Bool.{cases_eq, cases_lt, or_cases, eqb-true, false≢true, true≢false}
 use Rattle.std.proofs.lemmas.List.{get_or-set_same, get_or-set_other, length-set, ext_get_or}
 use Rattle.std.proofs.lemmas.List.Folds.{list_any_at}
 use Rattle.uo_digest.specs.declared.digest.Digest.{Digest}
@@ -148,18 +148,18 @@ module _ (H : List ℕ → Digest) where
     room = waiting.room;
     within = waiting.within;
     listed = λ j lt. room.listed (get_or w.numbers j 0) ∙ waiting.listed j lt;
-    left = λ j d lt. below row (2 * part_above w.numbers row j) (omega arith) ∙ waiting.left j d lt;
-    right = λ j d lt. below row (2 * part_above w.numbers row j + 1) (omega arith) ∙ waiting.right j d lt;
+    left = λ j lt. ap is_some (below row (2 * part_above w.numbers row j) (omega arith)) ∙ waiting.left j lt;
+    right = λ j lt. ap is_some (below row (2 * part_above w.numbers row j + 1) (omega arith)) ∙ waiting.right j lt;
   }
 
   pub none_waits : (n row : ℕ) (s : StoreState) (w : Waiting) → HasRoom w
-      → AreWaiting n s row (record { numbers = w.numbers; pairs = w.pairs; count = 0 })
+      → AreWaiting n s row (record { numbers = w.numbers; count = 0 })
   none_waits n row s w room = record {
-    room = record { numbers = room.numbers; pairs = room.pairs; few = omega arith };
+    room = record { numbers = room.numbers; few = omega arith };
     within = λ j lt. absurd (omega (arith, lt));
     listed = λ j lt. absurd (omega (arith, lt));
-    left = λ j d lt. absurd (omega (arith, lt));
-    right = λ j d lt. absurd (omega (arith, lt));
+    left = λ j lt. absurd (omega (arith, lt));
+    right = λ j lt. absurd (omega (arith, lt));
   }
 
   -- a part is made anew
@@ -175,23 +175,17 @@ module _ (H : List ℕ → Digest) where
   }
 
   -- or noted
-  pub renewed_noted : (n row number : ℕ) (s : StoreState) (l r : Digest) (w w' : Waiting) → w.count < 16
-      → w'.numbers ≡ set w.numbers w.count number → w'.pairs ≡ set w.pairs w.count (l, r) → w'.count ≡ w.count + 1
-      → InForest n (suc row) (number / 2 ^ suc row) → is_listed s.pages number ≡ true
-      → stored s row (2 * (number / 2 ^ suc row)) ≡ Some l → stored s row (2 * (number / 2 ^ suc row) + 1) ≡ Some r
+  pub renewed_noted : (n row number : ℕ) (s : StoreState) (w w' : Waiting) → w.count < 16 → w'.numbers ≡ set w.numbers w.count number
+      → w'.count ≡ w.count + 1 → InForest n (suc row) (number / 2 ^ suc row) → is_listed s.pages number ≡ true
+      → is_some (stored s row (2 * (number / 2 ^ suc row))) ≡ true → is_some (stored s row (2 * (number / 2 ^ suc row) + 1)) ≡ true
       → AreWaiting n s row w → IsRenewed H n row number s s w w'
-  renewed_noted n row number s l r w w' one numbers pairs count within listed left right waiting =
+  renewed_noted n row number s w w' one numbers count within listed left right waiting =
       let room = waiting.room in
       let last : get_or w'.numbers w.count 0 ≡ number = ap (λ (xs : List ℕ). get_or xs w.count 0) numbers
       ∙ get_or-set_same w.numbers w.count number 0 (omega (arith, one, room.numbers)) in
       let old = λ (j : ℕ) (ne : j ≢ w.count). ap (λ (xs : List ℕ). get_or xs j 0) numbers ∙ get_or-set_other w.numbers w.count j number 0 ne in
-      let last_pair = λ (d : Digest × Digest). ap (λ (xs : List (Digest × Digest)). get_or xs w.count d) pairs
-      ∙ get_or-set_same w.pairs w.count (l, r) d (omega (arith, one, room.pairs)) in
-      let old_pair = λ (j : ℕ) (d : Digest × Digest) (ne : j ≢ w.count). ap (λ (xs : List (Digest × Digest)). get_or xs j d) pairs
-      ∙ get_or-set_other w.pairs w.count j (l, r) d ne in
       let above : ℕ → ℕ = λ i. i / 2 ^ suc row in
       let is = λ (j : ℕ) (same : j ≡ w.count). ap (λ k. get_or w'.numbers k 0) same ∙ last in
-      let is_pair = λ (j : ℕ) (d : Digest × Digest) (same : j ≡ w.count). ap (λ k. get_or w'.pairs k d) same ∙ last_pair d in
       record {
         here = inr (w.count, (omega (arith, count), ap above last));
         step = λ new one. step_same new row s;
@@ -200,7 +194,6 @@ module _ (H : List ℕ → Digest) where
         waiting = record {
           room = record {
             numbers = ap length numbers ∙ length-set w.numbers w.count number ∙ room.numbers;
-            pairs = ap length pairs ∙ length-set w.pairs w.count (l, r) ∙ room.pairs;
             few = omega (arith, count, one);
           };
           within = λ j lt.
@@ -213,22 +206,17 @@ module _ (H : List ℕ → Digest) where
               (λ same. ap (is_listed s.pages) (is j same) ∙ listed)
               (λ ne. ap (is_listed s.pages) (old j ne) ∙ waiting.listed j (omega (arith, lt, count, ne)))
               (cases_eq j w.count);
-          left = λ j d lt.
+          left = λ j lt.
               ⊎_elim
-              (λ same.
-              ap (λ i. stored s row (2 * (i / 2 ^ suc row))) (is j same) ∙ left ∙ ap (λ (p : Digest × Digest). Some p.0) (sym (is_pair j d same)))
+              (λ same. ap (λ i. is_some (stored s row (2 * (i / 2 ^ suc row)))) (is j same) ∙ left)
               (λ ne.
-              ap (λ i. stored s row (2 * (i / 2 ^ suc row))) (old j ne) ∙ waiting.left j d (omega (arith, lt, count, ne))
-              ∙ ap (λ (p : Digest × Digest). Some p.0) (sym (old_pair j d ne)))
+              ap (λ i. is_some (stored s row (2 * (i / 2 ^ suc row)))) (old j ne) ∙ waiting.left j (omega (arith, lt, count, ne)))
               (cases_eq j w.count);
-          right = λ j d lt.
+          right = λ j lt.
               ⊎_elim
-              (λ same.
-              ap (λ i. stored s row (2 * (i / 2 ^ suc row) + 1)) (is j same) ∙ right
-              ∙ ap (λ (p : Digest × Digest). Some p.1) (sym (is_pair j d same)))
+              (λ same. ap (λ i. is_some (stored s row (2 * (i / 2 ^ suc row) + 1))) (is j same) ∙ right)
               (λ ne.
-              ap (λ i. stored s row (2 * (i / 2 ^ suc row) + 1)) (old j ne) ∙ waiting.right j d (omega (arith, lt, count, ne))
-              ∙ ap (λ (p : Digest × Digest). Some p.1) (sym (old_pair j d ne)))
+              ap (λ i. is_some (stored s row (2 * (i / 2 ^ suc row) + 1))) (old j ne) ∙ waiting.right j (omega (arith, lt, count, ne)))
               (cases_eq j w.count);
         };
         all = λ new one before j lt.
@@ -237,6 +225,16 @@ module _ (H : List ℕ → Digest) where
             (λ ne. ap new (old j ne) ∙ before j (omega (arith, lt, count, ne)))
             (cases_eq j w.count);
       }
+
+  -- what is kept of two halves, of which one has nothing
+  pub alone_left : (left right : Option Digest) → is_some right ≡ false → left ≡ join_digests H left right
+  alone_left None None e = refl
+  alone_left (Some l) None e = refl
+  alone_left left (Some r) e = absurd (true≢false e)
+
+  pub alone_right : (left right : Option Digest) → is_some left ≡ false → right ≡ join_digests H left right
+  alone_right None right e = refl
+  alone_right (Some l) right e = absurd (true≢false e)
 
   -- ---- all rows
 
@@ -295,7 +293,7 @@ module _ (H : List ℕ → Digest) where
   -- ---- some entries of a row are taken in
 
   pub taken_begins : (n : ℕ) (s : StoreState) (ns : List ℕ) (row at : ℕ) (w : Waiting) → HasRoom w → AreDone H n s ns row at
-      → AreTaken H n s ns row at (record { numbers = w.numbers; pairs = w.pairs; count = 0 })
+      → AreTaken H n s ns row at (record { numbers = w.numbers; count = 0 })
   taken_begins n s ns row at w room done = record {
     done = λ k lt h. inl (done k lt h);
     waiting = none_waits n row s w room;

@@ -198,7 +198,7 @@ half_inner j off side small =
       ap (λ k. (2 * off + side) % k) double ∙ ap (λ x. x % (w * 2)) parts ∙ mod-mul-add (off / w) (w * 2) (2 * (off % w) + side) lt,
     )
 
-half_stored : (s : StoreState) (row number side : ℕ) → row < 7 → side < 2 → stored s row (2 * (number / 2 ^ suc row) + side)
+pub half_stored : (s : StoreState) (row number side : ℕ) → row < 7 → side < 2 → stored s row (2 * (number / 2 ^ suc row) + side)
     ≡ told (page_at s.pages (number / 128)) row (2 * (number % 128 / 2 ^ suc row) + side)
 half_stored s row number side low small =
     let off = number / 2 ^ suc row in

@@ -8,7 +8,7 @@ use Rattle.std.proofs.lemmas.List.{get_or-set_same, get_or-set_other}
 use Rattle.std.proofs.lemmas.Nat.{pow_pos, shr-shr}
 use Rattle.uo_digest.specs.declared.digest.Digest.{Digest}
 use Rattle.forest_place.specs.Forest.{InForest}
-use Rattle.forest_place.proofs.Parts.{parts-suc, InForest-beneath}
+use Rattle.forest_place.proofs.Parts.{parts-suc, InForest-beneath, InForest-left, InForest-right}
 use Rattle.forest_place.proofs.Slots.{in_forest_iff}
 use Rattle.live_forest.specs.declared.cell.Cell.{Cell}
 use Rattle.live_forest.specs.Sets.{is_bit, has_part, rank, IsWith, IsWithout}
@@ -322,3 +322,30 @@ part_empty p row number page halves = record {
   here = none_told p (suc row) (number / 2 ^ suc row) page (sym (own_live p row (number / 2 ^ suc row) None page halves));
   others = λ r o but. refl;
 }
+
+-- ---- one half has nothing
+
+pub alone_halves : (f : ℕ → Option Digest) (first side : ℕ) → side < 2 → f (first + (1 - side)) ≡ None
+    → IsOfHalves (f first) (f (first + 1)) (f (first + side))
+alone_halves f first zero lt none =
+    let here : first + 0 ≡ first = omega arith in
+    let other : first + 1 ≡ first + (1 - 0) = omega arith in
+    record {
+      no_left = λ e. ap f here ∙ e ∙ sym (ap f other ∙ none);
+      no_right = λ e. ap f here;
+      both = λ left right. absurd (true≢false (sym right ∙ ap is_some (ap f other ∙ none)));
+    }
+alone_halves f first (suc zero) lt none =
+    let other : first ≡ first + (1 - 1) = omega arith in
+    record {
+      no_left = λ e. refl;
+      no_right = λ e. e ∙ sym (ap f other ∙ none);
+      both = λ left right. absurd (true≢false (sym left ∙ ap is_some (ap f other ∙ none)));
+    }
+alone_halves f first (suc (suc side)) lt none = absurd (omega (arith, lt))
+
+pub side_within : (n row off side : ℕ) → side < 2 → InForest n (suc row) off → InForest n row (2 * off + side)
+side_within n row off zero lt h =
+    let here : 2 * off ≡ 2 * off + 0 = omega arith in subst (InForest n row) here (InForest-left n row off h)
+side_within n row off (suc zero) lt h = InForest-right n row off h
+side_within n row off (suc (suc side)) lt h = absurd (omega (arith, lt))

@@ -1,5 +1,5 @@
 -- Parts that are made anew row by row, from the lowest upwards.
-use Rattle.std.specs.Prelude.{◌≡◌, ◌≢◌, ℕ, suc, ◌+◌, ◌*◌, ◌/◌, ◌^◌, ◌<◌, ◌≤◌, ◌==◌, Bool, true, List, length, get_or, Some, ◌⊎◌}
+use Rattle.std.specs.Prelude.{◌≡◌, ◌≢◌, ℕ, suc, ◌+◌, ◌*◌, ◌/◌, ◌^◌, ◌<◌, ◌≤◌, ◌==◌, Bool, true, List, length, get_or, is_some, ◌⊎◌}
 use Rattle.std.specs.List.{list_any}
 use Rattle.uo_digest.specs.declared.digest.Digest.{Digest}
 use Rattle.forest_model.specs.Content.{join_digests}
@@ -49,20 +49,19 @@ pub record IsRowStep (H : List ℕ → Digest) (new : ℕ → Bool) (row : ℕ) 
 -- there is room for sixteen parts
 pub record HasRoom (w : Waiting) : Type 0 where
   pub numbers : length w.numbers ≡ 16
-  pub pairs : length w.pairs ≡ 16
   pub few : w.count ≤ 16
 
 -- the part of the row above waits for its digest
 abbrev pub Waits : Waiting → ℕ → ℕ → Type 0
 Waits w row off = (j : ℕ) × ((j < w.count) × (part_above w.numbers row j ≡ off))
 
--- each part that waits is one of the forest, by an entry that has a cell, and both its halves have these digests
+-- each part that waits is one of the forest, by an entry that has a cell, and both its halves have something
 pub record AreWaiting (n : ℕ) (s : StoreState) (row : ℕ) (w : Waiting) : Type 0 where
   pub room : HasRoom w
   pub within : (j : ℕ) → j < w.count → InForest n (suc row) (part_above w.numbers row j)
   pub listed : (j : ℕ) → j < w.count → is_listed s.pages (get_or w.numbers j 0) ≡ true
-  pub left : (j : ℕ) (d : Digest × Digest) → j < w.count → stored s row (2 * part_above w.numbers row j) ≡ Some (get_or w.pairs j d).0
-  pub right : (j : ℕ) (d : Digest × Digest) → j < w.count → stored s row (2 * part_above w.numbers row j + 1) ≡ Some (get_or w.pairs j d).1
+  pub left : (j : ℕ) → j < w.count → is_some (stored s row (2 * part_above w.numbers row j)) ≡ true
+  pub right : (j : ℕ) → j < w.count → is_some (stored s row (2 * part_above w.numbers row j + 1)) ≡ true
 
 -- the first so many numbers are new ones
 abbrev pub AreAll : (ℕ → Bool) → List ℕ → ℕ → Type 0

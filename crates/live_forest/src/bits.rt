@@ -78,10 +78,13 @@ pub(crate) fn rank(bits: u128, number: u64) -> usize
     ensures { result ≡ rank_of (is_bit bits) number }
 {
     let low = (bits % (1 << 64)) as u64;
-    if number < 64 {
-        return count_below(low, number);
-    }
-    low.count_ones() as usize + count_below((bits >> 64) as u64, number - 64)
+    // It is counted in any case: of numbers all over, no processor guesses in which half the next one is.
+    let before = if number < 64 {
+        0
+    } else {
+        low.count_ones() as usize
+    };
+    before + count_below(half_of(bits, number), number % 64)
 }
 
 /// The set with a number.

@@ -5,11 +5,12 @@
 //! - `bits`: a set of numbers below 128, as the bits of a number.
 //! - `page` and `least`: what is kept for the parts of 128 entries. Those that are live or may be again are *listed*, and have a cell each, of 64
 //!   bytes: the digest of the entry, and that of the one part whose halves meet between it and the listed entry before it. So a part is found by
-//!   counting bits, and a page of k listed entries takes 64 + 64 k bytes.
+//!   counting bits. A page takes 64 bytes, and 64 for each cell that it has room for: at most ten more than it has listed entries, or 129 until the
+//!   first of them is let go.
 //! - `store`: all pages, and a list of the digests of the parts of several pages, of 33 bytes a page.
 //! - `refresh`: an entry is written, and the parts above it are made right. `emptying` and `growth` write several, and then go row by row, where
 //!   many parts are digested side by side (`waiting`).
-//! - `seen`, `seek`, `walk`, `proving`: what stands at a place, and what proves entries. They ask the store what it keeps for a part.
+//! - `seen`, `seek`, `walk`, `found`, `proving`: what stands at a place, and what proves entries. They ask the store what it keeps for a part.
 //! - `forest` and `blocks`: [`Forest`], which is seen as the list of all entries.
 //!
 //! `Forest::reserve` alone takes memory: it makes the cells of the entries to come. `Forest::forget` gives room back.
@@ -21,6 +22,7 @@ mod blocks;
 mod cell;
 mod emptying;
 mod forest;
+mod found;
 mod growth;
 mod laws;
 mod least;

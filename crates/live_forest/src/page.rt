@@ -1,6 +1,6 @@
 //! A page: what is kept for the parts of 128 numbers.
-ghost use Rattle.std.specs.Prelude.{◌≡◌, ◌≢◌, ℕ, suc, ◌+◌, ◌*◌, ◌/◌, ◌^◌, ◌<◌, ◌≤◌, [], length, get_or, None, true, false, is_some, OnOk, OnErr};
-ghost use Rattle.std.specs.Prelude.{IfOk};
+ghost use Rattle.std.specs.Prelude.{◌≡◌, ◌≢◌, ℕ, suc, ◌+◌, ◌-◌, ◌*◌, ◌/◌, ◌^◌, ◌<◌, ◌≤◌, [], length, get_or, Some, None, true, false};
+ghost use Rattle.std.specs.Prelude.{is_some, option_copied, OnOk, OnErr, IfOk};
 ghost use Rattle.forest_place.specs.Forest.{InForest};
 ghost use Rattle.live_forest.specs.Sets.{is_bit, has_part, rank as rank_of, IsWith, IsWithout};
 ghost use Rattle.live_forest.specs.Pages.{PageState, told, IsKept, IsEntryPut, IsPartPut, IsOfHalves, AreOfHalves, IsTakenOut};
@@ -132,25 +132,47 @@ impl Page {
     }
 
     /// What is kept for a part.
-    pub fn part(&self, row: u8, off: u64) -> Option<Digest>
+    pub fn part(&self, row: u8, off: u64) -> Option<&Digest>
         requires row { row ≤ 7 }
         requires within { InForest 128 row off }
-        ensures { result ≡ told self.now row off }
+        ensures { option_copied result ≡ told self.now row off }
     {
         if !has_some(self.live, row, off) {
             return None;
         }
-        Some(*digest_of(self.listed, &self.cells, row, off))
+        Some(digest_of(self.listed, &self.cells, row, off))
     }
 
-    /// What is kept for the halves of a part of the row above.
-    pub fn halves(&self, row: u8, off: u64) -> (Option<Digest>, Option<Digest>)
+    /// What is kept for a part for which something is.
+    pub fn digest(&self, row: u8, off: u64) -> &Digest
+        requires row { row ≤ 7 }
+        requires within { InForest 128 row off }
+        requires some { is_some (told self.now row off) ≡ true }
+        ensures { told self.now row off ≡ Some result.now }
+    {
+        digest_of(self.listed, &self.cells, row, off)
+    }
+
+    /// Whether something is kept for the halves of a part of the row above.
+    pub fn has_halves(&self, row: u8, off: u64) -> (bool, bool)
         requires row { row < 7 }
         requires within { InForest 128 (suc row) off }
-        ensures left { result.0 ≡ told self.now row (2 * off) }
-        ensures right { result.1 ≡ told self.now row (2 * off + 1) }
+        ensures left { result.0 ≡ is_some (told self.now row (2 * off)) }
+        ensures right { result.1 ≡ is_some (told self.now row (2 * off + 1)) }
     {
-        (self.part(row, 2 * off), self.part(row, 2 * off + 1))
+        (self.has(row, 2 * off), self.has(row, 2 * off + 1))
+    }
+
+    /// What is kept for the halves of a part of the row above, where both have something.
+    pub fn pair(&self, row: u8, off: u64) -> (Digest, Digest)
+        requires row { row < 7 }
+        requires within { InForest 128 (suc row) off }
+        requires left { is_some (told self.now row (2 * off)) ≡ true }
+        requires right { is_some (told self.now row (2 * off + 1)) ≡ true }
+        ensures left { told self.now row (2 * off) ≡ Some result.0 }
+        ensures right { told self.now row (2 * off + 1) ≡ Some result.1 }
+    {
+        (*self.digest(row, 2 * off), *self.digest(row, 2 * off + 1))
     }
 
     /// Keeps an entry, live or not.
@@ -188,6 +210,25 @@ impl Page {
         };
         let cell = &mut self.cells[rank(self.listed, middle(row, off))];
         cell.gap = digest;
+    }
+
+    /// Keeps for the part of the row above that has a listed number what its left half has, or its right one, where the other has nothing. If one
+    /// half alone has listed numbers, that is what is told for both, and no digest is read.
+    pub fn put_alone(&mut self, row: u8, number: u64, side: u64)
+        requires number { number < 128 }
+        requires row { row < 7 }
+        requires listed { is_bit self.old.listed number ≡ true }
+        requires side { side < 2 }
+        requires other { told self.old row (2 * (number / 2 ^ suc row) + (1 - side)) ≡ None }
+        ensures put { IsPartPut self.old self.new row number (told self.old row (2 * (number / 2 ^ suc row) + side)) }
+        ensures listed { self.new.listed ≡ self.old.listed }
+    {
+        let off = number >> (row + 1);
+        if !is_branch(self.listed, row, off) {
+            return;
+        }
+        let own = self.part(row, 2 * off + side).copied();
+        self.put_part(row, number, own);
     }
 
     /// Keeps a digest for the part of the row above that has a listed number, where both its halves have something.

@@ -17,8 +17,9 @@ ghost use Rattle.live_forest.specs.Proving.{AreOfPart, AreFrom, behind};
 ghost use Rattle.live_forest.specs.State.{is_live};
 
 use crate::batch::{BatchProof, Sibling};
+use crate::found::Found;
 use crate::seek::child;
-use crate::seen::{has_in, part_in};
+use crate::seen::{has_in, lent_in};
 use crate::store::Store;
 use forest_place::{Place, children, sibling};
 use smallvec::SmallVec;
@@ -30,7 +31,7 @@ use uo_digest::{Digest, Digester};
 const ROWS: usize = 40;
 
 /// So many digests lie in a row itself.
-const IN_ROW: usize = 2;
+pub(crate) const IN_ROW: usize = 2;
 
 /// Siblings that stand in one row, from left to right. The first two lie in it, so that a block which spends little asks for no memory row by row.
 #[derive(Drop)]
@@ -48,8 +49,8 @@ impl Model for Row {
 }
 
 impl Row {
-    // No digest, and room for so many.
-    fn with_room(alloc: Global, room: usize) -> Result<Self, AllocError>
+    /// No digest, and room for so many.
+    pub(crate) fn with_room(alloc: Global, room: usize) -> Result<Self, AllocError>
         ensures { IfOk result (λ row. row ≡ []) }
     {
         let mut list = SmallVec::new(alloc);
@@ -59,7 +60,8 @@ impl Row {
         Ok(Row { list })
     }
 
-    fn push(&mut self, sibling: Sibling) -> Result<(), AllocError>
+    /// One more.
+    pub(crate) fn push(&mut self, sibling: Sibling) -> Result<(), AllocError>
         ensures ok { OnOk result (self.new ≡ self.old ++ sibling ∷ []) }
         ensures err { OnErr result (self.new ≡ self.old) }
     {
@@ -76,7 +78,7 @@ impl Row {
 }
 
 // No digest in any row that a forest over n entries has, and room for so many in each.
-fn no_rows(alloc: Global, n: u64, room: usize) -> Result<Vec<Row>, AllocError>
+fn no_rows<'a>(alloc: Global, n: u64, room: usize) -> Result<Vec<Found<'a>>, AllocError>
     requires { n < 2 ^ 40 }
     ensures wide { IfOk result (λ rows. HasRows n rows.items) }
     ensures none { IfOk result (λ rows. (row : ℕ) → list_of rows.items row ≡ []) }
@@ -84,7 +86,7 @@ fn no_rows(alloc: Global, n: u64, room: usize) -> Result<Vec<Row>, AllocError>
     let mut rows = Vec::with_capacity(alloc, ROWS)?;
     let mut row: u8 = 0;
     while n >> row > 0 {
-        rows.push(Row::with_room(alloc, room)?)?;
+        rows.push(Found::with_room(alloc, room)?)?;
         row += 1;
     }
     Ok(rows)
@@ -106,22 +108,23 @@ fn count_upto(numbers: &[u64], row: u8, off: u64) -> usize
 }
 
 // Puts a sibling to those of its row.
-fn put(rows: &mut Vec<Row>, sibling: Sibling) -> Result<(), AllocError>
-    requires { sibling.place.row < length rows.old.items }
-    ensures here { OnOk result (list_of rows.new.items sibling.place.row ≡ list_of rows.old.items sibling.place.row ++ sibling ∷ []) }
-    ensures others { (row : ℕ) → row ≢ sibling.place.row → list_of rows.new.items row ≡ list_of rows.old.items row }
+fn put<'a>(rows: &mut Vec<Found<'a>>, place: Place, digest: &'a Digest) -> Result<(), AllocError>
+    requires { place.row < length rows.old.items }
+    ensures here { OnOk result (list_of rows.new.items place.row
+        ≡ list_of rows.old.items place.row ++ (record { place = place; digest = digest.now }) ∷ []) }
+    ensures others { (row : ℕ) → row ≢ place.row → list_of rows.new.items row ≡ list_of rows.old.items row }
     ensures len { length rows.new.items ≡ length rows.old.items }
 {
-    rows[sibling.place.row as usize].push(sibling)
+    rows[place.row as usize].push(place, digest)
 }
 
 // Notes the digest of a part at the place at which its tree stands, if it has something.
-fn note<D: Digester>(
-    store: &Store,
+fn note<'a, D: Digester>(
+    store: &'a Store,
     n: u64,
     part: Place,
     place: Place,
-    rows: &mut Vec<Row>,
+    rows: &mut Vec<Found<'a>>,
 ) -> Result<(), AllocError>
     requires small { length (entries_in n store.now) < 2 ^ 40 }
     requires room { n ≤ store.now.len }
@@ -134,21 +137,21 @@ fn note<D: Digester>(
         ++ filter_map (standing D.digest_of (entries_in n store.now)) (place ∷ [])) }
     ensures others { (row : ℕ) → row ≢ place.row → list_of rows.new.items row ≡ list_of rows.old.items row }
 {
-    match part_in(store, n, part.row, part.off) {
-        Some(digest) => put(rows, Sibling { place, digest }),
+    match lent_in(store, n, part.row, part.off) {
+        Some(digest) => put(rows, place, digest),
         None => Ok(()),
     }
 }
 
 // Goes down from a part to one entry, and does what `descend` does for that one, in a loop: on the way to one entry no read waits for another.
 // The half that has the entry has something, so only the other one is looked at.
-fn descend_to<D: Digester>(
-    store: &Store,
+fn descend_to<'a, D: Digester>(
+    store: &'a Store,
     n: u64,
     part: Place,
     place: Place,
     number: u64,
-    rows: &mut Vec<Row>,
+    rows: &mut Vec<Found<'a>>,
     places: &mut Vec<Place>,
 ) -> Result<(), AllocError>
     requires small { length (entries_in n store.now) < 2 ^ 40 }
@@ -170,15 +173,11 @@ fn descend_to<D: Digester>(
     'way: while at.row > 0 {
         let half = child(at, number >> (at.row - 1));
         let other = sibling(half);
-        match part_in(store, n, other.row, other.off) {
+        match lent_in(store, n, other.row, other.off) {
             None => at = half,
             Some(digest) => {
                 let below = child(above, half.off);
-                let beside = Sibling {
-                    place: sibling(below),
-                    digest,
-                };
-                put(rows, beside)?;
+                put(rows, sibling(below), digest)?;
                 at = half;
                 above = below;
             }
@@ -215,13 +214,13 @@ fn has_live(store: &Store, n: u64, part: Place, numbers: &[u64]) -> bool
 }
 
 // Goes down from a part, which has these entries and whose tree stands at this place, to the entries, and notes what is beside the way.
-fn descend<D: Digester>(
-    store: &Store,
+fn descend<'a, D: Digester>(
+    store: &'a Store,
     n: u64,
     part: Place,
     place: Place,
     numbers: &[u64],
-    rows: &mut Vec<Row>,
+    rows: &mut Vec<Found<'a>>,
     places: &mut Vec<Place>,
 ) -> Result<(), AllocError>
     requires small { length (entries_in n store.now) < 2 ^ 40 }
@@ -266,14 +265,14 @@ fn descend<D: Digester>(
 }
 
 // Goes down from the root of a row, if it has one and some of these numbers, and answers the numbers behind them.
-fn descend_from<'a, D: Digester>(
-    store: &Store,
+fn descend_from<'a, 'b, D: Digester>(
+    store: &'a Store,
     n: u64,
     row: u8,
-    numbers: &'a [u64],
-    rows: &mut Vec<Row>,
+    numbers: &'b [u64],
+    rows: &mut Vec<Found<'a>>,
     places: &mut Vec<Place>,
-) -> Result<&'a [u64], AllocError>
+) -> Result<&'b [u64], AllocError>
     requires small { length (entries_in n store.now) < 2 ^ 40 }
     requires room { n ≤ store.now.len }
     requires right { AreParts D.digest_of (length (entries_in n store.now)) (entries_in n store.now) store.now }
@@ -309,13 +308,13 @@ fn descend_from<'a, D: Digester>(
 }
 
 // What stands beside the ways down to these entries, by rows. Where they stand is put to the places.
-fn rows_of<D: Digester>(
+fn rows_of<'a, D: Digester>(
     alloc: Global,
-    store: &Store,
+    store: &'a Store,
     n: u64,
     numbers: &[u64],
     places: &mut Vec<Place>,
-) -> Result<Vec<Row>, AllocError>
+) -> Result<Vec<Found<'a>>, AllocError>
     requires small { length (entries_in n store.now) < 2 ^ 40 }
     requires room { n ≤ store.now.len }
     requires right { AreParts D.digest_of (length (entries_in n store.now)) (entries_in n store.now) store.now }
@@ -331,6 +330,17 @@ fn rows_of<D: Digester>(
     let mut left = numbers;
     for row in 0..40u8 {
         left = descend_from::<D>(store, n, 39 - row, left, &mut rows, places)?;
+    }
+    Ok(rows)
+}
+
+// Reads the digests of all rows.
+fn read_rows(alloc: Global, found: &[Found<'_>]) -> Result<Vec<Row>, AllocError>
+    ensures { IfOk result (λ rows. rows.items ≡ found.now) }
+{
+    let mut rows = Vec::with_capacity(alloc, found.len())?;
+    for row in found {
+        rows.push(row.read(alloc)?)?;
     }
     Ok(rows)
 }
@@ -351,6 +361,7 @@ pub(crate) fn proof_of_entries<D: Digester>(
     ensures siblings { IfOk result (λ b. flat_map (λ row. row) b.rows.items ≡ proof_of D.digest_of (entries_in n store.now) numbers.now) }
 {
     let mut places = Vec::with_capacity(alloc, numbers.len())?;
-    let rows = rows_of::<D>(alloc, store, n, numbers, &mut places)?;
+    let found = rows_of::<D>(alloc, store, n, numbers, &mut places)?;
+    let rows = read_rows(alloc, &found)?;
     Ok(BatchProof { places, rows })
 }

@@ -1,5 +1,5 @@
 //! What the look-ups read: the parts of the first `n` entries.
-ghost use Rattle.std.specs.Prelude.{◌≡◌, ◌↔◌, ◌^◌, ◌<◌, ◌≤◌, length, IsTrue, is_some};
+ghost use Rattle.std.specs.Prelude.{◌≡◌, ◌↔◌, ◌^◌, ◌<◌, ◌≤◌, length, IsTrue, is_some, option_copied};
 ghost use Rattle.forest_place.specs.Forest.{InForest, is_root as is_root_at};
 ghost use Rattle.live_forest.specs.Parts.{entries_in, kept};
 
@@ -15,6 +15,16 @@ pub(crate) fn part_in(store: &Store, n: u64, row: u8, off: u64) -> Option<Digest
     ensures { result ≡ kept (entries_in n store.now) store.now row off }
 {
     store.part(n, row, off)
+}
+
+/// The same, where it lies.
+pub(crate) fn lent_in(store: &Store, n: u64, row: u8, off: u64) -> Option<&Digest>
+    requires small { length (entries_in n store.now) < 2 ^ 40 }
+    requires room { n ≤ store.now.len }
+    requires within { InForest (length (entries_in n store.now)) row off }
+    ensures { option_copied result ≡ kept (entries_in n store.now) store.now row off }
+{
+    store.lent(n, row, off)
 }
 
 /// Whether something is kept for a part.

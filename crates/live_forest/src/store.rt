@@ -1,6 +1,6 @@
 //! What is kept for all parts of the entries.
-ghost use Rattle.std.specs.Prelude.{◌≡◌, ◌≢◌, ℕ, suc, ◌+◌, ◌-◌, ◌*◌, ◌/◌, ◌%◌, ◌^◌, ◌<◌, ◌≤◌, [], length, get_or, set, None, true, is_some};
-ghost use Rattle.std.specs.Prelude.{OnOk, OnErr, max};
+ghost use Rattle.std.specs.Prelude.{◌≡◌, ◌≢◌, ℕ, suc, ◌+◌, ◌-◌, ◌*◌, ◌/◌, ◌%◌, ◌^◌, ◌<◌, ◌≤◌, [], length, get_or, set, Some, None, true};
+ghost use Rattle.std.specs.Prelude.{is_some, option_copied, OnOk, OnErr, max};
 ghost use Rattle.forest_place.specs.Forest.{InForest};
 ghost use Rattle.live_forest.specs.Pages.{IsOfHalves};
 ghost use Rattle.live_forest.specs.Stores.{seam as seam_of, stored, paged, is_listed, IsEntryKept, IsPartKept, HasRoomOf};
@@ -128,27 +128,72 @@ impl Store {
         requires within { InForest n row off }
         ensures { result ≡ stored self.now row off }
     {
+        self.lent(n, row, off).copied()
+    }
+
+    /// The same, where it lies.
+    pub fn lent(&self, n: u64, row: u8, off: u64) -> Option<&Digest>
+        requires small { n < 2 ^ 40 }
+        requires room { n ≤ self.now.len }
+        requires within { InForest n row off }
+        ensures { option_copied result ≡ stored self.now row off }
+    {
         if row <= PAGE_ROW {
             let rows = PAGE_ROW - row;
             self.pages[(off >> rows) as usize].part(row, off % (1 << rows))
         } else {
-            self.high[seam(row - PAGE_ROW - 1, off)]
+            self.high[seam(row - PAGE_ROW - 1, off)].as_ref()
         }
     }
 
-    /// What is kept for the halves of a part of the row above, of those that `n` entries have.
-    pub fn halves(&self, n: u64, row: u8, off: u64) -> (Option<Digest>, Option<Digest>)
+    /// Whether something is kept for the halves of a part of the row above, of those that `n` entries have.
+    pub fn has_halves(&self, n: u64, row: u8, off: u64) -> (bool, bool)
         requires small { n < 2 ^ 40 }
         requires room { n ≤ self.now.len }
         requires within { InForest n (suc row) off }
-        ensures left { result.0 ≡ stored self.now row (2 * off) }
-        ensures right { result.1 ≡ stored self.now row (2 * off + 1) }
+        ensures left { result.0 ≡ is_some (stored self.now row (2 * off)) }
+        ensures right { result.1 ≡ is_some (stored self.now row (2 * off + 1)) }
     {
         if row < PAGE_ROW {
             let rows = PAGE_ROW - 1 - row;
-            self.pages[(off >> rows) as usize].halves(row, off % (1 << rows))
+            self.pages[(off >> rows) as usize].has_halves(row, off % (1 << rows))
         } else {
-            (self.part(n, row, 2 * off), self.part(n, row, 2 * off + 1))
+            (self.has(n, row, 2 * off), self.has(n, row, 2 * off + 1))
+        }
+    }
+
+    /// What is kept for the halves of a part of the row above, of those that `n` entries have, where both have something.
+    pub fn pair(&self, n: u64, row: u8, off: u64) -> (Digest, Digest)
+        requires small { n < 2 ^ 40 }
+        requires room { n ≤ self.now.len }
+        requires within { InForest n (suc row) off }
+        requires left { is_some (stored self.now row (2 * off)) ≡ true }
+        requires right { is_some (stored self.now row (2 * off + 1)) ≡ true }
+        ensures left { stored self.now row (2 * off) ≡ Some result.0 }
+        ensures right { stored self.now row (2 * off + 1) ≡ Some result.1 }
+    {
+        if row < PAGE_ROW {
+            let rows = PAGE_ROW - 1 - row;
+            self.pages[(off >> rows) as usize].pair(row, off % (1 << rows))
+        } else {
+            (
+                self.digest(n, row, 2 * off),
+                self.digest(n, row, 2 * off + 1),
+            )
+        }
+    }
+
+    // What is kept for a part of those that `n` entries have, for which something is.
+    fn digest(&self, n: u64, row: u8, off: u64) -> Digest
+        requires small { n < 2 ^ 40 }
+        requires room { n ≤ self.now.len }
+        requires within { InForest n row off }
+        requires some { is_some (stored self.now row off) ≡ true }
+        ensures { stored self.now row off ≡ Some result }
+    {
+        match self.lent(n, row, off) {
+            Some(digest) => *digest,
+            None => Digest([0; 32]),
         }
     }
 
@@ -178,6 +223,27 @@ impl Store {
             page.put_part(row, number % 128, own);
         } else {
             self.high[seam(row - PAGE_ROW, number >> (row + 1))] = own;
+        }
+    }
+
+    /// Keeps for the part of the row above that has an entry, of those that `n` entries have, what its left half has, or its right one, where the
+    /// other has nothing.
+    pub fn put_alone(&mut self, n: u64, row: u8, number: u64, side: u64)
+        requires small { n < 2 ^ 40 }
+        requires room { n ≤ self.old.len }
+        requires within { InForest n (suc row) (number / 2 ^ suc row) }
+        requires listed { is_listed self.old.pages number ≡ true }
+        requires side { side < 2 }
+        requires other { stored self.old row (2 * (number / 2 ^ suc row) + (1 - side)) ≡ None }
+        ensures put { IsPartKept self.old self.new row number (stored self.old row (2 * (number / 2 ^ suc row) + side)) }
+        ensures room { HasRoomOf self.old self.new }
+    {
+        if row < PAGE_ROW {
+            let page = &mut self.pages[(number >> PAGE_ROW) as usize];
+            page.put_alone(row, number % 128, side);
+        } else {
+            let own = self.part(n, row, 2 * (number >> (row + 1)) + side);
+            self.put_part(n, row, number, own);
         }
     }
 

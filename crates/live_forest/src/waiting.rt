@@ -13,11 +13,10 @@ use uo_digest::{Digest, Digester, Steps};
 /// How many parts are digested together.
 pub(crate) const BATCH: usize = 16;
 
-/// Parts of one row that wait for their digests, each by an entry in it, and the digests of their halves.
+/// Parts of one row that wait for their digests, each by an entry in it.
 #[derive(Drop)]
 pub(crate) struct Waiting {
     numbers: [u64; BATCH],
-    pairs: [(Digest, Digest); BATCH],
     pub(crate) count: usize,
 }
 
@@ -27,21 +26,18 @@ impl Waiting {
     {
         Waiting {
             numbers: [0; BATCH],
-            pairs: [(Digest([0; 32]), Digest([0; 32])); BATCH],
             count: 0,
         }
     }
 
     // One part more.
-    fn note(&mut self, number: u64, left: Digest, right: Digest)
+    fn note(&mut self, number: u64)
         requires room { HasRoom self.old }
         requires one { self.old.count < 16 }
         ensures numbers { self.new.numbers ≡ set self.old.numbers self.old.count number }
-        ensures pairs { self.new.pairs ≡ set self.old.pairs self.old.count (left, right) }
         ensures count { self.new.count ≡ self.old.count + 1 }
     {
         self.numbers[self.count] = number;
-        self.pairs[self.count] = (left, right);
         self.count += 1;
     }
 }
@@ -73,13 +69,34 @@ pub(crate) fn renew<D: Digester>(
     ensures few { waiting.new.count ≤ waiting.old.count + 1 }
 {
     let off = part_of(number, row);
-    let (left, right) = store.halves(n, row, off);
-    match left {
-        None => store.put_part(n, row, number, right),
-        Some(l) => match right {
-            None => store.put_part(n, row, number, left),
-            Some(r) => waiting.note(number, l, r),
-        },
+    let (left, right) = store.has_halves(n, row, off);
+    if !left {
+        store.put_alone(n, row, number, 1);
+    } else if !right {
+        store.put_alone(n, row, number, 0);
+    } else {
+        waiting.note(number);
+    }
+}
+
+// Reads what the halves of the parts of the row above have that have these entries: first all of it, and then it is digested. So no read waits for
+// another.
+fn read_each(store: &Store, n: u64, row: u8, numbers: &[u64], pairs: &mut [(Digest, Digest)])
+    requires small { n < 2 ^ 40 }
+    requires room { n ≤ store.now.len }
+    requires low { row < 40 }
+    requires count { length pairs.old ≡ length numbers.now }
+    requires within { (j : ℕ) → j < length numbers.now → InForest n (suc row) (part_above numbers.now row j) }
+    requires left { (j : ℕ) → j < length numbers.now → is_some (stored store.now row (2 * part_above numbers.now row j)) ≡ true }
+    requires right { (j : ℕ) → j < length numbers.now → is_some (stored store.now row (2 * part_above numbers.now row j + 1)) ≡ true }
+    ensures count { length pairs.new ≡ length numbers.now }
+    ensures left { (j : ℕ) (d : Digested × Digested) → j < length numbers.now
+        → stored store.now row (2 * part_above numbers.now row j) ≡ Some (get_or pairs.new j d).0 }
+    ensures right { (j : ℕ) (d : Digested × Digested) → j < length numbers.now
+        → stored store.now row (2 * part_above numbers.now row j + 1) ≡ Some (get_or pairs.new j d).1 }
+{
+    for j in 0..numbers.len() {
+        pairs[j] = store.pair(n, row, part_of(numbers[j], row));
     }
 }
 
@@ -120,8 +137,12 @@ pub(crate) fn put_waiting<D: Digester, L: Ledger>(
     ensures cost { steps.new ≡ steps.old + waiting.now.count }
 {
     let count = waiting.count;
+    let numbers = &waiting.numbers[..count];
+    let mut room_for_pairs = [(Digest([0; 32]), Digest([0; 32])); BATCH];
+    let pairs = &mut room_for_pairs[..count];
+    read_each(store, n, row, numbers, pairs);
     let mut room = [Digest([0; 32]); BATCH];
     let digests = &mut room[..count];
-    D::digest_pairs(&waiting.pairs[..count], digests, steps);
-    put_each::<D>(store, n, row, &waiting.numbers[..count], digests);
+    D::digest_pairs(pairs, digests, steps);
+    put_each::<D>(store, n, row, numbers, digests);
 }

@@ -1,19 +1,38 @@
-use Rattle.std.proofs.Common.{arith, ◌∙◌}
-use Rattle.live_forest.proofs.Bitmaps.{rank_upto, rank_low_half, rank_high_half}
+use Rattle.std.proofs.Common.{◌≡◌, ◌+◌, arith}
+use Rattle.live_forest.specs.Sets.{is_bit, rank}
+use Rattle.live_forest.proofs.Bitmaps.{rank_upto, rank_in_low, rank_in_high}
 use Rattle.live_forest.proofs.bits.rank.Goals as goal
-
-pub returns-then-number-lt64 : goal.returns-then-number-lt64
-returns-then-number-lt64 c = c.count_below.ensures ∙ rank_low_half c.args.bits c.args.number (omega (arith, c.if-number-lt64.true))
+use Rattle.live_forest.proofs.bits.rank.Goals.{then-number-lt64, else-number-lt64}
 
 pub returns : goal.returns
-returns c = omega (arith, c.count_below-2.ensures, rank_high_half c.args.bits c.args.number (omega (arith, c.if-number-lt64.false)))
+returns c =
+    let n = c.args.bits in
+    let i = c.args.number in
+    elim c.if-number-lt64.branch [
+      | then-number-lt64 w ↦
+          omega (
+            arith,
+            w.before-is,
+            rank_in_low n i c.half_of.result c.count_below.result w.if-number-lt64.true c.half_of.ensures c.count_below.ensures,
+          )
+      | else-number-lt64 w ↦
+          rank_in_high n i c.half_of.result c.if-number-lt64.before c.count_below.result c.ranges.bits.fits (omega (arith, w.if-number-lt64.false))
+          c.requires c.half_of.ensures w.before-is c.count_below.ensures
+    ]
 
 pub overflow_add-result : goal.overflow_add-result
 overflow_add-result c =
-    omega (
-      arith,
-      c.requires,
-      c.count_below-2.ensures,
-      rank_high_half c.args.bits c.args.number (omega (arith, c.if-number-lt64.false)),
-      rank_upto c.args.bits c.args.number,
-    )
+    let n = c.args.bits in
+    let i = c.args.number in
+    let all : c.if-number-lt64.before + c.count_below.result ≡ rank (is_bit n) i = elim c.if-number-lt64.branch [
+      | then-number-lt64 w ↦
+          omega (
+            arith,
+            w.before-is,
+            rank_in_low n i c.half_of.result c.count_below.result w.if-number-lt64.true c.half_of.ensures c.count_below.ensures,
+          )
+      | else-number-lt64 w ↦
+          rank_in_high n i c.half_of.result c.if-number-lt64.before c.count_below.result c.ranges.bits.fits (omega (arith, w.if-number-lt64.false))
+          c.requires c.half_of.ensures w.before-is c.count_below.ensures
+    ] in
+    omega (arith, c.requires, all, rank_upto n i)

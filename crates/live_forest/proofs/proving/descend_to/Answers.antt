@@ -18,8 +18,8 @@ overflow_shr-number g c =
     let row = row_small (length (entries_in c.args.n c.args.store.now)) c.way.at.row c.way.at.off 40 c.way.invariant.within c.requires.small in
     omega (arith, row)
 
-pub part_in-requires-clause-within : goal.part_in-requires-clause-within
-part_in-requires-clause-within g c =
+pub lent_in-requires-clause-within : goal.lent_in-requires-clause-within
+lent_in-requires-clause-within g c =
     let H = g.D.Digester.digest_of in
     let es = (entries_in c.args.n c.args.store.now) in
     let parts = c.args.store.now in
@@ -69,9 +69,9 @@ child-below-requires-clause-row g c =
     let inside = own_half at half c.args.number (omega (arith, c.way-test.true)) c.child-half.ensures c.way.invariant.inside in
     let one = own_kept H es parts c.requires.right half.row half.off c.args.number (half_within (length es) at half other pair c.way.invariant.within)
     (c.requires.inside 0 0 (omega arith)).0 inside in
-    let two : Some c.in-Some.digest ≡ kept es parts other.row other.off = c.in-Some.ensures in
-    let above = high_above H es parts c.requires.right at half other q one.0 c.in-Some.digest pair c.way.invariant.within c.way.invariant.stands one.1
-    two in
+    let two : Some c.in-Some.digest.now ≡ kept es parts other.row other.off = c.in-Some.ensures in
+    let above = high_above H es parts c.requires.right at half other q one.0 c.in-Some.digest.now pair c.way.invariant.within c.way.invariant.stands
+    one.1 two in
     above
 
 pub put-requires : goal.put-requires
@@ -88,16 +88,16 @@ put-requires g c =
     let inside = own_half at half c.args.number (omega (arith, c.way-test.true)) c.child-half.ensures c.way.invariant.inside in
     let one = own_kept H es parts c.requires.right half.row half.off c.args.number (half_within (length es) at half other pair c.way.invariant.within)
     (c.requires.inside 0 0 (omega arith)).0 inside in
-    let two : Some c.in-Some.digest ≡ kept es parts other.row other.off = c.in-Some.ensures in
-    let above = high_above H es parts c.requires.right at half other q one.0 c.in-Some.digest pair c.way.invariant.within c.way.invariant.stands one.1
-    two in
+    let two : Some c.in-Some.digest.now ≡ kept es parts other.row other.off = c.in-Some.ensures in
+    let above = high_above H es parts c.requires.right at half other q one.0 c.in-Some.digest.now pair c.way.invariant.within c.way.invariant.stands
+    one.1 two in
     let below = c.child-below.result in
     let beside = c.sibling.result in
     let under = pair_of q below beside _ above c.child-below.ensures c.sibling.ensures.row c.sibling.ensures.off in
     let alike : below.off % 2 ≡ half.off % 2 = let off = ap (λ (p : Place). p.off) c.child-below.ensures in omega (arith, off) in
-    let beneath = stand_beneath H es parts c.requires.right at half other q below beside one.0 c.in-Some.digest pair under alike
+    let beneath = stand_beneath H es parts c.requires.right at half other q below beside one.0 c.in-Some.digest.now pair under alike
     c.way.invariant.within c.way.invariant.stands one.1 two in
-    let there' = there H es parts c.requires.right other.row other.off beside c.in-Some.digest
+    let there' = there H es parts c.requires.right other.row other.off beside c.in-Some.digest.now
     (half_within (length es) at other half (other_pair at half other pair) c.way.invariant.within) beneath.other_there two in
     c.way.invariant.wide.is beside.row beside.off there'
 
@@ -115,19 +115,19 @@ way-preserved g c =
     let inside = own_half at half c.args.number (omega (arith, c.way-test.true)) c.child-half.ensures c.way.invariant.inside in
     let one = own_kept H es parts c.requires.right half.row half.off c.args.number (half_within (length es) at half other pair c.way.invariant.within)
     (c.requires.inside 0 0 (omega arith)).0 inside in
-    let two : Some c.in-Some.digest ≡ kept es parts other.row other.off = c.in-Some.ensures in
-    let above = high_above H es parts c.requires.right at half other q one.0 c.in-Some.digest pair c.way.invariant.within c.way.invariant.stands one.1
-    two in
+    let two : Some c.in-Some.digest.now ≡ kept es parts other.row other.off = c.in-Some.ensures in
+    let above = high_above H es parts c.requires.right at half other q one.0 c.in-Some.digest.now pair c.way.invariant.within c.way.invariant.stands
+    one.1 two in
     let below = c.child-below.result in
     let beside = c.sibling.result in
     let under = pair_of q below beside _ above c.child-below.ensures c.sibling.ensures.row c.sibling.ensures.off in
     let alike : below.off % 2 ≡ half.off % 2 = let off = ap (λ (p : Place). p.off) c.child-below.ensures in omega (arith, off) in
-    let beneath = stand_beneath H es parts c.requires.right at half other q below beside one.0 c.in-Some.digest pair under alike
+    let beneath = stand_beneath H es parts c.requires.right at half other q below beside one.0 c.in-Some.digest.now pair under alike
     c.way.invariant.within c.way.invariant.stands one.1 two in
     let within' = half_within (length es) at other half (other_pair at half other pair) c.way.invariant.within in
     let noted = c.in_ok-put-in-Some.ensures.here ∙ ap (λ xs. list_of c.way.rows.items beside.row ++ xs)
-    (sym (noted_is H es beside c.in-Some.digest
-    (digest_here H es parts c.requires.right other.row other.off beside c.in-Some.digest within' beneath.other_there two))) in
+    (sym (noted_is H es beside c.in-Some.digest.now
+    (digest_here H es parts c.requires.right other.row other.off beside c.in-Some.digest.now within' beneath.other_there two))) in
     let side : half.off % 2 ≡ c.args.number / 2 ^ half.row % 2 = let row = ap (λ (p : Place). p.row) c.child-half.ensures in
     let off = ap (λ (p : Place). p.off) c.child-half.ensures in omega (arith, off, ap (λ r. c.args.number / 2 ^ r % 2) row) in
     record {

@@ -8,7 +8,7 @@ pub put-requires : goal.put-requires
 put-requires g c =
     let within = there g.D.Digester.digest_of (entries_in c.args.n c.args.store.now) c.args.store.now c.requires.right c.args.part.row
     c.args.part.off c.args.place
-    c.in-Some.digest c.requires.within c.requires.stands (c.in-Some.ensures) in
+    c.in-Some.digest.now c.requires.within c.requires.stands (c.in-Some.ensures) in
     c.requires.wide.is c.args.place.row c.args.place.off within
 
 pub returns-in-Some-clause-here : goal.returns-in-Some-clause-here
@@ -16,7 +16,7 @@ returns-in-Some-clause-here g c =
     let H = g.D.Digester.digest_of in
     let es = (entries_in c.args.n c.args.store.now) in
     let place = c.args.place in
-    let d = c.in-Some.digest in
+    let d = c.in-Some.digest.now in
     let is = c.in-Some.ensures in
     noted_here H es c.put.result place d _ _ (digest_here H es c.args.store.now c.requires.right c.args.part.row c.args.part.off place d
     c.requires.within c.requires.stands is) c.put.ensures.here

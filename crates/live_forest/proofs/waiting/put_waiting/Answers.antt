@@ -1,4 +1,4 @@
-use Rattle.std.proofs.Common.{◌≡◌, suc, ◌+◌, ◌*◌, ◌/◌, ◌^◌, ◌∙◌, ◌++◌, ◌<◌, List, [], Some, take, get_or, sym, ap, ap₂, subst, arith}
+use Rattle.std.proofs.Common.{◌≡◌, suc, ◌+◌, ◌*◌, ◌/◌, ◌^◌, ◌∙◌, ◌++◌, ◌<◌, List, [], Some, get_or, sym, ap, ap₂, subst, arith}
 use Rattle.std.specs.Prelude.{is_some}
 use Rattle.std.proofs.lemmas.List.{get_or-map, get_or-take, length-take-le}
 use Rattle.uo_digest.specs.declared.digest.Digest.{Digest}
@@ -32,9 +32,8 @@ put_each-requires-clause-left g c = λ j lt.
     let room = c.requires.waiting.room in
     let long = length-take-le w.count w.numbers (omega (arith, room.numbers, room.few)) in
     let low : j < w.count = omega (arith, lt, long) in
-    let none : Digest × Digest = (record { 0 = [] }, record { 0 = [] }) in
     ap (λ i. is_some (stored c.args.store.now row (2 * (i / 2 ^ suc row)))) (get_or-take w.count w.numbers j 0 low)
-    ∙ ap is_some (c.requires.waiting.left j none low)
+    ∙ c.requires.waiting.left j low
 
 pub put_each-requires-clause-right : goal.put_each-requires-clause-right
 put_each-requires-clause-right g c = λ j lt.
@@ -43,29 +42,49 @@ put_each-requires-clause-right g c = λ j lt.
     let room = c.requires.waiting.room in
     let long = length-take-le w.count w.numbers (omega (arith, room.numbers, room.few)) in
     let low : j < w.count = omega (arith, lt, long) in
-    let none : Digest × Digest = (record { 0 = [] }, record { 0 = [] }) in
     ap (λ i. is_some (stored c.args.store.now row (2 * (i / 2 ^ suc row) + 1))) (get_or-take w.count w.numbers j 0 low)
-    ∙ ap is_some (c.requires.waiting.right j none low)
+    ∙ c.requires.waiting.right j low
 
 pub put_each-requires-clause-digests : goal.put_each-requires-clause-digests
 put_each-requires-clause-digests g c = λ j d lt.
     let H = g.D.Digester.digest_of in
-    let s = c.args.store.now in
-    let row = c.args.row in
+    let w = c.args.waiting.now in
+    let none : Digest × Digest = (record { 0 = [] }, record { 0 = [] }) in
+    let ps = c.read_each.new.pairs in
+    let pair : Digest × Digest → Digest = λ p. H (p.0.0 ++ p.1.0) in
+    let made : get_or c.digest_pairs.new.out j d ≡ pair (get_or ps j none) =
+    ap (λ (xs : List Digest). get_or xs j d) c.digest_pairs.ensures.value
+    ∙ get_or-map pair ps j none d (omega (arith, lt, c.read_each.ensures.count)) in
+    ap Some made ∙ ap₂ (join_digests H) (sym (c.read_each.ensures.left j none lt)) (sym (c.read_each.ensures.right j none lt))
+
+pub read_each-requires-clause-within : goal.read_each-requires-clause-within
+read_each-requires-clause-within g c = λ j lt.
     let w = c.args.waiting.now in
     let room = c.requires.waiting.room in
     let long = length-take-le w.count w.numbers (omega (arith, room.numbers, room.few)) in
-    let pairs = length-take-le w.count w.pairs (omega (arith, room.pairs, room.few)) in
     let low : j < w.count = omega (arith, lt, long) in
-    let none : Digest × Digest = (record { 0 = [] }, record { 0 = [] }) in
-    let pair : Digest × Digest → Digest = λ p. H (p.0.0 ++ p.1.0) in
-    let made : get_or c.digest_pairs.new.out j d ≡ pair (get_or w.pairs j none) =
-    ap (λ (xs : List Digest). get_or xs j d) c.digest_pairs.ensures.value
-    ∙ get_or-map pair (take w.count w.pairs) j none d (omega (arith, low, pairs)) ∙ ap pair (get_or-take w.count w.pairs j none low) in
-    let number = sym (get_or-take w.count w.numbers j 0 low) in
-    ap Some made ∙ ap₂ (join_digests H)
-    (sym (c.requires.waiting.left j none low) ∙ ap (λ i. stored s row (2 * (i / 2 ^ suc row))) number)
-    (sym (c.requires.waiting.right j none low) ∙ ap (λ i. stored s row (2 * (i / 2 ^ suc row) + 1)) number)
+    subst (λ i. InForest c.args.n (suc c.args.row) (i / 2 ^ suc c.args.row)) (sym (get_or-take w.count w.numbers j 0 low))
+    (c.requires.waiting.within j low)
+
+pub read_each-requires-clause-left : goal.read_each-requires-clause-left
+read_each-requires-clause-left g c = λ j lt.
+    let w = c.args.waiting.now in
+    let row = c.args.row in
+    let room = c.requires.waiting.room in
+    let long = length-take-le w.count w.numbers (omega (arith, room.numbers, room.few)) in
+    let low : j < w.count = omega (arith, lt, long) in
+    ap (λ i. is_some (stored c.args.store.now row (2 * (i / 2 ^ suc row)))) (get_or-take w.count w.numbers j 0 low)
+    ∙ c.requires.waiting.left j low
+
+pub read_each-requires-clause-right : goal.read_each-requires-clause-right
+read_each-requires-clause-right g c = λ j lt.
+    let w = c.args.waiting.now in
+    let row = c.args.row in
+    let room = c.requires.waiting.room in
+    let long = length-take-le w.count w.numbers (omega (arith, room.numbers, room.few)) in
+    let low : j < w.count = omega (arith, lt, long) in
+    ap (λ i. is_some (stored c.args.store.now row (2 * (i / 2 ^ suc row) + 1))) (get_or-take w.count w.numbers j 0 low)
+    ∙ c.requires.waiting.right j low
 
 pub returns-clause-step : goal.returns-clause-step
 returns-clause-step g c = λ new all.

@@ -7,7 +7,7 @@ use Rattle.live_forest.specs.Pages.{told}
 use Rattle.live_forest.specs.Stores.{StoreState, stored, no_page, seam}
 use Rattle.live_forest.proofs.Seams.{seam_high}
 use Rattle.live_forest.proofs.Storing.{page_index, inner_within, stored_low, stored_high}
-use Rattle.live_forest.proofs.store.Store.part.Goals as goal
+use Rattle.live_forest.proofs.store.Store.lent.Goals as goal
 
 pub index-requires : goal.index-requires
 index-requires c =
@@ -74,6 +74,6 @@ returns-else-row-le-PAGE_ROW c =
       c.self.invariant.high,
       ap (λ x. x.len) c.self.view_is,
     ) in
-    call.ensures ∙ ap (λ k. get_or s.high k call.result.now) (c.seam.ensures ∙ ap (λ k. seam k off) e)
+    c.as_ref.ensures.value ∙ call.ensures ∙ ap (λ k. get_or s.high k call.result.now) (c.seam.ensures ∙ ap (λ k. seam k off) e)
     ∙ get_or_default s.high (seam (row - 8) off) call.result.now None within ∙ sym (stored_high s row off high)
     ∙ ap (λ x. stored x row off) c.self.view_is
