@@ -16,7 +16,7 @@ use uo_base::{Event, Limits, Net, NoMemory};
 use uo_digest::{Digester, Steps};
 
 /// What an auditor says of an event.
-#[derive(Debug, Drop)]
+#[derive(Drop)]
 pub enum AuditLine {
     /// The verdict of a node that holds every output.
     Verdict(Verdict),

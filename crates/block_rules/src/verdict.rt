@@ -3,7 +3,7 @@ use crate::refusal::Refusal;
 use uo_digest::Digest;
 
 /// What a node says of an event.
-#[derive(Clone, Copy)]
+#[derive(Clone, Copy, PartialEq, Eq)]
 pub enum Verdict {
     /// The block is the chain's newest now.
     Accepted {

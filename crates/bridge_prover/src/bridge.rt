@@ -29,7 +29,7 @@ use uo_base::{Event, Limits, Net, NoMemory};
 use uo_digest::{Digest, Digester, Steps};
 
 /// What a bridge says of an event, and the proof message that it passes on beside an accepted block which spends from outside.
-#[derive(Debug, Drop)]
+#[derive(Drop)]
 pub struct Proved {
     /// What it says.
     pub verdict: Verdict,

@@ -3,7 +3,7 @@
 use block_rules::Verdict;
 
 /// What a bridge says of an event with the message beside it.
-#[derive(Debug, Drop)]
+#[derive(Drop)]
 pub enum Judged {
     /// The verdict of a node that holds every output.
     Verdict(Verdict),

@@ -11,7 +11,7 @@ use crate::options::{FromRule, OptionName, Options, read_options};
 use uo_base::Net;
 
 /// What the words ask for.
-#[derive(Clone, Copy, Debug, PartialEq, Eq)]
+#[derive(Clone, Copy, PartialEq, Eq)]
 pub enum Command<'a> {
     /// Judge a feed.
     Follow {

@@ -4,7 +4,7 @@ use feed_run::Status;
 use report_lines::Line;
 
 /// An input that can not be used: the status of the run, and its one line.
-#[derive(Clone, Copy, Debug, PartialEq, Eq)]
+#[derive(Clone, Copy)]
 pub struct BadInput {
     pub status: Status,
     pub line: Line,

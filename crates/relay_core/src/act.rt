@@ -3,7 +3,7 @@ use block_rules::Verdict;
 use uo_base::Event;
 
 /// One act of one of the nodes of a [`World`](crate::World): a message that it handles.
-#[derive(Clone, Copy, Debug, PartialEq, Eq)]
+#[derive(Clone, Copy)]
 pub enum Act<'a> {
     /// The bridge handles an event of its feed, by `Bridge::step`; a message beside a block is not looked at.
     Bridge(Event<'a>),
@@ -46,7 +46,7 @@ pub enum Kind {
 }
 
 /// What an act comes to.
-#[derive(Clone, Copy, Debug, PartialEq, Eq)]
+#[derive(Clone, Copy, PartialEq, Eq)]
 pub enum Outcome {
     /// The verdict of the bridge.
     Judged(Verdict),

@@ -10,6 +10,7 @@ mod hash_text;
 mod line;
 mod report;
 mod verdict;
+mod words;
 
 pub use clash::{push_clash, push_ticket_clash};
 pub use hash_text::{HashText, PlainText};

@@ -3,6 +3,7 @@ ghost use Rattle.std.specs.Prelude.{Some};
 
 use crate::hash_text::{HashText, PlainText};
 use crate::verdict::{ProofText, VerdictText};
+use crate::words::{put_one, put_two};
 use block_rules::{ProofRefusal, Verdict};
 use std::fmt;
 use uo_digest::Digest;
@@ -28,7 +29,7 @@ impl fmt::Display for CheckFault {
     fn fmt<W: fmt::Write>(&self, f: &mut fmt::Formatter<W>) -> fmt::Result {
         match self {
             CheckFault::Form => f.write_str("form"),
-            CheckFault::Version(version) => write!(f, "version {version}"),
+            CheckFault::Version(version) => put_one(f, "version ", version),
             CheckFault::Tip => f.write_str("tip"),
             CheckFault::Proof(why) => write!(f, "{}", ProofText(why)),
         }
@@ -57,7 +58,7 @@ impl fmt::Display for ReplyKind {
         match self {
             ReplyKind::Next => f.write_str("next"),
             ReplyKind::Same => f.write_str("same"),
-            ReplyKind::Back(count) => write!(f, "back {count}"),
+            ReplyKind::Back(count) => put_one(f, "back ", count),
             ReplyKind::Lost => f.write_str("lost"),
         }
     }
@@ -217,46 +218,46 @@ impl fmt::Display for Line {
                 tip: None,
                 leaves,
             } => write!(f, "end {events} - - {leaves}"),
-            Line::Words(at) => write!(f, "words {at}"),
+            Line::Words(at) => put_one(f, "words ", at),
             Line::FrameMagic { offset, found } => {
-                write!(f, "frame magic {offset} {}", PlainText(found))
+                put_two(f, "frame magic ", offset, &PlainText(found))
             }
-            Line::FrameCut { offset, missing } => write!(f, "frame cut {offset} {missing}"),
-            Line::FrameLong { offset, length } => write!(f, "frame long {offset} {length}"),
+            Line::FrameCut { offset, missing } => put_two(f, "frame cut ", offset, missing),
+            Line::FrameLong { offset, length } => put_two(f, "frame long ", offset, length),
             Line::FrameRollback { offset, length } => {
-                write!(f, "frame rollback {offset} {length}")
+                put_two(f, "frame rollback ", offset, length)
             }
-            Line::LimitFeed(bytes) => write!(f, "limit feed {bytes}"),
+            Line::LimitFeed(bytes) => put_one(f, "limit feed ", bytes),
             Line::PriorForm => f.write_str("prior form"),
-            Line::PriorVersion(version) => write!(f, "prior version {version}"),
-            Line::Watch(number) => write!(f, "watch {number}"),
-            Line::LimitPrior(bytes) => write!(f, "limit prior {bytes}"),
-            Line::LimitWatch(bytes) => write!(f, "limit watch {bytes}"),
+            Line::PriorVersion(version) => put_one(f, "prior version ", version),
+            Line::Watch(number) => put_one(f, "watch ", number),
+            Line::LimitPrior(bytes) => put_one(f, "limit prior ", bytes),
+            Line::LimitWatch(bytes) => put_one(f, "limit watch ", bytes),
             Line::Supply { live, issued } => write!(f, "supply {live} issued {issued}"),
-            Line::Clash(events) => write!(f, "clash {events}"),
+            Line::Clash(events) => put_one(f, "clash ", events),
             Line::Generated {
                 blocks,
                 rollbacks,
                 bytes,
             } => write!(f, "generated {blocks} {rollbacks} {bytes}"),
-            Line::UpgradedFeed { events, messages } => write!(f, "upgraded {events} {messages}"),
-            Line::UpgradedState(levels) => write!(f, "upgraded state {levels}"),
-            Line::Ordered { blocks, passed } => write!(f, "ordered {blocks} {passed}"),
+            Line::UpgradedFeed { events, messages } => put_two(f, "upgraded ", events, messages),
+            Line::UpgradedState(levels) => put_one(f, "upgraded state ", levels),
+            Line::Ordered { blocks, passed } => put_two(f, "ordered ", blocks, passed),
             Line::NoTip => f.write_str("notip"),
-            Line::Missing(hash) => write!(f, "missing {}", HashText(hash)),
-            Line::Loop(hash) => write!(f, "loop {}", HashText(hash)),
-            Line::Ticket { number, bytes } => write!(f, "ticket {number} {bytes}"),
+            Line::Missing(hash) => put_one(f, "missing ", &HashText(hash)),
+            Line::Loop(hash) => put_one(f, "loop ", &HashText(hash)),
+            Line::Ticket { number, bytes } => put_two(f, "ticket ", number, bytes),
             Line::NoTicket => f.write_str("ticket none"),
             Line::CheckLive {
                 txid,
                 index,
                 amount,
             } => write!(f, "check live {} {index} {amount}", HashText(txid)),
-            Line::CheckFails(why) => write!(f, "check {why}"),
+            Line::CheckFails(why) => put_one(f, "check ", why),
             Line::TicketClash => f.write_str("clash ticket"),
-            Line::Asked(ask) => write!(f, "asked {ask}"),
-            Line::Replied { reply, kind } => write!(f, "replied {reply} {kind}"),
-            Line::Moved(serial) => write!(f, "moved {serial}"),
+            Line::Asked(ask) => put_one(f, "asked ", ask),
+            Line::Replied { reply, kind } => put_two(f, "replied ", reply, kind),
+            Line::Moved(serial) => put_one(f, "moved ", serial),
             Line::Stale => f.write_str("stale"),
             Line::Unknown => f.write_str("unknown"),
             Line::Node {
@@ -266,7 +267,7 @@ impl fmt::Display for Line {
                 leaves,
             } => write!(f, "node {follower} {serial} {} {leaves}", TipText(tip)),
             Line::NoEvent => f.write_str("bridge none"),
-            Line::Script(line) => write!(f, "script {line}"),
+            Line::Script(line) => put_one(f, "script ", line),
         }
     }
 }

@@ -2,6 +2,7 @@
 ghost use Rattle.std.specs.Prelude.{Some};
 
 use crate::hash_text::HashText;
+use crate::words::{put_one, put_two};
 use block_rules::{ProofRefusal, Refusal, Verdict, WitnessFault};
 use std::fmt;
 
@@ -16,12 +17,12 @@ impl fmt::Display for ProofText<'_> {
 
     fn fmt<W: fmt::Write>(&self, f: &mut fmt::Formatter<W>) -> fmt::Result {
         match self.0 {
-            ProofRefusal::Outside(i) => write!(f, "outside {i}"),
-            ProofRefusal::Repeated(i, j) => write!(f, "repeated {i} {j}"),
-            ProofRefusal::Beneath(i, j) => write!(f, "beneath {i} {j}"),
-            ProofRefusal::HashCount { want, got } => write!(f, "hashes {want} {got}"),
-            ProofRefusal::EmptyRoot { row } => write!(f, "empty {row}"),
-            ProofRefusal::RootDiffers { row } => write!(f, "root {row}"),
+            ProofRefusal::Outside(i) => put_one(f, "outside ", i),
+            ProofRefusal::Repeated(i, j) => put_two(f, "repeated ", i, j),
+            ProofRefusal::Beneath(i, j) => put_two(f, "beneath ", i, j),
+            ProofRefusal::HashCount { want, got } => put_two(f, "hashes ", want, got),
+            ProofRefusal::EmptyRoot { row } => put_one(f, "empty ", row),
+            ProofRefusal::RootDiffers { row } => put_one(f, "root ", row),
         }
     }
 }
@@ -59,23 +60,23 @@ impl fmt::Display for RefusalText<'_> {
             Refusal::Link => f.write_str("link"),
             Refusal::MerkleRoot => f.write_str("merkle root"),
             Refusal::MerkleRepeated { level, place } => {
-                write!(f, "merkle repeated {level} {place}")
+                put_two(f, "merkle repeated ", level, place)
             }
-            Refusal::Witness(why) => write!(f, "witness {}", WitnessText(why)),
-            Refusal::Weight { weight } => write!(f, "weight {weight}"),
-            Refusal::Coinbase { tx } => write!(f, "coinbase {tx}"),
-            Refusal::Value { tx } => write!(f, "value {tx}"),
-            Refusal::Double { tx, input } => write!(f, "double {tx} {input}"),
+            Refusal::Witness(why) => put_one(f, "witness ", &WitnessText(why)),
+            Refusal::Weight { weight } => put_one(f, "weight ", weight),
+            Refusal::Coinbase { tx } => put_one(f, "coinbase ", tx),
+            Refusal::Value { tx } => put_one(f, "value ", tx),
+            Refusal::Double { tx, input } => put_two(f, "double ", tx, input),
             Refusal::Full => f.write_str("full"),
             Refusal::NoProof => f.write_str("noproof"),
             Refusal::MessageForm => f.write_str("message form"),
-            Refusal::MessageVersion { version } => write!(f, "message version {version}"),
-            Refusal::Spends { got, want } => write!(f, "spends {got} {want}"),
-            Refusal::Proof(why) => write!(f, "proof {}", ProofText(why)),
-            Refusal::Missing { tx, input } => write!(f, "missing {tx} {input}"),
-            Refusal::Immature { tx, input } => write!(f, "immature {tx} {input}"),
-            Refusal::Overspend { tx } => write!(f, "overspend {tx}"),
-            Refusal::Subsidy { claimed, allowed } => write!(f, "subsidy {claimed} {allowed}"),
+            Refusal::MessageVersion { version } => put_one(f, "message version ", version),
+            Refusal::Spends { got, want } => put_two(f, "spends ", got, want),
+            Refusal::Proof(why) => put_one(f, "proof ", &ProofText(why)),
+            Refusal::Missing { tx, input } => put_two(f, "missing ", tx, input),
+            Refusal::Immature { tx, input } => put_two(f, "immature ", tx, input),
+            Refusal::Overspend { tx } => put_one(f, "overspend ", tx),
+            Refusal::Subsidy { claimed, allowed } => put_two(f, "subsidy ", claimed, allowed),
         }
     }
 }
@@ -123,7 +124,7 @@ impl fmt::Display for VerdictText<'_> {
                 leaves,
                 ..
             } => write!(f, "rolledback {count} - - {leaves}"),
-            Verdict::TooDeep { asked, kept } => write!(f, "toodeep {asked} {kept}"),
+            Verdict::TooDeep { asked, kept } => put_two(f, "toodeep ", asked, kept),
             Verdict::Stray => f.write_str("stray"),
         }
     }
