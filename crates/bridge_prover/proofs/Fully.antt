@@ -1,5 +1,5 @@
 -- A bridge judges as the node judges that holds every output, and stays a bridge.
-use Rattle.std.proofs.Common.{◌≡◌, ℕ, suc, ◌+◌, Bool, true, false, List, ◌∷◌, length, Option, Some, None, refl, sym, ap, subst}
+use Rattle.std.proofs.Common.{◌≡◌, ℕ, Bool, true, false, List, length, Option, Some, None, refl, sym, ap, subst}
 use Rattle.std.specs.Prelude.{IfOk, OnOk, Result, Ok, Err, if◌then◌else◌}
 use Rattle.uo_base.specs.declared.event.Event.{Event}
 use Rattle.uo_base.specs.FeedEvent.{event_of}
@@ -19,17 +19,16 @@ use Rattle.node_rules.specs.Machine.{ChainEvent, BlockCame, RollbackCame, StrayC
 use Rattle.node_rules.specs.Machine.{event_in}
 use Rattle.node_rules.specs.Laws.{SpendsDiffer}
 use Rattle.node_rules.proofs.Value.{middle, once, full_pays}
-use Rattle.bridge_prover.specs.Bridge.{BridgeState, bridge_with, bridge_by, chain_before, record_of}
+use Rattle.node_rules.proofs.Running.{length-after}
+use Rattle.bridge_prover.specs.Bridge.{BridgeState, bridge_with, bridge_by}
 use Rattle.bridge_prover.specs.Standing.{Stands, IsBridge}
-use Rattle.bridge_prover.specs.Laws.{LevelsTold}
 use Rattle.bridge_prover.specs.Full.{watched_by, history_of, is_forged_on, full_refusal_on, unless_forged, judged_on, after_shown, kept_if}
 use Rattle.bridge_prover.specs.Full.{next_judged, BridgeIsFull, NextJudgedIsBridge, LevelsJudged}
-use Rattle.node_rules.proofs.Running.{length-after}
 use Rattle.bridge_prover.proofs.Historied.{is_history, newest_history}
 use Rattle.bridge_prover.proofs.Next.{at_level, at-then, room, there}
 use Rattle.bridge_prover.proofs.Refining.{bridge_is_own, next_is_bridge}
 use Rattle.bridge_prover.proofs.Taking.{each_live}
-use Rattle.bridge_prover.proofs.Telling.{map_taken, levels_told}
+use Rattle.bridge_prover.proofs.Telling.{block_told, levels_told}
 
 module _ (H : List ℕ → Digest) (s : BridgeState) (is : IsBridge H s) where
   module _ (b : Block) (handed : Handed) (us : History) where
@@ -120,23 +119,10 @@ module _ (H : List ℕ → Digest) (s : BridgeState) (is : IsBridge H s) where
 
     -- ---- what is told of the levels
 
-    told_by : (x : Option Refusal) → LevelsTold s (verdict_by s.chain b (length (new_records b s.chain.blocks)) x) (bridge_by x after s)
-    told_by None = (
-      refl,
-      ap (λ cs. (let c : Chain = record {
-        blocks = suc s.chain.blocks;
-        tip = block_hash_of b;
-        leaves =
-            s.chain.leaves + length (new_records b s.chain.blocks);
-      } in c ∷ cs))
-          (map_taken chain_before 100 (record_of s.chain (evidence b handed (history_of s) s.chain).numbers ∷ s.undo)),
-    )
-    told_by (Some why) = (refl, refl)
-
     pub told_so : (x : Bool) → LevelsJudged s (unless_forged x (verdict_by s.chain b (length (new_records b s.chain.blocks))
         (full_refusal_on H s b handed))) (kept_if x s (bridge_by (full_refusal_on H s b handed) after s))
     told_so true = refl
-    told_so false = told_by (full_refusal_on H s b handed)
+    told_so false = block_told H s b (evidence b handed (history_of s) s.chain).numbers (full_refusal_on H s b handed)
 
 pub bridge_is_full : BridgeIsFull
 bridge_is_full H s (BlockCame None handed) is t stands = (ap (λ (c : Chain). Some (Refused c.blocks None Why.Block)) (sym stands.chain), stands)

@@ -38,7 +38,7 @@ use Rattle.bridge_prover.specs.Laws.{own_outcome, text_by, BridgeIsOwn, FreshSta
 use Rattle.bridge_prover.proofs.Giving.{older_few}
 use Rattle.bridge_prover.proofs.Owning.{own_same, proof_same}
 use Rattle.bridge_prover.proofs.Next.{IsAt, at_level, at-then, own_live, own_apart, next_is}
-use Rattle.bridge_prover.proofs.Undoing.{at-undone, can_undo}
+use Rattle.bridge_prover.proofs.Undoing.{at-undone, can_undo, IsLast}
 
 pub fresh_stands : FreshStands
 fresh_stands H net limits watch = record { chain = refl; entries = refl; index = refl; undo = tt }
@@ -70,6 +70,19 @@ fresh_like H net limits watch es hs undo e h u few =
 -- ---- back by k blocks
 
 module _ (H : List ℕ → Digest) where
+  last_of : (t : State) (older : Level) (ls : List Level) (u : UndoRecord) (us : List UndoRecord) (s : BridgeState) → IsAt H t s
+      → GiveBack s.held t.now (older ∷ ls) (u ∷ us) → IsLast H s t.now older ls u us
+  last_of t older ls u us s at g = record {
+    counted = ap (λ (c : Chain). c.leaves) at.stands.chain;
+    entries_are = at.stands.entries;
+    index = at.stands.index;
+    below = at.below;
+    rise = at.rise;
+    undoes = g.0;
+    held = g.1;
+    later = g.2;
+  }
+
   -- the newest block, where there is a level before it
   pub at-one_back : (now older : Level) (ls : List Level) (s : BridgeState) → IsAt H (record { now = now; older = older ∷ ls }) s
       → IsAt H (record { now = older; older = ls }) (undone_by H s.undo s)
@@ -78,16 +91,7 @@ module _ (H : List ℕ → Digest) where
       by : (undo : List UndoRecord) → GiveBack s.held now (older ∷ ls) undo
           → IsAt H (record { now = older; older = ls }) (undone_by H undo s)
       by [] g = absurd g
-      by (u ∷ us) g = at-undone H s now older ls u us (record {
-        counted = ap (λ (c : Chain). c.leaves) at.stands.chain;
-        entries_are = at.stands.entries;
-        index = at.stands.index;
-        below = at.below;
-        rise = at.rise;
-        undoes = g.0;
-        held = g.1;
-        later = g.2;
-      })
+      by (u ∷ us) g = at-undone H s now older ls u us (last_of (record { now = now; older = older ∷ ls }) older ls u us s at g)
 
   pub at-back : (k : ℕ) (now : Level) (ls : List Level) (s : BridgeState) → k ≤ length ls → IsAt H (record { now = now; older = ls }) s
       → IsAt H (back k now ls) (gone_back H k s)
@@ -130,16 +134,7 @@ module _ (H : List ℕ → Digest) where
           let few = older_few u is.levels.now l g.0 in
           let low = is.low in
           let within = is.within in
-          let at = at-undone H s is.levels.now l ls u us (record {
-            counted = counted;
-            entries_are = is.stands.entries;
-            index = is.stands.index;
-            below = is.below;
-            rise = is.rise;
-            undoes = g.0;
-            held = g.1;
-            later = g.2;
-          }) in
+          let at = at-undone H s is.levels.now l ls u us (last_of is.levels l ls u us s (at_level H is.levels s is is.stands) g) in
           record {
             low = omega (arith, low, blocks, older_blocks, next);
             within = omega (arith, within, counted, older_leaves, few);
@@ -162,16 +157,7 @@ module _ (H : List ℕ → Digest) where
     where
       by : (ls : List Level) (us : List UndoRecord) → GiveBack s.held is.levels.now ls (u ∷ us) → CanUndo H s u
       by [] us g = absurd g
-      by (l ∷ ls) us g = can_undo H s is.levels.now l ls u us (record {
-        counted = ap (λ (c : Chain). c.leaves) is.stands.chain;
-        entries_are = is.stands.entries;
-        index = is.stands.index;
-        below = is.below;
-        rise = is.rise;
-        undoes = g.0;
-        held = g.1;
-        later = g.2;
-      })
+      by (l ∷ ls) us g = can_undo H s is.levels.now l ls u us (last_of is.levels l ls u us s (at_level H is.levels s is is.stands) g)
 
   -- what the calls leave that undo the newest block is again what a bridge keeps
   pub undone_like : (s : BridgeState) (u : UndoRecord) → IsBridge H s → Some u ≡ slice_get s.undo 0 →

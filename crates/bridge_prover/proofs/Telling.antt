@@ -24,7 +24,7 @@ use Rattle.reorg_undo.specs.Undo.{UndoRecord}
 use Rattle.output_index.specs.Held.{Held}
 use Rattle.bridge_prover.specs.Own.{own_in}
 use Rattle.bridge_prover.specs.Bridge.{BridgeState, chain_before, chain_back, restored_in, undone_by, gone_back, refusal_on, after_block, bridge_by}
-use Rattle.bridge_prover.specs.Bridge.{verdict_on, next_bridge, message_on, spent_by, record_of}
+use Rattle.bridge_prover.specs.Bridge.{verdict_on, next_bridge, message_on, spent_by, record_of, bridge_with}
 use Rattle.bridge_prover.specs.Standing.{GiveBack, IsBridge}
 use Rattle.bridge_prover.specs.Laws.{LevelsTold}
 use Rattle.bridge_prover.proofs.Next.{at_level}
@@ -159,23 +159,25 @@ module _ (H : List ℕ → Digest) where
       by_test false e = rw e refl
   next_kept s StrayCame = refl
 
+  -- whatever a block spends
+  pub block_told : (s : BridgeState) (b : Block) (ns : List ℕ) (x : Option Refusal)
+      → LevelsTold s (verdict_by s.chain b (length (new_records b s.chain.blocks)) x)
+      (bridge_by x (bridge_with H s (block_hash_of b) ns (new_records b s.chain.blocks)) s)
+  block_told s b ns None = (
+    refl,
+    ap (λ cs. (let c : Chain = record {
+      blocks = suc s.chain.blocks;
+      tip = block_hash_of b;
+      leaves =
+          s.chain.leaves + length (new_records b s.chain.blocks);
+    } in c ∷ cs))
+        (map_taken chain_before 100 (record_of s.chain ns ∷ s.undo)),
+  )
+  block_told s b ns (Some why) = (refl, refl)
+
   pub levels_told : (s : BridgeState) (e : ChainEvent) → IsBridge H s → LevelsTold s (verdict_on s e) (next_bridge H s e)
   levels_told s (BlockCame None handed) is = (refl, refl)
-  levels_told s (BlockCame (Some b) handed) is = by (refusal_on s b)
-    where
-      by : (x : Option Refusal) → LevelsTold s (verdict_by s.chain b (length (new_records b s.chain.blocks)) x)
-          (bridge_by x (after_block H s b) s)
-      by None = (
-        refl,
-        ap (λ cs. (let c : Chain = record {
-          blocks = suc s.chain.blocks;
-          tip = block_hash_of b;
-          leaves =
-              s.chain.leaves + length (new_records b s.chain.blocks);
-        } in c ∷ cs))
-            (map_taken chain_before 100 (record_of s.chain (own_in s.held (external b s.chain.blocks)).numbers ∷ s.undo)),
-      )
-      by (Some why) = (refl, refl)
+  levels_told s (BlockCame (Some b) handed) is = block_told s b (own_in s.held (external b s.chain.blocks)).numbers (refusal_on s b)
   levels_told s (RollbackCame k) is = by_test (nat_le k (length s.undo)) refl
     where
       by_test : (t : Bool) → nat_le k (length s.undo) ≡ t → LevelsTold s (verdict_on s (RollbackCame k)) (next_bridge H s (RollbackCame k))

@@ -1,10 +1,10 @@
 -- What is known of the blocks that arrived.
-use Rattle.std.proofs.Common.{◌≡◌, ℕ, ◌≤◌, nat_lt, Bool, true, false, List, [], ◌∷◌, ◌++◌, length, take, drop, Some, None, refl, sym, ap, ◌∙◌, arith}
+use Rattle.std.proofs.Common.{◌≡◌, ℕ, ◌≤◌, nat_lt, Bool, true, false, List, [], ◌∷◌, ◌++◌, length, take, drop, Some, None, refl, sym, ap, ◌∙◌}
 use Rattle.std.proofs.Common.{if◌then◌else◌, append_assoc}
 use Rattle.std.specs.Prelude.{All, Contains, fold}
 use Rattle.std.specs.Int.{w32, to_le_bytes}
 use Rattle.std.specs.List.{AllByRecursion}
-use Rattle.std.proofs.lemmas.List.{take_at, drop_at, length-append}
+use Rattle.std.proofs.lemmas.List.{take_at, drop_at}
 use Rattle.std.proofs.lemmas.List.Elements.{All-contains, All-from_recursion, recursion_from_All}
 use Rattle.sha2.specs.Sha256.{sha256}
 use Rattle.uo_base.specs.FeedEvent.{FeedEvent, BlockCame, RollbackCame, StrayCame}
@@ -13,10 +13,10 @@ use Rattle.uo_base.specs.Reading.{IsBytes}
 use Rattle.uo_digest.specs.declared.digest.Digest.{Digest}
 use Rattle.uo_digest.proofs.DigestLaws.{digest_is}
 use Rattle.tx_codec.specs.Transaction.{tx_text}
-use Rattle.block_codec.specs.declared.header.HeaderView.{HeaderView}
-use Rattle.block_codec.specs.Block.{Block, HeaderFits, header_text, block_hash_of}
+use Rattle.block_codec.specs.Block.{Block, header_text, block_hash_of}
 use Rattle.block_codec.specs.Reading.{block_in}
 use Rattle.block_codec.proofs.BlockLaws.{IsBlockText, block_in-fits}
+use Rattle.block_codec.proofs.BlockViewLaws.{header_len}
 use Rattle.feed_frame.specs.FeedText.{CanBeAFeed}
 use Rattle.feed_frame.specs.Frames.{most_block}
 use Rattle.chain_order.specs.Arrivals.{Arrival, has_arrived}
@@ -72,9 +72,6 @@ path_read events path b s there = by path (recursion_from_All (Contains (arrival
     by (a ∷ xs) c = (All-contains IsRead (arrivals_of (bodies_of events)) a arrived c.0, by xs c.1)
 
 -- ---- its header
-
-header_len : (h : HeaderView) → HeaderFits h → length (header_text h) ≡ 80
-header_len h fits = simp length-append (omega (arith, fits.prev, fits.merkle))
 
 -- a block's header is the first 80 bytes of its text
 header_front : (bytes : List ℕ) (b : Block) → IsBlockText bytes b → take 80 bytes ≡ header_text b.header

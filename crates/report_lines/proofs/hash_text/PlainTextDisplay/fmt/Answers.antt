@@ -1,33 +1,9 @@
-use Rattle.std.proofs.Common.{subst, sym, lit<}
+use Rattle.std.proofs.Common.{subst, sym}
 use Rattle.std.specs.Str.{IsAscii}
-use Rattle.std.proofs.ByRecursion.{IsAscii-from_all}
 use Rattle.hex.specs.Hex.{lower_digits}
 use Rattle.hex.proofs.HexLemmas.{IsAscii-encode_with}
+use Rattle.report_lines.proofs.Digits.{digits_are_ascii}
 use Rattle.report_lines.proofs.hash_text.PlainTextDisplay.fmt.Goals as goal
-
-digits_are_ascii : IsAscii lower_digits
-digits_are_ascii = IsAscii-from_all lower_digits (
-  lit< tt,
-  (
-    lit< tt,
-    (
-      lit< tt,
-      (
-        lit< tt,
-        (
-          lit< tt,
-          (
-            lit< tt,
-            (
-              lit< tt,
-              (lit< tt, (lit< tt, (lit< tt, (lit< tt, (lit< tt, (lit< tt, (lit< tt, (lit< tt, (lit< tt, tt))))))))),
-            ),
-          ),
-        ),
-      ),
-    ),
-  ),
-)
 
 pub ascii_text-requires : goal.ascii_text-requires
 ascii_text-requires g c = subst IsAscii (sym c.plain_digits-digits.ensures) (IsAscii-encode_with lower_digits _ digits_are_ascii)
