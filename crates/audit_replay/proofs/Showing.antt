@@ -5,6 +5,7 @@ use Rattle.std.specs.Prelude.{not, ◌&&◌, ◌==◌, is_none, is_some, option_
 use Rattle.std.specs.List.{AllByRecursion, flat_map}
 use Rattle.std.proofs.lemmas.Bool.{and_parts, eqb-true, not-true, cases_Bool, false≢true}
 use Rattle.std.proofs.lemmas.List.{length-map}
+use Rattle.uo_base.proofs.Lists.{all-append}
 use Rattle.uo_digest.specs.declared.digest.Digest.{Digest}
 use Rattle.forest_model.specs.Content.{IsDigest}
 use Rattle.forest_model.specs.Right.{entries}
@@ -53,10 +54,6 @@ use Rattle.audit_replay.proofs.Shown.{shows}
 abbrev PointFits : Outpoint → Type 0
 PointFits p = IsDigest p.txid × (p.index < 2 ^ 32)
 
-all_append : {X : Type 0} (P : X → Type 0) (xs ys : List X) → AllByRecursion P xs → AllByRecursion P ys → AllByRecursion P (xs ++ ys)
-all_append P [] ys h k = k
-all_append P (x ∷ xs) ys h k = (h.0, all_append P xs ys h.1 k)
-
 placed_fit : (t i : ℕ) (inputs : List Input) → AllByRecursion InputFits inputs
     → AllByRecursion (λ (at : Placed). PointFits at.point) (placed_from t i inputs)
 placed_fit t i [] h = tt
@@ -77,7 +74,7 @@ groups_fit : (hash : Digest) (height t : ℕ) (txs : List Transaction) (fresh : 
 groups_fit hash height t [] fresh h = tt
 groups_fit hash height t (tx ∷ txs) fresh h =
     let ats = placed_from t 0 tx.inputs in
-    all_append (λ (o : Outside). PointFits (point_of o)) (external_in (spends_from ats fresh)) _
+    all-append (λ (o : Outside). PointFits (point_of o)) (external_in (spends_from ats fresh)) _
     (outside_fit (spends_from ats fresh) (spent_fit ats fresh (placed_fit t 0 tx.inputs h.0.inputs)))
     (groups_fit hash height (suc t) txs (left_from ats fresh ++ map Some (made_by hash height false tx)) h.1)
 

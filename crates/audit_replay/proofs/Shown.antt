@@ -1,12 +1,13 @@
 -- Where a message is accepted and not right, two texts are found, and they are different and have one digest.
 use Rattle.std.proofs.Common.{◌≡◌, ◌≢◌, ℕ, zero, suc, ◌+◌, ◌-◌, ◌*◌, Bool, true, false, List, [], ◌∷◌, ◌++◌, map, length, get_or, Option, Some, None}
-use Rattle.std.proofs.Common.{All, Contains, refl, sym, ap, ◌∙◌, subst, ⊎_elim, arith}
+use Rattle.std.proofs.Common.{Contains, refl, sym, ap, ◌∙◌, subst, ⊎_elim, arith}
 use Rattle.std.specs.Prelude.{option_map, option_and_then, unwrap_or, bytes_eq, is_none, if◌then◌else◌}
 use Rattle.std.specs.List.{AllByRecursion}
 use Rattle.std.specs.Option.{option_or}
 use Rattle.std.proofs.lemmas.Bool.{cases_Bool, false≢true, or_cases, or_left, or_right}
 use Rattle.std.proofs.lemmas.List.{length-map}
 use Rattle.std.proofs.lemmas.Option.{none-some, same_Some}
+use Rattle.std.proofs.lemmas.List.Elements.{All-from_recursion}
 use Rattle.uo_digest.specs.declared.digest.Digest.{Digest}
 use Rattle.forest_place.specs.declared.place.Place.{Place}
 use Rattle.forest_place.specs.Forest.{InForest, is_slot, root_off}
@@ -21,7 +22,7 @@ use Rattle.forest_model.specs.Right.{entries, text_at as entry_text, IsKnowledge
 use Rattle.forest_model.proofs.Climbs.{tree_at-root}
 use Rattle.forest_model.proofs.Unique.{tree_at-leaves}
 use Rattle.forest_model.proofs.Clash.{Contains-first}
-use Rattle.forest_model.proofs.Extract.{entry_of, entry_texts, leaves_are, value-same, beside_other, right_from_found}
+use Rattle.forest_model.proofs.Extract.{entry_texts, leaves_are, value-same, right_from_found}
 use Rattle.leaf_record.specs.Leaf.{Leaf, LeafFits, leaf_text}
 use Rattle.leaf_record.specs.History.{History}
 use Rattle.leaf_record.proofs.LeafLaws.{one_leaf, leaf_long}
@@ -33,13 +34,15 @@ use Rattle.node_rules.specs.Accepting.{leaves_of, proof_fault}
 use Rattle.node_rules.specs.Right.{is_digest, is_right}
 use Rattle.node_rules.proofs.Faults.{accepted}
 use Rattle.node_rules.proofs.Righting.{right_is_tested}
-use Rattle.node_rules.proofs.Same.{bytes_eq-same, bytes_eq-true, is_same-same, is_same-true}
+use Rattle.node_rules.proofs.Same.{bytes_eq-same, bytes_eq-true, is_same-same}
 use Rattle.clash_find.specs.Clashes.{TextClash}
-use Rattle.clash_find.specs.Texts.{tree_text, text_at, claims}
+use Rattle.clash_find.specs.Texts.{text_at, claims}
 use Rattle.clash_find.specs.Answers.{StandForHistory, IsClash}
 use Rattle.clash_find.specs.Found.{text_for, differing, clash_over, clash_at, clash_in}
 use Rattle.clash_find.proofs.Agreement.{value_of, node_text, cover_text, HasDigests, AgreeAt, found, right_agrees}
 use Rattle.clash_find.proofs.Listing.{node_listed, cover_listed}
+use Rattle.clash_find.proofs.Answering.{standing, there_is}
+use Rattle.clash_find.proofs.Answering.{node_shown as node_has_text, leaf_other as other_length}
 
 -- ---- the first of a list
 
@@ -133,27 +136,12 @@ target_here ts (suc r) o a b e =
     by None (Some y) e = absurd (let z = same_Some _ _ e in cc)
     by (Some x) (Some y) e = absurd (let z = same_Some _ _ e in cc)
 
--- what has a digest is there
-standing : (H : List ℕ → Digest) (x : Option Tree) (d : Digest) → option_map (digest_of H) x ≡ Some d → (t : Tree) × (x ≡ Some t)
-    × (digest_of H t ≡ d)
-standing H None d e = absurd (none-some d e)
-standing H (Some t) d e = (t, refl, same_Some _ _ e)
-
-there_is : (d : Digest) (x : Option Digest) → is_digest d x ≡ true → x ≡ Some d
-there_is d None h = absurd (false≢true h)
-there_is d (Some e) h = ap Some (sym (is_same-true d e h))
-
 -- a digest that stands beside a place has 32 bytes, where all have
 beside_long : (none : Digest) (ps : List Place) (ds : List Digest) (r o : ℕ) → IsDigest none → AllByRecursion IsDigest ds
     → IsDigest (beside none ps ds r o)
 beside_long none [] ds r o h a = h
 beside_long none (p ∷ ps) [] r o h a = h
 beside_long none (p ∷ ps) (d ∷ ds) r o h a = ⊎_elim (λ e. rw e a.0) (λ e. rw e (beside_long none ps ds r o h a.1)) (cases_Bool (is_at r o p))
-
-all_from : {X : Type 0} (P : X → Type 0) (xs : List X) → AllByRecursion P xs → All P xs
-all_from P [] h j d lt = absurd (omega (arith, lt))
-all_from P (x ∷ xs) h zero d lt = h.0
-all_from P (x ∷ xs) h (suc j) d lt = all_from P xs h.1 j d (omega (arith, lt))
 
 module _ (H : List ℕ → Digest) (long : (x : List ℕ) → IsDigest (H x)) (us : History) (outputs : List Held)
     (stand : StandForHistory H (entries H leaf_text us) outputs us)
@@ -221,13 +209,7 @@ module _ (H : List ℕ → Digest) (long : (x : List ℕ) → IsDigest (H x)) (u
 
   -- a node that stands has a text, which has its digest
   node_shown : (r o : ℕ) (t : Tree) → tree_at es r o ≡ Some t → text_at H es outputs r o ≡ Some (node_text_of t)
-  node_shown r o t s = ap (option_and_then (tree_text H outputs)) s ∙ by_tree t s
-    where
-      by_tree : (t : Tree) → tree_at es r o ≡ Some t → tree_text H outputs t ≡ Some (node_text_of t)
-      by_tree (leaf i d) s =
-          let w = entry_of H leaf_text us i d (tree_at-leaves es r o (leaf i d) s) in
-          ap (option_map leaf_text) (stand.held i w.rec w.live) ∙ ap Some (sym w.shown)
-      by_tree (inner a b) s = refl
+  node_shown = node_has_text H long us outputs stand.held stand.fit ts rs k hs
 
   node_digest : (r o : ℕ) (t : Tree) → tree_at es r o ≡ Some t → H (node_text_of t) ≡ digest_of H t
   node_digest r o (leaf i d) s = (each_entry i d (tree_at-leaves es r o (leaf i d) s)).0
@@ -292,12 +274,7 @@ module _ (H : List ℕ → Digest) (long : (x : List ℕ) → IsDigest (H x)) (u
   agree_at silent r o h c t e s v = (nothing_here r o c t e s v (none-at shown_at (places n) (place r o) silent (places_have n r o h)), has_digests c)
 
   leaf_other : (r o : ℕ) → length (leaf_texts r o) ≢ 64
-  leaf_other r o = beside_other ts (map leaf_text rs) r o (all_other rs claims_fit)
-    where
-      all_other : (ls : List Leaf) → AllByRecursion LeafFits ls → All (λ x. length x ≢ 64) (map leaf_text ls)
-      all_other [] h j d lt = absurd (omega (arith, lt))
-      all_other (l ∷ ls) h zero d lt = no_pair l h.0
-      all_other (l ∷ ls) h (suc j) d lt = all_other ls h.1 j d (omega (arith, lt))
+  leaf_other = other_length H long us outputs stand.held stand.fit ts rs k hs claims_fit
 
   root_is : (row : ℕ) (c : Cover) → is_slot n row ≡ true → cover ts row (root_off n row) ≡ Some c → root H es row ≡ Some (V c)
   root_is row c slot e =
@@ -309,7 +286,7 @@ module _ (H : List ℕ → Digest) (long : (x : List ℕ) → IsDigest (H x)) (u
 
   right : first_of (map shown_at (places n)) ≡ None → RightBy n
   right silent =
-      right_from_found H leaf_text long LeafFits no_pair one_leaf us stand.fit ts k rs hs (all_from LeafFits rs claims_fit) acc.0
+      right_from_found H leaf_text long LeafFits no_pair one_leaf us stand.fit ts k rs hs (All-from_recursion LeafFits rs claims_fit) acc.0
       (λ row c slot e.
       let o = root_off n row in
       let top = is_root-root_off n row slot in
