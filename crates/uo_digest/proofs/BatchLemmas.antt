@@ -32,6 +32,16 @@ two_of f (a ∷ []) d is = absurd (omega (arith, is))
 two_of f (a ∷ b ∷ []) d is = refl
 two_of f (a ∷ b ∷ c ∷ xs) d is = absurd (omega (arith, is))
 
+-- three of them
+pub same_three : {a b c p q r : List ℕ} → a ≡ p → b ≡ q → c ≡ r
+    → ◌≡◌ {A = List Digest} (of_bytes a ∷ of_bytes b ∷ of_bytes c ∷ []) (of_bytes p ∷ of_bytes q ∷ of_bytes r ∷ [])
+same_three i j k = rw (i, j, k) refl
+
+pub three_of : {X : Type 0} (f : X → Digest) (xs : List X) (d : X) → length xs ≡ 3
+    → f (get_or xs 0 d) ∷ f (get_or xs 1 d) ∷ f (get_or xs 2 d) ∷ [] ≡ map f xs
+three_of f [] d is = absurd (omega (arith, is))
+three_of f (a ∷ xs) d is = ap (λ (rest : List Digest). f a ∷ rest) (two_of f xs d (omega (arith, is)))
+
 -- four of them
 pub same_four : {a b c d p q r s : List ℕ} → a ≡ p → b ≡ q → c ≡ r → d ≡ s
     → ◌≡◌ {A = List Digest} (of_bytes a ∷ of_bytes b ∷ of_bytes c ∷ of_bytes d ∷ []) (of_bytes p ∷ of_bytes q ∷ of_bytes r ∷ of_bytes s ∷ [])

@@ -44,15 +44,37 @@ fn two_digests(pairs: &[(Digest, Digest)]) -> [Digest; 2]
     [Digest(first), Digest(second)]
 }
 
-// Puts the digests of two pairs behind those before them.
+// Puts the digests of the last two pairs behind those before them.
 fn put_two(pairs: &[(Digest, Digest)], from: usize, out: &mut [Digest])
     requires count { length out.old ≡ length pairs.now }
-    requires within { from + 2 ≤ length pairs.now }
+    requires within { from + 2 ≡ length pairs.now }
     requires before { AreGiven (λ (pair : Digested × Digested). record { 0 = sha512_256 (pair.0.0 ++ pair.1.0) }) pairs.now out.old from }
-    ensures { AreGiven (λ (pair : Digested × Digested). record { 0 = sha512_256 (pair.0.0 ++ pair.1.0) }) pairs.now out.new (from + 2) }
+    ensures { AreGiven (λ (pair : Digested × Digested). record { 0 = sha512_256 (pair.0.0 ++ pair.1.0) }) pairs.now out.new (length pairs.now) }
 {
     let two = two_digests(&pairs[from..from + 2]);
     out[from..from + 2].copy_from_slice(&two);
+}
+
+// The digests of three pairs: a blank goes in the fourth lane.
+fn three_digests(pairs: &[(Digest, Digest)]) -> [Digest; 3]
+    requires { length pairs.now ≡ 3 }
+    ensures { result ≡ map (λ (pair : Digested × Digested). record { 0 = sha512_256 (pair.0.0 ++ pair.1.0) }) pairs.now }
+{
+    let left = [pairs[0].0.0, pairs[1].0.0, pairs[2].0.0, [0; 32]];
+    let right = [pairs[0].1.0, pairs[1].1.0, pairs[2].1.0, [0; 32]];
+    let [first, second, third, _] = pairs_of_four(&left, &right);
+    [Digest(first), Digest(second), Digest(third)]
+}
+
+// Puts the digests of the last three pairs behind those before them.
+fn put_three(pairs: &[(Digest, Digest)], from: usize, out: &mut [Digest])
+    requires count { length out.old ≡ length pairs.now }
+    requires within { from + 3 ≡ length pairs.now }
+    requires before { AreGiven (λ (pair : Digested × Digested). record { 0 = sha512_256 (pair.0.0 ++ pair.1.0) }) pairs.now out.old from }
+    ensures { AreGiven (λ (pair : Digested × Digested). record { 0 = sha512_256 (pair.0.0 ++ pair.1.0) }) pairs.now out.new (length pairs.now) }
+{
+    let three = three_digests(&pairs[from..from + 3]);
+    out[from..from + 3].copy_from_slice(&three);
 }
 
 // The digest of each pair, one by one.
@@ -77,22 +99,21 @@ fn put_alone(pairs: &[(Digest, Digest)], from: usize, out: &mut [Digest])
     digest_pairs_alone(&pairs[from..], &mut out[from..]);
 }
 
-// Puts the digests of the last pairs, fewer than four, behind those before them: two side by side, and one alone.
+// Puts the digests of the last pairs, fewer than four, behind those before them. Three take no longer in four lanes than two and one do in two.
 fn put_rest(pairs: &[(Digest, Digest)], from: usize, out: &mut [Digest])
     requires count { length out.old ≡ length pairs.now }
     requires within { from ≤ length pairs.now }
     requires before { AreGiven (λ (pair : Digested × Digested). record { 0 = sha512_256 (pair.0.0 ++ pair.1.0) }) pairs.now out.old from }
     ensures { AreGiven (λ (pair : Digested × Digested). record { 0 = sha512_256 (pair.0.0 ++ pair.1.0) }) pairs.now out.new (length pairs.now) }
 {
-    if pairs.len() - from < 2 {
-        put_alone(pairs, from, out);
-    } else {
-        put_two(pairs, from, out);
-        put_alone(pairs, from + 2, out);
+    match pairs.len() - from {
+        3 => put_three(pairs, from, out),
+        2 => put_two(pairs, from, out),
+        _ => put_alone(pairs, from, out),
     }
 }
 
-/// The digest of each pair, as one text of 64 bytes: four at a time, then two, and one at the end alone.
+/// The digest of each pair, as one text of 64 bytes: four at a time, two or three at the end as well, and one at the end alone.
 pub(crate) fn digest_pairs(pairs: &[(Digest, Digest)], out: &mut [Digest])
     requires { length out.old ≡ length pairs.now }
     ensures { out.new ≡ map (λ (pair : Digested × Digested). record { 0 = sha512_256 (pair.0.0 ++ pair.1.0) }) pairs.now }
