@@ -21,7 +21,8 @@ slice_index-lane [] j k = refl
 slice_index-lane (v ∷ x) j zero = refl
 slice_index-lane (v ∷ x) j (suc k) = slice_index-lane x j k
 
-pub lane-set : {V : Type 0} (word : V → ℕ → ℕ) (x : List V) (j k : ℕ) (v : V) → lane_of word j (slice_set x k v) ≡ slice_set (lane_of word j x) k (word v j)
+pub lane-set : {V : Type 0} (word : V → ℕ → ℕ) (x : List V) (j k : ℕ) (v : V)
+    → lane_of word j (slice_set x k v) ≡ slice_set (lane_of word j x) k (word v j)
 lane-set word [] j k v = refl
 lane-set word (y ∷ x) j zero v = refl
 lane-set word (y ∷ x) j (suc k) v = ap (λ (t : List ℕ). word y j ∷ t) (lane-set word x j k v)

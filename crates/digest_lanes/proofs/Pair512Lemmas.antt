@@ -1,6 +1,6 @@
 -- The one block of a text of two halves of 32 bytes.
-use Rattle.std.proofs.Common.{◌≡◌, ℕ, ◌≤◌, ◌<◌, ◌+◌, ◌-◌, ◌/◌, List, [], ◌∷◌, ◌++◌, length, take, slice_index, slice_index_or, arith, refl, sym, ap, ◌∙◌}
-use Rattle.std.proofs.Common.{length-append}
+use Rattle.std.proofs.Common.{◌≡◌, ℕ, ◌≤◌, ◌<◌, ◌+◌, ◌-◌, ◌/◌, List, [], ◌∷◌, ◌++◌, length, take, slice_index, slice_index_or, arith, refl}
+use Rattle.std.proofs.Common.{sym, ap, ◌∙◌, length-append}
 use Rattle.std.proofs.lemmas.List.{get_or_append_left, get_or-append_right, take_all}
 use Rattle.std.specs.Int.{w64, to_be_bytes}
 use lib.ListN.{get_or}

@@ -1,4 +1,5 @@
-//! Digests of the SHA-2 family (FIPS 180-4) side by side: each text in a lane of vectors, SHA-512/256 four or two at a time and SHA-256 eight at a time.
+//! Digests of the SHA-2 family (FIPS 180-4) side by side: each text in a lane of vectors, SHA-512/256 four or two at a time and SHA-256 eight
+//! at a time.
 //!
 //! Each is the digest that the library `sha2` gives of the text alone. No call here takes memory.
 #![tactic(auto)]

@@ -14,8 +14,8 @@ use std::marker::Model;
 use uo_base::NoMemory;
 
 /// The entries, each at its number, so that none is searched for. Numbers are those of a forest's entries, which come in a row. They lie in
-/// pages of 256, each of 56 bytes and 8 for each entry that it has room for: at most 21 more than it holds, or 263 until the first of them is gone. So a
-/// number of which nothing is held any more takes a fifth of a byte.
+/// pages of 256, each of 56 bytes and 8 for each entry that it has room for: at most 21 more than it holds, or 263 until the first of them
+/// is gone. So a number of which nothing is held any more takes a fifth of a byte.
 ///
 /// The boxes of entries that were taken out are kept for the next ones, so that a block which spends as many outputs as it makes asks
 /// for no box here. A new box is made only where none is spare, so there are never more, held and spare, than the most entries that
