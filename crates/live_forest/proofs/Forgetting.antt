@@ -9,7 +9,8 @@ use Rattle.forest_place.specs.Forest.{InForest}
 use Rattle.forest_place.proofs.Slots.{in_forest_iff}
 use Rattle.forest_place.proofs.Positions.{row_small}
 use Rattle.live_forest.specs.Sets.{is_bit, rank, IsWithout}
-use Rattle.live_forest.specs.Pages.{PageState, told, leaf_in, when, IsOfHalves, AreOfHalves}
+use Rattle.live_forest.specs.Pages.{PageState, told, IsOfHalves, AreOfHalves}
+use Rattle.live_forest.proofs.Telling.{some_told}
 use Rattle.live_forest.specs.Stores.{StoreState, no_page, page_at, stored, is_listed, IsStore, AreStoredOfHalves}
 use Rattle.live_forest.proofs.Storing.{whole_page, rest_rows, stored_low, stored_by, same_part}
 
@@ -17,7 +18,7 @@ use Rattle.live_forest.proofs.Storing.{whole_page, rest_rows, stored_low, stored
 pub spent_bit : (p : PageState) (i : ℕ) → told p 0 i ≡ None → is_bit p.live i ≡ false
 spent_bit p i e =
     ⊎_elim
-    (λ live. absurd (true≢false (ap is_some (sym (ap (λ b. when b (leaf_in p.cells (rank (is_bit p.listed) i))) live) ∙ e))))
+    (λ live. absurd (true≢false (sym live ∙ sym (some_told p 0 i) ∙ ap is_some e)))
     (λ spent. spent)
     (cases_Bool (is_bit p.live i))
 

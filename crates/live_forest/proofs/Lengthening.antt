@@ -9,7 +9,8 @@ use Rattle.uo_digest.specs.declared.digest.Digest.{Digest}
 use Rattle.forest_place.specs.Forest.{InForest}
 use Rattle.forest_place.proofs.Slots.{in_forest_iff}
 use Rattle.live_forest.specs.Sets.{is_bit, has_part, rank, IsWith}
-use Rattle.live_forest.specs.Pages.{PageState, told, leaf_in, gap_in, middle, when, of_halves}
+use Rattle.live_forest.specs.Pages.{PageState, told}
+use Rattle.live_forest.proofs.Telling.{none_told}
 use Rattle.live_forest.specs.Stores.{StoreState, no_page, page_at, seam, stored, is_listed, IsStore, ArePages, IsLonger}
 use Rattle.live_forest.proofs.Bitmaps.{no_bits}
 use Rattle.live_forest.proofs.Seams.{seam_high}
@@ -22,14 +23,9 @@ none_listed is_in none zero off = none off
 none_listed is_in none (suc row) off = ap₂ (λ a b. a || b) (none_listed is_in none row (2 * off)) (none_listed is_in none row (2 * off + 1))
 
 pub nothing_told : (p : PageState) → p.listed ≡ 0 → p.live ≡ 0 → (row off : ℕ) → told p row off ≡ None
-nothing_told p listed live zero off =
-    ap (λ b. when b (leaf_in p.cells (rank (is_bit p.listed) off))) (ap (λ x. is_bit x off) live ∙ no_bits off)
-nothing_told p listed live (suc row) off =
-    let none : (i : ℕ) → is_bit p.listed i ≡ false = λ i. ap (λ x. is_bit x i) listed ∙ no_bits i in
-    ap (λ a. of_halves a (has_part (is_bit p.listed) row (2 * off + 1))
-    (when (has_part (is_bit p.live) (suc row) off) (gap_in p.cells (rank (is_bit p.listed) (middle row off)))) (told p row (2 * off))
-    (told p row (2 * off + 1))) (none_listed (is_bit p.listed) none row (2 * off))
-    ∙ nothing_told p listed live row (2 * off + 1)
+nothing_told p listed live row off =
+    let none : (i : ℕ) → is_bit p.live i ≡ false = λ i. ap (λ x. is_bit x i) live ∙ no_bits i in
+    none_told p row off (none_listed (is_bit p.live) none row off)
 
 -- a page behind all others
 page_at-more : (pages : List PageState) (page : PageState) (j : ℕ) → page_at (pages ++ page ∷ []) j ≡ page_at pages j

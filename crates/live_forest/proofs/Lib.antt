@@ -1,10 +1,10 @@
 pub mod Bitmaps
 pub mod Ranks
+pub mod Landing
 pub mod Telling
 pub mod Letting
 pub mod Seams
 pub mod Storing
-pub mod Ends
 pub mod Entries
 pub mod Ones
 pub mod Counting
@@ -15,7 +15,6 @@ pub mod Renewing
 pub mod Growing
 pub mod Lengthening
 pub mod Forgetting
-pub mod Forks
 pub mod Holding
 pub mod Seeking
 pub mod Ascending

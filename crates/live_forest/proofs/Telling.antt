@@ -1,21 +1,24 @@
 -- What a page keeps for parts, and what of it a write changes.
 use Rattle.std.proofs.Common.{◌≡◌, ◌≢◌, ℕ, zero, suc, ◌+◌, ◌-◌, ◌*◌, ◌/◌, ◌^◌, ◌<◌, ◌≤◌, Bool, true, false, refl, sym, ap, ap₂, ◌∙◌, subst, ⊎_elim}
-use Rattle.std.proofs.Common.{arith}
-use Rattle.std.proofs.Common.{pow-suc, List, length, set, Option, Some, None}
-use Rattle.std.specs.Prelude.{◌||◌, is_some}
-use Rattle.std.proofs.lemmas.Bool.{cases_Bool, cases_eq, or_left, true≢false}
-use Rattle.std.proofs.lemmas.List.{get_or-set_same, get_or-set_other}
+use Rattle.std.proofs.Common.{arith, inl, inr, ◌⊎◌}
+use Rattle.std.proofs.Common.{pow-suc, List, length, Option, Some, None}
+use Rattle.std.specs.Prelude.{◌||◌, ◌==◌, ◌%◌, is_some, get_or}
+use Rattle.std.proofs.lemmas.Bool.{cases_Bool, cases_eq, cases_lt, or_left, true≢false, eq-eqb, ne_eqb}
+use Rattle.std.proofs.lemmas.List.{get_or_default}
+use Rattle.std.proofs.Math.Bool.{or-false}
 use Rattle.std.proofs.lemmas.Nat.{pow_pos, shr-shr}
 use Rattle.uo_digest.specs.declared.digest.Digest.{Digest}
-use Rattle.forest_place.specs.Forest.{InForest}
-use Rattle.forest_place.proofs.Parts.{parts-suc, InForest-beneath, InForest-left, InForest-right}
+use Rattle.forest_place.specs.Forest.{InForest, sibling_off}
+use Rattle.forest_place.proofs.Parts.{parts-suc, InForest-beneath, InForest-left, InForest-right, not_root-down}
+use Rattle.forest_place.proofs.Siblings.{sibling_off-left, sibling_off-right, sibling_within}
 use Rattle.forest_place.proofs.Slots.{in_forest_iff}
 use Rattle.live_forest.specs.declared.cell.Cell.{Cell}
 use Rattle.live_forest.specs.Sets.{is_bit, has_part, rank, IsWith, IsWithout}
-use Rattle.live_forest.specs.Pages.{PageState, IsPage, no_cell, leaf_in, gap_in, middle, IsBranch, when, of_halves, kept_by, told}
-use Rattle.live_forest.specs.Pages.{IsEntryPut, IsOfHalves}
-use Rattle.live_forest.specs.Pages.{IsPartPut}
-use Rattle.live_forest.proofs.Ranks.{rank_above, rank_rises, rank_one, right_rank, branch_one, part_other, part_none, part_subset}
+use Rattle.live_forest.specs.Pages.{PageState, IsPage, no_cell, middle, IsBranch, when, spot, digest_in, digest_at, told, IsPut}
+use Rattle.live_forest.specs.Pages.{IsEntryPut, IsOfHalves, IsPartPut}
+use Rattle.live_forest.proofs.Bitmaps.{last_below}
+use Rattle.live_forest.proofs.Ranks.{rank_rises, right_rank, part_other, part_none, part_subset, part_with}
+use Rattle.live_forest.proofs.Landing.{part_number, spot_beside, spot_alone, one_spot, same_above}
 
 -- ---- that something is kept
 
@@ -23,71 +26,20 @@ some_when : (b : Bool) (d : Digest) → is_some (when b d) ≡ b
 some_when true d = refl
 some_when false d = refl
 
-some_halves : (a b v w : Bool) (d : Digest) (left right : Option Digest) → is_some left ≡ v → is_some right ≡ w → (a ≡ false → v ≡ false)
-    → (b ≡ false → w ≡ false) → is_some (of_halves a b (when (v || w) d) left right) ≡ (v || w)
-some_halves false b v w d left right l r no_left no_right = r ∙ ap (λ x. x || w) (sym (no_left refl))
-some_halves true true v w d left right l r no_left no_right = some_when (v || w) d
-some_halves true false true w d left right l r no_left no_right = l
-some_halves true false false w d left right l r no_left no_right = l ∙ sym (no_right refl)
-
--- something is kept for the parts that have something live
-pub some_kept : (listed live : ℕ → Bool) (leaf gap : ℕ → Digest) (row off : ℕ) → ((i : ℕ) → live i ≡ true → listed i ≡ true)
-    → is_some (kept_by listed live leaf gap row off) ≡ has_part live row off
-some_kept listed live leaf gap zero off sub = some_when (live off) (leaf (rank listed off))
-some_kept listed live leaf gap (suc row) off sub =
-    some_halves (has_part listed row (2 * off)) (has_part listed row (2 * off + 1)) (has_part live row (2 * off)) (has_part live row (2 * off + 1))
-    (gap (rank listed (middle row off))) (kept_by listed live leaf gap row (2 * off)) (kept_by listed live leaf gap row (2 * off + 1))
-    (some_kept listed live leaf gap row (2 * off) sub) (some_kept listed live leaf gap row (2 * off + 1) sub)
-    (part_none live listed row (2 * off) sub) (part_none live listed row (2 * off + 1) sub)
-
 pub none_is : (x : Option Digest) → is_some x ≡ false → x ≡ None
 none_is None e = refl
 none_is (Some d) e = absurd (true≢false e)
 
-pub some_told : (p : PageState) (row off : ℕ) → IsPage p → is_some (told p row off) ≡ has_part (is_bit p.live) row off
-some_told p row off page = some_kept (is_bit p.listed) (is_bit p.live) (leaf_in p.cells) (gap_in p.cells) row off page.within
+-- something is kept for the parts that have something live
+pub some_told : (p : PageState) (row off : ℕ) → is_some (told p row off) ≡ has_part (is_bit p.live) row off
+some_told p row off = some_when (has_part (is_bit p.live) row off) (digest_at p.listed p.cells row off)
 
-pub none_told : (p : PageState) (row off : ℕ) → IsPage p → has_part (is_bit p.live) row off ≡ false → told p row off ≡ None
-none_told p row off page none = none_is (told p row off) (some_told p row off page ∙ none)
-
--- ---- two pages with the same of some parts, and of those beneath them
+pub none_told : (p : PageState) (row off : ℕ) → has_part (is_bit p.live) row off ≡ false → told p row off ≡ None
+none_told p row off none = none_is (told p row off) (some_told p row off ∙ none)
 
 pub when_same : (b c : Bool) (d e : Digest) → c ≡ b → (b ≡ true → e ≡ d) → when c e ≡ when b d
 when_same true c d e is same = ap₂ when is (same refl)
 when_same false c d e is same = ap (λ x. when x e) is
-
-halves_same : (a b : Bool) (own own' left left' right right' : Option Digest) → (a ≡ true → b ≡ true → own' ≡ own) → left' ≡ left → right' ≡ right
-    → of_halves a b own' left' right' ≡ of_halves a b own left right
-halves_same false b own own' left left' right right' o l r = r
-halves_same true true own own' left left' right right' o l r = o refl refl
-halves_same true false own own' left left' right right' o l r = l
-
-pub record AreAlike (In : ℕ → ℕ → Type 0) (listed listed' live live' : ℕ → Bool) (leaf leaf' gap gap' : ℕ → Digest) : Type 0 where
-  pub left : (r o : ℕ) → In (suc r) o → In r (2 * o)
-  pub right : (r o : ℕ) → In (suc r) o → In r (2 * o + 1)
-  pub of_listed : (r o : ℕ) → In r o → has_part listed' r o ≡ has_part listed r o
-  pub of_live : (r o : ℕ) → In r o → has_part live' r o ≡ has_part live r o
-  pub leaves : (o : ℕ) → In 0 o → live o ≡ true → leaf' (rank listed' o) ≡ leaf (rank listed o)
-  pub gaps : (r o : ℕ) → In (suc r) o → IsBranch listed r o → gap' (rank listed' (middle r o)) ≡ gap (rank listed (middle r o))
-
-pub alike : (In : ℕ → ℕ → Type 0) (listed listed' live live' : ℕ → Bool) (leaf leaf' gap gap' : ℕ → Digest)
-    → AreAlike In listed listed' live live' leaf leaf' gap gap' → (row off : ℕ) → In row off
-    → kept_by listed' live' leaf' gap' row off ≡ kept_by listed live leaf gap row off
-alike In listed listed' live live' leaf leaf' gap gap' a zero off h =
-    when_same (live off) (live' off) (leaf (rank listed off)) (leaf' (rank listed' off)) (a.of_live 0 off h) (a.leaves off h)
-alike In listed listed' live live' leaf leaf' gap gap' a (suc row) off h =
-    let l = a.left row off h in
-    let r = a.right row off h in
-    let own = when (has_part live (suc row) off) (gap (rank listed (middle row off))) in
-    let own' = when (has_part live' (suc row) off) (gap' (rank listed' (middle row off))) in
-    let left' = kept_by listed' live' leaf' gap' row (2 * off) in
-    let right' = kept_by listed' live' leaf' gap' row (2 * off + 1) in
-    ap₂ (λ x y. of_halves x y own' left' right') (a.of_listed row (2 * off) l) (a.of_listed row (2 * off + 1) r) ∙
-    halves_same (has_part listed row (2 * off)) (has_part listed row (2 * off + 1)) own own' (kept_by listed live leaf gap row (2 * off)) left'
-    (kept_by listed live leaf gap row (2 * off + 1)) right'
-    (λ x y. ap₂ when (a.of_live (suc row) off h) (a.gaps row off h (record { left = x; right = y })))
-    (alike In listed listed' live live' leaf leaf' gap gap' a row (2 * off) l)
-    (alike In listed listed' live live' leaf leaf' gap gap' a row (2 * off + 1) r)
 
 -- ---- parts of a page
 
@@ -98,6 +50,20 @@ page_within number k low le =
     let whole : InForest 128 7 (number / 128) = (let z : number / 128 < 1 = omega arith in z) in
     let up : InForest 128 (k + (7 - k)) (number / 2 ^ (k + (7 - k))) = subst (λ x. InForest 128 x (number / 2 ^ x)) (sym e) whole in
     InForest-beneath 128 (7 - k) k (number / 2 ^ k) (subst (λ x. InForest 128 (k + (7 - k)) x) (sym (shr-shr number k (7 - k))) up)
+
+-- and those above them
+pub page_up : (row off : ℕ) → row < 7 → InForest 128 row off → InForest 128 (suc row) (off / 2)
+page_up zero off low h = let z : off / 2 < 64 = omega (arith, h) in z
+page_up (suc zero) off low h = let z : off / 2 < 32 = omega (arith, h) in z
+page_up (suc (suc zero)) off low h = let z : off / 2 < 16 = omega (arith, h) in z
+page_up (suc (suc (suc zero))) off low h = let z : off / 2 < 8 = omega (arith, h) in z
+page_up (suc (suc (suc (suc zero)))) off low h = let z : off / 2 < 4 = omega (arith, h) in z
+page_up (suc (suc (suc (suc (suc zero))))) off low h = let z : off / 2 < 2 = omega (arith, h) in z
+page_up (suc (suc (suc (suc (suc (suc zero)))))) off low h = let z : off / 2 < 1 = omega (arith, h) in z
+page_up (suc (suc (suc (suc (suc (suc (suc row))))))) off low h = absurd (omega (arith, low))
+
+pub page_beside : (row off : ℕ) → row < 7 → InForest 128 row off → InForest 128 row (sibling_off off)
+page_beside row off low h = sibling_within 128 row off h (not_root-down 128 row off (page_up row off low h))
 
 pub above_is : (number row : ℕ) → number / 2 ^ (row + 1) ≡ number / 2 ^ suc row
 above_is number row = ap (λ k. number / 2 ^ k) (let z : row + 1 ≡ suc row = omega arith in z)
@@ -116,19 +82,16 @@ middle_ends row off h =
 pub middle_low : (row off : ℕ) → InForest 128 (suc row) off → middle row off < 128
 middle_low row off h = omega (arith, middle_ends row off h, pow_pos row)
 
-module _ (p : PageState) (page : IsPage p) where
-  pub entry_index : (i : ℕ) → i < 128 → is_bit p.listed i ≡ true → rank (is_bit p.listed) i < length p.cells
-  entry_index i low h = omega (arith, rank_above (is_bit p.listed) i 128 h low, page.full)
-
-  pub gap_index : (row off : ℕ) → InForest 128 (suc row) off → IsBranch (is_bit p.listed) row off
-      → rank (is_bit p.listed) (middle row off) < length p.cells
-  gap_index row off h b =
-      omega (
-        arith,
-        right_rank (is_bit p.listed) row off b,
-        rank_rises (is_bit p.listed) (middle row off + 2 ^ row) 128 (middle_ends row off h),
-        page.full,
-      )
+-- the cell of a branch is there
+pub gap_index : (p : PageState) → IsPage p → (row off : ℕ) → InForest 128 (suc row) off → IsBranch (is_bit p.listed) row off
+    → rank (is_bit p.listed) (middle row off) < length p.cells
+gap_index p page row off h b =
+    omega (
+      arith,
+      right_rank (is_bit p.listed) row off b,
+      rank_rises (is_bit p.listed) (middle row off + 2 ^ row) 128 (middle_ends row off h),
+      page.full,
+    )
 
 -- something of a part with something live is listed
 pub live_listed : (p : PageState) (row off : ℕ) → IsPage p → has_part (is_bit p.live) row off ≡ true → has_part (is_bit p.listed) row off ≡ true
@@ -137,78 +100,72 @@ live_listed p row off page here = part_subset (is_bit p.live) (is_bit p.listed) 
 pub joined_branch : (p : PageState) (row off : ℕ) → IsPage p → is_some (told p row (2 * off)) ≡ true → is_some (told p row (2 * off + 1)) ≡ true
     → IsBranch (is_bit p.listed) row off
 joined_branch p row off page left right = record {
-  left = live_listed p row (2 * off) page (sym (some_told p row (2 * off) page) ∙ left);
-  right = live_listed p row (2 * off + 1) page (sym (some_told p row (2 * off + 1) page) ∙ right);
+  left = live_listed p row (2 * off) page (sym (some_told p row (2 * off)) ∙ left);
+  right = live_listed p row (2 * off + 1) page (sym (some_told p row (2 * off + 1)) ∙ right);
 }
 
 pub joined_live : (p : PageState) (row off : ℕ) → IsPage p → is_some (told p row (2 * off)) ≡ true → has_part (is_bit p.live) (suc row) off ≡ true
-joined_live p row off page left = or_left _ _ (sym (some_told p row (2 * off) page) ∙ left)
+joined_live p row off page left = or_left _ _ (sym (some_told p row (2 * off)) ∙ left)
+
+-- what is told of two halves that both have something lies in one cell
+pub pair_told : (p : PageState) → IsPage p → (row off : ℕ) → row < 7 → InForest 128 (suc row) off → is_some (told p row (2 * off)) ≡ true
+    → is_some (told p row (2 * off + 1)) ≡ true → (k : ℕ) (cell : Cell) → k ≡ rank (is_bit p.listed) (middle row off) → cell ≡ get_or p.cells k cell
+    → (told p row (2 * off) ≡ Some cell.left) × (told p row (2 * off + 1) ≡ Some cell.right)
+pair_told p page row off low h left right k cell at is =
+    let s = is_bit p.listed in
+    let b = joined_branch p row off page left right in
+    let inside : k < length p.cells = omega (arith, at, gap_index p page row off h b) in
+    let there : get_or p.cells (rank s (middle row off)) no_cell ≡ cell =
+    ap (λ i. get_or p.cells i no_cell) (sym at) ∙ sym (is ∙ get_or_default p.cells k cell no_cell inside) in
+    let own_left : 2 * off / 2 ≡ off = omega arith in
+    let own_right : (2 * off + 1) / 2 ≡ off = omega arith in
+    let even : (2 * off % 2 == 1) ≡ false = ne_eqb (2 * off % 2) 1 (λ e. let z : ⊥ = omega (arith, e) in z) in
+    let odd : ((2 * off + 1) % 2 == 1) ≡ true = eq-eqb ((2 * off + 1) % 2) 1 (omega arith) in
+    let at_left : spot s row (2 * off) ≡ record { cell = rank s (middle row off); right = false } =
+    spot_beside s row (2 * off) low (ap (has_part s row) (sibling_off-left off) ∙ b.right)
+    ∙ ap₂ (λ i r. record { cell = rank s (middle row i); right = r }) own_left even in
+    let at_right : spot s row (2 * off + 1) ≡ record { cell = rank s (middle row off); right = true } =
+    spot_beside s row (2 * off + 1) low (ap (has_part s row) (sibling_off-right off) ∙ b.left)
+    ∙ ap₂ (λ i r. record { cell = rank s (middle row i); right = r }) own_right odd in (
+      ap₂ when (sym (some_told p row (2 * off)) ∙ left) (ap (digest_in p.cells) at_left ∙ ap (λ (x : Cell). x.left) there),
+      ap₂ when (sym (some_told p row (2 * off + 1)) ∙ right) (ap (digest_in p.cells) at_right ∙ ap (λ (x : Cell). x.right) there),
+    )
+
+-- no number of a page is 128 or more
+pub listed_few : (listed : ℕ) → listed < 2 ^ 128 → (i : ℕ) → is_bit listed i ≡ true → i < 128
+listed_few listed small = last_below listed 128 small (λ i low e. low)
 
 -- ---- an entry is put
-
--- the parts without a number
-pub half_without : (number r o k : ℕ) → number / 2 ^ suc r ≢ o → k / 2 ≡ o → number / 2 ^ r ≢ k
-half_without number r o k other half e = other (parts-suc number r ∙ ap (λ x. x / 2) e ∙ half)
 
 pub entry_gone : (p : PageState) (live' number : ℕ) → IsWithout (is_bit p.live) (is_bit live') number
     → IsEntryPut p (record { listed = p.listed; live = live'; cells = p.cells }) number None
 entry_gone p live' number gone = record {
-  here = ap (λ b. when b (leaf_in p.cells (rank (is_bit p.listed) number))) gone.here;
-  others = alike (λ r o. number / 2 ^ r ≢ o) (is_bit p.listed) (is_bit p.listed) (is_bit p.live) (is_bit live') (leaf_in p.cells) (leaf_in p.cells)
-      (gap_in p.cells) (gap_in p.cells)
-      (record {
-        left = λ r o other. half_without number r o (2 * o) other (omega arith);
-        right = λ r o other. half_without number r o (2 * o + 1) other (omega arith);
-        of_listed = λ r o other. refl;
-        of_live = λ r o other. part_other (is_bit p.live) (is_bit live') number r o gone.others other;
-        leaves = λ o other live. refl;
-        gaps = λ r o other b. refl;
-      });
+  here = ap (λ b. when b (digest_at p.listed p.cells 0 number)) gone.here;
+  others = λ r o other. ap (λ b. when b (digest_at p.listed p.cells r o)) (part_other (is_bit p.live) (is_bit live') number r o gone.others other);
 }
 
-leaf_written : (cells : List Cell) (k : ℕ) (c : Cell) → k < length cells → leaf_in (set cells k c) k ≡ c.leaf
-leaf_written cells k c low = ap (λ x. x.leaf) (get_or-set_same cells k c no_cell low)
+module _ (p : PageState) (page : IsPage p) (small : p.listed < 2 ^ 128) where
+  -- where something is kept, the digest lies elsewhere than that of a part with a number that this one has not
+  elsewhere : (row number r o : ℕ) → is_bit p.listed number ≡ true → has_part (is_bit p.live) r o ≡ true → number / 2 ^ r ≢ o
+      → spot (is_bit p.listed) r o ≢ spot (is_bit p.listed) row (number / 2 ^ row)
+  elsewhere row number r o listed live other same =
+      other
+      (one_spot (is_bit p.listed) (listed_few p.listed small) row (number / 2 ^ row) r o (part_with (is_bit p.listed) number row listed)
+      (part_subset (is_bit p.live) (is_bit p.listed) r o page.within live) (sym same) number listed refl)
 
-leaf_beside : (cells : List Cell) (k j : ℕ) (c : Cell) → j ≢ k → leaf_in (set cells k c) j ≡ leaf_in cells j
-leaf_beside cells k j c other = ap (λ x. x.leaf) (get_or-set_other cells k j c no_cell other)
-
-gap_written : (cells : List Cell) (k : ℕ) (c : Cell) → k < length cells → gap_in (set cells k c) k ≡ c.gap
-gap_written cells k c low = ap (λ x. x.gap) (get_or-set_same cells k c no_cell low)
-
-gap_beside : (cells : List Cell) (k j : ℕ) (c : Cell) → j ≢ k → gap_in (set cells k c) j ≡ gap_in cells j
-gap_beside cells k j c other = ap (λ x. x.gap) (get_or-set_other cells k j c no_cell other)
-
-gap_left : (cells : List Cell) (k j : ℕ) (c : Cell) → k < length cells → c.gap ≡ gap_in cells k → gap_in (set cells k c) j ≡ gap_in cells j
-gap_left cells k j c low same =
-    ⊎_elim (λ e. ap (gap_in (set cells k c)) e ∙ gap_written cells k c low ∙ same ∙ ap (gap_in cells) (sym e)) (λ ne. gap_beside cells k j c ne)
-    (cases_eq j k)
-
-leaf_left : (cells : List Cell) (k j : ℕ) (c : Cell) → k < length cells → c.leaf ≡ leaf_in cells k → leaf_in (set cells k c) j ≡ leaf_in cells j
-leaf_left cells k j c low same =
-    ⊎_elim (λ e. ap (leaf_in (set cells k c)) e ∙ leaf_written cells k c low ∙ same ∙ ap (leaf_in cells) (sym e)) (λ ne. leaf_beside cells k j c ne)
-    (cases_eq j k)
-
-pub entry_come : (p : PageState) (live' number k : ℕ) (c : Cell) → IsPage p → number < 128 → is_bit p.listed number ≡ true
-    → k ≡ rank (is_bit p.listed) number → c.gap ≡ gap_in p.cells k → IsWith (is_bit p.live) (is_bit live') number
-    → IsEntryPut p (record { listed = p.listed; live = live'; cells = set p.cells k c }) number (Some c.leaf)
-entry_come p live' number k c page low listed at gap come =
-    let inside : k < length p.cells = omega (arith, at, entry_index p page number low listed) in
-    record {
-      here = ap₂ when come.here (ap (leaf_in (set p.cells k c)) (sym at) ∙ leaf_written p.cells k c inside);
-      others = alike (λ r o. number / 2 ^ r ≢ o) (is_bit p.listed) (is_bit p.listed) (is_bit p.live) (is_bit live') (leaf_in p.cells)
-          (leaf_in (set p.cells k c)) (gap_in p.cells) (gap_in (set p.cells k c))
-          (record {
-            left = λ r o other. half_without number r o (2 * o) other (omega arith);
-            right = λ r o other. half_without number r o (2 * o + 1) other (omega arith);
-            of_listed = λ r o other. refl;
-            of_live = λ r o other. part_other (is_bit p.live) (is_bit live') number r o come.others other;
-            leaves = λ o other live.
-                leaf_beside p.cells k (rank (is_bit p.listed) o) c
-                (λ e. other (let z : number / 1 ≡ number = omega arith in
-                z ∙ sym (rank_one (is_bit p.listed) o number (page.within o live) listed (e ∙ at))));
-            gaps = λ r o other b. gap_left p.cells k (rank (is_bit p.listed) (middle r o)) c inside gap;
-          });
-    }
+  pub entry_come : (live' number : ℕ) (cells : List Cell) (d : Digest) → is_bit p.listed number ≡ true
+      → IsPut p.cells cells (spot (is_bit p.listed) 0 number) d → IsWith (is_bit p.live) (is_bit live') number
+      → IsEntryPut p (record { listed = p.listed; live = live'; cells = cells }) number (Some d)
+  entry_come live' number cells d listed put come =
+      let one : number / 1 ≡ number = omega arith in
+      record {
+        here = ap₂ when come.here put.here;
+        others = λ r o other.
+            when_same (has_part (is_bit p.live) r o) (has_part (is_bit live') r o) (digest_at p.listed p.cells r o) (digest_at p.listed cells r o)
+            (part_other (is_bit p.live) (is_bit live') number r o come.others other)
+            (λ live. put.others (spot (is_bit p.listed) r o)
+            (λ same. elsewhere 0 number r o listed live other (same ∙ ap (spot (is_bit p.listed) 0) (sym one))));
+      }
 
 pub page_gone : (p : PageState) (live' number : ℕ) → IsPage p → IsWithout (is_bit p.live) (is_bit live') number
     → IsPage (record { listed = p.listed; live = live'; cells = p.cells })
@@ -235,65 +192,78 @@ page_come p live' number cells page listed come same = record {
 
 -- ---- what is kept for a part is put
 
--- the parts that are neither the one of a row with a number nor above it
-half_but : (row number r o k : ℕ) → (suc row ≤ suc r → number / 2 ^ suc r ≢ o) → k / 2 ≡ o → suc row ≤ r → number / 2 ^ r ≢ k
-half_but row number r o k but half le e = but (omega arith) (parts-suc number r ∙ ap (λ x. x / 2) e ∙ half)
-
-pub part_written : (p : PageState) (row number k : ℕ) (c : Cell) → IsPage p → InForest 128 (suc row) (number / 2 ^ suc row)
-    → IsBranch (is_bit p.listed) row (number / 2 ^ suc row) → k ≡ rank (is_bit p.listed) (middle row (number / 2 ^ suc row))
-    → c.leaf ≡ leaf_in p.cells k → has_part (is_bit p.live) (suc row) (number / 2 ^ suc row) ≡ true
-    → IsPartPut p (record { listed = p.listed; live = p.live; cells = set p.cells k c }) row number (Some c.gap)
-part_written p row number k c page h b at leaf live =
+pub part_written : (p : PageState) (row number : ℕ) (cells : List Cell) (d : Digest) → IsPage p → p.listed < 2 ^ 128
+    → is_bit p.listed number ≡ true → IsBranch (is_bit p.listed) row (number / 2 ^ suc row)
+    → IsPut p.cells cells (spot (is_bit p.listed) (suc row) (number / 2 ^ suc row)) d
+    → has_part (is_bit p.live) (suc row) (number / 2 ^ suc row) ≡ true
+    → IsPartPut p (record { listed = p.listed; live = p.live; cells = cells }) row number (Some d)
+part_written p row number cells d page small listed b put live =
     let off = number / 2 ^ suc row in
     let s = is_bit p.listed in
-    let inside : k < length p.cells = omega (arith, at, gap_index p page row off h b) in
-    let p' : PageState = record { listed = p.listed; live = p.live; cells = set p.cells k c } in
-    let own = when (has_part (is_bit p.live) (suc row) off) (gap_in (set p.cells k c) (rank s (middle row off))) in
+    let few = listed_few p.listed small in
     record {
-      here = ap₂ (λ x y. of_halves x y own (told p' row (2 * off)) (told p' row (2 * off + 1))) b.left b.right
-          ∙ ap₂ when live (ap (gap_in (set p.cells k c)) (sym at) ∙ gap_written p.cells k c inside);
-      others = alike (λ r o. suc row ≤ r → number / 2 ^ r ≢ o) s s (is_bit p.live) (is_bit p.live) (leaf_in p.cells)
-          (leaf_in (set p.cells k c)) (gap_in p.cells) (gap_in (set p.cells k c))
-          (record {
-            left = λ r o but. half_but row number r o (2 * o) but (omega arith);
-            right = λ r o but. half_but row number r o (2 * o + 1) but (omega arith);
-            of_listed = λ r o but. refl;
-            of_live = λ r o but. refl;
-            leaves = λ o but some. leaf_left p.cells k (rank s o) c inside leaf;
-            gaps = λ r o but other.
-                gap_beside p.cells k (rank s (middle r o)) c
-                (λ e.
-                let one = branch_one s r o row off other b (e ∙ at) in
-                but (omega (arith, one.0)) (ap (λ x. number / 2 ^ suc x) one.0 ∙ sym one.1));
-          });
+      here = ap₂ when live put.here;
+      others = λ r o but.
+          when_same (has_part (is_bit p.live) r o) (has_part (is_bit p.live) r o) (digest_at p.listed p.cells r o) (digest_at p.listed cells r o) refl
+          (λ some. put.others (spot s r o)
+          (λ same.
+          let has = part_subset (is_bit p.live) s r o page.within some in
+          let own = part_with s number (suc row) listed in
+          let all = one_spot s few (suc row) off r o own has (sym same) in
+          ⊎_elim
+          (λ above. but above (all number listed refl))
+          (λ below.
+          let l = part_number s row (2 * off) b.left in
+          let m = part_number s row (2 * off + 1) b.right in
+          let here_l = all l.0 l.1 (let z : l.0 / 2 ^ suc row ≡ off = omega (arith, parts-suc l.0 row, l.2) in z) in
+          let here_m = all m.0 m.1 (let z : m.0 / 2 ^ suc row ≡ off = omega (arith, parts-suc m.0 row, m.2) in z) in
+          let one = same_above l.0 m.0 r row below (here_l ∙ sym here_m) in
+          let z : ⊥ = omega (arith, one, l.2, m.2) in z)
+          (up_or_down r)));
     }
+  where
+    up_or_down : (r : ℕ) → (suc row ≤ r) ⊎ (r ≤ row)
+    up_or_down r = ⊎_elim (λ lt. inl lt) (λ ge. inr ge) (cases_lt row r)
 
 pub page_written : (p : PageState) (cells : List Cell) → IsPage p → length cells ≡ length p.cells
     → IsPage (record { listed = p.listed; live = p.live; cells = cells })
 page_written p cells page same = record { full = same ∙ page.full; within = page.within }
 
+-- what is kept for a half is kept for the part too, where the other half has no listed number
+pub same_alone : (p : PageState) (row off : ℕ) → row < 7 → has_part (is_bit p.listed) row (sibling_off off) ≡ false
+    → digest_at p.listed p.cells (suc row) (off / 2) ≡ digest_at p.listed p.cells row off
+same_alone p row off low none = ap (digest_in p.cells) (sym (spot_alone (is_bit p.listed) row off low none))
+
 -- nothing has to be put for a part of which one half has no listed number
-pub part_stays : (p : PageState) (row number : ℕ) (own : Option Digest) → IsPage p
+pub part_stays : (p : PageState) (row number : ℕ) (own : Option Digest) → IsPage p → row < 7
     → (IsBranch (is_bit p.listed) row (number / 2 ^ suc row) → ⊥)
     → IsOfHalves (told p row (2 * (number / 2 ^ suc row))) (told p row (2 * (number / 2 ^ suc row) + 1)) own → IsPartPut p p row number own
-part_stays p row number own page no_branch halves =
+part_stays p row number own page low no_branch halves =
     let off = number / 2 ^ suc row in
     let s = is_bit p.listed in
-    let left = told p row (2 * off) in
-    let right = told p row (2 * off + 1) in
-    let mine = when (has_part (is_bit p.live) (suc row) off) (gap_in p.cells (rank s (middle row off))) in
+    let live = is_bit p.live in
     record {
       here =
           ⊎_elim
           (λ some_left. ⊎_elim
           (λ some_right. absurd (no_branch (record { left = some_left; right = some_right })))
           (λ no_right.
-          let none = none_told p row (2 * off + 1) page (part_none (is_bit p.live) s row (2 * off + 1) page.within no_right) in
-          ap₂ (λ x y. of_halves x y mine left right) some_left no_right ∙ sym (halves.no_right none))
+          let none = part_none live s row (2 * off + 1) page.within no_right in
+          let half : 2 * off / 2 ≡ off = omega arith in
+          let same : digest_at p.listed p.cells (suc row) off ≡ digest_at p.listed p.cells row (2 * off) =
+          ap (digest_at p.listed p.cells (suc row)) (sym half)
+          ∙ same_alone p row (2 * off) low (ap (has_part s row) (sibling_off-left off) ∙ no_right) in
+          ap₂ when (ap (λ b. has_part live row (2 * off) || b) none ∙ or-false (has_part live row (2 * off))) same
+          ∙ sym (halves.no_right (none_told p row (2 * off + 1) none)))
           (cases_Bool (has_part s row (2 * off + 1))))
           (λ no_left.
-          let none = none_told p row (2 * off) page (part_none (is_bit p.live) s row (2 * off) page.within no_left) in
-          ap (λ x. of_halves x (has_part s row (2 * off + 1)) mine left right) no_left ∙ sym (halves.no_left none))
+          let none = part_none live s row (2 * off) page.within no_left in
+          let half : (2 * off + 1) / 2 ≡ off = omega arith in
+          let same : digest_at p.listed p.cells (suc row) off ≡ digest_at p.listed p.cells row (2 * off + 1) =
+          ap (digest_at p.listed p.cells (suc row)) (sym half)
+          ∙ same_alone p row (2 * off + 1) low (ap (has_part s row) (sibling_off-right off) ∙ no_left) in
+          ap₂ when (ap (λ b. b || has_part live row (2 * off + 1)) none) same
+          ∙ sym (halves.no_left (none_told p row (2 * off) none)))
           (cases_Bool (has_part s row (2 * off)));
       others = λ r o but. refl;
     }
@@ -302,16 +272,16 @@ part_stays p row number own page no_branch halves =
 pub own_live : (p : PageState) (row off : ℕ) (own : Option Digest) → IsPage p → IsOfHalves (told p row (2 * off)) (told p row (2 * off + 1)) own
     → is_some own ≡ has_part (is_bit p.live) (suc row) off
 own_live p row off own page halves =
-    let l = some_told p row (2 * off) page in
-    let r = some_told p row (2 * off + 1) page in
+    let l = some_told p row (2 * off) in
+    let r = some_told p row (2 * off + 1) in
     ⊎_elim
     (λ some_left. ⊎_elim
     (λ some_right. halves.both (l ∙ some_left) (r ∙ some_right) ∙ sym (or_left _ _ some_left))
     (λ no_right.
-    ap is_some (halves.no_right (none_told p row (2 * off + 1) page no_right)) ∙ l ∙ some_left ∙ sym (or_left _ _ some_left))
+    ap is_some (halves.no_right (none_told p row (2 * off + 1) no_right)) ∙ l ∙ some_left ∙ sym (or_left _ _ some_left))
     (cases_Bool (has_part (is_bit p.live) row (2 * off + 1))))
     (λ no_left.
-    ap is_some (halves.no_left (none_told p row (2 * off) page no_left)) ∙ r
+    ap is_some (halves.no_left (none_told p row (2 * off) no_left)) ∙ r
     ∙ ap (λ b. b || has_part (is_bit p.live) row (2 * off + 1)) (sym no_left))
     (cases_Bool (has_part (is_bit p.live) row (2 * off)))
 
@@ -319,7 +289,7 @@ own_live p row off own page halves =
 pub part_empty : (p : PageState) (row number : ℕ) → IsPage p
     → IsOfHalves (told p row (2 * (number / 2 ^ suc row))) (told p row (2 * (number / 2 ^ suc row) + 1)) None → IsPartPut p p row number None
 part_empty p row number page halves = record {
-  here = none_told p (suc row) (number / 2 ^ suc row) page (sym (own_live p row (number / 2 ^ suc row) None page halves));
+  here = none_told p (suc row) (number / 2 ^ suc row) (sym (own_live p row (number / 2 ^ suc row) None page halves));
   others = λ r o but. refl;
 }
 

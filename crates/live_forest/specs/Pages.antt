@@ -1,10 +1,11 @@
 -- A page: what is kept for the parts of 128 numbers. A part is among the 2^row numbers from off * 2^row on.
-use Rattle.std.specs.Prelude.{◌≡◌, ◌≢◌, ℕ, zero, suc, ◌+◌, ◌*◌, ◌/◌, ◌%◌, ◌^◌, ◌<◌, ◌≤◌, ◌⊎◌, Bool, true, false, List, [], length, get_or}
-use Rattle.std.specs.Prelude.{Option, Some, None}
-use Rattle.std.specs.Prelude.{is_some, if◌then◌else◌}
+use Rattle.std.specs.Prelude.{◌≡◌, ◌≢◌, ℕ, zero, suc, ◌+◌, ◌-◌, ◌*◌, ◌/◌, ◌%◌, ◌^◌, ◌<◌, ◌≤◌, ◌==◌, ◌⊎◌, Bool, true, false, List, [], length, get_or}
+use Rattle.std.specs.Prelude.{Option, Some, None, is_some, if◌then◌else◌}
 use Rattle.uo_digest.specs.declared.digest.Digest.{Digest}
 use Rattle.forest_place.specs.Forest.{InForest, sibling_off}
+use Rattle.forest_place.specs.declared.place.Place.{Place}
 use Rattle.live_forest.specs.declared.cell.Cell.{Cell}
+use Rattle.live_forest.specs.declared.spots.Spot.{Spot}
 use Rattle.live_forest.specs.Sets.{is_bit, has_part, rank}
 
 -- the numbers that have a cell, those of them that are live, and the cells in the order of their numbers
@@ -23,14 +24,7 @@ abbrev pub no_digest : Digest
 no_digest = record { 0 = [] }
 
 abbrev pub no_cell : Cell
-no_cell = record { leaf = no_digest; gap = no_digest }
-
--- what the cell at an index has of its number, and of the part in which that number meets the one before it
-abbrev pub leaf_in : List Cell → ℕ → Digest
-leaf_in cells k = (get_or cells k no_cell).leaf
-
-abbrev pub gap_in : List Cell → ℕ → Digest
-gap_in cells k = (get_or cells k no_cell).gap
+no_cell = record { left = no_digest; right = no_digest }
 
 -- where the halves of the part (row + 1, off) meet: the first number of the right one
 abbrev pub middle : ℕ → ℕ → ℕ
@@ -46,33 +40,34 @@ abbrev pub when : Bool → Digest → Option Digest
 when false d = None
 when true d = Some d
 
--- a part's own, where both halves have a listed number; else what one half has
-abbrev pub of_halves : Bool → Bool → Option Digest → Option Digest → Option Digest → Option Digest
-of_halves false is_right own left right = right
-of_halves true false own left right = left
-of_halves true true own left right = own
+-- where the digest of a part lies, so many rows beneath the whole page, of which something is listed: in the cell of the lowest part above it that has
+-- listed numbers in both halves, beside that of the other half. That of all numbers lies in the first cell, on the right
+unfoldable pub spot_beneath : (ℕ → Bool) → ℕ → ℕ → ℕ → Spot
+spot_beneath listed zero row off = record { cell = 0; right = true }
+spot_beneath listed (suc rows) row off =
+    if has_part listed row (sibling_off off) then record { cell = rank listed (middle row (off / 2)); right = off % 2 == 1 }
+    else spot_beneath listed rows (suc row) (off / 2)
 
--- what is kept for a part, where something of it is live: that of its one listed number, or, where both halves have listed numbers, that of the gap
--- between them. What cells have goes by the count of listed numbers before
-abbrev pub kept_by : (listed live : ℕ → Bool) (leaf gap : ℕ → Digest) → ℕ → ℕ → Option Digest
-kept_by listed live leaf gap zero off = when (live off) (leaf (rank listed off))
-kept_by listed live leaf gap (suc row) off = of_halves (has_part listed row (2 * off)) (has_part listed row (2 * off + 1))
-    (when (has_part live (suc row) off) (gap (rank listed (middle row off))))
-    (kept_by listed live leaf gap row (2 * off)) (kept_by listed live leaf gap row (2 * off + 1))
+abbrev pub spot : (ℕ → Bool) → ℕ → ℕ → Spot
+spot listed row off = spot_beneath listed (7 - row) row off
 
--- what a page keeps for a part
+-- the digest that lies there
+abbrev pub digest_in : List Cell → Spot → Digest
+digest_in cells s = if s.right then (get_or cells s.cell no_cell).right else (get_or cells s.cell no_cell).left
+
+-- the digest that lies where that of a part does
+abbrev pub digest_at : ℕ → List Cell → ℕ → ℕ → Digest
+digest_at listed cells row off = digest_in cells (spot (is_bit listed) row off)
+
+-- what a page keeps for a part: its digest, where something of it is live
 abbrev pub told : PageState → ℕ → ℕ → Option Digest
-told p row off = kept_by (is_bit p.listed) (is_bit p.live) (leaf_in p.cells) (gap_in p.cells) row off
+told p row off = when (has_part (is_bit p.live) row off) (digest_at p.listed p.cells row off)
 
--- this is kept for a part of which something is live, whatever else of the listed numbers is
-abbrev pub IsKept : (listed : ℕ → Bool) → List Cell → ℕ → ℕ → Digest → Type 0
-IsKept listed cells row off d = (live : ℕ → Bool) → ((i : ℕ) → live i ≡ true → listed i ≡ true) → has_part live row off ≡ true
-    → kept_by listed live (leaf_in cells) (gap_in cells) row off ≡ Some d
-
--- the halves of the smallest part that has both numbers meet here
-abbrev pub IsFork : ℕ → ℕ → ℕ → Type 0
-IsFork first last at = (row : ℕ) × (first / 2 ^ row ≢ last / 2 ^ row) × (first / 2 ^ suc row ≡ last / 2 ^ suc row)
-    × (at ≡ middle row (last / 2 ^ suc row))
+-- a digest is put at a spot
+pub record IsPut (old new : List Cell) (s : Spot) (digest : Digest) : Type 0 where
+  pub len : length new ≡ length old
+  pub here : digest_in new s ≡ digest
+  pub others : (t : Spot) → t ≢ s → digest_in new t ≡ digest_in old t
 
 -- this is kept for a number from now on, and for each part without it what was kept
 pub record IsEntryPut (p p' : PageState) (number : ℕ) (entry : Option Digest) : Type 0 where
@@ -97,19 +92,24 @@ pub record IsNearest (is_in : ℕ → Bool) (number row : ℕ) : Type 0 where
   pub none : (r : ℕ) → r < row → has_part is_in r (sibling_off (number / 2 ^ r)) ≡ false
   pub some : has_part is_in row (sibling_off (number / 2 ^ row)) ≡ true
 
--- whether there is such a part among those of 128 numbers, and the number is in its left half
-pub record MeetsNext (is_in : ℕ → Bool) (number : ℕ) (next : Bool) : Type 0 where
-  pub left : next ≡ true → (row : ℕ) × (row < 7) × IsNearest is_in number row × (number / 2 ^ row % 2 ≡ 0)
-  pub other : next ≡ false → ((row : ℕ) × (row < 7) × IsNearest is_in number row × (number / 2 ^ row % 2 ≡ 1))
-      ⊎ ((row : ℕ) → row < 7 → has_part is_in row (sibling_off (number / 2 ^ row)) ≡ false)
+-- the other half of that part
+pub record IsBeside (is_in : ℕ → Bool) (number : ℕ) (part : Place) : Type 0 where
+  pub row : part.row < 7
+  pub off : part.off ≡ sibling_off (number / 2 ^ part.row)
+  pub nearest : IsNearest is_in number part.row
 
--- the cell at an index is out; where the gap behind it is the one that goes, the next cell has the one before it
-pub record IsTakenOut (old new : List Cell) (k : ℕ) (next : Bool) : Type 0 where
-  pub len : length new + 1 ≡ length old
-  pub front : (j : ℕ) → j < k → (leaf_in new j ≡ leaf_in old j) × (gap_in new j ≡ gap_in old j)
-  pub leaves : (j : ℕ) → k ≤ j → leaf_in new j ≡ leaf_in old (j + 1)
-  pub gaps : (j : ℕ) → k < j → gap_in new j ≡ gap_in old (j + 1)
-  pub gap : gap_in new k ≡ (if next then gap_in old k else gap_in old (k + 1))
+-- no other number of the set is in any part with the number
+abbrev pub IsAlone : (ℕ → Bool) → ℕ → Type 0
+IsAlone is_in number = (row : ℕ) → row < 7 → has_part is_in row (sibling_off (number / 2 ^ row)) ≡ false
+
+-- the cell that goes with a number: the first one, where no other number is listed; else that of the part in which the number meets others, and then
+-- what lies there for these others lies where that of this part did
+abbrev pub IsLifted : ℕ → List Cell → List Cell → ℕ → ℕ → Type 0
+IsLifted listed old new number out =
+    (IsAlone (is_bit listed) number × (new ≡ old) × (out ≡ 0))
+    ⊎ ((part : Place) × IsBeside (is_bit listed) number part
+    × IsPut old new (spot (is_bit listed) (suc part.row) (part.off / 2)) (digest_at listed old part.row part.off)
+    × (out ≡ rank (is_bit listed) (middle part.row (part.off / 2))))
 
 -- what is kept for the whole parts of n numbers is what their halves have
 pub record AreOfHalves (p : PageState) (n : ℕ) : Type 0 where

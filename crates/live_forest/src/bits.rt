@@ -1,7 +1,7 @@
 //! A set of numbers below 128, as the bits of a number.
 ghost use Rattle.std.specs.Prelude.{◌≡◌, ◌≢◌, ℕ, ◌+◌, ◌*◌, ◌/◌, ◌%◌, ◌^◌, ◌<◌, ◌≤◌, true, false};
 ghost use Rattle.forest_place.specs.Forest.{InForest};
-ghost use Rattle.live_forest.specs.Sets.{is_bit, has_part, rank as rank_of, IsWith, IsWithout, AreEnds};
+ghost use Rattle.live_forest.specs.Sets.{is_bit, has_part, rank as rank_of, IsWith, IsWithout};
 
 /// Whether the set has a number.
 pub(crate) fn has(bits: u128, number: u64) -> bool
@@ -44,24 +44,6 @@ pub(crate) fn has_some(bits: u128, row: u8, off: u64) -> bool
         return bits != 0;
     }
     bits_of(bits, row, off) != 0
-}
-
-/// The first and the last of these numbers that the set has, if it has one.
-pub(crate) fn ends(bits: u128, row: u8, off: u64) -> (u64, u64)
-    requires row { row ≤ 7 }
-    requires within { InForest 128 row off }
-    requires some { has_part (is_bit bits) row off ≡ true }
-    ensures { AreEnds (is_bit bits) row off result.0 result.1 }
-{
-    if row == 7 {
-        return (bits.trailing_zeros() as u64, bits.ilog2() as u64);
-    }
-    let start = off << row;
-    let here = bits_of(bits, row, off);
-    (
-        start + here.trailing_zeros() as u64,
-        start + here.ilog2() as u64,
-    )
 }
 
 // How many numbers below one a set of numbers below 64 has.

@@ -1,9 +1,9 @@
-//! What is kept for one number.
+//! The digests of two halves.
 use uo_digest::Digest;
 
-/// The digest of a number's entry, and that of the part whose halves meet between this listed number and the one before it.
+/// The digests of the two halves of the one part whose halves meet between a listed number and the one before it.
 #[derive(Clone, Copy)]
 pub(crate) struct Cell {
-    pub leaf: Digest,
-    pub gap: Digest,
+    pub left: Digest,
+    pub right: Digest,
 }

@@ -3,8 +3,8 @@
 //! The layers, from the bottom up:
 //!
 //! - `bits`: a set of numbers below 128, as the bits of a number.
-//! - `page` and `least`: what is kept for the parts of 128 entries. Those that are live or may be again are *listed*, and have a cell each, of 64
-//!   bytes: the digest of the entry, and that of the one part whose halves meet between it and the listed entry before it. So a part is found by
+//! - `page` and `spots`: what is kept for the parts of 128 entries. Those that are live or may be again are *listed*, and have a cell each, of 64
+//!   bytes: the digests of both halves of the one part whose halves meet between it and the listed entry before it. So a part is found by
 //!   counting bits. A page takes 64 bytes, and 64 for each cell that it has room for: at most ten more than it has listed entries, or 129 until the
 //!   first of them is let go.
 //! - `store`: all pages, and a list of the digests of the parts of several pages, of 33 bytes a page.
@@ -25,12 +25,12 @@ mod forest;
 mod found;
 mod growth;
 mod laws;
-mod least;
 mod page;
 mod proving;
 mod refresh;
 mod seek;
 mod seen;
+mod spots;
 mod store;
 mod waiting;
 mod walk;

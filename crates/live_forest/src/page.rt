@@ -3,11 +3,13 @@ ghost use Rattle.std.specs.Prelude.{◌≡◌, ◌≢◌, ℕ, suc, ◌+◌, ◌
 ghost use Rattle.std.specs.Prelude.{is_some, option_copied, OnOk, OnErr, IfOk};
 ghost use Rattle.forest_place.specs.Forest.{InForest};
 ghost use Rattle.live_forest.specs.Sets.{is_bit, has_part, rank as rank_of, IsWith, IsWithout};
-ghost use Rattle.live_forest.specs.Pages.{PageState, told, IsKept, IsEntryPut, IsPartPut, IsOfHalves, AreOfHalves, IsTakenOut};
+ghost use Rattle.live_forest.specs.Pages.{PageState, middle as middle_of, spot, digest_at, told, IsPut, IsLifted};
+ghost use Rattle.live_forest.specs.Pages.{IsEntryPut, IsPartPut, IsOfHalves, AreOfHalves};
 
-use crate::bits::{ends, has, has_some, rank, with, without};
+use crate::bits::{has, has_some, rank, with, without};
 use crate::cell::Cell;
-use crate::least::{fork, is_branch, meets_next, middle};
+use crate::spots::{Spot, is_branch, middle, nearest, spot_of};
+use forest_place::{Place, parent};
 use std::alloc::{AllocError, Global};
 use std::marker::Model;
 use uo_digest::Digest;
@@ -18,7 +20,8 @@ const FULL: usize = 129;
 /// What is kept for the parts of 128 numbers, of those that are listed alone: a cell for each, in their order.
 ///
 /// Between two listed numbers next to each other there is one part that has them in its two halves, and each part with listed numbers in
-/// both halves is that of one such gap. So the digest of a part lies in the cell of the first listed number of its right half.
+/// both halves is that of one such gap. The cell of the first listed number of its right half has the digests of both halves, side by side: so
+/// what is digested together is read together. The first cell has the digest of all numbers, on the right.
 #[derive(Drop)]
 pub(crate) struct Page {
     listed: u128,
@@ -36,35 +39,58 @@ impl Model for Page {
     ghost invariant = { λ s. IsPage (record { listed = s.listed; live = s.live; cells = s.cells.items }) };
 }
 
-// The digest of a part that has listed numbers, if something of it is live: that of its one number, or that of the gap in which the smallest part
-// with the same numbers meets.
+// The digest that lies where that of a part does, which has listed numbers.
 fn digest_of(listed: u128, cells: &[Cell], row: u8, off: u64) -> &Digest
     requires row { row ≤ 7 }
     requires within { InForest 128 row off }
     requires some { has_part (is_bit listed) row off ≡ true }
     requires full { length cells.now ≡ rank_of (is_bit listed) 128 }
-    ensures { IsKept (is_bit listed) cells.now row off result.now }
+    ensures { result.now ≡ digest_at listed cells.now row off }
 {
-    let (first, last) = ends(listed, row, off);
-    if first == last {
-        &cells[rank(listed, first)].leaf
+    let spot = spot_of(listed, row, off);
+    let cell = &cells[spot.cell];
+    if spot.right { &cell.right } else { &cell.left }
+}
+
+// Puts a digest at a spot.
+fn put(cells: &mut Vec<Cell>, spot: Spot, digest: Digest)
+    requires { spot.cell < length cells.old.items }
+    ensures { IsPut cells.old.items cells.new.items spot digest }
+{
+    let cell = &mut cells[spot.cell];
+    if spot.right {
+        cell.right = digest;
     } else {
-        &cells[rank(listed, fork(first, last))].gap
+        cell.left = digest;
     }
 }
 
-// Takes out a cell. Where the gap behind it is the one that goes, the gap before it stays, with the next cell.
-fn take_out(cells: &mut Vec<Cell>, k: usize, next: bool)
-    requires within { k < length cells.old.items }
-    requires next { next ≡ true → k + 1 < length cells.old.items }
-    ensures { IsTakenOut cells.old.items cells.new.items k next }
+// Puts the digest of a part where that of the part above it is, in which it has all that is left; and answers which cell goes.
+fn lift(listed: u128, cells: &mut Vec<Cell>, part: Place) -> usize
+    requires row { part.row < 7 }
+    requires within { InForest 128 part.row part.off }
+    requires some { has_part (is_bit listed) part.row part.off ≡ true }
+    requires full { length cells.old.items ≡ rank_of (is_bit listed) 128 }
+    ensures cell { result ≡ rank_of (is_bit listed) (middle_of part.row (part.off / 2)) }
+    ensures put { IsPut cells.old.items cells.new.items (spot (is_bit listed) (suc part.row) (part.off / 2))
+        (digest_at listed cells.old.items part.row part.off) }
 {
-    let out = cells.remove(k);
-    if !next {
-        return;
+    let above = parent(part);
+    let digest = *digest_of(listed, cells, part.row, part.off);
+    put(cells, spot_of(listed, above.row, above.off), digest);
+    rank(listed, middle(part.row, above.off))
+}
+
+// Makes ready for the cell of a number to be taken out, and answers which cell goes.
+fn make_way(listed: u128, cells: &mut Vec<Cell>, number: u64) -> usize
+    requires number { number < 128 }
+    requires full { length cells.old.items ≡ rank_of (is_bit listed) 128 }
+    ensures { IsLifted listed cells.old.items cells.new.items number result }
+{
+    match nearest(listed, number) {
+        None => 0,
+        Some(beside) => lift(listed, cells, beside),
     }
-    let cell = &mut cells[k];
-    cell.gap = out.gap;
 }
 
 // For how many cells a page keeps room that has so many: one, or 8, 19, 30, 41, .. of them. By the C library's reckoning a piece of that many is as
@@ -143,16 +169,6 @@ impl Page {
         Some(digest_of(self.listed, &self.cells, row, off))
     }
 
-    /// What is kept for a part for which something is.
-    pub fn digest(&self, row: u8, off: u64) -> &Digest
-        requires row { row ≤ 7 }
-        requires within { InForest 128 row off }
-        requires some { is_some (told self.now row off) ≡ true }
-        ensures { told self.now row off ≡ Some result.now }
-    {
-        digest_of(self.listed, &self.cells, row, off)
-    }
-
     /// Whether something is kept for the halves of a part of the row above.
     pub fn has_halves(&self, row: u8, off: u64) -> (bool, bool)
         requires row { row < 7 }
@@ -172,7 +188,8 @@ impl Page {
         ensures left { told self.now row (2 * off) ≡ Some result.0 }
         ensures right { told self.now row (2 * off + 1) ≡ Some result.1 }
     {
-        (*self.digest(row, 2 * off), *self.digest(row, 2 * off + 1))
+        let cell = &self.cells[rank(self.listed, middle(row, off))];
+        (cell.left, cell.right)
     }
 
     /// Keeps an entry, live or not.
@@ -185,8 +202,7 @@ impl Page {
         match entry {
             None => self.live = without(self.live, number),
             Some(digest) => {
-                let cell = &mut self.cells[rank(self.listed, number)];
-                cell.leaf = digest;
+                put(&mut self.cells, spot_of(self.listed, 0, number), digest);
                 self.live = with(self.live, number);
             }
         }
@@ -208,8 +224,7 @@ impl Page {
         let Some(digest) = own else {
             return;
         };
-        let cell = &mut self.cells[rank(self.listed, middle(row, off))];
-        cell.gap = digest;
+        put(&mut self.cells, spot_of(self.listed, row + 1, off), digest);
     }
 
     /// Keeps for the part of the row above that has a listed number what its left half has, or its right one, where the other has nothing. If one
@@ -241,8 +256,11 @@ impl Page {
         ensures put { IsPartPut self.old self.new row number (Some own) }
         ensures listed { self.new.listed ≡ self.old.listed }
     {
-        let cell = &mut self.cells[rank(self.listed, middle(row, number >> (row + 1)))];
-        cell.gap = own;
+        put(
+            &mut self.cells,
+            spot_of(self.listed, row + 1, number >> (row + 1)),
+            own,
+        );
     }
 
     /// Lists a number behind all that are. It is not live.
@@ -254,17 +272,18 @@ impl Page {
         ensures live { self.new.live ≡ self.old.live }
         ensures same { (r o : ℕ) → number / 2 ^ r ≢ o → told self.new r o ≡ told self.old r o }
     {
-        self.cells.push(Cell {
-            leaf: Digest([0; 32]),
-            gap: Digest([0; 32]),
-        })?;
+        let right = Digest([0; 32]);
+        let left = match nearest(self.listed, number) {
+            None => right,
+            Some(before) => *digest_of(self.listed, &self.cells, before.row, before.off),
+        };
+        self.cells.push(Cell { left, right })?;
         self.listed = with(self.listed, number);
         Ok(())
     }
 
     /// Takes the cell of a number that is not live. What is kept for the whole parts of the first `n` numbers stays.
     pub fn let_go(&mut self, n: u64, number: u64)
-        requires few { n ≤ 128 }
         requires number { number < 128 }
         requires listed { is_bit self.old.listed number ≡ true }
         requires spent { is_bit self.old.live number ≡ false }
@@ -273,8 +292,8 @@ impl Page {
         ensures listed { IsWithout (is_bit self.old.listed) (is_bit self.new.listed) number }
         ensures live { self.new.live ≡ self.old.live }
     {
-        let next = meets_next(self.listed, number);
-        take_out(&mut self.cells, rank(self.listed, number), next);
+        let out = make_way(self.listed, &mut self.cells, number);
+        self.cells.remove(out);
         shrink(&mut self.cells);
         self.listed = without(self.listed, number);
     }

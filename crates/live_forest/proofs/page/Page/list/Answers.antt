@@ -1,9 +1,27 @@
-use Rattle.std.proofs.Common.{◌≡◌, ℕ, ◌<◌, true, ap, ◌∙◌, sym}
+use Rattle.std.proofs.Common.{◌≡◌, ℕ, Bool, ◌+◌, ◌/◌, ◌^◌, ◌<◌, Some, None, true, ap, ◌∙◌, sym, subst, arith}
+use Rattle.std.specs.Prelude.{MatchOption, Option}
+use Rattle.uo_digest.specs.declared.digest.Digest.{Digest}
+use Rattle.forest_place.specs.Forest.{InForest, sibling_off}
+use Rattle.forest_place.specs.declared.place.Place.{Place}
 use Rattle.live_forest.specs.Sets.{is_bit}
-use Rattle.live_forest.specs.Pages.{PageState}
+use Rattle.live_forest.specs.Pages.{PageState, IsAlone, IsBeside, digest_at}
 use Rattle.live_forest.proofs.Bitmaps.{last_below}
-use Rattle.live_forest.proofs.Letting.{page_more, told_more}
+use Rattle.live_forest.proofs.Telling.{page_within, page_beside}
+use Rattle.live_forest.proofs.Letting.{page_more, told_more, IsLeftOf}
 use Rattle.live_forest.proofs.page.Page.list.Goals as goal
+use Rattle.live_forest.proofs.page.Page.list.Goals.{in-None, in-Some}
+
+-- what the number meets first
+met : (s : ℕ → Bool) (number : ℕ) (x : Option Place) (part : Place) → MatchOption x (IsAlone s number) (λ part. IsBeside s number part) → x ≡ Some part
+    → IsBeside s number part
+met s number x part is e = subst (λ y. MatchOption y (IsAlone s number) (λ part. IsBeside s number part)) e is
+
+pub digest_of-requires-clause-within : goal.digest_of-requires-clause-within
+digest_of-requires-clause-within c =
+    let part = c.in-Some.before in
+    let is = met (is_bit c.self.inside.listed) c.args.number c.nearest.result part c.nearest.ensures c.in-Some.is in
+    subst (InForest 128 part.row) (sym is.off)
+    (page_beside part.row (c.args.number / 2 ^ part.row) is.row (page_within c.args.number part.row c.requires.number (omega (arith, is.row))))
 
 pub invariant_of-self-2 : goal.invariant_of-self-2
 invariant_of-self-2 c =
@@ -20,5 +38,16 @@ returns-clause-same c =
     let last : (i : ℕ) → is_bit p.listed i ≡ true → i < c.args.number =
     last_below p.listed c.args.number c.self.ranges.0.1
     (λ i low e. c.requires.last i low (ap (λ x. is_bit x.listed i) (sym c.self.view_is) ∙ e)) in
+    let on_left : IsLeftOf p c.args.number c.nearest.result c.match-nearest.left = elim c.match-nearest.branch [
+      | in-None w ↦ subst (λ x. IsLeftOf p c.args.number x c.match-nearest.left) (sym w.in-None.is)
+          (subst (λ x. MatchOption x (IsAlone (is_bit p.listed) c.args.number) (λ part. IsBeside (is_bit p.listed) c.args.number part)) w.in-None.is
+          c.nearest.ensures)
+      | in-Some w ↦
+          let part = w.in-Some.before in
+          let is = met (is_bit p.listed) c.args.number c.nearest.result part c.nearest.ensures w.in-Some.is in
+          subst (λ x. IsLeftOf p c.args.number x c.match-nearest.left) (sym w.in-Some.is)
+          (is, w.left-is ∙ w.digest_of.ensures ∙ ap (λ cells. digest_at p.listed cells part.row part.off) w.deref.ensures.value)
+    ] in
     λ r o other. rw (c.in_ok-push.ensures.items, ← c.self.view_is)
-    (told_more p c.with-self-inside.result c.args.number _ c.self.invariant c.requires.number last c.with-self-inside.ensures r o other)
+    (told_more p c.with-self-inside.result c.args.number c.match-nearest.left _ c.nearest.result c.self.invariant c.self.ranges.0.1 c.requires.number last
+    c.with-self-inside.ensures on_left r o other)

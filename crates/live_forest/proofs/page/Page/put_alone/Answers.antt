@@ -14,7 +14,7 @@ returns-then-not-is_branch-clause-put c =
     let off = c.args.number / 2 ^ suc c.args.row in
     let other = rw (← c.self.view_is) at c.requires.other in
     rw (← c.self.view_is)
-    (part_stays p c.args.row c.args.number (told p c.args.row (2 * off + c.args.side)) c.self.invariant
+    (part_stays p c.args.row c.args.number (told p c.args.row (2 * off + c.args.side)) c.self.invariant c.requires.row
     (λ b. true≢false (sym (c.is_branch.ensures.1 (rw (above_is c.args.number c.args.row) b)) ∙ c.if-not-is_branch.true))
     (alone_halves (told p c.args.row) (2 * off) c.args.side c.requires.side other))
 

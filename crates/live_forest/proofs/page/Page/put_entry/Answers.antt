@@ -1,21 +1,23 @@
-use Rattle.std.proofs.Common.{◌≡◌, ◌<◌, length, true, ap, ◌∙◌, arith}
-use Rattle.std.proofs.lemmas.List.{length-set, get_or_default}
+use Rattle.std.proofs.Common.{◌≡◌, ◌<◌, ◌/◌, ◌^◌, length, true, ap, ◌∙◌, sym, subst, arith}
+use Rattle.live_forest.specs.declared.spots.Spot.{Spot}
 use Rattle.live_forest.specs.Sets.{is_bit}
-use Rattle.live_forest.specs.Pages.{PageState, gap_in, no_cell}
-use Rattle.live_forest.proofs.Telling.{entry_index, entry_gone, entry_come, page_come}
+use Rattle.live_forest.specs.Pages.{PageState, IsPut, spot}
+use Rattle.live_forest.proofs.Landing.{spot_within}
+use Rattle.live_forest.proofs.Telling.{listed_few, entry_gone, entry_come, page_come}
 use Rattle.live_forest.proofs.page.Page.put_entry.Goals as goal
 
-pub index_mut-cell-requires : goal.index_mut-cell-requires
-index_mut-cell-requires c =
+pub put-requires : goal.put-requires
+put-requires c =
     let p : PageState = record { listed = c.self.inside.listed; live = c.self.inside.live; cells = c.self.inside.cells.items } in
     let listed : is_bit p.listed c.args.number ≡ true = ap (λ x. is_bit x.listed c.args.number) c.self.view_is ∙ c.requires.listed in
-    omega (arith, c.rank.ensures, entry_index p c.self.invariant c.args.number c.requires.number listed, c.self.inside.cells.ok.0)
+    let cell = ap (λ (s : Spot). s.cell) c.spot_of.ensures in
+    omega (arith, cell, spot_within (is_bit p.listed) (listed_few p.listed c.self.ranges.0.1) 0 c.args.number listed, c.self.invariant.full)
 
 pub invariant_of-self-in-Some : goal.invariant_of-self-in-Some
 invariant_of-self-in-Some c =
     let p : PageState = record { listed = c.self.inside.listed; live = c.self.inside.live; cells = c.self.inside.cells.items } in
     let listed : is_bit p.listed c.args.number ≡ true = ap (λ x. is_bit x.listed c.args.number) c.self.view_is ∙ c.requires.listed in
-    page_come p c.with-self-inside.result c.args.number _ c.self.invariant listed c.with-self-inside.ensures (length-set _ _ _)
+    page_come p c.with-self-inside.result c.args.number _ c.self.invariant listed c.with-self-inside.ensures c.put.ensures.len
 
 pub returns-in-None-clause-put : goal.returns-in-None-clause-put
 returns-in-None-clause-put c =
@@ -26,10 +28,7 @@ pub returns-in-Some-clause-put : goal.returns-in-Some-clause-put
 returns-in-Some-clause-put c =
     let p : PageState = record { listed = c.self.inside.listed; live = c.self.inside.live; cells = c.self.inside.cells.items } in
     let listed : is_bit p.listed c.args.number ≡ true = ap (λ x. is_bit x.listed c.args.number) c.self.view_is ∙ c.requires.listed in
-    let k = c.rank.result in
-    let cell = c.index_mut-cell.result.now in
-    let inside : k < length p.cells = omega (arith, c.rank.ensures, entry_index p c.self.invariant c.args.number c.requires.number listed) in
-    let gap : cell.gap ≡ gap_in p.cells k = ap (λ x. x.gap) (c.index_mut-cell.ensures.value ∙ get_or_default p.cells k cell no_cell inside) in
+    let put = subst (λ s. IsPut p.cells c.put.new.cells.items s c.in-Some.digest) c.spot_of.ensures c.put.ensures in
     rw (← c.self.view_is, c.in-Some.is)
-    (entry_come p c.with-self-inside.result c.args.number k (record { leaf = c.in-Some.digest; gap = cell.gap }) c.self.invariant c.requires.number
-    listed c.rank.ensures gap c.with-self-inside.ensures)
+    (entry_come p c.self.invariant c.self.ranges.0.1 c.with-self-inside.result c.args.number c.put.new.cells.items c.in-Some.digest listed put
+    c.with-self-inside.ensures)

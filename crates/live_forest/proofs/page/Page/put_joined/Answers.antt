@@ -1,44 +1,45 @@
-use Rattle.std.proofs.Common.{◌≡◌, ◌<◌, ◌/◌, ◌^◌, suc, length, ap, ◌∙◌, arith}
-use Rattle.std.proofs.lemmas.List.{get_or_default}
-use Rattle.live_forest.specs.Sets.{is_bit, rank}
-use Rattle.live_forest.specs.Pages.{PageState, leaf_in, no_cell, middle}
-use Rattle.live_forest.proofs.Telling.{gap_index, page_within, above_is, middle_low, part_written, joined_branch, joined_live}
+use Rattle.std.proofs.Common.{◌≡◌, ◌<◌, ◌+◌, ◌/◌, ◌^◌, suc, length, true, ap, ap₂, ◌∙◌, sym, subst, arith}
+use Rattle.forest_place.specs.Forest.{InForest}
+use Rattle.live_forest.specs.declared.spots.Spot.{Spot}
+use Rattle.live_forest.specs.Sets.{is_bit}
+use Rattle.live_forest.specs.Pages.{PageState, IsPut, spot}
+use Rattle.live_forest.proofs.Landing.{spot_within}
+use Rattle.live_forest.proofs.Ranks.{part_with}
+use Rattle.live_forest.proofs.Telling.{listed_few, page_within, above_is, part_written, joined_branch, joined_live}
 use Rattle.live_forest.proofs.page.Page.put_joined.Goals as goal
 
-pub middle-requires-clause-within : goal.middle-requires-clause-within
-middle-requires-clause-within c =
-    rw (above_is c.args.number c.args.row)
-    (middle_low c.args.row (c.args.number / 2 ^ suc c.args.row)
-    (page_within c.args.number (suc c.args.row) c.requires.number (omega (arith, c.requires.row))))
+pub spot_of-requires-clause-within : goal.spot_of-requires-clause-within
+spot_of-requires-clause-within c =
+    let up : c.args.row + 1 ≡ suc c.args.row = omega arith in
+    rw up (page_within c.args.number (suc c.args.row) c.requires.number (omega (arith, c.requires.row)))
 
-pub rank-requires : goal.rank-requires
-rank-requires c =
-    let off = c.args.number / 2 ^ suc c.args.row in
-    let low = middle_low c.args.row off (page_within c.args.number (suc c.args.row) c.requires.number (omega (arith, c.requires.row))) in
-    omega (arith, c.middle.ensures, ap (middle c.args.row) (above_is c.args.number c.args.row), low)
-
-pub index_mut-cell-requires : goal.index_mut-cell-requires
-index_mut-cell-requires c =
+pub put-requires : goal.put-requires
+put-requires c =
     let p : PageState = record { listed = c.self.inside.listed; live = c.self.inside.live; cells = c.self.inside.cells.items } in
-    let off = c.args.number / 2 ^ suc c.args.row in
-    let h = page_within c.args.number (suc c.args.row) c.requires.number (omega (arith, c.requires.row)) in
-    let b = joined_branch p c.args.row off c.self.invariant (rw (← c.self.view_is) at c.requires.left) (rw (← c.self.view_is) at c.requires.right) in
-    let at = c.rank.ensures ∙ ap (rank (is_bit p.listed)) (c.middle.ensures ∙ ap (middle c.args.row) (above_is c.args.number c.args.row)) in
-    omega (arith, at, gap_index p c.self.invariant c.args.row off h b, c.self.inside.cells.ok.0)
+    let s = is_bit p.listed in
+    let listed : s c.args.number ≡ true = ap (λ x. is_bit x.listed c.args.number) c.self.view_is ∙ c.requires.listed in
+    let up : c.args.row + 1 ≡ suc c.args.row = omega arith in
+    let cell = ap (λ (x : Spot). x.cell) (c.spot_of.ensures ∙ ap (λ r. spot s r (c.args.number / 2 ^ r)) up) in
+    omega (
+      arith,
+      cell,
+      spot_within s (listed_few p.listed c.self.ranges.0.1) (suc c.args.row) (c.args.number / 2 ^ suc c.args.row)
+          (part_with s c.args.number (suc c.args.row) listed),
+      c.self.invariant.full,
+    )
 
 pub returns-clause-put : goal.returns-clause-put
 returns-clause-put c =
     let p : PageState = record { listed = c.self.inside.listed; live = c.self.inside.live; cells = c.self.inside.cells.items } in
+    let s = is_bit p.listed in
     let row = c.args.row in
     let off = c.args.number / 2 ^ suc row in
-    let h = page_within c.args.number (suc row) c.requires.number (omega (arith, c.requires.row)) in
+    let listed : s c.args.number ≡ true = ap (λ x. is_bit x.listed c.args.number) c.self.view_is ∙ c.requires.listed in
     let left = rw (← c.self.view_is) at c.requires.left in
     let b = joined_branch p row off c.self.invariant left (rw (← c.self.view_is) at c.requires.right) in
-    let k = c.rank.result in
-    let at = c.rank.ensures ∙ ap (rank (is_bit p.listed)) (c.middle.ensures ∙ ap (middle row) (above_is c.args.number row)) in
-    let inside : k < length p.cells = omega (arith, at, gap_index p c.self.invariant row off h b) in
-    let cell = c.index_mut-cell.result.now in
-    let leaf : cell.leaf ≡ leaf_in p.cells k = ap (λ x. x.leaf) (c.index_mut-cell.ensures.value ∙ get_or_default p.cells k cell no_cell inside) in
+    let up : row + 1 ≡ suc row = omega arith in
+    let at = c.spot_of.ensures ∙ ap (λ r. spot s r (c.args.number / 2 ^ r)) up in
+    let put = subst (λ x. IsPut p.cells c.put.new.cells.items x c.args.own) at c.put.ensures in
     rw (← c.self.view_is)
-    (part_written p row c.args.number k (record { leaf = cell.leaf; gap = c.args.own }) c.self.invariant h b at leaf
+    (part_written p row c.args.number c.put.new.cells.items c.args.own c.self.invariant c.self.ranges.0.1 listed b put
     (joined_live p row off c.self.invariant left))

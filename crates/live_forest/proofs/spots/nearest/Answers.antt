@@ -3,7 +3,7 @@ use Rattle.forest_place.specs.Forest.{InForest}
 use Rattle.forest_place.proofs.Parts.{parts-suc, InForest-down, not_root-down}
 use Rattle.forest_place.proofs.Siblings.{sibling_within}
 use Rattle.live_forest.proofs.Telling.{page_within}
-use Rattle.live_forest.proofs.least.meets_next.Goals as goal
+use Rattle.live_forest.proofs.spots.nearest.Goals as goal
 
 pub has_some-requires-clause-within : goal.has_some-requires-clause-within
 has_some-requires-clause-within c =
