@@ -8,7 +8,7 @@ use Rattle.std.proofs.lemmas.Nat.{pow_pos, shr_split, mod_below, mul-le, div-mul
 use Rattle.forest_place.specs.Forest.{InForest}
 use Rattle.forest_place.proofs.Slots.{in_forest_iff}
 use Rattle.forest_place.proofs.Positions.{row_small}
-use Rattle.live_forest.specs.Sets.{is_bit, rank, IsWithout}
+use Rattle.live_forest.specs.Sets.{is_bit, IsWithout}
 use Rattle.live_forest.specs.Pages.{PageState, told, IsOfHalves, AreOfHalves}
 use Rattle.live_forest.proofs.Telling.{some_told}
 use Rattle.live_forest.specs.Stores.{StoreState, no_page, page_at, stored, is_listed, IsStore, AreStoredOfHalves}

@@ -8,7 +8,7 @@ use Rattle.std.proofs.lemmas.List.{get_or-set_same, get_or-set_other, length-set
 use Rattle.uo_digest.specs.declared.digest.Digest.{Digest}
 use Rattle.forest_place.specs.Forest.{InForest}
 use Rattle.forest_place.proofs.Slots.{in_forest_iff}
-use Rattle.live_forest.specs.Sets.{is_bit, has_part, rank, IsWith}
+use Rattle.live_forest.specs.Sets.{is_bit, has_part, IsWith}
 use Rattle.live_forest.specs.Pages.{PageState, told}
 use Rattle.live_forest.proofs.Telling.{none_told}
 use Rattle.live_forest.specs.Stores.{StoreState, no_page, page_at, seam, stored, is_listed, IsStore, ArePages, IsLonger}

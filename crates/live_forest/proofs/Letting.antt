@@ -2,12 +2,12 @@
 use Rattle.std.proofs.Common.{◌≡◌, ◌≢◌, ℕ, zero, suc, ◌+◌, ◌-◌, ◌*◌, ◌/◌, ◌%◌, ◌^◌, ◌<◌, ◌≤◌, ◌⊎◌, inl, inr, Bool, true, false, refl, sym, ap, ap₂, ◌∙◌, subst}
 use Rattle.std.proofs.Common.{⊎_elim, arith}
 use Rattle.std.proofs.Common.{List, [], ◌∷◌, ◌++◌, length, get_or, Some, None, length-append}
-use Rattle.std.specs.Prelude.{◌||◌, ◌==◌, if◌then◌else◌, MatchOption, Option}
+use Rattle.std.specs.Prelude.{◌==◌, if◌then◌else◌, MatchOption, Option}
 use Rattle.std.specs.List.{remove}
 use Rattle.std.proofs.lemmas.Bool.{cases_Bool, cases_eq, cases_lt, cases_order, true≢false, ne_eqb}
 use Rattle.std.proofs.lemmas.Nat.{pow_pos, le-div, div_below, mod_below, shr-shr, shr_split}
 use Rattle.std.proofs.lemmas.List.{get_or_append_left, get_or_push}
-use Rattle.std.proofs.lemmas.List.Edits.{length-remove, get_or-remove_below, get_or-remove_above}
+use Rattle.std.proofs.lemmas.List.Edits.{get_or-remove_below, get_or-remove_above}
 use Rattle.uo_digest.specs.declared.digest.Digest.{Digest}
 use Rattle.forest_place.specs.Forest.{InForest, sibling_off}
 use Rattle.forest_place.specs.declared.place.Place.{Place}
@@ -16,9 +16,9 @@ use Rattle.forest_place.proofs.Siblings.{sibling_cases, sibling_twice, sibling_h
 use Rattle.live_forest.specs.declared.cell.Cell.{Cell}
 use Rattle.live_forest.specs.declared.spots.Spot.{Spot}
 use Rattle.live_forest.specs.Sets.{is_bit, has_part, rank, IsWith, IsWithout}
-use Rattle.live_forest.specs.Pages.{PageState, IsPage, no_cell, middle, IsBranch, when, spot, digest_in, digest_at, told, IsPut, IsOfHalves}
+use Rattle.live_forest.specs.Pages.{PageState, IsPage, no_cell, middle, IsBranch, when, spot, digest_in, digest_at, told, IsPut}
 use Rattle.live_forest.specs.Pages.{IsNearest, IsBeside, IsAlone, IsLifted, AreOfHalves}
-use Rattle.live_forest.proofs.Ranks.{rank_above, rank_rises, right_rank, left_rank, branch_one, part_other, part_subset, part_none, part_with, rank-out}
+use Rattle.live_forest.proofs.Ranks.{rank_above, rank_rises, right_rank, branch_one, part_other, part_subset, part_none, part_with, rank-out}
 use Rattle.live_forest.proofs.Ranks.{rank_low, rank_high, rank_most}
 use Rattle.live_forest.proofs.Landing.{part_number, part_has, part_bare, branch_of, spot_whole, spot_beside, spot_alone, one_spot, same_above, first_part}
 use Rattle.live_forest.proofs.Landing.{other_half, branch_cell, branch_inside}

@@ -1,5 +1,5 @@
 -- Sets of numbers, each by its test.
-use Rattle.std.specs.Prelude.{◌≡◌, ℕ, zero, suc, ◌+◌, ◌*◌, ◌/◌, ◌^◌, ◌≤◌, Bool, true, ◌||◌}
+use Rattle.std.specs.Prelude.{ℕ, zero, suc, ◌+◌, ◌*◌, Bool, ◌||◌}
 -- the set that the bits of a number are
 pub use Rattle.uo_base.specs.Bits.{is_bit, rank, IsWith, IsWithout}
 

@@ -1,4 +1,4 @@
-use Rattle.std.proofs.Common.{◌≡◌, ◌<◌, length, ap, arith, rules}
+use Rattle.std.proofs.Common.{◌<◌, length, ap, arith, rules}
 use Rattle.live_forest.specs.declared.spots.Spot.{Spot}
 use Rattle.live_forest.specs.Sets.{is_bit}
 use Rattle.live_forest.proofs.Landing.{spot_within}

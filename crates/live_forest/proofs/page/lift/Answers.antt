@@ -1,11 +1,11 @@
-use Rattle.std.proofs.Common.{◌≡◌, ℕ, Bool, ◌+◌, ◌*◌, ◌/◌, ◌^◌, ◌<◌, suc, List, length, true, ap, ap₂, ◌∙◌, sym, subst, arith}
+use Rattle.std.proofs.Common.{◌≡◌, ℕ, Bool, ◌/◌, suc, List, true, ap, ap₂, ◌∙◌, sym, subst, arith}
 use Rattle.uo_digest.specs.declared.digest.Digest.{Digest}
 use Rattle.forest_place.specs.Forest.{InForest}
 use Rattle.forest_place.proofs.Parts.{parts-suc}
 use Rattle.live_forest.specs.declared.cell.Cell.{Cell}
 use Rattle.live_forest.specs.declared.spots.Spot.{Spot}
-use Rattle.live_forest.specs.Sets.{is_bit, has_part, rank}
-use Rattle.live_forest.specs.Pages.{IsPut, middle, spot, digest_at}
+use Rattle.live_forest.specs.Sets.{is_bit, has_part}
+use Rattle.live_forest.specs.Pages.{IsPut, spot, digest_at}
 use Rattle.live_forest.proofs.Landing.{part_number, part_has, spot_within}
 use Rattle.live_forest.proofs.Telling.{listed_few, page_up, middle_low}
 use Rattle.live_forest.proofs.page.lift.Goals as goal

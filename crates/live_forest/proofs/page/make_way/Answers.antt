@@ -1,8 +1,8 @@
-use Rattle.std.proofs.Common.{◌≡◌, ℕ, ◌+◌, ◌/◌, ◌^◌, ◌<◌, Some, None, Bool, true, inl, inr, refl, ap, ◌∙◌, sym, subst, arith}
+use Rattle.std.proofs.Common.{◌≡◌, ℕ, ◌/◌, ◌^◌, Some, Bool, sym, subst, arith}
 use Rattle.std.specs.Prelude.{MatchOption, Option}
-use Rattle.forest_place.specs.Forest.{InForest, sibling_off}
+use Rattle.forest_place.specs.Forest.{InForest}
 use Rattle.forest_place.specs.declared.place.Place.{Place}
-use Rattle.live_forest.specs.Sets.{is_bit, has_part}
+use Rattle.live_forest.specs.Sets.{is_bit}
 use Rattle.live_forest.specs.Pages.{IsAlone, IsBeside}
 use Rattle.live_forest.proofs.Telling.{page_within, page_beside}
 use Rattle.live_forest.proofs.page.make_way.Goals as goal

@@ -1,7 +1,6 @@
-use Rattle.std.proofs.Common.{◌≡◌, ◌+◌, ◌/◌, ◌^◌, ◌<◌, ◌≤◌, suc, sym, ap, ap₂, ◌∙◌, subst, arith}
+use Rattle.std.proofs.Common.{◌≡◌, ◌/◌, ◌≤◌, suc, sym, ap, ap₂, ◌∙◌, subst, arith}
 use Rattle.std.specs.Prelude.{◌==◌, ◌%◌}
 use Rattle.forest_place.specs.Forest.{InForest}
-use Rattle.live_forest.specs.declared.spots.Spot.{Spot}
 use Rattle.live_forest.specs.Sets.{is_bit, has_part, rank}
 use Rattle.live_forest.specs.Pages.{middle, spot}
 use Rattle.live_forest.proofs.Landing.{spot_whole, spot_beside, spot_alone}

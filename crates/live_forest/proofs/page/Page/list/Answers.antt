@@ -1,7 +1,6 @@
-use Rattle.std.proofs.Common.{◌≡◌, ℕ, Bool, ◌+◌, ◌/◌, ◌^◌, ◌<◌, Some, None, true, ap, ◌∙◌, sym, subst, arith}
+use Rattle.std.proofs.Common.{◌≡◌, ℕ, Bool, ◌/◌, ◌^◌, ◌<◌, Some, true, ap, ◌∙◌, sym, subst, arith}
 use Rattle.std.specs.Prelude.{MatchOption, Option}
-use Rattle.uo_digest.specs.declared.digest.Digest.{Digest}
-use Rattle.forest_place.specs.Forest.{InForest, sibling_off}
+use Rattle.forest_place.specs.Forest.{InForest}
 use Rattle.forest_place.specs.declared.place.Place.{Place}
 use Rattle.live_forest.specs.Sets.{is_bit}
 use Rattle.live_forest.specs.Pages.{PageState, IsAlone, IsBeside, digest_at}

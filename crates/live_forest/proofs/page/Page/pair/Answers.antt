@@ -1,7 +1,6 @@
-use Rattle.std.proofs.Common.{◌≡◌, ◌+◌, ◌*◌, ◌<◌, length, Some, true, false, ap, ap₂, ◌∙◌, sym, subst, arith}
-use Rattle.std.proofs.lemmas.List.{get_or_default}
+use Rattle.std.proofs.Common.{ap, ◌∙◌, arith}
 use Rattle.live_forest.specs.Sets.{is_bit, rank}
-use Rattle.live_forest.specs.Pages.{PageState, no_cell, middle}
+use Rattle.live_forest.specs.Pages.{PageState}
 use Rattle.live_forest.proofs.Telling.{gap_index, middle_low, joined_branch, pair_told}
 use Rattle.live_forest.proofs.page.Page.pair.Goals as goal
 

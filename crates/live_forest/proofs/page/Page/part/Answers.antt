@@ -1,5 +1,4 @@
-use Rattle.std.proofs.Common.{Some, sym, ap, ap₂, ◌∙◌}
-use Rattle.live_forest.specs.Sets.{is_bit}
+use Rattle.std.proofs.Common.{Some, sym, ap, ◌∙◌}
 use Rattle.live_forest.specs.Pages.{PageState, when, digest_at}
 use Rattle.live_forest.proofs.Telling.{none_told, live_listed}
 use Rattle.live_forest.proofs.page.Page.part.Goals as goal

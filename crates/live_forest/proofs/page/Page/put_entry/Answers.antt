@@ -1,7 +1,7 @@
-use Rattle.std.proofs.Common.{◌≡◌, ◌<◌, ◌/◌, ◌^◌, length, true, ap, ◌∙◌, sym, subst, arith}
+use Rattle.std.proofs.Common.{◌≡◌, true, ap, ◌∙◌, subst, arith}
 use Rattle.live_forest.specs.declared.spots.Spot.{Spot}
 use Rattle.live_forest.specs.Sets.{is_bit}
-use Rattle.live_forest.specs.Pages.{PageState, IsPut, spot}
+use Rattle.live_forest.specs.Pages.{PageState, IsPut}
 use Rattle.live_forest.proofs.Landing.{spot_within}
 use Rattle.live_forest.proofs.Telling.{listed_few, entry_gone, entry_come, page_come}
 use Rattle.live_forest.proofs.page.Page.put_entry.Goals as goal

@@ -1,11 +1,10 @@
-use Rattle.std.proofs.Common.{◌≡◌, ◌<◌, ◌+◌, ◌/◌, ◌^◌, suc, length, true, ap, ap₂, ◌∙◌, sym, subst, arith}
-use Rattle.forest_place.specs.Forest.{InForest}
+use Rattle.std.proofs.Common.{◌≡◌, ◌+◌, ◌/◌, ◌^◌, suc, true, ap, ◌∙◌, subst, arith}
 use Rattle.live_forest.specs.declared.spots.Spot.{Spot}
 use Rattle.live_forest.specs.Sets.{is_bit}
 use Rattle.live_forest.specs.Pages.{PageState, IsPut, spot}
 use Rattle.live_forest.proofs.Landing.{spot_within}
 use Rattle.live_forest.proofs.Ranks.{part_with}
-use Rattle.live_forest.proofs.Telling.{listed_few, page_within, above_is, part_written, joined_branch, joined_live}
+use Rattle.live_forest.proofs.Telling.{listed_few, page_within, part_written, joined_branch, joined_live}
 use Rattle.live_forest.proofs.page.Page.put_joined.Goals as goal
 
 pub spot_of-requires-clause-within : goal.spot_of-requires-clause-within
