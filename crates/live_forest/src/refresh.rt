@@ -1,5 +1,6 @@
 //! Writing entries: the parts above one are made right, from the lowest upwards.
 ghost use Rattle.std.specs.Prelude.{◌≡◌, ◌≢◌, ◌↔◌, ℕ, ◌+◌, ◌-◌, ◌*◌, ◌/◌, ◌%◌, ◌^◌, ◌<◌, ◌≤◌, length, set, get_or, Some, None, IsTrue, All, true};
+ghost use Rattle.std.specs.Prelude.{map, option_copied};
 ghost use Rattle.forest_model.specs.Content.{join_digests};
 ghost use Rattle.forest_model.specs.Deletion.{entries_without};
 ghost use Rattle.forest_place.specs.Forest.{InForest};
@@ -39,8 +40,45 @@ fn goes_up(n: u64, row: u8, off: u64, other: u64) -> bool
     off / 2 < (n >> row) / 2 && off / 2 != other / 2
 }
 
-// Puts what stands beside the parts that have an entry by its row, as far as they do not also have the one that comes next. So all the
-// memory that a change reads and writes is asked for before the first digest, where no read waits for another.
+// Finds what stands beside the parts that have an entry, by its row, as far as they do not also have the one that comes next.
+fn find_beside<'a, D: Digester>(
+    store: &'a Store,
+    n: u64,
+    number: u64,
+    next: u64,
+    beside: &mut [Option<&'a Digest>],
+)
+    requires small { n < 2 ^ 40 }
+    requires room { n ≤ store.now.len }
+    requires number { number < n }
+    requires forty { length beside.old ≡ 40 }
+    requires right { ArePartsBut D.digest_of n (leaves_of store.now) store.now number 0 }
+    ensures forty { length beside.new ≡ 40 }
+    ensures beside { AreBeside D.digest_of n (leaves_of store.now) number next (map option_copied beside.new) }
+{
+    let mut row: u8 = 0;
+    let mut off = number;
+    let mut other = next;
+    'rows: while goes_up(n, row, off, other) {
+        beside[row as usize] = store.lent(n, row, sibling(Place { row, off }).off);
+        off /= 2;
+        other /= 2;
+        row += 1;
+    }
+}
+
+// Reads digests that were found.
+fn read_all(found: &[Option<&Digest>], digests: &mut [Option<Digest>])
+    requires { length digests.old ≡ length found.now }
+    ensures { digests.new ≡ map option_copied found.now }
+{
+    for row in 0..found.len() {
+        digests[row] = found[row].copied();
+    }
+}
+
+// Puts what stands beside the parts that have an entry by its row, as far as they do not also have the one that comes next. It is found first, and
+// then read in one loop. So all the memory that a change reads and writes is asked for before the first digest, where no read waits for another.
 fn gather<D: Digester>(
     store: &Store,
     n: u64,
@@ -56,15 +94,9 @@ fn gather<D: Digester>(
     ensures forty { length siblings.new ≡ 40 }
     ensures beside { AreBeside D.digest_of n (leaves_of store.now) number next siblings.new }
 {
-    let mut row: u8 = 0;
-    let mut off = number;
-    let mut other = next;
-    'rows: while goes_up(n, row, off, other) {
-        siblings[row as usize] = store.part(n, row, sibling(Place { row, off }).off);
-        off /= 2;
-        other /= 2;
-        row += 1;
-    }
+    let mut beside = [None; 40];
+    find_beside::<D>(store, n, number, next, &mut beside);
+    read_all(&beside, siblings);
 }
 
 // Two halves from left to right, of which one is at this offset.
