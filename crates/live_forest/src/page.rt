@@ -192,6 +192,24 @@ impl Page {
         (cell.left, cell.right)
     }
 
+    /// What is kept for the halves of a part of the row above.
+    pub fn halves(&self, row: u8, off: u64) -> (Option<Digest>, Option<Digest>)
+        requires row { row < 7 }
+        requires within { InForest 128 (suc row) off }
+        ensures left { result.0 ≡ told self.now row (2 * off) }
+        ensures right { result.1 ≡ told self.now row (2 * off + 1) }
+    {
+        let (left, right) = self.has_halves(row, off);
+        if left && right {
+            let (left, right) = self.pair(row, off);
+            return (Some(left), Some(right));
+        }
+        (
+            self.part(row, 2 * off).copied(),
+            self.part(row, 2 * off + 1).copied(),
+        )
+    }
+
     /// Keeps an entry, live or not.
     pub fn put_entry(&mut self, number: u64, entry: Option<Digest>)
         requires number { number < 128 }
@@ -217,10 +235,10 @@ impl Page {
         ensures put { IsPartPut self.old self.new row number own }
         ensures listed { self.new.listed ≡ self.old.listed }
     {
-        let off = number >> (row + 1);
-        if !is_branch(self.listed, row, off) {
+        if !is_branch(self.listed, row, number) {
             return;
         }
+        let off = number >> (row + 1);
         let Some(digest) = own else {
             return;
         };
@@ -238,10 +256,10 @@ impl Page {
         ensures put { IsPartPut self.old self.new row number (told self.old row (2 * (number / 2 ^ suc row) + side)) }
         ensures listed { self.new.listed ≡ self.old.listed }
     {
-        let off = number >> (row + 1);
-        if !is_branch(self.listed, row, off) {
+        if !is_branch(self.listed, row, number) {
             return;
         }
+        let off = number >> (row + 1);
         let own = self.part(row, 2 * off + side).copied();
         self.put_part(row, number, own);
     }

@@ -172,10 +172,8 @@ fn refresh_last<D: Digester, L: Ledger>(
     let mut row: u8 = 0;
     let mut off = number;
     while off / 2 < (n >> row) / 2 {
-        let first = off - off % 2;
-        let left = store.part(n, row, first);
-        let right = store.part(n, row, first + 1);
         off /= 2;
+        let (left, right) = store.halves(n, row, off);
         let above = joined::<D, L>(&left, &right, steps);
         store.put_part(n, row, number, above);
         row += 1;

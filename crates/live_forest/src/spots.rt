@@ -1,5 +1,5 @@
 //! Where the digests of parts lie in a page.
-ghost use Rattle.std.specs.Prelude.{◌≡◌, ◌↔◌, suc, ◌+◌, ◌*◌, ◌^◌, ◌<◌, ◌≤◌, true, MatchOption};
+ghost use Rattle.std.specs.Prelude.{◌≡◌, ◌↔◌, suc, ◌+◌, ◌*◌, ◌/◌, ◌^◌, ◌<◌, ◌≤◌, true, MatchOption};
 ghost use Rattle.forest_place.specs.Forest.{InForest};
 ghost use Rattle.live_forest.specs.Sets.{is_bit};
 ghost use Rattle.live_forest.specs.Pages.{middle as middle_of, spot, IsBranch, IsBeside, IsAlone};
@@ -23,13 +23,18 @@ pub(crate) fn middle(row: u8, off: u64) -> u64
     (2 * off + 1) << row
 }
 
-/// Whether both halves of a part of the row above have listed numbers.
-pub(crate) fn is_branch(listed: u128, row: u8, off: u64) -> bool
+/// Whether both halves of the part of the row above that has a listed number have such numbers.
+pub(crate) fn is_branch(listed: u128, row: u8, number: u64) -> bool
     requires row { row < 7 }
-    requires within { InForest 128 (suc row) off }
-    ensures { (result ≡ true) ↔ IsBranch (is_bit listed) row off }
+    requires number { number < 128 }
+    requires listed { is_bit listed number ≡ true }
+    ensures { (result ≡ true) ↔ IsBranch (is_bit listed) row (number / 2 ^ suc row) }
 {
-    has_some(listed, row, 2 * off) && has_some(listed, row, 2 * off + 1)
+    let half = Place {
+        row,
+        off: number >> row,
+    };
+    has_some(listed, row, sibling(half).off)
 }
 
 /// Where the digest of a part lies.

@@ -183,6 +183,25 @@ impl Store {
         }
     }
 
+    /// What is kept for the halves of a part of the row above, of those that `n` entries have.
+    pub fn halves(&self, n: u64, row: u8, off: u64) -> (Option<Digest>, Option<Digest>)
+        requires small { n < 2 ^ 40 }
+        requires room { n ≤ self.now.len }
+        requires within { InForest n (suc row) off }
+        ensures left { result.0 ≡ stored self.now row (2 * off) }
+        ensures right { result.1 ≡ stored self.now row (2 * off + 1) }
+    {
+        if row < PAGE_ROW {
+            let rows = PAGE_ROW - 1 - row;
+            self.pages[(off >> rows) as usize].halves(row, off % (1 << rows))
+        } else {
+            (
+                self.part(n, row, 2 * off),
+                self.part(n, row, 2 * off + 1),
+            )
+        }
+    }
+
     // What is kept for a part of those that `n` entries have, for which something is.
     fn digest(&self, n: u64, row: u8, off: u64) -> Digest
         requires small { n < 2 ^ 40 }

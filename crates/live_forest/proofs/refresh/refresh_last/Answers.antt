@@ -7,11 +7,11 @@ use Rattle.live_forest.specs.Parts.{leaves_of, part_digest, digests_to}
 use Rattle.live_forest.proofs.Refreshing.{up_within, halves_told, joined_right, row_written, rows_done, cost_more, leaves_stay, room_kept}
 use Rattle.live_forest.proofs.refresh.refresh_last.Goals as goal
 
-pub part-left-requires-clause-room : goal.part-left-requires-clause-room
-part-left-requires-clause-room g c = omega (arith, c.requires.room, c.loop-off.invariant.room.len)
+pub halves-left-requires-clause-room : goal.halves-left-requires-clause-room
+halves-left-requires-clause-room g c = omega (arith, c.requires.room, c.loop-off.invariant.room.len)
 
-pub part-right-requires-clause-room : goal.part-right-requires-clause-room
-part-right-requires-clause-room g c = omega (arith, c.requires.room, c.loop-off.invariant.room.len)
+pub halves-left-requires-clause-within : goal.halves-left-requires-clause-within
+halves-left-requires-clause-within g c = up_within c.args.n c.loop-off.row c.loop-off.off c.loop-off-test.true
 
 pub put_part-requires-clause-room : goal.put_part-requires-clause-room
 put_part-requires-clause-room g c = omega (arith, c.requires.room, c.loop-off.invariant.room.len)
@@ -36,15 +36,14 @@ put_part-requires-clause-halves g c =
     let leaves = leaves_of c.args.store.now in
     let within = up_within n row off c.loop-off-test.true in
     let here : off / 2 ≡ i / 2 ^ suc row = omega (arith, c.loop-off.invariant.here, parts-suc i row) in
-    let two : off - off % 2 ≡ 2 * (off / 2) = omega arith in
-    let left : c.part-left.result ≡ part_digest H leaves row (2 * (i / 2 ^ suc row)) = c.part-left.ensures ∙ ap (stored s row) two
+    let left : c.halves-left.result.0 ≡ part_digest H leaves row (2 * (i / 2 ^ suc row)) = c.halves-left.ensures.left
     ∙ c.loop-off.invariant.right.is row (2 * (off / 2)) (InForest-left n row (off / 2) within) (λ low. absurd (omega (arith, low)))
     ∙ ap (λ x. part_digest H leaves row (2 * x)) here in
-    let right : c.part-right.result ≡ part_digest H leaves row (2 * (i / 2 ^ suc row) + 1) =
-    c.part-right.ensures ∙ ap (λ x. stored s row (x + 1)) two
+    let right : c.halves-left.result.1 ≡ part_digest H leaves row (2 * (i / 2 ^ suc row) + 1) =
+    c.halves-left.ensures.right
     ∙ c.loop-off.invariant.right.is row (2 * (off / 2) + 1) (InForest-right n row (off / 2) within) (λ low. absurd (omega (arith, low)))
     ∙ ap (λ x. part_digest H leaves row (2 * x + 1)) here in
-    halves_told H n leaves s i row c.part-left.result c.part-right.result c.joined-above.result (subst (λ x. InForest n (suc row) x) here within)
+    halves_told H n leaves s i row c.halves-left.result.0 c.halves-left.result.1 c.joined-above.result (subst (λ x. InForest n (suc row) x) here within)
     c.loop-off.invariant.right left right c.joined-above.ensures.is
 
 pub loop-off-preserved : goal.loop-off-preserved
@@ -59,15 +58,14 @@ loop-off-preserved g c =
     let within = up_within n row off c.loop-off-test.true in
     let e : suc row ≡ row + 1 = omega arith in
     let here : off / 2 ≡ i / 2 ^ suc row = omega (arith, c.loop-off.invariant.here, parts-suc i row) in
-    let two : off - off % 2 ≡ 2 * (off / 2) = omega arith in
-    let left : c.part-left.result ≡ part_digest H leaves row (2 * (off / 2)) = c.part-left.ensures ∙ ap (stored s row) two
+    let left : c.halves-left.result.0 ≡ part_digest H leaves row (2 * (off / 2)) = c.halves-left.ensures.left
     ∙ c.loop-off.invariant.right.is row (2 * (off / 2)) (InForest-left n row (off / 2) within) (λ low. absurd (omega (arith, low))) in
-    let right : c.part-right.result ≡ part_digest H leaves row (2 * (off / 2) + 1) =
-    c.part-right.ensures ∙ ap (λ x. stored s row (x + 1)) two
+    let right : c.halves-left.result.1 ≡ part_digest H leaves row (2 * (off / 2) + 1) =
+    c.halves-left.ensures.right
     ∙ c.loop-off.invariant.right.is row (2 * (off / 2) + 1) (InForest-right n row (off / 2) within) (λ low. absurd (omega (arith, low))) in
-    let digest = joined_right H leaves row (off / 2) c.part-left.result c.part-right.result c.joined-above.result left right
+    let digest = joined_right H leaves row (off / 2) c.halves-left.result.0 c.halves-left.result.1 c.joined-above.result left right
     c.joined-above.ensures.is in
-    let cost = cost_more H leaves i row (off / 2) c.part-left.result c.part-right.result c.args.steps.now c.loop-off.steps
+    let cost = cost_more H leaves i row (off / 2) c.halves-left.result.0 c.halves-left.result.1 c.args.steps.now c.loop-off.steps
     c.joined-above.new.steps here left right c.loop-off.invariant.cost c.joined-above.ensures.cost in
     let within' : InForest n (row + 1) (off / 2) = subst (λ x. InForest n x (off / 2)) e within in
     record {

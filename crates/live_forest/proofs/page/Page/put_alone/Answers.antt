@@ -1,12 +1,14 @@
 use Rattle.std.proofs.Common.{◌≡◌, ◌+◌, ◌*◌, ◌/◌, ◌^◌, suc, sym, ap, ◌∙◌, subst, arith}
 use Rattle.std.proofs.lemmas.Bool.{true≢false}
+use Rattle.live_forest.specs.Sets.{is_bit}
 use Rattle.live_forest.specs.Pages.{PageState, IsOfHalves, told}
 use Rattle.live_forest.proofs.Telling.{page_within, above_is, part_stays, alone_halves, side_within}
 use Rattle.live_forest.proofs.page.Page.put_alone.Goals as goal
 
-pub is_branch-requires-clause-within : goal.is_branch-requires-clause-within
-is_branch-requires-clause-within c =
-    rw (above_is c.args.number c.args.row) (page_within c.args.number (suc c.args.row) c.requires.number (omega (arith, c.requires.row)))
+pub is_branch-requires-clause-listed : goal.is_branch-requires-clause-listed
+is_branch-requires-clause-listed c =
+    let p : PageState = record { listed = c.self.inside.listed; live = c.self.inside.live; cells = c.self.inside.cells.items } in
+    ap (λ x. is_bit x.listed c.args.number) c.self.view_is ∙ c.requires.listed
 
 pub returns-then-not-is_branch-clause-put : goal.returns-then-not-is_branch-clause-put
 returns-then-not-is_branch-clause-put c =
@@ -15,7 +17,7 @@ returns-then-not-is_branch-clause-put c =
     let other = rw (← c.self.view_is) at c.requires.other in
     rw (← c.self.view_is)
     (part_stays p c.args.row c.args.number (told p c.args.row (2 * off + c.args.side)) c.self.invariant c.requires.row
-    (λ b. true≢false (sym (c.is_branch.ensures.1 (rw (above_is c.args.number c.args.row) b)) ∙ c.if-not-is_branch.true))
+    (λ b. true≢false (sym (c.is_branch.ensures.1 b) ∙ c.if-not-is_branch.true))
     (alone_halves (told p c.args.row) (2 * off) c.args.side c.requires.side other))
 
 pub part-requires-clause-within : goal.part-requires-clause-within

@@ -9,9 +9,10 @@ use Rattle.live_forest.proofs.Ranks.{part_with}
 use Rattle.live_forest.proofs.Telling.{listed_few, page_within, above_is, part_written, part_stays, part_empty, own_live}
 use Rattle.live_forest.proofs.page.Page.put_part.Goals as goal
 
-pub is_branch-requires-clause-within : goal.is_branch-requires-clause-within
-is_branch-requires-clause-within c =
-    rw (above_is c.args.number c.args.row) (page_within c.args.number (suc c.args.row) c.requires.number (omega (arith, c.requires.row)))
+pub is_branch-requires-clause-listed : goal.is_branch-requires-clause-listed
+is_branch-requires-clause-listed c =
+    let p : PageState = record { listed = c.self.inside.listed; live = c.self.inside.live; cells = c.self.inside.cells.items } in
+    ap (λ x. is_bit x.listed c.args.number) c.self.view_is ∙ c.requires.listed
 
 pub returns-then-not-is_branch-clause-put : goal.returns-then-not-is_branch-clause-put
 returns-then-not-is_branch-clause-put c =
@@ -19,7 +20,7 @@ returns-then-not-is_branch-clause-put c =
     let halves = rw (← c.self.view_is) at c.requires.halves in
     rw (← c.self.view_is)
     (part_stays p c.args.row c.args.number c.args.own c.self.invariant c.requires.row
-    (λ b. true≢false (sym (c.is_branch.ensures.1 (rw (above_is c.args.number c.args.row) b)) ∙ c.if-not-is_branch.true)) halves)
+    (λ b. true≢false (sym (c.is_branch.ensures.1 b) ∙ c.if-not-is_branch.true)) halves)
 
 pub returns-in_default-clause-put : goal.returns-in_default-clause-put
 returns-in_default-clause-put c =
@@ -56,7 +57,7 @@ returns-clause-put c =
     let row = c.args.row in
     let off = c.args.number / 2 ^ suc row in
     let listed : s c.args.number ≡ true = ap (λ x. is_bit x.listed c.args.number) c.self.view_is ∙ c.requires.listed in
-    let b : IsBranch s row off = rw (above_is c.args.number row) at (c.is_branch.ensures.0 c.if-not-is_branch.false) in
+    let b : IsBranch s row off = c.is_branch.ensures.0 c.if-not-is_branch.false in
     let up : row + 1 ≡ suc row = omega arith in
     let at = c.spot_of.ensures ∙ ap (λ r. spot s r (c.args.number / 2 ^ r)) up in
     let put = subst (λ x. IsPut p.cells c.put.new.cells.items x c.in-Some.digest) at c.put.ensures in
