@@ -195,10 +195,7 @@ impl Store {
             let rows = PAGE_ROW - 1 - row;
             self.pages[(off >> rows) as usize].halves(row, off % (1 << rows))
         } else {
-            (
-                self.part(n, row, 2 * off),
-                self.part(n, row, 2 * off + 1),
-            )
+            (self.part(n, row, 2 * off), self.part(n, row, 2 * off + 1))
         }
     }
 

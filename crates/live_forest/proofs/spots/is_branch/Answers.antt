@@ -23,11 +23,11 @@ returns c =
     let up = parts-suc c.args.number row in
     let at = ap (has_part s row) c.sibling.ensures.off in (
       (λ yes.
-      subst (IsBranch s row) (sym up)
-      (branch_of s row half (part_with s c.args.number row c.requires.listed) (sym at ∙ sym c.has_some.ensures ∙ yes))),
+          subst (IsBranch s row) (sym up)
+          (branch_of s row half (part_with s c.args.number row c.requires.listed) (sym at ∙ sym c.has_some.ensures ∙ yes))),
       (λ b.
-      c.has_some.ensures ∙ at ∙ ⊎_elim
-      (λ even. ap (has_part s row) (let z : sibling_off half ≡ 2 * (c.args.number / 2 ^ suc row) + 1 = omega (arith, up, even) in z) ∙ b.right)
-      (λ odd. ap (has_part s row) (let z : sibling_off half ≡ 2 * (c.args.number / 2 ^ suc row) = omega (arith, up, odd) in z) ∙ b.left)
-      (sibling_cases half)),
+          c.has_some.ensures ∙ at ∙ ⊎_elim
+          (λ even. ap (has_part s row) (let z : sibling_off half ≡ 2 * (c.args.number / 2 ^ suc row) + 1 = omega (arith, up, even) in z) ∙ b.right)
+          (λ odd. ap (has_part s row) (let z : sibling_off half ≡ 2 * (c.args.number / 2 ^ suc row) = omega (arith, up, odd) in z) ∙ b.left)
+          (sibling_cases half)),
     )
