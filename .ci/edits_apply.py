@@ -1,4 +1,5 @@
-"""Looks whether each named must-fail edit can be applied: each `old:` text stands once in the file that is named above it, and has its `new:` text."""
+"""Looks whether each named must-fail edit can be applied: each `old:` text stands once in the file that is named above it, and has its `new:`
+text."""
 import pathlib
 import sys
 

@@ -87,7 +87,8 @@ def main():
     sha256 = sha256_blocks(65) + sha256_blocks(payment) + sha256_blocks(80) + sha256_blocks(64)
     message = 2 + compact_length(spends) + 54 * spends + compact_length(hashes // blocks) + 32 * hashes / blocks
     bound = spends + 2 * spends * rows + 2 * added + 40
-    print(f"{entries},{spends},{blocks},{rows},{hashes / blocks:.2f},{calls / blocks:.2f},{bound},{sha512:.2f},{sha256},{message:.0f},{81 + 65 + payment}")
+    counts = f"{hashes / blocks:.2f},{calls / blocks:.2f},{bound},{sha512:.2f},{sha256}"
+    print(f"{entries},{spends},{blocks},{rows},{counts},{message:.0f},{81 + 65 + payment}")
 
 
 main()

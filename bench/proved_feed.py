@@ -242,7 +242,8 @@ class Chain:
         """Writes the frame of a block of a coinbase and of payments, each a pair of what it spends and the amounts that it makes."""
         txs = [coinbase(self.height(), claims)] + [payment(spent, amounts) for spent, amounts in payments]
         ids = [sha256d(tx) for tx in txs]
-        header = struct.pack("<I", 1) + self.tip() + merkle(ids) + struct.pack("<I", 1231006505 + self.height()) + bytes.fromhex("ffff001d") + bytes(4)
+        time = struct.pack("<I", 1231006505 + self.height())
+        header = struct.pack("<I", 1) + self.tip() + merkle(ids) + time + bytes.fromhex("ffff001d") + bytes(4)
         self.out.write(frame(MAGIC, header + compact(len(txs)) + b"".join(txs)))
         self.hashed += sum(blocks_of(len(tx)) for tx in txs) + blocks_of(80) + blocks_of(64) * pairs(len(txs))
         return sha256d(header), ids

@@ -1,5 +1,6 @@
 #!/usr/bin/env python3
-"""Writes a feed of one block again and again, with a witness in each transaction and the coinbase's commitment to all: witness_feed.py NET TRANSACTIONS TIMES.
+"""Writes a feed of one block again and again, with a witness in each transaction and the coinbase's commitment to all:
+witness_feed.py NET TRANSACTIONS TIMES.
 
 The block is the first of its chain, and is refused for want of a proof, behind all rules on the block alone. On regtest these ask for the
 commitment, on mainnet they do not at this height: the difference is what the rule takes.
