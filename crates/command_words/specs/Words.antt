@@ -1,13 +1,17 @@
 -- The words of the command line: which are accepted, what they ask for, and where others go wrong.
-use Rattle.std.specs.Prelude.{◌≡◌, ℕ, ◌+◌, ◌<◌, ◌≤◌, ◌-◌, ◌^◌, Bool, true, List, [], ◌∷◌, ◌++◌, length, take, Option, Some, None, Result, Ok, Err}
+use Rattle.std.specs.Prelude.{◌≡◌, ℕ, ◌+◌, ◌<◌, ◌≤◌, ◌-◌, ◌^◌, Bool, true, List, [], ◌∷◌, ◌++◌, length, take, map, Option, Some, None, Result, Ok, Err}
 use Rattle.std.specs.Prelude.{codes, decimal, bytes_eq, is_some, option_map, option_copied, unwrap_or, if◌then◌else◌}
 use Rattle.std.specs.List.{list_any}
+use Rattle.std.specs.String.{string_bytes}
 use Rattle.uo_base.specs.declared.event.Net.{Net}
 use Rattle.uo_base.specs.declared.event.Net.TheVariants.{Main}
 use Rattle.command_words.specs.declared.options.OptionName.{OptionName}
 use Rattle.command_words.specs.declared.options.OptionName.TheVariants as Name
 use Rattle.command_words.specs.declared.options.FromRule.{FromRule}
 use Rattle.command_words.specs.declared.options.FromRule.TheVariants.{Alone, Beside}
+use Rattle.command_words.specs.declared.fronts.Front.{Front}
+use Rattle.command_words.specs.declared.fronts.Front.TheVariants as Front
+use Rattle.command_words.specs.declared.fronts.Parted.{Parted}
 use Rattle.command_words.specs.declared.words.Command.{Command}
 use Rattle.command_words.specs.declared.words.Command.TheVariants.{Follow, Prove, Audit, Gen, UpgradeFeed, UpgradeState, Order, Ticket, Check}
 use Rattle.command_words.specs.declared.words.Command.TheVariants.{Recheck, Relay}
@@ -173,6 +177,10 @@ read_for task end (Err fault) = Err fault
 abbrev pub options_for : Task → (at : ℕ) → List (List ℕ) → Result Asked WordFault
 options_for task at words = read_for task (at + length words) (settings_from (rule_of task) (options_of task) at nothing words)
 
+-- those behind its front
+abbrev pub options_at : Task → List (List ℕ) → Result Asked WordFault
+options_at task words = options_for task (length (front_of task)) words
+
 -- the words behind `gen` and its number
 unfoldable pub blocks_for : (number : ℕ) → List (List ℕ) → Result Asked WordFault
 blocks_for number [] = refused_at 2
@@ -221,6 +229,24 @@ command_of (name ∷ rest) =
     else refused_at 0
 
 -- ---- as the program holds them
+
+abbrev pub task_of : Front → Task
+task_of Front.Follow = Following
+task_of Front.Prove = Proving
+task_of Front.Audit = Auditing
+task_of (Front.Gen number blocks) = Generating number blocks
+task_of Front.UpgradeFeed = UpgradingFeed
+task_of Front.UpgradeState = UpgradingState
+task_of (Front.Order tip) = Ordering tip.now
+task_of (Front.Ticket number) = Ticketing number
+task_of Front.Check = Checking
+task_of Front.Recheck = Rechecking
+task_of (Front.Relay followers) = Relaying followers
+
+-- what is asked for where the words are parted so
+abbrev pub parted_as : Result Parted WordFault → Result Asked WordFault
+parted_as (Ok parted) = options_at (task_of parted.front) (map string_bytes parted.rest.now)
+parted_as (Err fault) = Err fault
 
 abbrev pub task_in : Command → Task
 task_in (Follow net feed from to watch) = Following

@@ -1,13 +1,13 @@
 //! The words of the command line.
-ghost use Rattle.std.specs.Prelude.{◌≡◌, ◌<◌, ◌^◌, map, length, All, IfOk};
+ghost use Rattle.std.specs.Prelude.{◌≡◌, ◌<◌, map, length, All, IfOk, Ok, option_copied};
 ghost use Rattle.std.specs.String.{string_bytes};
 ghost use Rattle.command_words.specs.Options.{settings_in};
-ghost use Rattle.command_words.specs.Words.{read_as, blocks_for, gen_for, upgrade_for, one_word_for, order_at, ticket_at, relay_at, Checking};
-ghost use Rattle.command_words.specs.Words.{Rechecking, options_for, command_of, reads_feed, task_in, given_in, Means};
+ghost use Rattle.command_words.specs.Words.{read_as, Following, Proving, Auditing, Generating, UpgradingFeed, UpgradingState, Ordering, Ticketing};
+ghost use Rattle.command_words.specs.Words.{Checking, Rechecking, Relaying, asked_by, read_for, options_at, task_of, command_of, reads_feed, task_in};
+ghost use Rattle.command_words.specs.Words.{given_in, Means};
 
-use crate::hashes::is_hash_word;
-use crate::numbers::{number_in, positive_in};
-use crate::options::{FromRule, OptionName, Options, read_options};
+use crate::fronts::{Front, Parted, front_in};
+use crate::options::{Options, read_options};
 use uo_base::Net;
 
 /// What the words ask for.
@@ -143,90 +143,86 @@ impl<'a> Command<'a> {
     pub fn settings(&self) -> Options<'a>
         ensures { settings_in result ≡ given_in self.now }
     {
+        Options {
+            net: self.net(),
+            feed: self.feed(),
+            from: self.from(),
+            to: self.to(),
+            watch: self.watch(),
+        }
+    }
+
+    fn net(&self) -> Option<Net>
+        ensures { result ≡ (given_in self.now).net }
+    {
         match *self {
-            Command::Follow {
-                net,
-                feed,
-                from,
-                to,
-                watch,
-            } => Options {
-                net,
-                feed,
-                from,
-                to,
-                watch,
-            },
-            Command::Prove {
-                net,
-                feed,
-                to,
-                watch,
-            }
-            | Command::UpgradeFeed {
-                net,
-                feed,
-                to,
-                watch,
-            } => Options {
-                net: Some(net),
-                feed,
-                to,
-                watch,
-                ..Options::none()
-            },
-            Command::Audit { net, feed, watch } => Options {
-                net: Some(net),
-                feed,
-                watch,
-                ..Options::none()
-            },
-            Command::Gen { net, to, .. } => Options {
-                net: Some(net),
-                to,
-                ..Options::none()
-            },
-            Command::UpgradeState { from, to } | Command::Ticket { from, to, .. } => Options {
-                from: Some(from),
-                to,
-                ..Options::none()
-            },
-            Command::Order { net, feed, to, .. } => Options {
-                net: Some(net),
-                feed,
-                to,
-                ..Options::none()
-            },
-            Command::Check { from, feed } => Options {
-                feed,
-                from: Some(from),
-                ..Options::none()
-            },
-            Command::Recheck {
-                net,
-                from,
-                feed,
-                watch,
-            } => Options {
-                net: Some(net),
-                feed,
-                from: Some(from),
-                watch,
-                ..Options::none()
-            },
-            Command::Relay {
-                net,
-                feed,
-                from,
-                watch,
-                ..
-            } => Options {
-                net: Some(net),
-                feed,
-                from,
-                watch,
-                ..Options::none()
-            },
+            Command::Follow { net, .. } => net,
+            Command::Prove { net, .. }
+            | Command::Audit { net, .. }
+            | Command::Gen { net, .. }
+            | Command::UpgradeFeed { net, .. }
+            | Command::Order { net, .. }
+            | Command::Recheck { net, .. }
+            | Command::Relay { net, .. } => Some(net),
+            Command::UpgradeState { .. } | Command::Ticket { .. } | Command::Check { .. } => None,
+        }
+    }
+
+    fn feed(&self) -> Option<&'a str>
+        ensures { option_copied result ≡ (given_in self.now).feed }
+    {
+        match *self {
+            Command::Follow { feed, .. }
+            | Command::Prove { feed, .. }
+            | Command::Audit { feed, .. }
+            | Command::UpgradeFeed { feed, .. }
+            | Command::Order { feed, .. }
+            | Command::Check { feed, .. }
+            | Command::Recheck { feed, .. }
+            | Command::Relay { feed, .. } => feed,
+            _ => None,
+        }
+    }
+
+    fn from(&self) -> Option<&'a str>
+        ensures { option_copied result ≡ (given_in self.now).from }
+    {
+        match *self {
+            Command::Follow { from, .. } | Command::Relay { from, .. } => from,
+            Command::UpgradeState { from, .. }
+            | Command::Ticket { from, .. }
+            | Command::Check { from, .. }
+            | Command::Recheck { from, .. } => Some(from),
+            _ => None,
+        }
+    }
+
+    fn to(&self) -> Option<&'a str>
+        ensures { option_copied result ≡ (given_in self.now).to }
+    {
+        match *self {
+            Command::Follow { to, .. }
+            | Command::Prove { to, .. }
+            | Command::Gen { to, .. }
+            | Command::UpgradeFeed { to, .. }
+            | Command::UpgradeState { to, .. }
+            | Command::Order { to, .. }
+            | Command::Ticket { to, .. } => to,
+            _ => None,
+        }
+    }
+
+    fn watch(&self) -> Option<&'a str>
+        ensures { option_copied result ≡ (given_in self.now).watch }
+    {
+        match *self {
+            Command::Follow { watch, .. }
+            | Command::Prove { watch, .. }
+            | Command::Audit { watch, .. }
+            | Command::UpgradeFeed { watch, .. }
+            | Command::Recheck { watch, .. }
+            | Command::Relay { watch, .. } => watch,
+            _ => None,
         }
     }
 }
@@ -238,60 +234,6 @@ pub struct WordFault {
     /// bad word, or the count of words where one is missing.
     pub at: u64,
 }
-
-const FOLLOW: [OptionName; 5] = [
-    OptionName::Net,
-    OptionName::Feed,
-    OptionName::From,
-    OptionName::To,
-    OptionName::Watch,
-];
-
-const PROVE: [OptionName; 4] = [
-    OptionName::Net,
-    OptionName::Feed,
-    OptionName::To,
-    OptionName::Watch,
-];
-
-const AUDIT: [OptionName; 3] = [OptionName::Net, OptionName::Feed, OptionName::Watch];
-
-const GEN: [OptionName; 2] = [OptionName::Net, OptionName::To];
-
-const UPGRADE_FEED: [OptionName; 4] = [
-    OptionName::Net,
-    OptionName::Feed,
-    OptionName::To,
-    OptionName::Watch,
-];
-
-const UPGRADE_STATE: [OptionName; 2] = [OptionName::From, OptionName::To];
-
-const ORDER: [OptionName; 3] = [OptionName::Net, OptionName::Feed, OptionName::To];
-
-const TICKET: [OptionName; 2] = [OptionName::From, OptionName::To];
-
-const CHECK: [OptionName; 2] = [OptionName::Feed, OptionName::From];
-
-const RECHECK: [OptionName; 4] = [
-    OptionName::Net,
-    OptionName::Feed,
-    OptionName::From,
-    OptionName::Watch,
-];
-
-const RELAY: [OptionName; 4] = [
-    OptionName::Net,
-    OptionName::Feed,
-    OptionName::From,
-    OptionName::Watch,
-];
-
-/// The most blocks that a generated feed has.
-const MOST_BLOCKS: u64 = 100_000;
-
-/// The most followers that a relay has.
-const MOST_FOLLOWERS: u64 = 100;
 
 /// Reads the words of the command line, those behind the program's name.
 ///
@@ -305,148 +247,131 @@ pub fn read_words(words: &[String]) -> Result<Command<'_>, WordFault>
     command_in(words)
 }
 
-#[tactic(auto, unfolding(crate::specs::Words::command_of))]
+// What the words say: those in front of the options, and the options.
 fn command_in(words: &[String]) -> Result<Command<'_>, WordFault>
     ensures { read_as result ≡ command_of (map string_bytes words.now) }
 {
-    let [name, rest @ ..] = words else {
-        return Err(WordFault { at: 0 });
-    };
-    match name.as_str() {
-        "follow" => {
-            let given = read_options(FromRule::Alone, &FOLLOW, 1, Options::none(), rest)?;
-            Ok(Command::Follow {
-                net: given.net,
-                feed: given.feed,
-                from: given.from,
-                to: given.to,
-                watch: given.watch,
-            })
-        }
-        "prove" => {
-            let given = read_options(FromRule::Beside, &PROVE, 1, Options::none(), rest)?;
-            Ok(Command::Prove {
-                net: given.net.unwrap_or(Net::Main),
-                feed: given.feed,
-                to: given.to,
-                watch: given.watch,
-            })
-        }
-        "audit" => {
-            let given = read_options(FromRule::Beside, &AUDIT, 1, Options::none(), rest)?;
-            Ok(Command::Audit {
-                net: given.net.unwrap_or(Net::Main),
-                feed: given.feed,
-                watch: given.watch,
-            })
-        }
-        "gen" => gen_in(rest),
-        "upgrade" => upgrade_in(rest),
-        "order" => order_in(rest),
-        "ticket" => ticket_in(rest),
-        "check" => check_in(rest),
-        "recheck" => recheck_in(rest),
-        "relay" => relay_in(rest),
-        _ => Err(WordFault { at: 0 }),
+    match front_in(words) {
+        Ok(Parted { front, rest }) => command_behind(front, rest),
+        Err(fault) => Err(fault),
     }
 }
 
-// The words behind `gen`.
-#[tactic(auto, unfolding(crate::specs::Words::gen_for))]
-fn gen_in(words: &[String]) -> Result<Command<'_>, WordFault>
-    requires { length words.now < 2 ^ 62 }
-    ensures { read_as result ≡ gen_for (map string_bytes words.now) }
+// A command with these words as its options.
+fn command_behind<'a>(front: Front<'a>, words: &'a [String]) -> Result<Command<'a>, WordFault>
+    ensures { read_as result ≡ options_at (task_of front.entry) (map string_bytes words.now) }
 {
-    let [number, rest @ ..] = words else {
-        return Err(WordFault { at: 1 });
-    };
-    let number = number_in(u64::MAX, number.as_str()).ok_or(WordFault { at: 1 })?;
-    blocks_in(number, rest)
+    let at = front.count();
+    match read_options(front.rule(), front.options(), at, Options::none(), words) {
+        Ok(given) => command_with(front, given, at + words.len() as u64),
+        Err(fault) => Err(fault),
+    }
 }
 
-// The words behind `gen` and its number.
-#[tactic(auto, unfolding(crate::specs::Words::blocks_for))]
-fn blocks_in(number: u64, words: &[String]) -> Result<Command<'_>, WordFault>
-    requires { length words.now < 2 ^ 62 }
-    ensures { read_as result ≡ blocks_for number (map string_bytes words.now) }
+// A command with what its options say, which end at this index.
+fn command_with<'a>(
+    front: Front<'a>,
+    given: Options<'a>,
+    end: u64,
+) -> Result<Command<'a>, WordFault>
+    ensures { read_as result ≡ read_for (task_of front.entry) end (Ok (settings_in given.entry)) }
 {
-    let [blocks, rest @ ..] = words else {
-        return Err(WordFault { at: 2 });
-    };
-    let blocks = number_in(MOST_BLOCKS, blocks.as_str()).ok_or(WordFault { at: 2 })?;
-    let given = read_options(FromRule::Beside, &GEN, 3, Options::none(), rest)?;
+    match front {
+        Front::Follow => follow_with(given),
+        Front::Prove => prove_with(given),
+        Front::Audit => audit_with(given),
+        Front::Gen { number, blocks } => gen_with(number, blocks, given),
+        Front::UpgradeFeed => upgrade_feed_with(given),
+        Front::UpgradeState => upgrade_state_with(given, end),
+        Front::Order { tip } => order_with(tip, given),
+        Front::Ticket { number } => ticket_with(number, given, end),
+        Front::Check => check_with(given, end),
+        Front::Recheck => recheck_with(given, end),
+        Front::Relay { followers } => relay_with(followers, given),
+    }
+}
+
+fn follow_with(given: Options<'_>) -> Result<Command<'_>, WordFault>
+    ensures { read_as result ≡ Ok (asked_by Following (settings_in given.entry)) }
+{
+    Ok(Command::Follow {
+        net: given.net,
+        feed: given.feed,
+        from: given.from,
+        to: given.to,
+        watch: given.watch,
+    })
+}
+
+fn prove_with(given: Options<'_>) -> Result<Command<'_>, WordFault>
+    ensures { read_as result ≡ Ok (asked_by Proving (settings_in given.entry)) }
+{
+    Ok(Command::Prove {
+        net: given.net.unwrap_or(Net::Main),
+        feed: given.feed,
+        to: given.to,
+        watch: given.watch,
+    })
+}
+
+fn audit_with(given: Options<'_>) -> Result<Command<'_>, WordFault>
+    ensures { read_as result ≡ Ok (asked_by Auditing (settings_in given.entry)) }
+{
+    Ok(Command::Audit {
+        net: given.net.unwrap_or(Net::Main),
+        feed: given.feed,
+        watch: given.watch,
+    })
+}
+
+fn gen_with(number: u64, blocks: u32, given: Options<'_>) -> Result<Command<'_>, WordFault>
+    ensures { read_as result ≡ Ok (asked_by (Generating number blocks) (settings_in given.entry)) }
+{
     Ok(Command::Gen {
         net: given.net.unwrap_or(Net::Main),
         number,
-        blocks: blocks as u32,
+        blocks,
         to: given.to,
     })
 }
 
-// The words behind `upgrade`.
-#[tactic(auto, unfolding(crate::specs::Words::upgrade_for))]
-fn upgrade_in(words: &[String]) -> Result<Command<'_>, WordFault>
-    requires { length words.now < 2 ^ 62 }
-    ensures { read_as result ≡ upgrade_for (map string_bytes words.now) }
+fn upgrade_feed_with(given: Options<'_>) -> Result<Command<'_>, WordFault>
+    ensures { read_as result ≡ Ok (asked_by UpgradingFeed (settings_in given.entry)) }
 {
-    let [name, rest @ ..] = words else {
-        return Err(WordFault { at: 1 });
-    };
-    match name.as_str() {
-        "feed" => {
-            let given = read_options(FromRule::Beside, &UPGRADE_FEED, 2, Options::none(), rest)?;
-            Ok(Command::UpgradeFeed {
-                net: given.net.unwrap_or(Net::Main),
-                feed: given.feed,
-                to: given.to,
-                watch: given.watch,
-            })
-        }
-        "state" => {
-            let given = read_options(FromRule::Beside, &UPGRADE_STATE, 2, Options::none(), rest)?;
-            let end = 2 + rest.len() as u64;
-            let from = given.from.ok_or(WordFault { at: end })?;
-            Ok(Command::UpgradeState { from, to: given.to })
-        }
-        _ => Err(WordFault { at: 1 }),
-    }
+    Ok(Command::UpgradeFeed {
+        net: given.net.unwrap_or(Net::Main),
+        feed: given.feed,
+        to: given.to,
+        watch: given.watch,
+    })
 }
 
-// The words behind `order`.
-#[tactic(auto, unfolding(crate::specs::Words::one_word_for))]
-fn order_in(words: &[String]) -> Result<Command<'_>, WordFault>
-    requires { length words.now < 2 ^ 62 }
-    ensures { read_as result ≡ one_word_for order_at (map string_bytes words.now) }
+fn upgrade_state_with(given: Options<'_>, end: u64) -> Result<Command<'_>, WordFault>
+    ensures { read_as result ≡ read_for UpgradingState end (Ok (settings_in given.entry)) }
 {
-    let [tip, rest @ ..] = words else {
-        return Err(WordFault { at: 1 });
+    let Some(from) = given.from else {
+        return Err(WordFault { at: end });
     };
-    if !is_hash_word(tip.as_bytes()) {
-        return Err(WordFault { at: 1 });
-    }
-    let given = read_options(FromRule::Beside, &ORDER, 2, Options::none(), rest)?;
+    Ok(Command::UpgradeState { from, to: given.to })
+}
+
+fn order_with<'a>(tip: &'a str, given: Options<'a>) -> Result<Command<'a>, WordFault>
+    ensures { read_as result ≡ Ok (asked_by (Ordering tip.now) (settings_in given.entry)) }
+{
     Ok(Command::Order {
         net: given.net.unwrap_or(Net::Main),
-        tip: tip.as_str(),
+        tip,
         feed: given.feed,
         to: given.to,
     })
 }
 
-// The words behind `ticket`.
-#[tactic(auto, unfolding(crate::specs::Words::one_word_for))]
-fn ticket_in(words: &[String]) -> Result<Command<'_>, WordFault>
-    requires { length words.now < 2 ^ 62 }
-    ensures { read_as result ≡ one_word_for ticket_at (map string_bytes words.now) }
+fn ticket_with(number: u64, given: Options<'_>, end: u64) -> Result<Command<'_>, WordFault>
+    ensures { read_as result ≡ read_for (Ticketing number) end (Ok (settings_in given.entry)) }
 {
-    let [number, rest @ ..] = words else {
-        return Err(WordFault { at: 1 });
+    let Some(from) = given.from else {
+        return Err(WordFault { at: end });
     };
-    let number = number_in(u64::MAX, number.as_str()).ok_or(WordFault { at: 1 })?;
-    let given = read_options(FromRule::Beside, &TICKET, 2, Options::none(), rest)?;
-    let from = given.from.ok_or(WordFault {
-        at: 2 + rest.len() as u64,
-    })?;
     Ok(Command::Ticket {
         number,
         from,
@@ -454,30 +379,24 @@ fn ticket_in(words: &[String]) -> Result<Command<'_>, WordFault>
     })
 }
 
-// The words behind `check`.
-fn check_in(words: &[String]) -> Result<Command<'_>, WordFault>
-    requires { length words.now < 2 ^ 62 }
-    ensures { read_as result ≡ options_for Checking 1 (map string_bytes words.now) }
+fn check_with(given: Options<'_>, end: u64) -> Result<Command<'_>, WordFault>
+    ensures { read_as result ≡ read_for Checking end (Ok (settings_in given.entry)) }
 {
-    let given = read_options(FromRule::Beside, &CHECK, 1, Options::none(), words)?;
-    let from = given.from.ok_or(WordFault {
-        at: 1 + words.len() as u64,
-    })?;
+    let Some(from) = given.from else {
+        return Err(WordFault { at: end });
+    };
     Ok(Command::Check {
         from,
         feed: given.feed,
     })
 }
 
-// The words behind `recheck`.
-fn recheck_in(words: &[String]) -> Result<Command<'_>, WordFault>
-    requires { length words.now < 2 ^ 62 }
-    ensures { read_as result ≡ options_for Rechecking 1 (map string_bytes words.now) }
+fn recheck_with(given: Options<'_>, end: u64) -> Result<Command<'_>, WordFault>
+    ensures { read_as result ≡ read_for Rechecking end (Ok (settings_in given.entry)) }
 {
-    let given = read_options(FromRule::Beside, &RECHECK, 1, Options::none(), words)?;
-    let from = given.from.ok_or(WordFault {
-        at: 1 + words.len() as u64,
-    })?;
+    let Some(from) = given.from else {
+        return Err(WordFault { at: end });
+    };
     Ok(Command::Recheck {
         net: given.net.unwrap_or(Net::Main),
         from,
@@ -486,20 +405,12 @@ fn recheck_in(words: &[String]) -> Result<Command<'_>, WordFault>
     })
 }
 
-// The words behind `relay`.
-#[tactic(auto, unfolding(crate::specs::Words::one_word_for))]
-fn relay_in(words: &[String]) -> Result<Command<'_>, WordFault>
-    requires { length words.now < 2 ^ 62 }
-    ensures { read_as result ≡ one_word_for relay_at (map string_bytes words.now) }
+fn relay_with(followers: u32, given: Options<'_>) -> Result<Command<'_>, WordFault>
+    ensures { read_as result ≡ Ok (asked_by (Relaying followers) (settings_in given.entry)) }
 {
-    let [followers, rest @ ..] = words else {
-        return Err(WordFault { at: 1 });
-    };
-    let followers = positive_in(MOST_FOLLOWERS, followers.as_str()).ok_or(WordFault { at: 1 })?;
-    let given = read_options(FromRule::Beside, &RELAY, 2, Options::none(), rest)?;
     Ok(Command::Relay {
         net: given.net.unwrap_or(Net::Main),
-        followers: followers as u32,
+        followers,
         feed: given.feed,
         from: given.from,
         watch: given.watch,
