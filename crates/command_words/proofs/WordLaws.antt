@@ -1,7 +1,7 @@
 -- What is read out of words is what they mean.
 use Rattle.std.proofs.Common.{◌≡◌, ℕ, suc, ◌+◌, ◌-◌, ◌<◌, ◌≤◌, ◌^◌, Bool, true, false, List, [], ◌∷◌, ◌++◌, length, take, take_all, replicate, Option}
 use Rattle.std.proofs.Common.{Some, None, option_map, Result, Ok, Err, codes, decimal, bytes_eq, refl, sym, ap, subst, ◌∙◌, arith, if◌then◌else◌}
-use Rattle.std.proofs.Common.{length-append, append-nil, append_assoc}
+use Rattle.std.proofs.Common.{length-append, append-nil, append_assoc, map, get_or, drop, ap₂}
 use Rattle.std.proofs.lemmas.Grind.{flat_map-append}
 use Rattle.std.specs.Cmp.Lexicographic.{same_text}
 use Rattle.command_words.specs.declared.words.WordFault.{WordFault}
@@ -417,3 +417,11 @@ means words = means_by words _ refl (reads words)
 -- what a command takes is in range
 pub in_range : (words : List (List ℕ)) (asked : Asked) → Means words (Ok asked) → IsInRange asked.task
 in_range words asked m = subst IsInRange (sym (ap (λ a. a.task) m.0.is)) m.0.in_range
+
+-- the first word alone decides what is read behind it
+pub by_first : {A : Type 0} (f : A → List ℕ) (xs : List A) (d : A) (name : List ℕ) → 1 ≤ length xs → f (get_or xs 0 d) ≡ name
+    → command_of (map f xs) ≡ command_of (name ∷ map f (take (length xs - 1) (drop 1 xs)))
+by_first f [] d name long e = absurd (omega (arith, long))
+by_first f (x ∷ xs) d name long e =
+    let same : length (x ∷ xs) - 1 ≡ length xs = omega arith in
+    ap₂ (λ word rest. command_of (word ∷ map f rest)) e (sym (ap (λ n. take n xs) same ∙ take_all (length xs) xs (omega arith)))

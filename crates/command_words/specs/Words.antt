@@ -10,7 +10,6 @@ use Rattle.command_words.specs.declared.options.OptionName.TheVariants as Name
 use Rattle.command_words.specs.declared.options.FromRule.{FromRule}
 use Rattle.command_words.specs.declared.options.FromRule.TheVariants.{Alone, Beside}
 use Rattle.command_words.specs.declared.fronts.Front.{Front}
-use Rattle.command_words.specs.declared.fronts.Front.TheVariants as Front
 use Rattle.command_words.specs.declared.fronts.Parted.{Parted}
 use Rattle.command_words.specs.declared.words.Command.{Command}
 use Rattle.command_words.specs.declared.words.Command.TheVariants.{Follow, Prove, Audit, Gen, UpgradeFeed, UpgradeState, Order, Ticket, Check}
@@ -180,6 +179,9 @@ options_for task at words = read_for task (at + length words) (settings_from (ru
 -- those behind its front
 abbrev pub options_at : Task → List (List ℕ) → Result Asked WordFault
 options_at task words = options_for task (length (front_of task)) words
+
+abbrev pub settings_at : Task → List (List ℕ) → Result Settings WordFault
+settings_at task words = settings_from (rule_of task) (options_of task) (length (front_of task)) nothing words
 
 -- the words behind `gen` and its number
 unfoldable pub blocks_for : (number : ℕ) → List (List ℕ) → Result Asked WordFault

@@ -2,7 +2,7 @@
 ghost use Rattle.std.specs.Prelude.{◌≡◌, ◌≤◌, map, length};
 ghost use Rattle.std.specs.String.{string_bytes};
 ghost use Rattle.command_words.specs.Words.{parted_as, blocks_for, gen_for, upgrade_for, one_word_for, order_at, ticket_at, relay_at, command_of};
-ghost use Rattle.command_words.specs.Words.{front_of, rule_of, options_of, task_of};
+ghost use Rattle.command_words.specs.Words.{front_of, rule_of, options_of, options_at, task_of};
 
 use crate::hashes::is_hash_word;
 use crate::numbers::{number_in, positive_in};
@@ -142,33 +142,25 @@ pub fn front_in(words: &[String]) -> Result<Parted<'_>, WordFault>
         return Err(WordFault { at: 0 });
     };
     match name.as_str() {
-        "follow" => Ok(Parted {
-            front: Front::Follow,
-            rest,
-        }),
-        "prove" => Ok(Parted {
-            front: Front::Prove,
-            rest,
-        }),
-        "audit" => Ok(Parted {
-            front: Front::Audit,
-            rest,
-        }),
+        "follow" => split(Front::Follow, rest),
+        "prove" => split(Front::Prove, rest),
+        "audit" => split(Front::Audit, rest),
         "gen" => behind_gen(rest),
         "upgrade" => behind_upgrade(rest),
         "order" => behind_order(rest),
         "ticket" => behind_ticket(rest),
-        "check" => Ok(Parted {
-            front: Front::Check,
-            rest,
-        }),
-        "recheck" => Ok(Parted {
-            front: Front::Recheck,
-            rest,
-        }),
+        "check" => split(Front::Check, rest),
+        "recheck" => split(Front::Recheck, rest),
         "relay" => behind_relay(rest),
         _ => Err(WordFault { at: 0 }),
     }
+}
+
+// This front, and these words behind it.
+fn split<'a>(front: Front<'a>, rest: &'a [String]) -> Result<Parted<'a>, WordFault>
+    ensures { parted_as result ≡ options_at (task_of front.entry) (map string_bytes rest.now) }
+{
+    Ok(Parted { front, rest })
 }
 
 // The words behind `gen`.
@@ -179,7 +171,9 @@ fn behind_gen(words: &[String]) -> Result<Parted<'_>, WordFault>
     let [number, rest @ ..] = words else {
         return Err(WordFault { at: 1 });
     };
-    let number = number_in(u64::MAX, number.as_str()).ok_or(WordFault { at: 1 })?;
+    let Some(number) = number_in(u64::MAX, number.as_str()) else {
+        return Err(WordFault { at: 1 });
+    };
     behind_number(number, rest)
 }
 
@@ -191,12 +185,14 @@ fn behind_number(number: u64, words: &[String]) -> Result<Parted<'_>, WordFault>
     let [blocks, rest @ ..] = words else {
         return Err(WordFault { at: 2 });
     };
-    let blocks = number_in(MOST_BLOCKS, blocks.as_str()).ok_or(WordFault { at: 2 })?;
+    let Some(blocks) = number_in(MOST_BLOCKS, blocks.as_str()) else {
+        return Err(WordFault { at: 2 });
+    };
     let front = Front::Gen {
         number,
         blocks: blocks as u32,
     };
-    Ok(Parted { front, rest })
+    split(front, rest)
 }
 
 // The words behind `upgrade`.
@@ -208,14 +204,8 @@ fn behind_upgrade(words: &[String]) -> Result<Parted<'_>, WordFault>
         return Err(WordFault { at: 1 });
     };
     match name.as_str() {
-        "feed" => Ok(Parted {
-            front: Front::UpgradeFeed,
-            rest,
-        }),
-        "state" => Ok(Parted {
-            front: Front::UpgradeState,
-            rest,
-        }),
+        "feed" => split(Front::UpgradeFeed, rest),
+        "state" => split(Front::UpgradeState, rest),
         _ => Err(WordFault { at: 1 }),
     }
 }
@@ -231,8 +221,7 @@ fn behind_order(words: &[String]) -> Result<Parted<'_>, WordFault>
     if !is_hash_word(tip.as_bytes()) {
         return Err(WordFault { at: 1 });
     }
-    let front = Front::Order { tip: tip.as_str() };
-    Ok(Parted { front, rest })
+    split(Front::Order { tip: tip.as_str() }, rest)
 }
 
 // The words behind `ticket`.
@@ -243,9 +232,10 @@ fn behind_ticket(words: &[String]) -> Result<Parted<'_>, WordFault>
     let [number, rest @ ..] = words else {
         return Err(WordFault { at: 1 });
     };
-    let number = number_in(u64::MAX, number.as_str()).ok_or(WordFault { at: 1 })?;
-    let front = Front::Ticket { number };
-    Ok(Parted { front, rest })
+    let Some(number) = number_in(u64::MAX, number.as_str()) else {
+        return Err(WordFault { at: 1 });
+    };
+    split(Front::Ticket { number }, rest)
 }
 
 // The words behind `relay`.
@@ -256,9 +246,11 @@ fn behind_relay(words: &[String]) -> Result<Parted<'_>, WordFault>
     let [followers, rest @ ..] = words else {
         return Err(WordFault { at: 1 });
     };
-    let followers = positive_in(MOST_FOLLOWERS, followers.as_str()).ok_or(WordFault { at: 1 })?;
+    let Some(followers) = positive_in(MOST_FOLLOWERS, followers.as_str()) else {
+        return Err(WordFault { at: 1 });
+    };
     let front = Front::Relay {
         followers: followers as u32,
     };
-    Ok(Parted { front, rest })
+    split(front, rest)
 }

@@ -1,9 +1,9 @@
 //! The words of the command line.
 ghost use Rattle.std.specs.Prelude.{◌≡◌, ◌<◌, map, length, All, IfOk, Ok, option_copied};
 ghost use Rattle.std.specs.String.{string_bytes};
-ghost use Rattle.command_words.specs.Options.{settings_in};
+ghost use Rattle.command_words.specs.Options.{settings_in, settings_read};
 ghost use Rattle.command_words.specs.Words.{read_as, Following, Proving, Auditing, Generating, UpgradingFeed, UpgradingState, Ordering, Ticketing};
-ghost use Rattle.command_words.specs.Words.{Checking, Rechecking, Relaying, asked_by, read_for, options_at, task_of, command_of, reads_feed, task_in};
+ghost use Rattle.command_words.specs.Words.{Checking, Rechecking, Relaying, asked_by, read_for, options_at, settings_at, task_of, command_of, reads_feed, task_in};
 ghost use Rattle.command_words.specs.Words.{given_in, Means};
 
 use crate::fronts::{Front, Parted, front_in};
@@ -261,11 +261,18 @@ fn command_in(words: &[String]) -> Result<Command<'_>, WordFault>
 fn command_behind<'a>(front: Front<'a>, words: &'a [String]) -> Result<Command<'a>, WordFault>
     ensures { read_as result ≡ options_at (task_of front.entry) (map string_bytes words.now) }
 {
-    let at = front.count();
-    match read_options(front.rule(), front.options(), at, Options::none(), words) {
-        Ok(given) => command_with(front, given, at + words.len() as u64),
+    match options_behind(&front, words) {
+        Ok(given) => command_with(front, given, front.count() + words.len() as u64),
         Err(fault) => Err(fault),
     }
+}
+
+// What these words say as options of a command.
+fn options_behind<'a>(front: &Front<'_>, words: &'a [String]) -> Result<Options<'a>, WordFault>
+    ensures { settings_read result ≡ settings_at (task_of front.now) (map string_bytes words.now) }
+{
+    let none = Options::none();
+    read_options(front.rule(), front.options(), front.count(), none, words)
 }
 
 // A command with what its options say, which end at this index.
