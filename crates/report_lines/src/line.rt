@@ -3,7 +3,7 @@ ghost use Rattle.std.specs.Prelude.{Some};
 
 use crate::hash_text::{HashText, PlainText};
 use crate::verdict::{ProofText, VerdictText};
-use crate::words::{put_one, put_two};
+use crate::words::{put_one, put_three, put_two};
 use block_rules::{ProofRefusal, Verdict};
 use std::fmt;
 use uo_digest::Digest;
@@ -210,14 +210,9 @@ impl fmt::Display for Line {
             Line::Verdict(verdict) => write!(f, "{}", VerdictText(verdict)),
             Line::End {
                 events,
-                tip: Some((height, hash)),
+                tip,
                 leaves,
-            } => write!(f, "end {events} {height} {} {leaves}", HashText(hash)),
-            Line::End {
-                events,
-                tip: None,
-                leaves,
-            } => write!(f, "end {events} - - {leaves}"),
+            } => put_three(f, "end ", events, &TipText(tip), leaves),
             Line::Words(at) => put_one(f, "words ", at),
             Line::FrameMagic { offset, found } => {
                 put_two(f, "frame magic ", offset, &PlainText(found))
@@ -239,7 +234,7 @@ impl fmt::Display for Line {
                 blocks,
                 rollbacks,
                 bytes,
-            } => write!(f, "generated {blocks} {rollbacks} {bytes}"),
+            } => put_three(f, "generated ", blocks, rollbacks, bytes),
             Line::UpgradedFeed { events, messages } => put_two(f, "upgraded ", events, messages),
             Line::UpgradedState(levels) => put_one(f, "upgraded state ", levels),
             Line::Ordered { blocks, passed } => put_two(f, "ordered ", blocks, passed),
@@ -252,7 +247,7 @@ impl fmt::Display for Line {
                 txid,
                 index,
                 amount,
-            } => write!(f, "check live {} {index} {amount}", HashText(txid)),
+            } => put_three(f, "check live ", &HashText(txid), index, amount),
             Line::CheckFails(why) => put_one(f, "check ", why),
             Line::TicketClash => f.write_str("clash ticket"),
             Line::Asked(ask) => put_one(f, "asked ", ask),

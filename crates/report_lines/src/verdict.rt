@@ -2,7 +2,7 @@
 ghost use Rattle.std.specs.Prelude.{Some};
 
 use crate::hash_text::HashText;
-use crate::words::{put_one, put_two};
+use crate::words::{put_one, put_three, put_two};
 use block_rules::{ProofRefusal, Refusal, Verdict, WitnessFault};
 use std::fmt;
 
@@ -96,17 +96,12 @@ impl fmt::Display for VerdictText<'_> {
                 height,
                 hash,
                 leaves,
-            } => write!(f, "accepted {height} {} {leaves}", HashText(hash)),
+            } => put_three(f, "accepted ", height, &HashText(hash), leaves),
             Verdict::Refused {
                 height,
                 hash: Some(hash),
                 why,
-            } => write!(
-                f,
-                "refused {height} {} {}",
-                HashText(hash),
-                RefusalText(why)
-            ),
+            } => put_three(f, "refused ", height, &HashText(hash), &RefusalText(why)),
             Verdict::Refused {
                 height,
                 hash: None,

@@ -27,3 +27,17 @@ pub(crate) fn put_two<W: fmt::Write, X: fmt::Display, Y: fmt::Display>(
 {
     write!(f, "{word}{x} {y}")
 }
+
+/// Writes a word, which has its blank, and three values.
+pub(crate) fn put_three<W: fmt::Write, X: fmt::Display, Y: fmt::Display, Z: fmt::Display>(
+    f: &mut fmt::Formatter<W>,
+    word: &str,
+    x: &X,
+    y: &Y,
+    z: &Z,
+) -> fmt::Result
+    ensures { IfSome (X.output x.now) (λ first. IfSome (Y.output y.now) (λ second. IfSome (Z.output z.now)
+        (λ third. WritesOnOk W.write_str_gives f.old result (word.now ++ first ++ codes " " ++ second ++ codes " " ++ third) f.new))) }
+{
+    write!(f, "{word}{x} {y} {z}")
+}
