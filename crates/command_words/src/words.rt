@@ -3,7 +3,8 @@ ghost use Rattle.std.specs.Prelude.{◌≡◌, ◌<◌, map, length, All, IfOk, 
 ghost use Rattle.std.specs.String.{string_bytes};
 ghost use Rattle.command_words.specs.Options.{settings_in, settings_read};
 ghost use Rattle.command_words.specs.Words.{read_as, Following, Proving, Auditing, Generating, UpgradingFeed, UpgradingState, Ordering, Ticketing};
-ghost use Rattle.command_words.specs.Words.{Checking, Rechecking, Relaying, asked_by, read_for, options_at, settings_at, task_of, command_of, reads_feed, task_in};
+ghost use Rattle.command_words.specs.Words.{Checking, Rechecking, Relaying, asked_by, read_for, options_at, settings_at, task_of, command_of};
+ghost use Rattle.command_words.specs.Words.{reads_feed, task_in};
 ghost use Rattle.command_words.specs.Words.{given_in, Means};
 
 use crate::fronts::{Front, Parted, front_in};

@@ -181,3 +181,12 @@ rank_in_high n i half before k fits ge lt is low counted =
     let high : k ≡ rank (is_bit (n / 2 ^ 64)) (i - 64) =
     counted ∙ ap₂ (λ b j. rank (is_bit b) j) (is ∙ sym (half_high n i fits ge lt)) at in
     ap₂ (λ a b. a + b) low high ∙ rank_high_half n i ge
+
+-- a number all of whose bits are set
+pub all_set : (n i : ℕ) → n ≡ 2 ^ 128 - 1 → i < 128 → is_bit n i ≡ true
+all_set n i is lt =
+    let k = 127 - i in
+    let e : 128 - i ≡ suc k = omega (arith, lt) in
+    let double : 2 ^ suc k ≡ 2 ^ k * 2 = pow-suc 2 k in
+    let ones : n / 2 ^ i ≡ 2 ^ suc k - 1 = ap (λ x. x / 2 ^ i) is ∙ ones_shr 128 i (omega (arith, lt)) ∙ ap (λ j. 2 ^ j - 1) e in
+    eq-eqb (n / 2 ^ i % 2) 1 (omega (arith, ones, double, pow_pos k))

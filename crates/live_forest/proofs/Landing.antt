@@ -90,7 +90,8 @@ pub record Lands (s : ℕ → Bool) (row off : ℕ) : Type 0 where
   pub to : (i : ℕ) → s i ≡ true → i / 2 ^ row ≡ off → i / 2 ^ at_row ≡ at_off
   pub from : (i : ℕ) → s i ≡ true → i / 2 ^ at_row ≡ at_off → i / 2 ^ row ≡ off
   pub ends : ((7 ≤ at_row) × (spot s row off ≡ record { cell = 0; right = true }))
-      ⊎ ((has_part s at_row (sibling_off at_off) ≡ true) × (spot s row off ≡ record { cell = rank s (middle at_row (at_off / 2)); right = at_off % 2 == 1 }))
+      ⊎ ((has_part s at_row (sibling_off at_off) ≡ true)
+      × (spot s row off ≡ record { cell = rank s (middle at_row (at_off / 2)); right = at_off % 2 == 1 }))
 
 pub lands : (s : ℕ → Bool) (rows row off : ℕ) → 7 ≤ row + rows → Lands s row off
 lands s zero row off high = record {
@@ -149,13 +150,18 @@ pub first_part : (i row : ℕ) → i < 128 → 7 ≤ row → i / 2 ^ row ≡ 0
 first_part i row low high =
     let e : 7 + (row - 7) ≡ row = omega (arith, high) in
     let none : i / 2 ^ 7 ≡ 0 = omega (arith, low) in
-    ap (λ k. i / 2 ^ k) (sym e) ∙ sym (shr-shr i 7 (row - 7)) ∙ ap (λ x. x / 2 ^ (row - 7)) none ∙ (let z = div_below 0 (2 ^ (row - 7)) 1 (pow_pos (row - 7)) (omega (arith, pow_pos (row - 7))) in let y : 0 / 2 ^ (row - 7) ≡ 0 = omega (arith, z) in y)
+    let below = div_below 0 (2 ^ (row - 7)) 1 (pow_pos (row - 7)) (omega (arith, pow_pos (row - 7))) in
+    let rest : 0 / 2 ^ (row - 7) ≡ 0 = omega (arith, below) in
+    ap (λ k. i / 2 ^ k) (sym e) ∙ sym (shr-shr i 7 (row - 7)) ∙ ap (λ x. x / 2 ^ (row - 7)) none ∙ rest
 
 one_odd : (a b : ℕ) → (a % 2 == 1) ≡ (b % 2 == 1) → a % 2 ≡ b % 2
 one_odd a b same =
     ⊎_elim
     (λ l. ⊎_elim (λ r. l ∙ sym r) (λ r. absurd (true≢false (sym (eq-eqb (a % 2) 1 l) ∙ same ∙ ne_eqb (b % 2) 1 r))) (cases_eq (b % 2) 1))
-    (λ l. ⊎_elim (λ r. absurd (true≢false (sym (eq-eqb (b % 2) 1 r) ∙ sym same ∙ ne_eqb (a % 2) 1 l))) (λ r. omega (arith, l, r)) (cases_eq (b % 2) 1))
+    (λ l. ⊎_elim
+    (λ r. absurd (true≢false (sym (eq-eqb (b % 2) 1 r) ∙ sym same ∙ ne_eqb (a % 2) 1 l)))
+    (λ r. omega (arith, l, r))
+    (cases_eq (b % 2) 1))
     (cases_eq (a % 2) 1)
 
 module _ (s : ℕ → Bool) (few : (i : ℕ) → s i ≡ true → i < 128) where

@@ -1,6 +1,6 @@
 -- A number gets a cell, and its cell is taken out.
-use Rattle.std.proofs.Common.{◌≡◌, ◌≢◌, ℕ, zero, suc, ◌+◌, ◌-◌, ◌*◌, ◌/◌, ◌%◌, ◌^◌, ◌<◌, ◌≤◌, ◌⊎◌, inl, inr, Bool, true, false, refl, sym, ap, ap₂, ◌∙◌, subst}
-use Rattle.std.proofs.Common.{⊎_elim, arith}
+use Rattle.std.proofs.Common.{◌≡◌, ◌≢◌, ℕ, zero, suc, ◌+◌, ◌-◌, ◌*◌, ◌/◌, ◌%◌, ◌^◌, ◌<◌, ◌≤◌, Bool, true, false, refl, sym, ap, ap₂, ◌∙◌, subst}
+use Rattle.std.proofs.Common.{⊎_elim, ◌⊎◌, inl, inr, arith}
 use Rattle.std.proofs.Common.{List, [], ◌∷◌, ◌++◌, length, get_or, Some, None, length-append}
 use Rattle.std.specs.Prelude.{◌==◌, if◌then◌else◌, MatchOption, Option}
 use Rattle.std.specs.List.{remove}
@@ -20,8 +20,8 @@ use Rattle.live_forest.specs.Pages.{PageState, IsPage, no_cell, middle, IsBranch
 use Rattle.live_forest.specs.Pages.{IsNearest, IsBeside, IsAlone, IsLifted, AreOfHalves}
 use Rattle.live_forest.proofs.Ranks.{rank_above, rank_rises, right_rank, branch_one, part_other, part_subset, part_none, part_with, rank-out}
 use Rattle.live_forest.proofs.Ranks.{rank_low, rank_high, rank_most}
-use Rattle.live_forest.proofs.Landing.{part_number, part_has, part_bare, branch_of, spot_whole, spot_beside, spot_alone, one_spot, same_above, first_part}
-use Rattle.live_forest.proofs.Landing.{other_half, branch_cell, branch_inside}
+use Rattle.live_forest.proofs.Landing.{part_number, part_has, part_bare, branch_of, spot_whole, spot_beside, spot_alone, one_spot}
+use Rattle.live_forest.proofs.Landing.{same_above, first_part, other_half, branch_cell, branch_inside}
 use Rattle.live_forest.proofs.Parting.{parts_rise}
 use Rattle.live_forest.proofs.Telling.{none_told, when_same, listed_few}
 
@@ -466,10 +466,9 @@ module _ (p : PageState) (listed' number : ℕ) (page : IsPage p) (small : p.lis
         let in_other = other_half number row off half_is other in
         let none = alone_part s t number gone here part.row beside.nearest.none in
         true≢false (sym left ∙ ap (has_part t row) (sym in_other) ∙ ap (λ r. has_part t r (number / 2 ^ r)) one.0 ∙ none) in
+        let v = part_has s (suc part.row) (part.off / 2) number here number_above in
         let elsewhere : spot s row off ≢ spot s (suc part.row) (part.off / 2) = λ e.
-        other
-        (one_spot s few (suc part.row) (part.off / 2) row off (part_has s (suc part.row) (part.off / 2) number here number_above) own (sym e) number here
-        number_above) in
+        other (one_spot s few (suc part.row) (part.off / 2) row off v own (sym e) number here number_above) in
         ap (digest_in (remove cells gap)) (spot_beside t row off lt left)
         ∙ ap (λ (x : Cell). if off % 2 == 1 then x.right else x.left) (stays row (off / 2) b not_gap)
         ∙ ap (digest_in cells) (sym (spot_beside s row off lt more)) ∙ put.others (spot s row off) elsewhere)
@@ -505,7 +504,8 @@ module _ (p : PageState) (listed' number : ℕ) (page : IsPage p) (small : p.lis
         → told p (suc part.row) (part.off / 2) ≡ told p part.row part.off
     joined n halves h =
         let x = number / 2 ^ part.row in
-        let none = none_told p part.row x (part_none (is_bit p.live) t part.row x live_left (alone_part s t number gone here part.row beside.nearest.none)) in
+        let bare = alone_part s t number gone here part.row beside.nearest.none in
+        let none = none_told p part.row x (part_none (is_bit p.live) t part.row x live_left bare) in
         let h' = halves.is part.row (part.off / 2) h in
         ⊎_elim
         (λ even.
@@ -549,7 +549,8 @@ module _ (p : PageState) (listed' number : ℕ) (page : IsPage p) (small : p.lis
         (λ other. same_less 7 row off (omega arith) other some)
         (cases_eq (number / 2 ^ row) off))
       where
-        beneath : (n row off k : ℕ) → k ≤ row → InForest n row off → number / 2 ^ k ≡ part.off / 2 → number / 2 ^ row ≡ off → InForest n k (part.off / 2)
+        beneath : (n row off k : ℕ) → k ≤ row → InForest n row off → number / 2 ^ k ≡ part.off / 2 → number / 2 ^ row ≡ off
+            → InForest n k (part.off / 2)
         beneath n row off k le h at_k at_row =
             let e : k + (row - k) ≡ row = omega (arith, le) in
             let up : part.off / 2 / 2 ^ (row - k) ≡ off =

@@ -4,7 +4,7 @@ use Rattle.std.proofs.Common.{⊎_elim, arith}
 use Rattle.std.proofs.Common.{pow-suc, inl, inr, ◌⊎◌}
 use Rattle.std.specs.Prelude.{◌||◌, if◌then◌else◌}
 use Rattle.std.proofs.lemmas.Bool.{cases_order, cases_lt, cases_eq, cases_Bool, or_cases, or_left, or_right, true≢false}
-use Rattle.std.proofs.lemmas.Nat.{pow_pos, pow-add, mul-le, same_from_place}
+use Rattle.std.proofs.lemmas.Nat.{pow_pos, pow-add, mul-le, div-mul-add, same_from_place}
 use Rattle.forest_place.proofs.Parts.{parts-suc}
 use Rattle.live_forest.specs.Sets.{has_part, rank}
 use Rattle.live_forest.specs.Pages.{middle, IsBranch}
@@ -233,3 +233,14 @@ rank_most s last below (suc j) =
     let out : s j ≡ false = ⊎_elim (λ e. absurd (omega (arith, below j e, high))) (λ e. e) (cases_Bool (s j)) in
     omega (arith, rank_most s last below j, rank-out s j out))
     (cases_lt j last)
+
+-- each number below one of a set that has them all counts
+pub rank_full : (s : ℕ → Bool) (n : ℕ) → ((i : ℕ) → i < n → s i ≡ true) → rank s n ≡ n
+rank_full s zero all = refl
+rank_full s (suc n) all = omega (arith, rank-in s n (all n (omega arith)), rank_full s n (λ i lt. all i (omega (arith, lt))))
+
+-- and so does each part that begins below it
+pub part_full : (s : ℕ → Bool) (row off : ℕ) → s (off * 2 ^ row) ≡ true → has_part s row off ≡ true
+part_full s row off h =
+    let whole : off * 2 ^ row ≡ off * 2 ^ row + 0 = omega arith in
+    ap (has_part s row) (sym (ap (λ x. x / 2 ^ row) whole ∙ div-mul-add off (2 ^ row) 0 (pow_pos row))) ∙ part_with s (off * 2 ^ row) row h

@@ -40,8 +40,8 @@ abbrev pub when : Bool → Digest → Option Digest
 when false d = None
 when true d = Some d
 
--- where the digest of a part lies, so many rows beneath the whole page, of which something is listed: in the cell of the lowest part above it that has
--- listed numbers in both halves, beside that of the other half. That of all numbers lies in the first cell, on the right
+-- where the digest of a part lies, so many rows beneath the whole page, of which something is listed: in the cell of the lowest part above it that
+-- has listed numbers in both halves, beside that of the other half. That of all numbers lies in the first cell, on the right
 unfoldable pub spot_beneath : (ℕ → Bool) → ℕ → ℕ → ℕ → Spot
 spot_beneath listed zero row off = record { cell = 0; right = true }
 spot_beneath listed (suc rows) row off =

@@ -3,6 +3,9 @@ ghost use Rattle.std.specs.Prelude.{◌≡◌, ◌≢◌, ℕ, ◌+◌, ◌*◌,
 ghost use Rattle.forest_place.specs.Forest.{InForest};
 ghost use Rattle.live_forest.specs.Sets.{is_bit, has_part, rank as rank_of, IsWith, IsWithout};
 
+// The set of all numbers. Of entries that were added of late most are held, so most of the pages that change are full, and nothing has to be counted.
+const ALL: u128 = u128::MAX;
+
 /// Whether the set has a number.
 pub(crate) fn has(bits: u128, number: u64) -> bool
     requires { number < 128 }
@@ -40,6 +43,9 @@ pub(crate) fn has_some(bits: u128, row: u8, off: u64) -> bool
     requires within { InForest 128 row off }
     ensures { result ≡ has_part (is_bit bits) row off }
 {
+    if bits == ALL {
+        return true;
+    }
     if row == 7 {
         return bits != 0;
     }
@@ -59,6 +65,9 @@ pub(crate) fn rank(bits: u128, number: u64) -> usize
     requires { number < 128 }
     ensures { result ≡ rank_of (is_bit bits) number }
 {
+    if bits == ALL {
+        return number as usize;
+    }
     let low = (bits % (1 << 64)) as u64;
     // It is counted in any case: of numbers all over, no processor guesses in which half the next one is.
     let before = if number < 64 {

@@ -1,8 +1,13 @@
-use Rattle.std.proofs.Common.{◌≡◌, ◌+◌, arith}
+use Rattle.std.proofs.Common.{◌≡◌, ◌+◌, sym, arith}
 use Rattle.live_forest.specs.Sets.{is_bit, rank}
-use Rattle.live_forest.proofs.Bitmaps.{rank_upto, rank_in_low, rank_in_high}
+use Rattle.live_forest.proofs.Bitmaps.{rank_upto, rank_in_low, rank_in_high, all_set}
+use Rattle.live_forest.proofs.Ranks.{rank_full}
 use Rattle.live_forest.proofs.bits.rank.Goals as goal
 use Rattle.live_forest.proofs.bits.rank.Goals.{then-number-lt64, else-number-lt64}
+
+pub returns-then-bits-eq-ALL : goal.returns-then-bits-eq-ALL
+returns-then-bits-eq-ALL c =
+    sym (rank_full (is_bit c.args.bits) c.args.number (λ i lt. all_set c.args.bits i c.if-bits-eq-ALL.true (omega (arith, lt, c.requires))))
 
 pub returns : goal.returns
 returns c =

@@ -8,8 +8,8 @@ use Rattle.live_forest.proofs.Telling.{page_within, page_beside}
 use Rattle.live_forest.proofs.page.make_way.Goals as goal
 
 -- what the number meets first
-met : (s : ℕ → Bool) (number : ℕ) (x : Option Place) (part : Place) → MatchOption x (IsAlone s number) (λ part. IsBeside s number part) → x ≡ Some part
-    → IsBeside s number part
+met : (s : ℕ → Bool) (number : ℕ) (x : Option Place) (part : Place) → MatchOption x (IsAlone s number) (λ part. IsBeside s number part)
+    → x ≡ Some part → IsBeside s number part
 met s number x part is e = subst (λ y. MatchOption y (IsAlone s number) (λ part. IsBeside s number part)) e is
 
 pub lift-requires-clause-within : goal.lift-requires-clause-within

@@ -43,7 +43,8 @@ put_part-requires-clause-halves g c =
     c.halves-left.ensures.right
     ∙ c.loop-off.invariant.right.is row (2 * (off / 2) + 1) (InForest-right n row (off / 2) within) (λ low. absurd (omega (arith, low)))
     ∙ ap (λ x. part_digest H leaves row (2 * x + 1)) here in
-    halves_told H n leaves s i row c.halves-left.result.0 c.halves-left.result.1 c.joined-above.result (subst (λ x. InForest n (suc row) x) here within)
+    halves_told H n leaves s i row c.halves-left.result.0 c.halves-left.result.1 c.joined-above.result
+    (subst (λ x. InForest n (suc row) x) here within)
     c.loop-off.invariant.right left right c.joined-above.ensures.is
 
 pub loop-off-preserved : goal.loop-off-preserved

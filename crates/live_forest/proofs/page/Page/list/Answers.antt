@@ -11,8 +11,8 @@ use Rattle.live_forest.proofs.page.Page.list.Goals as goal
 use Rattle.live_forest.proofs.page.Page.list.Goals.{in-None, in-Some}
 
 -- what the number meets first
-met : (s : ℕ → Bool) (number : ℕ) (x : Option Place) (part : Place) → MatchOption x (IsAlone s number) (λ part. IsBeside s number part) → x ≡ Some part
-    → IsBeside s number part
+met : (s : ℕ → Bool) (number : ℕ) (x : Option Place) (part : Place) → MatchOption x (IsAlone s number) (λ part. IsBeside s number part)
+    → x ≡ Some part → IsBeside s number part
 met s number x part is e = subst (λ y. MatchOption y (IsAlone s number) (λ part. IsBeside s number part)) e is
 
 pub digest_of-requires-clause-within : goal.digest_of-requires-clause-within
@@ -48,5 +48,5 @@ returns-clause-same c =
           (is, w.left-is ∙ w.digest_of.ensures ∙ ap (λ cells. digest_at p.listed cells part.row part.off) w.deref.ensures.value)
     ] in
     λ r o other. rw (c.in_ok-push.ensures.items, ← c.self.view_is)
-    (told_more p c.with-self-inside.result c.args.number c.match-nearest.left _ c.nearest.result c.self.invariant c.self.ranges.0.1 c.requires.number last
-    c.with-self-inside.ensures on_left r o other)
+    (told_more p c.with-self-inside.result c.args.number c.match-nearest.left _ c.nearest.result c.self.invariant c.self.ranges.0.1
+    c.requires.number last c.with-self-inside.ensures on_left r o other)

@@ -13,7 +13,8 @@ rank-requires c = omega (arith, c.middle.ensures, middle_low c.args.row c.args.o
 pub index-cell-requires : goal.index-cell-requires
 index-cell-requires c =
     let p : PageState = record { listed = c.self.inside.listed; live = c.self.inside.live; cells = c.self.inside.cells.items } in
-    let b = joined_branch p c.args.row c.args.off c.self.invariant (rw (← c.self.view_is) at c.requires.left) (rw (← c.self.view_is) at c.requires.right) in
+    let left = rw (← c.self.view_is) at c.requires.left in
+    let b = joined_branch p c.args.row c.args.off c.self.invariant left (rw (← c.self.view_is) at c.requires.right) in
     let at = c.rank.ensures ∙ ap (rank (is_bit p.listed)) c.middle.ensures in
     omega (arith, at, gap_index p c.self.invariant c.args.row c.args.off c.requires.within b, c.self.inside.cells.ok.0)
 
