@@ -1,4 +1,4 @@
-use Rattle.std.proofs.Common.{◌≡◌, ◌+◌, ◌*◌, ◌^◌, ◌<◌, arith}
+use Rattle.std.proofs.Common.{◌*◌, ◌^◌, ◌<◌, sym, arith}
 use Rattle.std.proofs.lemmas.Nat.{pow_pos}
 use Rattle.live_forest.specs.Sets.{is_bit}
 use Rattle.live_forest.proofs.Bitmaps.{all_bits, some_bits, all_set, part_ends}
@@ -11,7 +11,7 @@ returns-then-bits-eq-ALL c =
     let off = c.args.off in
     let end = part_ends row off c.requires.row c.requires.within in
     let first : off * 2 ^ row < 128 = omega (arith, end, pow_pos row) in
-    part_full (is_bit c.args.bits) row off (all_set c.args.bits (off * 2 ^ row) c.if-bits-eq-ALL.true first)
+    sym (part_full (is_bit c.args.bits) row off (all_set c.args.bits (off * 2 ^ row) c.if-bits-eq-ALL.true first))
 
 pub returns-then-row-eq7 : goal.returns-then-row-eq7
 returns-then-row-eq7 c =

@@ -45,5 +45,5 @@ rows-preserved g c =
 pub returns-clause-beside : goal.returns-clause-beside
 returns-clause-beside g c =
     all_found g.D.Digester.digest_of c.args.n (leaves_of c.args.store.now) (map option_copied c.rows.beside) c.args.number c.args.next
-    c.rows.row c.rows.off c.rows.other c.rows.invariant.here c.rows.invariant.there (λ w. true≢false (sym (c.goes_up.ensures.1 w) ∙ c.rows-test.false))
-    c.rows.invariant.found
+    c.rows.row c.rows.off c.rows.other c.rows.invariant.here c.rows.invariant.there
+    (λ w. true≢false (sym (c.goes_up.ensures.1 w) ∙ c.rows-test.false)) c.rows.invariant.found

@@ -1,8 +1,7 @@
-use Rattle.std.proofs.Common.{◌≡◌, suc, ◌+◌, ◌-◌, ◌*◌, ◌/◌, ◌%◌, ◌^◌, ap, ◌∙◌, subst, arith}
+use Rattle.std.proofs.Common.{◌≡◌, suc, ◌+◌, ◌*◌, ◌/◌, ◌^◌, ap, ◌∙◌, subst, arith}
 use Rattle.forest_place.specs.Forest.{InForest}
 use Rattle.forest_place.proofs.Parts.{parts-suc, InForest-left, InForest-right}
 use Rattle.forest_place.proofs.Positions.{row_small}
-use Rattle.live_forest.specs.Stores.{stored}
 use Rattle.live_forest.specs.Parts.{leaves_of, part_digest, digests_to}
 use Rattle.live_forest.proofs.Refreshing.{up_within, halves_told, joined_right, row_written, rows_done, cost_more, leaves_stay, room_kept}
 use Rattle.live_forest.proofs.refresh.refresh_last.Goals as goal

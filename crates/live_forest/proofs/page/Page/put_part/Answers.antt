@@ -6,7 +6,7 @@ use Rattle.live_forest.specs.Sets.{is_bit, has_part}
 use Rattle.live_forest.specs.Pages.{PageState, IsPut, IsBranch, IsOfHalves, spot, told}
 use Rattle.live_forest.proofs.Landing.{spot_within}
 use Rattle.live_forest.proofs.Ranks.{part_with}
-use Rattle.live_forest.proofs.Telling.{listed_few, page_within, above_is, part_written, part_stays, part_empty, own_live}
+use Rattle.live_forest.proofs.Telling.{listed_few, page_within, part_written, part_stays, part_empty, own_live}
 use Rattle.live_forest.proofs.page.Page.put_part.Goals as goal
 
 pub is_branch-requires-clause-listed : goal.is_branch-requires-clause-listed
