@@ -13,7 +13,7 @@ use Rattle.forest_model.specs.Addition.{all_slots}
 use Rattle.forest_place.proofs.Parts.{parts-suc, row_below}
 use Rattle.forest_place.proofs.Positions.{within_rows}
 use Rattle.forest_model.proofs.Adding.{parts_more, parts_same}
-use Rattle.live_forest.specs.Parts.{pairs, digests_to, IsClimbed, IsClimbedTo}
+use Rattle.live_forest.specs.Parts.{pairs, digests_to, IsClimbed}
 use Rattle.live_forest.specs.State.{addition_steps}
 use Rattle.live_forest.proofs.Ones.{joins_taken, joins_all}
 use Rattle.live_forest.proofs.Entries.{content-set_other, content-take, path_below}
@@ -30,9 +30,9 @@ digests_few es number (suc row) =
     omega (arith, digests_few es number row, pairs_few (content es row (2 * off)) (content es row (2 * off + 1)))
 
 -- no climb takes more than the rows
-pub climbed_few : (n : ℕ) (es : List (Option Digest)) (number next before after : ℕ) → IsClimbedTo n es number next before after
+pub climbed_few : (n : ℕ) (es : List (Option Digest)) (number before after : ℕ) → IsClimbed n es number before after
     → after ≤ before + rows n
-climbed_few n es number next before after c =
+climbed_few n es number before after c =
     omega (arith, c.count, digests_few es number c.top, (within_rows n c.top (number / 2 ^ c.top) c.within).0)
 
 -- the parts that the next entry ends

@@ -18,6 +18,7 @@ use Rattle.live_forest.specs.Sets.{IsWithout}
 use Rattle.live_forest.specs.Stores.{StoreState, stored, is_listed, HasRoomOf, IsLonger, AreStoredOfHalves}
 use Rattle.live_forest.specs.Parts.{leaves_of, entries_in, kept, AreParts}
 use Rattle.live_forest.specs.Holding.{held_of, IsForest}
+use Rattle.live_forest.specs.Lookups.{AreHeld}
 use Rattle.live_forest.specs.State.{is_live, is_held, held_without}
 use Rattle.live_forest.proofs.Entries.{content-take}
 use Rattle.live_forest.proofs.Refreshing.{joined_halves, length-leaves_of, leaves_of-at}
@@ -353,6 +354,12 @@ parts_seen H count room s forest =
           let within : InForest count row off = subst (λ m. InForest m row off) long h in
           forest.right.is row off within ∙ ap (option_map (digest_of H)) (sym (content-take (leaves_of s) count row off within));
     }
+
+pub held_seen : (H : List ℕ → Digest) (count room : ℕ) (s : StoreState) → IsForest H count room s → AreHeld (entries_in count s) s
+held_seen H count room s forest i live =
+    let le : count ≤ s.len = omega (arith, forest.room, forest.longer) in
+    let low = live_low count s i le live in
+    forest.held i low (sym (live_is count s i le low) ∙ live)
 
 -- what is live is kept for its number
 pub live_kept : (H : List ℕ → Digest) (count room : ℕ) (s : StoreState) (i : ℕ) → IsForest H count room s → i < count

@@ -23,7 +23,7 @@ use Rattle.live_forest.proofs.Ranks.{rank_low, rank_high, rank_most}
 use Rattle.live_forest.proofs.Landing.{part_number, part_has, part_bare, branch_of, spot_whole, spot_beside, spot_alone, one_spot}
 use Rattle.live_forest.proofs.Landing.{same_above, first_part, other_half, branch_cell, branch_inside}
 use Rattle.live_forest.proofs.Parting.{parts_rise}
-use Rattle.live_forest.proofs.Telling.{none_told, when_same, listed_few}
+use Rattle.live_forest.proofs.Telling.{none_told, when_same, listed_few, live_listed}
 
 -- ---- numbers and the parts that have them
 
@@ -55,11 +55,11 @@ page_more p listed' number c page low last come = record {
       (cases_eq i number);
 }
 
--- what is on the left of the new cell: what lies where that of the part does which the number meets first
+-- what is on the left of the new cell: what lies where that of the part does which the number meets first, if something of it is live
 abbrev pub IsLeftOf : PageState → ℕ → Option Place → Digest → Type 0
 IsLeftOf p number before left =
     MatchOption before (IsAlone (is_bit p.listed) number) (λ part. IsBeside (is_bit p.listed) number part
-    × (left ≡ digest_at p.listed p.cells part.row part.off))
+    × (has_part (is_bit p.live) part.row part.off ≡ true → left ≡ digest_at p.listed p.cells part.row part.off))
 
 -- what lies before the new cell stays
 in_front : (cells : List Cell) (c : Cell) (k : ℕ) (right : Bool) → k < length cells
@@ -70,12 +70,15 @@ module _ (p : PageState) (listed' number : ℕ) (left right : Digest) (before : 
     (low : number < 128) (last : (i : ℕ) → is_bit p.listed i ≡ true → i < number) (come : IsWith (is_bit p.listed) (is_bit listed') number)
     (on_left : IsLeftOf p number before left) where
   -- a part that has nothing listed beside it, but the number: what the number meets first is this part
-  met : (row off : ℕ) → row < 7 → has_part (is_bit p.listed) row off ≡ true → has_part (is_bit p.listed) row (sibling_off off) ≡ false
+  met : (row off : ℕ) → row < 7 → has_part (is_bit p.live) row off ≡ true → has_part (is_bit p.listed) row (sibling_off off) ≡ false
       → number / 2 ^ row ≡ sibling_off off → left ≡ digest_at p.listed p.cells row off
-  met row off lt some none here = by before on_left
+  met row off lt live none here = by before on_left
     where
       s : ℕ → Bool
       s = is_bit p.listed
+
+      some : has_part s row off ≡ true
+      some = live_listed p row off page live
 
       beside : sibling_off (number / 2 ^ row) ≡ off
       beside = ap sibling_off here ∙ sibling_twice off
@@ -94,7 +97,8 @@ module _ (p : PageState) (listed' number : ℕ) (left right : Digest) (before : 
           absurd (true≢false (sym (part_has s row (sibling_off off) n.0 n.1 (up ∙ here)) ∙ none)))
           (λ above. absurd (true≢false (sym some ∙ ap (has_part s row) (sym beside) ∙ near.none row above))) other)
           (cases_order part.row row) in
-          is.1 ∙ ap₂ (digest_at p.listed p.cells) one (is.0.off ∙ ap (λ r. sibling_off (number / 2 ^ r)) one ∙ beside)
+          let at = is.0.off ∙ ap (λ r. sibling_off (number / 2 ^ r)) one ∙ beside in
+          is.1 (ap₂ (has_part (is_bit p.live)) one at ∙ live) ∙ ap₂ (digest_at p.listed p.cells) one at
 
   -- then the new cell is where it lies
   new_cell : (row off : ℕ) → row < 7 → has_part (is_bit p.listed) row off ≡ true → has_part (is_bit p.listed) row (sibling_off off) ≡ false
@@ -130,10 +134,11 @@ module _ (p : PageState) (listed' number : ℕ) (left right : Digest) (before : 
       let n = part_number (is_bit p.listed) row off some in
       other (first_part number row low ge ∙ sym (first_part n.0 row (listed_few p.listed small n.0 n.1) ge) ∙ n.2)
 
-  same_more : (rows row off : ℕ) → 7 ≤ row + rows → number / 2 ^ row ≢ off → has_part (is_bit p.listed) row off ≡ true
+  same_more : (rows row off : ℕ) → 7 ≤ row + rows → number / 2 ^ row ≢ off → has_part (is_bit p.live) row off ≡ true
       → digest_at listed' (p.cells ++ record { left = left; right = right } ∷ []) row off ≡ digest_at p.listed p.cells row off
-  same_more zero row off high other some = absurd (whole row off (omega (arith, high)) some other)
-  same_more (suc rows) row off high other some =
+  same_more zero row off high other live = absurd (whole row off (omega (arith, high)) (live_listed p row off page live) other)
+  same_more (suc rows) row off high other live =
+      let some = live_listed p row off page live in
       let s = is_bit p.listed in
       let t = is_bit listed' in
       let c : Cell = record { left = left; right = right } in
@@ -157,10 +162,10 @@ module _ (p : PageState) (listed' number : ℕ) (left right : Digest) (before : 
       let at = new_cell row off lt some none meets in
       ap (digest_in (p.cells ++ c ∷ [])) (spot_beside t row off lt (part_has t row (sibling_off off) number come.here meets))
       ∙ ap (λ r. digest_in (p.cells ++ c ∷ []) (record { cell = rank t (middle row (off / 2)); right = r })) at.1
-      ∙ ap (λ (x : Cell). x.left) (get_or_push p.cells c no_cell (rank t (middle row (off / 2))) (sym at.0)) ∙ met row off lt some none meets)
+      ∙ ap (λ (x : Cell). x.left) (get_or_push p.cells c no_cell (rank t (middle row (off / 2))) (sym at.0)) ∙ met row off lt live none meets)
       (λ apart.
-      let n = part_number s row off some in
-      let up = part_has s (suc row) (off / 2) n.0 n.1 (parts-suc n.0 row ∙ ap (λ x. x / 2) n.2) in
+      let n = part_number (is_bit p.live) row off live in
+      let up = part_has (is_bit p.live) (suc row) (off / 2) n.0 n.1 (parts-suc n.0 row ∙ ap (λ x. x / 2) n.2) in
       ap (digest_in (p.cells ++ c ∷ []))
       (spot_alone t row off lt (part_other s t number row (sibling_off off) come.others apart ∙ none))
       ∙ same_more rows (suc row) (off / 2) (omega (arith, high)) (λ e. apart (other_half number row off e other)) up
@@ -175,7 +180,7 @@ module _ (p : PageState) (listed' number : ℕ) (left right : Digest) (before : 
   told_more row off other =
       when_same (has_part (is_bit p.live) row off) (has_part (is_bit p.live) row off) (digest_at p.listed p.cells row off)
       (digest_at listed' (p.cells ++ record { left = left; right = right } ∷ []) row off) refl
-      (λ live. same_more 7 row off (omega arith) other (part_subset (is_bit p.live) (is_bit p.listed) row off page.within live))
+      (λ live. same_more 7 row off (omega arith) other live)
 
 -- ---- a set and the same without one of its numbers
 

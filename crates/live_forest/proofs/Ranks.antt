@@ -35,13 +35,6 @@ rank_rises s i j le =
 pub rank_above : (s : ℕ → Bool) (i j : ℕ) → s i ≡ true → i < j → rank s i < rank s j
 rank_above s i j e lt = omega (arith, rank-in s i e, rank_rises s (suc i) j (omega arith))
 
--- two numbers of the set with one count are one
-pub rank_one : (s : ℕ → Bool) (i j : ℕ) → s i ≡ true → s j ≡ true → rank s i ≡ rank s j → i ≡ j
-rank_one s i j a b e =
-    ⊎_elim (λ same. same) (λ other. ⊎_elim
-    (λ lt. let z = rank_above s i j a lt in absurd (omega (arith, z, e)))
-    (λ gt. let z = rank_above s j i b gt in absurd (omega (arith, z, e))) other) (cases_order i j)
-
 -- so does a part that has one
 pub part_rank : (s : ℕ → Bool) (row off : ℕ) → has_part s row off ≡ true → rank s (off * 2 ^ row) < rank s (off * 2 ^ row + 2 ^ row)
 part_rank s zero off h =

@@ -1,9 +1,8 @@
 -- The digests above a written entry, one row after another.
-use Rattle.std.proofs.Common.{◌≡◌, ◌≢◌, ℕ, suc, ◌+◌, ◌-◌, ◌*◌, ◌/◌, ◌%◌, ◌^◌, ◌<◌, ◌≤◌, List, length, get_or, set, Option, Some, None, refl}
+use Rattle.std.proofs.Common.{◌≡◌, ◌≢◌, ℕ, suc, ◌+◌, ◌*◌, ◌/◌, ◌%◌, ◌^◌, ◌<◌, ◌≤◌, List, length, get_or, set, Option, Some, None, refl}
 use Rattle.std.proofs.Common.{sym, ap, ap₂, ◌∙◌, subst, ⊎_elim, arith}
 use Rattle.std.specs.Prelude.{option_map, is_some}
 use Rattle.std.proofs.lemmas.Bool.{cases_eq, cases_lt, true≢false, false≢true}
-use Rattle.std.proofs.lemmas.Nat.{shr-shr}
 use Rattle.std.proofs.lemmas.List.{get_or-set_same, get_or-set_other, length-set, ext_get_or}
 use Rattle.std.proofs.lemmas.List.FromFn.{length-map-range_with_len, get_or-map-range_with_len}
 use Rattle.uo_digest.specs.declared.digest.Digest.{Digest}
@@ -14,7 +13,7 @@ use Rattle.forest_place.proofs.Parts.{parts-suc, InForest-down, InForest-left, I
 use Rattle.forest_place.proofs.Siblings.{sibling_cases, sibling_within}
 use Rattle.live_forest.specs.Pages.{IsOfHalves}
 use Rattle.live_forest.specs.Stores.{StoreState, stored, IsEntryKept, IsPartKept, HasRoomOf}
-use Rattle.live_forest.specs.Parts.{leaves_of, kept, part_digest, AreParts, ArePartsBut, AreBeside, pairs, digests_to}
+use Rattle.live_forest.specs.Parts.{leaves_of, kept, part_digest, AreParts, ArePartsBut, pairs, digests_to}
 use Rattle.live_forest.proofs.Entries.{content-set_other, parts_before, path_below}
 
 pub digest-leaf : (H : List ℕ → Digest) (off : ℕ) (x : Option Digest) → x ≡ option_map (digest_of H) (option_map (leaf off) x)
@@ -25,15 +24,6 @@ digest-leaf H off (Some d) = refl
 pub kept_right : (H : List ℕ → Digest) (n : ℕ) (leaves : List (Option Digest)) (s : StoreState) (row off : ℕ) → AreParts H n leaves s
     → InForest n row off → kept leaves s row off ≡ part_digest H leaves row off
 kept_right H n leaves s row off right h = right.is row off h
-
--- where a part further up is in the forest, so is the next one
-row_open : (n number row off r : ℕ) → off ≡ number / 2 ^ row → row < r → InForest n r (number / 2 ^ r) → off / 2 < n / 2 ^ row / 2
-row_open n number row off r here ge h =
-    let up = path_below n number (suc row) r (omega arith) h in
-    omega (arith, up, parts-suc number row, parts-suc n row, here)
-
-pub up_within : (n row off : ℕ) → off / 2 < n / 2 ^ row / 2 → InForest n (suc row) (off / 2)
-up_within n row off lt = omega (arith, parts-suc n row, lt)
 
 -- the sibling of a child
 pub sibling_in : (n row off : ℕ) → InForest n (suc row) (off / 2) → InForest n row (sibling_off off)
@@ -50,47 +40,17 @@ beside_right H n leaves s number row right h =
     right.is row (sibling_off (number / 2 ^ row)) (sibling_in n row (number / 2 ^ row)
     (subst (λ x. InForest n (suc row) x) (parts-suc number row) h)) (λ low same. sibling_apart (number / 2 ^ row) (sym same))
 
--- the parts beside an entry's, below this row
-pub record AreFound (H : List ℕ → Digest) (n : ℕ) (leaves : List (Option Digest)) (number row : ℕ) (found : List (Option Digest)) : Type 0 where
-  pub forty : length found ≡ 40
-  pub is : (r : ℕ) → r < row → InForest n (suc r) (number / 2 ^ suc r) → get_or found r None ≡ part_digest H leaves r (sibling_off (number / 2 ^ r))
-
-pub one_found : (H : List ℕ → Digest) (n : ℕ) (leaves found : List (Option Digest)) (number row : ℕ) (digest : Option Digest) → row < 40
-    → digest ≡ part_digest H leaves row (sibling_off (number / 2 ^ row)) → AreFound H n leaves number row found
-    → AreFound H n leaves number (row + 1) (set found row digest)
-one_found H n leaves found number row digest low e all = record {
-  forty = length-set found row digest ∙ all.forty;
-  is = λ r lt h. ⊎_elim
-      (λ same. subst (λ k. get_or (set found row digest) k None ≡ part_digest H leaves k (sibling_off (number / 2 ^ k))) (sym same)
-      (get_or-set_same found row digest None (omega (arith, low, all.forty)) ∙ e))
-      (λ other. get_or-set_other found row r digest None other ∙ all.is r (omega (arith, lt, other)) h)
-      (cases_eq r row);
-}
-
--- where two paths meet, they go on together
-met_above : (number next row off other r : ℕ) → off ≡ number / 2 ^ row → other ≡ next / 2 ^ row → row ≤ r → off / 2 ≡ other / 2
-    → number / 2 ^ suc r ≡ next / 2 ^ suc r
-met_above number next row off other r here there le e =
-    let k = r - row in
-    let up : suc row + k ≡ suc r = omega arith in
-    let one : number / 2 ^ suc row ≡ next / 2 ^ suc row = parts-suc number row ∙ ap (λ x. x / 2) (sym here) ∙ e ∙ ap (λ x. x / 2) there
-    ∙ sym (parts-suc next row) in
-    ap (λ x. number / 2 ^ x) (sym up) ∙ sym (shr-shr number (suc row) k) ∙ ap (λ x. x / 2 ^ k) one ∙ shr-shr next (suc row) k
-    ∙ ap (λ x. next / 2 ^ x) up
-
-pub all_found : (H : List ℕ → Digest) (n : ℕ) (leaves found : List (Option Digest)) (number next row off other : ℕ) → off ≡ number / 2 ^ row
-    → other ≡ next / 2 ^ row → ((off / 2 < n / 2 ^ row / 2) × (off / 2 ≢ other / 2) → ⊥) → AreFound H n leaves number row found
-    → AreBeside H n leaves number next found
-all_found H n leaves found number next row off other here there stop all = record {
-  is = λ r h apart. ⊎_elim
-      (λ lt. all.is r lt h)
-      (λ ge. absurd (stop (
-        row_open n number row off (suc r) here (omega (arith, ge)) h,
-        λ e. apart (met_above number next row off other r here there
-            ge e),
-      )))
-      (cases_lt r row);
-}
+-- the digests so far, and one more
+pub one_found : (H : List ℕ → Digest) (leaves found : List (Option Digest)) (number row : ℕ) (digest : Option Digest) → row < length found
+    → digest ≡ part_digest H leaves row (sibling_off (number / 2 ^ row))
+    → ((r : ℕ) → r < row → get_or found r None ≡ part_digest H leaves r (sibling_off (number / 2 ^ r))) → (r : ℕ) → r < row + 1
+    → get_or (set found row digest) r None ≡ part_digest H leaves r (sibling_off (number / 2 ^ r))
+one_found H leaves found number row digest low e all r lt =
+    ⊎_elim
+    (λ same. subst (λ k. get_or (set found row digest) k None ≡ part_digest H leaves k (sibling_off (number / 2 ^ k))) (sym same)
+    (get_or-set_same found row digest None low ∙ e))
+    (λ other. get_or-set_other found row r digest None other ∙ all r (omega (arith, lt, other)))
+    (cases_eq r row)
 
 -- the two halves of the part above
 pub halves_right : (H : List ℕ → Digest) (leaves : List (Option Digest)) (row off : ℕ) (half other left right : Option Digest)
@@ -115,13 +75,6 @@ pub joined_right : (H : List ℕ → Digest) (leaves : List (Option Digest)) (ro
     → digest ≡ part_digest H leaves (suc row) o
 joined_right H leaves row o left right digest le re de =
     de ∙ ap₂ (join_digests H) le re ∙ sym (digest-join H (content leaves row (2 * o)) (content leaves row (2 * o + 1)))
-
--- the same for a row that is named by itself
-met_here : (number next row off other r : ℕ) → off ≡ number / 2 ^ row → other ≡ next / 2 ^ row → row < r → off / 2 ≡ other / 2
-    → number / 2 ^ r ≡ next / 2 ^ r
-met_here number next row off other r here there lt e =
-    let k : suc (r - 1) ≡ r = omega arith in
-    subst (λ x. number / 2 ^ x ≡ next / 2 ^ x) k (met_above number next row off other (r - 1) here there (omega arith) e)
 
 pub joined_halves : (H : List ℕ → Digest) (left right own : Option Digest) → own ≡ join_digests H left right → IsOfHalves left right own
 joined_halves H None right own e = record {
@@ -162,49 +115,18 @@ module _ (H : List ℕ → Digest) (n : ℕ) (leaves : List (Option Digest)) (s 
   }
 
   -- all rows
-  pub rows_done : (row off : ℕ) → off ≡ number / 2 ^ row → (off / 2 < n / 2 ^ row / 2 → ⊥) → ArePartsBut H n leaves s number row
-      → AreParts H n leaves s
-  rows_done row off here top but =
-      record {
-        is = λ r p h.
-            but.is r p h (λ low at.
-            top (row_open n number row off r here low (subst (λ x. InForest n r x) (sym at) h)));
-      }
+  pub rows_done : (row : ℕ) → (InForest n (suc row) (number / 2 ^ suc row) → ⊥) → ArePartsBut H n leaves s number row → AreParts H n leaves s
+  rows_done row top but =
+      record { is = λ r p h. but.is r p h (λ low at. top (path_below n number (suc row) r (omega (arith, low)) (subst (InForest n r) (sym at) h))) }
 
-  -- the halves of the part above are told
-  pub halves_told : (row : ℕ) (left right own : Option Digest) → InForest n (suc row) (number / 2 ^ suc row) → ArePartsBut H n leaves s number row
-      → left ≡ part_digest H leaves row (2 * (number / 2 ^ suc row)) → right ≡ part_digest H leaves row (2 * (number / 2 ^ suc row) + 1)
-      → own ≡ join_digests H left right
-      → IsOfHalves (stored s row (2 * (number / 2 ^ suc row))) (stored s row (2 * (number / 2 ^ suc row) + 1)) own
-  halves_told row left right own h but le re oe =
-      let off = number / 2 ^ suc row in
-      let l = but.is row (2 * off) (InForest-left n row off h) (λ low. absurd (omega arith)) in
-      let r = but.is row (2 * off + 1) (InForest-right n row off h) (λ low. absurd (omega arith)) in
-      let joined = joined_halves H left right own oe in
-      subst (λ x. IsOfHalves x (stored s row (2 * off + 1)) own) (le ∙ sym l) (subst (λ x. IsOfHalves left x own) (re ∙ sym r) joined)
-
--- all rows as far as the parts have the next entry too
-pub rows_met : (H : List ℕ → Digest) (n : ℕ) (leaves : List (Option Digest)) (s : StoreState) (number next row off other : ℕ)
-    → off ≡ number / 2 ^ row → other ≡ next / 2 ^ row → ((off / 2 < n / 2 ^ row / 2) × (off / 2 ≢ other / 2) → ⊥)
-    → ArePartsBut H n leaves s number row → ArePartsBut H n leaves s next 0
-rows_met H n leaves s number next row off other here there stop but = record {
-  is = λ r p h beyond.
-      but.is r p h (λ low at.
-      stop (
-        row_open n number row off r here low (subst (λ x. InForest n r x) (sym at) h),
-        λ e. beyond (omega arith) (sym (met_here number next row off other r here there low e) ∙ at),
-      ));
-}
-
--- the first part that is left also has the next entry
-pub climb_ends : (n number next row off other : ℕ) → off ≡ number / 2 ^ row → other ≡ next / 2 ^ row
-    → ((off / 2 < n / 2 ^ row / 2) × (off / 2 ≢ other / 2) → ⊥) → InForest n (suc row) (number / 2 ^ suc row)
-    → number / 2 ^ suc row ≡ next / 2 ^ suc row
-climb_ends n number next row off other here there stop h =
-    ⊎_elim
-    (λ e. met_above number next row off other row here there (omega arith) e)
-    (λ ne. absurd (stop (row_open n number row off (suc row) here (omega arith) h, ne)))
-    (cases_eq (off / 2) (other / 2))
+-- what is kept for the halves of the part above is right
+pub halves_kept : (H : List ℕ → Digest) (n : ℕ) (leaves : List (Option Digest)) (s : StoreState) (number row : ℕ)
+    → InForest n (suc row) (number / 2 ^ suc row) → ArePartsBut H n leaves s number row → let off = number / 2 ^ suc row in
+    (stored s row (2 * off) ≡ part_digest H leaves row (2 * off)) × (stored s row (2 * off + 1) ≡ part_digest H leaves row (2 * off + 1))
+halves_kept H n leaves s number row h but = let off = number / 2 ^ suc row in (
+  but.is row (2 * off) (InForest-left n row off h) (λ low. absurd (omega (arith, low))),
+  but.is row (2 * off + 1) (InForest-right n row off h) (λ low. absurd (omega (arith, low))),
+)
 
 -- an entry is written: all parts without it stay right
 pub but_written : (H : List ℕ → Digest) (n : ℕ) (leaves : List (Option Digest)) (s s' : StoreState) (number : ℕ) (x : Option Digest)
@@ -228,11 +150,6 @@ but_written H n leaves s s' number x room put but =
 pub but_any : (H : List ℕ → Digest) (n : ℕ) (leaves : List (Option Digest)) (s : StoreState) (number : ℕ) → AreParts H n leaves s
     → ArePartsBut H n leaves s number 0
 but_any H n leaves s number all = record { is = λ r o h off_path. all.is r o h }
-
--- no part has the entry n
-pub but_none : (H : List ℕ → Digest) (n : ℕ) (leaves : List (Option Digest)) (s : StoreState) → ArePartsBut H n leaves s n 0
-    → AreParts H n leaves s
-but_none H n leaves s but = record { is = λ r o h. but.is r o h (λ low at. omega (arith, h, at)) }
 
 -- an entry is added
 pub but_added : (H : List ℕ → Digest) (n : ℕ) (leaves : List (Option Digest)) (s s' : StoreState) (x : Option Digest) → n < length leaves

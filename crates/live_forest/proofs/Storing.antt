@@ -6,7 +6,9 @@ use Rattle.std.proofs.lemmas.Bool.{cases_eq, cases_lt, lt-ltb, le-ltb}
 use Rattle.std.proofs.lemmas.List.{get_or-set_same, get_or-set_other, length-set}
 use Rattle.std.proofs.lemmas.Nat.{pow_pos, pow-add, shl-shr, shr-shr, shr_split, mod_below, mul-le, field_of, div-mul-add, mod-mul-add}
 use Rattle.uo_digest.specs.declared.digest.Digest.{Digest}
-use Rattle.forest_place.specs.Forest.{InForest}
+use Rattle.forest_place.specs.Forest.{InForest, sibling_off}
+use Rattle.forest_place.proofs.Parts.{parts-suc}
+use Rattle.forest_place.proofs.Siblings.{sibling_cases}
 use Rattle.forest_place.proofs.Slots.{in_forest_iff}
 use Rattle.live_forest.specs.Sets.{is_bit}
 use Rattle.live_forest.specs.Pages.{PageState, told, IsEntryPut, IsPartPut, IsOfHalves}
@@ -252,3 +254,27 @@ halves_inner s row number own low halves =
     let inner = number % 128 / 2 ^ suc row in
     let both = halves_of_page s row number low in
     subst (λ x. IsOfHalves x (told p row (2 * inner + 1)) own) both.0 (subst (λ x. IsOfHalves (stored s row (2 * off)) x own) both.1 halves)
+
+-- and of the part beside one that has an entry
+pub beside_of_page : (s : StoreState) (row number : ℕ) → row < 7
+    → stored s row (sibling_off (number / 2 ^ row)) ≡ told (page_at s.pages (number / 128)) row (sibling_off (number % 128 / 2 ^ row))
+beside_of_page s row number low =
+    let half = number / 2 ^ row in
+    let inner = number % 128 / 2 ^ row in
+    let k = 6 - row in
+    let rows : 7 - row ≡ suc k = omega (arith, low) in
+    let whole : 2 * (half / 2) + half % 2 ≡ half = omega arith in
+    let in_page : inner ≡ 2 * (half / 2 % 2 ^ k) + half % 2 = sym (inner_of_part number row (omega (arith, low))) ∙ ap (λ j. half % 2 ^ j) rows
+    ∙ ap (λ x. x % 2 ^ suc k) (sym whole) ∙ (half_inner k (half / 2) (half % 2) (omega arith)).1 in
+    let both = halves_of_page s row number low in
+    let up = parts-suc number row in
+    let up' = parts-suc (number % 128) row in
+    let page = page_at s.pages (number / 128) in
+    ⊎_elim
+    (λ even.
+    ap (stored s row) (let z : sibling_off half ≡ 2 * (number / 2 ^ suc row) + 1 = omega (arith, even, up) in z) ∙ both.1
+    ∙ ap (told page row) (⊎_elim (λ a. omega (arith, a, up')) (λ a. absurd (omega (arith, a, even, in_page))) (sibling_cases inner)))
+    (λ odd.
+    ap (stored s row) (let z : sibling_off half ≡ 2 * (number / 2 ^ suc row) = omega (arith, odd, up) in z) ∙ both.0
+    ∙ ap (told page row) (⊎_elim (λ a. absurd (omega (arith, a, odd, in_page))) (λ a. omega (arith, a, up')) (sibling_cases inner)))
+    (sibling_cases half)

@@ -2,7 +2,7 @@
 use Rattle.std.proofs.Common.{◌≡◌, ◌≢◌, ℕ, zero, suc, ◌+◌, ◌-◌, ◌*◌, ◌/◌, ◌^◌, ◌<◌, ◌≤◌, Bool, true, false, refl, sym, ap, ap₂, ◌∙◌, subst, ⊎_elim}
 use Rattle.std.proofs.Common.{arith, inl, inr, ◌⊎◌}
 use Rattle.std.proofs.Common.{pow-suc, List, length, Option, Some, None}
-use Rattle.std.specs.Prelude.{◌||◌, ◌==◌, ◌%◌, is_some, get_or}
+use Rattle.std.specs.Prelude.{◌||◌, ◌==◌, ◌%◌, is_some, get_or, if◌then◌else◌}
 use Rattle.std.proofs.lemmas.Bool.{cases_Bool, cases_eq, cases_lt, or_left, true≢false, eq-eqb, ne_eqb}
 use Rattle.std.proofs.lemmas.List.{get_or_default}
 use Rattle.std.proofs.Math.Bool.{or-false}
@@ -18,7 +18,7 @@ use Rattle.live_forest.specs.Pages.{PageState, IsPage, no_cell, middle, IsBranch
 use Rattle.live_forest.specs.Pages.{IsEntryPut, IsOfHalves, IsPartPut}
 use Rattle.live_forest.proofs.Bitmaps.{last_below}
 use Rattle.live_forest.proofs.Ranks.{rank_rises, right_rank, part_other, part_none, part_subset, part_with}
-use Rattle.live_forest.proofs.Landing.{part_number, spot_beside, spot_alone, one_spot, same_above}
+use Rattle.live_forest.proofs.Landing.{part_number, branch_of, spot_beside, spot_alone, one_spot, same_above}
 
 -- ---- that something is kept
 
@@ -130,6 +130,23 @@ pair_told p page row off low h left right k cell at is =
       ap₂ when (sym (some_told p row (2 * off)) ∙ left) (ap (digest_in p.cells) at_left ∙ ap (λ (x : Cell). x.left) there),
       ap₂ when (sym (some_told p row (2 * off + 1)) ∙ right) (ap (digest_in p.cells) at_right ∙ ap (λ (x : Cell). x.right) there),
     )
+
+-- the digest of a part beside one that has listed numbers lies in the cell of the part with both
+pub beside_index : (p : PageState) → IsPage p → (row off : ℕ) → row < 7 → InForest 128 row off → has_part (is_bit p.live) row off ≡ true
+    → has_part (is_bit p.listed) row (sibling_off off) ≡ true → rank (is_bit p.listed) (middle row (off / 2)) < length p.cells
+beside_index p page row off low h live other =
+    gap_index p page row (off / 2) (page_up row off low h) (branch_of (is_bit p.listed) row off (live_listed p row off page live) other)
+
+pub beside_told : (p : PageState) → IsPage p → (row off : ℕ) → row < 7 → InForest 128 row off → has_part (is_bit p.live) row off ≡ true
+    → has_part (is_bit p.listed) row (sibling_off off) ≡ true → (k : ℕ) (cell : Cell) → k ≡ rank (is_bit p.listed) (middle row (off / 2))
+    → cell ≡ get_or p.cells k cell → told p row off ≡ Some (if off % 2 == 1 then cell.right else cell.left)
+beside_told p page row off low h live other k cell at is =
+    let s = is_bit p.listed in
+    let inside : k < length p.cells = omega (arith, at, beside_index p page row off low h live other) in
+    let there : get_or p.cells (rank s (middle row (off / 2))) no_cell ≡ cell =
+    ap (λ i. get_or p.cells i no_cell) (sym at) ∙ sym (is ∙ get_or_default p.cells k cell no_cell inside) in
+    ap₂ when live (ap (digest_in p.cells) (spot_beside s row off low other)
+    ∙ ap (λ (x : Cell). if off % 2 == 1 then x.right else x.left) there)
 
 -- no number of a page is 128 or more
 pub listed_few : (listed : ℕ) → listed < 2 ^ 128 → (i : ℕ) → is_bit listed i ≡ true → i < 128

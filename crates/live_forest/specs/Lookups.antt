@@ -1,16 +1,21 @@
 -- Where the forest looks for what stands at a place.
-use Rattle.std.specs.Prelude.{◌≡◌, ℕ, ◌+◌, ◌-◌, ◌*◌, ◌/◌, ◌<◌, ◌≤◌, false, List, length, get_or, Option, Some, None, is_some}
+use Rattle.std.specs.Prelude.{◌≡◌, ℕ, ◌+◌, ◌-◌, ◌*◌, ◌/◌, ◌<◌, ◌≤◌, true, false, List, length, get_or, Option, Some, None, is_some}
 use Rattle.uo_digest.specs.declared.digest.Digest.{Digest}
 use Rattle.forest_place.specs.declared.place.Place.{Place}
 use Rattle.forest_model.specs.Content.{Tree, content}
 use Rattle.forest_place.specs.Forest.{InForest, is_root}
 use Rattle.forest_model.specs.Standing.{tree_at}
-use Rattle.live_forest.specs.Stores.{StoreState}
+use Rattle.live_forest.specs.Stores.{StoreState, is_listed}
 use Rattle.live_forest.specs.Parts.{kept}
+use Rattle.live_forest.specs.State.{is_live}
 
 -- something is kept for the parts that have something
 pub record AreAlike (es : List (Option Digest)) (parts : StoreState) : Type 0 where
   pub is : (row off : ℕ) → InForest (length es) row off → is_some (kept es parts row off) ≡ is_some (content es row off)
+
+-- each live entry has a cell
+abbrev pub AreHeld : List (Option Digest) → StoreState → Type 0
+AreHeld es s = (i : ℕ) → is_live es i ≡ true → is_listed s.pages i ≡ true
 
 -- both halves of a part above row 0 have something
 abbrev pub HasBoth : List (Option Digest) → ℕ → ℕ → Type 0

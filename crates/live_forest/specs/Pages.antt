@@ -102,8 +102,9 @@ pub record IsBeside (is_in : ℕ → Bool) (number : ℕ) (part : Place) : Type 
 abbrev pub IsAlone : (ℕ → Bool) → ℕ → Type 0
 IsAlone is_in number = (row : ℕ) → row < 7 → has_part is_in row (sibling_off (number / 2 ^ row)) ≡ false
 
--- the cell that goes with a number: the first one, where no other number is listed; else that of the part in which the number meets others, and then
--- what lies there for these others lies where that of this part did
+-- before a number is taken out, the cell that goes with it is made free. Where the number is alone that is the first cell, and nothing moves. Else it
+-- is the cell of the part in which the number meets others: without the number, what these others have is all that the part has, so their digest
+-- moves to where that of the part lies
 abbrev pub IsLifted : ℕ → List Cell → List Cell → ℕ → ℕ → Type 0
 IsLifted listed old new number out =
     (IsAlone (is_bit listed) number × (new ≡ old) × (out ≡ 0))

@@ -30,10 +30,11 @@ pub record AreParts (H : List ℕ → Digest) (n : ℕ) (leaves : List (Option D
 pub record ArePartsBut (H : List ℕ → Digest) (n : ℕ) (leaves : List (Option Digest)) (s : StoreState) (number row : ℕ) : Type 0 where
   pub is : (r o : ℕ) → InForest n r o → (row < r → number / 2 ^ r ≢ o) → stored s r o ≡ part_digest H leaves r o
 
--- the digests of what stands beside the parts that have this entry, by their rows, as far as the next one has others
-pub record AreBeside (H : List ℕ → Digest) (n : ℕ) (leaves : List (Option Digest)) (number next : ℕ) (beside : List (Option Digest)) : Type 0 where
-  pub is : (row : ℕ) → InForest n (suc row) (number / 2 ^ suc row) → number / 2 ^ suc row ≢ next / 2 ^ suc row
-      → get_or beside row None ≡ part_digest H leaves row (sibling_off (number / 2 ^ row))
+-- an entry has parts in so many rows above its own, and these are the digests of what stands beside them, by their rows
+pub record AreBeside (H : List ℕ → Digest) (n : ℕ) (leaves : List (Option Digest)) (number rows : ℕ) (beside : List (Option Digest)) : Type 0 where
+  pub within : InForest n rows (number / 2 ^ rows)
+  pub last : InForest n (suc rows) (number / 2 ^ suc rows) → ⊥
+  pub is : (row : ℕ) → row < rows → get_or beside row None ≡ part_digest H leaves row (sibling_off (number / 2 ^ row))
 
 -- how many digests it takes to join two halves: one where both have something
 abbrev pub pairs : {X : Type 0} → Option X → Option X → ℕ
@@ -52,11 +53,4 @@ pub record IsClimbed (n : ℕ) (es : List (Option Digest)) (number before after 
   pub top : ℕ
   pub within : InForest n top (number / 2 ^ top)
   pub last : InForest n (suc top) (number / 2 ^ suc top) → ⊥
-  pub count : after ≡ before + digests_to es number top
-
--- the steps of a climb from an entry as far as the next one has other parts
-pub record IsClimbedTo (n : ℕ) (es : List (Option Digest)) (number next before after : ℕ) : Type 0 where
-  pub top : ℕ
-  pub within : InForest n top (number / 2 ^ top)
-  pub last : InForest n (suc top) (number / 2 ^ suc top) → number / 2 ^ suc top ≡ next / 2 ^ suc top
   pub count : after ≡ before + digests_to es number top

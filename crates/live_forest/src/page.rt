@@ -1,7 +1,7 @@
 //! A page: what is kept for the parts of 128 numbers.
 ghost use Rattle.std.specs.Prelude.{◌≡◌, ◌≢◌, ℕ, suc, ◌+◌, ◌-◌, ◌*◌, ◌/◌, ◌^◌, ◌<◌, ◌≤◌, [], length, get_or, Some, None, true, false};
 ghost use Rattle.std.specs.Prelude.{is_some, option_copied, OnOk, OnErr, IfOk};
-ghost use Rattle.forest_place.specs.Forest.{InForest};
+ghost use Rattle.forest_place.specs.Forest.{InForest, sibling_off};
 ghost use Rattle.live_forest.specs.Sets.{is_bit, has_part, rank as rank_of, IsWith, IsWithout};
 ghost use Rattle.live_forest.specs.Pages.{PageState, middle as middle_of, spot, digest_at, told, IsPut, IsLifted};
 ghost use Rattle.live_forest.specs.Pages.{IsEntryPut, IsPartPut, IsOfHalves, AreOfHalves};
@@ -9,7 +9,7 @@ ghost use Rattle.live_forest.specs.Pages.{IsEntryPut, IsPartPut, IsOfHalves, Are
 use crate::bits::{has, has_some, rank, with, without};
 use crate::cell::Cell;
 use crate::spots::{Spot, is_branch, middle, nearest, spot_of};
-use forest_place::{Place, parent};
+use forest_place::{Place, parent, sibling};
 use std::alloc::{AllocError, Global};
 use std::marker::Model;
 use uo_digest::Digest;
@@ -65,7 +65,8 @@ fn put(cells: &mut Vec<Cell>, spot: Spot, digest: Digest)
     }
 }
 
-// Puts the digest of a part where that of the part above it is, in which it has all that is left; and answers which cell goes.
+// Moves the digest of a part to where that of the part above lies, since its sibling will have nothing listed; and answers which cell held both halves,
+// and is free from now on.
 fn lift(listed: u128, cells: &mut Vec<Cell>, part: Place) -> usize
     requires row { part.row < 7 }
     requires within { InForest 128 part.row part.off }
@@ -167,6 +168,28 @@ impl Page {
             return None;
         }
         Some(digest_of(self.listed, &self.cells, row, off))
+    }
+
+    /// What is kept for the part beside the one of a row that has a listed number.
+    pub fn beside(&self, row: u8, number: u64) -> Option<&Digest>
+        requires row { row < 7 }
+        requires number { number < 128 }
+        requires listed { is_bit self.now.listed number ≡ true }
+        ensures { option_copied result ≡ told self.now row (sibling_off (number / 2 ^ row)) }
+    {
+        let other = sibling(Place {
+            row,
+            off: number >> row,
+        });
+        if !has_some(self.live, row, other.off) {
+            return None;
+        }
+        let cell = &self.cells[rank(self.listed, middle(row, other.off / 2))];
+        Some(if other.off % 2 == 0 {
+            &cell.left
+        } else {
+            &cell.right
+        })
     }
 
     /// Whether something is kept for the halves of a part of the row above.
@@ -293,7 +316,7 @@ impl Page {
         let right = Digest([0; 32]);
         let left = match nearest(self.listed, number) {
             None => right,
-            Some(before) => *digest_of(self.listed, &self.cells, before.row, before.off),
+            Some(before) => self.part(before.row, before.off).copied().unwrap_or(right),
         };
         self.cells.push(Cell { left, right })?;
         self.listed = with(self.listed, number);

@@ -10,7 +10,7 @@ ghost use Rattle.forest_model.specs.Content.{content};
 ghost use Rattle.forest_model.specs.Deletion.{StandAt};
 ghost use Rattle.forest_model.specs.Standing.{tree_at};
 ghost use Rattle.forest_model.specs.EntryPlace.{entry_place};
-ghost use Rattle.live_forest.specs.Lookups.{AreAlike};
+ghost use Rattle.live_forest.specs.Lookups.{AreAlike, AreHeld};
 ghost use Rattle.live_forest.specs.Parts.{entries_in, kept, AreParts};
 ghost use Rattle.live_forest.specs.Proving.{places_of, standing, proof_of, in_row, list_of, HasRows, HasPlaces, AreIn, AreBehind, AreMore};
 ghost use Rattle.live_forest.specs.Proving.{AreOfPart, AreFrom, behind};
@@ -19,7 +19,7 @@ ghost use Rattle.live_forest.specs.State.{is_live};
 use crate::batch::{BatchProof, Sibling};
 use crate::found::Found;
 use crate::seek::child;
-use crate::seen::{has_in, lent_in};
+use crate::seen::{beside_in, has_in, lent_in};
 use crate::store::Store;
 use forest_place::{Place, children, sibling};
 use smallvec::SmallVec;
@@ -156,6 +156,7 @@ fn descend_to<'a, D: Digester>(
 ) -> Result<(), AllocError>
     requires small { length (entries_in n store.now) < 2 ^ 40 }
     requires room { n ≤ store.now.len }
+    requires held { AreHeld (entries_in n store.now) store.now }
     requires right { AreParts D.digest_of (length (entries_in n store.now)) (entries_in n store.now) store.now }
     requires within { InForest (length (entries_in n store.now)) part.row part.off }
     requires stands { tree_at (entries_in n store.now) place.row place.off ≡ content (entries_in n store.now) part.row part.off }
@@ -172,8 +173,7 @@ fn descend_to<'a, D: Digester>(
     let mut above = place;
     'way: while at.row > 0 {
         let half = child(at, number >> (at.row - 1));
-        let other = sibling(half);
-        match lent_in(store, n, other.row, other.off) {
+        match beside_in(store, n, half.row, number) {
             None => at = half,
             Some(digest) => {
                 let below = child(above, half.off);
@@ -225,6 +225,7 @@ fn descend<'a, D: Digester>(
 ) -> Result<(), AllocError>
     requires small { length (entries_in n store.now) < 2 ^ 40 }
     requires room { n ≤ store.now.len }
+    requires held { AreHeld (entries_in n store.now) store.now }
     requires right { AreParts D.digest_of (length (entries_in n store.now)) (entries_in n store.now) store.now }
     requires within { InForest (length (entries_in n store.now)) part.row part.off }
     requires stands { tree_at (entries_in n store.now) place.row place.off ≡ content (entries_in n store.now) part.row part.off }
@@ -275,6 +276,7 @@ fn descend_from<'a, 'b, D: Digester>(
 ) -> Result<&'b [u64], AllocError>
     requires small { length (entries_in n store.now) < 2 ^ 40 }
     requires room { n ≤ store.now.len }
+    requires held { AreHeld (entries_in n store.now) store.now }
     requires right { AreParts D.digest_of (length (entries_in n store.now)) (entries_in n store.now) store.now }
     requires row { row < 40 }
     requires rise { IsNonDecreasing numbers.now }
@@ -317,6 +319,7 @@ fn rows_of<'a, D: Digester>(
 ) -> Result<Vec<Found<'a>>, AllocError>
     requires small { length (entries_in n store.now) < 2 ^ 40 }
     requires room { n ≤ store.now.len }
+    requires held { AreHeld (entries_in n store.now) store.now }
     requires right { AreParts D.digest_of (length (entries_in n store.now)) (entries_in n store.now) store.now }
     requires live { All (λ i. is_live (entries_in n store.now) i ≡ true) numbers.now }
     requires rise { IsNonDecreasing numbers.now }
@@ -354,6 +357,7 @@ pub(crate) fn proof_of_entries<D: Digester>(
 ) -> Result<BatchProof, AllocError>
     requires small { length (entries_in n store.now) < 2 ^ 40 }
     requires room { n ≤ store.now.len }
+    requires held { AreHeld (entries_in n store.now) store.now }
     requires right { AreParts D.digest_of (length (entries_in n store.now)) (entries_in n store.now) store.now }
     requires live { All (λ i. is_live (entries_in n store.now) i ≡ true) numbers.now }
     requires rise { IsNonDecreasing numbers.now }

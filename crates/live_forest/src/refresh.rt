@@ -1,70 +1,83 @@
 //! Writing entries: the parts above one are made right, from the lowest upwards.
-ghost use Rattle.std.specs.Prelude.{◌≡◌, ◌≢◌, ◌↔◌, ℕ, ◌+◌, ◌-◌, ◌*◌, ◌/◌, ◌%◌, ◌^◌, ◌<◌, ◌≤◌, length, set, get_or, Some, None, IsTrue, All, true};
+ghost use Rattle.std.specs.Prelude.{◌≡◌, ◌↔◌, suc, ◌+◌, ◌*◌, ◌/◌, ◌%◌, ◌^◌, ◌<◌, ◌≤◌, length, set, Some, IsTrue, true};
 ghost use Rattle.std.specs.Prelude.{map, option_copied};
 ghost use Rattle.forest_model.specs.Content.{join_digests};
-ghost use Rattle.forest_model.specs.Deletion.{entries_without};
 ghost use Rattle.forest_place.specs.Forest.{InForest};
 ghost use Rattle.forest_place.specs.Position.{rows as rows_of};
-ghost use Rattle.live_forest.specs.Stores.{is_listed, HasRoomOf};
-ghost use Rattle.live_forest.specs.Parts.{leaves_of, AreParts, ArePartsBut, AreBeside, pairs, IsClimbed, IsClimbedTo};
+ghost use Rattle.live_forest.specs.Stores.{stored, is_listed, IsPartKept, HasRoomOf};
+ghost use Rattle.live_forest.specs.Parts.{leaves_of, AreParts, ArePartsBut, AreBeside, pairs, IsClimbed};
 
 use crate::store::Store;
-use forest_place::{Place, sibling};
+use crate::waiting::part_of;
 use forest_roots::pair;
 use std::sync::ledger::Ledger;
 use uo_digest::{Digest, Digester, Steps};
 
-// The digest of a part, from those of its halves.
-fn joined<D: Digester, L: Ledger>(
+// Whether the forest has the part of the row above that has an entry.
+fn goes_up(n: u64, row: u8, number: u64) -> bool
+    requires { row < 40 }
+    ensures { IsTrue result ↔ InForest n (suc row) (number / 2 ^ suc row) }
+{
+    part_of(number, row) < part_of(n, row)
+}
+
+// Makes the part of the row above that has an entry of its halves, and answers what it has.
+fn join<D: Digester, L: Ledger>(
+    store: &mut Store,
+    n: u64,
+    row: u8,
+    number: u64,
     left: &Option<Digest>,
     right: &Option<Digest>,
     steps: &mut Steps<L>,
 ) -> Option<Digest>
+    requires small { n < 2 ^ 40 }
+    requires room { n ≤ store.old.len }
+    requires within { InForest n (suc row) (number / 2 ^ suc row) }
+    requires listed { is_listed store.old.pages number ≡ true }
+    requires left { left.now ≡ stored store.old row (2 * (number / 2 ^ suc row)) }
+    requires right { right.now ≡ stored store.old row (2 * (number / 2 ^ suc row) + 1) }
     ensures is { result ≡ join_digests D.digest_of left.now right.now }
+    ensures put { IsPartKept store.old store.new row number result }
+    ensures room { HasRoomOf store.old store.new }
     ensures cost { steps.new ≡ steps.old + pairs left.now right.now }
 {
-    match left {
-        None => *right,
-        Some(l) => match right {
-            None => *left,
-            Some(r) => Some(pair::<D, L>(*l, *r, steps)),
-        },
-    }
+    let Some(l) = left else {
+        store.put_part(n, row, number, *right);
+        return *right;
+    };
+    let Some(r) = right else {
+        store.put_part(n, row, number, *left);
+        return *left;
+    };
+    let own = pair::<D, L>(*l, *r, steps);
+    store.put_joined(n, row, number, own);
+    Some(own)
 }
 
-// Whether the forest has the part above one, and that does not also have another one of its row.
-fn goes_up(n: u64, row: u8, off: u64, other: u64) -> bool
-    requires { row < 40 }
-    ensures { IsTrue result ↔ ((off / 2 < n / 2 ^ row / 2) × (off / 2 ≢ other / 2)) }
-{
-    off / 2 < (n >> row) / 2 && off / 2 != other / 2
-}
-
-// Finds what stands beside the parts that have an entry, by its row, as far as they do not also have the one that comes next.
+// Finds what stands beside the parts that have an entry, by its row, and answers how many rows there are.
 fn find_beside<'a, D: Digester>(
     store: &'a Store,
     n: u64,
     number: u64,
-    next: u64,
     beside: &mut [Option<&'a Digest>],
-)
+) -> u8
     requires small { n < 2 ^ 40 }
     requires room { n ≤ store.now.len }
     requires number { number < n }
+    requires listed { is_listed store.now.pages number ≡ true }
     requires forty { length beside.old ≡ 40 }
     requires right { ArePartsBut D.digest_of n (leaves_of store.now) store.now number 0 }
+    ensures few { result < 40 }
     ensures forty { length beside.new ≡ 40 }
-    ensures beside { AreBeside D.digest_of n (leaves_of store.now) number next (map option_copied beside.new) }
+    ensures beside { AreBeside D.digest_of n (leaves_of store.now) number result (map option_copied beside.new) }
 {
     let mut row: u8 = 0;
-    let mut off = number;
-    let mut other = next;
-    'rows: while goes_up(n, row, off, other) {
-        beside[row as usize] = store.lent(n, row, sibling(Place { row, off }).off);
-        off /= 2;
-        other /= 2;
+    'rows: while goes_up(n, row, number) {
+        beside[row as usize] = store.beside(n, row, number);
         row += 1;
     }
+    row
 }
 
 // Reads digests that were found.
@@ -77,26 +90,24 @@ fn read_all(found: &[Option<&Digest>], digests: &mut [Option<Digest>])
     }
 }
 
-// Puts what stands beside the parts that have an entry by its row, as far as they do not also have the one that comes next. It is found first, and
-// then read in one loop. So all the memory that a change reads and writes is asked for before the first digest, where no read waits for another.
-fn gather<D: Digester>(
-    store: &Store,
-    n: u64,
-    number: u64,
-    next: u64,
-    siblings: &mut [Option<Digest>],
-)
+// Puts what stands beside the parts that have an entry by its row, and answers how many rows there are. It is found first, and then read in one
+// loop. So all the memory that a change reads and writes is asked for before the first digest, where no read waits for another.
+fn gather<D: Digester>(store: &Store, n: u64, number: u64, siblings: &mut [Option<Digest>]) -> u8
     requires small { n < 2 ^ 40 }
     requires room { n ≤ store.now.len }
     requires number { number < n }
+    requires listed { is_listed store.now.pages number ≡ true }
     requires forty { length siblings.old ≡ 40 }
     requires right { ArePartsBut D.digest_of n (leaves_of store.now) store.now number 0 }
+    ensures few { result < 40 }
     ensures forty { length siblings.new ≡ 40 }
-    ensures beside { AreBeside D.digest_of n (leaves_of store.now) number next siblings.new }
+    ensures beside { AreBeside D.digest_of n (leaves_of store.now) number result siblings.new }
 {
     let mut beside = [None; 40];
-    find_beside::<D>(store, n, number, next, &mut beside);
-    read_all(&beside, siblings);
+    let rows = find_beside::<D>(store, n, number, &mut beside);
+    let count = rows as usize;
+    read_all(&beside[..count], &mut siblings[..count]);
+    rows
 }
 
 // Two halves from left to right, of which one is at this offset.
@@ -115,44 +126,28 @@ fn in_order<'a>(
     }
 }
 
-// Makes the parts right that have an entry and not also the one that comes next, from the lowest upwards. `siblings` is room for what stands beside
-// them.
-fn refresh<D: Digester, L: Ledger>(
-    store: &mut Store,
-    n: u64,
-    number: u64,
-    next: u64,
-    siblings: &mut [Option<Digest>],
-    steps: &mut Steps<L>,
-)
+// Makes the parts right that have an entry, from the lowest upwards.
+fn refresh<D: Digester, L: Ledger>(store: &mut Store, n: u64, number: u64, steps: &mut Steps<L>)
     requires small { n < 2 ^ 40 }
     requires room { n ≤ store.old.len }
     requires number { number < n }
-    requires forty { length siblings.old ≡ 40 }
     requires listed { is_listed store.old.pages number ≡ true }
     requires right { ArePartsBut D.digest_of n (leaves_of store.old) store.old number 0 }
-    ensures right { ArePartsBut D.digest_of n (leaves_of store.old) store.new next 0 }
+    ensures right { AreParts D.digest_of n (leaves_of store.old) store.new }
     ensures leaves { leaves_of store.new ≡ leaves_of store.old }
     ensures room { HasRoomOf store.old store.new }
-    ensures forty { length siblings.new ≡ 40 }
-    ensures cost { IsClimbedTo n (leaves_of store.old) number next steps.old steps.new }
+    ensures cost { IsClimbed n (leaves_of store.old) number steps.old steps.new }
 {
-    gather::<D>(store, n, number, next, siblings);
+    let mut siblings = [None; 40];
+    let rows = gather::<D>(store, n, number, &mut siblings);
     let mut digest = store.part(n, 0, number);
-    let mut row: u8 = 0;
-    let mut off = number;
-    let mut other = next;
-    'rows: while goes_up(n, row, off, other) {
-        let (left, right) = in_order(off, &digest, &siblings[row as usize]);
-        digest = joined::<D, L>(left, right, steps);
-        off /= 2;
-        other /= 2;
-        store.put_part(n, row, number, digest);
-        row += 1;
+    for row in 0..rows {
+        let (left, right) = in_order(number >> row, &digest, &siblings[row as usize]);
+        digest = join::<D, L>(store, n, row, number, left, right, steps);
     }
 }
 
-// Makes all parts right that have the last entry. What stands beside them was written a short while ago, so it is read where it is joined.
+// The same for the last entry. What stands beside its parts was written a short while ago, so it is read where it is joined.
 fn refresh_last<D: Digester, L: Ledger>(
     store: &mut Store,
     n: u64,
@@ -170,40 +165,11 @@ fn refresh_last<D: Digester, L: Ledger>(
     ensures cost { IsClimbed n (leaves_of store.old) number steps.old steps.new }
 {
     let mut row: u8 = 0;
-    let mut off = number;
-    while off / 2 < (n >> row) / 2 {
-        off /= 2;
-        let (left, right) = store.halves(n, row, off);
-        let above = joined::<D, L>(&left, &right, steps);
-        store.put_part(n, row, number, above);
+    'rows: while goes_up(n, row, number) {
+        let (left, right) = store.halves(n, row, part_of(number, row));
+        join::<D, L>(store, n, row, number, &left, &right, steps);
         row += 1;
     }
-}
-
-// Writes an entry, and makes the parts right that have it and not also the one that comes next.
-fn write<D: Digester, L: Ledger>(
-    store: &mut Store,
-    n: u64,
-    number: u64,
-    next: u64,
-    entry: Option<Digest>,
-    siblings: &mut [Option<Digest>],
-    steps: &mut Steps<L>,
-)
-    requires small { n < 2 ^ 40 }
-    requires room { n ≤ store.old.len }
-    requires number { number < n }
-    requires forty { length siblings.old ≡ 40 }
-    requires listed { is_listed store.old.pages number ≡ true }
-    requires right { ArePartsBut D.digest_of n (leaves_of store.old) store.old number 0 }
-    ensures leaves { leaves_of store.new ≡ set (leaves_of store.old) number entry }
-    ensures right { ArePartsBut D.digest_of n (leaves_of store.new) store.new next 0 }
-    ensures room { HasRoomOf store.old store.new }
-    ensures forty { length siblings.new ≡ 40 }
-    ensures cost { steps.new ≤ steps.old + rows_of n }
-{
-    store.put_entry(number, entry);
-    refresh::<D, L>(store, n, number, next, siblings, steps);
 }
 
 /// Writes an entry, and makes the parts above it right.
@@ -224,9 +190,8 @@ pub(crate) fn put<D: Digester, L: Ledger>(
     ensures room { HasRoomOf store.old store.new }
     ensures cost { steps.new ≤ steps.old + rows_of n }
 {
-    let mut siblings = [None; 40];
-    // No part has an entry n.
-    write::<D, L>(store, n, number, n, entry, &mut siblings, steps);
+    store.put_entry(number, entry);
+    refresh::<D, L>(store, n, number, steps);
 }
 
 /// Writes the entry after the first n.

@@ -1,6 +1,8 @@
 //! What the look-ups read: the parts of the first `n` entries.
-ghost use Rattle.std.specs.Prelude.{◌≡◌, ◌↔◌, ◌^◌, ◌<◌, ◌≤◌, length, IsTrue, is_some, option_copied};
-ghost use Rattle.forest_place.specs.Forest.{InForest, is_root as is_root_at};
+ghost use Rattle.std.specs.Prelude.{◌≡◌, ◌↔◌, ◌/◌, ◌^◌, ◌<◌, ◌≤◌, length, IsTrue, true, is_some, option_copied};
+ghost use Rattle.forest_place.specs.Forest.{InForest, is_root as is_root_at, sibling_off};
+ghost use Rattle.live_forest.specs.Lookups.{AreHeld};
+ghost use Rattle.live_forest.specs.State.{is_live};
 ghost use Rattle.live_forest.specs.Parts.{entries_in, kept};
 
 use crate::store::Store;
@@ -25,6 +27,18 @@ pub(crate) fn lent_in(store: &Store, n: u64, row: u8, off: u64) -> Option<&Diges
     ensures { option_copied result ≡ kept (entries_in n store.now) store.now row off }
 {
     store.lent(n, row, off)
+}
+
+/// The digest that is kept for the part beside the one of a row that has a live entry, where it lies.
+pub(crate) fn beside_in(store: &Store, n: u64, row: u8, number: u64) -> Option<&Digest>
+    requires small { length (entries_in n store.now) < 2 ^ 40 }
+    requires room { n ≤ store.now.len }
+    requires held { AreHeld (entries_in n store.now) store.now }
+    requires live { is_live (entries_in n store.now) number ≡ true }
+    requires within { InForest (length (entries_in n store.now)) row (sibling_off (number / 2 ^ row)) }
+    ensures { option_copied result ≡ kept (entries_in n store.now) store.now row (sibling_off (number / 2 ^ row)) }
+{
+    store.beside(n, row, number)
 }
 
 /// Whether something is kept for a part.

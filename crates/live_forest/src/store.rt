@@ -1,13 +1,14 @@
 //! What is kept for all parts of the entries.
 ghost use Rattle.std.specs.Prelude.{◌≡◌, ◌≢◌, ℕ, suc, ◌+◌, ◌-◌, ◌*◌, ◌/◌, ◌%◌, ◌^◌, ◌<◌, ◌≤◌, [], length, get_or, set, Some, None, true};
 ghost use Rattle.std.specs.Prelude.{is_some, option_copied, OnOk, OnErr, max};
-ghost use Rattle.forest_place.specs.Forest.{InForest};
+ghost use Rattle.forest_place.specs.Forest.{InForest, sibling_off};
 ghost use Rattle.live_forest.specs.Pages.{IsOfHalves};
 ghost use Rattle.live_forest.specs.Stores.{seam as seam_of, stored, paged, is_listed, IsEntryKept, IsPartKept, HasRoomOf};
 ghost use Rattle.live_forest.specs.Stores.{ArePages, IsLonger, AreStoredOfHalves};
 ghost use Rattle.live_forest.specs.Sets.{IsWithout};
 
 use crate::page::Page;
+use forest_place::{Place, sibling};
 use std::alloc::{AllocError, Global};
 use std::marker::Model;
 use uo_digest::Digest;
@@ -143,6 +144,25 @@ impl Store {
             self.pages[(off >> rows) as usize].part(row, off % (1 << rows))
         } else {
             self.high[seam(row - PAGE_ROW - 1, off)].as_ref()
+        }
+    }
+
+    /// What is kept for the part beside the one of a row that has an entry, of those that `n` entries have, where it lies.
+    pub fn beside(&self, n: u64, row: u8, number: u64) -> Option<&Digest>
+        requires small { n < 2 ^ 40 }
+        requires room { n ≤ self.now.len }
+        requires within { InForest n row (sibling_off (number / 2 ^ row)) }
+        requires listed { is_listed self.now.pages number ≡ true }
+        ensures { option_copied result ≡ stored self.now row (sibling_off (number / 2 ^ row)) }
+    {
+        if row < PAGE_ROW {
+            self.pages[(number >> PAGE_ROW) as usize].beside(row, number % 128)
+        } else {
+            let other = sibling(Place {
+                row,
+                off: number >> row,
+            });
+            self.lent(n, row, other.off)
         }
     }
 

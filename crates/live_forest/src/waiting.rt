@@ -7,6 +7,7 @@ ghost use Rattle.live_forest.specs.Stores.{stored, is_listed};
 ghost use Rattle.live_forest.specs.Rows.{IsJoined, IsRowStep, HasRoom, AreWaiting, AreAll, IsRenewed, part_above};
 
 use crate::store::Store;
+use forest_roots::pair;
 use std::sync::ledger::Ledger;
 use uo_digest::{Digest, Digester, Steps};
 
@@ -120,8 +121,31 @@ fn put_each<D: Digester>(store: &mut Store, n: u64, row: u8, numbers: &[u64], di
     }
 }
 
-/// Digests the parts that wait, and puts their digests.
-pub(crate) fn put_waiting<D: Digester, L: Ledger>(
+// Digests one part of the row above, which has this entry, and puts its digest.
+fn put_one<D: Digester, L: Ledger>(
+    store: &mut Store,
+    n: u64,
+    row: u8,
+    number: u64,
+    steps: &mut Steps<L>,
+)
+    requires small { n < 2 ^ 40 }
+    requires room { n ≤ store.old.len }
+    requires low { row < 40 }
+    requires within { InForest n (suc row) (number / 2 ^ suc row) }
+    requires listed { is_listed store.old.pages number ≡ true }
+    requires left { is_some (stored store.old row (2 * (number / 2 ^ suc row))) ≡ true }
+    requires right { is_some (stored store.old row (2 * (number / 2 ^ suc row) + 1)) ≡ true }
+    ensures step { (new : ℕ → Bool) → new number ≡ true → IsRowStep D.digest_of new row store.old store.new }
+    ensures done { IsJoined D.digest_of store.new row (number / 2 ^ suc row) }
+    ensures cost { steps.new ≡ steps.old + 1 }
+{
+    let (left, right) = store.pair(n, row, part_of(number, row));
+    store.put_joined(n, row, number, pair::<D, L>(left, right, steps));
+}
+
+// Digests parts that wait side by side, and puts their digests.
+fn put_some<D: Digester, L: Ledger>(
     store: &mut Store,
     n: u64,
     row: u8,
@@ -145,4 +169,27 @@ pub(crate) fn put_waiting<D: Digester, L: Ledger>(
     let digests = &mut room[..count];
     D::digest_pairs(pairs, digests, steps);
     put_each::<D>(store, n, row, numbers, digests);
+}
+
+/// Digests the parts that wait, and puts their digests. In most rows of a small block one part waits alone.
+pub(crate) fn put_waiting<D: Digester, L: Ledger>(
+    store: &mut Store,
+    n: u64,
+    row: u8,
+    waiting: &Waiting,
+    steps: &mut Steps<L>,
+)
+    requires small { n < 2 ^ 40 }
+    requires room { n ≤ store.old.len }
+    requires low { row < 40 }
+    requires waiting { AreWaiting n store.old row waiting.now }
+    ensures step { (new : ℕ → Bool) → AreAll new waiting.now.numbers waiting.now.count → IsRowStep D.digest_of new row store.old store.new }
+    ensures done { (j : ℕ) → j < waiting.now.count → IsJoined D.digest_of store.new row (part_above waiting.now.numbers row j) }
+    ensures cost { steps.new ≡ steps.old + waiting.now.count }
+{
+    match waiting.count {
+        0 => {}
+        1 => put_one::<D, L>(store, n, row, waiting.numbers[0], steps),
+        _ => put_some::<D, L>(store, n, row, waiting, steps),
+    }
 }

@@ -114,7 +114,7 @@ descend-requires g t c κs within =
             c.requires.small,
             (
               c.requires.room,
-              (c.requires.right, (halves.right_within, (stands, (c.requires.there, (c.requires.rise, (inside, c.requires.wide)))))),
+              (c.requires.held, (c.requires.right, (halves.right_within, (stands, (c.requires.there, (c.requires.rise, (inside, c.requires.wide))))))),
             ),
           ),
         ),
@@ -149,7 +149,7 @@ descend-requires-then-not-on_right g t c κs within =
             c.requires.small,
             (
               c.requires.room,
-              (c.requires.right, (halves.left_within, (stands, (c.requires.there, (c.requires.rise, (inside, c.requires.wide)))))),
+              (c.requires.held, (c.requires.right, (halves.left_within, (stands, (c.requires.there, (c.requires.rise, (inside, c.requires.wide))))))),
             ),
           ),
         ),
@@ -260,7 +260,7 @@ descend-requires-2 g t c κs within =
             c.requires.small,
             (
               c.requires.room,
-              (c.requires.right, (halves.left_within, (stands, (there, (rise, (inside, c.requires.wide)))))),
+              (c.requires.held, (c.requires.right, (halves.left_within, (stands, (there, (rise, (inside, c.requires.wide))))))),
             ),
           ),
         ),
@@ -305,7 +305,7 @@ descend-requires-3 g t c κs within =
             c.requires.small,
             (
               c.requires.room,
-              (c.requires.right, (halves.right_within, (stands, (there, (rise, (inside, c.in_ok-descend.ensures.wide)))))),
+              (c.requires.held, (c.requires.right, (halves.right_within, (stands, (there, (rise, (inside, c.in_ok-descend.ensures.wide))))))),
             ),
           ),
         ),

@@ -1,5 +1,6 @@
-use Rattle.std.proofs.Common.{◌≡◌, ◌/◌, ◌%◌, ◌^◌, ◌++◌, length, Some, None, sym, ap, ◌∙◌, arith}
+use Rattle.std.proofs.Common.{◌≡◌, ◌/◌, ◌%◌, ◌^◌, ◌++◌, length, Some, None, refl, sym, ap, ◌∙◌, subst, arith}
 use Rattle.forest_place.specs.declared.place.Place.{Place}
+use Rattle.forest_place.specs.Forest.{InForest, sibling_off}
 use Rattle.forest_place.proofs.Positions.{row_small}
 use Rattle.forest_model.specs.Content.{content}
 use Rattle.live_forest.specs.Parts.{kept}
@@ -18,18 +19,19 @@ overflow_shr-number g c =
     let row = row_small (length (entries_in c.args.n c.args.store.now)) c.way.at.row c.way.at.off 40 c.way.invariant.within c.requires.small in
     omega (arith, row)
 
-pub lent_in-requires-clause-within : goal.lent_in-requires-clause-within
-lent_in-requires-clause-within g c =
-    let H = g.D.Digester.digest_of in
-    let es = (entries_in c.args.n c.args.store.now) in
-    let parts = c.args.store.now in
+pub beside_in-requires-clause-live : goal.beside_in-requires-clause-live
+beside_in-requires-clause-live g c = (c.requires.inside 0 0 (omega arith)).0
+
+pub beside_in-requires-clause-within : goal.beside_in-requires-clause-within
+beside_in-requires-clause-within g c =
+    let es = entries_in c.args.n c.args.store.now in
     let at = c.way.at in
-    let q = c.way.above in
     let half = c.child-half.result in
-    let other = c.sibling-other.result in
-    let pair = pair_of at half other _ (omega (arith, c.way-test.true)) c.child-half.ensures c.sibling-other.ensures.row
-    c.sibling-other.ensures.off in
-    half_within (length es) at other half (other_pair at half other pair) c.way.invariant.within
+    let other : Place = record { row = half.row; off = sibling_off half.off } in
+    let pair = pair_of at half other _ (omega (arith, c.way-test.true)) c.child-half.ensures refl refl in
+    let inside = own_half at half c.args.number (omega (arith, c.way-test.true)) c.child-half.ensures c.way.invariant.inside in
+    subst (λ o. InForest (length es) half.row (sibling_off o)) (sym inside)
+    (half_within (length es) at other half (other_pair at half other pair) c.way.invariant.within)
 
 pub way-preserved-in-None : goal.way-preserved-in-None
 way-preserved-in-None g c =
@@ -39,11 +41,11 @@ way-preserved-in-None g c =
     let at = c.way.at in
     let q = c.way.above in
     let half = c.child-half.result in
-    let other = c.sibling-other.result in
-    let pair = pair_of at half other _ (omega (arith, c.way-test.true)) c.child-half.ensures c.sibling-other.ensures.row
-    c.sibling-other.ensures.off in
+    let other : Place = record { row = half.row; off = sibling_off half.off } in
+    let pair = pair_of at half other _ (omega (arith, c.way-test.true)) c.child-half.ensures refl refl in
     let inside = own_half at half c.args.number (omega (arith, c.way-test.true)) c.child-half.ensures c.way.invariant.inside in
-    let none : None ≡ kept es parts other.row other.off = c.in-None.ensures in
+    let none : None ≡ kept es parts other.row other.off =
+    c.in-None.ensures ∙ ap (λ o. kept es parts half.row (sibling_off o)) inside in
     let nothing : content es other.row other.off ≡ None = tree_none es parts (alike H es parts c.requires.right) other.row other.off
     (half_within (length es) at other half (other_pair at half other pair) c.way.invariant.within) none in
     record {
@@ -63,13 +65,13 @@ child-below-requires-clause-row g c =
     let at = c.way.at in
     let q = c.way.above in
     let half = c.child-half.result in
-    let other = c.sibling-other.result in
-    let pair = pair_of at half other _ (omega (arith, c.way-test.true)) c.child-half.ensures c.sibling-other.ensures.row
-    c.sibling-other.ensures.off in
+    let other : Place = record { row = half.row; off = sibling_off half.off } in
+    let pair = pair_of at half other _ (omega (arith, c.way-test.true)) c.child-half.ensures refl refl in
     let inside = own_half at half c.args.number (omega (arith, c.way-test.true)) c.child-half.ensures c.way.invariant.inside in
     let one = own_kept H es parts c.requires.right half.row half.off c.args.number (half_within (length es) at half other pair c.way.invariant.within)
     (c.requires.inside 0 0 (omega arith)).0 inside in
-    let two : Some c.in-Some.digest.now ≡ kept es parts other.row other.off = c.in-Some.ensures in
+    let two : Some c.in-Some.digest.now ≡ kept es parts other.row other.off =
+    c.in-Some.ensures ∙ ap (λ o. kept es parts half.row (sibling_off o)) inside in
     let above = high_above H es parts c.requires.right at half other q one.0 c.in-Some.digest.now pair c.way.invariant.within c.way.invariant.stands
     one.1 two in
     above
@@ -82,13 +84,13 @@ put-requires g c =
     let at = c.way.at in
     let q = c.way.above in
     let half = c.child-half.result in
-    let other = c.sibling-other.result in
-    let pair = pair_of at half other _ (omega (arith, c.way-test.true)) c.child-half.ensures c.sibling-other.ensures.row
-    c.sibling-other.ensures.off in
+    let other : Place = record { row = half.row; off = sibling_off half.off } in
+    let pair = pair_of at half other _ (omega (arith, c.way-test.true)) c.child-half.ensures refl refl in
     let inside = own_half at half c.args.number (omega (arith, c.way-test.true)) c.child-half.ensures c.way.invariant.inside in
     let one = own_kept H es parts c.requires.right half.row half.off c.args.number (half_within (length es) at half other pair c.way.invariant.within)
     (c.requires.inside 0 0 (omega arith)).0 inside in
-    let two : Some c.in-Some.digest.now ≡ kept es parts other.row other.off = c.in-Some.ensures in
+    let two : Some c.in-Some.digest.now ≡ kept es parts other.row other.off =
+    c.in-Some.ensures ∙ ap (λ o. kept es parts half.row (sibling_off o)) inside in
     let above = high_above H es parts c.requires.right at half other q one.0 c.in-Some.digest.now pair c.way.invariant.within c.way.invariant.stands
     one.1 two in
     let below = c.child-below.result in
@@ -109,13 +111,13 @@ way-preserved g c =
     let at = c.way.at in
     let q = c.way.above in
     let half = c.child-half.result in
-    let other = c.sibling-other.result in
-    let pair = pair_of at half other _ (omega (arith, c.way-test.true)) c.child-half.ensures c.sibling-other.ensures.row
-    c.sibling-other.ensures.off in
+    let other : Place = record { row = half.row; off = sibling_off half.off } in
+    let pair = pair_of at half other _ (omega (arith, c.way-test.true)) c.child-half.ensures refl refl in
     let inside = own_half at half c.args.number (omega (arith, c.way-test.true)) c.child-half.ensures c.way.invariant.inside in
     let one = own_kept H es parts c.requires.right half.row half.off c.args.number (half_within (length es) at half other pair c.way.invariant.within)
     (c.requires.inside 0 0 (omega arith)).0 inside in
-    let two : Some c.in-Some.digest.now ≡ kept es parts other.row other.off = c.in-Some.ensures in
+    let two : Some c.in-Some.digest.now ≡ kept es parts other.row other.off =
+    c.in-Some.ensures ∙ ap (λ o. kept es parts half.row (sibling_off o)) inside in
     let above = high_above H es parts c.requires.right at half other q one.0 c.in-Some.digest.now pair c.way.invariant.within c.way.invariant.stands
     one.1 two in
     let below = c.child-below.result in

@@ -1,49 +1,53 @@
-use Rattle.std.proofs.Common.{◌≡◌, suc, ◌+◌, ◌/◌, ◌^◌, sym, ap, ◌∙◌, subst, arith}
+use Rattle.std.proofs.Common.{◌≡◌, ℕ, suc, ◌+◌, ◌/◌, ◌^◌, ◌<◌, get_or, None, sym, ◌∙◌, subst, arith}
 use Rattle.std.specs.Prelude.{map, option_copied}
 use Rattle.std.proofs.lemmas.Bool.{true≢false}
-use Rattle.std.proofs.lemmas.List.{map-set}
+use Rattle.std.proofs.lemmas.List.{map-set, length-map, length-set}
 use Rattle.forest_place.specs.Forest.{InForest, sibling_off}
 use Rattle.forest_place.proofs.Parts.{parts-suc}
 use Rattle.forest_place.proofs.Positions.{row_small}
-use Rattle.live_forest.specs.Stores.{stored}
 use Rattle.live_forest.specs.Parts.{leaves_of, part_digest}
-use Rattle.live_forest.proofs.Refreshing.{up_within, sibling_in, beside_right, AreFound, one_found, all_found}
+use Rattle.live_forest.proofs.Refreshing.{sibling_in, beside_right, one_found}
 use Rattle.live_forest.proofs.refresh.find_beside.Goals as goal
 
-pub lent-requires-clause-within : goal.lent-requires-clause-within
-lent-requires-clause-within g c =
-    subst (λ x. InForest c.args.n c.rows.row x) (sym c.sibling.ensures.off)
-    (sibling_in c.args.n c.rows.row c.rows.off (up_within c.args.n c.rows.row c.rows.off (c.goes_up.ensures.0 c.rows-test.true).0))
+pub rows-init : goal.rows-init
+rows-init g c = record {
+  small = omega arith;
+  within = omega (arith, c.requires.number);
+  forty = c.requires.forty;
+  is = λ r lt. absurd (omega (arith, lt));
+}
+
+pub beside-requires-clause-within : goal.beside-requires-clause-within
+beside-requires-clause-within g c =
+    let up = c.goes_up.ensures.0 c.rows-test.true in
+    sibling_in c.args.n c.rows.row (c.args.number / 2 ^ c.rows.row)
+    (subst (InForest c.args.n (suc c.rows.row)) (parts-suc c.args.number c.rows.row) up)
 
 pub rows-preserved : goal.rows-preserved
 rows-preserved g c =
     let H = g.D.Digester.digest_of in
     let n = c.args.n in
     let row = c.rows.row in
-    let off = c.rows.off in
     let i = c.args.number in
     let s = c.args.store.now in
-    let leaves = leaves_of s in
-    let within = up_within n row off (c.goes_up.ensures.0 c.rows-test.true).0 in
+    let up = c.goes_up.ensures.0 c.rows-test.true in
     let e : suc row ≡ row + 1 = omega arith in
-    let here : off / 2 ≡ i / 2 ^ suc row = omega (arith, c.rows.invariant.here, parts-suc i row) in
-    let within' : InForest n (row + 1) (off / 2) = subst (λ x. InForest n x (off / 2)) e within in
-    let digest : option_copied c.lent.result ≡ part_digest H leaves row (sibling_off (i / 2 ^ row)) =
-    c.lent.ensures ∙ ap (stored s row) (c.sibling.ensures.off ∙ ap sibling_off c.rows.invariant.here)
-    ∙ beside_right H n leaves s i row c.requires.right (subst (λ x. InForest n (suc row) x) here within) in
+    let within : InForest n (row + 1) (i / 2 ^ (row + 1)) = subst (λ r. InForest n r (i / 2 ^ r)) e up in
+    let found = map option_copied c.rows.beside in
     record {
-      small = row_small n (row + 1) (off / 2) 40 within' c.requires.small;
-      here = subst (λ x. off / 2 ≡ i / 2 ^ x) e here;
-      there = let t : c.rows.other / 2 ≡ c.args.next / 2 ^ suc row = ap (λ x. x / 2) c.rows.invariant.there ∙ sym (parts-suc c.args.next row) in
-          subst (λ x. c.rows.other / 2 ≡ c.args.next / 2 ^ x) e t;
-      within = within';
-      found = subst (AreFound H n leaves i (row + 1)) (sym (map-set option_copied c.rows.beside row c.lent.result))
-          (one_found H n leaves (map option_copied c.rows.beside) i row (option_copied c.lent.result) c.rows.invariant.small digest
-          c.rows.invariant.found);
+      small = row_small n (row + 1) (i / 2 ^ (row + 1)) 40 within c.requires.small;
+      within = within;
+      forty = length-set c.rows.beside row c.beside.result ∙ c.rows.invariant.forty;
+      is = subst (λ xs. (r : ℕ) → r < row + 1 → get_or xs r None ≡ part_digest H (leaves_of s) r (sibling_off (i / 2 ^ r)))
+          (sym (map-set option_copied c.rows.beside row c.beside.result))
+          (one_found H (leaves_of s) found i row (option_copied c.beside.result)
+          (omega (arith, length-map c.rows.beside option_copied, c.rows.invariant.forty, c.rows.invariant.small))
+          (c.beside.ensures ∙ beside_right H n (leaves_of s) s i row c.requires.right up) c.rows.invariant.is);
     }
 
 pub returns-clause-beside : goal.returns-clause-beside
-returns-clause-beside g c =
-    all_found g.D.Digester.digest_of c.args.n (leaves_of c.args.store.now) (map option_copied c.rows.beside) c.args.number c.args.next
-    c.rows.row c.rows.off c.rows.other c.rows.invariant.here c.rows.invariant.there
-    (λ w. true≢false (sym (c.goes_up.ensures.1 w) ∙ c.rows-test.false)) c.rows.invariant.found
+returns-clause-beside g c = record {
+  within = c.rows.invariant.within;
+  last = λ h. true≢false (sym (c.goes_up.ensures.1 h) ∙ c.rows-test.false);
+  is = c.rows.invariant.is;
+}

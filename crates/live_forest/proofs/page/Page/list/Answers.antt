@@ -1,9 +1,11 @@
 use Rattle.std.proofs.Common.{◌≡◌, ℕ, Bool, ◌/◌, ◌^◌, ◌<◌, Some, true, ap, ◌∙◌, sym, subst, arith}
 use Rattle.std.specs.Prelude.{MatchOption, Option}
+use Rattle.std.specs.Option.{unwrap_or}
+use Rattle.uo_digest.specs.declared.digest.Digest.{Digest}
 use Rattle.forest_place.specs.Forest.{InForest}
 use Rattle.forest_place.specs.declared.place.Place.{Place}
 use Rattle.live_forest.specs.Sets.{is_bit}
-use Rattle.live_forest.specs.Pages.{PageState, IsAlone, IsBeside, digest_at}
+use Rattle.live_forest.specs.Pages.{PageState, IsAlone, IsBeside, when, digest_at, told}
 use Rattle.live_forest.proofs.Bitmaps.{last_below}
 use Rattle.live_forest.proofs.Telling.{page_within, page_beside}
 use Rattle.live_forest.proofs.Letting.{page_more, told_more, IsLeftOf}
@@ -15,8 +17,12 @@ met : (s : ℕ → Bool) (number : ℕ) (x : Option Place) (part : Place) → Ma
     → x ≡ Some part → IsBeside s number part
 met s number x part is e = subst (λ y. MatchOption y (IsAlone s number) (λ part. IsBeside s number part)) e is
 
-pub digest_of-requires-clause-within : goal.digest_of-requires-clause-within
-digest_of-requires-clause-within c =
+-- what is taken over where there is something
+taken : (x : Option Digest) (d blank y : Digest) {left : Digest} → y ≡ unwrap_or x blank → left ≡ y → x ≡ Some d → left ≡ d
+taken x d blank y is there some = there ∙ is ∙ ap (λ z. unwrap_or z blank) some
+
+pub part-requires-clause-within : goal.part-requires-clause-within
+part-requires-clause-within c =
     let part = c.in-Some.before in
     let is = met (is_bit c.self.inside.listed) c.args.number c.nearest.result part c.nearest.ensures c.in-Some.is in
     subst (InForest 128 part.row) (sym is.off)
@@ -44,8 +50,12 @@ returns-clause-same c =
       | in-Some w ↦
           let part = w.in-Some.before in
           let is = met (is_bit p.listed) c.args.number c.nearest.result part c.nearest.ensures w.in-Some.is in
-          subst (λ x. IsLeftOf p c.args.number x c.match-nearest.left) (sym w.in-Some.is)
-          (is, w.left-is ∙ w.digest_of.ensures ∙ ap (λ cells. digest_at p.listed cells part.row part.off) w.deref.ensures.value)
+          subst (λ x. IsLeftOf p c.args.number x c.match-nearest.left) (sym w.in-Some.is) (
+            is,
+            λ live. taken _ _ _ _ w.unwrap_or-left.ensures w.left-is
+                (w.copied.ensures ∙ w.part.ensures ∙ ap (λ x. told x part.row part.off) (sym c.self.view_is)
+                ∙ ap (λ b. when b (digest_at p.listed p.cells part.row part.off)) live),
+          )
     ] in
     λ r o other. rw (c.in_ok-push.ensures.items, ← c.self.view_is)
     (told_more p c.with-self-inside.result c.args.number c.match-nearest.left _ c.nearest.result c.self.invariant c.self.ranges.0.1

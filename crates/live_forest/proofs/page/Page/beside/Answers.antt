@@ -1,0 +1,83 @@
+use Rattle.std.proofs.Common.{◌≡◌, Bool, ◌/◌, ◌%◌, ◌^◌, true, false, Some, sym, ap, ◌∙◌, subst, arith, eq-eqb}
+use Rattle.std.specs.Prelude.{◌==◌, if◌then◌else◌}
+use Rattle.std.proofs.lemmas.Bool.{ne_eqb}
+use Rattle.forest_place.specs.Forest.{InForest, sibling_off}
+use Rattle.forest_place.proofs.Siblings.{sibling_twice}
+use Rattle.live_forest.specs.Sets.{is_bit, has_part, rank}
+use Rattle.live_forest.specs.Pages.{PageState}
+use Rattle.live_forest.proofs.Ranks.{part_with}
+use Rattle.live_forest.proofs.Telling.{none_told, page_within, page_up, page_beside, middle_low, beside_index, beside_told}
+use Rattle.live_forest.proofs.page.Page.beside.Goals as goal
+use Rattle.live_forest.proofs.page.Page.beside.Goals.{then-other-eq0, else-other-eq0}
+
+pub has_some-requires-clause-within : goal.has_some-requires-clause-within
+has_some-requires-clause-within c =
+    subst (InForest 128 c.args.row) (sym c.sibling-other.ensures.off)
+    (page_beside c.args.row (c.args.number / 2 ^ c.args.row) c.requires.row
+    (page_within c.args.number c.args.row c.requires.number (omega (arith, c.requires.row))))
+
+pub returns-then-not-has_some : goal.returns-then-not-has_some
+returns-then-not-has_some c =
+    let p : PageState = record { listed = c.self.inside.listed; live = c.self.inside.live; cells = c.self.inside.cells.items } in
+    rw (← c.self.view_is, ← c.sibling-other.ensures.off)
+    (sym (none_told p c.args.row c.sibling-other.result.off (sym c.has_some.ensures ∙ c.if-not-has_some.true)))
+
+pub middle-requires-clause-within : goal.middle-requires-clause-within
+middle-requires-clause-within c =
+    let off = c.sibling-other.result.off in
+    middle_low c.args.row (off / 2) (page_up c.args.row off c.requires.row (subst (InForest 128 c.args.row) (sym c.sibling-other.ensures.off)
+    (page_beside c.args.row (c.args.number / 2 ^ c.args.row) c.requires.row
+    (page_within c.args.number c.args.row c.requires.number (omega (arith, c.requires.row))))))
+
+pub rank-requires : goal.rank-requires
+rank-requires c =
+    let off = c.sibling-other.result.off in
+    omega (
+      arith,
+      c.middle.ensures,
+      middle_low c.args.row (off / 2) (page_up c.args.row off c.requires.row
+          (subst (InForest 128 c.args.row) (sym c.sibling-other.ensures.off)
+          (page_beside c.args.row (c.args.number / 2 ^ c.args.row) c.requires.row
+          (page_within c.args.number c.args.row c.requires.number (omega (arith, c.requires.row)))))),
+    )
+
+pub index-cell-requires : goal.index-cell-requires
+index-cell-requires c =
+    let p : PageState = record { listed = c.self.inside.listed; live = c.self.inside.live; cells = c.self.inside.cells.items } in
+    let s = is_bit p.listed in
+    let row = c.args.row in
+    let half = c.args.number / 2 ^ row in
+    let off = c.sibling-other.result.off in
+    let within : InForest 128 row off = subst (InForest 128 row) (sym c.sibling-other.ensures.off)
+    (page_beside row half c.requires.row (page_within c.args.number row c.requires.number (omega (arith, c.requires.row)))) in
+    let listed : s c.args.number ≡ true = ap (λ x. is_bit x.listed c.args.number) c.self.view_is ∙ c.requires.listed in
+    let other : has_part s row (sibling_off off) ≡ true =
+    ap (λ o. has_part s row (sibling_off o)) c.sibling-other.ensures.off ∙ ap (has_part s row) (sibling_twice half) ∙ part_with s c.args.number row listed in
+    let live = sym c.has_some.ensures ∙ c.if-not-has_some.false in
+    let at = c.rank.ensures ∙ ap (rank s) c.middle.ensures in
+    omega (arith, at, beside_index p c.self.invariant row off c.requires.row within live other, c.self.inside.cells.ok.0)
+
+pub returns : goal.returns
+returns c =
+    let p : PageState = record { listed = c.self.inside.listed; live = c.self.inside.live; cells = c.self.inside.cells.items } in
+    let s = is_bit p.listed in
+    let row = c.args.row in
+    let half = c.args.number / 2 ^ row in
+    let off = c.sibling-other.result.off in
+    let within : InForest 128 row off = subst (InForest 128 row) (sym c.sibling-other.ensures.off)
+    (page_beside row half c.requires.row (page_within c.args.number row c.requires.number (omega (arith, c.requires.row)))) in
+    let listed : s c.args.number ≡ true = ap (λ x. is_bit x.listed c.args.number) c.self.view_is ∙ c.requires.listed in
+    let other : has_part s row (sibling_off off) ≡ true =
+    ap (λ o. has_part s row (sibling_off o)) c.sibling-other.ensures.off ∙ ap (has_part s row) (sibling_twice half) ∙ part_with s c.args.number row listed in
+    let live = sym c.has_some.ensures ∙ c.if-not-has_some.false in
+    let at = c.rank.ensures ∙ ap (rank s) c.middle.ensures in
+    let is = beside_told p c.self.invariant row off c.requires.row within live other c.rank.result c.index-cell.result.now at c.index-cell.ensures in
+    let pick = λ (b : Bool). Some (if b then c.index-cell.result.now.right else c.index-cell.result.now.left) in
+    rw (← c.self.view_is, ← c.sibling-other.ensures.off) (elim c.if-other-eq0.branch [
+      | then-other-eq0 w ↦
+          let even : (off % 2 == 1) ≡ false = ne_eqb (off % 2) 1 (λ e. let z : ⊥ = omega (arith, e, w.if-other-eq0.true) in z) in
+          ap (λ b. Some b.now) w.result-is ∙ sym (is ∙ ap pick even)
+      | else-other-eq0 w ↦
+          let odd : (off % 2 == 1) ≡ true = eq-eqb (off % 2) 1 (omega (arith, w.if-other-eq0.false)) in
+          ap (λ b. Some b.now) w.result-is ∙ sym (is ∙ ap pick odd)
+    ])
