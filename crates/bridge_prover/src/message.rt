@@ -13,7 +13,7 @@ ghost use Rattle.bridge_prover.specs.Draft.{IsDraft, drafted, hashes_unknown};
 
 use cache_update::is_known;
 use forest_place::{Place, fixed_position};
-use live_forest::{BatchProof, Forest, Sibling};
+use live_forest::{BatchProof, Forest, LentSibling};
 use proof_shape::Survey;
 use proof_wire::{Message, Rests};
 use std::alloc::{AllocError, Global};
@@ -89,22 +89,26 @@ fn put_hash(hashes: &mut Vec<Digest>, digest: Digest) -> Result<(), AllocError>
 fn put_hashes(
     hashes: &mut Vec<Digest>,
     kept: &Survey,
-    siblings: &[Sibling],
+    siblings: &[LentSibling<'_>],
 ) -> Result<(), AllocError>
     requires { AllByRecursion (λ s. InForest kept.now.leaves s.place.row s.place.off) siblings.now }
     ensures given { OnOk result (hashes.new.items ≡ hashes.old.items ++ hashes_unknown kept.now.leaves kept.now.targets siblings.now) }
     ensures digests { AllByRecursion IsDigest hashes.old.items → AllByRecursion IsDigest hashes.new.items }
 {
     for sibling in siblings {
-        if !is_left_out(kept, sibling.place) {
-            put_hash(hashes, sibling.digest)?;
+        if !is_left_out(kept, sibling.place()) {
+            put_hash(hashes, sibling.digest())?;
         }
     }
     Ok(())
 }
 
 // The same of all siblings that prove entries.
-fn hashes_of(alloc: Global, kept: &Survey, proof: &BatchProof) -> Result<Vec<Digest>, AllocError>
+fn hashes_of(
+    alloc: Global,
+    kept: &Survey,
+    proof: &BatchProof<'_>,
+) -> Result<Vec<Digest>, AllocError>
     requires { AllByRecursion (λ s. InForest kept.now.leaves s.place.row s.place.off) (flat_map (λ row. row) proof.now.rows.items) }
     ensures given { IfOk result (λ hashes. hashes.items
         ≡ hashes_unknown kept.now.leaves kept.now.targets (flat_map (λ row. row) proof.now.rows.items)) }

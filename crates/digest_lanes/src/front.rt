@@ -1,6 +1,6 @@
 //! SHA-512/256 of many texts that begin alike.
 
-ghost use Rattle.std.specs.Prelude.{◌≡◌, ℕ, ◌*◌, ◌<◌, ◌≤◌, ◌++◌, List, length, slice_index, IfSome};
+ghost use Rattle.std.specs.Prelude.{◌≡◌, ℕ, ◌+◌, ◌*◌, ◌<◌, ◌≤◌, ◌++◌, List, length, slice_index, IfSome};
 ghost use Rattle.sha2.specs.Sha512.{sha512_256};
 ghost use Rattle.digest_lanes.specs.Texts.{text_at, IsGivenAt, KeepsGiven};
 ghost use Rattle.digest_lanes.specs.Groups.{HasLength, block_lengths};
@@ -11,6 +11,9 @@ use crate::group::{Lengths, has_length, next_group};
 use crate::midstate::Midstate;
 use crate::texts512::{digest_four, hash_whole};
 use sha2::{Digest, Sha512_256};
+
+// Texts of so many bytes are made of more than 16 blocks.
+const LONG: usize = 2032;
 
 /// What has been taken in of a text that goes on: where many texts begin alike, the work on their front is done once.
 #[derive(Drop)]
@@ -79,6 +82,47 @@ fn digest_groups<T: Copy + From<[u8; 32]>>(
         from = end;
     }
     from
+}
+
+// Of how many blocks texts are made behind a front of whole blocks: at least, and at most. Of more than 16 is 17.
+#[derive(Clone, Copy)]
+struct Blocks {
+    least: usize,
+    most: usize,
+}
+
+impl Blocks {
+    // The same with one text more.
+    fn with(self, text: &[u8]) -> Blocks
+        ensures some { 1 ≤ self.least → 1 ≤ result.least }
+        ensures least { result.least ≤ self.least }
+        ensures most { self.most ≤ result.most }
+        ensures from { 128 * result.least ≤ length text.now + 144 }
+        ensures upto { result.most < 17 → length text.now + 16 < 128 * result.most }
+    {
+        let blocks = if text.len() < LONG {
+            (text.len() + 16) / 128 + 1
+        } else {
+            17
+        };
+        Blocks {
+            least: self.least.min(blocks),
+            most: self.most.max(blocks),
+        }
+    }
+}
+
+// The same of some texts.
+fn blocks_of(texts: &[&[u8]]) -> Blocks
+    ensures from { (i : ℕ) → i < length texts.now → 128 * result.least ≤ length (text_at texts.now i) + 144 }
+    ensures upto { (i : ℕ) → i < length texts.now → result.most < 17 → length (text_at texts.now i) + 16 < 128 * result.most }
+    ensures some { 1 ≤ result.least }
+{
+    let mut blocks = Blocks { least: 17, most: 0 };
+    for i in 0..texts.len() {
+        blocks = blocks.with(texts[i]);
+    }
+    blocks
 }
 
 // What is taken in of a text of whole blocks.
@@ -184,14 +228,17 @@ impl Front {
         ensures { (before : List ℕ) → Holds self.now before → IsMidstate start.now before
             → (i : ℕ) → IsGivenAt (λ text v. T.from_gives (sha512_256 (before ++ text)) v) rests.now out.new i }
     {
-        'each: for blocks in 1..17 {
+        let Blocks { least, most } = blocks_of(rests);
+        'each: for blocks in least..most.min(16) + 1 {
             self.digest_blocks(start, rests, blocks, out);
         }
-        let long = Lengths {
-            low: 2032,
-            high: None,
-        };
-        self.digest_alone(rests, long, 0, out);
+        if most > 16 {
+            let long = Lengths {
+                low: LONG,
+                high: None,
+            };
+            self.digest_alone(rests, long, 0, out);
+        }
     }
 
     /// The digest of each whole text, the front and what comes behind it, in the place of an entry of `out`. Texts of which equally

@@ -211,9 +211,3 @@ put_here (Err e) rows x old new within is more = tt
 pub noted_is : (H : List ℕ → Digest) (es : List (Option Digest)) (q : Place) (d : Digest) → digest_at H es q.row q.off ≡ Some d
     → filter_map (standing H es) (q ∷ []) ≡ record { place = q; digest = d } ∷ []
 noted_is H es q d stands = rw stands refl
-
-pub noted_here : {A F : Type 0} (H : List ℕ → Digest) (es : List (Option Digest)) (done : Result A F) (q : Place) (d : Digest)
-    (old new : List Sibling) → digest_at H es q.row q.off ≡ Some d → OnOk done (new ≡ old ++ record { place = q; digest = d } ∷ [])
-    → OnOk done (new ≡ old ++ filter_map (standing H es) (q ∷ []))
-noted_here H es (Ok u) q d old new stands more = more ∙ ap (λ xs. old ++ xs) (sym (noted_is H es q d stands))
-noted_here H es (Err e) q d old new stands more = tt

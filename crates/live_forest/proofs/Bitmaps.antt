@@ -62,6 +62,33 @@ has_part_is n (suc row) off =
     (has_part_is n row (2 * off + 1) ∙ ap (λ k. not (n / 2 ^ k % 2 ^ w == 0)) right ∙ ap (λ y. not (y % 2 ^ w == 0)) (sym (shr-shr n a w)))
     ∙ either (x % 2 ^ w) (x / 2 ^ w % 2 ^ w) (2 ^ w) (x % 2 ^ 2 ^ suc row) (pow_pos w) whole
 
+-- the bits of the halves of a part, of those of the part
+pub halves_bits : (n row off both : ℕ) → both ≡ n / 2 ^ (off * 2 ^ suc row) % 2 ^ 2 ^ suc row
+    → (both % 2 ^ 2 ^ row ≡ n / 2 ^ (2 * off * 2 ^ row) % 2 ^ 2 ^ row) × (both / 2 ^ 2 ^ row ≡ n / 2 ^ ((2 * off + 1) * 2 ^ row) % 2 ^ 2 ^ row)
+halves_bits n row off both is =
+    let w = 2 ^ row in
+    let a = off * 2 ^ suc row in
+    let double : 2 ^ suc row ≡ w * 2 = pow-suc 2 row in
+    let two : w * 2 ≡ w + w = omega arith in
+    let begin : a ≡ off * (w * 2) = ap (λ x. off * x) double in
+    let left : a ≡ 2 * off * w = omega (arith, begin) in
+    let right : a + w ≡ (2 * off + 1) * w = omega (arith, begin) in
+    let x = n / 2 ^ a in
+    let whole : both ≡ x % 2 ^ (w + w) = is ∙ ap (λ k. x % 2 ^ k) (double ∙ two) in (
+      ap (λ y. y % 2 ^ w) whole ∙ mod-mod-pow x w w ∙ ap (λ k. n / 2 ^ k % 2 ^ w) left,
+      ap (λ y. y / 2 ^ w) whole ∙ field_of x w w ∙ ap (λ y. y % 2 ^ w) (shr-shr n a w) ∙ ap (λ k. n / 2 ^ k % 2 ^ w) right,
+    )
+
+-- there are up to 32 numbers in a half of a part of up to 64
+pub width_few : (row : ℕ) → row < 6 → 2 ^ row ≤ 32
+width_few zero low = omega arith
+width_few (suc zero) low = omega arith
+width_few (suc (suc zero)) low = omega arith
+width_few (suc (suc (suc zero))) low = omega arith
+width_few (suc (suc (suc (suc zero)))) low = omega arith
+width_few (suc (suc (suc (suc (suc zero))))) low = omega arith
+width_few (suc (suc (suc (suc (suc (suc row)))))) low = absurd (omega (arith, low))
+
 -- as the code works it out
 pub part_bits : (x width : ℕ) → width ≤ 64 → bit_and x ((2 ^ 64 - 1) / 2 ^ (64 - width)) ≡ x % 2 ^ width
 part_bits x width h =

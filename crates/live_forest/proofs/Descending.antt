@@ -1,7 +1,7 @@
 -- The way down from a part to those of all entries that it has: what is noted on it.
-use Rattle.std.proofs.Common.{◌≡◌, ◌≢◌, ℕ, zero, suc, ◌+◌, ◌-◌, ◌*◌, ◌/◌, ◌%◌, ◌^◌, ◌<◌, ◌≤◌, Bool, true, false, List, [], ◌∷◌, length, get_or}
+use Rattle.std.proofs.Common.{◌≡◌, ℕ, zero, suc, ◌+◌, ◌-◌, ◌*◌, ◌/◌, ◌%◌, ◌^◌, ◌<◌, ◌≤◌, Bool, true, false, List, [], ◌∷◌, length, get_or}
 use Rattle.std.proofs.Common.{Option, Some, None, refl, sym, ap, ap₂, ◌∙◌, subst, ⊎_elim, ◌⊎◌, arith, eq-eqb, All}
-use Rattle.std.specs.Prelude.{◌==◌, not, nat_le, filter, option_map, is_some, Result, Ok, Err, OnOk}
+use Rattle.std.specs.Prelude.{◌==◌, not, nat_le, filter, option_map, Result, Ok, Err, OnOk}
 use Rattle.std.proofs.lemmas.Bool.{true≢false, cases_Bool, cases_lt, eqb-true, le-leb, lt-leb, leb-true, leb-false, not-true, and_parts, and_from}
 use Rattle.std.proofs.Math.Nat.{div-eq_of_lt}
 use Rattle.std.proofs.lemmas.List.Elements.{All-nil, All-cons, All-head, All-tail, All-weaker}
@@ -12,7 +12,7 @@ use Rattle.forest_place.specs.Forest.{InForest, is_root, sibling_off}
 use Rattle.forest_place.proofs.Parts.{parts-suc, not_root-left, not_root-right}
 use Rattle.forest_place.proofs.Siblings.{sibling_off-left, sibling_off-right}
 use Rattle.forest_place.proofs.Listed.{same_Bools}
-use Rattle.forest_model.specs.Content.{Tree, leaf, content}
+use Rattle.forest_model.specs.Content.{leaf, content}
 use Rattle.forest_model.specs.Standing.{tree_at}
 use Rattle.forest_model.specs.Cover.{Cover, cover, is_needed}
 use Rattle.forest_model.specs.Deletion.{StandAt}
@@ -20,13 +20,10 @@ use Rattle.forest_model.proofs.Deleting.{is_spent, place_at}
 use Rattle.forest_model.proofs.Covers.{some_from_test}
 use Rattle.forest_model.proofs.Living.{found_where_it_stands, content_none_iff}
 use Rattle.live_forest.specs.declared.batch.Sibling.{Sibling}
-use Rattle.live_forest.specs.Stores.{StoreState}
-use Rattle.live_forest.specs.Parts.{kept}
-use Rattle.live_forest.specs.Lookups.{AreAlike}
 use Rattle.live_forest.specs.State.{is_live}
 use Rattle.live_forest.specs.Proving.{beneath, AreIn, AreBehind, AreMore, AreOfPart}
 use Rattle.live_forest.proofs.Seeking.{within_left, within_right}
-use Rattle.live_forest.proofs.Parting.{filter_alike, filter_twice, filter_spent, spent_filter, head_spent, none_spent}
+use Rattle.live_forest.proofs.Parting.{filter_alike, filter_twice, filter_spent, spent_filter, none_spent}
 use Rattle.live_forest.proofs.Beneath.{beneath_nothing, covered_top, more_halves, more_across}
 use Rattle.live_forest.proofs.Covering.{covered, uncovered, uncovered_under}
 
@@ -75,38 +72,8 @@ not_in es row off i none live here =
     let some = some_from_test (get_or es i None) live in
     none-some some.0 (sym ((content_none_iff es row off).0 none i here) ∙ some.1)
 
--- something is kept for one that has
-pub own_some : (es : List (Option Digest)) (parts : StoreState) → AreAlike es parts → (row off i : ℕ) → InForest (length es) row off
-    → is_live es i ≡ true → i / 2 ^ row ≡ off → is_some (kept es parts row off) ≡ true
-own_some es parts right row off i within live here = right.is row off within ∙ by (content es row off) refl
-  where
-    by : (x : Option Tree) → content es row off ≡ x → is_some (content es row off) ≡ true
-    by None e = absurd (not_in es row off i e live here)
-    by (Some t) e = ap is_some e
-
-pub in_one : (es : List (Option Digest)) (row off : ℕ) (numbers : List ℕ) → 0 < length numbers → AreIn es row off numbers
-    → AreIn es row off (get_or numbers 0 0 ∷ [])
-in_one es row off numbers some inside = All-cons (λ i. (is_live es i ≡ true) × (i / 2 ^ row ≡ off)) (get_or numbers 0 0) [] (inside 0 0 some)
-    (All-nil (λ i. (is_live es i ≡ true) × (i / 2 ^ row ≡ off)))
-
 module _ (es : List (Option Digest)) (part left right : Place) (numbers : List ℕ) (h : HalvesOf (length es) part left right)
     (left_off : left.off ≡ 2 * part.off) (right_off : right.off ≡ 2 * part.off + 1) (inside : AreIn es part.row part.off numbers) where
-  pub in_right : content es left.row left.off ≡ None → AreIn es right.row right.off numbers
-  in_right none = All-weaker (λ i. (is_live es i ≡ true) × (i / 2 ^ part.row ≡ part.off))
-      (λ i. (is_live es i ≡ true) × (i / 2 ^ right.row ≡ right.off)) (λ i w.
-      let half = half_of i right.row part h.some h.right_row in
-      let low : i / 2 ^ left.row ≡ i / 2 ^ right.row = ap (λ r. i / 2 ^ r) (h.left_row ∙ sym h.right_row) in
-      let apart : i / 2 ^ left.row ≢ left.off = λ e. not_in es left.row left.off i none w.0 e in
-      (w.0, omega (arith, half, w.1, low, apart, left_off, right_off))) numbers inside
-
-  pub in_left : content es right.row right.off ≡ None → AreIn es left.row left.off numbers
-  in_left none = All-weaker (λ i. (is_live es i ≡ true) × (i / 2 ^ part.row ≡ part.off)) (λ i. (is_live es i ≡ true) × (i / 2 ^ left.row ≡ left.off))
-      (λ i w.
-      let half = half_of i left.row part h.some h.left_row in
-      let high : i / 2 ^ right.row ≡ i / 2 ^ left.row = ap (λ r. i / 2 ^ r) (h.right_row ∙ sym h.left_row) in
-      let apart : i / 2 ^ right.row ≢ right.off = λ e. not_in es right.row right.off i none w.0 e in
-      (w.0, omega (arith, half, w.1, high, apart, left_off, right_off))) numbers inside
-
   pub in_low : AreIn es left.row left.off (filter (λ i. nat_le (i / 2 ^ left.row) left.off) numbers)
   in_low = filter_holds (λ i. nat_le (i / 2 ^ left.row) left.off) (λ i. (is_live es i ≡ true) × (i / 2 ^ part.row ≡ part.off))
       (λ i. (is_live es i ≡ true) × (i / 2 ^ left.row ≡ left.off)) (λ i w yes.
@@ -379,7 +346,3 @@ module _ (es : List (Option Digest)) (ts : List Place) (all : List ℕ) (at : St
         let its = in_part part q numbers x w has in
         let c = covered es ts all at part.row part.off q x stands its.0 its.1 in
         more_across H es ts q under beside c.0 a.high a.under_row a.under_off a.beside_row a.beside_off c.1 old mid new apart two one
-
-pub some_number : (xs : List ℕ) → (length xs ≡ 0 → ⊥) → (x : ℕ) × (is_spent xs x ≡ true)
-some_number [] some = absurd (some refl)
-some_number (x ∷ xs) some = (x, head_spent x xs)

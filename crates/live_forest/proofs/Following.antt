@@ -1,8 +1,10 @@
--- The way down to one entry, as a loop: at each part what is noted later, with what was noted so far, is what is beneath the first place.
-use Rattle.std.proofs.Common.{◌≡◌, ◌≢◌, ℕ, ◌+◌, ◌-◌, ◌*◌, ◌/◌, ◌%◌, ◌^◌, ◌<◌, true, false, List, [], ◌∷◌, ◌++◌, length, Option, Some, None, refl, sym}
+-- The way down as far as entries go together, as a loop: at each part what is noted later, with what was noted so far, is what is beneath the first place.
+use Rattle.std.proofs.Common.{◌≡◌, ◌≢◌, ℕ, ◌+◌, ◌-◌, ◌*◌, ◌/◌, ◌%◌, ◌^◌, ◌<◌, true, false, List, [], ◌∷◌, ◌++◌, length, get_or, Option, Some, None, All, refl, sym}
 use Rattle.std.proofs.Common.{ap, ap₂, ◌∙◌, subst, ⊎_elim, ◌⊎◌, inl, inr, arith}
-use Rattle.std.specs.Prelude.{nat_le, option_map}
-use Rattle.std.specs.List.{filter_map}
+use Rattle.std.specs.Prelude.{nat_le, not, option_map}
+use Rattle.std.specs.List.Sorted.{IsNonDecreasing}
+use Rattle.std.proofs.lemmas.List.{get_or_default}
+use Rattle.std.specs.List.{filter, filter_map}
 use Rattle.std.proofs.lemmas.Bool.{le-leb, lt-leb, cases_lt}
 use Rattle.uo_digest.specs.declared.digest.Digest.{Digest}
 use Rattle.forest_place.specs.declared.place.Place.{Place}
@@ -16,11 +18,11 @@ use Rattle.live_forest.specs.declared.batch.Sibling.{Sibling}
 use Rattle.live_forest.specs.Stores.{StoreState}
 use Rattle.live_forest.specs.Parts.{AreParts, kept}
 use Rattle.live_forest.specs.State.{is_live}
-use Rattle.live_forest.specs.Proving.{standing, beneath, list_of, AreMore, AreOfPart}
+use Rattle.live_forest.specs.Proving.{standing, beneath, list_of, AreIn, AreMore, AreOfPart, IsOn}
 use Rattle.live_forest.proofs.Refreshing.{kept_right}
 use Rattle.live_forest.proofs.Seeking.{within_left, within_right, alike}
-use Rattle.live_forest.proofs.Noting.{stands_left, stands_right, stand_both}
-use Rattle.live_forest.proofs.Parting.{head_spent}
+use Rattle.live_forest.proofs.Noting.{AreHalves, stands_left, stands_right, stand_both}
+use Rattle.live_forest.proofs.Parting.{filter_all, filter_none, filter_spent, one_spent, spent_some, parts_rise}
 use Rattle.live_forest.proofs.Beneath.{beneath_above, covered_top, more_nothing, more_one, by_order}
 use Rattle.live_forest.proofs.Covering.{covered}
 use Rattle.live_forest.proofs.Descending.{half_of, not_in, in_part, way_none, way_one, way_left, way_right, AreHalved, way_low, way_high, way_both}
@@ -49,6 +51,21 @@ own_half at half x some is inside =
     let up = half_of x half.row at some row in
     let side : x / 2 ^ half.row % 2 ≡ x / 2 ^ (at.row - 1) % 2 = ap (λ r. x / 2 ^ r % 2) row in
     omega (arith, off, up, inside, side)
+
+-- so all that are between two of one half are in that half
+pub all_in_half : (es : List (Option Digest)) (at half : Place) (numbers : List ℕ) → IsNonDecreasing numbers → 0 < length numbers → 0 < at.row
+    → half ≡ record { row = at.row - 1; off = 2 * at.off + get_or numbers 0 0 / 2 ^ (at.row - 1) % 2 }
+    → get_or numbers 0 0 / 2 ^ (at.row - 1) ≡ get_or numbers (length numbers - 1) 0 / 2 ^ (at.row - 1) → AreIn es at.row at.off numbers
+    → AreIn es half.row half.off numbers
+all_in_half es at half numbers rise some up is share inside i d lt =
+    let row = at.row - 1 in
+    let here = inside i d lt in
+    let same : get_or numbers i d ≡ get_or numbers i 0 = get_or_default numbers i d 0 lt in
+    let low = parts_rise row (get_or numbers 0 0) (get_or numbers i 0) (rise 0 i 0 (omega arith) lt) in
+    let high = parts_rise row (get_or numbers i 0) (get_or numbers (length numbers - 1) 0)
+    (rise i (length numbers - 1) 0 (omega (arith, lt)) (omega (arith, some))) in
+    let part : get_or numbers 0 0 / 2 ^ row ≡ get_or numbers i d / 2 ^ row = omega (arith, low, high, share, ap (λ x. x / 2 ^ row) same) in
+    (here.0, own_half at half (get_or numbers i d) up (is ∙ ap (λ x. record { row = row; off = 2 * at.off + x % 2 }) part) here.1)
 
 -- something is kept for each part that has a live entry
 pub own_kept : (H : List ℕ → Digest) (es : List (Option Digest)) (parts : StoreState) → AreParts H (length es) es parts → (row off i : ℕ)
@@ -139,12 +156,6 @@ stand_beneath H es parts right part half other q below beside x y p b alike h s 
 
 -- ---- what is noted on the way
 
--- the part has these numbers of all, and what is noted from here on is all that is noted beneath the first place
-pub record IsOn (H : List ℕ → Digest) (es : List (Option Digest)) (ts : List Place) (all : List ℕ) (top part q : Place) (numbers : List ℕ)
-    (first rows : List (List Sibling)) : Type 0 where
-  pub has : AreOfPart es ts all part q numbers
-  pub more : (last : List (List Sibling)) → AreMore H es ts q rows last → AreMore H es ts top first last
-
 module _ (H : List ℕ → Digest) (es : List (Option Digest)) (ts : List Place) (all : List ℕ) (at : StandAt es ts all) (top part half other q : Place)
     (numbers : List ℕ) (first rows : List (List Sibling)) (p : ArePair part half other) (o : IsOn H es ts all top part q numbers first rows) where
   -- the other half has nothing
@@ -158,17 +169,23 @@ module _ (H : List ℕ → Digest) (es : List (Option Digest)) (ts : List Place)
   }
 
 module _ (H : List ℕ → Digest) (es : List (Option Digest)) (ts : List Place) (all : List ℕ) (at : StandAt es ts all)
-    (top part half other q below beside : Place) (x : ℕ) (first rows mid : List (List Sibling)) (p : ArePair part half other)
-    (b : ArePair q below beside) (side : half.off % 2 ≡ x / 2 ^ half.row % 2) (alike : below.off % 2 ≡ half.off % 2)
+    (top part half other q below beside : Place) (numbers : List ℕ) (first rows mid : List (List Sibling)) (p : ArePair part half other)
+    (b : ArePair q below beside) (some : 0 < length numbers) (inside : AreIn es half.row half.off numbers) (alike : below.off % 2 ≡ half.off % 2)
     (there : InForest (length es) q.row q.off) (stands : tree_at es q.row q.off ≡ content es part.row part.off)
     (s : StandBeneath es half other below beside) (here : list_of mid beside.row ≡ list_of rows beside.row
     ++ filter_map (standing H es) (beside ∷ [])) (others : (row : ℕ) → row ≢ beside.row → list_of mid row ≡ list_of rows row)
-    (o : IsOn H es ts all top part q (x ∷ []) first rows) where
+    (o : IsOn H es ts all top part q numbers first rows) where
+  abbrev x : ℕ
+  x = get_or numbers 0 0
+
+  has : is_spent numbers x ≡ true
+  has = one_spent numbers 0 0 some
+
   its : (is_spent all x ≡ true) × (x / 2 ^ part.row ≡ part.off)
-  its = in_part es ts all at part q (x ∷ []) x o.has (head_spent x [])
+  its = in_part es ts all at part q numbers x o.has has
 
   in_half : x / 2 ^ half.row ≡ half.off
-  in_half = let up = half_of x half.row part p.some p.row in omega (arith, up, its.1, side, p.off)
+  in_half = (inside 0 0 some).1
 
   within_beside : InForest (length es) beside.row beside.off
   within_beside = half_within (length es) q beside below (other_pair q below beside b) there
@@ -192,7 +209,7 @@ module _ (H : List ℕ → Digest) (es : List (Option Digest)) (ts : List Place)
       (by_order below.row row)
 
   -- both halves have something
-  pub on_both : IsOn H es ts all top half below (x ∷ []) first mid
+  pub on_both : IsOn H es ts all top half below numbers first mid
   on_both =
       ⊎_elim
       (λ a.
@@ -215,13 +232,15 @@ module _ (H : List ℕ → Digest) (es : List (Option Digest)) (ts : List Place)
         right_stands =
             s.other_there;
       } in
-      let yes : nat_le (x / 2 ^ half.row) half.off ≡ true = le-leb _ _ (omega (arith, in_half)) in
-      let low = way_low es ts all at part q half other below beside (x ∷ []) halved o.has (x ∷ []) x (rw yes refl) (head_spent x []) in
-      let none = way_high es ts all at part q half other below beside (x ∷ []) halved o.has [] x (rw yes refl) (head_spent x []) in
+      let yes : All (λ i. nat_le (i / 2 ^ half.row) half.off ≡ true) numbers = λ i d lt.
+      let here = (inside i d lt).1 in le-leb _ _ (omega (arith, here)) in
+      let no : All (λ i. not (nat_le (i / 2 ^ half.row) half.off) ≡ false) numbers = λ i d lt. rw (yes i d lt) refl in
+      let low = way_low es ts all at part q half other below beside numbers halved o.has numbers x (sym (filter_all _ numbers yes)) has in
+      let none = way_high es ts all at part q half other below beside numbers halved o.has [] x (sym (filter_none _ numbers no)) has in
       record {
         has = low;
-        more = λ last one. o.more last (way_across es ts all at part q half other below beside (x ∷ []) halved o.has H x rows mid
-            last stands (head_spent x []) (apart none) (noted none) one);
+        more = λ last one. o.more last (way_across es ts all at part q half other below beside numbers halved o.has H x rows mid
+            last stands has (apart none) (noted none) one);
       })
       (λ a.
       let under : below.off ≡ 2 * q.off + 1 = omega (arith, a.0, alike, b.off) in
@@ -243,20 +262,60 @@ module _ (H : List ℕ → Digest) (es : List (Option Digest)) (ts : List Place)
         right_stands =
             s.half_there;
       } in
-      let no : nat_le (x / 2 ^ other.row) other.off ≡ false =
-      lt-leb _ _ (let e : x / 2 ^ other.row ≡ half.off = ap (λ r. x / 2 ^ r) p.same ∙ in_half in omega (arith, e, a)) in
-      let none = way_low es ts all at part q other half beside below (x ∷ []) halved o.has [] x (rw no refl) (head_spent x []) in
-      let high = way_high es ts all at part q other half beside below (x ∷ []) halved o.has (x ∷ []) x (rw no refl) (head_spent x []) in
+      let no : All (λ i. nat_le (i / 2 ^ other.row) other.off ≡ false) numbers = λ i d lt.
+      let here = ap (λ r. get_or numbers i d / 2 ^ r) p.same ∙ (inside i d lt).1 in lt-leb _ _ (omega (arith, here, a)) in
+      let yes : All (λ i. not (nat_le (i / 2 ^ other.row) other.off) ≡ true) numbers = λ i d lt. rw (no i d lt) refl in
+      let none = way_low es ts all at part q other half beside below numbers halved o.has [] x (sym (filter_none _ numbers no)) has in
+      let high = way_high es ts all at part q other half beside below numbers halved o.has numbers x (sym (filter_all _ numbers yes)) has in
       record {
         has = high;
-        more = λ last one. o.more last (way_both es ts all at part q other half beside below (x ∷ []) halved o.has H x rows mid
-            last stands (head_spent x []) (noted none) one);
+        more = λ last one. o.more last (way_both es ts all at part q other half beside below numbers halved o.has H x rows mid
+            last stands has (noted none) one);
       })
       (sides part half other p)
 
--- at the entry nothing more is noted
+-- at one entry nothing more is noted
 pub on_entry : (H : List ℕ → Digest) (es : List (Option Digest)) (ts : List Place) (all : List ℕ) → StandAt es ts all
-    → (top part q : Place) (x : ℕ) (first rows : List (List Sibling)) → part.row ≡ 0 → tree_at es q.row q.off ≡ content es part.row part.off
-    → IsOn H es ts all top part q (x ∷ []) first rows → AreMore H es ts top first rows
-on_entry H es ts all at top part q x first rows one stands o =
-    o.more rows (more_nothing H es ts q rows (way_one es ts all at H part q (x ∷ []) x one (head_spent x []) stands o.has))
+    → (top part q : Place) (numbers : List ℕ) (first rows : List (List Sibling)) → 0 < length numbers → part.row ≡ 0
+    → tree_at es q.row q.off ≡ content es part.row part.off → IsOn H es ts all top part q numbers first rows → AreMore H es ts top first rows
+on_entry H es ts all at top part q numbers first rows some one stands o =
+    o.more rows (more_nothing H es ts q rows (way_one es ts all at H part q numbers (get_or numbers 0 0) one (one_spent numbers 0 0 some) stands o.has))
+
+-- where the first and the last of some entries part, each half has something, and has some of them
+pub ends_apart : (H : List ℕ → Digest) (es : List (Option Digest)) (parts : StoreState) (right : AreParts H (length es) es parts) (part q : Place)
+    (numbers : List ℕ) → 0 < part.row → InForest (length es) part.row part.off → tree_at es q.row q.off ≡ content es part.row part.off
+    → AreIn es part.row part.off numbers → 0 < length numbers → IsNonDecreasing numbers
+    → get_or numbers 0 0 / 2 ^ (part.row - 1) ≢ get_or numbers (length numbers - 1) 0 / 2 ^ (part.row - 1)
+    → AreHalves H es parts right part.row part.off q
+    × (get_or numbers 0 0 / 2 ^ (part.row - 1) ≡ 2 * part.off)
+    × (get_or numbers (length numbers - 1) 0 / 2 ^ (part.row - 1) ≡ 2 * part.off + 1)
+ends_apart H es parts right part q numbers up h stands inside some rise apart =
+    let row = part.row - 1 in
+    let first = get_or numbers 0 0 in
+    let last = get_or numbers (length numbers - 1) 0 in
+    let one = inside 0 0 some in
+    let two = inside (length numbers - 1) 0 (omega (arith, some)) in
+    let low = half_of first row part up refl in
+    let high = half_of last row part up refl in
+    let upto = parts_rise row first last (rise 0 (length numbers - 1) 0 (omega arith) (omega (arith, some))) in
+    let left : first / 2 ^ row ≡ 2 * part.off = omega (arith, low, high, one.1, two.1, upto, apart) in
+    let right_is : last / 2 ^ row ≡ 2 * part.off + 1 = omega (arith, low, high, one.1, two.1, upto, apart) in
+    let x = own_kept H es parts right row (2 * part.off) first (within_left (length es) part.row part.off up h) one.0 left in
+    let y = own_kept H es parts right row (2 * part.off + 1) last (within_right (length es) part.row part.off up h) two.0 right_is in
+    (stand_both H es parts right part.row part.off q x.0 y.0 up h stands x.1 y.1, left, right_is)
+
+module _ (part left : Place) (numbers : List ℕ) (some : 0 < length numbers) (left_row : left.row ≡ part.row - 1) (left_off : left.off ≡ 2 * part.off) where
+  pub some_low : get_or numbers 0 0 / 2 ^ (part.row - 1) ≡ 2 * part.off → 0 < length (filter (λ i. nat_le (i / 2 ^ left.row) left.off) numbers)
+  some_low first =
+      let here : get_or numbers 0 0 / 2 ^ left.row ≡ 2 * part.off = ap (λ r. get_or numbers 0 0 / 2 ^ r) left_row ∙ first in
+      spent_some _ (get_or numbers 0 0) (filter_spent (λ i. nat_le (i / 2 ^ left.row) left.off) numbers (get_or numbers 0 0)
+      (one_spent numbers 0 0 some) (le-leb _ _ (omega (arith, here, left_off))))
+
+  pub some_high : get_or numbers (length numbers - 1) 0 / 2 ^ (part.row - 1) ≡ 2 * part.off + 1
+      → 0 < length (filter (λ i. not (nat_le (i / 2 ^ left.row) left.off)) numbers)
+  some_high last =
+      let end = get_or numbers (length numbers - 1) 0 in
+      let here : end / 2 ^ left.row ≡ 2 * part.off + 1 = ap (λ r. end / 2 ^ r) left_row ∙ last in
+      let over : nat_le (end / 2 ^ left.row) left.off ≡ false = lt-leb _ _ (omega (arith, here, left_off)) in
+      spent_some _ end (filter_spent (λ i. not (nat_le (i / 2 ^ left.row) left.off)) numbers end
+      (one_spent numbers (length numbers - 1) 0 (omega (arith, some))) (rw over refl))

@@ -20,12 +20,7 @@ entry_here es i part q low live here stands =
     let off : part.off ≡ i = omega (arith, one) in
     entry_place-stands es i q live (stands ∙ ap₂ (content es) low off)
 
--- one place more
-pub place_pushed : (es : List (Option Digest)) (i : ℕ) (q : Place) (old new : List Place) → new ≡ old ++ q ∷ [] → entry_place es i ≡ Some q
-    → HasPlaces es (i ∷ []) old new
-place_pushed es i q old new more here = ap (map Some) more ∙ (map-append Some old (q ∷ []) ∙ ap (λ x. map Some old ++ x ∷ []) (sym here))
-
--- the same place once more
+-- a place once more
 pub pushed_more : (q : Place) (numbers : List ℕ) (i : ℕ) (old before after : List Place) → i < length numbers → after ≡ before ++ q ∷ []
     → map Some before ≡ map Some old ++ map (λ _. Some q) (take i numbers) → map Some after ≡ map Some old ++ map (λ _. Some q) (take (i + 1) numbers)
 pushed_more q numbers i old before after lt more is =

@@ -1,16 +1,18 @@
 -- What proves entries: the digests at the places that theirs need.
-use Rattle.std.specs.Prelude.{◌≡◌, ℕ, ◌-◌, ◌*◌, ◌/◌, ◌^◌, ◌<◌, ◌≤◌, true, false, List, [], ◌++◌, length, map, filter, get_or, Option, Some}
+use Rattle.std.specs.Prelude.{◌≡◌, ◌≢◌, ℕ, ◌-◌, ◌*◌, ◌/◌, ◌^◌, ◌<◌, ◌≤◌, true, false, List, [], ◌++◌, length, map, filter, get_or, Option, Some}
 use Rattle.std.specs.Prelude.{option_map, ◌==◌, nat_le, All, if◌then◌else◌}
 use Rattle.std.specs.List.{filter_map}
 use Rattle.uo_digest.specs.declared.digest.Digest.{Digest}
 use Rattle.forest_place.specs.declared.place.Place.{Place}
 use Rattle.forest_place.specs.Forest.{InForest, is_root, sibling_off}
 use Rattle.forest_place.specs.Places.{row_places}
-use Rattle.forest_model.specs.Standing.{digest_at}
+use Rattle.forest_model.specs.Content.{content}
+use Rattle.forest_model.specs.Standing.{tree_at, digest_at}
 use Rattle.forest_model.specs.EntryPlace.{entry_place}
 use Rattle.forest_model.specs.Cover.{Cover, cover, is_needed, need}
 use Rattle.live_forest.specs.State.{is_live}
 use Rattle.live_forest.specs.declared.batch.Sibling.{Sibling}
+use Rattle.live_forest.specs.declared.proving.Fork.{Fork}
 
 -- where these entries stand
 abbrev pub places_of : List (Option Digest) → List ℕ → List Place
@@ -62,6 +64,22 @@ pub record AreMore (H : List ℕ → Digest) (es : List (Option Digest)) (ts : L
 pub record AreOfPart (es : List (Option Digest)) (ts : List Place) (all : List ℕ) (part q : Place) (numbers : List ℕ) : Type 0 where
   pub are : numbers ≡ filter (λ i. i / 2 ^ part.row == part.off) all
   pub beside : numbers ≡ [] → (is_root (length es) q.row q.off ≡ false) × ((c : Cover) × (cover ts q.row (sibling_off q.off) ≡ Some c))
+
+-- the lowest part beneath one that has all of these entries, and where its tree stands
+pub record IsFork (es : List (Option Digest)) (part : Place) (numbers : List ℕ) (fork : Fork) : Type 0 where
+  pub beneath : fork.part.row ≤ part.row
+  pub within : InForest (length es) fork.part.row fork.part.off
+  pub stands : tree_at es fork.place.row fork.place.off ≡ content es fork.part.row fork.part.off
+  pub there : InForest (length es) fork.place.row fork.place.off
+  pub inside : AreIn es fork.part.row fork.part.off numbers
+  pub apart : 0 < fork.part.row
+      → get_or numbers 0 0 / 2 ^ (fork.part.row - 1) ≢ get_or numbers (length numbers - 1) 0 / 2 ^ (fork.part.row - 1)
+
+-- the part has these numbers of all, and what is noted from here on is all that is noted beneath the first place
+pub record IsOn (H : List ℕ → Digest) (es : List (Option Digest)) (ts : List Place) (all : List ℕ) (top part q : Place) (numbers : List ℕ)
+    (first rows : List (List Sibling)) : Type 0 where
+  pub has : AreOfPart es ts all part q numbers
+  pub more : (last : List (List Sibling)) → AreMore H es ts q rows last → AreMore H es ts top first last
 
 -- how many places of a row lie in the slots from a row up
 abbrev pub width_from : ℕ → ℕ → ℕ → ℕ

@@ -1,5 +1,5 @@
 //! A set of numbers below 128, as the bits of a number.
-ghost use Rattle.std.specs.Prelude.{◌≡◌, ◌≢◌, ℕ, ◌+◌, ◌*◌, ◌/◌, ◌%◌, ◌^◌, ◌<◌, ◌≤◌, true, false};
+ghost use Rattle.std.specs.Prelude.{◌≡◌, ◌≢◌, ℕ, suc, ◌+◌, ◌*◌, ◌/◌, ◌%◌, ◌^◌, ◌<◌, ◌≤◌, true, false};
 ghost use Rattle.forest_place.specs.Forest.{InForest};
 ghost use Rattle.live_forest.specs.Sets.{is_bit, has_part, rank as rank_of, IsWith, IsWithout};
 
@@ -50,6 +50,24 @@ pub(crate) fn has_some(bits: u128, row: u8, off: u64) -> bool
         return bits != 0;
     }
     bits_of(bits, row, off) != 0
+}
+
+/// Whether the set has some of the numbers in the left half of a part of the row above, and in the right one.
+pub(crate) fn has_in_halves(bits: u128, row: u8, off: u64) -> (bool, bool)
+    requires row { row < 7 }
+    requires within { InForest 128 (suc row) off }
+    ensures left { result.0 ≡ has_part (is_bit bits) row (2 * off) }
+    ensures right { result.1 ≡ has_part (is_bit bits) row (2 * off + 1) }
+{
+    if bits == ALL {
+        return (true, true);
+    }
+    if row == 6 {
+        return (bits % (1 << 64) != 0, bits >> 64 != 0);
+    }
+    let width: u32 = 1 << row;
+    let both = bits_of(bits, row + 1, off);
+    (both % (1 << width) != 0, both >> width != 0)
 }
 
 // How many numbers below one a set of numbers below 64 has.

@@ -253,8 +253,8 @@ impl<D: Digester> Forest<D> {
     }
 
     /// Where these live entries stand, whose numbers rise, and what proves them: the siblings that their places need, row by row, each with the
-    /// digest that stands there. All of it is read on one way down, which forks where the entries part.
-    pub fn proof_of(&self, alloc: Global, numbers: &[u64]) -> Result<BatchProof, NoMemory>
+    /// digest that stands there, which is lent. All of it is found on one way down, which forks where the entries part.
+    pub fn proof_of(&self, alloc: Global, numbers: &[u64]) -> Result<BatchProof<'_>, NoMemory>
         requires live { All (λ i. is_live self.now.entries i ≡ true) numbers.now }
         requires rise { IsNonDecreasing numbers.now }
         ensures places { IfOk result (λ b. map Some b.places.items ≡ map (entry_place self.now.entries) numbers.now) }

@@ -10,7 +10,7 @@
 //! - `store`: all pages, and a list of the digests of the parts of several pages, of 33 bytes a page.
 //! - `refresh`: an entry is written, and the parts above it are made right. `emptying` and `growth` write several, and then go row by row, where
 //!   many parts are digested side by side (`waiting`).
-//! - `seen`, `seek`, `walk`, `found`, `proving`: what stands at a place, and what proves entries. They ask the store what it keeps for a part.
+//! - `seen`, `seek`, `walk`, `proving`, `batch`: what stands at a place, and what proves entries. They ask the store what it keeps for a part.
 //! - `forest` and `blocks`: [`Forest`], which is seen as the list of all entries.
 //!
 //! `Forest::reserve` alone takes memory: it makes the cells of the entries to come. `Forest::forget` gives room back.
@@ -22,7 +22,6 @@ mod blocks;
 mod cell;
 mod emptying;
 mod forest;
-mod found;
 mod growth;
 mod laws;
 mod page;
@@ -35,7 +34,6 @@ mod store;
 mod waiting;
 mod walk;
 
-pub use batch::{BatchProof, Sibling};
+pub use batch::{BatchProof, LentSibling, Row, Sibling};
 pub use forest::Forest;
 pub use laws::{look_ups_tell_nodes, undoing_gives_back};
-pub use proving::Row;

@@ -6,7 +6,7 @@ ghost use Rattle.live_forest.specs.Sets.{is_bit, has_part, rank as rank_of, IsWi
 ghost use Rattle.live_forest.specs.Pages.{PageState, middle as middle_of, spot, digest_at, told, IsPut, IsLifted};
 ghost use Rattle.live_forest.specs.Pages.{IsEntryPut, IsPartPut, IsOfHalves, AreOfHalves};
 
-use crate::bits::{has, has_some, rank, with, without};
+use crate::bits::{has, has_in_halves, has_some, rank, with, without};
 use crate::cell::Cell;
 use crate::spots::{Spot, is_branch, middle, nearest, spot_of};
 use forest_place::{Place, parent, sibling};
@@ -199,7 +199,7 @@ impl Page {
         ensures left { result.0 ≡ is_some (told self.now row (2 * off)) }
         ensures right { result.1 ≡ is_some (told self.now row (2 * off + 1)) }
     {
-        (self.has(row, 2 * off), self.has(row, 2 * off + 1))
+        has_in_halves(self.live, row, off)
     }
 
     /// What is kept for the halves of a part of the row above, where both have something.

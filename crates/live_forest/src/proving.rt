@@ -1,7 +1,7 @@
 //! What proves entries: the digests that stand beside the ways down to them, all of them from one walk down. It goes through each part once,
 //! and where it reads the halves of one does not hang on what another has.
 ghost use Rattle.std.specs.Prelude.{◌≡◌, ◌≢◌, ℕ, List, suc, ◌++◌, ◌∷◌, ◌/◌, ◌^◌, ◌<◌, ◌≤◌, [], true, length, filter, map, take, drop, not, nat_le};
-ghost use Rattle.std.specs.Prelude.{Some, All, IfOk, OnOk, OnErr, is_some};
+ghost use Rattle.std.specs.Prelude.{Some, All, IfOk, OnOk, OnErr, ◌-◌, ◌↔◌, IsTrue};
 ghost use Rattle.std.specs.List.{filter_map, flat_map};
 ghost use Rattle.std.specs.List.Sorted.{IsNonDecreasing};
 ghost use Rattle.forest_place.specs.Forest.{InForest};
@@ -12,73 +12,23 @@ ghost use Rattle.forest_model.specs.Standing.{tree_at};
 ghost use Rattle.forest_model.specs.EntryPlace.{entry_place};
 ghost use Rattle.live_forest.specs.Lookups.{AreAlike, AreHeld};
 ghost use Rattle.live_forest.specs.Parts.{entries_in, kept, AreParts};
-ghost use Rattle.live_forest.specs.Proving.{places_of, standing, proof_of, in_row, list_of, HasRows, HasPlaces, AreIn, AreBehind, AreMore};
+ghost use Rattle.live_forest.specs.Proving.{places_of, standing, proof_of, in_row, list_of, HasRows, HasPlaces, AreIn, AreBehind, AreMore, IsFork, IsOn};
 ghost use Rattle.live_forest.specs.Proving.{AreOfPart, AreFrom, behind};
 ghost use Rattle.live_forest.specs.State.{is_live};
 
-use crate::batch::{BatchProof, Sibling};
-use crate::found::Found;
+use crate::batch::{BatchProof, Row};
 use crate::seek::child;
-use crate::seen::{beside_in, has_in, lent_in};
+use crate::seen::beside_in;
 use crate::store::Store;
 use forest_place::{Place, children, sibling};
-use smallvec::SmallVec;
 use std::alloc::{AllocError, Global};
-use std::marker::Model;
 use uo_digest::{Digest, Digester};
 
 /// So many rows has a forest at most.
 const ROWS: usize = 40;
 
-/// So many digests lie in a row itself.
-pub(crate) const IN_ROW: usize = 2;
-
-/// Siblings that stand in one row, from left to right. The first two lie in it, so that a block which spends little asks for no memory row by row.
-#[derive(Drop)]
-pub struct Row {
-    list: SmallVec<Sibling, IN_ROW>,
-}
-
-impl Model for Row {
-    ghost use Rattle.std.specs.Prelude.{List};
-    ghost use Rattle.live_forest.specs.declared.batch.Sibling.{Sibling};
-
-    ghost Value = { List Sibling };
-
-    ghost view = { λ r. r.list.items };
-}
-
-impl Row {
-    /// No digest, and room for so many.
-    pub(crate) fn with_room(alloc: Global, room: usize) -> Result<Self, AllocError>
-        ensures { IfOk result (λ row. row ≡ []) }
-    {
-        let mut list = SmallVec::new(alloc);
-        if room > IN_ROW {
-            list.reserve(room)?;
-        }
-        Ok(Row { list })
-    }
-
-    /// One more.
-    pub(crate) fn push(&mut self, sibling: Sibling) -> Result<(), AllocError>
-        ensures ok { OnOk result (self.new ≡ self.old ++ sibling ∷ []) }
-        ensures err { OnErr result (self.new ≡ self.old) }
-    {
-        self.list.push(sibling)?;
-        Ok(())
-    }
-
-    /// The siblings.
-    pub fn as_slice(&self) -> &[Sibling]
-        ensures { result.now ≡ self.now }
-    {
-        self.list.as_slice()
-    }
-}
-
 // No digest in any row that a forest over n entries has, and room for so many in each.
-fn no_rows<'a>(alloc: Global, n: u64, room: usize) -> Result<Vec<Found<'a>>, AllocError>
+fn no_rows<'a>(alloc: Global, n: u64, room: usize) -> Result<Vec<Row<'a>>, AllocError>
     requires { n < 2 ^ 40 }
     ensures wide { IfOk result (λ rows. HasRows n rows.items) }
     ensures none { IfOk result (λ rows. (row : ℕ) → list_of rows.items row ≡ []) }
@@ -86,7 +36,7 @@ fn no_rows<'a>(alloc: Global, n: u64, room: usize) -> Result<Vec<Found<'a>>, All
     let mut rows = Vec::with_capacity(alloc, ROWS)?;
     let mut row: u8 = 0;
     while n >> row > 0 {
-        rows.push(Found::with_room(alloc, room)?)?;
+        rows.push(Row::with_room(alloc, room)?)?;
         row += 1;
     }
     Ok(rows)
@@ -108,7 +58,7 @@ fn count_upto(numbers: &[u64], row: u8, off: u64) -> usize
 }
 
 // Puts a sibling to those of its row.
-fn put<'a>(rows: &mut Vec<Found<'a>>, place: Place, digest: &'a Digest) -> Result<(), AllocError>
+fn put<'a>(rows: &mut Vec<Row<'a>>, place: Place, digest: &'a Digest) -> Result<(), AllocError>
     requires { place.row < length rows.old.items }
     ensures here { OnOk result (list_of rows.new.items place.row
         ≡ list_of rows.old.items place.row ++ (record { place = place; digest = digest.now }) ∷ []) }
@@ -118,42 +68,31 @@ fn put<'a>(rows: &mut Vec<Found<'a>>, place: Place, digest: &'a Digest) -> Resul
     rows[place.row as usize].push(place, digest)
 }
 
-// Notes the digest of a part at the place at which its tree stands, if it has something.
-fn note<'a, D: Digester>(
-    store: &'a Store,
-    n: u64,
+/// The lowest part that has all of some entries, and the place at which its tree stands.
+#[derive(Clone, Copy)]
+pub(crate) struct Fork {
     part: Place,
     place: Place,
-    rows: &mut Vec<Found<'a>>,
-) -> Result<(), AllocError>
-    requires small { length (entries_in n store.now) < 2 ^ 40 }
-    requires room { n ≤ store.now.len }
-    requires right { AreParts D.digest_of (length (entries_in n store.now)) (entries_in n store.now) store.now }
-    requires within { InForest (length (entries_in n store.now)) part.row part.off }
-    requires stands { tree_at (entries_in n store.now) place.row place.off ≡ content (entries_in n store.now) part.row part.off }
-    requires wide { HasRows (length (entries_in n store.now)) rows.old.items }
-    ensures wide { HasRows (length (entries_in n store.now)) rows.new.items }
-    ensures here { OnOk result (list_of rows.new.items place.row ≡ list_of rows.old.items place.row
-        ++ filter_map (standing D.digest_of (entries_in n store.now)) (place ∷ [])) }
-    ensures others { (row : ℕ) → row ≢ place.row → list_of rows.new.items row ≡ list_of rows.old.items row }
-{
-    match lent_in(store, n, part.row, part.off) {
-        Some(digest) => put(rows, place, digest),
-        None => Ok(()),
-    }
 }
 
-// Goes down from a part to one entry, and does what `descend` does for that one, in a loop: on the way to one entry no read waits for another.
-// The half that has the entry has something, so only the other one is looked at.
-fn descend_to<'a, D: Digester>(
+// Whether entries of a part of a row are all in one half of it, of which these are the first and the last one.
+fn share_half(row: u8, first: u64, last: u64) -> bool
+    requires { row ≤ 40 }
+    ensures { IsTrue result ↔ ((0 < row) × (first / 2 ^ (row - 1) ≡ last / 2 ^ (row - 1))) }
+{
+    row > 0 && first >> (row - 1) == last >> (row - 1)
+}
+
+// Goes down from a part, whose tree stands at this place, to the lowest part that has all of these entries, and notes what is beside the way. It is a
+// loop, in which no read waits for another. The half that has the entries has something, so only the other one is looked at.
+fn descend_to_fork<'a, D: Digester>(
     store: &'a Store,
     n: u64,
     part: Place,
     place: Place,
-    number: u64,
-    rows: &mut Vec<Found<'a>>,
-    places: &mut Vec<Place>,
-) -> Result<(), AllocError>
+    numbers: &[u64],
+    rows: &mut Vec<Row<'a>>,
+) -> Result<Fork, AllocError>
     requires small { length (entries_in n store.now) < 2 ^ 40 }
     requires room { n ≤ store.now.len }
     requires held { AreHeld (entries_in n store.now) store.now }
@@ -161,19 +100,23 @@ fn descend_to<'a, D: Digester>(
     requires within { InForest (length (entries_in n store.now)) part.row part.off }
     requires stands { tree_at (entries_in n store.now) place.row place.off ≡ content (entries_in n store.now) part.row part.off }
     requires there { InForest (length (entries_in n store.now)) place.row place.off }
-    requires inside { AreIn (entries_in n store.now) part.row part.off (number ∷ []) }
+    requires some { 0 < length numbers.now }
+    requires rise { IsNonDecreasing numbers.now }
+    requires inside { AreIn (entries_in n store.now) part.row part.off numbers.now }
     requires wide { HasRows (length (entries_in n store.now)) rows.old.items }
     ensures wide { HasRows (length (entries_in n store.now)) rows.new.items }
-    ensures places { OnOk result (HasPlaces (entries_in n store.now) (number ∷ []) places.old.items places.new.items) }
-    ensures noted { OnOk result ((ts : List Place) (all : List ℕ) → StandAt (entries_in n store.now) ts all
-        → AreOfPart (entries_in n store.now) ts all part place (number ∷ [])
-        → AreMore D.digest_of (entries_in n store.now) ts place rows.old.items rows.new.items) }
+    ensures is { IfOk result (λ fork. IsFork (entries_in n store.now) part numbers.now fork) }
+    ensures noted { IfOk result (λ fork. (ts : List Place) (all : List ℕ) → StandAt (entries_in n store.now) ts all
+        → AreOfPart (entries_in n store.now) ts all part place numbers.now
+        → IsOn D.digest_of (entries_in n store.now) ts all place fork.part fork.place numbers.now rows.old.items rows.new.items) }
 {
+    let first = numbers[0];
+    let last = numbers[numbers.len() - 1];
     let mut at = part;
     let mut above = place;
-    'way: while at.row > 0 {
-        let half = child(at, number >> (at.row - 1));
-        match beside_in(store, n, half.row, number) {
+    'way: while share_half(at.row, first, last) {
+        let half = child(at, first >> (at.row - 1));
+        match beside_in(store, n, half.row, first) {
             None => at = half,
             Some(digest) => {
                 let below = child(above, half.off);
@@ -183,8 +126,10 @@ fn descend_to<'a, D: Digester>(
             }
         }
     }
-    places.push(above)?;
-    Ok(())
+    Ok(Fork {
+        part: at,
+        place: above,
+    })
 }
 
 // Adds the place once for each of these numbers.
@@ -197,30 +142,14 @@ fn push_each(places: &mut Vec<Place>, place: Place, numbers: &[u64]) -> Result<(
     Ok(())
 }
 
-// Whether something is live in a part, which has these entries of those that are sought: one that has some is not looked at.
-fn has_live(store: &Store, n: u64, part: Place, numbers: &[u64]) -> bool
-    requires small { length (entries_in n store.now) < 2 ^ 40 }
-    requires room { n ≤ store.now.len }
-    requires alike { AreAlike (entries_in n store.now) store.now }
-    requires within { InForest (length (entries_in n store.now)) part.row part.off }
-    requires inside { AreIn (entries_in n store.now) part.row part.off numbers.now }
-    ensures { result ≡ is_some (kept (entries_in n store.now) store.now part.row part.off) }
-{
-    if numbers.is_empty() {
-        has_in(store, n, part.row, part.off)
-    } else {
-        true
-    }
-}
-
-// Goes down from a part, which has these entries and whose tree stands at this place, to the entries, and notes what is beside the way.
+// Goes down from a part, which has these entries and whose tree stands at this place, to the entries, and notes what is beside the ways.
 fn descend<'a, D: Digester>(
     store: &'a Store,
     n: u64,
     part: Place,
     place: Place,
     numbers: &[u64],
-    rows: &mut Vec<Found<'a>>,
+    rows: &mut Vec<Row<'a>>,
     places: &mut Vec<Place>,
 ) -> Result<(), AllocError>
     requires small { length (entries_in n store.now) < 2 ^ 40 }
@@ -230,6 +159,7 @@ fn descend<'a, D: Digester>(
     requires within { InForest (length (entries_in n store.now)) part.row part.off }
     requires stands { tree_at (entries_in n store.now) place.row place.off ≡ content (entries_in n store.now) part.row part.off }
     requires there { InForest (length (entries_in n store.now)) place.row place.off }
+    requires some { 0 < length numbers.now }
     requires rise { IsNonDecreasing numbers.now }
     requires inside { AreIn (entries_in n store.now) part.row part.off numbers.now }
     requires wide { HasRows (length (entries_in n store.now)) rows.old.items }
@@ -241,26 +171,13 @@ fn descend<'a, D: Digester>(
         → AreOfPart (entries_in n store.now) ts all part place numbers.now
         → AreMore D.digest_of (entries_in n store.now) ts place rows.old.items rows.new.items) }
 {
-    if numbers.is_empty() {
-        return note::<D>(store, n, part, place, rows);
+    let fork = descend_to_fork::<D>(store, n, part, place, numbers, rows)?;
+    if fork.part.row == 0 {
+        return push_each(places, fork.place, numbers);
     }
-    if numbers.len() == 1 {
-        return descend_to::<D>(store, n, part, place, numbers[0], rows, places);
-    }
-    if part.row == 0 {
-        return push_each(places, place, numbers);
-    }
-    let (left, right) = children(part);
+    let (left, right) = children(fork.part);
     let (low, high) = numbers.split_at(count_upto(numbers, left.row, left.off));
-    let on_left = has_live(store, n, left, low);
-    if !on_left {
-        return descend::<D>(store, n, right, place, numbers, rows, places);
-    }
-    let on_right = has_live(store, n, right, high);
-    if !on_right {
-        return descend::<D>(store, n, left, place, numbers, rows, places);
-    }
-    let (below_left, below_right) = children(place);
+    let (below_left, below_right) = children(fork.place);
     descend::<D>(store, n, left, below_left, low, rows, places)?;
     descend::<D>(store, n, right, below_right, high, rows, places)
 }
@@ -271,7 +188,7 @@ fn descend_from<'a, 'b, D: Digester>(
     n: u64,
     row: u8,
     numbers: &'b [u64],
-    rows: &mut Vec<Found<'a>>,
+    rows: &mut Vec<Row<'a>>,
     places: &mut Vec<Place>,
 ) -> Result<&'b [u64], AllocError>
     requires small { length (entries_in n store.now) < 2 ^ 40 }
@@ -316,7 +233,7 @@ fn rows_of<'a, D: Digester>(
     n: u64,
     numbers: &[u64],
     places: &mut Vec<Place>,
-) -> Result<Vec<Found<'a>>, AllocError>
+) -> Result<Vec<Row<'a>>, AllocError>
     requires small { length (entries_in n store.now) < 2 ^ 40 }
     requires room { n ≤ store.now.len }
     requires held { AreHeld (entries_in n store.now) store.now }
@@ -337,24 +254,13 @@ fn rows_of<'a, D: Digester>(
     Ok(rows)
 }
 
-// Reads the digests of all rows.
-fn read_rows(alloc: Global, found: &[Found<'_>]) -> Result<Vec<Row>, AllocError>
-    ensures { IfOk result (λ rows. rows.items ≡ found.now) }
-{
-    let mut rows = Vec::with_capacity(alloc, found.len())?;
-    for row in found {
-        rows.push(row.read(alloc)?)?;
-    }
-    Ok(rows)
-}
-
 // Where these entries stand, which rise, and what proves them.
-pub(crate) fn proof_of_entries<D: Digester>(
+pub(crate) fn proof_of_entries<'a, D: Digester>(
     alloc: Global,
-    store: &Store,
+    store: &'a Store,
     n: u64,
     numbers: &[u64],
-) -> Result<BatchProof, AllocError>
+) -> Result<BatchProof<'a>, AllocError>
     requires small { length (entries_in n store.now) < 2 ^ 40 }
     requires room { n ≤ store.now.len }
     requires held { AreHeld (entries_in n store.now) store.now }
@@ -365,7 +271,6 @@ pub(crate) fn proof_of_entries<D: Digester>(
     ensures siblings { IfOk result (λ b. flat_map (λ row. row) b.rows.items ≡ proof_of D.digest_of (entries_in n store.now) numbers.now) }
 {
     let mut places = Vec::with_capacity(alloc, numbers.len())?;
-    let found = rows_of::<D>(alloc, store, n, numbers, &mut places)?;
-    let rows = read_rows(alloc, &found)?;
+    let rows = rows_of::<D>(alloc, store, n, numbers, &mut places)?;
     Ok(BatchProof { places, rows })
 }

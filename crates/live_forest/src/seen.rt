@@ -19,16 +19,6 @@ pub(crate) fn part_in(store: &Store, n: u64, row: u8, off: u64) -> Option<Digest
     store.part(n, row, off)
 }
 
-/// The same, where it lies.
-pub(crate) fn lent_in(store: &Store, n: u64, row: u8, off: u64) -> Option<&Digest>
-    requires small { length (entries_in n store.now) < 2 ^ 40 }
-    requires room { n ≤ store.now.len }
-    requires within { InForest (length (entries_in n store.now)) row off }
-    ensures { option_copied result ≡ kept (entries_in n store.now) store.now row off }
-{
-    store.lent(n, row, off)
-}
-
 /// The digest that is kept for the part beside the one of a row that has a live entry, where it lies.
 pub(crate) fn beside_in(store: &Store, n: u64, row: u8, number: u64) -> Option<&Digest>
     requires small { length (entries_in n store.now) < 2 ^ 40 }

@@ -238,7 +238,12 @@ fn check_proof(
     let expected = siblings_of(alloc, forest.leaves(), nodes, &proof.places, places)?;
     let mut siblings = Vec::with_capacity(alloc, proof.count())?;
     for row in &proof.rows {
-        siblings.extend_from_slice(row.as_slice())?;
+        for sibling in row.as_slice() {
+            siblings.push(Sibling {
+                place: sibling.place(),
+                digest: sibling.digest(),
+            })?;
+        }
     }
     assert!(rt; siblings.as_slice() == expected.as_slice());
     Ok(())

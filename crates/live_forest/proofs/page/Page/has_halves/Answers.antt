@@ -1,8 +1,14 @@
-use Rattle.forest_place.proofs.Parts.{InForest-left, InForest-right}
+use Rattle.std.proofs.Common.{◌+◌, ◌*◌, sym, ◌∙◌}
+use Rattle.live_forest.specs.Pages.{PageState}
+use Rattle.live_forest.proofs.Telling.{some_told}
 use Rattle.live_forest.proofs.page.Page.has_halves.Goals as goal
 
-pub has-requires-clause-within : goal.has-requires-clause-within
-has-requires-clause-within c = InForest-left 128 c.args.row c.args.off c.requires.within
+pub returns-clause-left : goal.returns-clause-left
+returns-clause-left c =
+    let p : PageState = record { listed = c.self.inside.listed; live = c.self.inside.live; cells = c.self.inside.cells.items } in
+    rw (← c.self.view_is) (c.has_in_halves.ensures.left ∙ sym (some_told p c.args.row (2 * c.args.off)))
 
-pub has-requires-2-clause-within : goal.has-requires-2-clause-within
-has-requires-2-clause-within c = InForest-right 128 c.args.row c.args.off c.requires.within
+pub returns-clause-right : goal.returns-clause-right
+returns-clause-right c =
+    let p : PageState = record { listed = c.self.inside.listed; live = c.self.inside.live; cells = c.self.inside.cells.items } in
+    rw (← c.self.view_is) (c.has_in_halves.ensures.right ∙ sym (some_told p c.args.row (2 * c.args.off + 1)))

@@ -1,4 +1,5 @@
-use Rattle.std.proofs.Common.{◌≡◌, ◌/◌, ◌%◌, ◌^◌, ◌++◌, length, Some, None, refl, sym, ap, ◌∙◌, subst, arith}
+use Rattle.std.proofs.Common.{◌≡◌, ◌%◌, ◌++◌, length, Some, None, refl, sym, ap, ◌∙◌, subst, arith}
+use Rattle.std.proofs.lemmas.Bool.{true≢false}
 use Rattle.forest_place.specs.declared.place.Place.{Place}
 use Rattle.forest_place.specs.Forest.{InForest, sibling_off}
 use Rattle.forest_place.proofs.Positions.{row_small}
@@ -8,19 +9,25 @@ use Rattle.live_forest.specs.Proving.{list_of}
 use Rattle.live_forest.proofs.Seeking.{alike, tree_none}
 use Rattle.live_forest.proofs.Noting.{there, digest_here, rows_stay}
 use Rattle.live_forest.proofs.Beneath.{noted_is}
-use Rattle.live_forest.proofs.Placing.{entry_here, place_pushed}
-use Rattle.live_forest.proofs.Following.{own_half, own_kept, pair_of, other_pair, half_within, half_stands, high_above, stand_beneath, on_half}
-use Rattle.live_forest.proofs.Following.{on_both, on_entry}
+use Rattle.live_forest.proofs.Following.{all_in_half, own_kept, pair_of, other_pair, half_within, half_stands, high_above, stand_beneath, on_half}
+use Rattle.live_forest.proofs.Following.{on_both}
 use Rattle.live_forest.specs.Parts.{entries_in}
-use Rattle.live_forest.proofs.proving.descend_to.Goals as goal
+use Rattle.live_forest.proofs.proving.descend_to_fork.Goals as goal
 
-pub overflow_shr-number : goal.overflow_shr-number
-overflow_shr-number g c =
+pub share_half-requires : goal.share_half-requires
+share_half-requires g c =
+    omega (
+      arith,
+      row_small (length (entries_in c.args.n c.args.store.now)) c.way.at.row c.way.at.off 40 c.way.invariant.within c.requires.small,
+    )
+
+pub overflow_shr-first : goal.overflow_shr-first
+overflow_shr-first g c =
     let row = row_small (length (entries_in c.args.n c.args.store.now)) c.way.at.row c.way.at.off 40 c.way.invariant.within c.requires.small in
     omega (arith, row)
 
 pub beside_in-requires-clause-live : goal.beside_in-requires-clause-live
-beside_in-requires-clause-live g c = (c.requires.inside 0 0 (omega arith)).0
+beside_in-requires-clause-live g c = (c.requires.inside 0 0 c.requires.some).0
 
 pub beside_in-requires-clause-within : goal.beside_in-requires-clause-within
 beside_in-requires-clause-within g c =
@@ -28,9 +35,12 @@ beside_in-requires-clause-within g c =
     let at = c.way.at in
     let half = c.child-half.result in
     let other : Place = record { row = half.row; off = sibling_off half.off } in
-    let pair = pair_of at half other _ (omega (arith, c.way-test.true)) c.child-half.ensures refl refl in
-    let inside = own_half at half c.args.number (omega (arith, c.way-test.true)) c.child-half.ensures c.way.invariant.inside in
-    subst (λ o. InForest (length es) half.row (sibling_off o)) (sym inside)
+    let pair = pair_of at half other _ (c.share_half.ensures.0 c.way-test.true).0 c.child-half.ensures refl refl in
+    let some = c.requires.some in
+    let inside = all_in_half es at half c.args.numbers.now c.requires.rise some (c.share_half.ensures.0 c.way-test.true).0 c.child-half.ensures
+    (c.share_half.ensures.0 c.way-test.true).1 c.way.invariant.inside in
+    let first = (inside 0 0 some).1 in
+    subst (λ o. InForest (length es) half.row (sibling_off o)) (sym first)
     (half_within (length es) at other half (other_pair at half other pair) c.way.invariant.within)
 
 pub way-preserved-in-None : goal.way-preserved-in-None
@@ -42,16 +52,20 @@ way-preserved-in-None g c =
     let q = c.way.above in
     let half = c.child-half.result in
     let other : Place = record { row = half.row; off = sibling_off half.off } in
-    let pair = pair_of at half other _ (omega (arith, c.way-test.true)) c.child-half.ensures refl refl in
-    let inside = own_half at half c.args.number (omega (arith, c.way-test.true)) c.child-half.ensures c.way.invariant.inside in
+    let pair = pair_of at half other _ (c.share_half.ensures.0 c.way-test.true).0 c.child-half.ensures refl refl in
+    let some = c.requires.some in
+    let inside = all_in_half es at half c.args.numbers.now c.requires.rise some (c.share_half.ensures.0 c.way-test.true).0 c.child-half.ensures
+    (c.share_half.ensures.0 c.way-test.true).1 c.way.invariant.inside in
+    let first = (inside 0 0 some).1 in
     let none : None ≡ kept es parts other.row other.off =
-    c.in-None.ensures ∙ ap (λ o. kept es parts half.row (sibling_off o)) inside in
+    c.in-None.ensures ∙ ap (λ o. kept es parts half.row (sibling_off o)) first in
     let nothing : content es other.row other.off ≡ None = tree_none es parts (alike H es parts c.requires.right) other.row other.off
     (half_within (length es) at other half (other_pair at half other pair) c.way.invariant.within) none in
     record {
       within = half_within (length es) at half other pair c.way.invariant.within;
       stands = half_stands H es parts c.requires.right at half other q pair c.way.invariant.within c.way.invariant.stands none;
       there = c.way.invariant.there;
+      beneath = let row = pair.row in omega (arith, row, c.way.invariant.beneath);
       inside = inside;
       wide = c.way.invariant.wide;
       on = λ ts all s w. on_half H es ts all s c.args.place at half other q _ _ _ pair (c.way.invariant.on ts all s w) nothing;
@@ -66,12 +80,15 @@ child-below-requires-clause-row g c =
     let q = c.way.above in
     let half = c.child-half.result in
     let other : Place = record { row = half.row; off = sibling_off half.off } in
-    let pair = pair_of at half other _ (omega (arith, c.way-test.true)) c.child-half.ensures refl refl in
-    let inside = own_half at half c.args.number (omega (arith, c.way-test.true)) c.child-half.ensures c.way.invariant.inside in
-    let one = own_kept H es parts c.requires.right half.row half.off c.args.number (half_within (length es) at half other pair c.way.invariant.within)
-    (c.requires.inside 0 0 (omega arith)).0 inside in
+    let pair = pair_of at half other _ (c.share_half.ensures.0 c.way-test.true).0 c.child-half.ensures refl refl in
+    let some = c.requires.some in
+    let inside = all_in_half es at half c.args.numbers.now c.requires.rise some (c.share_half.ensures.0 c.way-test.true).0 c.child-half.ensures
+    (c.share_half.ensures.0 c.way-test.true).1 c.way.invariant.inside in
+    let first = (inside 0 0 some).1 in
+    let one = own_kept H es parts c.requires.right half.row half.off _ (half_within (length es) at half other pair c.way.invariant.within)
+    (inside 0 0 some).0 first in
     let two : Some c.in-Some.digest.now ≡ kept es parts other.row other.off =
-    c.in-Some.ensures ∙ ap (λ o. kept es parts half.row (sibling_off o)) inside in
+    c.in-Some.ensures ∙ ap (λ o. kept es parts half.row (sibling_off o)) first in
     let above = high_above H es parts c.requires.right at half other q one.0 c.in-Some.digest.now pair c.way.invariant.within c.way.invariant.stands
     one.1 two in
     above
@@ -85,12 +102,15 @@ put-requires g c =
     let q = c.way.above in
     let half = c.child-half.result in
     let other : Place = record { row = half.row; off = sibling_off half.off } in
-    let pair = pair_of at half other _ (omega (arith, c.way-test.true)) c.child-half.ensures refl refl in
-    let inside = own_half at half c.args.number (omega (arith, c.way-test.true)) c.child-half.ensures c.way.invariant.inside in
-    let one = own_kept H es parts c.requires.right half.row half.off c.args.number (half_within (length es) at half other pair c.way.invariant.within)
-    (c.requires.inside 0 0 (omega arith)).0 inside in
+    let pair = pair_of at half other _ (c.share_half.ensures.0 c.way-test.true).0 c.child-half.ensures refl refl in
+    let some = c.requires.some in
+    let inside = all_in_half es at half c.args.numbers.now c.requires.rise some (c.share_half.ensures.0 c.way-test.true).0 c.child-half.ensures
+    (c.share_half.ensures.0 c.way-test.true).1 c.way.invariant.inside in
+    let first = (inside 0 0 some).1 in
+    let one = own_kept H es parts c.requires.right half.row half.off _ (half_within (length es) at half other pair c.way.invariant.within)
+    (inside 0 0 some).0 first in
     let two : Some c.in-Some.digest.now ≡ kept es parts other.row other.off =
-    c.in-Some.ensures ∙ ap (λ o. kept es parts half.row (sibling_off o)) inside in
+    c.in-Some.ensures ∙ ap (λ o. kept es parts half.row (sibling_off o)) first in
     let above = high_above H es parts c.requires.right at half other q one.0 c.in-Some.digest.now pair c.way.invariant.within c.way.invariant.stands
     one.1 two in
     let below = c.child-below.result in
@@ -112,12 +132,15 @@ way-preserved g c =
     let q = c.way.above in
     let half = c.child-half.result in
     let other : Place = record { row = half.row; off = sibling_off half.off } in
-    let pair = pair_of at half other _ (omega (arith, c.way-test.true)) c.child-half.ensures refl refl in
-    let inside = own_half at half c.args.number (omega (arith, c.way-test.true)) c.child-half.ensures c.way.invariant.inside in
-    let one = own_kept H es parts c.requires.right half.row half.off c.args.number (half_within (length es) at half other pair c.way.invariant.within)
-    (c.requires.inside 0 0 (omega arith)).0 inside in
+    let pair = pair_of at half other _ (c.share_half.ensures.0 c.way-test.true).0 c.child-half.ensures refl refl in
+    let some = c.requires.some in
+    let inside = all_in_half es at half c.args.numbers.now c.requires.rise some (c.share_half.ensures.0 c.way-test.true).0 c.child-half.ensures
+    (c.share_half.ensures.0 c.way-test.true).1 c.way.invariant.inside in
+    let first = (inside 0 0 some).1 in
+    let one = own_kept H es parts c.requires.right half.row half.off _ (half_within (length es) at half other pair c.way.invariant.within)
+    (inside 0 0 some).0 first in
     let two : Some c.in-Some.digest.now ≡ kept es parts other.row other.off =
-    c.in-Some.ensures ∙ ap (λ o. kept es parts half.row (sibling_off o)) inside in
+    c.in-Some.ensures ∙ ap (λ o. kept es parts half.row (sibling_off o)) first in
     let above = high_above H es parts c.requires.right at half other q one.0 c.in-Some.digest.now pair c.way.invariant.within c.way.invariant.stands
     one.1 two in
     let below = c.child-below.result in
@@ -130,15 +153,14 @@ way-preserved g c =
     let noted = c.in_ok-put-in-Some.ensures.here ∙ ap (λ xs. list_of c.way.rows.items beside.row ++ xs)
     (sym (noted_is H es beside c.in-Some.digest.now
     (digest_here H es parts c.requires.right other.row other.off beside c.in-Some.digest.now within' beneath.other_there two))) in
-    let side : half.off % 2 ≡ c.args.number / 2 ^ half.row % 2 = let row = ap (λ (p : Place). p.row) c.child-half.ensures in
-    let off = ap (λ (p : Place). p.off) c.child-half.ensures in omega (arith, off, ap (λ r. c.args.number / 2 ^ r % 2) row) in
     record {
       within = half_within (length es) at half other pair c.way.invariant.within;
       stands = beneath.half_there;
       there = half_within (length es) q below beside under c.way.invariant.there;
+      beneath = let row = pair.row in omega (arith, row, c.way.invariant.beneath);
       inside = inside;
       wide = rows_stay (length es) c.way.rows.items c.put.new.rows.items c.put.ensures.len c.way.invariant.wide;
-      on = λ ts all s w. on_both H es ts all s c.args.place at half other q below beside c.args.number _ _ _ pair under side alike
+      on = λ ts all s w. on_both H es ts all s c.args.place at half other q below beside _ _ _ _ pair under some inside alike
           c.way.invariant.there c.way.invariant.stands beneath noted c.put.ensures.others (c.way.invariant.on ts all s w);
     }
 
@@ -146,14 +168,12 @@ pub returns-in_err-put-in-Some-clause-wide : goal.returns-in_err-put-in-Some-cla
 returns-in_err-put-in-Some-clause-wide g c =
     rows_stay (length (entries_in c.args.n c.args.store.now)) c.way.rows.items c.put.new.rows.items c.put.ensures.len c.way.invariant.wide
 
-pub returns-clause-noted : goal.returns-clause-noted
-returns-clause-noted g c = λ ts all s w. on_entry g.D.Digester.digest_of (entries_in c.args.n c.args.store.now) ts all s c.args.place c.way.at
-    c.way.above c.args.number _
-    _ (omega (arith, c.way-test.false)) c.way.invariant.stands (c.way.invariant.on ts all s w)
-
-pub returns-clause-places : goal.returns-clause-places
-returns-clause-places g c =
-    let es = (entries_in c.args.n c.args.store.now) in
-    let here = entry_here es c.args.number c.way.at c.way.above (omega (arith, c.way-test.false)) (c.requires.inside 0 0 (omega arith)).0
-    c.way.invariant.inside c.way.invariant.stands in
-    place_pushed es c.args.number c.way.above c.args.places.now.items c.push.new.self.items c.in_ok-push.ensures.items here
+pub returns-clause-is : goal.returns-clause-is
+returns-clause-is g c = record {
+  beneath = c.way.invariant.beneath;
+  within = c.way.invariant.within;
+  stands = c.way.invariant.stands;
+  there = c.way.invariant.there;
+  inside = c.way.invariant.inside;
+  apart = λ some share. true≢false (sym (c.share_half.ensures.1 (some, share)) ∙ c.way-test.false);
+}

@@ -1,0 +1,26 @@
+use Rattle.std.proofs.Common.{List, [], length, ℕ, ap, ⊎_elim, arith}
+use Rattle.std.specs.Borrow.{Bor}
+use Rattle.std.proofs.lemmas.Bool.{cases_eq}
+use Rattle.std.proofs.lemmas.List.{get_or-map}
+use Rattle.digest_lanes.specs.Texts.{text_at}
+use Rattle.digest_lanes.proofs.front.blocks_of.Goals as goal
+
+pub loop-i-preserved : goal.loop-i-preserved
+loop-i-preserved c =
+    let texts = c.args.texts.now in
+    let i = c.loop-i.i in
+    let now = c.loop-i.invariant in
+    let one = c.with-blocks.ensures in
+    let blank : Bor (List ℕ) = record { ref_ptr = (0, 0); now = [] } in
+    let here = get_or-map (λ (text : Bor (List ℕ)). text.now) texts i blank [] c.loop-i-test.true in
+    record {
+      some = one.some now.some;
+      from = λ k lt. ⊎_elim
+          (λ same. omega (arith, one.from, ap length here, ap (λ j. length (text_at texts j)) same))
+          (λ other. let before = now.from k (omega (arith, lt, other)) in omega (arith, before, one.least))
+          (cases_eq k i);
+      upto = λ k lt few. ⊎_elim
+          (λ same. let last = one.upto few in omega (arith, last, ap length here, ap (λ j. length (text_at texts j)) same))
+          (λ other. let before = now.upto k (omega (arith, lt, other)) (omega (arith, few, one.most)) in omega (arith, before, one.most))
+          (cases_eq k i);
+    }
