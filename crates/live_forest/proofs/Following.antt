@@ -1,5 +1,7 @@
--- The way down as far as entries go together, as a loop: at each part what is noted later, with what was noted so far, is what is beneath the first place.
-use Rattle.std.proofs.Common.{◌≡◌, ◌≢◌, ℕ, ◌+◌, ◌-◌, ◌*◌, ◌/◌, ◌%◌, ◌^◌, ◌<◌, true, false, List, [], ◌∷◌, ◌++◌, length, get_or, Option, Some, None, All, refl, sym}
+-- The way down as far as entries go together, as a loop: at each part what is noted later, with what was noted so far, is what is beneath the first
+-- place.
+use Rattle.std.proofs.Common.{◌≡◌, ◌≢◌, ℕ, ◌+◌, ◌-◌, ◌*◌, ◌/◌, ◌%◌, ◌^◌, ◌<◌, true, false, List, [], ◌∷◌, ◌++◌, length, get_or, Option, Some, None}
+use Rattle.std.proofs.Common.{All, refl, sym}
 use Rattle.std.proofs.Common.{ap, ap₂, ◌∙◌, subst, ⊎_elim, ◌⊎◌, inl, inr, arith}
 use Rattle.std.specs.Prelude.{nat_le, not, option_map}
 use Rattle.std.specs.List.Sorted.{IsNonDecreasing}
@@ -279,7 +281,8 @@ pub on_entry : (H : List ℕ → Digest) (es : List (Option Digest)) (ts : List 
     → (top part q : Place) (numbers : List ℕ) (first rows : List (List Sibling)) → 0 < length numbers → part.row ≡ 0
     → tree_at es q.row q.off ≡ content es part.row part.off → IsOn H es ts all top part q numbers first rows → AreMore H es ts top first rows
 on_entry H es ts all at top part q numbers first rows some one stands o =
-    o.more rows (more_nothing H es ts q rows (way_one es ts all at H part q numbers (get_or numbers 0 0) one (one_spent numbers 0 0 some) stands o.has))
+    let has = one_spent numbers 0 0 some in
+    o.more rows (more_nothing H es ts q rows (way_one es ts all at H part q numbers (get_or numbers 0 0) one has stands o.has))
 
 -- where the first and the last of some entries part, each half has something, and has some of them
 pub ends_apart : (H : List ℕ → Digest) (es : List (Option Digest)) (parts : StoreState) (right : AreParts H (length es) es parts) (part q : Place)
@@ -304,7 +307,8 @@ ends_apart H es parts right part q numbers up h stands inside some rise apart =
     let y = own_kept H es parts right row (2 * part.off + 1) last (within_right (length es) part.row part.off up h) two.0 right_is in
     (stand_both H es parts right part.row part.off q x.0 y.0 up h stands x.1 y.1, left, right_is)
 
-module _ (part left : Place) (numbers : List ℕ) (some : 0 < length numbers) (left_row : left.row ≡ part.row - 1) (left_off : left.off ≡ 2 * part.off) where
+module _ (part left : Place) (numbers : List ℕ) (some : 0 < length numbers) (left_row : left.row ≡ part.row - 1)
+    (left_off : left.off ≡ 2 * part.off) where
   pub some_low : get_or numbers 0 0 / 2 ^ (part.row - 1) ≡ 2 * part.off → 0 < length (filter (λ i. nat_le (i / 2 ^ left.row) left.off) numbers)
   some_low first =
       let here : get_or numbers 0 0 / 2 ^ left.row ≡ 2 * part.off = ap (λ r. get_or numbers 0 0 / 2 ^ r) left_row ∙ first in

@@ -65,8 +65,8 @@ fn put(cells: &mut Vec<Cell>, spot: Spot, digest: Digest)
     }
 }
 
-// Moves the digest of a part to where that of the part above lies, since its sibling will have nothing listed; and answers which cell held both halves,
-// and is free from now on.
+// Moves the digest of a part to where that of the part above lies, since its sibling will have nothing listed; and answers which cell held both
+// halves, and is free from now on.
 fn lift(listed: u128, cells: &mut Vec<Cell>, part: Place) -> usize
     requires row { part.row < 7 }
     requires within { InForest 128 part.row part.off }

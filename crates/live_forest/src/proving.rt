@@ -12,8 +12,8 @@ ghost use Rattle.forest_model.specs.Standing.{tree_at};
 ghost use Rattle.forest_model.specs.EntryPlace.{entry_place};
 ghost use Rattle.live_forest.specs.Lookups.{AreAlike, AreHeld};
 ghost use Rattle.live_forest.specs.Parts.{entries_in, kept, AreParts};
-ghost use Rattle.live_forest.specs.Proving.{places_of, standing, proof_of, in_row, list_of, HasRows, HasPlaces, AreIn, AreBehind, AreMore, IsFork, IsOn};
-ghost use Rattle.live_forest.specs.Proving.{AreOfPart, AreFrom, behind};
+ghost use Rattle.live_forest.specs.Proving.{places_of, standing, proof_of, in_row, list_of, HasRows, HasPlaces, AreIn, AreBehind, AreMore};
+ghost use Rattle.live_forest.specs.Proving.{AreOfPart, AreFrom, behind, IsFork, IsOn};
 ghost use Rattle.live_forest.specs.State.{is_live};
 
 use crate::batch::{BatchProof, Row};

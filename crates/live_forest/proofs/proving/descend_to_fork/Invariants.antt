@@ -16,7 +16,8 @@ invariant-way g l = record {
   beneath : l.at.row ≤ l.fn.part.row;
   inside : AreIn (entries_in l.n l.store) l.at.row l.at.off l.numbers;
   wide : HasRows (length (entries_in l.n l.store)) l.rows.items;
-  on : (ts : List Place) (all : List ℕ) → StandAt (entries_in l.n l.store) ts all → AreOfPart (entries_in l.n l.store) ts all l.fn.part l.fn.place l.numbers
+  on : (ts : List Place) (all : List ℕ) → StandAt (entries_in l.n l.store) ts all
+      → AreOfPart (entries_in l.n l.store) ts all l.fn.part l.fn.place l.numbers
       → IsOn g.D.Digester.digest_of (entries_in l.n l.store) ts all l.fn.place l.at l.above l.numbers l.initial.rows.items l.rows.items;
 }
 

@@ -2,7 +2,8 @@ use Rattle.std.proofs.Common.{◌≡◌, suc, ◌+◌, ◌*◌, ◌/◌, ◌^◌
 use Rattle.forest_place.proofs.Parts.{parts-suc}
 use Rattle.live_forest.specs.Parts.{leaves_of, ArePartsBut, part_digest, digests_to}
 use Rattle.live_forest.proofs.Entries.{path_below}
-use Rattle.live_forest.proofs.Refreshing.{halves_right, halves_kept, joined_right, row_written, rows_done, cost_more, leaves_stay, room_kept, room_same}
+use Rattle.live_forest.proofs.Refreshing.{halves_right, halves_kept, joined_right, row_written, rows_done, cost_more, leaves_stay}
+use Rattle.live_forest.proofs.Refreshing.{room_kept, room_same}
 use Rattle.live_forest.proofs.refresh.refresh.Goals as goal
 
 pub loop-row-init : goal.loop-row-init

@@ -1,4 +1,4 @@
-use Rattle.std.proofs.Common.{◌++◌, length, inl, inr, arith}
+use Rattle.std.proofs.Common.{◌++◌, ◌≤◌, length, inl, inr, arith}
 use Rattle.std.proofs.lemmas.Bool.{cases_lt}
 use Rattle.sha2.specs.Sha512.{sha512_256}
 use Rattle.digest_lanes.specs.Texts.{text_at}
@@ -8,5 +8,7 @@ use Rattle.digest_lanes.proofs.front.Front.digest_all.Goals as goal
 pub each-init : goal.each-init
 each-init g c = λ before held start i lt. elim (cases_lt i (length c.args.rests.now)) [
   | inl a ↦ let from = c.blocks_of-least.ensures.from i a in absurd (omega (arith, from, lt))
-  | inr b ↦ none_past (λ k v. g.T.From.from_gives (sha512_256 (before ++ text_at c.args.rests.now k)) v) c.args.out.now i (omega (arith, b, c.requires))
+  | inr b ↦
+      let past : length c.args.out.now ≤ i = omega (arith, b, c.requires) in
+      none_past (λ k v. g.T.From.from_gives (sha512_256 (before ++ text_at c.args.rests.now k)) v) c.args.out.now i past
 ]

@@ -6,4 +6,5 @@ proof_of_entries-requires-clause-right g c = parts_seen g.D.Digester.digest_of c
     c.self.invariant
 
 pub proof_of_entries-requires-clause-held : goal.proof_of_entries-requires-clause-held
-proof_of_entries-requires-clause-held g c = held_seen g.D.Digester.digest_of c.self.inside.count c.self.inside.room c.self.inside.store c.self.invariant
+proof_of_entries-requires-clause-held g c =
+    held_seen g.D.Digester.digest_of c.self.inside.count c.self.inside.room c.self.inside.store c.self.invariant

@@ -52,7 +52,8 @@ index-cell-requires c =
     (page_beside row half c.requires.row (page_within c.args.number row c.requires.number (omega (arith, c.requires.row)))) in
     let listed : s c.args.number ≡ true = ap (λ x. is_bit x.listed c.args.number) c.self.view_is ∙ c.requires.listed in
     let other : has_part s row (sibling_off off) ≡ true =
-    ap (λ o. has_part s row (sibling_off o)) c.sibling-other.ensures.off ∙ ap (has_part s row) (sibling_twice half) ∙ part_with s c.args.number row listed in
+    ap (λ o. has_part s row (sibling_off o)) c.sibling-other.ensures.off ∙ ap (has_part s row) (sibling_twice half)
+    ∙ part_with s c.args.number row listed in
     let live = sym c.has_some.ensures ∙ c.if-not-has_some.false in
     let at = c.rank.ensures ∙ ap (rank s) c.middle.ensures in
     omega (arith, at, beside_index p c.self.invariant row off c.requires.row within live other, c.self.inside.cells.ok.0)
@@ -68,7 +69,8 @@ returns c =
     (page_beside row half c.requires.row (page_within c.args.number row c.requires.number (omega (arith, c.requires.row)))) in
     let listed : s c.args.number ≡ true = ap (λ x. is_bit x.listed c.args.number) c.self.view_is ∙ c.requires.listed in
     let other : has_part s row (sibling_off off) ≡ true =
-    ap (λ o. has_part s row (sibling_off o)) c.sibling-other.ensures.off ∙ ap (has_part s row) (sibling_twice half) ∙ part_with s c.args.number row listed in
+    ap (λ o. has_part s row (sibling_off o)) c.sibling-other.ensures.off ∙ ap (has_part s row) (sibling_twice half)
+    ∙ part_with s c.args.number row listed in
     let live = sym c.has_some.ensures ∙ c.if-not-has_some.false in
     let at = c.rank.ensures ∙ ap (rank s) c.middle.ensures in
     let is = beside_told p c.self.invariant row off c.requires.row within live other c.rank.result c.index-cell.result.now at c.index-cell.ensures in
