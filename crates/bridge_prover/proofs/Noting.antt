@@ -3,8 +3,10 @@ use Rattle.std.proofs.Common.{◌≡◌, ℕ, suc, ◌+◌, ◌<◌, Bool, true,
 use Rattle.std.proofs.Common.{ap, ap₂, ◌∙◌, subst, ⊎_elim, arith, ne_eqb, eq-eqb}
 use Rattle.std.specs.Prelude.{◌==◌, ◌&&◌, ◌||◌, not, nat_lt, option_map, is_some, slice_get, if◌then◌else◌}
 use Rattle.std.specs.List.{AllByRecursion, filter}
+use Rattle.std.proofs.lemmas.List.Elements.{All-from_recursion}
 use Rattle.std.proofs.lemmas.Bool.{cases_Bool, cases_eq, false≢true, eqb-true}
 use Rattle.std.proofs.Math.Bool.{or-false, or-true}
+use Rattle.uo_base.proofs.Lists.{filter_all}
 use Rattle.leaf_record.specs.Leaf.{Leaf}
 use Rattle.leaf_record.specs.History.{History, Entry}
 use Rattle.cache_model.specs.Known.{is_watched, kept_from, kept}
@@ -27,10 +29,6 @@ numbers_of hs = map (λ (h : Held). h.number) hs
 filter_alike : (p q : ℕ → Bool) (xs : List ℕ) → AllByRecursion (λ x. p x ≡ q x) xs → filter p xs ≡ filter q xs
 filter_alike p q [] a = refl
 filter_alike p q (x ∷ xs) a = ap₂ (λ (b : Bool) (ys : List ℕ). cond b (x ∷ ys) ys) a.0 (filter_alike p q xs a.1)
-
-filter_all : (p : ℕ → Bool) (xs : List ℕ) → AllByRecursion (λ x. p x ≡ true) xs → filter p xs ≡ xs
-filter_all p [] a = refl
-filter_all p (x ∷ xs) a = ap₂ (λ (b : Bool) (ys : List ℕ). cond b (x ∷ ys) ys) a.0 (filter_all p xs a.1)
 
 -- a test that implies another
 filter_twice : (p q : ℕ → Bool) → ((x : ℕ) → q x ≡ false → p x ≡ false) → (xs : List ℕ) → filter p (filter q xs) ≡ filter p xs
@@ -163,7 +161,8 @@ module _ (scripts : List (List ℕ)) where
 
   noted-forgotten : (ns : List ℕ) (hs : List Held)
       → noted_in scripts (forgotten_in ns hs) ≡ filter (λ i. is_some (leaf_at i (forgotten_in ns hs))) (noted_in scripts hs)
-  noted-forgotten [] hs = sym (filter_all (λ i. is_some (leaf_at i hs)) (noted_in scripts hs) (noted-held hs))
+  noted-forgotten [] hs = sym (filter_all (λ i. is_some (leaf_at i hs)) (noted_in scripts hs)
+      (All-from_recursion (λ i. is_some (leaf_at i hs) ≡ true) (noted_in scripts hs) (noted-held hs)))
   noted-forgotten (n ∷ ns) hs =
       let last = forgotten_in ns (without n hs) in
       noted-forgotten ns (without n hs)

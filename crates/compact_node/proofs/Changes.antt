@@ -33,7 +33,7 @@ use Rattle.cache_model.proofs.Undoing.{place_order}
 use Rattle.cache_update.specs.Marks.{pairs_within}
 use Rattle.cache_update.proofs.Idle.{none_deleted}
 use Rattle.cache_update.proofs.Moves.{goes_within}
-use Rattle.cache_update.proofs.Passes.{filter_all}
+use Rattle.uo_base.proofs.Lists.{filter_all}
 use Rattle.cache_update.proofs.Within.{put_all_in, passed}
 use Rattle.compact_node.specs.After.{left_at, left_of, changes_of, held_without}
 

@@ -1,11 +1,12 @@
 -- What was judged of a message: what it claims, the check of its proof, and what is deleted.
-use Rattle.std.proofs.Common.{◌≡◌, ◌≢◌, ℕ, ◌+◌, ◌*◌, ◌≤◌, Bool, true, false, List, [], ◌∷◌, ◌++◌, map, length, Option, Some, None, Err, refl, sym, ap}
+use Rattle.std.proofs.Common.{◌≡◌, ◌≢◌, ℕ, ◌+◌, ◌*◌, ◌≤◌, Bool, true, false, List, [], ◌++◌, map, length, get_or, Option, Some, None, Err, refl, sym, ap}
 use Rattle.std.proofs.Common.{ap₂, ◌∙◌, subst, arith}
-use Rattle.std.specs.Prelude.{filter, option_map}
+use Rattle.std.specs.Prelude.{option_map}
 use Rattle.std.specs.Option.{option_or}
 use Rattle.std.proofs.lemmas.List.{length-map}
 use Rattle.std.proofs.lemmas.Nat.{mul-le}
 use Rattle.std.proofs.lemmas.Option.{none-some}
+use Rattle.uo_base.proofs.Lists.{filter_all, filter_none}
 use Rattle.uo_digest.specs.declared.digest.Digest.{Digest}
 use Rattle.forest_place.specs.declared.place.Place.{Place}
 use Rattle.forest_place.specs.Forest.{root_off}
@@ -51,16 +52,8 @@ use Rattle.compact_node.proofs.Deletions.{is_without}
 use Rattle.node_rules.proofs.ClaimedLeaves.{leaves-long}
 use Rattle.node_rules.proofs.Told.{targets_are, named_all}
 
-filter-all : {X : Type 0} (xs : List X) → filter (λ x. true) xs ≡ xs
-filter-all [] = refl
-filter-all (x ∷ xs) = ap (λ ys. x ∷ ys) (filter-all xs)
-
-filter-none : {X : Type 0} (t : X → Bool) (xs : List X) → ((x : X) → t x ≡ false) → filter t xs ≡ []
-filter-none t [] none = refl
-filter-none t (x ∷ xs) none = rw (none x) (filter-none t xs none)
-
 need-none : (n : ℕ) → need n [] ≡ []
-need-none n = filter-none (is_needed n []) (places n) (none_needed n)
+need-none n = filter_none (is_needed n []) (places n) (λ i d lt. none_needed n (get_or (places n) i d))
 
 -- ---- what targets and hashes are refused for
 
@@ -175,7 +168,7 @@ module _ (H : List ℕ → Digest) (f : Stump) (hs : List (Place × Digest)) (ex
     serves = same_fault H v (points_of ext) m hashes (subst (λ x. AreHashes m x v.known hashes) same_targets c.filled)
 
     all_asked : length (asked f.leaves ts nothing_known) ≡ length (need f.leaves ts)
-    all_asked = ap length (filter-all (need f.leaves ts))
+    all_asked = ap length (filter_all (λ x. true) (need f.leaves ts) (λ i d lt. refl))
 
     -- a fault of the proof is that of the message
     full_fault : (fault : ProofFault) → IsProofFault H f ts leaves hashes fault

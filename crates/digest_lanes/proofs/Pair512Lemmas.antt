@@ -125,7 +125,7 @@ sha512_256_of_pair l r ll lr =
     ap (λ (s : List ℕ). take 32 (digest_bytes s 8)) (sym (one_block initial_hash_512_256 (padded_message (l ++ r)) (length-pair_padded l r ll lr)))
 
 -- the leftmost four words of a hash value
-digest_front : (h : List ℕ)
+pub digest_front : (h : List ℕ)
     → (((to_be_bytes w64 (slice_index h 0) ++ to_be_bytes w64 (slice_index h 1)) ++ to_be_bytes w64 (slice_index h 2))
     ++ to_be_bytes w64 (slice_index h 3))
     ≡ take 32 (digest_bytes h 8)

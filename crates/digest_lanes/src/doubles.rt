@@ -1,13 +1,16 @@
 //! SHA-256 of SHA-256 of many texts.
 
-ghost use Rattle.std.specs.Prelude.{◌≡◌, ℕ, ◌*◌, ◌<◌, ◌≤◌, length, slice_index};
+ghost use Rattle.std.specs.Prelude.{◌≡◌, ℕ, ◌+◌, ◌*◌, ◌<◌, ◌≤◌, length, slice_index};
 ghost use Rattle.sha2.specs.Sha256.{padded_message, sha256};
 ghost use Rattle.digest_lanes.specs.Texts.{text_at, IsGivenAt, KeepsGiven};
 ghost use Rattle.digest_lanes.specs.Groups.{HasLength, block_lengths};
 
-use crate::group::{Lengths, has_length, next_group};
+use crate::group::{Blocks, Lengths, has_length, next_group};
 use crate::texts256::digest_eight;
 use sha2::{Digest, Sha256};
+
+// Texts of so many bytes are made of more than 16 blocks.
+const LONG: usize = 1016;
 
 // The lengths of the texts of which so many blocks are made.
 fn lengths_of(blocks: usize) -> Lengths
@@ -58,6 +61,32 @@ fn digest_groups<T: Copy + From<[u8; 32]>>(texts: &[&[u8]], blocks: usize, out: 
         from = end;
     }
     from
+}
+
+// Of how many blocks a text is made; 17 stands for more than 16.
+fn blocks_in(text: &[u8]) -> usize
+    ensures some { 1 ≤ result }
+    ensures from { 64 * result ≤ length text.now + 72 }
+    ensures upto { result < 17 → length text.now + 8 < 64 * result }
+{
+    if text.len() < LONG {
+        (text.len() + 8) / 64 + 1
+    } else {
+        17
+    }
+}
+
+// The same of some texts.
+fn blocks_of(texts: &[&[u8]]) -> Blocks
+    ensures from { (i : ℕ) → i < length texts.now → 64 * result.least ≤ length (text_at texts.now i) + 72 }
+    ensures upto { (i : ℕ) → i < length texts.now → result.most < 17 → length (text_at texts.now i) + 8 < 64 * result.most }
+    ensures some { 1 ≤ result.least }
+{
+    let mut blocks = Blocks { least: 17, most: 0 };
+    for i in 0..texts.len() {
+        blocks = blocks.with(blocks_in(texts[i]));
+    }
+    blocks
 }
 
 // The digest of one text.
@@ -116,12 +145,15 @@ pub fn sha256d_each<T: Copy + From<[u8; 32]>>(texts: &[&[u8]], out: &mut [T])
     requires { length out.old ≡ length texts.now }
     ensures { (i : ℕ) → IsGivenAt (λ text v. T.from_gives (sha256 (sha256 text)) v) texts.now out.new i }
 {
-    'each: for blocks in 1..17 {
+    let Blocks { least, most } = blocks_of(texts);
+    'each: for blocks in least..most.min(16) + 1 {
         digest_blocks(texts, blocks, out);
     }
-    let long = Lengths {
-        low: 1016,
-        high: None,
-    };
-    digest_alone(texts, long, 0, out);
+    if most > 16 {
+        let long = Lengths {
+            low: LONG,
+            high: None,
+        };
+        digest_alone(texts, long, 0, out);
+    }
 }

@@ -7,7 +7,7 @@ ghost use Rattle.digest_lanes.specs.Groups.{HasLength, block_lengths};
 ghost use Rattle.digest_lanes.specs.Midstate.{IsMidstate, padded_behind};
 ghost use Rattle.digest_lanes.specs.Front.{Holds};
 
-use crate::group::{Lengths, has_length, next_group};
+use crate::group::{Blocks, Lengths, has_length, next_group};
 use crate::midstate::Midstate;
 use crate::texts512::{digest_four, hash_whole};
 use sha2::{Digest, Sha512_256};
@@ -84,31 +84,16 @@ fn digest_groups<T: Copy + From<[u8; 32]>>(
     from
 }
 
-// Of how many blocks texts are made behind a front of whole blocks: at least, and at most. Of more than 16 is 17.
-#[derive(Clone, Copy)]
-struct Blocks {
-    least: usize,
-    most: usize,
-}
-
-impl Blocks {
-    // The same with one text more.
-    fn with(self, text: &[u8]) -> Blocks
-        ensures some { 1 ≤ self.least → 1 ≤ result.least }
-        ensures least { result.least ≤ self.least }
-        ensures most { self.most ≤ result.most }
-        ensures from { 128 * result.least ≤ length text.now + 144 }
-        ensures upto { result.most < 17 → length text.now + 16 < 128 * result.most }
-    {
-        let blocks = if text.len() < LONG {
-            (text.len() + 16) / 128 + 1
-        } else {
-            17
-        };
-        Blocks {
-            least: self.least.min(blocks),
-            most: self.most.max(blocks),
-        }
+// Of how many blocks a text is made behind a front of whole blocks; 17 stands for more than 16.
+fn blocks_in(text: &[u8]) -> usize
+    ensures some { 1 ≤ result }
+    ensures from { 128 * result ≤ length text.now + 144 }
+    ensures upto { result < 17 → length text.now + 16 < 128 * result }
+{
+    if text.len() < LONG {
+        (text.len() + 16) / 128 + 1
+    } else {
+        17
     }
 }
 
@@ -120,7 +105,7 @@ fn blocks_of(texts: &[&[u8]]) -> Blocks
 {
     let mut blocks = Blocks { least: 17, most: 0 };
     for i in 0..texts.len() {
-        blocks = blocks.with(texts[i]);
+        blocks = blocks.with(blocks_in(texts[i]));
     }
     blocks
 }

@@ -1,6 +1,6 @@
 //! Which of many texts go side by side: those of which as many blocks are made.
 
-ghost use Rattle.std.specs.Prelude.{◌≡◌, ◌+◌, ◌≤◌, ◌<◌, ◌↔◌, length, max, IfSome, IfNone, IsTrue};
+ghost use Rattle.std.specs.Prelude.{◌≡◌, ◌+◌, ◌≤◌, ◌<◌, ◌↔◌, length, max, min, IfSome, IfNone, IsTrue};
 ghost use Rattle.digest_lanes.specs.Groups.{AreOf, HasAll, HasLength, IsNextOf, NoneHas};
 
 /// The lengths from `low` on, and below `high` where there is one.
@@ -17,6 +17,27 @@ pub(crate) fn has_length(text: &[u8], lengths: Lengths) -> bool
     match lengths.high {
         None => low,
         Some(high) => low && text.len() < high,
+    }
+}
+
+/// Of how many blocks texts are made: at least, and at most.
+#[derive(Clone, Copy)]
+pub(crate) struct Blocks {
+    pub least: usize,
+    pub most: usize,
+}
+
+impl Blocks {
+    /// The same with one text more, which is made of so many.
+    #[inline]
+    pub(crate) fn with(self, blocks: usize) -> Blocks
+        ensures least { result.least ≡ min self.least blocks }
+        ensures most { result.most ≡ max self.most blocks }
+    {
+        Blocks {
+            least: self.least.min(blocks),
+            most: self.most.max(blocks),
+        }
     }
 }
 

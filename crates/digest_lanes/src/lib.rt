@@ -21,4 +21,4 @@ mod words512;
 pub use doubles::sha256d_each;
 pub use front::Front;
 pub use pairs256::double_pairs_of_eight;
-pub use pairs512::{pairs_of_four, pairs_of_two};
+pub use pairs512::{pair_alone, pairs_of_four, pairs_of_two};

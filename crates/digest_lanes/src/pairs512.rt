@@ -52,6 +52,19 @@ fn load_four(texts: &[[u8; 32]; 4], i: usize) -> u64x4
     u64x4::from_array([first, second, third, fourth])
 }
 
+// The words of half of a text.
+#[inline(always)]
+fn half_of_one(text: &[u8; 32]) -> [u64; 4]
+    ensures words { result ≡ first_words text.now 4 }
+    ensures long { length text.now ≡ 32 }
+{
+    let first = load(text, 0);
+    let second = load(text, 8);
+    let third = load(text, 16);
+    let fourth = load(text, 24);
+    [first, second, third, fourth]
+}
+
 // The words of two halves of texts.
 #[inline(always)]
 fn half_of_two(texts: &[[u8; 32]; 2]) -> [u64x2; 4]
@@ -152,6 +165,17 @@ pub(crate) fn digests_of_four(state: [u64x4; 8]) -> [[u8; 32]; 4]
     let third = digest(a2, b2, c2, d2);
     let fourth = digest(a3, b3, c3, d3);
     [first, second, third, fourth]
+}
+
+/// SHA-512/256 of a pair of digests, as one text of 64 bytes.
+pub fn pair_alone(left: &[u8; 32], right: &[u8; 32]) -> [u8; 32]
+    ensures { result ≡ sha512_256 (left.now ++ right.now) }
+{
+    let near = half_of_one(left);
+    let far = half_of_one(right);
+    let words = pair_words(near, far);
+    let state: [u64; 8] = compress(initial_state(), words);
+    digest(state[0], state[1], state[2], state[3])
 }
 
 /// SHA-512/256 of each of two pairs of digests, as one text of 64 bytes.

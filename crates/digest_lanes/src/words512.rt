@@ -123,3 +123,44 @@ impl Words for u64x4 {
         z.xor(self.and(y.xor(z)))
     }
 }
+
+impl Words for u64 {
+    ghost lanes = { 1 };
+
+    ghost word = { λ word j. word };
+
+    #[inline(always)]
+    fn splat(all: u64) -> u64 {
+        all
+    }
+
+    #[inline(always)]
+    fn add(self, other: u64) -> u64 {
+        self.wrapping_add(other)
+    }
+
+    #[inline(always)]
+    fn xor(self, other: u64) -> u64 {
+        self ^ other
+    }
+
+    #[inline(always)]
+    fn and(self, other: u64) -> u64 {
+        self & other
+    }
+
+    #[inline(always)]
+    fn shift_right(self, n: u64) -> u64 {
+        self >> n
+    }
+
+    #[inline(always)]
+    fn rotate_right(self, n: u64) -> u64 {
+        u64::rotate_right(self, n as u32)
+    }
+
+    #[inline(always)]
+    fn ch(self, y: u64, z: u64) -> u64 {
+        z ^ (self & (y ^ z))
+    }
+}

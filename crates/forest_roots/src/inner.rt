@@ -4,7 +4,7 @@ ghost use Rattle.forest_model.specs.Content.{pair as pair_of};
 ghost use Rattle.forest_model.specs.Addition.{join_root as join_of};
 
 use std::sync::ledger::Ledger;
-use uo_digest::{Digest, Digester, Steps, pair_text};
+use uo_digest::{Digest, Digester, Steps};
 
 /// The digest of the 64 bytes of the left digest and the right one.
 ///
@@ -14,7 +14,7 @@ pub fn pair<D: Digester, L: Ledger>(left: Digest, right: Digest, steps: &mut Ste
     ensures value { result ≡ pair_of D.digest_of left right }
     ensures step { steps.new ≡ steps.old + 1 }
 {
-    D::digest(&pair_text(left, right), steps)
+    D::digest_pair(left, right, steps)
 }
 
 // What is carried on from a root: an empty one takes no digest.

@@ -4,7 +4,9 @@ ghost use Rattle.std.specs.Prelude.{◌≤◌};
 mod batches;
 
 use crate::length_of;
-use digest_lanes::{Front, double_pairs_of_eight, pairs_of_four, pairs_of_two, sha256d_each};
+use digest_lanes::{
+    Front, double_pairs_of_eight, pair_alone, pairs_of_four, pairs_of_two, sha256d_each,
+};
 use sha2::{Digest, Sha256, Sha512_256};
 use std::alloc::{AllocError, Global};
 use std::process::Abort;
@@ -150,6 +152,7 @@ fn pairs(rt: HostRuntime) {
         text[32..].copy_from_slice(&right[j]);
         let first = Sha256::digest(text.as_slice());
         assert!(rt; doubles[j] == Sha256::digest(first.as_slice()));
+        assert!(rt; pair_alone(&left[j], &right[j]) == Sha512_256::digest(text.as_slice()));
         if j < 4 {
             assert!(rt; four[j] == Sha512_256::digest(text.as_slice()));
         }

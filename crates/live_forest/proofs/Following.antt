@@ -24,7 +24,8 @@ use Rattle.live_forest.specs.Proving.{standing, beneath, list_of, AreIn, AreMore
 use Rattle.live_forest.proofs.Refreshing.{kept_right}
 use Rattle.live_forest.proofs.Seeking.{within_left, within_right, alike}
 use Rattle.live_forest.proofs.Noting.{AreHalves, stands_left, stands_right, stand_both}
-use Rattle.live_forest.proofs.Parting.{filter_all, filter_none, filter_spent, one_spent, spent_some, parts_rise}
+use Rattle.uo_base.proofs.Lists.{filter_all, filter_none}
+use Rattle.live_forest.proofs.Parting.{filter_spent, one_spent, spent_some, parts_rise}
 use Rattle.live_forest.proofs.Beneath.{beneath_above, covered_top, more_nothing, more_one, by_order}
 use Rattle.live_forest.proofs.Covering.{covered}
 use Rattle.live_forest.proofs.Descending.{half_of, not_in, in_part, way_none, way_one, way_left, way_right, AreHalved, way_low, way_high, way_both}

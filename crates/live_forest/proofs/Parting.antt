@@ -1,7 +1,6 @@
 -- Numbers that are parted by a test.
 use Rattle.std.proofs.Common.{◌≡◌, ℕ, zero, suc, ◌/◌, ◌^◌, ◌<◌, ◌≤◌, Bool, true, false, not, ◌&&◌, List, [], ◌∷◌, length, take, drop, get_or, refl}
-use Rattle.std.proofs.Common.{sym, ap, ◌∙◌, ⊎_elim, arith, eq-eqb, All}
-use Rattle.std.proofs.lemmas.List.Elements.{All-head, All-tail}
+use Rattle.std.proofs.Common.{sym, ap, ◌∙◌, ⊎_elim, arith, eq-eqb}
 use Rattle.std.specs.Prelude.{◌==◌, nat_le, filter}
 use Rattle.std.specs.List.Sorted.{IsNonDecreasing}
 use Rattle.std.proofs.Math.Nat.{div-mul-le_self}
@@ -96,17 +95,6 @@ parted_upto numbers row off count rise within upto over =
     parted (λ i. nat_le (i / 2 ^ row) off) numbers count 0 within upto
     (λ j le lt. lt-leb (get_or numbers j 0 / 2 ^ row) off
     (omega (arith, over (omega (arith, le, lt)), parts_rise row (get_or numbers count 0) (get_or numbers j 0) (rise count j 0 le lt))))
-
--- the filter of what passes, and of what does not
-pub filter_all : (p : ℕ → Bool) (xs : List ℕ) → All (λ x. p x ≡ true) xs → filter p xs ≡ xs
-filter_all p [] all = refl
-filter_all p (x ∷ xs) all =
-    rw (All-head (λ y. p y ≡ true) x xs all) (ap (λ ys. x ∷ ys) (filter_all p xs (All-tail (λ y. p y ≡ true) x xs all)))
-
-pub filter_none : (p : ℕ → Bool) (xs : List ℕ) → All (λ x. p x ≡ false) xs → filter p xs ≡ []
-filter_none p [] all = refl
-filter_none p (x ∷ xs) all =
-    rw (All-head (λ y. p y ≡ false) x xs all) (filter_none p xs (All-tail (λ y. p y ≡ false) x xs all))
 
 -- the first of some numbers is one of them, and so is the last
 pub one_spent : (xs : List ℕ) (i d : ℕ) → i < length xs → is_spent xs (get_or xs i d) ≡ true

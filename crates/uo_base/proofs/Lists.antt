@@ -1,10 +1,11 @@
 -- Lists: what holds of all elements, look-ups, and two lists in step.
 use Rattle.std.proofs.Common.{◌≡◌, ◌≢◌, ℕ, zero, suc, ◌+◌, ◌<◌, ◌≤◌, Bool, true, false, cond, List, [], ◌∷◌, ◌++◌, map, length, take, drop, get_or}
 use Rattle.std.proofs.Common.{Option, Some, None, refl, sym, ap, subst, ◌∙◌, arith, ap₂}
-use Rattle.std.specs.List.{AllByRecursion, AllPairs, AllZip, filter, slice_get}
+use Rattle.std.specs.List.{All, AllByRecursion, AllPairs, AllZip, filter, slice_get}
 use Rattle.std.specs.Option.{is_some}
 use Rattle.std.specs.Prelude.{option_map}
 use Rattle.std.proofs.lemmas.List.{append-nil, drop_all, take_more, length-take}
+use Rattle.std.proofs.lemmas.List.Elements.{All-head, All-tail}
 use Rattle.std.proofs.lemmas.Option.{none-some, same_Some, slice_get-map, slice_get_within, get_or_from_slice_get}
 use Rattle.std.proofs.Math.Seq.{take-length}
 
@@ -26,6 +27,17 @@ all-at P (y ∷ xs) (suc i) x all e = all-at P xs i x all.1 e
 -- of numbers that differ, one is none that comes later
 pub other_later : (ns : List ℕ) (i k : ℕ) → AllPairs (λ a b. a ≢ b) ns → i + 1 ≤ k → k < length ns → get_or ns k 0 ≢ get_or ns i 0
 other_later ns i k apart le lt e = apart i k 0 (omega arith) lt (sym e)
+
+-- the filter of what passes, and of what does not
+pub filter_all : {X : Type 0} (p : X → Bool) (xs : List X) → All (λ x. p x ≡ true) xs → filter p xs ≡ xs
+filter_all p [] all = refl
+filter_all p (x ∷ xs) all =
+    rw (All-head (λ y. p y ≡ true) x xs all) (ap (λ ys. x ∷ ys) (filter_all p xs (All-tail (λ y. p y ≡ true) x xs all)))
+
+pub filter_none : {X : Type 0} (p : X → Bool) (xs : List X) → All (λ x. p x ≡ false) xs → filter p xs ≡ []
+filter_none p [] all = refl
+filter_none p (x ∷ xs) all =
+    rw (All-head (λ y. p y ≡ false) x xs all) (filter_none p xs (All-tail (λ y. p y ≡ false) x xs all))
 
 -- ---- look-ups
 

@@ -7,9 +7,7 @@ ghost use Rattle.uo_digest.specs.declared.digest.Digest.{Digest as Digested};
 ghost use Rattle.uo_digest.specs.Batches.{AreGiven};
 
 use crate::Digest;
-use crate::pair::pair_text;
-use digest_lanes::{Front, pairs_of_four, pairs_of_two};
-use sha2::Sha512_256;
+use digest_lanes::{Front, pair_alone, pairs_of_four, pairs_of_two};
 
 // The digests of four pairs.
 fn four_digests(pairs: &[(Digest, Digest)]) -> [Digest; 4]
@@ -84,8 +82,7 @@ fn digest_pairs_alone(pairs: &[(Digest, Digest)], out: &mut [Digest])
 {
     'each: for i in 0..pairs.len() {
         let (left, right) = pairs[i];
-        let text = pair_text(left, right);
-        out[i] = Digest(<Sha512_256 as sha2::Digest>::digest(&text));
+        out[i] = Digest(pair_alone(&left.0, &right.0));
     }
 }
 

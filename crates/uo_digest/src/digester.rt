@@ -33,6 +33,14 @@ pub trait Digester {
         ensures value { (text : List ℕ) → holds front.now text → result ≡ digest_of (text ++ rest.now) }
         ensures step { steps.new ≡ steps.old + 1 };
 
+    /// The digest of a pair of digests, as one text of 64 bytes, as one step.
+    fn digest_pair<L: Ledger>(left: Digest, right: Digest, steps: &mut Steps<L>) -> Digest
+        ensures value { result ≡ digest_of (left.0 ++ right.0) }
+        ensures step { steps.new ≡ steps.old + 1 }
+    {
+        Self::digest(&pair_text(left, right), steps)
+    }
+
     /// The digest of each pair of digests, as one text of 64 bytes, in the place of an entry of `out`, each as one step.
     fn digest_pairs<L: Ledger>(pairs: &[(Digest, Digest)], out: &mut [Digest], steps: &mut Steps<L>)
         requires { length out.old ≡ length pairs.now }
@@ -41,7 +49,7 @@ pub trait Digester {
     {
         'each: for i in 0..pairs.len() {
             let (left, right) = pairs[i];
-            out[i] = Self::digest(&pair_text(left, right), steps);
+            out[i] = Self::digest_pair(left, right, steps);
         }
     }
 

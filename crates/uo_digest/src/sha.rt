@@ -6,7 +6,7 @@ ghost use Rattle.sha2.proofs.Facts512.{length-sha512_256};
 ghost use Rattle.digest_lanes.specs.Front.{Holds};
 
 use crate::{Digest, Digester, Steps, beside};
-use digest_lanes::Front;
+use digest_lanes::{Front, pair_alone};
 use sha2::{Sha256, Sha512_256};
 use std::sync::ledger::Ledger;
 
@@ -32,6 +32,11 @@ impl Digester for Sha512t256 {
     fn digest_behind<L: Ledger>(front: &Front, rest: &[u8], steps: &mut Steps<L>) -> Digest {
         steps.tick();
         Digest(front.digest(rest))
+    }
+
+    fn digest_pair<L: Ledger>(left: Digest, right: Digest, steps: &mut Steps<L>) -> Digest {
+        steps.tick();
+        Digest(pair_alone(&left.0, &right.0))
     }
 
     fn digest_pairs<L: Ledger>(

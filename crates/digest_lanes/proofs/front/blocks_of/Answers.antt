@@ -10,17 +10,20 @@ loop-i-preserved c =
     let texts = c.args.texts.now in
     let i = c.loop-i.i in
     let now = c.loop-i.invariant in
-    let one = c.with-blocks.ensures in
+    let last = c.blocks_in.ensures in
+    let least = c.with-blocks.ensures.least in
+    let most = c.with-blocks.ensures.most in
     let blank : Bor (List ℕ) = record { ref_ptr = (0, 0); now = [] } in
     let here = get_or-map (λ (text : Bor (List ℕ)). text.now) texts i blank [] c.loop-i-test.true in
     record {
-      some = one.some now.some;
+      some = omega (arith, least, now.some, last.some);
       from = λ k lt. ⊎_elim
-          (λ same. omega (arith, one.from, ap length here, ap (λ j. length (text_at texts j)) same))
-          (λ other. let before = now.from k (omega (arith, lt, other)) in omega (arith, before, one.least))
+          (λ same. omega (arith, least, last.from, ap length here, ap (λ j. length (text_at texts j)) same))
+          (λ other. let before = now.from k (omega (arith, lt, other)) in omega (arith, before, least))
           (cases_eq k i);
       upto = λ k lt few. ⊎_elim
-          (λ same. let last = one.upto few in omega (arith, last, ap length here, ap (λ j. length (text_at texts j)) same))
-          (λ other. let before = now.upto k (omega (arith, lt, other)) (omega (arith, few, one.most)) in omega (arith, before, one.most))
+          (λ same. let fits = last.upto (omega (arith, few, most)) in
+          omega (arith, fits, most, ap length here, ap (λ j. length (text_at texts j)) same))
+          (λ other. let before = now.upto k (omega (arith, lt, other)) (omega (arith, few, most)) in omega (arith, before, most))
           (cases_eq k i);
     }
