@@ -53,19 +53,22 @@ one_found H leaves found number row digest low e all r lt =
     (cases_eq r row)
 
 -- the two halves of the part above
-pub halves_right : (H : List ℕ → Digest) (leaves : List (Option Digest)) (row off : ℕ) (half other left right : Option Digest)
-    → half ≡ part_digest H leaves row off → other ≡ part_digest H leaves row (sibling_off off) →
+pub halves_right : (H : List ℕ → Digest) (leaves : List (Option Digest)) (row number : ℕ) (half other left right : Option Digest)
+    → let off = number / 2 ^ row in let above = number / 2 ^ suc row in
+    half ≡ part_digest H leaves row off → other ≡ part_digest H leaves row (sibling_off off) →
     (off % 2 ≡ 0 → (left ≡ half) × (right ≡ other)) → (off % 2 ≡ 1 → (left ≡ other) × (right ≡ half)) →
-    (left ≡ part_digest H leaves row (2 * (off / 2))) × (right ≡ part_digest H leaves row (2 * (off / 2) + 1))
-halves_right H leaves row off half other left right he oe even odd =
+    (left ≡ part_digest H leaves row (2 * above)) × (right ≡ part_digest H leaves row (2 * above + 1))
+halves_right H leaves row number half other left right he oe even odd =
+    let off = number / 2 ^ row in
+    let up = parts-suc number row in
     ⊎_elim
     (λ a.
-    let l : off ≡ 2 * (off / 2) = omega (arith, a) in
-    let r : sibling_off off ≡ 2 * (off / 2) + 1 = omega (arith, a) in
+    let l : off ≡ 2 * (number / 2 ^ suc row) = omega (arith, a, up) in
+    let r : sibling_off off ≡ 2 * (number / 2 ^ suc row) + 1 = omega (arith, a, up) in
     ((even a.0).0 ∙ he ∙ ap (part_digest H leaves row) l, (even a.0).1 ∙ oe ∙ ap (part_digest H leaves row) r))
     (λ a.
-    let l : sibling_off off ≡ 2 * (off / 2) = omega (arith, a) in
-    let r : off ≡ 2 * (off / 2) + 1 = omega (arith, a) in
+    let l : sibling_off off ≡ 2 * (number / 2 ^ suc row) = omega (arith, a, up) in
+    let r : off ≡ 2 * (number / 2 ^ suc row) + 1 = omega (arith, a, up) in
     ((odd a.0).0 ∙ oe ∙ ap (part_digest H leaves row) l, (odd a.0).1 ∙ he ∙ ap (part_digest H leaves row) r))
     (sibling_cases off)
 

@@ -10,7 +10,7 @@ use Rattle.std.proofs.lemmas.Nat.{pow_pos, shr-shr}
 use Rattle.uo_digest.specs.declared.digest.Digest.{Digest}
 use Rattle.forest_place.specs.Forest.{InForest, sibling_off}
 use Rattle.forest_place.proofs.Parts.{parts-suc, InForest-beneath, InForest-left, InForest-right, not_root-down}
-use Rattle.forest_place.proofs.Siblings.{sibling_off-left, sibling_off-right, sibling_within}
+use Rattle.forest_place.proofs.Siblings.{sibling_off-left, sibling_off-right, sibling_twice, sibling_within}
 use Rattle.forest_place.proofs.Slots.{in_forest_iff}
 use Rattle.live_forest.specs.declared.cell.Cell.{Cell}
 use Rattle.live_forest.specs.Sets.{is_bit, has_part, rank, IsWith, IsWithout}
@@ -64,6 +64,15 @@ page_up (suc (suc (suc (suc (suc (suc (suc row))))))) off low h = absurd (omega 
 
 pub page_beside : (row off : ℕ) → row < 7 → InForest 128 row off → InForest 128 row (sibling_off off)
 page_beside row off low h = sibling_within 128 row off h (not_root-down 128 row off (page_up row off low h))
+
+-- the part beside that of a number
+pub beside_within : (number row off : ℕ) → number < 128 → row < 7 → off ≡ sibling_off (number / 2 ^ row) → InForest 128 row off
+beside_within number row off few low e =
+    subst (InForest 128 row) (sym e) (page_beside row (number / 2 ^ row) low (page_within number row few (omega (arith, low))))
+
+pub part_beside : (s : ℕ → Bool) (number row off : ℕ) → s number ≡ true → off ≡ sibling_off (number / 2 ^ row)
+    → has_part s row (sibling_off off) ≡ true
+part_beside s number row off h e = rw (e, sibling_twice (number / 2 ^ row)) (part_with s number row h)
 
 pub above_is : (number row : ℕ) → number / 2 ^ (row + 1) ≡ number / 2 ^ suc row
 above_is number row = ap (λ k. number / 2 ^ k) (let z : row + 1 ≡ suc row = omega arith in z)

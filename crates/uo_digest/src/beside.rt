@@ -96,7 +96,8 @@ fn put_alone(pairs: &[(Digest, Digest)], from: usize, out: &mut [Digest])
     digest_pairs_alone(&pairs[from..], &mut out[from..]);
 }
 
-// Puts the digests of the last pairs, fewer than four, behind those before them. Three take no longer in four lanes than two and one do in two.
+// Puts the digests of the last pairs, fewer than four, behind those before them. Three take no longer in four lanes than
+// two do in two lanes and one alone.
 fn put_rest(pairs: &[(Digest, Digest)], from: usize, out: &mut [Digest])
     requires count { length out.old ≡ length pairs.now }
     requires within { from ≤ length pairs.now }

@@ -1,5 +1,4 @@
-use Rattle.std.proofs.Common.{◌≡◌, suc, ◌+◌, ◌*◌, ◌/◌, ◌^◌, get_or, None, refl, sym, ap, ◌∙◌, subst, arith}
-use Rattle.forest_place.proofs.Parts.{parts-suc}
+use Rattle.std.proofs.Common.{◌≡◌, suc, ◌+◌, ◌/◌, ◌^◌, get_or, None, refl, sym, ap, ◌∙◌, subst, arith}
 use Rattle.live_forest.specs.Parts.{leaves_of, ArePartsBut, part_digest, digests_to}
 use Rattle.live_forest.proofs.Entries.{path_below}
 use Rattle.live_forest.proofs.Refreshing.{halves_right, halves_kept, joined_right, row_written, rows_done, cost_more, leaves_stay}
@@ -35,11 +34,10 @@ join-digest-requires-clause-left g c =
     let i = c.args.number in
     let leaves = leaves_of c.args.store.now in
     let within = path_below c.args.n i (suc row) c.gather-rows.result (omega (arith, c.loop-row-test.true)) c.gather-rows.ensures.beside.within in
-    let two = halves_right H leaves row (i / 2 ^ row) c.loop-row.digest (get_or c.gather-rows.new.siblings row None) c.in_order.result.0.now
+    let two = halves_right H leaves row i c.loop-row.digest (get_or c.gather-rows.new.siblings row None) c.in_order.result.0.now
     c.in_order.result.1.now c.loop-row.invariant.own (c.gather-rows.ensures.beside.is row c.loop-row-test.true) c.in_order.ensures.even
     c.in_order.ensures.odd in
-    two.0 ∙ ap (λ x. part_digest H leaves row (2 * x)) (sym (parts-suc i row))
-    ∙ sym (halves_kept H c.args.n leaves c.loop-row.store i row within c.loop-row.invariant.right).0
+    two.0 ∙ sym (halves_kept H c.args.n leaves c.loop-row.store i row within c.loop-row.invariant.right).0
 
 pub join-digest-requires-clause-right : goal.join-digest-requires-clause-right
 join-digest-requires-clause-right g c =
@@ -48,11 +46,10 @@ join-digest-requires-clause-right g c =
     let i = c.args.number in
     let leaves = leaves_of c.args.store.now in
     let within = path_below c.args.n i (suc row) c.gather-rows.result (omega (arith, c.loop-row-test.true)) c.gather-rows.ensures.beside.within in
-    let two = halves_right H leaves row (i / 2 ^ row) c.loop-row.digest (get_or c.gather-rows.new.siblings row None) c.in_order.result.0.now
+    let two = halves_right H leaves row i c.loop-row.digest (get_or c.gather-rows.new.siblings row None) c.in_order.result.0.now
     c.in_order.result.1.now c.loop-row.invariant.own (c.gather-rows.ensures.beside.is row c.loop-row-test.true) c.in_order.ensures.even
     c.in_order.ensures.odd in
-    two.1 ∙ ap (λ x. part_digest H leaves row (2 * x + 1)) (sym (parts-suc i row))
-    ∙ sym (halves_kept H c.args.n leaves c.loop-row.store i row within c.loop-row.invariant.right).1
+    two.1 ∙ sym (halves_kept H c.args.n leaves c.loop-row.store i row within c.loop-row.invariant.right).1
 
 pub loop-row-preserved : goal.loop-row-preserved
 loop-row-preserved g c =
@@ -64,15 +61,13 @@ loop-row-preserved g c =
     let leaves = leaves_of c.args.store.now in
     let off = i / 2 ^ suc row in
     let e : suc row ≡ row + 1 = omega arith in
-    let two = halves_right H leaves row (i / 2 ^ row) c.loop-row.digest (get_or c.gather-rows.new.siblings row None) c.in_order.result.0.now
+    let two = halves_right H leaves row i c.loop-row.digest (get_or c.gather-rows.new.siblings row None) c.in_order.result.0.now
     c.in_order.result.1.now c.loop-row.invariant.own (c.gather-rows.ensures.beside.is row c.loop-row-test.true) c.in_order.ensures.even
     c.in_order.ensures.odd in
-    let left = two.0 ∙ ap (λ x. part_digest H leaves row (2 * x)) (sym (parts-suc i row)) in
-    let right = two.1 ∙ ap (λ x. part_digest H leaves row (2 * x + 1)) (sym (parts-suc i row)) in
-    let digest = joined_right H leaves row off c.in_order.result.0.now c.in_order.result.1.now c.join-digest.result left right
+    let digest = joined_right H leaves row off c.in_order.result.0.now c.in_order.result.1.now c.join-digest.result two.0 two.1
     c.join-digest.ensures.is in
     let cost = cost_more H leaves i row off c.in_order.result.0.now c.in_order.result.1.now c.args.steps.now c.loop-row.steps
-    c.join-digest.new.steps refl left right c.loop-row.invariant.cost c.join-digest.ensures.cost in
+    c.join-digest.new.steps refl two.0 two.1 c.loop-row.invariant.cost c.join-digest.ensures.cost in
     record {
       upto = omega (arith, c.loop-row-test.true);
       own = subst (λ r. c.join-digest.result ≡ part_digest H leaves r (i / 2 ^ r)) e digest;

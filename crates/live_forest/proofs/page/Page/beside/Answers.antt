@@ -1,20 +1,15 @@
-use Rattle.std.proofs.Common.{◌≡◌, Bool, ◌/◌, ◌%◌, ◌^◌, true, false, Some, sym, ap, ◌∙◌, subst, arith, eq-eqb}
+use Rattle.std.proofs.Common.{◌≡◌, Bool, ◌/◌, ◌%◌, true, false, Some, sym, ap, ◌∙◌, arith, eq-eqb}
 use Rattle.std.specs.Prelude.{◌==◌, if◌then◌else◌}
 use Rattle.std.proofs.lemmas.Bool.{ne_eqb}
-use Rattle.forest_place.specs.Forest.{InForest, sibling_off}
-use Rattle.forest_place.proofs.Siblings.{sibling_twice}
-use Rattle.live_forest.specs.Sets.{is_bit, has_part, rank}
+use Rattle.live_forest.specs.Sets.{is_bit, rank}
 use Rattle.live_forest.specs.Pages.{PageState}
-use Rattle.live_forest.proofs.Ranks.{part_with}
-use Rattle.live_forest.proofs.Telling.{none_told, page_within, page_up, page_beside, middle_low, beside_index, beside_told}
+use Rattle.live_forest.proofs.Telling.{none_told, page_up, middle_low, beside_within, part_beside, beside_index, beside_told}
 use Rattle.live_forest.proofs.page.Page.beside.Goals as goal
 use Rattle.live_forest.proofs.page.Page.beside.Goals.{then-other-eq0, else-other-eq0}
 
 pub has_some-requires-clause-within : goal.has_some-requires-clause-within
 has_some-requires-clause-within c =
-    subst (InForest 128 c.args.row) (sym c.sibling-other.ensures.off)
-    (page_beside c.args.row (c.args.number / 2 ^ c.args.row) c.requires.row
-    (page_within c.args.number c.args.row c.requires.number (omega (arith, c.requires.row))))
+    beside_within c.args.number c.args.row c.sibling-other.result.off c.requires.number c.requires.row c.sibling-other.ensures.off
 
 pub returns-then-not-has_some : goal.returns-then-not-has_some
 returns-then-not-has_some c =
@@ -25,52 +20,36 @@ returns-then-not-has_some c =
 pub middle-requires-clause-within : goal.middle-requires-clause-within
 middle-requires-clause-within c =
     let off = c.sibling-other.result.off in
-    middle_low c.args.row (off / 2) (page_up c.args.row off c.requires.row (subst (InForest 128 c.args.row) (sym c.sibling-other.ensures.off)
-    (page_beside c.args.row (c.args.number / 2 ^ c.args.row) c.requires.row
-    (page_within c.args.number c.args.row c.requires.number (omega (arith, c.requires.row))))))
+    middle_low c.args.row (off / 2) (page_up c.args.row off c.requires.row
+    (beside_within c.args.number c.args.row off c.requires.number c.requires.row c.sibling-other.ensures.off))
 
 pub rank-requires : goal.rank-requires
 rank-requires c =
     let off = c.sibling-other.result.off in
-    omega (
-      arith,
-      c.middle.ensures,
-      middle_low c.args.row (off / 2) (page_up c.args.row off c.requires.row
-          (subst (InForest 128 c.args.row) (sym c.sibling-other.ensures.off)
-          (page_beside c.args.row (c.args.number / 2 ^ c.args.row) c.requires.row
-          (page_within c.args.number c.args.row c.requires.number (omega (arith, c.requires.row)))))),
-    )
+    let within = beside_within c.args.number c.args.row off c.requires.number c.requires.row c.sibling-other.ensures.off in
+    omega (arith, c.middle.ensures, middle_low c.args.row (off / 2) (page_up c.args.row off c.requires.row within))
 
 pub index-cell-requires : goal.index-cell-requires
 index-cell-requires c =
     let p : PageState = record { listed = c.self.inside.listed; live = c.self.inside.live; cells = c.self.inside.cells.items } in
     let s = is_bit p.listed in
-    let row = c.args.row in
-    let half = c.args.number / 2 ^ row in
     let off = c.sibling-other.result.off in
-    let within : InForest 128 row off = subst (InForest 128 row) (sym c.sibling-other.ensures.off)
-    (page_beside row half c.requires.row (page_within c.args.number row c.requires.number (omega (arith, c.requires.row)))) in
+    let within = beside_within c.args.number c.args.row off c.requires.number c.requires.row c.sibling-other.ensures.off in
     let listed : s c.args.number ≡ true = ap (λ x. is_bit x.listed c.args.number) c.self.view_is ∙ c.requires.listed in
-    let other : has_part s row (sibling_off off) ≡ true =
-    ap (λ o. has_part s row (sibling_off o)) c.sibling-other.ensures.off ∙ ap (has_part s row) (sibling_twice half)
-    ∙ part_with s c.args.number row listed in
+    let other = part_beside s c.args.number c.args.row off listed c.sibling-other.ensures.off in
     let live = sym c.has_some.ensures ∙ c.if-not-has_some.false in
     let at = c.rank.ensures ∙ ap (rank s) c.middle.ensures in
-    omega (arith, at, beside_index p c.self.invariant row off c.requires.row within live other, c.self.inside.cells.ok.0)
+    omega (arith, at, beside_index p c.self.invariant c.args.row off c.requires.row within live other, c.self.inside.cells.ok.0)
 
 pub returns : goal.returns
 returns c =
     let p : PageState = record { listed = c.self.inside.listed; live = c.self.inside.live; cells = c.self.inside.cells.items } in
     let s = is_bit p.listed in
     let row = c.args.row in
-    let half = c.args.number / 2 ^ row in
     let off = c.sibling-other.result.off in
-    let within : InForest 128 row off = subst (InForest 128 row) (sym c.sibling-other.ensures.off)
-    (page_beside row half c.requires.row (page_within c.args.number row c.requires.number (omega (arith, c.requires.row)))) in
+    let within = beside_within c.args.number row off c.requires.number c.requires.row c.sibling-other.ensures.off in
     let listed : s c.args.number ≡ true = ap (λ x. is_bit x.listed c.args.number) c.self.view_is ∙ c.requires.listed in
-    let other : has_part s row (sibling_off off) ≡ true =
-    ap (λ o. has_part s row (sibling_off o)) c.sibling-other.ensures.off ∙ ap (has_part s row) (sibling_twice half)
-    ∙ part_with s c.args.number row listed in
+    let other = part_beside s c.args.number row off listed c.sibling-other.ensures.off in
     let live = sym c.has_some.ensures ∙ c.if-not-has_some.false in
     let at = c.rank.ensures ∙ ap (rank s) c.middle.ensures in
     let is = beside_told p c.self.invariant row off c.requires.row within live other c.rank.result c.index-cell.result.now at c.index-cell.ensures in

@@ -1,13 +1,12 @@
-use Rattle.std.proofs.Common.{◌≡◌, ℕ, Bool, ◌/◌, ◌^◌, ◌<◌, Some, true, ap, ◌∙◌, sym, subst, arith}
+use Rattle.std.proofs.Common.{◌≡◌, ℕ, Bool, ◌<◌, Some, true, ap, ◌∙◌, sym, subst}
 use Rattle.std.specs.Prelude.{MatchOption, Option}
 use Rattle.std.specs.Option.{unwrap_or}
 use Rattle.uo_digest.specs.declared.digest.Digest.{Digest}
-use Rattle.forest_place.specs.Forest.{InForest}
 use Rattle.forest_place.specs.declared.place.Place.{Place}
 use Rattle.live_forest.specs.Sets.{is_bit}
 use Rattle.live_forest.specs.Pages.{PageState, IsAlone, IsBeside, when, digest_at, told}
 use Rattle.live_forest.proofs.Bitmaps.{last_below}
-use Rattle.live_forest.proofs.Telling.{page_within, page_beside}
+use Rattle.live_forest.proofs.Telling.{beside_within}
 use Rattle.live_forest.proofs.Letting.{page_more, told_more, IsLeftOf}
 use Rattle.live_forest.proofs.page.Page.list.Goals as goal
 use Rattle.live_forest.proofs.page.Page.list.Goals.{in-None, in-Some}
@@ -25,8 +24,7 @@ pub part-requires-clause-within : goal.part-requires-clause-within
 part-requires-clause-within c =
     let part = c.in-Some.before in
     let is = met (is_bit c.self.inside.listed) c.args.number c.nearest.result part c.nearest.ensures c.in-Some.is in
-    subst (InForest 128 part.row) (sym is.off)
-    (page_beside part.row (c.args.number / 2 ^ part.row) is.row (page_within c.args.number part.row c.requires.number (omega (arith, is.row))))
+    beside_within c.args.number part.row part.off c.requires.number is.row is.off
 
 pub invariant_of-self-2 : goal.invariant_of-self-2
 invariant_of-self-2 c =
