@@ -6,6 +6,7 @@
     worked_bytes.py feed [1]  writes the whole example as a feed, which `utreexo follow` accepts; with 1, its messages in version 1
     worked_bytes.py stored    writes the feed behind which `utreexo follow` stores the example of a state, where it watches 51
     worked_bytes.py state V   writes that state in version V
+    worked_bytes.py ticket    writes the example of a ticket
 
 The chain is a hundred and one blocks with a coinbase each, one of height 101 with two payments, and one with a payment of an output whose
 sibling is spent. That of the state has two outputs, of which one is spent, and goes back by a hundred blocks.

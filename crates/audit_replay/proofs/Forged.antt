@@ -1,7 +1,7 @@
 -- What a forged event shows.
 use Rattle.std.proofs.Common.{◌≡◌, ℕ, ◌<◌, ◌^◌, Bool, true, false, List, ◌++◌, length, Option, Some, None, Err, refl, sym, ap, ◌∙◌, subst, arith}
-use Rattle.std.specs.Prelude.{not, ◌&&◌, ◌==◌, is_none, is_some}
-use Rattle.std.proofs.lemmas.Bool.{and_parts, eqb-true, false≢true}
+use Rattle.std.specs.Prelude.{not, ◌&&◌, is_none, is_some}
+use Rattle.std.proofs.lemmas.Bool.{and_parts, false≢true}
 use Rattle.std.proofs.lemmas.Option.{none-some}
 use Rattle.uo_base.specs.declared.event.Limits.{Limits}
 use Rattle.uo_base.specs.declared.event.Net.{Net}
@@ -21,7 +21,8 @@ use Rattle.block_rules.specs.Blocks.{external}
 use Rattle.block_rules.specs.Rules.{block_steps}
 use Rattle.block_rules.specs.Money.{BlockSpends}
 use Rattle.block_rules.specs.Judged.{ShapeJudged, IsShaped}
-use Rattle.block_rules.proofs.Firsts.{append_passes, each_passes, unless-passed}
+use Rattle.block_rules.proofs.Firsts.{append_passes}
+use Rattle.node_rules.proofs.Counted.{count_passed}
 use Rattle.cache_model.specs.Cache.{look}
 use Rattle.node_rules.specs.Messages.{Message, points_of}
 use Rattle.node_rules.specs.Known.{view_of}
@@ -83,8 +84,7 @@ pub few_shown : (ext : List Outside) (handed : Handed) (m : Message) → handed 
     → length ext < 2 ^ 32 → length m.proof.spends < 2 ^ 32
 few_shown ext handed m is passes few =
     let p = subst (λ h. first_of (message_steps ext h) ≡ None) is passes in
-    let count : length m.proof.spends ≡ length ext =
-    eqb-true _ _ (unless-passed (length m.proof.spends == length ext) _ (each_passes (message_steps ext (read m)) 2 p)) in
+    let count = count_passed ext m p in
     omega (arith, count, few)
 
 module _ (H : List ℕ → Digest) (s : BridgeState) (a : IsAudit H s) (es : List (Option Digest)) (hs : List Held) (ee : es ≡ s.entries)

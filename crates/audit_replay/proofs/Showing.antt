@@ -1,9 +1,9 @@
 -- What an auditor shows at the first forged event of a list.
 use Rattle.std.proofs.Common.{◌≡◌, ℕ, suc, ◌<◌, ◌^◌, Bool, true, false, List, [], ◌∷◌, ◌++◌, map, length, Option, Some, None, refl, sym, ap, ◌∙◌}
 use Rattle.std.proofs.Common.{subst, ⊎_elim}
-use Rattle.std.specs.Prelude.{not, ◌&&◌, ◌==◌, is_none, is_some, option_map}
+use Rattle.std.specs.Prelude.{not, ◌&&◌, is_none, is_some, option_map}
 use Rattle.std.specs.List.{AllByRecursion, flat_map}
-use Rattle.std.proofs.lemmas.Bool.{and_parts, eqb-true, not-true, cases_Bool, false≢true}
+use Rattle.std.proofs.lemmas.Bool.{and_parts, not-true, cases_Bool, false≢true}
 use Rattle.std.proofs.lemmas.List.{length-map}
 use Rattle.uo_base.proofs.Lists.{all-append}
 use Rattle.uo_digest.specs.declared.digest.Digest.{Digest}
@@ -22,7 +22,8 @@ use Rattle.block_rules.specs.Steps.{first_of}
 use Rattle.block_rules.specs.Blocks.{Placed, placed_from, Spend as Spent, taken, spends_from, left_from, made_by, made_first, groups_from, others}
 use Rattle.block_rules.specs.Blocks.{is_external, external_in, external}
 use Rattle.block_rules.specs.Rules.{block_steps}
-use Rattle.block_rules.proofs.Firsts.{append_passes, each_passes, unless-passed}
+use Rattle.block_rules.proofs.Firsts.{append_passes}
+use Rattle.node_rules.proofs.Counted.{count_passed}
 use Rattle.cache_model.specs.Known.{known_at}
 use Rattle.node_rules.specs.Messages.{Message, point_of, points_of, claimed}
 use Rattle.node_rules.specs.Accepting.{proof_fault}
@@ -117,7 +118,7 @@ forged_so H scripts rules chain us b m forged =
     let c = and_parts (is_none fault) (not right) a.1 in
     let steps = (append_passes (block_steps rules.net rules.limits chain b) (message_steps ext (read m)) (none_from _ a.0)).1 in
     record {
-      count = eqb-true _ _ (unless-passed (length m.proof.spends == length ext) _ (each_passes (message_steps ext (read m)) 2 steps));
+      count = count_passed ext m steps;
       accepted = none_from fault c.0;
       wrong = not-true right c.1;
     }

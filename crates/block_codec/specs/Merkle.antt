@@ -28,6 +28,7 @@ level_above (left ∷ right ∷ others) = paired (left ∷ right ∷ others)
 abbrev pub level : List Digest → ℕ → List Digest
 level ids k = iterate level_above k ids
 
+-- whether two digests have the same bytes
 abbrev pub is_same : Digest → Digest → Bool
 is_same left right = bytes_eq left.0 right.0
 
@@ -41,6 +42,7 @@ repeats_from place (left ∷ right ∷ others) = if is_same left right then plac
 abbrev pub repeats : List Digest → List (ℕ × ℕ)
 repeats ids = flat_map (λ k. map (λ place. (k, place)) (repeats_from 0 (level ids k))) (range_with_len 0 (length ids))
 
+-- the one hash of the last level
 abbrev pub merkle_root : List Digest → Digest
 merkle_root ids = slice_index_or (level ids (length ids)) 0 (record { 0 = [] })
 
@@ -49,6 +51,7 @@ abbrev pub outcome : List (ℕ × ℕ) → Digest → MerkleOutcome
 outcome [] root = Root root
 outcome (first ∷ others) root = Repeated first.0 first.1
 
+-- what comes of these ids
 abbrev pub merkle_of : List Digest → MerkleOutcome
 merkle_of ids = outcome (repeats ids) (merkle_root ids)
 

@@ -21,10 +21,12 @@ abbrev pub last_commitment : List Output → Option Digest
 last_commitment [] = None
 last_commitment (output ∷ later) = option_or (last_commitment later) (commitment_in output.script)
 
+-- that of the first transaction
 abbrev pub coinbase_commitment : List Transaction → Option Digest
 coinbase_commitment [] = None
 coinbase_commitment (coinbase ∷ txs) = last_commitment coinbase.outputs
 
+-- that of a block
 abbrev pub commitment_of : Block → Option Digest
 commitment_of b = coinbase_commitment b.txs
 
@@ -33,5 +35,6 @@ abbrev pub witness_ids : List Transaction → List Digest
 witness_ids [] = []
 witness_ids (coinbase ∷ txs) = record { 0 = replicate 32 0 } ∷ map wtxid_of txs
 
+-- the merkle root over the witness ids
 abbrev pub witness_root_of : Block → Digest
 witness_root_of b = merkle_root (witness_ids b.txs)

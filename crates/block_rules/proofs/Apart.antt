@@ -19,7 +19,8 @@ use Rattle.block_rules.specs.Steps.{unless, first_of}
 use Rattle.block_rules.specs.Blocks.{Placed, placed_from, placed_of, made_by, made_first, Spend, taken, spends_from, left_from, groups_from, groups}
 use Rattle.block_rules.specs.Blocks.{others, is_external, outside_of, external_in, external}
 use Rattle.block_rules.specs.Rules.{double, block_steps}
-use Rattle.block_rules.proofs.Firsts.{unless-passed, option_or-none, each_passes}
+use Rattle.block_rules.proofs.Firsts.{unless-passed, option_or-none}
+use Rattle.block_rules.proofs.Passed.{apart_passed}
 
 -- all inputs have different outpoints
 abbrev pub Apart : List Placed → Type 0
@@ -100,7 +101,7 @@ external_in-flat (g ∷ gs) = ap (λ xs. external_in g ++ xs) (external_in-flat 
 pub external_apart : (net : Net) (limits : Limits) (chain : Chain) (b : Block) (height : ℕ) → first_of (block_steps net limits chain b) ≡ None
     → OutsideApart (external b height)
 external_apart net limits chain b height h =
-    let apart = apart_others b.txs (each_passes (block_steps net limits chain b) 6 h) in
+    let apart = apart_others b.txs (apart_passed net limits chain b h) in
     let hash = block_hash_of b in
     subst OutsideApart (sym (external_in-flat (groups b height)))
     (external_in-apart (flat_map (λ g. g) (groups b height))

@@ -1,4 +1,5 @@
 pub mod Firsts
+pub mod Passed
 pub mod Apart
 pub mod Latest
 pub mod Unspent

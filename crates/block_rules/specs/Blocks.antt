@@ -12,6 +12,7 @@ use Rattle.block_rules.specs.declared.chain.Outside.{Outside}
 
 -- ---- inputs
 
+-- the outpoint that an input names
 abbrev pub outpoint_of : Input → Outpoint
 outpoint_of input = record { txid = record { 0 = input.txid }; index = input.index }
 
@@ -21,6 +22,7 @@ pub record Placed : Type 0 where
   pub input : ℕ
   pub point : Outpoint
 
+-- the inputs of transaction t, of which the first is its i-th
 abbrev pub placed_from : ℕ → ℕ → List Input → List Placed
 placed_from t i [] = []
 placed_from t i (input ∷ inputs) = record { tx = t; input = i; point = outpoint_of input } ∷ placed_from t (suc i) inputs
@@ -48,9 +50,11 @@ pub record OutputOrigin : Type 0 where
   pub coinbase : Bool
   pub txid : Digest
 
+-- what made the outputs of a transaction
 abbrev pub origin_of : Digest → ℕ → Bool → Transaction → OutputOrigin
 origin_of hash height coinbase tx = record { block = hash; height = height; coinbase = coinbase; txid = txid_of tx }
 
+-- the record of its i-th output
 abbrev pub leaf_of : OutputOrigin → ℕ → Output → Leaf
 leaf_of origin i output = record {
   point = record { txid = origin.txid; index = i };
@@ -63,6 +67,7 @@ made_from origin i [] = []
 made_from origin i (output ∷ outputs) = if is_spendable output then leaf_of origin i output ∷ made_from origin (suc i) outputs else made_from origin
     (suc i) outputs
 
+-- the records of the spendable outputs of a transaction
 abbrev pub made_by : Digest → ℕ → Bool → Transaction → List Leaf
 made_by hash height coinbase tx = made_from (origin_of hash height coinbase tx) 0 tx.outputs
 
@@ -73,17 +78,21 @@ pub record Spend : Type 0 where
   pub at : Placed
   pub own : Option Leaf
 
+-- without this entry, if there is one
 abbrev pub once_taken : Option Entry → History → History
 once_taken None fresh = fresh
 once_taken (Some e) fresh = set fresh e.number None
 
+-- without the newest of an outpoint
 abbrev pub taken : Outpoint → History → History
 taken p fresh = once_taken (newest p fresh) fresh
 
+-- what these inputs spend, one after the other, of the block's own outputs so far
 abbrev pub spends_from : List Placed → History → List Spend
 spends_from [] fresh = []
 spends_from (at ∷ ats) fresh = record { at = at; own = option_map (λ e. e.leaf) (newest at.point fresh) } ∷ spends_from ats (taken at.point fresh)
 
+-- what they leave of these
 abbrev pub left_from : List Placed → History → History
 left_from [] fresh = fresh
 left_from (at ∷ ats) fresh = left_from ats (taken at.point fresh)
@@ -109,6 +118,7 @@ abbrev pub others : List Transaction → List Transaction
 others [] = []
 others (coinbase ∷ txs) = txs
 
+-- the records of the coinbase's outputs
 abbrev pub made_first : Digest → ℕ → List Transaction → List Leaf
 made_first hash height [] = []
 made_first hash height (coinbase ∷ txs) = made_by hash height true coinbase
@@ -117,12 +127,15 @@ made_first hash height (coinbase ∷ txs) = made_by hash height true coinbase
 abbrev pub groups : Block → ℕ → List (List Spend)
 groups b height = groups_from (block_hash_of b) height 1 (others b.txs) (map Some (made_first (block_hash_of b) height b.txs))
 
+-- the transaction, the input and the outpoint of an external input
 abbrev pub outside_of : Placed → Outside
 outside_of at = record { tx = at.tx; input = at.input; txid = at.point.txid; index = at.point.index }
 
+-- whether it spends no output of the block itself
 abbrev pub is_external : Spend → Bool
 is_external s = is_none s.own
 
+-- the external inputs among these spends
 abbrev pub external_in : List Spend → List Outside
 external_in spends = map (λ s. outside_of s.at) (filter is_external spends)
 

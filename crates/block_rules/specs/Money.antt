@@ -26,9 +26,11 @@ halving Regtest = 150
 abbrev pub subsidy_at : Net → ℕ → ℕ
 subsidy_at net height = if nat_lt (height / halving net) 64 then 5000000000 / 2 ^ (height / halving net) else 0
 
+-- what a transaction makes, in satoshi
 abbrev pub output_sum : Transaction → ℕ
 output_sum tx = sum_by (λ output. output.amount) tx.outputs
 
+-- what the rules on money ask of an output
 abbrev pub found_of : Rest → Found
 found_of rest = record { amount = rest.amount; height = rest.height; coinbase = rest.coinbase }
 
@@ -49,18 +51,22 @@ pub record BlockSpends : Type 0 where
   pub claimed : ℕ
   pub bills : List Bill
 
+-- the same of an output of the block itself, if that is spent
 abbrev pub own_found : Spend → Option Found
 own_found s = option_map (λ leaf. found_of leaf.rest) s.own
 
+-- a bill for each transaction behind the coinbase
 abbrev pub bills_of : List (List Spend) → List Transaction → List Bill
 bills_of [] txs = []
 bills_of (group ∷ groups) [] = []
 bills_of (group ∷ groups) (tx ∷ txs) = record { own = map own_found group; makes = output_sum tx } ∷ bills_of groups txs
 
+-- what the coinbase claims
 abbrev pub claimed_by : List Transaction → ℕ
 claimed_by [] = 0
 claimed_by (coinbase ∷ txs) = output_sum coinbase
 
+-- the same of a block at a height
 abbrev pub spends_of : Net → ℕ → Block → BlockSpends
 spends_of net height b = record {
   net = net;
@@ -92,6 +98,7 @@ found_after (Some own ∷ inputs) found = found_after inputs found
 found_after (None ∷ inputs) [] = []
 found_after (None ∷ inputs) (next ∷ found) = found_after inputs found
 
+-- each bill with what was found
 abbrev pub paid_by : List Bill → List Found → List Paid
 paid_by [] found = []
 paid_by (bill ∷ bills) found = record { inputs = paid_from bill.own found; makes = bill.makes } ∷ paid_by bills (found_after bill.own found)
@@ -104,9 +111,11 @@ is_ripe height found = not found.coinbase || nat_le (found.height + 100) height
 abbrev pub unripe : ℕ → ℕ → ℕ → Found → Option Refusal
 unripe height t i found = unless (is_ripe height found) (Why.Immature t i)
 
+-- the first input of transaction t that spends too early
 abbrev pub immature : ℕ → ℕ → Paid → Option Refusal
 immature height t paid = first_from 0 (unripe height t) paid.inputs
 
+-- what a transaction's inputs are worth
 abbrev pub pays : Paid → ℕ
 pays paid = sum_by (λ found. found.amount) paid.inputs
 
@@ -114,6 +123,7 @@ pays paid = sum_by (λ found. found.amount) paid.inputs
 abbrev pub overspend : ℕ → Paid → Option Refusal
 overspend t paid = unless (nat_le paid.makes (pays paid) && nat_le (pays paid) most_money) (Why.Overspend t)
 
+-- what is paid and not made
 abbrev pub fees : List Paid → ℕ
 fees = sum_by (λ paid. pays paid - paid.makes)
 

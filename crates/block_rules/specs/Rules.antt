@@ -30,6 +30,7 @@ abbrev pub is_coinbase : List Input → Bool
 is_coinbase (input ∷ []) = is_null input && nat_le 2 (length input.script) && nat_le (length input.script) 100
 is_coinbase inputs = false
 
+-- no input spends the null outpoint
 abbrev pub has_no_null : Transaction → Bool
 has_no_null tx = not (list_any is_null tx.inputs)
 
@@ -38,6 +39,7 @@ abbrev pub coinbase_fault : List Transaction → Option ℕ
 coinbase_fault [] = None
 coinbase_fault (coinbase ∷ txs) = option_or (unless (is_coinbase coinbase.inputs) 0) (first_from 1 (λ t tx. unless (has_no_null tx) t) txs)
 
+-- whether an output is more than all money
 abbrev pub has_too_much : Output → Bool
 has_too_much output = nat_lt most_money output.amount
 
@@ -45,6 +47,7 @@ has_too_much output = nat_lt most_money output.amount
 abbrev pub has_value : Transaction → Bool
 has_value tx = not (list_any has_too_much tx.outputs) && nat_le (output_sum tx) most_money
 
+-- the first transaction that breaks this
 abbrev pub value_fault : List Transaction → Option ℕ
 value_fault txs = first_from 0 (λ t tx. unless (has_value tx) t) txs
 
@@ -62,6 +65,7 @@ merkle_step root (Repeated level place) = Some (Why.MerkleRepeated level place)
 abbrev pub has_room : Limits → Chain → ℕ → Bool
 has_room limits chain count = nat_lt chain.blocks (2 ^ 31) && nat_le (chain.leaves + count) limits.leaves
 
+-- the block has a height, and its outputs have room
 abbrev pub full_step : Limits → Chain → Block → Option Refusal
 full_step limits chain b = unless (has_room limits chain (length (new_records b chain.blocks))) Why.Full
 

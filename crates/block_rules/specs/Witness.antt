@@ -31,12 +31,15 @@ abbrev pub reserved_of : List Transaction → Option (List ℕ)
 reserved_of [] = None
 reserved_of (coinbase ∷ txs) = reserved_in (slice_index_or coinbase.stacks 0 [])
 
+-- whether a transaction has a witness
 abbrev pub has_witness : Transaction → Bool
 has_witness tx = has_stacks tx.stacks
 
+-- what is committed to: the root, and the reserved value
 abbrev pub commitment_over : Digest → List ℕ → Digest
 commitment_over root reserved = record { 0 = sha256 (sha256 (root.0 ++ reserved)) }
 
+-- the reserved value is there, and with it the root gives the hash
 abbrev pub committed_fault : (hash root : Digest) → Option (List ℕ) → Option WitnessFault
 committed_fault hash root None = Some Form
 committed_fault hash root (Some reserved) = unless (is_same (commitment_over root reserved) hash) Root
@@ -46,5 +49,6 @@ abbrev pub witness_fault : Option Digest → Block → Option WitnessFault
 witness_fault None b = unless (not (list_any has_witness b.txs)) Unexpected
 witness_fault (Some hash) b = committed_fault hash (witness_root_of b) (reserved_of b.txs)
 
+-- from that height on
 abbrev pub witness_step : Net → (height : ℕ) → Block → Option Refusal
 witness_step net height b = if nat_lt height (witness_height net) then None else option_map Why.Witness (witness_fault (commitment_of b) b)

@@ -71,7 +71,7 @@ pub enum Refusal {
     NoProof,
     /// What stands beside the block is no proof message.
     MessageForm,
-    /// The proof message has another version than 1.
+    /// The proof message has another version than 1 and 2.
     MessageVersion {
         version: u8,
     },

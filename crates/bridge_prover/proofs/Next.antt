@@ -1,9 +1,8 @@
 -- What a bridge keeps after a block is again what a bridge keeps, and stands for the next level.
 use Rattle.std.proofs.Common.{◌≡◌, ◌≢◌, ℕ, zero, suc, ◌+◌, ◌<◌, ◌≤◌, ◌^◌, true, false, List, [], ◌∷◌, ◌++◌, map, set, take, length, Option, Some}
 use Rattle.std.proofs.Common.{None, refl, sym, ap, ◌∙◌, subst, arith}
-use Rattle.std.specs.Prelude.{slice_get, is_some, nat_lt, nat_le, option_map, unwrap_or, All, AllPairs}
+use Rattle.std.specs.Prelude.{slice_get, is_some, option_map, unwrap_or, All, AllPairs}
 use Rattle.std.specs.List.{AllByRecursion}
-use Rattle.std.proofs.lemmas.Bool.{and_parts, ltb-true, leb-true}
 use Rattle.std.proofs.lemmas.List.{length-map, length-append, append-nil, set-append_left, length-take}
 use Rattle.std.proofs.lemmas.Option.{slice_get_within}
 use Rattle.std.proofs.lemmas.List.Elements.{All-from_recursion}
@@ -15,12 +14,11 @@ use Rattle.leaf_record.specs.Leaf.{Leaf, leaf_text}
 use Rattle.leaf_record.specs.History.{History, spent}
 use Rattle.leaf_record.proofs.HistoryLaws.{length-spent}
 use Rattle.block_rules.specs.declared.chain.Chain.{Chain}
-use Rattle.block_rules.specs.declared.refusal.Refusal.TheVariants as Why
-use Rattle.block_rules.specs.Steps.{unless, first_of}
 use Rattle.block_rules.specs.Blocks.{external, new_records}
-use Rattle.block_rules.specs.Rules.{block_steps, has_room}
+use Rattle.block_rules.specs.Rules.{block_steps}
 use Rattle.block_rules.specs.Money.{spends_of, money_steps}
-use Rattle.block_rules.proofs.Firsts.{each_passes, append_passes, unless-passed}
+use Rattle.block_rules.proofs.Firsts.{append_passes}
+use Rattle.block_rules.proofs.Passed.{room_passed}
 use Rattle.node_rules.specs.Judging.{Rules, Evidence, own, refusal, history_after}
 use Rattle.node_rules.specs.Machine.{Level, State}
 use Rattle.node_rules.proofs.Righting.{got_back, got_entry}
@@ -111,18 +109,9 @@ entries-then H us ns new = ap (λ xs. entries_without ns (entries H leaf_text us
 
 -- ---- the room for a block
 
-room_before : (rules : Rules) (chain : Chain) (b : Block) → first_of (block_steps rules.net rules.limits chain b) ≡ None →
-    (chain.blocks < 2 ^ 31) × (chain.leaves + length (new_records b chain.blocks) ≤ rules.limits.leaves)
-room_before rules chain b passed =
-    let sixth : unless (has_room rules.limits chain (length (new_records b chain.blocks))) Why.Full ≡ None =
-    each_passes (block_steps rules.net rules.limits chain b) 7 passed in
-    let both = and_parts (nat_lt chain.blocks (2 ^ 31)) (nat_le (chain.leaves + length (new_records b chain.blocks)) rules.limits.leaves)
-    (unless-passed _ _ sixth) in
-    (ltb-true _ _ both.0, leb-true _ _ both.1)
-
 pub room : (rules : Rules) (chain : Chain) (b : Block) (e : Evidence) → refusal rules chain b e ≡ None →
     (chain.blocks < 2 ^ 31) × (chain.leaves + length (new_records b chain.blocks) ≤ rules.limits.leaves)
-room rules chain b e h = room_before rules chain b
+room rules chain b e h = room_passed rules.net rules.limits chain b
     (append_passes (block_steps rules.net rules.limits chain b) (e.steps ++ money_steps (spends_of rules.net chain.blocks b) e.found) h).0
 
 -- ---- a block that spends some live entries, and adds some

@@ -1,5 +1,5 @@
 -- What a bridge says of a block by the message beside it, from what each call answered.
-use Rattle.std.proofs.Common.{◌≡◌, ℕ, Bool, true, false, List, [], ◌∷◌, ◌++◌, length, Option, Some, None, refl, sym, ap, ap₂, ◌∙◌, subst, arith}
+use Rattle.std.proofs.Common.{◌≡◌, ℕ, ◌+◌, ◌*◌, ◌≤◌, Bool, true, false, List, [], ◌∷◌, ◌++◌, length, Option, Some, None, refl, sym, ap, ap₂, ◌∙◌, subst, arith}
 use Rattle.std.specs.Prelude.{not, ◌&&◌, is_none, option_map, Err, IfSome}
 use Rattle.std.specs.Global.{Vec}
 use Rattle.std.specs.List.{AllByRecursion}
@@ -34,17 +34,18 @@ use Rattle.node_rules.specs.Known.{view_of}
 use Rattle.node_rules.specs.Reading.{Handed, nothing, unread, read, handed_in}
 use Rattle.node_rules.specs.Judging.{Evidence, message_steps, view_step, compact, full, refusal, is_accepted, is_right_message, entries_shown}
 use Rattle.node_rules.specs.Judging.{found_by, is_forged}
-use Rattle.node_rules.specs.Machine.{SpendEach}
+use Rattle.node_rules.specs.Machine.{BlockCame, SpendEach}
 use Rattle.node_rules.proofs.Judging.{view_judges}
 use Rattle.node_rules.proofs.Value.{middle, once, full_pays}
 use Rattle.node_rules.specs.Judged.{IsFirst}
 use Rattle.node_rules.proofs.Counted.{external_few, found_long}
 use Rattle.bridge_prover.specs.declared.bridge.judge.Shown.{Shown}
+use Rattle.forest_place.specs.Position.{rows}
 use Rattle.bridge_prover.specs.Bridge.{BridgeState, bridge_with}
 use Rattle.bridge_prover.specs.Standing.{IsLiveIn, IsBridge}
 use Rattle.bridge_prover.specs.Judged.{IsReady}
 use Rattle.bridge_prover.specs.Shown.{IsHistory, AreKnown, IsChecked, Shows, ShowsByEach, view_in}
-use Rattle.bridge_prover.specs.Full.{watched_by, history_of}
+use Rattle.bridge_prover.specs.Full.{watched_by, history_of, most_judged}
 use Rattle.bridge_prover.specs.Taken.{IsTaken, IsNotTaken, refusal_beside, view_on}
 use Rattle.bridge_prover.proofs.Checking.{same_known, fault_same}
 use Rattle.node_rules.proofs.Firsts.{first-in, first-behind, none-both}
@@ -187,6 +188,23 @@ module _ (H : List ℕ → Digest) (s : BridgeState) (b : Block) (handed : Hande
     same_external : spends.external ≡ external b s.chain.blocks
     same_external = ap (λ (x : BlockSpends). x.external) shaped.spends
 
+    -- what the check of a message digests, and then the block
+    module _ (start told : ℕ) (checked : told ≤ start + length spends.external + 2 * (length spends.external * rows (length s.entries))) where
+      checked_here : told ≤ start + length (external b s.chain.blocks) + 2 * (length (external b s.chain.blocks) * rows (length s.entries))
+      checked_here = subst (λ ext. told ≤ start + length ext + 2 * (length ext * rows (length s.entries))) same_external checked
+
+      pub told_most : told ≤ start + most_judged s (BlockCame (Some b) handed)
+      told_most = omega (arith, checked_here)
+
+      pub taken_most : (numbers : List ℕ) (after : ℕ) → length numbers ≡ length (external b s.chain.blocks)
+          → after ≤ told + length numbers * rows (length s.entries) + 2 * length spends.new + 40
+          → after ≤ start + most_judged s (BlockCame (Some b) handed)
+      taken_most numbers after long more =
+          let by_new = subst (λ (x : BlockSpends). after ≤ told + length numbers * rows (length s.entries) + 2 * length x.new + 40) shaped.spends
+          more in
+          let by_inputs = subst (λ n. after ≤ told + n * rows (length s.entries) + 2 * length (new_records b s.chain.blocks) + 40) long by_new in
+          omega (arith, checked_here, by_inputs)
+
     -- a message that is not accepted
     pub not_shown : (fault : RuleFault) → IsFirst (refusal_beside H s spends.external handed) fault → IsNotTaken H s b handed fault
     not_shown NoMemory a = tt
@@ -249,6 +267,14 @@ module _ (H : List ℕ → Digest) (s : BridgeState) (b : Block) (handed : Hande
       module _ (paid : first_of (money_steps spends shown.found.items) ≡ None) where
         accepted : refusal s.rules s.chain b (by_all H s b handed (history_of s)) ≡ None
         accepted = by_all_passes H s b handed (history_of s) not_forged shaped.passes tested (ap first_of (sym same_money) ∙ paid)
+
+        pub shown_long : length shown.numbers.items ≡ length (external b s.chain.blocks)
+        shown_long =
+            let us = history_of s in
+            let e = by_all H s b handed us in
+            let each = once us s.rules s.chain b e accepted
+            (full_pays H us (watched_by s) (external b s.chain.blocks) handed (middle us s.rules s.chain b e accepted).1) in
+            ap length are.1 ∙ each_long us (external b s.chain.blocks) e.numbers each.0
 
         pub shown_ready : IsBridge H s → BlockFits b → (hash : Digest) → IsReady H s hash shown.numbers.items spends.new
         shown_ready is fits hash =

@@ -42,7 +42,7 @@ drop_none (suc k) = refl
 module _ (H : List ℕ → Digest) where
   -- ---- back by k blocks
 
-  undo-back : (k : ℕ) (s : BridgeState) → (gone_back H k s).undo ≡ drop k s.undo
+  pub undo-back : (k : ℕ) (s : BridgeState) → (gone_back H k s).undo ≡ drop k s.undo
   undo-back zero s = refl
   undo-back (suc k) s = by s.undo refl (undo-back k)
     where

@@ -1,7 +1,8 @@
 -- What the node that holds every output says of an event with what stands beside it, by what a bridge keeps, and what is kept then.
-use Rattle.std.specs.Prelude.{◌≡◌, ℕ, Bool, true, false, List, map, length, Option, Some, None, if◌then◌else◌}
+use Rattle.std.specs.Prelude.{◌≡◌, ℕ, ◌+◌, ◌*◌, Bool, true, false, List, map, length, Option, Some, None, if◌then◌else◌}
 use Rattle.std.specs.List.{range_with_len}
 use Rattle.uo_digest.specs.declared.digest.Digest.{Digest}
+use Rattle.forest_place.specs.Position.{rows}
 use Rattle.block_codec.specs.Block.{Block, block_hash_of}
 use Rattle.leaf_record.specs.Leaf.{Leaf}
 use Rattle.leaf_record.specs.History.{History}
@@ -14,7 +15,7 @@ use Rattle.node_rules.specs.Reading.{Handed}
 use Rattle.node_rules.specs.Judging.{Evidence, refusal, full, is_forged}
 use Rattle.node_rules.specs.Machine.{ChainEvent, BlockCame, RollbackCame, StrayCame, State, full_outcome, verdict_by}
 use Rattle.output_index.specs.Held.{Held, is_live, leaf_at}
-use Rattle.bridge_prover.specs.Bridge.{BridgeState, bridge_with, bridge_by, verdict_on, next_bridge}
+use Rattle.bridge_prover.specs.Bridge.{BridgeState, bridge_with, bridge_by, most_steps, verdict_on, next_bridge}
 use Rattle.bridge_prover.specs.Standing.{IsBridge, Stands}
 use Rattle.bridge_prover.specs.Watched.{scripts_of}
 use Rattle.bridge_prover.specs.Laws.{LevelsTold}
@@ -69,6 +70,15 @@ next_judged H s (BlockCame (Some b) handed) =
     kept_if (is_forged_on H s b handed) s (bridge_by (full_refusal_on H s b handed) (after_shown H s b handed) s)
 next_judged H s (RollbackCame k) = next_bridge H s (RollbackCame k)
 next_judged H s StrayCame = s
+
+-- the most digests that an event with what stands beside it takes: for each external input its leaf and two a row, besides those of the event itself
+abbrev pub most_judged : BridgeState → ChainEvent → ℕ
+most_judged s (BlockCame None handed) = 0
+most_judged s (BlockCame (Some b) handed) =
+    length (external b s.chain.blocks) + 2 * (length (external b s.chain.blocks) * rows (length s.entries))
+    + most_steps s (BlockCame (Some b) handed)
+most_judged s (RollbackCame k) = most_steps s (RollbackCame k)
+most_judged s StrayCame = 0
 
 -- the verdict that is answered
 abbrev pub verdict_in : Judged → Option Verdict

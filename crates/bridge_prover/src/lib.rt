@@ -13,7 +13,6 @@
 
 mod accept;
 mod bridge;
-mod claims;
 mod entries;
 mod find;
 mod held;

@@ -11,6 +11,7 @@ use Rattle.uo_digest.specs.declared.digest.Digest.{Digest}
 use Rattle.forest_place.specs.declared.place.Place.{Place}
 use Rattle.forest_model.specs.Content.{Tree, inner, content, digest_of}
 use Rattle.forest_place.specs.Forest.{InForest, is_root, is_slot, root_off, sibling_off}
+use Rattle.forest_place.specs.Places.{child}
 use Rattle.forest_model.specs.Standing.{half, tree_at, digest_at, root}
 use Rattle.forest_model.specs.Cover.{cover}
 use Rattle.forest_model.specs.Addition.{all_slots, carried_digest, carried_place}
@@ -24,7 +25,7 @@ use Rattle.forest_model.proofs.Moving.{child_stands}
 use Rattle.forest_model.proofs.Adding.{onto, last_tree, same_length, parts_more}
 use Rattle.forest_model.proofs.Carrying.{is_empty, root_tree, carried_stands}
 use Rattle.forest_place.proofs.Siblings.{sibling_cases}
-use Rattle.cache_model.specs.Cache.{held, look, child, raised, shown_known, noted, is_root_held, raised_held}
+use Rattle.cache_model.specs.Cache.{held, look, raised, shown_known, noted, is_root_held, raised_held}
 use Rattle.cache_model.specs.Known.{is_known}
 use Rattle.cache_model.proofs.Tables.{same_options, look_all}
 use Rattle.cache_model.proofs.Known.{has_watched, AreKeptPlaces, known_stands, known_covered, known_beside, stands_covered, IsKnownBy}

@@ -6,12 +6,13 @@ use Rattle.std.proofs.lemmas.Bool.{cases_Bool, cases_lt, true≢false}
 use Rattle.std.proofs.lemmas.Option.{none-some, same_Some}
 use Rattle.forest_place.specs.declared.place.Place.{Place}
 use Rattle.forest_place.specs.Forest.{InForest, is_root, is_slot, root_off, sibling_off}
+use Rattle.forest_place.specs.Places.{child}
 use Rattle.forest_place.proofs.Listed.{place}
 use Rattle.forest_place.proofs.Parts.{InForest-up, InForest-root, is_root-root_off, whole_parts}
 use Rattle.forest_model.specs.Addition.{all_slots, carried_place}
 use Rattle.forest_model.specs.Deletion.{is_gone, moved, child_place}
 use Rattle.forest_model.proofs.Moving.{moved-step, moved-root, moved_stays}
-use Rattle.cache_model.specs.Cache.{child, raised}
+use Rattle.cache_model.specs.Cache.{raised}
 use Rattle.cache_model.proofs.Raising.{raised-step, raised-joined, raised-same}
 use Rattle.cache_update.proofs.Moves.{goes_within}
 use Rattle.cache_update.proofs.Within.{carried_in, raised_in}

@@ -12,10 +12,10 @@ use Rattle.forest_place.specs.declared.place.Place.{Place}
 use Rattle.forest_place.specs.Forest.{InForest, is_root, root_off}
 use Rattle.forest_place.proofs.Listed.{place}
 use Rattle.forest_place.proofs.Parts.{parts-suc, row_below, InForest-up, InForest-down, InForest-beneath, not_root-down, root_off-is_root, half_pow}
-use Rattle.forest_place.specs.Places.{is_before_place}
+use Rattle.forest_place.specs.Places.{is_before_place, child}
 use Rattle.forest_model.specs.Addition.{all_slots, carried_place}
 use Rattle.forest_roots.specs.declared.joins.Join.{Join}
-use Rattle.cache_model.specs.Cache.{child, raised, raised_held}
+use Rattle.cache_model.specs.Cache.{raised, raised_held}
 use Rattle.cache_model.specs.Lists.{AscendByPlace}
 use Rattle.cache_model.specs.Search.{IsSplit}
 use Rattle.cache_model.specs.Steps.{put_all}

@@ -7,11 +7,11 @@ use Rattle.std.proofs.lemmas.Nat.{pow_pos, pow-add, shr-shr}
 use Rattle.std.proofs.lemmas.Bool.{cases_order, and_parts, eqb-true}
 use Rattle.forest_place.specs.declared.place.Place.{Place}
 use Rattle.forest_place.specs.Forest.{InForest, is_root, is_slot, root_off, IsSlotOf}
+use Rattle.forest_place.specs.Places.{child}
 use Rattle.forest_place.proofs.Listed.{place}
 use Rattle.forest_place.proofs.Parts.{parts-suc, is_root-root_off}
 use Rattle.forest_place.proofs.Slots.{in_forest_iff}
 use Rattle.forest_model.specs.Cover.{is_above}
-use Rattle.cache_model.specs.Cache.{child}
 
 abbrev pub low : Place → ℕ
 low p = p.off * 2 ^ p.row

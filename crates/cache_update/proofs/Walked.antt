@@ -1,5 +1,4 @@
 -- A walk through an ascending list beside another.
-use Rattle.proof_shape.specs.Survey.{up}
 use Rattle.std.proofs.Common.{◌≡◌, ℕ, ◌+◌, ◌<◌, ◌≤◌, true, false, List, length, get_or, ap, ◌∙◌, ⊎_elim, arith, suc, ◌-◌, ◌/◌, ◌⊎◌, inl, inr, nat_lt}
 use Rattle.std.proofs.Common.{lt-ltb, le-ltb, ltb-true, eqb-true, refl, sym, ap₂, subst}
 use Rattle.std.specs.Prelude.{◌==◌}
@@ -7,7 +6,7 @@ use Rattle.std.proofs.lemmas.Bool.{cases_Bool, cases_eq, cases_lt, and_parts, tr
 use Rattle.std.proofs.lemmas.List.{get_or_default}
 use Rattle.uo_digest.specs.declared.digest.Digest.{Digest}
 use Rattle.forest_place.specs.declared.place.Place.{Place}
-use Rattle.forest_place.specs.Places.{is_before_place}
+use Rattle.forest_place.specs.Places.{is_before_place, up}
 use Rattle.cache_model.specs.Lists.{AscendByPlace}
 use Rattle.cache_model.specs.Search.{IsSplit}
 use Rattle.cache_model.specs.Undo.{is_same_place, held_key}

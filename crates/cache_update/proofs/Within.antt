@@ -11,7 +11,7 @@ use Rattle.uo_digest.specs.declared.digest.Digest.{Digest}
 use Rattle.leaf_record.specs.Leaf.{Leaf}
 use Rattle.forest_place.specs.declared.place.Place.{Place}
 use Rattle.forest_place.specs.Forest.{InForest, is_root}
-use Rattle.forest_place.specs.Places.{is_at, is_within, is_before_place}
+use Rattle.forest_place.specs.Places.{is_at, is_within, is_before_place, child}
 use Rattle.forest_place.proofs.Listed.{place, same_from_is_at}
 use Rattle.forest_place.proofs.Parts.{row_below, InForest-up}
 use Rattle.forest_place.proofs.Slots.{in_forest_iff}
@@ -20,7 +20,7 @@ use Rattle.forest_model.specs.Deletion.{moved}
 use Rattle.forest_model.proofs.Adding.{parts_more}
 use Rattle.forest_roots.specs.declared.joins.Join.{Join}
 use Rattle.cache_model.specs.declared.kept.Kept.{Kept}
-use Rattle.cache_model.specs.Cache.{child, raised, raised_held, noted, is_root_held}
+use Rattle.cache_model.specs.Cache.{raised, raised_held, noted, is_root_held}
 use Rattle.cache_model.specs.Known.{is_known}
 use Rattle.cache_model.specs.Lists.{moved_leaf, moved_leaves, raised_leaves, leaves_more}
 use Rattle.cache_model.specs.Steps.{put, put_all, staying, moving, destined}

@@ -27,7 +27,8 @@ fn numbers_of(alloc: Global, kept: &[Kept]) -> Result<Vec<u64>, NoMemory>
 fn differing(alloc: Global, newer: &Parts, older: &Parts) -> Result<Mark, NoMemory>
     ensures kept { IfOk result (λ m. kept_back m newer.now.kept ≡ older.now.kept) }
     ensures held { IfOk result (λ m. held_back m newer.now.held ≡ older.now.held) }
-    ensures done { IfOk result (λ m. (m.room ≡ None) × (m.adds ≡ 0)) }
+    ensures room { IfOk result (λ m. m.room ≡ None) }
+    ensures done { IfOk result (λ m. (m.leaves ≡ 0) × (m.adds ≡ 0) × (m.watched ≡ 0)) }
 {
     let taken = copies_of(alloc, &older.kept)?;
     let added = numbers_of(alloc, &newer.kept)?;
@@ -79,7 +80,7 @@ pub fn between<D>(
         → cache.new.parts.held_room ≤ p.held_room → Fits m p) }
     ensures kept_back { IfOk result (λ m. kept_back m newer.now.kept ≡ older.now.kept) }
     ensures held_back { IfOk result (λ m. held_back m newer.now.held ≡ older.now.held) }
-    ensures done { IfOk result (λ m. m.adds ≡ 0) }
+    ensures done { IfOk result (λ m. (m.leaves ≡ 0) × (m.adds ≡ 0) × (m.watched ≡ 0)) }
 {
     let mark = differing(alloc, newer, older)?;
     make_room(cache.parts(), older)?;

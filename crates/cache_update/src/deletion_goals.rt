@@ -4,9 +4,8 @@ ghost use Rattle.std.specs.Prelude.{◌≡◌, ℕ, List, ◌+◌, ◌<◌, ◌�
 ghost use Rattle.std.specs.Bool.{OnTrue};
 ghost use Rattle.forest_place.specs.declared.place.Place.{Place as Placed};
 ghost use Rattle.forest_place.specs.Forest.{InForest};
-ghost use Rattle.forest_place.specs.Places.{is_before_place};
+ghost use Rattle.forest_place.specs.Places.{is_before_place, up};
 ghost use Rattle.forest_model.specs.Deletion.{moved, child_place};
-ghost use Rattle.proof_shape.specs.Survey.{up};
 ghost use Rattle.proof_shape.specs.Targeted.{NoneGonePast};
 ghost use Rattle.cache_model.specs.Lists.{AscendByPlace};
 ghost use Rattle.cache_model.specs.Search.{IsSplit};
@@ -15,7 +14,7 @@ ghost use Rattle.cache_update.specs.DeletionGoals.{GoesWith, NoneBefore, TellGoa
 
 use crate::staying::{Near, staying_beside};
 use cache_model::is_same;
-use forest_place::{Place, is_before, parent, position};
+use forest_place::{Place, is_before, parent, position, side};
 use leaf_cache::index_of_place;
 use proof_shape::{Targets, child_of};
 use uo_digest::Digest;
@@ -99,7 +98,7 @@ fn goal_of(
     let Some(goal) = told(held, goals, at, next) else {
         return targets.moved(place);
     };
-    child_goal(targets.leaves(), goal, place.off % 2)
+    child_goal(targets.leaves(), goal, side(place))
 }
 
 // Where a place goes, where the goals of what is held are told: if something is held there, it goes with the place.

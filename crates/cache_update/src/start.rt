@@ -195,6 +195,7 @@ fn unchanged_in(alloc: Global, parts: &mut Parts) -> Result<Mark, NoMemory>
     ensures fits { IfOk result (λ m. Fits m parts.new) }
     ensures kept_back { IfOk result (λ m. kept_back m parts.new.kept ≡ parts.old.kept) }
     ensures held_back { IfOk result (λ m. held_back m parts.new.held ≡ parts.old.held) }
+    ensures done { IfOk result (λ m. (m.leaves ≡ 0) × (m.adds ≡ 0) × (m.watched ≡ 0)) }
 {
     parts.kept.reserve(1)?;
     parts.held.reserve(1)?;
@@ -213,6 +214,7 @@ pub fn unchanged<D>(alloc: Global, cache: &mut Cache<D>) -> Result<Mark, NoMemor
     ensures fits { IfOk result (λ m. Fits m cache.new.parts) }
     ensures kept_back { IfOk result (λ m. kept_back m cache.new.parts.kept ≡ cache.old.parts.kept) }
     ensures held_back { IfOk result (λ m. held_back m cache.new.parts.held ≡ cache.old.parts.held) }
+    ensures done { IfOk result (λ m. (m.leaves ≡ 0) × (m.adds ≡ 0) × (m.watched ≡ 0)) }
 {
     unchanged_in(alloc, cache.parts())
 }

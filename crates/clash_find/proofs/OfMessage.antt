@@ -218,4 +218,4 @@ module _ (H : List ℕ → Digest) (long : (x : List ℕ) → IsDigest (H x)) (o
   pub count_refused : (es0 : List (Option Digest)) (n0 : ℕ) (t : Targeted) (fault : RuleFault) (why : Refusal) → n0 ≡ length es0 → AreNamed n0 m t
       → HashesJudged m t known (Err fault) → fault ≡ Refused why → (roots : ℕ → Option Digest) → fault_over (length es0) roots ≢ None
   count_refused es0 n0 t fault why at a h is roots =
-      no_count H (length es0) ext m known roots t why count (subst (λ j. AreNamed j m t) at a) (subst (λ f. HashesJudged m t known (Err f)) is h)
+      no_count H (length es0) ext m known roots t why (subst (λ j. AreNamed j m t) at a) (subst (λ f. HashesJudged m t known (Err f)) is h)

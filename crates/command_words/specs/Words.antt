@@ -22,6 +22,7 @@ use Rattle.command_words.specs.Options.{is_option, Given, are_given, words_of, S
 
 -- ---- the commands, one a line, each with the words of its own
 
+-- a command, with the numbers or the hash of its own
 pub data Task : Type 0 where
   Following : Task
   Proving : Task
@@ -66,6 +67,7 @@ IsInRange Checking = Unit {0}
 IsInRange Rechecking = Unit {0}
 IsInRange (Relaying followers) = (1 ≤ followers) × (followers ≤ 100)
 
+-- the options that a command has
 abbrev pub options_of : Task → List OptionName
 options_of Following = Name.Net ∷ Name.Feed ∷ Name.From ∷ Name.To ∷ Name.Watch ∷ []
 options_of Proving = Name.Net ∷ Name.Feed ∷ Name.To ∷ Name.Watch ∷ []
@@ -130,6 +132,7 @@ pub record Asked : Type 0 where
   pub task : Task
   pub given : Settings
 
+-- what a command asks for with these options
 abbrev pub asked_by : Task → Settings → Asked
 asked_by task s = record { task = task; given = given_by task s }
 
@@ -181,6 +184,7 @@ options_for task at words = read_for task (at + length words) (settings_from (ru
 abbrev pub options_at : Task → List (List ℕ) → Result Asked WordFault
 options_at task words = options_for task (length (front_of task)) words
 
+-- what the options behind its front say
 abbrev pub settings_at : Task → List (List ℕ) → Result Settings WordFault
 settings_at task words = settings_from (rule_of task) (options_of task) (length (front_of task)) nothing words
 
@@ -207,15 +211,19 @@ unfoldable pub one_word_for : (List ℕ → Option Task) → List (List ℕ) →
 one_word_for task_at [] = refused_at 1
 one_word_for task_at (word ∷ rest) = needs (task_at word) 1 (λ task. options_for task 2 rest)
 
+-- `order` with this word
 abbrev pub order_at : List ℕ → Option Task
 order_at word = if is_hash_word word then Some (Ordering word) else None
 
+-- `ticket` with this word
 abbrev pub ticket_at : List ℕ → Option Task
 ticket_at word = option_map Ticketing (number_in (2 ^ 64 - 1) word)
 
+-- `relay` with this word
 abbrev pub relay_at : List ℕ → Option Task
 relay_at word = option_map Relaying (positive_in 100 word)
 
+-- what words ask for, or where they go wrong
 unfoldable pub command_of : List (List ℕ) → Result Asked WordFault
 command_of [] = refused_at 0
 command_of (name ∷ rest) =
@@ -233,6 +241,7 @@ command_of (name ∷ rest) =
 
 -- ---- as the program holds them
 
+-- the command of a front
 abbrev pub task_of : Front → Task
 task_of Front.Follow = Following
 task_of Front.Prove = Proving
@@ -251,6 +260,7 @@ abbrev pub parted_as : Result Parted WordFault → Result Asked WordFault
 parted_as (Ok parted) = options_at (task_of parted.front) (map string_bytes parted.rest.now)
 parted_as (Err fault) = Err fault
 
+-- the command
 abbrev pub task_in : Command → Task
 task_in (Follow net feed from to watch) = Following
 task_in (Prove net feed to watch) = Proving
@@ -264,6 +274,7 @@ task_in (Check from feed) = Checking
 task_in (Recheck net from feed watch) = Rechecking
 task_in (Relay net followers feed from watch) = Relaying followers
 
+-- what its options say
 abbrev pub given_in : Command → Settings
 given_in (Follow net feed from to watch) =
     record { net = net; feed = option_copied feed; from = option_copied from; to = option_copied to; watch = option_copied watch }
@@ -288,9 +299,11 @@ given_in (Recheck net from feed watch) =
 given_in (Relay net followers feed from watch) =
     record { net = Some net; feed = option_copied feed; from = option_copied from; to = None; watch = option_copied watch }
 
+-- what is asked for
 abbrev pub asked_in : Command → Asked
 asked_in command = record { task = task_in command; given = given_in command }
 
+-- what was read of the words
 abbrev pub read_as : Result Command WordFault → Result Asked WordFault
 read_as (Ok command) = Ok (asked_in command)
 read_as (Err fault) = Err fault

@@ -1,208 +1,65 @@
 -- What was judged of a message: what it claims, the check of its proof, and what is deleted.
-use Rattle.std.proofs.Common.{◌≡◌, ◌≢◌, ℕ, ◌+◌, ◌*◌, ◌≤◌, Bool, true, List, [], ◌∷◌, ◌++◌, map, length, get_or, Option, Some, None, Err, refl, sym, ap}
-use Rattle.std.proofs.Common.{ap₂, ◌∙◌, subst, arith}
+use Rattle.std.proofs.Common.{◌≡◌, ℕ, ◌+◌, ◌*◌, ◌≤◌, Bool, List, [], ◌∷◌, ◌++◌, map, length, get_or, Option, Some, None, Err, sym, ap}
+use Rattle.std.proofs.Common.{◌∙◌, subst, arith}
 use Rattle.std.specs.Prelude.{option_map}
 use Rattle.std.specs.Option.{option_or}
-use Rattle.std.proofs.lemmas.List.{length-map}
 use Rattle.std.proofs.lemmas.Nat.{mul-le}
 use Rattle.std.proofs.lemmas.Option.{none-some}
-use Rattle.uo_base.proofs.Lists.{filter_all, filter_none}
+use Rattle.uo_base.proofs.Lists.{filter_none}
 use Rattle.uo_digest.specs.declared.digest.Digest.{Digest}
 use Rattle.forest_place.specs.declared.place.Place.{Place}
 use Rattle.forest_place.specs.Forest.{root_off}
 use Rattle.forest_place.specs.Places.{places}
 use Rattle.forest_place.specs.Position.{rows}
 use Rattle.forest_model.specs.Cover.{is_needed, need}
-use Rattle.forest_model.specs.Evaluation.{IsAccepted, asked, hash_of, nothing_known}
+use Rattle.forest_model.specs.Evaluation.{IsAccepted, hash_of, nothing_known}
 use Rattle.forest_roots.specs.Stump.{Stump, IsStump, root_in}
 use Rattle.proof_shape.specs.Targeted.{Targeted}
 use Rattle.proof_shape.proofs.Untargeted.{none_covered, none_needed}
 use Rattle.proof_verify.specs.declared.fault.ProofFault.{ProofFault}
 use Rattle.proof_verify.specs.declared.fault.ProofFault.TheVariants as Found
 use Rattle.proof_verify.specs.Verified.{IsProofFault, IsDeleted, AreRootsAfter}
-use Rattle.proof_wire.specs.BlockProof.{BlockProof, targets_of}
 use Rattle.block_rules.specs.declared.chain.Found.{Found as FoundOutput}
 use Rattle.block_rules.specs.declared.chain.Outside.{Outside}
 use Rattle.block_rules.specs.declared.fault.RuleFault.{RuleFault}
 use Rattle.block_rules.specs.declared.fault.RuleFault.TheVariants.{Refused, NoMemory}
 use Rattle.block_rules.specs.declared.refusal.Refusal.{Refusal}
 use Rattle.block_rules.specs.declared.refusal.Refusal.TheVariants as Why
-use Rattle.block_rules.specs.declared.refusal.ProofRefusal.{ProofRefusal}
-use Rattle.block_rules.specs.declared.refusal.ProofRefusal.TheVariants as Fault
 use Rattle.block_rules.specs.Steps.{first_of}
-use Rattle.forest_place.specs.Named.{place_by}
-use Rattle.node_rules.specs.Messages.{Message, in_full, named, targets, points_of, known_to}
-use Rattle.node_rules.specs.Accepting.{View, shape_fault, leaves_of, proof_fault}
+use Rattle.node_rules.specs.Messages.{Message, named, targets, points_of, known_to}
+use Rattle.node_rules.specs.Accepting.{View, proof_fault}
 use Rattle.node_rules.specs.Reading.{Handed, nothing, unread, read, handed_in}
-use Rattle.node_rules.specs.Judged.{IsFirst, AreNamed, AreHashes, IsOtherCount, TargetsJudged, HashesJudged, IsMessageRead}
-use Rattle.node_rules.specs.Refusing.{proof_refusal}
+use Rattle.node_rules.specs.Judged.{IsFirst, IsMessageRead}
 use Rattle.node_rules.specs.Judging.{message_steps, view_step}
 use Rattle.node_rules.proofs.Faults.{passes}
-use Rattle.node_rules.proofs.Serving.{same_fault}
-use Rattle.node_rules.proofs.Telling.{count_told, empty_told, other_told}
 use Rattle.compact_node.specs.After.{without}
-use Rattle.compact_node.specs.Node.{view_by, places_spent, hashes_over, hashes_spent}
-use Rattle.compact_node.specs.Judged.{steps_over, IsFilledOut, IsClaim}
+use Rattle.compact_node.specs.Node.{places_spent, hashes_over, hashes_spent}
+use Rattle.node_rules.specs.Claimed.{view_by, IsFilledOut, IsProofRefused}
+use Rattle.node_rules.proofs.Claiming.{same_targets, read_count, read_leaves, read_passes, refused_first}
+use Rattle.compact_node.specs.Judged.{steps_over, IsClaim}
 use Rattle.std.specs.Prelude.{Result, Ok, IfErr}
-use Rattle.forest_model.specs.Cover.{IsGreatest}
-use Rattle.forest_model.specs.Evaluation.{evaluation}
 use Rattle.block_rules.proofs.Firsts.{first_of-append}
 use Rattle.node_rules.proofs.Firsts.{first-behind}
 use Rattle.compact_node.proofs.Deletions.{is_without}
-use Rattle.node_rules.proofs.ClaimedLeaves.{leaves-long}
-use Rattle.node_rules.proofs.Told.{targets_are, named_all}
+use Rattle.node_rules.proofs.Told.{targets_are}
 
 need-none : (n : ℕ) → need n [] ≡ []
 need-none n = filter_none (is_needed n []) (places n) (λ i d lt. none_needed n (get_or (places n) i d))
-
--- ---- what targets and hashes are refused for
-
-module _ (H : List ℕ → Digest) (v : View) (ext : List Outside) (m : Message) where
-  abbrev fault : Option ProofRefusal
-  fault = proof_fault H v (points_of ext) m
-
-  abbrev IsFaulted : RuleFault → Type 0
-  IsFaulted e = IsFirst (option_map Why.Proof fault) e
-
-  shape_first : (e : ProofRefusal) → shape_fault v.n [] 0 (named v.n m) ≡ Some e → fault ≡ Some e
-  shape_first e h = rw h refl
-
-  pub targets_told : (e : RuleFault) → TargetsJudged v.n m (Err e) → IsFaulted e
-  targets_told NoMemory h = tt
-  targets_told (Refused Why.Block) h = absurd h
-  targets_told (Refused Why.Link) h = absurd h
-  targets_told (Refused Why.MerkleRoot) h = absurd h
-  targets_told (Refused (Why.MerkleRepeated level place)) h = absurd h
-  targets_told (Refused (Why.Witness f)) h = absurd h
-  targets_told (Refused (Why.Weight w)) h = absurd h
-  targets_told (Refused (Why.Coinbase x)) h = absurd h
-  targets_told (Refused (Why.Value x)) h = absurd h
-  targets_told (Refused (Why.Double x i)) h = absurd h
-  targets_told (Refused Why.Full) h = absurd h
-  targets_told (Refused Why.NoProof) h = absurd h
-  targets_told (Refused Why.MessageForm) h = absurd h
-  targets_told (Refused (Why.MessageVersion v)) h = absurd h
-  targets_told (Refused (Why.Spends got want)) h = absurd h
-  targets_told (Refused (Why.Proof e)) h = let first : fault ≡ Some e = shape_first e h in ap (option_map Why.Proof) first
-  targets_told (Refused (Why.Missing x i)) h = absurd h
-  targets_told (Refused (Why.Immature x i)) h = absurd h
-  targets_told (Refused (Why.Overspend x)) h = absurd h
-  targets_told (Refused (Why.Subsidy c a)) h = absurd h
-
-  module _ (t : Targeted) (judged : AreNamed v.n m t) where
-    other_count : (want got : ℕ) → IsOtherCount m t v.known want got → fault ≡ Some (Fault.HashCount want got)
-    other_count want got o =
-        let e = targets_are v.n m t judged in
-        let wanted : want ≡ length (asked v.n (targets v.n m) (known_to m.lean v.known)) =
-        o.want_is ∙ ap (λ (x : Targeted). length (asked x.leaves x.targets (known_to m.lean v.known))) e in
-        count_told H v (points_of ext) m judged.passes (λ same. o.differ (o.got_is ∙ (same ∙ sym wanted)))
-        ∙ ap₂ (λ a b. Some (Fault.HashCount a b)) (sym wanted) (sym o.got_is)
-
-    pub hashes_told : (e : RuleFault) → HashesJudged m t v.known (Err e) → IsFaulted e
-    hashes_told NoMemory h = tt
-    hashes_told (Refused Why.Block) h = absurd h
-    hashes_told (Refused Why.Link) h = absurd h
-    hashes_told (Refused Why.MerkleRoot) h = absurd h
-    hashes_told (Refused (Why.MerkleRepeated level place)) h = absurd h
-    hashes_told (Refused (Why.Witness f)) h = absurd h
-    hashes_told (Refused (Why.Weight w)) h = absurd h
-    hashes_told (Refused (Why.Coinbase x)) h = absurd h
-    hashes_told (Refused (Why.Value x)) h = absurd h
-    hashes_told (Refused (Why.Double x i)) h = absurd h
-    hashes_told (Refused Why.Full) h = absurd h
-    hashes_told (Refused Why.NoProof) h = absurd h
-    hashes_told (Refused Why.MessageForm) h = absurd h
-    hashes_told (Refused (Why.MessageVersion v)) h = absurd h
-    hashes_told (Refused (Why.Spends got want)) h = absurd h
-    hashes_told (Refused (Why.Proof (Fault.Outside i))) h = absurd h
-    hashes_told (Refused (Why.Proof (Fault.Repeated i j))) h = absurd h
-    hashes_told (Refused (Why.Proof (Fault.Beneath i j))) h = absurd h
-    hashes_told (Refused (Why.Proof (Fault.HashCount want got))) h = ap (option_map Why.Proof) (other_count want got h)
-    hashes_told (Refused (Why.Proof (Fault.EmptyRoot row))) h = absurd h
-    hashes_told (Refused (Why.Proof (Fault.RootDiffers row))) h = absurd h
-    hashes_told (Refused (Why.Missing x i)) h = absurd h
-    hashes_told (Refused (Why.Immature x i)) h = absurd h
-    hashes_told (Refused (Why.Overspend x)) h = absurd h
-    hashes_told (Refused (Why.Subsidy c a)) h = absurd h
-
--- ---- the check of the proof of a message that was read, over roots and held digests
-
-module _ (H : List ℕ → Digest) (f : Stump) (hs : List (Place × Digest)) (ext : List Outside) (m : Message) (t : Targeted)
-    (leaves hashes : List Digest) where
-  abbrev v : View
-  v = view_by f hs
-
-  abbrev p : BlockProof
-  p = m.proof
-
-  abbrev ts : List Place
-  ts = targets f.leaves m
-
-  -- the message with the hashes of all needed places
-  abbrev full : Message
-  full = in_full m hashes
-
-  module _ (c : IsFilledOut H v ext m t leaves hashes) where
-    same_targets : t ≡ record { leaves = f.leaves; targets = ts }
-    same_targets = targets_are f.leaves m t c.named
-
-    read_hashes : hashes ≡ hashes_over H v m
-    read_hashes = c.filled.hashes_are H ∙ ap
-        (λ (x : Targeted). map (λ q. hash_of H x.leaves x.targets (known_to m.lean v.known) p.hashes q.row q.off) (need x.leaves x.targets))
-        same_targets
-
-    same_leaves : leaves ≡ leaves_of H (points_of ext) full
-    same_leaves = c.leaves_are
-
-    read_count : length t.targets ≡ length ext
-    read_count =
-        sym (length-map t.targets Some)
-        ∙ (ap length (sym c.named.places) ∙ (length-map (targets_of p.spends) (place_by m.naming f.leaves)
-        ∙ (length-map p.spends (λ s. s.target) ∙ c.count)))
-
-    read_leaves : length leaves ≡ length t.targets
-    read_leaves = ap length same_leaves ∙ (leaves-long H ext full c.count ∙ sym read_count)
-
-    -- it is judged as in full
-    serves : proof_fault H v (points_of ext) m ≡ proof_fault H v (points_of ext) full
-    serves = same_fault H v (points_of ext) m hashes (subst (λ x. AreHashes m x v.known hashes) same_targets c.filled)
-
-    all_asked : length (asked f.leaves ts nothing_known) ≡ length (need f.leaves ts)
-    all_asked = ap length (filter_all (λ x. true) (need f.leaves ts) (λ i d lt. refl))
-
-    -- a fault of the proof is that of the message
-    full_fault : (fault : ProofFault) → IsProofFault H f ts leaves hashes fault
-        → proof_fault H v (points_of ext) full ≡ Some (proof_refusal fault)
-    full_fault (Found.HashCount want got) (wanted, given, other) =
-        let w : length (asked f.leaves ts nothing_known) ≡ want = all_asked ∙ sym wanted in
-        count_told H v (points_of ext) full c.named.passes (λ e. other (given ∙ (e ∙ w)))
-        ∙ ap₂ (λ a b. Some (Fault.HashCount a b)) w (sym given)
-    full_fault (Found.EmptyRoot row) (count, greatest) =
-        empty_told H v (points_of ext) full c.named.passes row (count ∙ sym all_asked) greatest
-    full_fault (Found.RootDiffers row had computed) (count, never, greatest, was, is) =
-        other_told H v (points_of ext) full c.named.passes row (count ∙ sym all_asked) never
-        (subst (λ xs. IsGreatest f.leaves ts (λ row c. root_in f row ≢ Some (evaluation H f.leaves ts nothing_known xs hashes c)) row) same_leaves
-        greatest)
-
-    read_fault : (fault : ProofFault) → IsProofFault H f t.targets leaves hashes fault
-        → proof_fault H v (points_of ext) m ≡ Some (proof_refusal fault)
-    read_fault fault is = serves ∙ full_fault fault (subst (λ (x : Targeted). IsProofFault H f x.targets leaves hashes fault) same_targets is)
-
-    read_passes : IsAccepted H f.leaves (root_in f) t.targets nothing_known leaves hashes → proof_fault H v (points_of ext) m ≡ None
-    read_passes a =
-        serves
-        ∙ passes H v (points_of ext) full
-        (subst (λ xs. IsAccepted H f.leaves (root_in f) ts nothing_known xs hashes) same_leaves
-        (subst (λ (x : Targeted). IsAccepted H f.leaves (root_in f) x.targets nothing_known leaves hashes) same_targets a))
-        (named_all f.leaves m t c.named)
 
 -- ---- of whatever was handed in
 
 first-append : (xs : List (Option Refusal)) (y : Option Refusal) → first_of xs ≡ None → first_of (xs ++ y ∷ []) ≡ option_or y None
 first-append xs y e = first_of-append xs (y ∷ []) ∙ ap (λ z. option_or z (option_or y None)) e
 
-alone : (x : Option Refusal) (why : Refusal) → x ≡ Some why → option_or x None ≡ Some why
-alone x why e = ap (λ z. option_or z None) e
+-- the last step, where those on the message pass
+proof_step : (H : List ℕ → Digest) (v : View) (ext : List Outside) (handed : Handed) (fault : RuleFault) → first_of (message_steps ext handed) ≡ None
+    → IsFirst (view_step H v ext handed) fault → IsFirst (first_of (steps_over H v ext handed)) fault
+proof_step H v ext handed fault passes e =
+    first-behind (message_steps ext handed) (view_step H v ext handed ∷ []) fault passes (only (view_step H v ext handed) fault e)
+  where
+    only : (x : Option Refusal) (fault : RuleFault) → IsFirst x fault → IsFirst (first_of (x ∷ [])) fault
+    only x (Refused why) e = ap (λ z. option_or z None) e
+    only x NoMemory e = tt
 
 -- nothing is wrong with a proof of nothing
 nothing_wrong : (H : List ℕ → Digest) (f : Stump) (fault : ProofFault) → IsProofFault H f [] [] [] fault → ⊥
@@ -211,6 +68,13 @@ nothing_wrong H f (Found.EmptyRoot row) (count, greatest) =
     none-some greatest.beneath (sym (none_covered row (root_off f.leaves row)) ∙ greatest.covered)
 nothing_wrong H f (Found.RootDiffers row had computed) (count, never, greatest, was, is) =
     none-some greatest.beneath (sym (none_covered row (root_off f.leaves row)) ∙ greatest.covered)
+
+-- the hashes of all needed places
+read_hashes : (H : List ℕ → Digest) (v : View) (ext : List Outside) (m : Message) (t : Targeted) (leaves hashes : List Digest)
+    → IsFilledOut H v ext m t leaves hashes → hashes ≡ hashes_over H v m
+read_hashes H v ext m t leaves hashes c = c.filled.hashes_are H ∙ ap
+    (λ (x : Targeted). map (λ q. hash_of H x.leaves x.targets (known_to m.lean v.known) m.proof.hashes q.row q.off) (need x.leaves x.targets))
+    (targets_are v.n m t c.named)
 
 -- the steps on the message pass, and this is left of the roots
 pub record IsTaken (H : List ℕ → Digest) (v : View) (f : Stump) (ext : List Outside) (handed : Handed) (g : Stump) : Type
@@ -234,7 +98,7 @@ module _ (H : List ℕ → Digest) (f : Stump) (hs : List (Place × Digest)) (ex
   claim_hashes : (handed : Handed) → IsClaimed handed → hashes ≡ hashes_spent H view handed
   claim_hashes nothing c = c.claims.2
   claim_hashes (unread why) c = absurd c.claims
-  claim_hashes (read m) c = read_hashes H f hs ext m t leaves hashes c.claims
+  claim_hashes (read m) c = read_hashes H view ext m t leaves hashes c.claims
 
   -- what holds of the targets and the hashes of a claim holds of what is spent
   pub claim_is : (handed : Handed) → IsClaimed handed → (X : List Place → List Digest → Type 0) → X t.targets hashes
@@ -253,17 +117,16 @@ module _ (H : List ℕ → Digest) (f : Stump) (hs : List (Place × Digest)) (ex
   claim_few (read m) c = let e = read_count H f hs ext m t leaves hashes c.claims in omega (arith, e)
 
   -- a fault of the proof is the first step that fails
-  pub claim_refused : (handed : Handed) → IsClaimed handed → (fault : ProofFault) → IsProofFault H f t.targets leaves hashes fault
-      → first_of (steps_over H view ext handed) ≡ Some (Why.Proof (proof_refusal fault))
-  claim_refused nothing c fault is =
-      absurd (nothing_wrong H f fault
-      (subst (λ xs. IsProofFault H f [] [] xs fault) c.claims.2 (subst (λ xs. IsProofFault H f [] xs hashes fault) c.claims.1
-      (subst (λ (x : Targeted). IsProofFault H f x.targets leaves hashes fault) c.claims.0 is))))
-  claim_refused (unread why) c fault is = absurd c.claims
-  claim_refused (read m) c fault is =
-      first-append (message_steps ext (read m)) (view_step H view ext (read m)) c.passes
-      ∙ alone (view_step H view ext (read m)) (Why.Proof (proof_refusal fault))
-      (ap (option_map Why.Proof) (read_fault H f hs ext m t leaves hashes c.claims fault is))
+  pub claim_refused : (handed : Handed) → IsClaimed handed → (fault : RuleFault) → IsProofRefused H f t.targets leaves hashes fault
+      → IsFirst (first_of (steps_over H view ext handed)) fault
+  claim_refused handed c NoMemory is = tt
+  claim_refused nothing c (Refused why) is =
+      absurd (nothing_wrong H f is.0
+      (subst (λ xs. IsProofFault H f [] [] xs is.0) c.claims.2 (subst (λ xs. IsProofFault H f [] xs hashes is.0) c.claims.1
+      (subst (λ (x : Targeted). IsProofFault H f x.targets leaves hashes is.0) c.claims.0 is.1))))
+  claim_refused (unread why) c (Refused because) is = absurd c.claims
+  claim_refused (read m) c (Refused why) is =
+      proof_step H view ext (read m) (Refused why) c.passes (refused_first H f hs ext m t leaves hashes c.claims (Refused why) is)
 
   claim_passes : (handed : Handed) → IsClaimed handed → IsAccepted H f.leaves (root_in f) t.targets nothing_known leaves hashes
       → first_of (steps_over H view ext handed) ≡ None
@@ -302,12 +165,7 @@ proof_first : (H : List ℕ → Digest) (v : View) (ext : List Outside) (bytes :
     IsFirst (option_map Why.Proof (proof_fault H v (points_of ext) m)) fault
     → IsFirst (first_of (steps_over H v ext (handed_in bytes))) fault
 proof_first H v ext bytes m fault judged e =
-    first-behind (message_steps ext (handed_in bytes)) (view_step H v ext (handed_in bytes) ∷ []) fault judged.passes
-    (only (view_step H v ext (handed_in bytes)) fault (subst (λ h. IsFirst (view_step H v ext h) fault) (sym judged.is) e))
-  where
-    only : (x : Option Refusal) (fault : RuleFault) → IsFirst x fault → IsFirst (first_of (x ∷ [])) fault
-    only x (Refused why) e = ap (λ z. option_or z None) e
-    only x NoMemory e = tt
+    proof_step H v ext (handed_in bytes) fault judged.passes (subst (λ h. IsFirst (view_step H v ext h) fault) (sym judged.is) e)
 
 pub proof_errs : {T : Type 0} (H : List ℕ → Digest) (v : View) (ext ext' : List Outside) (bytes : Option (List ℕ))
     (message : Option Message) (m : Message) (result : Result T RuleFault) →

@@ -1,8 +1,8 @@
 -- A node stays one.
 use Rattle.std.proofs.Common.{◌≡◌, ℕ, zero, suc, ◌+◌, ◌<◌, ◌≤◌, ◌^◌, cond, List, [], ◌∷◌, ◌++◌, map, length, Option, Some, None}
 use Rattle.std.proofs.Common.{refl, ap, ◌∙◌, subst, ⊎_elim, arith}
-use Rattle.std.specs.Prelude.{nat_le, nat_lt, take}
-use Rattle.std.proofs.lemmas.Bool.{cases_Bool, and_parts, ltb-true, leb-true}
+use Rattle.std.specs.Prelude.{nat_le, take}
+use Rattle.std.proofs.lemmas.Bool.{cases_Bool}
 use Rattle.std.proofs.lemmas.List.{length-map}
 use Rattle.uo_base.proofs.Lists.{take_few}
 use Rattle.uo_digest.specs.declared.digest.Digest.{Digest}
@@ -23,12 +23,11 @@ use Rattle.cache_update.specs.Joins.{is_empty_of, added_by}
 use Rattle.cache_update.proofs.Rooted.{deleted_of_roots, added_of_roots}
 use Rattle.block_rules.specs.declared.chain.Chain.{Chain}
 use Rattle.block_rules.specs.declared.refusal.Refusal.{Refusal}
-use Rattle.block_rules.specs.declared.refusal.Refusal.TheVariants as Why
-use Rattle.block_rules.specs.Steps.{unless, first_of}
 use Rattle.block_rules.specs.Blocks.{external, new_records}
 use Rattle.block_rules.specs.Money.{spends_of, money_steps}
-use Rattle.block_rules.specs.Rules.{block_steps, has_room}
-use Rattle.block_rules.proofs.Firsts.{unless-passed, append_passes, each_passes}
+use Rattle.block_rules.specs.Rules.{block_steps}
+use Rattle.block_rules.proofs.Firsts.{append_passes}
+use Rattle.block_rules.proofs.Passed.{room_passed}
 use Rattle.node_rules.specs.Reading.{Handed}
 use Rattle.node_rules.specs.Judging.{Rules, Evidence, compact, refusal}
 use Rattle.node_rules.specs.Machine.{ChainEvent, BlockCame, RollbackCame, StrayCame}
@@ -87,19 +86,9 @@ module _ (H : List ℕ → Digest) (scripts : List (List ℕ)) where
 
 -- ---- room
 
--- a block that passes by itself has a next height and room
-pub room_before : (s : NodeState) (b : Block) → first_of (block_steps s.rules.net s.rules.limits s.newest.chain b) ≡ None →
-    (s.newest.chain.blocks < 2 ^ 31) × (s.newest.chain.leaves + length (new_records b s.newest.chain.blocks) ≤ s.rules.limits.leaves)
-room_before s b passed =
-    let sixth : unless (has_room s.rules.limits s.newest.chain (length (new_records b s.newest.chain.blocks))) Why.Full ≡ None =
-    each_passes (block_steps s.rules.net s.rules.limits s.newest.chain b) 7 passed in
-    let both = and_parts (nat_lt s.newest.chain.blocks (2 ^ 31))
-    (nat_le (s.newest.chain.leaves + length (new_records b s.newest.chain.blocks)) s.rules.limits.leaves) (unless-passed _ _ sixth) in
-    (ltb-true _ _ both.0, leb-true _ _ both.1)
-
 pub room : (s : NodeState) (b : Block) (e : Evidence) → refusal s.rules s.newest.chain b e ≡ None →
     (s.newest.chain.blocks < 2 ^ 31) × (s.newest.chain.leaves + length (new_records b s.newest.chain.blocks) ≤ s.rules.limits.leaves)
-room s b e h = room_before s b (append_passes (block_steps s.rules.net s.rules.limits s.newest.chain b)
+room s b e h = room_passed s.rules.net s.rules.limits s.newest.chain b (append_passes (block_steps s.rules.net s.rules.limits s.newest.chain b)
     (e.steps ++ money_steps (spends_of s.rules.net s.newest.chain.blocks b) e.found) h).0
 
 -- ---- the older levels

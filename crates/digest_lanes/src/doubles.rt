@@ -5,24 +5,14 @@ ghost use Rattle.sha2.specs.Sha256.{padded_message, sha256};
 ghost use Rattle.digest_lanes.specs.Texts.{text_at, IsGivenAt, KeepsGiven};
 ghost use Rattle.digest_lanes.specs.Groups.{HasLength, block_lengths};
 
-use crate::group::{Blocks, Lengths, has_length, next_group};
+use crate::group::{Blocks, Lengths, blocks_of, has_length, lengths_of, long_lengths, next_group};
 use crate::texts256::digest_eight;
 use sha2::{Digest, Sha256};
 
-// Texts of so many bytes are made of more than 16 blocks.
-const LONG: usize = 1016;
+// The bytes of a block, and those of the length at the end of the last one.
+const SIZE: usize = 64;
 
-// The lengths of the texts of which so many blocks are made.
-fn lengths_of(blocks: usize) -> Lengths
-    requires some { 1 ≤ blocks }
-    requires few { blocks ≤ 16 }
-    ensures { result ≡ block_lengths 64 8 blocks }
-{
-    Lengths {
-        low: (64 * blocks).saturating_sub(72),
-        high: Some(64 * blocks - 8),
-    }
-}
+const COUNT: usize = 8;
 
 // Puts the digests of eight texts at their indices.
 fn digest_group<T: Copy + From<[u8; 32]>>(
@@ -53,7 +43,7 @@ fn digest_groups<T: Copy + From<[u8; 32]>>(texts: &[&[u8]], blocks: usize, out: 
     ensures made { (i : ℕ) → i < result → HasLength (block_lengths 64 8 blocks) (text_at texts.now i)
         → IsGivenAt (λ text v. T.from_gives (sha256 (sha256 text)) v) texts.now out.new i }
 {
-    let lengths = lengths_of(blocks);
+    let lengths = lengths_of(SIZE, COUNT, blocks);
     let mut group = [0; 8];
     let mut from = 0;
     'groups: while let Some(end) = next_group(texts, lengths, from, &mut group) {
@@ -61,32 +51,6 @@ fn digest_groups<T: Copy + From<[u8; 32]>>(texts: &[&[u8]], blocks: usize, out: 
         from = end;
     }
     from
-}
-
-// Of how many blocks a text is made; 17 stands for more than 16.
-fn blocks_in(text: &[u8]) -> usize
-    ensures some { 1 ≤ result }
-    ensures from { 64 * result ≤ length text.now + 72 }
-    ensures upto { result < 17 → length text.now + 8 < 64 * result }
-{
-    if text.len() < LONG {
-        (text.len() + 8) / 64 + 1
-    } else {
-        17
-    }
-}
-
-// The same of some texts.
-fn blocks_of(texts: &[&[u8]]) -> Blocks
-    ensures from { (i : ℕ) → i < length texts.now → 64 * result.least ≤ length (text_at texts.now i) + 72 }
-    ensures upto { (i : ℕ) → i < length texts.now → result.most < 17 → length (text_at texts.now i) + 8 < 64 * result.most }
-    ensures some { 1 ≤ result.least }
-{
-    let mut blocks = Blocks { least: 17, most: 0 };
-    for i in 0..texts.len() {
-        blocks = blocks.with(blocks_in(texts[i]));
-    }
-    blocks
 }
 
 // The digest of one text.
@@ -136,7 +100,7 @@ fn digest_blocks<T: Copy + From<[u8; 32]>>(texts: &[&[u8]], blocks: usize, out: 
         → IsGivenAt (λ text v. T.from_gives (sha256 (sha256 text)) v) texts.now out.new i }
 {
     let from = digest_groups(texts, blocks, out);
-    digest_alone(texts, lengths_of(blocks), from, out);
+    digest_alone(texts, lengths_of(SIZE, COUNT, blocks), from, out);
 }
 
 /// SHA-256 of SHA-256 of each text, in the place of an entry of `out`. Texts of which equally many blocks are made go side by side,
@@ -145,15 +109,12 @@ pub fn sha256d_each<T: Copy + From<[u8; 32]>>(texts: &[&[u8]], out: &mut [T])
     requires { length out.old ≡ length texts.now }
     ensures { (i : ℕ) → IsGivenAt (λ text v. T.from_gives (sha256 (sha256 text)) v) texts.now out.new i }
 {
-    let Blocks { least, most } = blocks_of(texts);
+    let Blocks { least, most } = blocks_of(texts, SIZE, COUNT);
     'each: for blocks in least..most.min(16) + 1 {
         digest_blocks(texts, blocks, out);
     }
     if most > 16 {
-        let long = Lengths {
-            low: LONG,
-            high: None,
-        };
+        let long = long_lengths(SIZE, COUNT);
         digest_alone(texts, long, 0, out);
     }
 }

@@ -7,13 +7,15 @@ ghost use Rattle.digest_lanes.specs.Groups.{HasLength, block_lengths};
 ghost use Rattle.digest_lanes.specs.Midstate.{IsMidstate, padded_behind};
 ghost use Rattle.digest_lanes.specs.Front.{Holds};
 
-use crate::group::{Blocks, Lengths, has_length, next_group};
+use crate::group::{Blocks, Lengths, blocks_of, has_length, lengths_of, long_lengths, next_group};
 use crate::midstate::Midstate;
 use crate::texts512::{digest_four, hash_whole};
 use sha2::{Digest, Sha512_256};
 
-// Texts of so many bytes are made of more than 16 blocks.
-const LONG: usize = 2032;
+// The bytes of a block, and those of the length at the end of the last one.
+const SIZE: usize = 128;
+
+const COUNT: usize = 16;
 
 /// What has been taken in of a text that goes on: where many texts begin alike, the work on their front is done once.
 #[derive(Drop)]
@@ -21,18 +23,6 @@ pub struct Front {
     hasher: Sha512_256,
     // Where the front is whole blocks, texts that go on from it go side by side.
     midstate: Option<Midstate>,
-}
-
-// The lengths of the texts of which so many blocks are made.
-fn lengths_of(blocks: usize) -> Lengths
-    requires some { 1 ≤ blocks }
-    requires few { blocks ≤ 16 }
-    ensures { result ≡ block_lengths 128 16 blocks }
-{
-    Lengths {
-        low: (128 * blocks).saturating_sub(144),
-        high: Some(128 * blocks - 16),
-    }
 }
 
 // Puts the digests of four texts at their indices.
@@ -74,7 +64,7 @@ fn digest_groups<T: Copy + From<[u8; 32]>>(
         → HasLength (block_lengths 128 16 blocks) (text_at texts.now i)
         → IsGivenAt (λ text v. T.from_gives (sha512_256 (before ++ text)) v) texts.now out.new i }
 {
-    let lengths = lengths_of(blocks);
+    let lengths = lengths_of(SIZE, COUNT, blocks);
     let mut group = [0; 4];
     let mut from = 0;
     'groups: while let Some(end) = next_group(texts, lengths, from, &mut group) {
@@ -82,32 +72,6 @@ fn digest_groups<T: Copy + From<[u8; 32]>>(
         from = end;
     }
     from
-}
-
-// Of how many blocks a text is made behind a front of whole blocks; 17 stands for more than 16.
-fn blocks_in(text: &[u8]) -> usize
-    ensures some { 1 ≤ result }
-    ensures from { 128 * result ≤ length text.now + 144 }
-    ensures upto { result < 17 → length text.now + 16 < 128 * result }
-{
-    if text.len() < LONG {
-        (text.len() + 16) / 128 + 1
-    } else {
-        17
-    }
-}
-
-// The same of some texts.
-fn blocks_of(texts: &[&[u8]]) -> Blocks
-    ensures from { (i : ℕ) → i < length texts.now → 128 * result.least ≤ length (text_at texts.now i) + 144 }
-    ensures upto { (i : ℕ) → i < length texts.now → result.most < 17 → length (text_at texts.now i) + 16 < 128 * result.most }
-    ensures some { 1 ≤ result.least }
-{
-    let mut blocks = Blocks { least: 17, most: 0 };
-    for i in 0..texts.len() {
-        blocks = blocks.with(blocks_in(texts[i]));
-    }
-    blocks
 }
 
 // What is taken in of a text of whole blocks.
@@ -204,7 +168,7 @@ impl Front {
             → IsGivenAt (λ text v. T.from_gives (sha512_256 (before ++ text)) v) rests.now out.new i }
     {
         let from = digest_groups(start, rests, blocks, out);
-        self.digest_alone(rests, lengths_of(blocks), from, out);
+        self.digest_alone(rests, lengths_of(SIZE, COUNT, blocks), from, out);
     }
 
     // Puts the digests of all texts: those of equally many blocks side by side, and long ones alone.
@@ -213,15 +177,12 @@ impl Front {
         ensures { (before : List ℕ) → Holds self.now before → IsMidstate start.now before
             → (i : ℕ) → IsGivenAt (λ text v. T.from_gives (sha512_256 (before ++ text)) v) rests.now out.new i }
     {
-        let Blocks { least, most } = blocks_of(rests);
+        let Blocks { least, most } = blocks_of(rests, SIZE, COUNT);
         'each: for blocks in least..most.min(16) + 1 {
             self.digest_blocks(start, rests, blocks, out);
         }
         if most > 16 {
-            let long = Lengths {
-                low: LONG,
-                high: None,
-            };
+            let long = long_lengths(SIZE, COUNT);
             self.digest_alone(rests, long, 0, out);
         }
     }

@@ -1,7 +1,8 @@
 //! Which of many texts go side by side: those of which as many blocks are made.
 
-ghost use Rattle.std.specs.Prelude.{◌≡◌, ◌+◌, ◌≤◌, ◌<◌, ◌↔◌, length, max, min, IfSome, IfNone, IsTrue};
-ghost use Rattle.digest_lanes.specs.Groups.{AreOf, HasAll, HasLength, IsNextOf, NoneHas};
+ghost use Rattle.std.specs.Prelude.{◌≡◌, ℕ, ◌+◌, ◌-◌, ◌*◌, ◌≤◌, ◌<◌, ◌↔◌, length, max, min, None, IfSome, IfNone, IsTrue};
+ghost use Rattle.digest_lanes.specs.Groups.{AreOf, HasAll, HasLength, IsNextOf, NoneHas, block_lengths};
+ghost use Rattle.digest_lanes.specs.Texts.{text_at};
 
 /// The lengths from `low` on, and below `high` where there is one.
 #[derive(Clone, Copy)]
@@ -39,6 +40,64 @@ impl Blocks {
             most: self.most.max(blocks),
         }
     }
+}
+
+/// The lengths of the texts of which so many blocks of `size` bytes are made, where the padding has `count` bytes of length.
+pub(crate) fn lengths_of(size: usize, count: usize, blocks: usize) -> Lengths
+    requires small { size + count ≤ 2048 }
+    requires few { size * blocks ≤ 2048 }
+    requires count { count ≤ size * blocks }
+    ensures { result ≡ block_lengths size count blocks }
+{
+    Lengths {
+        low: (size * blocks).saturating_sub(size + count),
+        high: Some(size * blocks - count),
+    }
+}
+
+/// The lengths of the texts of which more than 16 blocks are made.
+pub(crate) fn long_lengths(size: usize, count: usize) -> Lengths
+    requires small { size ≤ 128 }
+    requires count { count ≤ size }
+    ensures low { result.low ≡ size * 16 - count }
+    ensures high { result.high ≡ None }
+{
+    Lengths {
+        low: size * 16 - count,
+        high: None,
+    }
+}
+
+// Of how many blocks a text is made; 17 stands for more than 16.
+fn blocks_in(text: &[u8], size: usize, count: usize) -> usize
+    requires sized { 1 ≤ size }
+    requires small { size ≤ 128 }
+    requires count { count ≤ size }
+    ensures some { 1 ≤ result }
+    ensures from { size * result ≤ length text.now + (size + count) }
+    ensures upto { result < 17 → length text.now + count < size * result }
+{
+    if text.len() < size * 16 - count {
+        (text.len() + count) / size + 1
+    } else {
+        17
+    }
+}
+
+/// The same of some texts: of how many blocks of `size` bytes each is made, where the padding has `count` bytes of length.
+pub(crate) fn blocks_of(texts: &[&[u8]], size: usize, count: usize) -> Blocks
+    requires sized { 1 ≤ size }
+    requires small { size ≤ 128 }
+    requires count { count ≤ size }
+    ensures from { (i : ℕ) → i < length texts.now → size * result.least ≤ length (text_at texts.now i) + (size + count) }
+    ensures upto { (i : ℕ) → i < length texts.now → result.most < 17 → length (text_at texts.now i) + count < size * result.most }
+    ensures some { 1 ≤ result.least }
+{
+    let mut blocks = Blocks { least: 17, most: 0 };
+    for i in 0..texts.len() {
+        blocks = blocks.with(blocks_in(texts[i], size, count));
+    }
+    blocks
 }
 
 /// The first text from an index on that has such a length.

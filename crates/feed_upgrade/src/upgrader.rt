@@ -1,5 +1,5 @@
 //! What an upgrade of a feed keeps from event to event.
-ghost use Rattle.std.specs.Prelude.{◌≡◌, ◌≤◌, ◌<◌, ◌^◌, ◌+◌, ◌++◌, [], length, Some, option_map, option_copied, IfOk, OnOk};
+ghost use Rattle.std.specs.Prelude.{◌≡◌, ◌≤◌, ◌<◌, ◌^◌, ◌+◌, ◌++◌, true, [], length, Some, option_map, option_copied, IfOk, OnOk};
 ghost use Rattle.std.specs.Int.{w32, to_le_bytes};
 ghost use Rattle.uo_base.specs.FeedEvent.{event_of, BlockCame};
 ghost use Rattle.feed_frame.specs.FeedText.{event_text, proof_frame_text, HasProofFrame};
@@ -83,6 +83,8 @@ impl<D: Digester> EventHandler for Upgrader<D> {
     ghost state = { λ u. u };
 
     ghost machine = { upgrade_machine D.digest_of };
+
+    ghost digests = { true };
 
     #[tactic(auto, unfolding(crate::specs::Upgrader::upgraded_frames))]
     fn take<L: Ledger>(

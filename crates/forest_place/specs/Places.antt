@@ -1,5 +1,5 @@
 -- Lists of places: what is in one, and the order of places.
-use Rattle.std.specs.Prelude.{◌≡◌, ℕ, zero, suc, ◌-◌, ◌/◌, ◌^◌, ◌<◌, Bool, true, false, nat_lt, ◌&&◌, ◌||◌, ◌==◌}
+use Rattle.std.specs.Prelude.{◌≡◌, ℕ, zero, suc, ◌+◌, ◌-◌, ◌*◌, ◌/◌, ◌^◌, ◌<◌, Bool, true, false, nat_lt, ◌&&◌, ◌||◌, ◌==◌}
 use Rattle.std.specs.Prelude.{◌⊎◌, List, [], ◌∷◌, ◌++◌, length, get_or}
 use Rattle.std.specs.List.{list_any}
 use Rattle.forest_place.specs.declared.place.Place.{Place}
@@ -24,6 +24,14 @@ is_within n p = nat_lt p.off (n / 2 ^ p.row)
 -- the place at an index
 abbrev pub place_in : List Place → ℕ → Place
 place_in ps k = get_or ps k (record { row = 0; off = 0 })
+
+-- the place above
+abbrev pub up : Place → Place
+up p = record { row = suc p.row; off = p.off / 2 }
+
+-- the place beneath on a side: 0 is left, 1 is right
+abbrev pub child : ℕ → Place → Place
+child side p = record { row = p.row - 1; off = 2 * p.off + side }
 
 -- p stands right before or right after an index
 abbrev pub IsNear : List Place → ℕ → Place → Type 0

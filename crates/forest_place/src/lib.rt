@@ -14,5 +14,6 @@ pub use lists::is_near;
 pub use naming::Naming;
 pub use numbering::{fixed_position, parent_position, place_of, place_of_fixed, position, rows};
 pub use place::{
-    Place, child, children, is_before, is_root, is_within, parent, root_place, sibling, slot_of,
+    Place, child, children, is_before, is_root, is_slot, is_within, parent, root_place, sibling,
+    side, slot_of,
 };

@@ -1,7 +1,7 @@
 //! A place, and the places around it.
 ghost use Rattle.std.specs.Prelude.{◌≡◌, ◌↔◌, ◌+◌, ◌-◌, ◌*◌, ◌/◌, ◌%◌, ◌^◌, ◌<◌, IsTrue, MatchOption};
-ghost use Rattle.forest_place.specs.Places.{IsBefore, is_before_place, is_within as is_place_of};
-ghost use Rattle.forest_place.specs.Forest.{InForest, IsSlotOf, is_slot, is_root as is_root_at, root_off, sibling_off};
+ghost use Rattle.forest_place.specs.Places.{IsBefore, is_before_place, is_within as is_place_of, up, child as child_of};
+ghost use Rattle.forest_place.specs.Forest.{InForest, IsSlotOf, is_slot as is_slot_of, is_root as is_root_at, root_off, sibling_off};
 
 /// A row of the forest, counted from the leaves up, and an offset in it. Places are ordered as their positions are.
 #[derive(Clone, Copy, Debug, PartialEq, Eq, PartialOrd, Ord, Hash)]
@@ -42,10 +42,18 @@ pub fn slot_of(place: Place, n: u64) -> Option<u8>
     Some((n ^ first).ilog2() as u8)
 }
 
+/// Whether the forest over `n` entries has a slot in a row.
+pub fn is_slot(n: u64, row: u8) -> bool
+    requires { row < 64 }
+    ensures { result ≡ is_slot_of n row }
+{
+    (n >> row) % 2 == 1
+}
+
 /// The root of a slot. Its tree covers the 2^row entries before the last `n % 2^row`.
 pub fn root_place(row: u8, n: u64) -> Place
     requires small { n < 2 ^ 40 }
-    requires slot { IsTrue (is_slot n row) }
+    requires slot { IsTrue (is_slot_of n row) }
     ensures row { result.row ≡ row }
     ensures off { result.off ≡ root_off n row }
     ensures covers { result.off * 2 ^ row + 2 ^ row + n % 2 ^ row ≡ n }
@@ -68,6 +76,7 @@ pub fn is_root(n: u64, place: Place) -> bool
 /// The place above.
 pub fn parent(place: Place) -> Place
     requires { place.row < 40 }
+    ensures is { result ≡ up place }
     ensures row { result.row ≡ place.row + 1 }
     ensures off { result.off ≡ place.off / 2 }
 {
@@ -88,12 +97,20 @@ pub fn sibling(place: Place) -> Place
     }
 }
 
+/// On which side of the place above a place stands: 0 is left, 1 is right.
+pub fn side(place: Place) -> u64
+    ensures is { result ≡ place.off % 2 }
+    ensures side { result < 2 }
+{
+    place.off % 2
+}
+
 /// The place beneath on a side: 0 is the left one, 1 the right one.
 pub fn child(place: Place, side: u64) -> Place
     requires row { 0 < place.row }
     requires off { place.off < 2 ^ 40 }
     requires side { side < 2 }
-    ensures { result ≡ record { row = place.row - 1; off = 2 * place.off + side } }
+    ensures { result ≡ child_of side place }
 {
     Place {
         row: place.row - 1,
@@ -109,14 +126,7 @@ pub fn children(place: Place) -> (Place, Place)
     ensures left { result.0.off ≡ 2 * place.off }
     ensures right { result.1.off ≡ 2 * place.off + 1 }
 {
-    let row = place.row - 1;
-    let left = Place {
-        row,
-        off: 2 * place.off,
-    };
-    let right = Place {
-        row,
-        off: 2 * place.off + 1,
-    };
+    let left = child(place, 0);
+    let right = child(place, 1);
     (left, right)
 }

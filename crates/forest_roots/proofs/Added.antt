@@ -19,10 +19,10 @@ use Rattle.forest_roots.proofs.Few.{steps_few}
 use Rattle.forest_roots.specs.Stump.{Stump, root_in, IsStump, StandsFor}
 
 -- one joined slot more
-pub slots_more : (n row : ℕ) → all_slots n row ≡ true → n / 2 ^ row % 2 ≡ 1 → all_slots n (row + 1) ≡ true
-slots_more n row all odd =
+pub slots_more : (n row : ℕ) → all_slots n row ≡ true → is_slot n row ≡ true → all_slots n (row + 1) ≡ true
+slots_more n row all here =
     let e : suc row ≡ row + 1 = omega arith in
-    subst (λ x. all_slots n x ≡ true) e (and_from (all_slots n row) (is_slot n row) all (eq-eqb _ _ odd))
+    subst (λ x. all_slots n x ≡ true) e (and_from (all_slots n row) (is_slot n row) all here)
 
 -- an addition to roots, of which the rows below one were joined and emptied
 pub record IsJoining (H : List ℕ → Digest) (n : ℕ) (old : List (Option Digest)) (d : Digest) (start row : ℕ) (now : List (Option Digest))
@@ -53,13 +53,13 @@ joining_begins H n old d start forty = record {
 -- one row more
 pub joined_once : (H : List ℕ → Digest) (n : ℕ) (old : List (Option Digest)) (d : Digest) (start row : ℕ) (now : List (Option Digest))
     (carried : Digest) (joins : List Join) (steps : ℕ) →
-    IsJoining H n old d start row now carried joins steps → suc n < 2 ^ 40 → n / 2 ^ row % 2 ≡ 1 →
+    IsJoining H n old d start row now carried joins steps → suc n < 2 ^ 40 → is_slot n row ≡ true →
     (carried' : Digest) (joins' : List Join) (steps' : ℕ) → carried' ≡ join_root H (get_or now row None) carried →
     joins' ≡ joins ++ (record { row = row; left = get_or now row None; result = carried' }) ∷ []
     → steps' ≡ steps + cond (is_some (get_or now row None)) 1 0 →
     IsJoining H n old d start (row + 1) (set now row None) carried' joins' steps'
-joined_once H n old d start row now carried joins steps j few odd carried' joins' steps' ec ej es =
-    let all = slots_more n row j.slots odd in
+joined_once H n old d start row now carried joins steps j few slot carried' joins' steps' ec ej es =
+    let all = slots_more n row j.slots slot in
     let here : get_or now row None ≡ get_or old row None = j.kept row (omega arith) in
     let result : carried' ≡ carried_digest H (λ k. get_or old k None) d (suc row) = ec ∙ ap₂ (join_root H) here j.carries in
     let one_more : suc row ≡ row + 1 = omega arith in
@@ -203,11 +203,11 @@ steps_of_joins H f d = of_rows (range_with_len 0 (joined_slots f.leaves))
 pub addition_ends : (H : List ℕ → Digest) (f : Stump) (n : ℕ) (old : List (Option Digest)) (d : Digest) (start row count : ℕ)
     (now : List (Option Digest)) (c : Digest) (joins : List Join) (steps : ℕ) →
     IsJoining H n old d start row now c joins steps → record { leaves = n; rows = old } ≡ f → IsStump (record { leaves = n; rows = old })
-    → f.leaves + 1 < 2 ^ 40 → count ≡ n → (count / 2 ^ row % 2 ≡ 1 → ⊥) →
+    → f.leaves + 1 < 2 ^ 40 → count ≡ n → is_slot count row ≡ false →
     EndsIn H f d start (record { leaves = count + 1; rows = set now row (Some c) }) joins steps
 addition_ends H f n old d start row count now c joins steps j view was few same free =
     let one_more : suc n ≡ count + 1 = omega (arith, same) in
-    let here : is_slot n row ≡ false = ne_eqb _ _ (λ e. free (ap (λ x. x / 2 ^ row % 2) same ∙ e)) in
+    let here : is_slot n row ≡ false = subst (λ x. is_slot x row ≡ false) same free in
     let enough : suc n < 2 ^ 40 = let e : n ≡ f.leaves = ap (λ x. x.leaves) view in omega (arith, e, few) in
     let g : ℕ → Stump = λ x. record { leaves = x; rows = set now row (Some c) } in
     let shape = added H n old d start row now c joins steps j here in

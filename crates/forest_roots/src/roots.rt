@@ -1,10 +1,11 @@
 //! The roots of a forest.
 ghost use Rattle.std.specs.Prelude.{◌≡◌, ℕ, ◌+◌, ◌^◌, ◌<◌, ◌≤◌, List, [], ◌∷◌, ◌++◌, count_by, count_ones, is_some, IsTrue, Some, Option};
 ghost use Rattle.std.specs.Prelude.{MatchOption};
-ghost use Rattle.forest_place.specs.Forest.{is_slot};
+ghost use Rattle.forest_place.specs.Forest.{is_slot as is_slot_of};
 
 use crate::inner::join_root;
 use crate::{Join, Joins};
+use forest_place::is_slot;
 use std::marker::{Model, PhantomData};
 use std::sync::ledger::Ledger;
 use uo_digest::{Digest, Digester, Steps};
@@ -91,10 +92,10 @@ impl<D: Digester> Roots<D> {
     /// The root of a slot, which is `Some(None)` where it is empty. `None` where `row` is no slot.
     pub fn root(&self, row: u8) -> Option<Option<Digest>>
         ensures { MatchOption result
-            (IsTrue (is_slot self.now.leaves row) → ⊥)
-            (λ root. IsTrue (is_slot self.now.leaves row) × (root ≡ root_in self.now row)) }
+            (IsTrue (is_slot_of self.now.leaves row) → ⊥)
+            (λ root. IsTrue (is_slot_of self.now.leaves row) × (root ≡ root_in self.now row)) }
     {
-        if row < 40 && (self.count >> row) % 2 == 1 {
+        if row < 40 && is_slot(self.count, row) {
             Some(self.slots[row as usize])
         } else {
             None
@@ -103,7 +104,7 @@ impl<D: Digester> Roots<D> {
 
     /// Puts another root into a slot.
     pub fn put_root(&mut self, row: u8, root: Option<Digest>)
-        requires { IsTrue (is_slot self.old.leaves row) }
+        requires { IsTrue (is_slot_of self.old.leaves row) }
         ensures { self.new ≡ with_root self.old row root }
     {
         self.slots[row as usize] = root;
@@ -139,7 +140,7 @@ impl<D: Digester> Roots<D> {
         joins.clear();
         let mut carried = digest;
         let mut row: u8 = 0;
-        while (self.count >> row) % 2 == 1 {
+        'slots: while is_slot(self.count, row) {
             let left = self.slots[row as usize];
             self.slots[row as usize] = None;
             carried = join_root::<D, L>(left, carried, steps);

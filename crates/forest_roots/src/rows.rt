@@ -5,6 +5,7 @@ ghost use Rattle.forest_roots.specs.Rows.{neighbours, odd_one, risen, staying, c
 
 use crate::Roots;
 use crate::inner::join_root;
+use forest_place::is_slot;
 use std::sync::ledger::Ledger;
 use uo_digest::{Digest, Digester, Steps};
 
@@ -136,13 +137,13 @@ impl<D: Digester> Roots<D> {
     {
         let added = digests.len();
         let mut count = added;
-        let mut row = 0;
+        let mut row: u8 = 0;
         while count > 0 {
             prove!(row < 40);
-            let slot = (self.count >> row) % 2 == 1;
-            self.slots[row] = raise_row::<D, L>(
+            let slot = is_slot(self.count, row);
+            self.slots[row as usize] = raise_row::<D, L>(
                 slot,
-                self.slots[row],
+                self.slots[row as usize],
                 &mut digests[..count],
                 steps,
             );

@@ -6,7 +6,7 @@ ghost use Rattle.cache_model.specs.Undo.{find, is_same_number};
 
 use crate::search::{digest_in, index_of_number};
 use cache_model::Kept;
-use forest_place::{Place, sibling};
+use forest_place::{Place, parent, sibling};
 use std::alloc::Global;
 use uo_base::NoMemory;
 use uo_digest::Digest;
@@ -50,10 +50,7 @@ fn beside_way(alloc: Global, held: &[(Place, Digest)], from: Place) -> Result<Ve
             return Ok(proof);
         };
         proof.push(digest)?;
-        place = Place {
-            row: place.row + 1,
-            off: place.off / 2,
-        };
+        place = parent(place);
     }
     Ok(proof)
 }

@@ -8,6 +8,7 @@ somes [] = []
 somes (None ∷ xs) = somes xs
 somes (Some x ∷ xs) = x ∷ somes xs
 
+-- whether two outpoints are the same
 abbrev pub same_point : Outpoint → Outpoint → Bool
 same_point p q = bytes_eq p.txid.0 q.txid.0 && p.index == q.index
 
@@ -20,6 +21,7 @@ pub record Entry : Type 0 where
   pub number : ℕ
   pub leaf : Leaf
 
+-- the first of a list, if it has this outpoint
 abbrev pub entry_if : Outpoint → Leaf → Option Entry
 entry_if p leaf = if same_point leaf.point p then Some (record { number = 0; leaf = leaf }) else None
 
@@ -27,6 +29,7 @@ entry_if p leaf = if same_point leaf.point p then Some (record { number = 0; lea
 abbrev pub later : Entry → Entry
 later e = record { number = suc e.number; leaf = e.leaf }
 
+-- the newest of a list, by its first and by the newest of the others
 abbrev pub newer : Outpoint → Option Leaf → Option Entry → Option Entry
 newer p first (Some e) = Some (later e)
 newer p None None = None

@@ -20,6 +20,7 @@ pub record Rest : Type 0 where
   pub amount : ℕ
   pub script : List ℕ
 
+-- an output: its name, and the rest of it
 pub record Leaf : Type 0 where
   pub point : Outpoint
   pub rest : Rest
@@ -34,6 +35,7 @@ code_of r = 2 * r.height + (if r.coinbase then 1 else 0)
 unfoldable pub payload_text : ℕ → ℕ → List ℕ → List ℕ
 payload_text code amount script = to_le_bytes w32 code ++ to_le_bytes w64 amount ++ sized script
 
+-- all but the name, as a message shows it
 unfoldable pub rest_text : Rest → List ℕ
 rest_text r = r.block.0 ++ payload_text (code_of r) r.amount r.script
 
@@ -55,12 +57,14 @@ leaf_text l = tag ++ tag ++ output_text l
 abbrev pub longest_script : ℕ
 longest_script = 10000
 
+-- each part in the range of its field, and a script that can be run
 pub record RestFits (r : Rest) : Type 0 where
   pub block : IsDigest r.block
   pub height : r.height < 2 ^ 31
   pub amount : r.amount < 2 ^ 64
   pub script : length r.script ≤ longest_script
 
+-- likewise, with the name
 pub record LeafFits (l : Leaf) : Type 0 where
   pub txid : IsDigest l.point.txid
   pub index : l.point.index < 2 ^ 32

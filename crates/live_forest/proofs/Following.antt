@@ -11,6 +11,7 @@ use Rattle.std.proofs.lemmas.Bool.{le-leb, lt-leb, cases_lt}
 use Rattle.uo_digest.specs.declared.digest.Digest.{Digest}
 use Rattle.forest_place.specs.declared.place.Place.{Place}
 use Rattle.forest_place.specs.Forest.{InForest, sibling_off}
+use Rattle.forest_place.specs.Places.{child}
 use Rattle.forest_place.proofs.Siblings.{sibling_cases, sibling_half, sibling_twice}
 use Rattle.forest_model.specs.Content.{Tree, content, digest_of}
 use Rattle.forest_model.specs.Standing.{tree_at}
@@ -39,28 +40,35 @@ pub record ArePair (part half other : Place) : Type 0 where
   pub off : half.off / 2 ≡ part.off
   pub beside : other.off ≡ sibling_off half.off
 
-pub pair_of : (part half other : Place) (o : ℕ) → 0 < part.row → half ≡ record { row = part.row - 1; off = 2 * part.off + o % 2 }
+-- the place beneath on a side, and its sibling
+pub pair_of : (part half other : Place) (side : ℕ) → side < 2 → 0 < part.row → half ≡ child side part
     → other.row ≡ half.row → other.off ≡ sibling_off half.off → ArePair part half other
-pair_of part half other o some is same beside =
+pair_of part half other side small some is same beside =
     let off = ap (λ (p : Place). p.off) is in
-    record { some = some; row = ap (λ (p : Place). p.row) is; same = same; off = omega (arith, off); beside = beside }
+    record { some = some; row = ap (λ (p : Place). p.row) is; same = same; off = omega (arith, off, small); beside = beside }
 
--- the half that has an entry of the part
-pub own_half : (at half : Place) (x : ℕ) → 0 < at.row → half ≡ record { row = at.row - 1; off = 2 * at.off + x / 2 ^ (at.row - 1) % 2 }
-    → x / 2 ^ at.row ≡ at.off → x / 2 ^ half.row ≡ half.off
-own_half at half x some is inside =
-    let row = ap (λ (p : Place). p.row) is in
-    let off = ap (λ (p : Place). p.off) is in
-    let up = half_of x half.row at some row in
-    let side : x / 2 ^ half.row % 2 ≡ x / 2 ^ (at.row - 1) % 2 = ap (λ r. x / 2 ^ r % 2) row in
-    omega (arith, off, up, inside, side)
+-- the half that has the first of some entries
+abbrev pub first_half : Place → List ℕ → Place
+first_half at numbers = record { row = at.row - 1; off = get_or numbers 0 0 / 2 ^ (at.row - 1) }
 
--- so all that are between two of one half are in that half
-pub all_in_half : (es : List (Option Digest)) (at half : Place) (numbers : List ℕ) → IsNonDecreasing numbers → 0 < length numbers → 0 < at.row
-    → half ≡ record { row = at.row - 1; off = 2 * at.off + get_or numbers 0 0 / 2 ^ (at.row - 1) % 2 }
+abbrev pub other_of : Place → Place
+other_of half = record { row = half.row; off = sibling_off half.off }
+
+pub first_pair : (es : List (Option Digest)) (at : Place) (numbers : List ℕ) → 0 < length numbers → 0 < at.row → AreIn es at.row at.off numbers
+    → ArePair at (first_half at numbers) (other_of (first_half at numbers))
+first_pair es at numbers some up inside = record {
+  some = up;
+  row = refl;
+  same = refl;
+  off = let here = (inside 0 0 some).1 in omega (arith, half_of (get_or numbers 0 0) (at.row - 1) at up refl, here);
+  beside = refl;
+}
+
+-- all that are between two of one half are in that half
+pub all_in_half : (es : List (Option Digest)) (at : Place) (numbers : List ℕ) → IsNonDecreasing numbers → 0 < length numbers
     → get_or numbers 0 0 / 2 ^ (at.row - 1) ≡ get_or numbers (length numbers - 1) 0 / 2 ^ (at.row - 1) → AreIn es at.row at.off numbers
-    → AreIn es half.row half.off numbers
-all_in_half es at half numbers rise some up is share inside i d lt =
+    → AreIn es (first_half at numbers).row (first_half at numbers).off numbers
+all_in_half es at numbers rise some share inside i d lt =
     let row = at.row - 1 in
     let here = inside i d lt in
     let same : get_or numbers i d ≡ get_or numbers i 0 = get_or_default numbers i d 0 lt in
@@ -68,7 +76,7 @@ all_in_half es at half numbers rise some up is share inside i d lt =
     let high = parts_rise row (get_or numbers i 0) (get_or numbers (length numbers - 1) 0)
     (rise i (length numbers - 1) 0 (omega (arith, lt)) (omega (arith, some))) in
     let part : get_or numbers 0 0 / 2 ^ row ≡ get_or numbers i d / 2 ^ row = omega (arith, low, high, share, ap (λ x. x / 2 ^ row) same) in
-    (here.0, own_half at half (get_or numbers i d) up (is ∙ ap (λ x. record { row = row; off = 2 * at.off + x % 2 }) part) here.1)
+    (here.0, sym part)
 
 -- something is kept for each part that has a live entry
 pub own_kept : (H : List ℕ → Digest) (es : List (Option Digest)) (parts : StoreState) → AreParts H (length es) es parts → (row off i : ℕ)

@@ -19,23 +19,9 @@ use Rattle.live_forest.specs.Proving.{HasRows}
 use Rattle.live_forest.proofs.Refreshing.{kept_right}
 use Rattle.live_forest.proofs.Seeking.{alike, tree_above, tree_some, tree_none, within_left, within_right, node_high}
 
--- no row further up is in the forest
-pub all_rows : (n row : ℕ) (rows : List (List Sibling)) → length rows ≡ row → (0 < n / 2 ^ row → ⊥) → HasRows n rows
-all_rows n row rows len top = record {
-  is = λ r off h. ⊎_elim
-      (λ low. omega (arith, low, len))
-      (λ high.
-      let k = r - row in
-      let up : row + k ≡ r = omega (arith, high) in
-      let none : n / 2 ^ row ≡ 0 = ⊎_elim (λ some. absurd (top some)) (λ le. omega (arith, le)) (cases_lt 0 (n / 2 ^ row)) in
-      let above : n / 2 ^ r ≡ 0 = ap (λ x. n / 2 ^ x) (sym up) ∙ (sym (shr-shr n row k) ∙ (ap (λ x. x / 2 ^ k) none ∙ zero-div (2 ^ k))) in
-      absurd (omega (arith, h, above)))
-      (cases_lt r row);
-}
-
 -- as many rows as before
 pub rows_stay : (n : ℕ) (old new : List (List Sibling)) → length new ≡ length old → HasRows n old → HasRows n new
-rows_stay n old new same has = record { is = λ row off h. omega (arith, same, has.is row off h) }
+rows_stay n old new same has row = ((λ lt. (has row).0 (omega (arith, same, lt))), (λ h. omega (arith, same, (has row).1 h)))
 
 module _ (H : List ℕ → Digest) (es : List (Option Digest)) (parts : StoreState) (right : AreParts H (length es) es parts) where
   -- the digest of a part whose tree stands there

@@ -244,5 +244,5 @@ proof_joined H es numbers rows wide are =
     ∙ ap (λ ps. filter_map (standing H es) (filter (is_needed n ts) ps))
     (same_ascending (places_from n k 0) (places n) (rows_ascending n k 0) (places_ascending n)
     (λ r o h. places_have n r o (rows_had n k 0 r o h).0)
-    (λ r o h. let within = places_had n r o h in let low : r < k = wide.is r o within in
+    (λ r o h. let within = places_had n r o h in let low : r < k = (wide r).1 (omega (arith, within)) in
     rows_have n k 0 r o within (omega arith) (omega (arith, low))))

@@ -1,6 +1,6 @@
 -- What proves entries: the digests at the places that theirs need.
 use Rattle.std.specs.Prelude.{◌≡◌, ◌≢◌, ℕ, ◌-◌, ◌*◌, ◌/◌, ◌^◌, ◌<◌, ◌≤◌, true, false, List, [], ◌++◌, length, map, filter, get_or, Option, Some}
-use Rattle.std.specs.Prelude.{option_map, ◌==◌, nat_le, All, if◌then◌else◌}
+use Rattle.std.specs.Prelude.{option_map, ◌==◌, nat_le, All, ◌↔◌, if◌then◌else◌}
 use Rattle.std.specs.List.{filter_map}
 use Rattle.uo_digest.specs.declared.digest.Digest.{Digest}
 use Rattle.forest_place.specs.declared.place.Place.{Place}
@@ -52,9 +52,14 @@ AreIn es row off numbers = All (λ i. (is_live es i ≡ true) × (i / 2 ^ row �
 abbrev pub AreBehind : List (Option Digest) → ℕ → List ℕ → Type 0
 AreBehind es slot numbers = All (λ i. (is_live es i ≡ true) × (length es / 2 ^ slot ≤ i / 2 ^ slot)) numbers
 
--- there is a list for each row of a forest over n entries
-pub record HasRows (n : ℕ) (rows : List (List Sibling)) : Type 0 where
-  pub is : (row off : ℕ) → InForest n row off → row < length rows
+-- there is a list for each row in which the forest over n entries has a place, and no other
+abbrev pub HasRows : ℕ → List (List Sibling) → Type 0
+HasRows n rows = (row : ℕ) → (row < length rows) ↔ InForest n row 0
+
+-- what proves these entries, row by row
+pub record IsByRow (H : List ℕ → Digest) (es : List (Option Digest)) (numbers : List ℕ) (rows : List (List Sibling)) : Type 0 where
+  pub many : HasRows (length es) rows
+  pub are : (row : ℕ) → list_of rows row ≡ in_row H es (places_of es numbers) row 0 (length es / 2 ^ row)
 
 -- the rows have this more of what is at and beneath a place
 pub record AreMore (H : List ℕ → Digest) (es : List (Option Digest)) (ts : List Place) (q : Place) (old new : List (List Sibling)) : Type 0 where

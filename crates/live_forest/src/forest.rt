@@ -3,7 +3,7 @@ ghost use Rattle.std.specs.Prelude.{◌≡◌, ℕ, ◌+◌, ◌*◌, ◌^◌, �
 ghost use Rattle.std.specs.Prelude.{OnOk, OnErr, IfOk, map, max, option_map, count_ones, All, true, false};
 ghost use Rattle.std.specs.List.{flat_map};
 ghost use Rattle.std.specs.List.Sorted.{IsNonDecreasing};
-ghost use Rattle.forest_place.specs.Forest.{is_slot};
+ghost use Rattle.forest_place.specs.Forest.{is_slot as is_slot_of};
 ghost use Rattle.forest_place.specs.Position.{rows as rows_of};
 ghost use Rattle.forest_model.specs.Deletion.{entries_without};
 ghost use Rattle.forest_model.specs.Content.{leaf};
@@ -11,7 +11,7 @@ ghost use Rattle.forest_model.specs.Standing.{root as root_of, tree_at, digest_a
 ghost use Rattle.forest_model.specs.EntryPlace.{entry_place};
 ghost use Rattle.forest_roots.specs.Stump.{Stump, StandsFor};
 ghost use Rattle.forest_roots.specs.Joined.{addition_steps as steps_of_roots};
-ghost use Rattle.live_forest.specs.Proving.{proof_of};
+ghost use Rattle.live_forest.specs.Proving.{proof_of, IsByRow};
 ghost use Rattle.live_forest.specs.State.{is_live, is_held, addition_steps, leaf_number};
 
 use crate::batch::BatchProof;
@@ -22,7 +22,7 @@ use crate::refresh::{put, put_next};
 use crate::seek::{digest_of_place, number_of_place, place_from};
 use crate::store::Store;
 use crate::walk::digests_of_places;
-use forest_place::Place;
+use forest_place::{Place, is_slot, root_place};
 use forest_roots::Roots;
 use std::alloc::Global;
 use std::marker::{Model, PhantomData};
@@ -34,7 +34,8 @@ use uo_digest::{Digest, Digester, Steps};
 /// its leaf, or spent. Entries are numbered from 0 in the order of addition, and a spent one keeps its number.
 ///
 /// It is seen as the list of all entries, the number of further entries for which there is room, and of each entry whether it is held: a
-/// spent one that was let go takes no room, and can not be made live again. No call but `reserve` takes memory.
+/// spent one that was let go takes no room, and can not be made live again. Of the calls that change it `reserve` alone
+/// can want memory.
 #[derive(Drop)]
 pub struct Forest<D: Digester> {
     count: u64,
@@ -78,7 +79,8 @@ impl<D: Digester> Forest<D> {
         }
     }
 
-    /// Takes all memory that so many additions need. Room that was there before is counted in.
+    /// Takes all memory that so many additions need. Room that was there before is counted in. Where there is not enough memory, the pages that
+    /// were made stay, for later entries.
     pub fn reserve(&mut self, adds: u64) -> Result<(), NoMemory>
         ensures entries { self.new.entries ≡ self.old.entries }
         ensures held { self.new.held ≡ self.old.held }
@@ -203,7 +205,8 @@ impl<D: Digester> Forest<D> {
         self.count = n;
     }
 
-    /// Lets a spent entry go: it can not be made live again. Its room is free, and no more changes.
+    /// Lets a spent entry go: it can not be made live again. Its page gives room back, by a smaller list where there is memory for
+    /// one; no more changes.
     pub fn forget(&mut self, number: u64)
         requires given { number < length self.old.entries }
         requires spent { is_live self.old.entries number ≡ false }
@@ -259,6 +262,7 @@ impl<D: Digester> Forest<D> {
         requires rise { IsNonDecreasing numbers.now }
         ensures places { IfOk result (λ b. map Some b.places.items ≡ map (entry_place self.now.entries) numbers.now) }
         ensures siblings { IfOk result (λ b. flat_map (λ row. row) b.rows.items ≡ proof_of D.digest_of self.now.entries numbers.now) }
+        ensures rows { IfOk result (λ b. IsByRow D.digest_of self.now.entries numbers.now b.rows.items) }
     {
         Ok(proof_of_entries::<D>(alloc, &self.store, self.count, numbers)?)
     }
@@ -272,11 +276,12 @@ impl<D: Digester> Forest<D> {
 
     /// The root of a slot, which is `Some(None)` where it is empty. `None` where `row` is no slot.
     pub fn root(&self, row: u8) -> Option<Option<Digest>>
-        ensures { MatchOption result (IsTrue (is_slot (length self.now.entries) row) → ⊥) (λ x. IsTrue (is_slot (length self.now.entries) row)
+        ensures { MatchOption result (IsTrue (is_slot_of (length self.now.entries) row) → ⊥) (λ x. IsTrue (is_slot_of (length self.now.entries) row)
             × (x ≡ root_of D.digest_of self.now.entries row)) }
     {
-        if row < 40 && (self.count >> row) % 2 == 1 {
-            Some(self.store.part(self.count, row, (self.count >> row) - 1))
+        if row < 40 && is_slot(self.count, row) {
+            let root = root_place(row, self.count);
+            Some(self.store.part(self.count, row, root.off))
         } else {
             None
         }

@@ -13,7 +13,8 @@
 //! - `seen`, `seek`, `walk`, `proving`, `batch`: what stands at a place, and what proves entries. They ask the store what it keeps for a part.
 //! - `forest` and `blocks`: [`Forest`], which is seen as the list of all entries.
 //!
-//! `Forest::reserve` alone takes memory: it makes the cells of the entries to come. `Forest::forget` gives room back.
+//! Of the calls that change a forest `Forest::reserve` alone can want memory: it makes the cells of the entries to come. `Forest::forget` gives room
+//! back where a smaller list can be had for a page.
 #![tactic(auto)]
 
 mod batch;

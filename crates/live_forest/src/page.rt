@@ -9,7 +9,7 @@ ghost use Rattle.live_forest.specs.Pages.{IsEntryPut, IsPartPut, IsOfHalves, Are
 use crate::bits::{has, has_in_halves, has_some, rank, with, without};
 use crate::cell::Cell;
 use crate::spots::{Spot, is_branch, middle, nearest, spot_of};
-use forest_place::{Place, parent, sibling};
+use forest_place::{Place, parent, sibling, side};
 use std::alloc::{AllocError, Global};
 use std::marker::Model;
 use uo_digest::Digest;
@@ -184,8 +184,8 @@ impl Page {
         if !has_some(self.live, row, other.off) {
             return None;
         }
-        let cell = &self.cells[rank(self.listed, middle(row, other.off / 2))];
-        Some(if other.off % 2 == 0 {
+        let cell = &self.cells[rank(self.listed, middle(row, parent(other).off))];
+        Some(if side(other) == 0 {
             &cell.left
         } else {
             &cell.right

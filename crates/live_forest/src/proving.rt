@@ -12,32 +12,38 @@ ghost use Rattle.forest_model.specs.Standing.{tree_at};
 ghost use Rattle.forest_model.specs.EntryPlace.{entry_place};
 ghost use Rattle.live_forest.specs.Lookups.{AreAlike, AreHeld};
 ghost use Rattle.live_forest.specs.Parts.{entries_in, kept, AreParts};
-ghost use Rattle.live_forest.specs.Proving.{places_of, standing, proof_of, in_row, list_of, HasRows, HasPlaces, AreIn, AreBehind, AreMore};
+ghost use Rattle.live_forest.specs.Proving.{places_of, standing, proof_of, in_row, list_of, HasRows, IsByRow, HasPlaces, AreIn, AreBehind, AreMore};
 ghost use Rattle.live_forest.specs.Proving.{AreOfPart, AreFrom, behind, IsFork, IsOn};
 ghost use Rattle.live_forest.specs.State.{is_live};
 
 use crate::batch::{BatchProof, Row};
-use crate::seek::child;
-use crate::seen::beside_in;
+use crate::seen::{beside_in, root_in};
 use crate::store::Store;
-use forest_place::{Place, children, sibling};
+use forest_place::{Place, child, children, sibling, side};
 use std::alloc::{AllocError, Global};
 use uo_digest::{Digest, Digester};
 
-/// So many rows has a forest at most.
-const ROWS: usize = 40;
+// In how many rows the forest over n entries has a place.
+fn row_count(n: u64) -> u8
+    requires { n < 2 ^ 40 }
+    ensures is { (row : ℕ) → (row < result) ↔ InForest n row 0 }
+    ensures few { result ≤ 40 }
+{
+    if n == 0 { 0 } else { n.ilog2() as u8 + 1 }
+}
 
-// No digest in any row that a forest over n entries has, and room for so many in each.
-fn no_rows<'a>(alloc: Global, n: u64, room: usize) -> Result<Vec<Row<'a>>, AllocError>
+// No digest in any row that the forest over n entries has, and room for as many in each as so many entries need at most: of two siblings one is
+// needed at most.
+fn no_rows<'a>(alloc: Global, n: u64, entries: usize) -> Result<Vec<Row<'a>>, AllocError>
     requires { n < 2 ^ 40 }
     ensures wide { IfOk result (λ rows. HasRows n rows.items) }
     ensures none { IfOk result (λ rows. (row : ℕ) → list_of rows.items row ≡ []) }
 {
-    let mut rows = Vec::with_capacity(alloc, ROWS)?;
-    let mut row: u8 = 0;
-    while n >> row > 0 {
-        rows.push(Row::with_room(alloc, room)?)?;
-        row += 1;
+    let count = row_count(n);
+    let mut rows = Vec::with_capacity(alloc, count as usize)?;
+    for row in 0..count {
+        let pairs = (n >> row) / 2;
+        rows.push(Row::with_room(alloc, entries.min(pairs as usize))?)?;
     }
     Ok(rows)
 }
@@ -115,11 +121,14 @@ fn descend_to_fork<'a, D: Digester>(
     let mut at = part;
     let mut above = place;
     'way: while share_half(at.row, first, last) {
-        let half = child(at, first >> (at.row - 1));
+        let half = Place {
+            row: at.row - 1,
+            off: first >> (at.row - 1),
+        };
         match beside_in(store, n, half.row, first) {
             None => at = half,
             Some(digest) => {
-                let below = child(above, half.off);
+                let below = child(above, side(half));
                 put(rows, sibling(below), digest)?;
                 at = half;
                 above = below;
@@ -211,13 +220,8 @@ fn descend_from<'a, 'b, D: Digester>(
         rows.old.items
         → AreFrom D.digest_of (entries_in n store.now) ts row rows.new.items) }
 {
-    let count = n >> row;
-    if count % 2 == 0 {
+    let Some(root) = root_in(store, n, row) else {
         return Ok(numbers);
-    }
-    let root = Place {
-        row,
-        off: count - 1,
     };
     let (here, behind) = numbers.split_at(count_upto(numbers, row, root.off));
     if !here.is_empty() {
@@ -269,6 +273,7 @@ pub(crate) fn proof_of_entries<'a, D: Digester>(
     requires rise { IsNonDecreasing numbers.now }
     ensures places { IfOk result (λ b. map Some b.places.items ≡ map (entry_place (entries_in n store.now)) numbers.now) }
     ensures siblings { IfOk result (λ b. flat_map (λ row. row) b.rows.items ≡ proof_of D.digest_of (entries_in n store.now) numbers.now) }
+    ensures rows { IfOk result (λ b. IsByRow D.digest_of (entries_in n store.now) numbers.now b.rows.items) }
 {
     let mut places = Vec::with_capacity(alloc, numbers.len())?;
     let rows = rows_of::<D>(alloc, store, n, numbers, &mut places)?;

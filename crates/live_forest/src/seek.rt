@@ -10,7 +10,7 @@ ghost use Rattle.live_forest.specs.Parts.{entries_in, kept, AreParts};
 
 use crate::seen::{has_in, is_root, is_within, part_in};
 use crate::store::Store;
-use forest_place::{Place, sibling};
+use forest_place::{Place, child, parent, sibling, side};
 use uo_digest::{Digest, Digester};
 
 // The smallest part with the same tree.
@@ -57,7 +57,7 @@ pub(crate) fn part_at(store: &Store, n: u64, row: u8, off: u64) -> Option<Place>
                 if node.row == 0 {
                     None
                 } else {
-                    Some(child(node, off))
+                    Some(child(node, side(Place { row, off })))
                 }
             }
         }
@@ -86,26 +86,18 @@ impl Ascent {
             × (result.left ≡ self.left + self.part.off % 2 * self.width)) }
         ensures same { OnFalse beside ((result.rows ≡ self.rows) × (result.width ≡ self.width) × (result.left ≡ self.left)) }
     {
-        let above = Place {
-            row: self.part.row + 1,
-            off: self.part.off / 2,
-        };
+        let above = parent(self.part);
         if !beside {
             return Ascent {
                 part: above,
                 ..self
             };
         }
-        let side = if self.part.off % 2 == 0 {
-            0
-        } else {
-            self.width
-        };
         Ascent {
             part: above,
             rows: self.rows + 1,
             width: self.width * 2,
-            left: self.left + side,
+            left: self.left + side(self.part) * self.width,
         }
     }
 }
@@ -143,18 +135,6 @@ pub(crate) fn place_from(store: &Store, n: u64, place: Place) -> Place
     Place {
         row: ascent.part.row - ascent.rows,
         off: ascent.part.off * ascent.width + ascent.left,
-    }
-}
-
-// The place beneath that is on the same side as an offset.
-pub(crate) fn child(above: Place, off: u64) -> Place
-    requires row { 0 < above.row }
-    requires small { above.off < 2 ^ 40 }
-    ensures { result ≡ record { row = above.row - 1; off = 2 * above.off + off % 2 } }
-{
-    Place {
-        row: above.row - 1,
-        off: 2 * above.off + off % 2,
     }
 }
 

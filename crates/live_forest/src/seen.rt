@@ -1,12 +1,12 @@
 //! What the look-ups read: the parts of the first `n` entries.
-ghost use Rattle.std.specs.Prelude.{◌≡◌, ◌↔◌, ◌/◌, ◌^◌, ◌<◌, ◌≤◌, length, IsTrue, true, is_some, option_copied};
-ghost use Rattle.forest_place.specs.Forest.{InForest, is_root as is_root_at, sibling_off};
+ghost use Rattle.std.specs.Prelude.{◌≡◌, ◌↔◌, ◌/◌, ◌^◌, ◌<◌, ◌≤◌, length, IsTrue, true, false, MatchOption, is_some, option_copied};
+ghost use Rattle.forest_place.specs.Forest.{InForest, is_slot, root_off, is_root as is_root_at, sibling_off};
 ghost use Rattle.live_forest.specs.Lookups.{AreHeld};
 ghost use Rattle.live_forest.specs.State.{is_live};
 ghost use Rattle.live_forest.specs.Parts.{entries_in, kept};
 
 use crate::store::Store;
-use forest_place::Place;
+use forest_place::{Place, root_place};
 use uo_digest::Digest;
 
 /// The digest that is kept for a part.
@@ -57,8 +57,20 @@ pub(crate) fn is_within(store: &Store, n: u64, place: Place) -> bool
     requires room { n ≤ store.now.len }
     ensures { IsTrue result ↔ InForest (length (entries_in n store.now)) place.row place.off }
 {
-    if place.row >= 40 {
-        return false;
+    forest_place::is_within(n, place)
+}
+
+/// The root of a row, where the row is a slot.
+pub(crate) fn root_in(store: &Store, n: u64, row: u8) -> Option<Place>
+    requires small { length (entries_in n store.now) < 2 ^ 40 }
+    requires room { n ≤ store.now.len }
+    requires row { row < 40 }
+    ensures { MatchOption result (is_slot (length (entries_in n store.now)) row ≡ false) (λ root. (is_slot (length (entries_in n store.now)) row ≡ true)
+        × (root ≡ record { row = row; off = root_off (length (entries_in n store.now)) row })) }
+{
+    if forest_place::is_slot(n, row) {
+        Some(root_place(row, n))
+    } else {
+        None
     }
-    place.off < n >> place.row
 }

@@ -5,7 +5,7 @@ ghost use Rattle.live_forest.specs.Sets.{is_bit};
 ghost use Rattle.live_forest.specs.Pages.{middle as middle_of, spot, IsBranch, IsBeside, IsAlone};
 
 use crate::bits::{has_some, rank};
-use forest_place::{Place, parent, sibling};
+use forest_place::{Place, parent, sibling, side};
 
 /// The cell in which a digest lies, and whether it is that of the right half.
 #[derive(Clone, Copy)]
@@ -49,7 +49,7 @@ pub(crate) fn spot_of(listed: u128, row: u8, off: u64) -> Spot
         if has_some(listed, part.row, sibling(part).off) {
             return Spot {
                 cell: rank(listed, middle(part.row, above.off)),
-                right: part.off % 2 == 1,
+                right: side(part) == 1,
             };
         }
         part = above;

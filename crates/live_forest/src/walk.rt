@@ -6,10 +6,10 @@ ghost use Rattle.forest_model.specs.Standing.{tree_at, digest_at as digest_at_of
 ghost use Rattle.live_forest.specs.Lookups.{AreAlike, IsPartAt, IsNodeAt, AreNodes, IsParentAt};
 ghost use Rattle.live_forest.specs.Parts.{entries_in, AreParts};
 
-use crate::seek::{child, part_at, smallest};
+use crate::seek::{part_at, smallest};
 use crate::seen::{is_root, is_within, part_in};
 use crate::store::Store;
-use forest_place::{Place, parent};
+use forest_place::{Place, child, parent, side};
 use std::alloc::{AllocError, Global};
 use uo_digest::{Digest, Digester};
 
@@ -82,7 +82,7 @@ fn part_by(
     if node.row == 0 {
         None
     } else {
-        Some(child(node, place.off))
+        Some(child(node, side(place)))
     }
 }
 

@@ -1,5 +1,5 @@
 //! An upgrade of one message.
-ghost use Rattle.std.specs.Prelude.{◌≡◌, ◌<◌, ◌++◌, ◌^◌, [], map, IfOk, OnOk};
+ghost use Rattle.std.specs.Prelude.{◌≡◌, ◌<◌, ◌++◌, ◌^◌, [], map, IfOk, OnOk, OnErr};
 ghost use Rattle.forest_place.specs.declared.naming.Naming.TheVariants.{Position};
 ghost use Rattle.forest_place.specs.Named.{place_by};
 ghost use Rattle.proof_wire.specs.BlockProof.{message_text};
@@ -15,12 +15,13 @@ const NO_PLACE: u64 = u64::MAX;
 
 /// Appends the message that bytes are, in version 2: a target of version 1 becomes the fixed position of the place that it names in the
 /// forest over `n` entries, or the greatest number where it names none. What is no message of version 1 is appended as it is. The answer is whether
-/// it was one.
+/// it was one. Where there is no memory nothing is appended.
 #[tactic(auto, unfolding(crate::specs::Upgrade::upgraded))]
 pub fn upgrade(alloc: Global, n: u64, message: &[u8], out: &mut Vec<u8>) -> Result<bool, NoMemory>
     requires few { n < 2 ^ 40 }
     ensures old { IfOk result (λ old. old ≡ is_old message.now) }
     ensures text { OnOk result (out.new.items ≡ out.old.items ++ upgraded n message.now) }
+    ensures stays { OnErr result (out.new.items ≡ out.old.items) }
 {
     match old_message(alloc, message)? {
         Some(view) => {
@@ -57,7 +58,8 @@ fn write_renamed(
     out: &mut Vec<u8>,
 ) -> Result<(), NoMemory>
     requires few { n < 2 ^ 40 }
-    ensures { OnOk result (out.new.items ≡ out.old.items ++ message_text (in_version_2 n view.now)) }
+    ensures text { OnOk result (out.new.items ≡ out.old.items ++ message_text (in_version_2 n view.now)) }
+    ensures stays { OnErr result (out.new.items ≡ out.old.items) }
 {
     let mut message = Message::new(alloc, view.lean());
     push_renamed(n, view, &mut message)?;

@@ -1,7 +1,7 @@
 -- What `audit` writes of a feed is what an auditor says and shows, and that is what the node says that holds every output, up to the first forged
 -- event.
 use Rattle.std.proofs.Common.{◌≡◌, ℕ, suc, ◌+◌, ◌<◌, ◌^◌, Bool, true, false, cond, ◌||◌, List, [], ◌∷◌, ◌++◌, length, map, Option, Some, None, refl}
-use Rattle.std.proofs.Common.{sym, ap, ap₂, ◌∙◌, arith, append-nil, append_assoc}
+use Rattle.std.proofs.Common.{sym, ap, ap₂, ◌∙◌, arith, append-nil, append_assoc, subst}
 use Rattle.std.specs.Prelude.{not, is_none}
 use Rattle.std.specs.List.{flat_map, list_any}
 use Rattle.std.proofs.lemmas.Bool.{false≢true}
@@ -17,7 +17,7 @@ use Rattle.feed_frame.specs.Events.{events_of}
 use Rattle.feed_run.specs.declared.status.Status.{Status}
 use Rattle.feed_run.specs.declared.status.Status.TheVariants as Statuses
 use Rattle.feed_run.specs.Answer.{Answer}
-use Rattle.feed_run.specs.Machine.{Machine, goes, says, left_by, said_by, sent_by, wanted_end}
+use Rattle.feed_run.specs.Machine.{Machine, goes, says, left_by, said_by, sent_by, wanted_end, Wants}
 use Rattle.node_rules.specs.Judging.{Rules}
 use Rattle.node_rules.specs.Machine.{ChainEvent, State, start, issued, full_judge, event_in, never_stops, verdict_before}
 use Rattle.compact_node.specs.Throughout.{full_verdicts, full_after}
@@ -38,7 +38,7 @@ use Rattle.node_commands.specs.Auditor.{AuditorState, fresh_auditor, judged_of, 
 use Rattle.node_commands.specs.Auditor.{judged_line, supply_end, end_unless, audit_end, audit_machine, level_end, answer_unless, audit_answer}
 use Rattle.node_commands.specs.Follow.{line_of, rules_of}
 use Rattle.node_commands.specs.Machine.{is_refused}
-use Rattle.node_commands.specs.Runs.{Serves}
+use Rattle.node_commands.specs.Runs.{NoPort, Serves}
 use Rattle.node_commands.proofs.FollowLemmas.{or_none, or_again}
 use Rattle.node_commands.proofs.ServeLemmas.{Serves-same, Serves-quiet}
 
@@ -333,13 +333,13 @@ audit-stores H limits net scripts feed = unless-none _ _ _ _ (last-none _ _ _ _ 
 -- what a call over the machine gave is what it gave of the node that holds every output
 pub audit-serves : (H : List ℕ → Digest) (limits : Limits) (net : Net) (scripts : List (List ℕ)) → limits.leaves < 2 ^ 40 → (a : AuditorState)
     → a ≡ fresh_auditor net limits scripts
-    → {feed feed' report report' o o' : Option (List ℕ)} (out : Option (List ℕ)) (stopped : Bool) (status : Status)
-    → Serves (said_by (audit_machine H) a) (sent_by (audit_machine H) a) (served_feed (audit_machine H) a net limits.bytes) net limits.bytes feed
-    feed' report report' o o' stopped status
-    → Serves (λ events. said_by (audit_machine H) (fresh_auditor net limits scripts) events) (λ events. []) (audit_answer H limits net scripts) net
-    limits.bytes
-    feed feed' report report' out out stopped status
+    → {feed feed' report report' o o' : Option (List ℕ)} {untouched : Type 0} (out : Option (List ℕ)) (stopped : Bool) (status : Status)
+    → Serves (Wants (audit_machine H) a) (said_by (audit_machine H) a) (sent_by (audit_machine H) a)
+    (served_feed (audit_machine H) a net limits.bytes) net limits.bytes feed feed' report report' o o' untouched stopped status
+    → Serves (λ events. Wants (audit_machine H) (fresh_auditor net limits scripts) events)
+    (λ events. said_by (audit_machine H) (fresh_auditor net limits scripts) events) (λ events. []) (audit_answer H limits net scripts) net
+    limits.bytes feed feed' report report' out out NoPort stopped status
 audit-serves H limits net scripts few a e {o = o} {o' = o'} out stopped status s =
     Serves-quiet (audit-stores H limits net scripts) o o' out stopped status
-    (Serves-same (λ events. ap (λ b. said_by (audit_machine H) b events) e) (λ events. sent-none H events a)
+    (Serves-same (λ events w. subst (λ b. Wants (audit_machine H) b events) e w) (λ events. ap (λ b. said_by (audit_machine H) b events) e) (λ events. sent-none H events a)
     (served-audit H limits net scripts few a e) stopped status s)

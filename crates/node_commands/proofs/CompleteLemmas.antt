@@ -26,6 +26,7 @@ use Rattle.command_words.specs.declared.words.WordFault.{WordFault}
 use Rattle.command_words.specs.Options.{Settings}
 use Rattle.command_words.specs.Words.{Asked, Task, Following, Proving, Auditing, Generating, UpgradingFeed, UpgradingState, Ordering, Ticketing}
 use Rattle.command_words.specs.Words.{Checking, Rechecking, Relaying, net_for}
+use Rattle.node_commands.specs.PriorText.{prior_text}
 use Rattle.node_commands.specs.declared.bad_input.BadInput.{BadInput}
 use Rattle.node_commands.specs.Answers.{bad_end, last_of}
 use Rattle.node_commands.specs.Auditing.{auditing}
@@ -41,7 +42,7 @@ use Rattle.node_commands.specs.Prover.{prove_answer, proving}
 use Rattle.ticket_check.specs.Written.{ticket_of}
 use Rattle.relay_script.specs.declared.line.ScriptLine.{ScriptLine}
 use Rattle.node_commands.specs.Relayer.{relay_answer}
-use Rattle.node_commands.specs.Relaying.{RelayStart, lists_for, prior_text, script_of, relay_start, IsGoodRelay, relaying}
+use Rattle.node_commands.specs.Relaying.{RelayStart, lists_for, script_of, relay_start, IsGoodRelay, relaying}
 use Rattle.node_commands.specs.Starting.{Start, IsNodeOf, IsStart, IsUsable, IsGoodBehind}
 use Rattle.node_commands.specs.Rechecking.{Rechecked, recheck_start, IsGoodBeside, rechecking}
 use Rattle.node_commands.specs.Ticketing.{ticketing}

@@ -20,6 +20,7 @@ use Rattle.compact_node.specs.State.{stored_text}
 use Rattle.compact_node.proofs.Storing.{standing_is_written}
 use Rattle.compact_node.proofs.Throughout.{compact_is_full_throughout, verdicts_on-append, told_after, node_throughout, fresh-stands, fresh-node}
 use Rattle.state_text.specs.Stored.{state_text}
+use Rattle.node_commands.specs.Meaning.{AnyEvents}
 use Rattle.node_commands.specs.Answers.{bad_end, last_of, answer_with, served_feed}
 use Rattle.node_commands.specs.Follow.{line_of, follow_lines, answer_told, events_for, chain_events, follow_answer, full_text, full_answer, fresh_for}
 use Rattle.node_commands.specs.Follow.{AreTrue, IsAsOfFull, PrintsAsFull}
@@ -102,16 +103,18 @@ module _ (H : List ℕ → Digest) where
   -- what a call over the machine gave is what it gave of the node
   pub follow-serves : (node : NodeState) (f : Following) (net : Net) (bytes : ℕ) → f ≡ follower_of node → net ≡ node.rules.net
       → bytes ≡ node.rules.limits.bytes
-      → {feed feed' report report' out out' : Option (List ℕ)} (stopped : Bool) (status : Status)
-      → Serves (said_by (follow_machine H) f) (sent_by (follow_machine H) f) (served_feed (follow_machine H) f net bytes) net bytes feed feed' report
-      report' out out' stopped status
-      → Serves (follow_lines H node) (λ events. []) (follow_answer H node) node.rules.net bytes feed feed' report report' out out' stopped status
-  follow-serves node f net bytes e n b {feed} {feed'} {report} {report'} {out} {out'} stopped status s =
+      → {feed feed' report report' out out' : Option (List ℕ)} {wants : List FeedEvent → Type 0} {untouched : Type 0} (stopped : Bool)
+      (status : Status)
+      → Serves wants (said_by (follow_machine H) f) (sent_by (follow_machine H) f) (served_feed (follow_machine H) f net bytes) net bytes feed feed'
+      report report' out out' untouched stopped status
+      → Serves AnyEvents (follow_lines H node) (λ events. []) (follow_answer H node) node.rules.net bytes feed feed' report report' out out'
+      untouched stopped status
+  follow-serves node f net bytes e n b {feed} {feed'} {report} {report'} {out} {out'} {wants} {untouched} stopped status s =
       let m = follow_machine H in
-      Serves-same (λ events. said-told events f ∙ ap (λ g. flat_map line_of (verdicts g events)) e) (λ events. sent-none events f)
+      Serves-same (λ events w. tt) (λ events. said-told events f ∙ ap (λ g. flat_map line_of (verdicts g events)) e) (λ events. sent-none events f)
       (λ text. served-follow node f node.rules.net bytes e refl b text)
-      stopped status (subst (λ k. Serves (said_by m f) (sent_by m f) (served_feed m f k bytes) k bytes feed feed' report report' out out' stopped
-      status) n s)
+      stopped status (subst (λ k. Serves wants (said_by m f) (sent_by m f) (served_feed m f k bytes) k bytes feed feed' report report' out out'
+      untouched stopped status) n s)
 
   -- ---- beside the node that holds every output
 

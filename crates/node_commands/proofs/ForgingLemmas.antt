@@ -116,11 +116,11 @@ module _ (H : List ℕ → Digest) (scripts : List (List ℕ)) (rules : Rules) w
 
 -- ---- an event on which it has no verdict is forged
 
-record IsForgedNow (H : List ℕ → Digest) (scripts : List (List ℕ)) (rules : Rules) (t : State) (e : ChainEvent) : Type 0 where
-  block : Block
-  message : Message
-  is : e ≡ BlockCame (Some block) (read message)
-  forged : is_forged H scripts rules (chain_of t.now) t.now.history block (read message) ≡ true
+pub record IsForgedNow (H : List ℕ → Digest) (scripts : List (List ℕ)) (rules : Rules) (t : State) (e : ChainEvent) : Type 0 where
+  pub block : Block
+  pub message : Message
+  pub is : e ≡ BlockCame (Some block) (read message)
+  pub forged : is_forged H scripts rules (chain_of t.now) t.now.history block (read message) ≡ true
 
 module _ (H : List ℕ → Digest) (scripts : List (List ℕ)) (rules : Rules) where
   not_both : (x : Bool) → (x && false) ≡ true → ⊥
@@ -159,15 +159,15 @@ module _ (H : List ℕ → Digest) (scripts : List (List ℕ)) (rules : Rules) w
   forged-here t StrayCame none = absurd (none-some _ (sym none))
 
   -- the first of a list on which it has none
-  record HasForgedFrom (t : State) (events : List FeedEvent) : Type 0 where
-    front : List FeedEvent
-    event : FeedEvent
-    later : List FeedEvent
-    split : events ≡ front ++ event ∷ later
-    honest : never_stops rules (full_judge H scripts rules) t (map event_in front) ≡ true
-    now : IsForgedNow H scripts rules (full_after H scripts rules t (map event_in front)) (event_in event)
+  pub record HasForgedFrom (t : State) (events : List FeedEvent) : Type 0 where
+    pub front : List FeedEvent
+    pub event : FeedEvent
+    pub later : List FeedEvent
+    pub split : events ≡ front ++ event ∷ later
+    pub honest : never_stops rules (full_judge H scripts rules) t (map event_in front) ≡ true
+    pub now : IsForgedNow H scripts rules (full_after H scripts rules t (map event_in front)) (event_in event)
 
-  first-forged : (events : List FeedEvent) (t : State) → never_stops rules (full_judge H scripts rules) t (map event_in events) ≡ false
+  pub first-forged : (events : List FeedEvent) (t : State) → never_stops rules (full_judge H scripts rules) t (map event_in events) ≡ false
       → HasForgedFrom t events
   first-forged [] t stops = absurd (false≢true (sym stops))
   first-forged (event ∷ events) t stops =

@@ -4,6 +4,7 @@ use Rattle.std.proofs.Common.{arith, inl, inr}
 use Rattle.std.proofs.lemmas.Bool.{cases_lt}
 use Rattle.std.proofs.lemmas.List.{reverse-reverse, length-reverse, get_or-reverse, get_or_past}
 use Rattle.hex.proofs.HexLemmas.{decode_sized-encode_lower}
+use Rattle.uo_base.specs.FeedEvent.{FeedEvent}
 use Rattle.uo_base.specs.declared.event.Net.{Net}
 use Rattle.uo_base.specs.Reading.{IsBytes}
 use Rattle.uo_digest.specs.declared.digest.Digest.{Digest}
@@ -27,6 +28,7 @@ use Rattle.feed_run.specs.declared.status.Status.{Status}
 use Rattle.feed_run.specs.declared.status.Status.TheVariants.{AllAccepted}
 use Rattle.report_lines.specs.declared.line.Line.{Line}
 use Rattle.report_lines.specs.Lines.{whole_line}
+use Rattle.node_commands.specs.Meaning.{AnyEvents}
 use Rattle.node_commands.specs.Answers.{bad_end, last_of, answer_with, served_feed}
 use Rattle.node_commands.specs.Ordering.{hash_of_digits, fault_line, order_answer, OrdersFeed, PrintedIsNamed}
 use Rattle.node_commands.specs.Runs.{Serves}
@@ -53,12 +55,14 @@ served-order net limit tip s e feed =
 
 -- so what a call over it gave is this
 pub order-serves : (net : Net) (limit : ℕ) (tip : Digest) (s : OrderState) → s ≡ fresh_order net tip
-    → {feed feed' report report' out out' : Option (List ℕ)} (stopped : Bool) (status : Status)
-    → Serves (said_by order_machine s) (sent_by order_machine s) (served_feed order_machine s net limit) net limit feed feed' report report' out out'
-    stopped status
-    → Serves (λ events. []) (λ events. []) (order_answer net limit tip) net limit feed feed' report report' out out' stopped status
+    → {feed feed' report report' out out' : Option (List ℕ)} {wants : List FeedEvent → Type 0} {untouched : Type 0} (stopped : Bool)
+    (status : Status)
+    → Serves wants (said_by order_machine s) (sent_by order_machine s) (served_feed order_machine s net limit) net limit feed feed' report report'
+    out out' untouched stopped status
+    → Serves AnyEvents (λ events. []) (λ events. []) (order_answer net limit tip) net limit feed feed' report report' out out' untouched stopped
+    status
 order-serves net limit tip s e stopped status r =
-    Serves-same (λ events. said-is events s) (λ events. sent-is events s) (served-order net limit tip s e) stopped status r
+    Serves-same (λ events w. tt) (λ events. said-is events s) (λ events. sent-is events s) (served-order net limit tip s e) stopped status r
 
 -- ---- what is claimed
 

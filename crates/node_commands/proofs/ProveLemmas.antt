@@ -20,6 +20,7 @@ use Rattle.node_rules.proofs.Proving.{events_short}
 use Rattle.bridge_prover.specs.Bridge.{BridgeState, fresh_bridge, verdict_on, next_bridge, message_on}
 use Rattle.bridge_prover.specs.Throughout.{verdicts_on, bridge_after, passed_by, passed_by_bridge}
 use Rattle.bridge_prover.proofs.Throughout.{fresh_proves_throughout}
+use Rattle.node_commands.specs.Meaning.{AnyEvents}
 use Rattle.node_commands.specs.Answers.{answer_with, served_feed}
 use Rattle.node_commands.specs.Runs.{Serves}
 use Rattle.node_commands.specs.Follow.{line_of, rules_of}
@@ -121,17 +122,18 @@ module _ (H : List ℕ → Digest) where
 
     -- what a call over the machine gave is what it gave of the proving node
     pub prove-serves : (p : ProverState) → p ≡ fresh_prover net limits watch
-        → {feed feed' report report' out out' : Option (List ℕ)} (stopped : Bool) (status : Status)
-        → Serves (said_by (prove_machine H) p) (sent_by (prove_machine H) p) (served_feed (prove_machine H) p net limits.bytes) net limits.bytes feed
-        feed' report report' out out' stopped status
-        → Serves (λ events. flat_map line_of (proving_verdicts (rules_of limits net) events))
+        → {feed feed' report report' out out' : Option (List ℕ)} {wants : List FeedEvent → Type 0} {untouched : Type 0} (stopped : Bool)
+        (status : Status)
+        → Serves wants (said_by (prove_machine H) p) (sent_by (prove_machine H) p) (served_feed (prove_machine H) p net limits.bytes) net
+        limits.bytes feed feed' report report' out out' untouched stopped status
+        → Serves AnyEvents (λ events. flat_map line_of (proving_verdicts (rules_of limits net) events))
         (λ events. proving_text H watch (rules_of limits net) events) (prove_answer H limits net watch) net limits.bytes
-        feed feed' report report' out out' stopped status
-    prove-serves p e {feed} {feed'} {report} {report'} {out} {out'} stopped status s =
+        feed feed' report report' out out' untouched stopped status
+    prove-serves p e {feed} {feed'} {report} {report'} {out} {out'} {wants} {untouched} stopped status s =
         let m = prove_machine H in
-        Serves-same said-by sent-by served-fresh stopped status
-        (subst (λ q. Serves (said_by m q) (sent_by m q) (served_feed m q net limits.bytes) net limits.bytes feed feed' report report' out out' stopped
-        status) e s)
+        Serves-same (λ events w. tt) said-by sent-by served-fresh stopped status
+        (subst (λ q. Serves wants (said_by m q) (sent_by m q) (served_feed m q net limits.bytes) net limits.bytes feed feed' report report' out out'
+        untouched stopped status) e s)
 
   -- ---- what is passed on is no longer than its frames may be
 

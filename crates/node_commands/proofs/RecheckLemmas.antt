@@ -19,7 +19,7 @@ use Rattle.feed_frame.specs.declared.fault.FeedFault.{FeedFault}
 use Rattle.feed_frame.specs.Events.{events_of}
 use Rattle.feed_frame.proofs.FeedBytes.{IsMadeOfBytes, events_bytes}
 use Rattle.feed_run.specs.Answer.{Answer}
-use Rattle.feed_run.specs.Machine.{Machine, goes, says, left_by, said_by, sent_by, wanted_end, TakesAll}
+use Rattle.feed_run.specs.Machine.{Machine, goes, says, left_by, said_by, sent_by, wanted_end, TakesAll, TakesWanted, Wants}
 use Rattle.feed_run.specs.Status.{is_stop}
 use Rattle.feed_run.specs.declared.stop.Stop.{Stop}
 use Rattle.feed_frame.specs.Streamed.{KeepsUp}
@@ -52,6 +52,7 @@ use Rattle.ticket_check.specs.declared.checked.Checked.TheVariants as Said
 use Rattle.ticket_check.specs.Checking.{said_of, rechecked_by, recheck_of, IsRechecked}
 use Rattle.ticket_check.proofs.CheckLaws.{rechecked_is_right}
 use Rattle.ticket_check.proofs.TicketLaws.{ticket_fits}
+use Rattle.node_commands.specs.PriorText.{long_prior}
 use Rattle.node_commands.specs.declared.bad_input.BadInput.{BadInput}
 use Rattle.node_commands.specs.Answers.{bad_end, last_of, answer_with, served_feed}
 use Rattle.node_commands.specs.Auditor.{clash_text, end_unless}
@@ -59,12 +60,12 @@ use Rattle.node_commands.specs.Follow.{rules_of}
 use Rattle.node_commands.specs.Forging.{level_behind, AreTrueTo, IsForgedBehind}
 use Rattle.node_commands.specs.Meaning.{IsEnd}
 use Rattle.node_commands.specs.Rechecking.{RecheckerState, next_rechecker, machine_ending, silent_end, shown_text, shown_of, shown_line, recheck_end}
-use Rattle.node_commands.specs.Rechecking.{recheck_machine, Rechecked, with_list, recheck_start, long_prior, rechecker_of, recheck_answer}
+use Rattle.node_commands.specs.Rechecking.{recheck_machine, Rechecked, with_list, recheck_start, rechecker_of, recheck_answer}
 use Rattle.node_commands.specs.Rechecking.{RechecksOver, ShowsAlone, RechecksFeed, RechecksAsBegun}
-use Rattle.node_commands.specs.Runs.{Serves, status_in}
+use Rattle.node_commands.specs.Runs.{NoPort, Serves, status_in}
 use Rattle.node_commands.specs.Tickets.{told_as}
 use Rattle.report_lines.specs.declared.line.Line.{Line}
-use Rattle.node_commands.proofs.ServeLemmas.{OnOk-any, serves-last, Serves-same, Serves-quiet}
+use Rattle.node_commands.proofs.ServeLemmas.{wanted-same, OnOk-any, serves-last, Serves-same, Serves-quiet}
 use Rattle.node_commands.proofs.TicketLemmas.{told-quiet}
 use Rattle.node_commands.specs.Watching.{list_in}
 use Rattle.node_commands.proofs.AuditLemmas.{none-if, shown-none}
@@ -443,22 +444,28 @@ stores H r net limit text =
     (last-quiet (recheck_end H last) (bad_end (wanted_end (recheck_machine H) last events.ending)) (end-quiet H last))
 
 pub serves-quietly : (H : List ℕ → Digest) (r : RecheckerState) (net : Net) (limit : ℕ) {feed feed' report report' o o' : Option (List ℕ)}
-    (out : Option (List ℕ)) (stopped : Bool) (status : Status)
-    → Serves (said_by (recheck_machine H) r) (sent_by (recheck_machine H) r) (served_feed (recheck_machine H) r net limit) net limit feed feed' report
-    report' o o' stopped status
-    → Serves (said_by (recheck_machine H) r) (λ events. []) (served_feed (recheck_machine H) r net limit) net limit feed feed' report report' out out
-    stopped status
+    {wants : List FeedEvent → Type 0} {untouched : Type 0} (out : Option (List ℕ)) (stopped : Bool) (status : Status)
+    → Serves wants (said_by (recheck_machine H) r) (sent_by (recheck_machine H) r) (served_feed (recheck_machine H) r net limit) net limit feed feed'
+    report report' o o' untouched stopped status
+    → Serves wants (said_by (recheck_machine H) r) (λ events. []) (served_feed (recheck_machine H) r net limit) net limit feed feed' report report'
+    out out NoPort stopped status
 serves-quietly H r net limit {o = o} {o' = o'} out stopped status s =
     Serves-quiet (stores H r net limit) o o' out stopped status
-    (Serves-same (λ events. refl) (λ events. sent-none H events r) (λ text. refl) stopped status s)
+    (Serves-same (λ events w. w) (λ events. refl) (λ events. sent-none H events r) (λ text. refl) stopped status s)
 
 -- the handler of the events alone takes them as the machine does
 pub takes-all : (H : List ℕ → Digest) (start : RecheckerState) (net : Net) (limit : ℕ) (state : RecheckerState)
-    (feed report report' out out' : Option (List ℕ)) (ending : Option FeedFault)
-    → TakesAll (machine_ending H silent_end) start net limit state feed report report' out out' ending
-    → TakesAll (recheck_machine H) start net limit state feed report report' out out' ending
+    (feed report report' out out' : Option (List ℕ)) {untouched : Type 0} (ending : Option FeedFault)
+    → TakesAll (machine_ending H silent_end) start net limit state feed report report' out out' untouched ending
+    → TakesAll (recheck_machine H) start net limit state feed report report' out out' untouched ending
 takes-all H start net limit state feed report report' out out' ending t =
-    record { text = t.text; told = t.told; ends = t.ends; reached = t.reached; reported = t.reported; sent = t.sent }
+    record { text = t.text; told = t.told; ends = t.ends; reached = t.reached; reported = t.reported; sent = t.sent; quiet = t.quiet }
+
+-- and wants them as it does
+wants-all : (H : List ℕ → Digest) (start : RecheckerState) (events : List FeedEvent) → Wants (machine_ending H silent_end) start events
+    → Wants (recheck_machine H) start events
+wants-all H start [] w = tt
+wants-all H start (event ∷ events) w = (w.0, wants-all H ((recheck_machine H).next start event) events w.1)
 
 -- ---- what it begins with
 
@@ -479,27 +486,28 @@ start-read named limit prior watch list short is =
 -- by the rechecker that it begins with
 pub serves-begun : (H : List ℕ → Digest) (r begun : RecheckerState) (net : Net) (limit : ℕ) {feed feed' report report' out : Option (List ℕ)}
     (stopped : Bool) (status : Status) → r ≡ begun
-    → Serves (said_by (recheck_machine H) r) (λ events. []) (served_feed (recheck_machine H) r net limit) net limit feed feed' report report' out out
-    stopped status
-    → Serves (said_by (recheck_machine H) begun) (λ events. []) (served_feed (recheck_machine H) begun net limit) net limit feed feed' report report'
-    out out stopped status
+    → Serves (Wants (recheck_machine H) r) (said_by (recheck_machine H) r) (λ events. []) (served_feed (recheck_machine H) r net limit) net limit feed
+    feed' report report' out out NoPort stopped status
+    → Serves (λ events. Wants (recheck_machine H) begun events) (said_by (recheck_machine H) begun) (λ events. [])
+    (served_feed (recheck_machine H) begun net limit) net limit feed feed' report report' out out NoPort stopped status
 serves-begun H r begun net limit {feed = feed} {feed' = feed'} {report = report} {report' = report'} {out = out} stopped status e s =
-    subst (λ (x : RecheckerState). Serves (said_by (recheck_machine H) x) (λ events. []) (served_feed (recheck_machine H) x net limit) net limit feed
-    feed' report report' out out stopped status) e s
+    subst (λ (x : RecheckerState). Serves (Wants (recheck_machine H) x) (said_by (recheck_machine H) x) (λ events. [])
+    (served_feed (recheck_machine H) x net limit) net limit feed feed' report report' out out NoPort stopped status) e s
 
 -- all events were taken, and then the last line or a part of it was written
 pub serves-judged : (H : List ℕ → Digest) (start : RecheckerState) (net : Net) (limit : ℕ) (feed feed' report report' report'' o o' : Option (List ℕ))
-    (state : RecheckerState) (ending : Option FeedFault)
-    → TakesAll (machine_ending H silent_end) start net limit state feed report report' o o' ending → (is : Answer)
+    (state : RecheckerState) {untouched : Type 0} (ending : Option FeedFault)
+    → TakesAll (machine_ending H silent_end) start net limit state feed report report' o o' untouched ending → (is : Answer)
     → is ≡ last_of (recheck_end H state) (bad_end ending) → is.out ≡ [] → (out : Option (List ℕ))
     → (r : Result Status Stop) → IfOk r (λ status. status ≡ is.status) → OnOk r (Appends report' report'' is.report)
     → AppendsPart report' report'' is.report → (IsErrOf r Stop.ReadFault → ⊥)
     → KeepsUp (said_by (recheck_machine H) start) net limit feed feed' report report'
-    → Serves (said_by (recheck_machine H) start) (λ events. []) (served_feed (recheck_machine H) start net limit) net limit feed feed' report report''
-    out out (is_err r) (status_in r)
-serves-judged H start net limit feed feed' report report' report'' o o' state ending t is e quiet out r p q part never kept =
+    → TakesWanted (Wants (machine_ending H silent_end) start) net limit feed feed'
+    → Serves (Wants (recheck_machine H) start) (said_by (recheck_machine H) start) (λ events. []) (served_feed (recheck_machine H) start net limit)
+    net limit feed feed' report report'' out out NoPort (is_err r) (status_in r)
+serves-judged H start net limit feed feed' report report' report'' o o' state ending t is e quiet out r p q part never kept wanted =
     let none : Appends o' o' is.out = subst (Appends o' o') (sym quiet) (Appends-nil o') in
     serves-quietly H start net limit out (is_err r) (status_in r)
     (serves-last (recheck_machine H) start net limit feed feed' report report' report'' o o' o' state ending
     (takes-all H start net limit state feed report report' o o' ending t) is e r p q (OnOk-any r none) part (AppendsPart-none o' is.out)
-    (inr none) never kept)
+    (inr none) never kept (wanted-same (wants-all H start) wanted) (λ nothing same. same))

@@ -1,7 +1,8 @@
 -- What `relay` writes of a feed is what comes of the acts of its script.
-use Rattle.std.proofs.Common.{◌≡◌, ℕ, zero, suc, ◌+◌, ◌<◌, ◌≤◌, ◌^◌, Bool, true, false, cond, ◌||◌, List, [], ◌∷◌, ◌++◌, length, Option, Some, None}
+use Rattle.std.proofs.Common.{◌≡◌, ◌≢◌, ℕ, zero, suc, ◌+◌, ◌<◌, ◌≤◌, ◌^◌, Bool, true, false, cond, ◌||◌, List, [], ◌∷◌, ◌++◌, length, Option, Some, None}
 use Rattle.std.proofs.Common.{Result, Ok, Err, IfOk, OnOk, IsErr, IsErrOf, IsErrAnd, is_err, inr, refl, sym, ap, ap₂, subst, ◌∙◌, arith, append_assoc}
 use Rattle.std.proofs.Common.{append-nil}
+use Rattle.std.specs.Global.{Vec}
 use Rattle.std.specs.Prelude.{is_none, option_map, drop, slice_get, IfSome}
 use Rattle.std.specs.List.{AllByRecursion, list_any}
 use Rattle.std.specs.Io.KnownBytes.{Appends}
@@ -12,7 +13,6 @@ use Rattle.uo_base.specs.declared.event.Limits.{Limits}
 use Rattle.uo_base.specs.declared.event.Net.{Net}
 use Rattle.uo_base.specs.FeedEvent.{FeedEvent}
 use Rattle.uo_base.specs.Moved.{AppendsPart}
-use Rattle.uo_base.specs.Told.{Tells, IsLonger}
 use Rattle.uo_base.proofs.PortLemmas.{AppendsPart-none, told_text, Tells-told_text}
 use Rattle.uo_digest.specs.declared.digest.Digest.{Digest}
 use Rattle.bridge_prover.specs.Watched.{scripts_of}
@@ -22,15 +22,16 @@ use Rattle.feed_frame.specs.Events.{events_of}
 use Rattle.feed_frame.specs.Streamed.{WritesInOrder, WritesTaken, KeepsUp}
 use Rattle.feed_frame.proofs.FeedBytes.{IsMadeOfBytes, events_bytes}
 use Rattle.feed_run.specs.Answer.{Answer}
-use Rattle.feed_run.specs.Machine.{left_by, said_by, sent_by, TakesAll}
+use Rattle.feed_run.specs.Machine.{left_by, said_by, sent_by, TakesAll, TakesWanted, Wants}
 use Rattle.feed_run.specs.declared.stop.Stop.{Stop}
 use Rattle.feed_run.specs.Status.{status_of}
 use Rattle.feed_run.specs.declared.status.Status.{Status}
-use Rattle.feed_run.specs.declared.status.Status.TheVariants.{InputLimit}
+use Rattle.relay_core.specs.declared.act.Kind.TheVariants as Kind
 use Rattle.relay_core.specs.declared.act.Outcome.{Outcome}
+use Rattle.relay_core.specs.declared.act.Outcome.TheVariants.{Judged, Asked, Replied, Moved, Stale, Unknown}
 use Rattle.relay_core.specs.Acts.{WorldAct, BridgeTook, FollowerAsked, AskServed, ReplyDelivered, IsShortAct}
-use Rattle.relay_core.specs.Branches.{Begun, begun_world, AreActBytes}
-use Rattle.relay_core.proofs.Acting.{followers_are_on_branches}
+use Rattle.relay_core.specs.Branches.{Begun, begun_world, AreActBytes, StandsForActs, IsNotLost}
+use Rattle.relay_core.proofs.Acting.{acts_are_followed, followers_are_on_branches, no_reply_is_lost}
 use Rattle.relay_core.specs.World.{FollowerState, WorldState, fresh_world, next_world, outcome_on}
 use Rattle.relay_script.specs.declared.line.ScriptLine.{ScriptLine}
 use Rattle.relay_script.specs.declared.line.ScriptLine.TheVariants as Script
@@ -38,15 +39,18 @@ use Rattle.relay_script.specs.declared.script.ScriptFault.{ScriptFault}
 use Rattle.relay_script.specs.Reading.{IsTaken, script_in}
 use Rattle.report_lines.specs.declared.line.Line as Lines
 use Rattle.report_lines.specs.declared.line.Line.TheVariants as Line
+use Rattle.report_lines.specs.declared.line.ReplyKind.TheVariants as Said
 use Rattle.report_lines.specs.Lines.{whole_line}
+use Rattle.node_commands.specs.PriorText.{long_prior, prior_text, IsTextIn, IsPriorRead}
+use Rattle.node_commands.specs.Meaning.{AnyEvents}
 use Rattle.node_commands.specs.Answers.{bad_end, last_of}
 use Rattle.node_commands.specs.Relayer.{outcome_line, outcome_lines, is_undone, acts_of, script_acts, outcomes_of, world_behind, node_lines}
 use Rattle.node_commands.specs.Relayer.{relay_end, relay_answer, RelayState, fresh_relay, turn_of, behind_bridge, own_act, acted, relayed, next_relay}
 use Rattle.node_commands.specs.Relayer.{turn_lines, relay_last, relay_machine, relayed_feed, IsLineTaken, IsPlayed, node_line}
 use Rattle.node_commands.specs.declared.bad_input.BadInput.{BadInput}
-use Rattle.node_commands.specs.Relaying.{RelayStart, RelaysOnBranches, prior_text, IsPriorOf, script_by, script_of, script_start, lists_for}
+use Rattle.node_commands.specs.Relaying.{RelayStart, AreNotLost, RelaysOnBranches, IsScriptText, read_as, script_by, script_of, script_start, lists_for}
 use Rattle.node_commands.specs.Relaying.{relay_start}
-use Rattle.node_commands.specs.Runs.{Serves, status_in}
+use Rattle.node_commands.specs.Runs.{NoPort, Serves, status_in}
 use Rattle.node_commands.proofs.ForgingLemmas.{block_bytes}
 use Rattle.node_commands.proofs.FollowLemmas.{or_none, or_again}
 use Rattle.node_commands.proofs.ServeLemmas.{Ends, ends-stopped, ends-last, OnOk-any, Serves-same, Serves-quiet}
@@ -167,13 +171,13 @@ module _ (H : List ℕ → Digest) (limits : Limits) (net : Net) (lists : List (
 
   -- so what a call over it gave is this
   pub relay-serves : (r : RelayState) → r ≡ fresh_relay limits net lists script
-      → {feed feed' report report' out out' : Option (List ℕ)} (stopped : Bool) (status : Status)
-      → Serves (said_by (relay_machine H) r) (λ events. []) (relayed_feed H r net limits.bytes) net limits.bytes feed feed' report report' out out'
-      stopped status
-      → Serves (said_by (relay_machine H) (fresh_relay limits net lists script)) (λ events. []) (relay_answer H limits net lists script) net
-      limits.bytes feed feed' report report' out out' stopped status
+      → {feed feed' report report' out out' : Option (List ℕ)} {untouched : Type 0} (stopped : Bool) (status : Status)
+      → Serves AnyEvents (said_by (relay_machine H) r) (λ events. []) (relayed_feed H r net limits.bytes) net limits.bytes feed feed' report report'
+      out out' untouched stopped status
+      → Serves AnyEvents (said_by (relay_machine H) (fresh_relay limits net lists script)) (λ events. [])
+      (relay_answer H limits net lists script) net limits.bytes feed feed' report report' out out' untouched stopped status
   relay-serves r e stopped status s =
-      Serves-same (λ events. ap (λ t. said_by (relay_machine H) t events) e) (λ events. refl)
+      Serves-same (λ events w. w) (λ events. ap (λ t. said_by (relay_machine H) t events) e) (λ events. refl)
       (λ text. ap (λ t. relayed_feed H t net limits.bytes text) e ∙ relayed-is text) stopped status s
 
 -- ---- where the followers are
@@ -188,8 +192,28 @@ acts_bytes whole (Script.Ask f ∷ script) events h = (tt, acts_bytes whole scri
 acts_bytes whole (Script.Serve j ∷ script) events h = (tt, acts_bytes whole script events h)
 acts_bytes whole (Script.Deliver f j ∷ script) events h = (tt, acts_bytes whole script events h)
 
+line_not_lost : (o : Outcome) → IsNotLost o → (reply : ℕ) → outcome_line (Some o) ≢ Line.Replied reply Said.Lost
+line_not_lost (Judged verdict) not reply e = cc
+line_not_lost (Asked ask) not reply e = cc
+line_not_lost (Replied j (Kind.Next serial)) not reply e = cc
+line_not_lost (Replied j Kind.Same) not reply e = cc
+line_not_lost (Replied j (Kind.Back count)) not reply e = cc
+line_not_lost (Replied j Kind.Lost) not reply e = not j refl
+line_not_lost (Moved serial) not reply e = cc
+line_not_lost Stale not reply e = cc
+line_not_lost Unknown not reply e = cc
+
 module _ (H : List ℕ → Digest) (long : (x : List ℕ) → length (H x).0 ≡ 32) (limits : Limits) (few : limits.leaves < 2 ^ 40)
     (short : limits.bytes ≤ 2 ^ 48) (net : Net) (feed : List ℕ) where
+  not_lost : (begun : Begun) (before : List WorldAct) (w : WorldState) (acts : List (Option WorldAct)) → StandsForActs H begun before w
+      → AllByRecursion AreActBytes (somes acts) → AreNotLost (outcomes_of H w acts)
+  not_lost begun before w [] stands bytes = tt
+  not_lost begun before w (None ∷ acts) stands bytes = (λ reply e. cc, not_lost begun before w acts stands bytes)
+  not_lost begun before w (Some act ∷ acts) stands bytes = (
+    line_not_lost (outcome_on w act) (no_reply_is_lost H long begun before w stands act),
+    not_lost begun (before ++ act ∷ []) (next_world H w act) acts ((acts_are_followed H begun).1 before w act bytes.0 stands) bytes.1,
+  )
+
   on-branches : (start : RelayStart) → RelaysOnBranches H limits net start feed
   on-branches start = record {
     on_branches = λ bytes.
@@ -204,6 +228,12 @@ module _ (H : List ℕ → Digest) (long : (x : List ℕ) → length (H x).0 ≡
               acts_bytes (is_none events.ending) start.script events.events (events_bytes net limits.bytes feed bytes);
           is = refl;
         });
+    none_lost = λ bytes.
+        let begun : Begun = record { net = net; limits = limits; lists = start.lists } in
+        let events = events_of net limits.bytes feed in
+        not_lost begun [] (begun_world begun) (script_acts net limits.bytes start.script feed)
+        ((acts_are_followed H begun).0 few short)
+        (acts_bytes (is_none events.ending) start.script events.events (events_bytes net limits.bytes feed bytes));
   }
 
   pub relays-on-branches : (begun : Option (Result RelayStart BadInput))
@@ -225,26 +255,28 @@ module _ (H : List ℕ → Digest) (r : RelayState) (net : Net) (limit : ℕ) wh
   unfolding relayed_feed last_relayed
   relayed-ends text = record { answered = refl; reported = refl; sent = sym (ap (λ l. l ++ []) (sent-none H (events_of net limit text).events r)) }
 
-  pub relayed-quiet : {feed feed' report report' : Option (List ℕ)} (o o' out : Option (List ℕ)) (stopped : Bool) (status : Status)
-      → Serves (said_by (relay_machine H) r) (sent_by (relay_machine H) r) (relayed_feed H r net limit) net limit feed feed' report report' o o'
+  pub relayed-quiet : {feed feed' report report' : Option (List ℕ)} (o o' out : Option (List ℕ)) {wants : List FeedEvent → Type 0}
+      {untouched : Type 0} (stopped : Bool) (status : Status)
+      → Serves wants (said_by (relay_machine H) r) (sent_by (relay_machine H) r) (relayed_feed H r net limit) net limit feed feed' report report'
+      o o' untouched stopped status
+      → Serves AnyEvents (said_by (relay_machine H) r) (λ events. []) (relayed_feed H r net limit) net limit feed feed' report report' out out NoPort
       stopped status
-      → Serves (said_by (relay_machine H) r) (λ events. []) (relayed_feed H r net limit) net limit feed feed' report report' out out stopped status
   unfolding relayed_feed
   relayed-quiet o o' out stopped status s =
       Serves-quiet (λ text. refl) o o' out stopped status
-      (Serves-same (λ events. refl) (λ events. sent-none H events r) (λ text. refl) stopped status s)
+      (Serves-same (λ events w. tt) (λ events. refl) (λ events. sent-none H events r) (λ text. refl) stopped status s)
 
 -- what was written of a feed, and what comes last
 
 pub script-stopped : (H : List ℕ → Digest) (r : RelayState) (net : Net) (limit : ℕ) {feed feed' report report' o o' : Option (List ℕ)}
-    (res : Result Status Stop) (stop : Stop) → IsErr res → IsErrAnd res (λ e. e ≡ stop)
-    → WritesInOrder (said_by (relay_machine H) r) (sent_by (relay_machine H) r) net limit feed report report' o o'
+    {untouched : Type 0} (res : Result Status Stop) (stop : Stop) → IsErr res → IsErrAnd res (λ e. e ≡ stop)
+    → WritesInOrder (said_by (relay_machine H) r) (sent_by (relay_machine H) r) net limit feed report report' o o' untouched
     → (stop ≡ Stop.ReadFault → WritesTaken (said_by (relay_machine H) r) (sent_by (relay_machine H) r) net limit feed feed' report report' o o')
     → (stop ≡ Stop.WriteFault → KeepsUp (said_by (relay_machine H) r) net limit feed feed' report report')
-    → (out : Option (List ℕ)) → Serves (said_by (relay_machine H) r) (λ events. []) (relayed_feed H r net limit) net limit feed feed' report report'
-    out out (is_err res) (status_in res)
+    → (out : Option (List ℕ)) → Serves AnyEvents (said_by (relay_machine H) r) (λ events. []) (relayed_feed H r net limit) net limit feed feed' report
+    report' out out NoPort (is_err res) (status_in res)
 script-stopped H r net limit {feed} {feed'} {report} {report'} {o} {o'} res stop is h w taken at_once out =
-    relayed-quiet H r net limit o o' out (is_err res) (status_in res)
+    relayed-quiet H r net limit o o' out {wants = AnyEvents} (is_err res) (status_in res)
     (ends-stopped (relay_machine H) r net limit (relayed_feed H r net limit) (last_relayed H r net limit) (relayed-ends H r net limit) feed feed'
     report report' o o' res stop is h w taken at_once)
 
@@ -252,25 +284,26 @@ abbrev last_at : (List ℕ → Digest) → RelayState → Option FeedFault → A
 last_at H state ending = let last = relay_last H state ending in record { status = last.status; report = last.report; out = [] }
 
 last-is : (H : List ℕ → Digest) (r : RelayState) (net : Net) (limit : ℕ) (feed report report' o o' : Option (List ℕ)) (state : RelayState)
-    (ending : Option FeedFault)
-    (t : TakesAll (relay_machine H) r net limit state feed report report' o o' ending) → last_at H state ending ≡ last_relayed H r net limit t.text
+    {untouched : Type 0} (ending : Option FeedFault)
+    (t : TakesAll (relay_machine H) r net limit state feed report report' o o' untouched ending) → last_at H state ending ≡ last_relayed H r net limit t.text
 unfolding last_relayed
 last-is H r net limit feed report report' o o' state ending t = ap₂ (last_at H) t.reached t.ends
 
 pub script-last : (H : List ℕ → Digest) (r : RelayState) (net : Net) (limit : ℕ) {feed feed' report report' report'' o o' : Option (List ℕ)}
-    (state : RelayState) (ending : Option FeedFault)
-    → TakesAll (relay_machine H) r net limit state feed report report' o o' ending → (res : Result Status Stop)
+    (state : RelayState) {untouched : Type 0} (ending : Option FeedFault)
+    → TakesAll (relay_machine H) r net limit state feed report report' o o' untouched ending → (res : Result Status Stop)
     → IfOk res (λ status. status ≡ (relay_last H state ending).status) → OnOk res (Appends report' report'' (relay_last H state ending).report)
     → AppendsPart report' report'' (relay_last H state ending).report
     → (IsErrOf res Stop.ReadFault → ⊥) → KeepsUp (said_by (relay_machine H) r) net limit feed feed' report report'
-    → (out : Option (List ℕ)) → Serves (said_by (relay_machine H) r) (λ events. []) (relayed_feed H r net limit) net limit feed feed' report report''
-    out out (is_err res) (status_in res)
-script-last H r net limit {feed} {feed'} {report} {report'} {report''} {o} {o'} state ending t res p q part never kept out =
+    → TakesWanted (Wants (relay_machine H) r) net limit feed feed'
+    → (out : Option (List ℕ)) → Serves AnyEvents (said_by (relay_machine H) r) (λ events. []) (relayed_feed H r net limit) net limit feed feed' report
+    report'' out out NoPort (is_err res) (status_in res)
+script-last H r net limit {feed} {feed'} {report} {report'} {report''} {o} {o'} state ending t res p q part never kept wanted out =
     relayed-quiet H r net limit o o' out (is_err res) (status_in res)
     (ends-last (relay_machine H) r net limit (relayed_feed H r net limit) (last_relayed H r net limit) feed feed' report report' report'' o o' o'
     state ending t (relayed-ends H r net limit t.text)
     (last_at H state ending) (last-is H r net limit feed report report' o o' state ending t) res p q (OnOk-any res (Appends-nil o')) part
-    (AppendsPart-none o' []) (inr (Appends-nil o')) never kept)
+    (AppendsPart-none o' []) (inr (Appends-nil o')) never kept wanted (λ nothing same. same))
 
 -- ---- where a run begins
 
@@ -294,37 +327,30 @@ ok-then (Err e) x y z a b = tt
 
 -- ---- a script that is read
 
-pub prior-none : (named : Bool) (limit : ℕ) (left : Option (List ℕ)) → named ≡ false → IsPriorOf named limit left (Ok [])
+pub script-none : (named : Bool) (limit : ℕ) (left : Option (List ℕ)) → named ≡ false → IsScriptText named limit left (Ok [])
 unfolding prior_text
-prior-none named limit left e = record {
+script-none named limit left e = record {
   text = told_text left;
   told = Tells-told_text left;
   is = sym (ap (λ b. prior_text b limit (told_text left)) e);
 }
 
-pub prior-long : (named : Bool) (limit : ℕ) (left : Option (List ℕ)) → named ≡ true → IsLonger left limit
-    → IsPriorOf named limit left (Err (record { status = InputLimit; line = Line.LimitPrior limit }))
+script-is : (limit : ℕ) (text : List ℕ) (read : Result (Vec ℕ) BadInput) → IsTextIn limit text read
+    → read_as (λ (v : Vec ℕ). v.items) read ≡ prior_text true limit text
 unfolding prior_text
-prior-long named limit left e l =
-    let long = lt-ltb limit (length l.text) l.longer in
-    record {
-      text = l.text;
-      told = l.told_text;
-      is = sym (ap (λ b. prior_text b limit l.text) e
-          ∙ ap (λ b. cond b (Err (record { status = InputLimit; line = Line.LimitPrior limit })) (Ok l.text)) long);
-    }
+script-is limit text (Ok read) is =
+    ap (λ t. Ok t) is.0 ∙ sym (ap (λ b. cond b (Err (long_prior limit)) (Ok text)) (le-ltb limit (length text) is.1))
+script-is limit text (Err bad) is =
+    ap (λ b. Err b) is.0 ∙ sym (ap (λ b. cond b (Err (long_prior limit)) (Ok text)) (lt-ltb limit (length text) is.1))
 
-pub prior-read : (named : Bool) (limit : ℕ) (left : Option (List ℕ)) (text : List ℕ) → named ≡ true → Tells left text → length text ≤ limit
-    → IsPriorOf named limit left (Ok text)
-unfolding prior_text
-prior-read named limit left text e told short =
-    let fits = le-ltb limit (length text) short in
-    record {
-      text = text;
-      told = told;
-      is = sym (ap (λ b. prior_text b limit text) e ∙ ap (λ b. cond b (Err (record { status = InputLimit; line = Line.LimitPrior limit })) (Ok text))
-          fits);
-    }
+pub script-read : (named : Bool) (limit : ℕ) (left : Option (List ℕ)) {E : Type 0} (r : Result (Result (Vec ℕ) BadInput) E) → named ≡ true
+    → IfOk r (IsPriorRead limit left) → IfOk r (λ read. IsScriptText named limit left (read_as (λ (v : Vec ℕ). v.items) read))
+script-read named limit left (Ok read) e p = record {
+  text = p.text;
+  told = p.told;
+  is = script-is limit p.text read p.is ∙ sym (ap (λ b. prior_text b limit p.text) e);
+}
+script-read named limit left (Err stop) e p = tt
 
 -- ---- a line of a script
 

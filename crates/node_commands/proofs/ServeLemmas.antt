@@ -11,14 +11,14 @@ use Rattle.uo_base.proofs.PortLemmas.{AppendsPart-after, AppendsPart-front, Appe
 use Rattle.feed_frame.specs.declared.fault.FeedFault.{FeedFault}
 use Rattle.feed_frame.specs.Events.{events_of}
 use Rattle.feed_frame.specs.Streamed.{WritesInOrder, WritesTaken, KeepsUp}
-use Rattle.feed_frame.proofs.Progress.{written-append}
-use Rattle.feed_run.specs.Machine.{Machine, goes, says, left_by, said_by, sent_by, wanted_end, TakesAll}
+use Rattle.feed_run.specs.Machine.{Machine, goes, says, left_by, said_by, sent_by, wanted_end, TakesAll, Wants, TakesWanted}
+use Rattle.feed_frame.proofs.Progress.{written-append, front_none, back_none}
 use Rattle.feed_run.specs.Answer.{Answer}
 use Rattle.feed_run.specs.declared.status.Status.{Status}
 use Rattle.feed_run.specs.declared.stop.Stop.{Stop}
 use Rattle.report_lines.specs.declared.line.Line.{Line}
 use Rattle.node_commands.specs.Answers.{said, bad_end, last_of, served_feed}
-use Rattle.node_commands.specs.Runs.{Serves, stop_status, status_in}
+use Rattle.node_commands.specs.Runs.{NoPort, Serves, stop_status, status_in}
 
 -- what comes last
 pub last-line : (at_end : Answer) (ending : Option FeedFault) (status : Status) (line : Line) → bad_end ending ≡ Some (status, line)
@@ -54,11 +54,11 @@ pub record Ends {S : Type 0} (m : Machine S) (start : S) (net : Net) (limit : �
 
 module _ {S : Type 0} (m : Machine S) (start : S) (net : Net) (limit : ℕ) (answer last : List ℕ → Answer) (ends : (text : List ℕ)
     → Ends m start net limit answer last text)
-    (feed feed' report report' out out' : Option (List ℕ)) where
-  stopped-at : (stop : Stop) → WritesInOrder (said_by m start) (sent_by m start) net limit feed report report' out out'
+    (feed feed' report report' out out' : Option (List ℕ)) {wants : List FeedEvent → Type 0} {untouched : Type 0} where
+  stopped-at : (stop : Stop) → WritesInOrder (said_by m start) (sent_by m start) net limit feed report report' out out' untouched
       → (stop ≡ Stop.ReadFault → WritesTaken (said_by m start) (sent_by m start) net limit feed feed' report report' out out')
       → (stop ≡ Stop.WriteFault → KeepsUp (said_by m start) net limit feed feed' report report')
-      → Serves (said_by m start) (sent_by m start) answer net limit feed feed' report report' out out' true (stop_status stop)
+      → Serves wants (said_by m start) (sent_by m start) answer net limit feed feed' report report' out out' untouched true (stop_status stop)
   stopped-at stop w taken at_once =
       let all = ap (said_by m start) w.split ∙ written-append (goes m) (says m) start w.begun w.more in
       record {
@@ -74,18 +74,20 @@ module _ {S : Type 0} (m : Machine S) (start : S) (net : Net) (limit : ℕ) (ans
           said = inl w.reported;
           taken = λ e. taken (failed-so stop e);
           at_once = λ e. at_once (write-failed stop e);
+          quiet = λ none. w.quiet (front_none _ _ (sym (ends w.text).sent ∙ none));
         };
       }
 
   -- and an exit by `?` hands that on
   pub ends-stopped : (r : Result Status Stop) (stop : Stop) → IsErr r → IsErrAnd r (λ e. e ≡ stop)
-      → WritesInOrder (said_by m start) (sent_by m start) net limit feed report report' out out'
+      → WritesInOrder (said_by m start) (sent_by m start) net limit feed report report' out out' untouched
       → (stop ≡ Stop.ReadFault → WritesTaken (said_by m start) (sent_by m start) net limit feed feed' report report' out out')
       → (stop ≡ Stop.WriteFault → KeepsUp (said_by m start) net limit feed feed' report report')
-      → Serves (said_by m start) (sent_by m start) answer net limit feed feed' report report' out out' (is_err r) (status_in r)
+      → Serves wants (said_by m start) (sent_by m start) answer net limit feed feed' report report' out out' untouched (is_err r) (status_in r)
   ends-stopped (Ok status) stop is h w taken at_once = absurd (false≢true is)
   ends-stopped (Err e) stop is h w taken at_once =
-      subst (λ s. Serves (said_by m start) (sent_by m start) answer net limit feed feed' report report' out out' true (stop_status s)) (sym h)
+      subst (λ s. Serves wants (said_by m start) (sent_by m start) answer net limit feed feed' report report' out out' untouched true (stop_status s))
+      (sym h)
       (stopped-at stop w taken at_once)
 
 -- more is printed
@@ -108,7 +110,7 @@ kept-more lines net limit feed feed' report report' report'' k part = record {
 
 module _ {S : Type 0} (m : Machine S) (start : S) (net : Net) (limit : ℕ) (answer last : List ℕ → Answer)
     (feed feed' report report' report'' out out' out'' : Option (List ℕ)) (state : S)
-    (ending : Option FeedFault) (t : TakesAll m start net limit state feed report report' out out' ending)
+    (ending : Option FeedFault) {before : Type 0} (t : TakesAll m start net limit state feed report report' out out' before ending)
     (ends : Ends m start net limit answer last t.text) (is : Answer) (e : is ≡ last t.text) where
   reported_is : (answer t.text).report ≡ said_by m start (events_of net limit t.text).events ++ is.report
   reported_is = ends.reported ∙ ap (λ (a : Answer). said_by m start (events_of net limit t.text).events ++ a.report) (sym e)
@@ -123,23 +125,33 @@ module _ {S : Type 0} (m : Machine S) (start : S) (net : Net) (limit : ℕ) (ans
       (subst (Appends report report'') (append-nil _) (Appends-trans report report' report'' _ _ t.reported none)))
   said-then (inr all) = inr (subst (Appends out out'') (sym sent_is) (Appends-trans out out' out'' _ _ t.sent all))
 
+  -- where nothing is stored, nothing is stored of the events, and nothing behind them
+  quiet-then : {untouched : Type 0} → (is.out ≡ [] → before → untouched) → (answer t.text).out ≡ [] → untouched
+  quiet-then same none =
+      let all = sym sent_is ∙ none in
+      same (back_none _ _ all) (t.quiet (front_none _ _ all))
+
   -- and what comes last, or a part of it
-  pub ends-last : (r : Result Status Stop) → IfOk r (λ status. status ≡ is.status) → OnOk r (Appends report' report'' is.report)
+  pub ends-last : {untouched : Type 0} (r : Result Status Stop) → IfOk r (λ status. status ≡ is.status) → OnOk r (Appends report' report'' is.report)
       → OnOk r (Appends out' out'' is.out)
       → AppendsPart report' report'' is.report → AppendsPart out' out'' is.out → Appends report' report'' [] ⊎ Appends out' out'' is.out
       → (IsErrOf r Stop.ReadFault → ⊥)
-      → KeepsUp (said_by m start) net limit feed feed' report report'
-      → Serves (said_by m start) (sent_by m start) answer net limit feed feed' report report'' out out'' (is_err r) (status_in r)
-  ends-last (Ok status) p q s part_said part_sent order never kept = record {
+      → KeepsUp (said_by m start) net limit feed feed' report report' → TakesWanted (Wants m start) net limit feed feed'
+      → (is.out ≡ [] → before → untouched)
+      → Serves (Wants m start) (said_by m start) (sent_by m start) answer net limit feed feed' report report'' out out'' untouched (is_err r)
+      (status_in r)
+  ends-last (Ok status) p q s part_said part_sent order never kept wanted same = record {
     text = t.text;
     told = t.told;
     gives = record {
       answered = p ∙ (ap (λ (a : Answer). a.status) e ∙ sym ends.answered);
       reported = subst (Appends report report'') (sym reported_is) (Appends-trans report report' report'' _ _ t.reported q);
       sent = subst (Appends out out'') (sym sent_is) (Appends-trans out out' out'' _ _ t.sent s);
+      left = wanted;
+      quiet = λ none. quiet-then same none;
     };
   }
-  ends-last (Err stop) p q s part_said part_sent order never kept = record {
+  ends-last (Err stop) p q s part_said part_sent order never kept wanted same = record {
     text = t.text;
     told = t.told;
     gives = record {
@@ -154,6 +166,7 @@ module _ {S : Type 0} (m : Machine S) (start : S) (net : Net) (limit : ℕ) (ans
       said = said-then order;
       taken = λ f. absurd (never (ap Err (failed-so stop f)));
       at_once = λ f. kept-more _ _ _ _ _ report report' report'' kept part_said;
+      quiet = λ none. quiet-then same none;
     };
   }
 
@@ -170,18 +183,18 @@ module _ {S : Type 0} (m : Machine S) (start : S) (net : Net) (limit : ℕ) wher
   unfolding served_feed last_served
   served-ends text = record { answered = refl; reported = refl; sent = refl }
 
-  module _ (feed feed' report report' out out' : Option (List ℕ)) where
+  module _ (feed feed' report report' out out' : Option (List ℕ)) {wants : List FeedEvent → Type 0} {untouched : Type 0} where
     pub serves-stopped : (r : Result Status Stop) (stop : Stop) → IsErr r → IsErrAnd r (λ e. e ≡ stop)
-        → WritesInOrder (said_by m start) (sent_by m start) net limit feed report report' out out'
+        → WritesInOrder (said_by m start) (sent_by m start) net limit feed report report' out out' untouched
         → (stop ≡ Stop.ReadFault → WritesTaken (said_by m start) (sent_by m start) net limit feed feed' report report' out out')
         → (stop ≡ Stop.WriteFault → KeepsUp (said_by m start) net limit feed feed' report report')
-        → Serves (said_by m start) (sent_by m start) (served_feed m start net limit) net limit feed feed' report report' out out' (is_err r)
-        (status_in r)
+        → Serves wants (said_by m start) (sent_by m start) (served_feed m start net limit) net limit feed feed' report report' out out' untouched
+        (is_err r) (status_in r)
     serves-stopped r stop is h w taken at_once = ends-stopped m start net limit (served_feed m start net limit) last_served served-ends feed feed'
         report report' out out' r stop is h w taken at_once
 
   module _ (feed feed' report report' report'' out out' out'' : Option (List ℕ)) (state : S) (ending : Option FeedFault)
-      (t : TakesAll m start net limit state feed report report' out out' ending) (is : Answer)
+      {before : Type 0} (t : TakesAll m start net limit state feed report report' out out' before ending) (is : Answer)
       (e : is ≡ last_of (m.at_end state) (bad_end ending)) where
     same : is ≡ last_served t.text
     unfolding last_served
@@ -189,13 +202,14 @@ module _ {S : Type 0} (m : Machine S) (start : S) (net : Net) (limit : ℕ) wher
         e ∙ ap (λ e. last_of (m.at_end state) (bad_end e)) t.ends
         ∙ ap (λ s. last_of (m.at_end s) (bad_end (wanted_end m s (events_of net limit t.text).ending))) t.reached
 
-    pub serves-last : (r : Result Status Stop) → IfOk r (λ status. status ≡ is.status) → OnOk r (Appends report' report'' is.report)
+    pub serves-last : {untouched : Type 0} (r : Result Status Stop) → IfOk r (λ status. status ≡ is.status) → OnOk r (Appends report' report'' is.report)
         → OnOk r (Appends out' out'' is.out)
         → AppendsPart report' report'' is.report → AppendsPart out' out'' is.out → Appends report' report'' [] ⊎ Appends out' out'' is.out
         → (IsErrOf r Stop.ReadFault → ⊥)
-        → KeepsUp (said_by m start) net limit feed feed' report report'
-        → Serves (said_by m start) (sent_by m start) (served_feed m start net limit) net limit feed feed' report report'' out out'' (is_err r)
-        (status_in r)
+        → KeepsUp (said_by m start) net limit feed feed' report report' → TakesWanted (Wants m start) net limit feed feed'
+        → (is.out ≡ [] → before → untouched)
+        → Serves (Wants m start) (said_by m start) (sent_by m start) (served_feed m start net limit) net limit feed feed' report report'' out out''
+        untouched (is_err r) (status_in r)
     serves-last =
         ends-last m start net limit (served_feed m start net limit) last_served feed feed' report report' report'' out out' out'' state ending t
         (served-ends t.text) is same
@@ -237,12 +251,19 @@ kept-same lines lines' net limit feed feed' report report' same_lines k = record
   reported = subst (λ l. Appends report report' (l ++ k.begun)) (same_lines k.told) k.reported;
 }
 
-module _ {lines frames lines' frames' : List FeedEvent → List ℕ} {answer answer' : List ℕ → Answer} {net : Net} {limit : ℕ}
-    {feed feed' report report' out out' : Option (List ℕ)}
+-- the events are wanted by another name
+pub wanted-same : {wants wants' : List FeedEvent → Type 0} {net : Net} {limit : ℕ} {feed feed' : Option (List ℕ)}
+    → ((events : List FeedEvent) → wants events → wants' events) → TakesWanted wants net limit feed feed' → TakesWanted wants' net limit feed feed'
+wanted-same same t = record { taken = t.taken; lost = t.lost; wanted = same _ t.wanted }
+
+module _ {wants wants' : List FeedEvent → Type 0} {lines frames lines' frames' : List FeedEvent → List ℕ} {answer answer' : List ℕ → Answer}
+    {net : Net} {limit : ℕ} {feed feed' report report' out out' : Option (List ℕ)} {untouched : Type 0}
+    (same_wants : (events : List FeedEvent) → wants events → wants' events)
     (same_lines : (events : List FeedEvent) → lines events ≡ lines' events) (same_frames : (events : List FeedEvent) → frames events ≡ frames' events)
     (same_answer : (text : List ℕ) → answer text ≡ answer' text) where
-  pub Serves-same : (stopped : Bool) (status : Status) → Serves lines frames answer net limit feed feed' report report' out out' stopped status
-      → Serves lines' frames' answer' net limit feed feed' report report' out out' stopped status
+  pub Serves-same : (stopped : Bool) (status : Status)
+      → Serves wants lines frames answer net limit feed feed' report report' out out' untouched stopped status
+      → Serves wants' lines' frames' answer' net limit feed feed' report report' out out' untouched stopped status
   Serves-same true status s = record {
     text = s.text;
     told = s.told;
@@ -259,6 +280,7 @@ module _ {lines frames lines' frames' : List FeedEvent → List ℕ} {answer ans
       said = said-same lines lines' answer answer' report report' out out' same_lines same_answer s.gives.begun s.text s.gives.said;
       taken = λ f. taken-same lines frames lines' frames' net limit feed feed' report report' out out' same_lines same_frames (s.gives.taken f);
       at_once = λ f. kept-same lines lines' net limit feed feed' report report' same_lines (s.gives.at_once f);
+      quiet = λ none. s.gives.quiet (ap (λ a. a.out) (same_answer s.text) ∙ none);
     };
   }
   Serves-same false status s = record {
@@ -268,6 +290,8 @@ module _ {lines frames lines' frames' : List FeedEvent → List ℕ} {answer ans
       answered = s.gives.answered ∙ ap (λ a. a.status) (same_answer s.text);
       reported = subst (λ a. Appends report report' a.report) (same_answer s.text) s.gives.reported;
       sent = subst (λ a. Appends out out' a.out) (same_answer s.text) s.gives.sent;
+      left = wanted-same same_wants s.gives.left;
+      quiet = λ none. s.gives.quiet (ap (λ a. a.out) (same_answer s.text) ∙ none);
     };
   }
 
@@ -283,10 +307,12 @@ taken-quiet : (lines : List FeedEvent → List ℕ) (net : Net) (limit : ℕ) (f
 taken-quiet lines net limit feed feed' report report' o o' out w =
     record { taken = w.taken; lost = w.lost; further = w.further; reported = w.reported; sent = Appends-nil out }
 
-module _ {lines : List FeedEvent → List ℕ} {answer : List ℕ → Answer} {net : Net} {limit : ℕ} {feed feed' report report' : Option (List ℕ)}
-    (none : (text : List ℕ) → (answer text).out ≡ []) (o o' out : Option (List ℕ)) where
-  pub Serves-quiet : (stopped : Bool) (status : Status) → Serves lines (λ events. []) answer net limit feed feed' report report' o o' stopped status
-      → Serves lines (λ events. []) answer net limit feed feed' report report' out out stopped status
+module _ {wants : List FeedEvent → Type 0} {lines : List FeedEvent → List ℕ} {answer : List ℕ → Answer} {net : Net} {limit : ℕ}
+    {feed feed' report report' : Option (List ℕ)} {untouched : Type 0} (none : (text : List ℕ) → (answer text).out ≡ [])
+    (o o' out : Option (List ℕ)) where
+  pub Serves-quiet : (stopped : Bool) (status : Status)
+      → Serves wants lines (λ events. []) answer net limit feed feed' report report' o o' untouched stopped status
+      → Serves wants lines (λ events. []) answer net limit feed feed' report report' out out NoPort stopped status
   Serves-quiet true status s = record {
     text = s.text;
     told = s.told;
@@ -300,10 +326,17 @@ module _ {lines : List FeedEvent → List ℕ} {answer : List ℕ → Answer} {n
       said = said-quiet _ _ (none s.text) o o' out s.gives.said;
       taken = λ f. taken-quiet lines net limit feed feed' report report' o o' out (s.gives.taken f);
       at_once = s.gives.at_once;
+      quiet = λ nothing. tt;
     };
   }
   Serves-quiet false status s = record {
     text = s.text;
     told = s.told;
-    gives = record { answered = s.gives.answered; reported = s.gives.reported; sent = subst (Appends out out) (sym (none s.text)) (Appends-nil out) };
+    gives = record {
+      answered = s.gives.answered;
+      reported = s.gives.reported;
+      sent = subst (Appends out out) (sym (none s.text)) (Appends-nil out);
+      left = s.gives.left;
+      quiet = λ nothing. tt;
+    };
   }

@@ -1,12 +1,12 @@
 -- A run that goes on from a prior state.
-use Rattle.std.proofs.Common.{◌≡◌, inl, inr, ℕ, ◌<◌, ◌≤◌, ◌^◌, List, [], ◌∷◌, length, map, Option, Some, None, Result, Ok, Err, IfOk, refl, sym, ap₂}
+use Rattle.std.proofs.Common.{◌≡◌, inl, inr, ℕ, ◌<◌, ◌≤◌, ◌^◌, List, [], ◌∷◌, length, map, Option, Some, None, Result, Ok, Err, IfOk, sym, ap₂}
 use Rattle.std.proofs.Common.{subst, arith}
 use Rattle.std.specs.Prelude.{IfSome}
 use Rattle.std.specs.List.{AllByRecursion}
 use Rattle.uo_base.specs.declared.event.Limits.{Limits}
 use Rattle.uo_base.specs.declared.event.Net.{Net}
 use Rattle.uo_base.specs.FeedEvent.{FeedEvent}
-use Rattle.uo_base.specs.Told.{Tells, IsLonger}
+use Rattle.uo_base.specs.Told.{Tells}
 use Rattle.uo_digest.specs.declared.digest.Digest.{Digest}
 use Rattle.leaf_cache.specs.Watched.{AreWatched}
 use Rattle.node_rules.specs.Fitting.{AreEventBytes, EventFits}
@@ -100,9 +100,9 @@ resumes-as-full H long limits few prior feed (Some begun) m =
 
 -- ---- what is read
 
-pub starts-long : (H : List ℕ → Digest) (limits : Limits) (left : Option (List ℕ)) → IsLonger left limits.bytes
-    → IsStartOf H limits left (Err (record { status = InputLimit; line = LimitPrior limits.bytes }))
-starts-long H limits left l = record { text = l.text; told = l.told_text; is = inl (record { long = l.longer; is = refl }) }
+pub starts-long : (H : List ℕ → Digest) (limits : Limits) (left : Option (List ℕ)) (bad : BadInput) (text : List ℕ)
+    → Tells left text → bad ≡ record { status = InputLimit; line = LimitPrior limits.bytes } → limits.bytes < length text → IsStartOf H limits left (Err bad)
+starts-long H limits left bad text told is long = record { text = text; told = told; is = inl (record { long = long; is = is }) }
 
 pub starts-read : (H : List ℕ → Digest) (limits : Limits) (left : Option (List ℕ)) (text : List ℕ) → Tells left text
     → {E : Type 0} (r : Result Start E) → IfOk r (IsStart H limits text) → IfOk r (IsStartOf H limits left)

@@ -34,9 +34,9 @@ use Rattle.ticket_check.specs.Checking.{live_of, said_by, said_of, verdict_over,
 use Rattle.ticket_check.proofs.KeptTickets.{kept_tickets_are_right}
 use Rattle.ticket_check.proofs.CheckLaws.{checked_is_accepted, live_is_right}
 use Rattle.node_commands.specs.Answers.{said}
-use Rattle.node_commands.specs.Meaning.{IsEnd}
+use Rattle.node_commands.specs.Meaning.{AnyEvents, IsEnd}
 use Rattle.node_commands.specs.Checking.{check_answer, ChecksText}
-use Rattle.node_commands.specs.Runs.{Serves, status_in}
+use Rattle.node_commands.specs.Runs.{NoPort, Serves, status_in}
 use Rattle.node_commands.specs.Starting.{Start, IsStart}
 use Rattle.node_commands.specs.Ticketing.{ticketed, TicketIsRight}
 use Rattle.node_commands.specs.Tickets.{told_as, reached_by}
@@ -69,11 +69,17 @@ module _ (net : Net) (limit : ℕ) (answer : List ℕ → Answer) (quiet : (text
   pub serves-text : (text : List ℕ) → Tells feed text → (r : Result Status Stop) → IfOk r (λ status. status ≡ (answer text).status)
       → OnOk r (Appends report report' (answer text).report)
       → AppendsPart report report' (answer text).report → (IsErrOf r Stop.ReadFault → ⊥)
-      → Serves none none answer net limit feed feed' report report' out out (is_err r) (status_in r)
+      → Serves AnyEvents none none answer net limit feed feed' report report' out out NoPort (is_err r) (status_in r)
   serves-text text told (Ok status) p q part never = record {
     text = text;
     told = told;
-    gives = record { answered = p; reported = q; sent = subst (Appends out out) (sym (quiet text)) (Appends-nil out) };
+    gives = record {
+      answered = p;
+      reported = q;
+      sent = subst (Appends out out) (sym (quiet text)) (Appends-nil out);
+      left = record { taken = lost.taken; lost = lost.lost; wanted = tt };
+      quiet = λ nothing. tt;
+    };
   }
   serves-text text told (Err stop) p q part never = record {
     text = text;
@@ -88,6 +94,7 @@ module _ (net : Net) (limit : ℕ) (answer : List ℕ → Answer) (quiet : (text
       said = inr (subst (Appends out out) (sym (quiet text)) (Appends-nil out));
       taken = λ f. absurd (never (ap Err (failed-so stop f)));
       at_once = λ f. behind part;
+      quiet = λ nothing. tt;
     };
   }
 
@@ -95,7 +102,7 @@ module _ (net : Net) (limit : ℕ) (answer : List ℕ → Answer) (quiet : (text
   pub serves-as : (text : List ℕ) → Tells feed text → (is : Answer) → is ≡ answer text → (r : Result Status Stop)
       → IfOk r (λ status. status ≡ is.status) → OnOk r (Appends report report' is.report)
       → AppendsPart report report' is.report → (IsErrOf r Stop.ReadFault → ⊥)
-      → Serves none none answer net limit feed feed' report report' out out (is_err r) (status_in r)
+      → Serves AnyEvents none none answer net limit feed feed' report report' out out NoPort (is_err r) (status_in r)
   serves-as text told is same r p q part never =
       serves-text text told r (subst (λ (a : Answer). IfOk r (λ status. status ≡ a.status)) same p)
       (subst (λ (a : Answer). OnOk r (Appends report report' a.report)) same q)
@@ -103,7 +110,7 @@ module _ (net : Net) (limit : ℕ) (answer : List ℕ → Answer) (quiet : (text
 
   -- it was not read
   pub serves-unread : (stop : Stop) → (stop ≡ Stop.WriteFault → ⊥)
-      → Serves none none answer net limit feed feed' report report out out true (status_in (Err stop))
+      → Serves AnyEvents none none answer net limit feed feed' report report out out NoPort true (status_in (Err stop))
   serves-unread stop never = record {
     text = told_text feed;
     told = Tells-told_text feed;
@@ -117,6 +124,7 @@ module _ (net : Net) (limit : ℕ) (answer : List ℕ → Answer) (quiet : (text
       said = inr (subst (Appends out out) (sym (quiet (told_text feed))) (Appends-nil out));
       taken = λ f. untaken;
       at_once = λ f. absurd (never (write-failed stop f));
+      quiet = λ nothing. tt;
     };
   }
 

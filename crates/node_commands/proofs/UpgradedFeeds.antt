@@ -24,6 +24,7 @@ use Rattle.feed_upgrade.specs.Laws.{IsFollowedAlike}
 use Rattle.feed_upgrade.specs.Upgraded.{upgraded_events, old_beside, old_messages}
 use Rattle.feed_upgrade.specs.Upgrader.{Upgrading, upgrader_of, next_upgrader, upgraded_frames, upgrade_end, upgrade_machine}
 use Rattle.feed_upgrade.proofs.Following.{followed_alike}
+use Rattle.node_commands.specs.Meaning.{AnyEvents}
 use Rattle.node_commands.specs.Answers.{bad_end, last_of, answer_with, served_feed}
 use Rattle.node_commands.specs.Follow.{line_of, follow_lines, events_for, chain_events, follow_answer, fresh_for}
 use Rattle.node_commands.specs.Machine.{end_by, is_refused}
@@ -85,19 +86,20 @@ module _ (H : List ℕ → Digest) where
   -- what a call over the machine gave is what it gave of the node
   pub upgrade-serves : (node : NodeState) (u : Upgrading) (net : Net) (bytes : ℕ) → u ≡ upgrader_of node → node.rules.net ≡ net
       → node.rules.limits.bytes ≡ bytes
-      → {feed feed' report report' out out' : Option (List ℕ)} (stopped : Bool) (status : Status)
-      → Serves (said_by (upgrade_machine H) u) (sent_by (upgrade_machine H) u) (served_feed (upgrade_machine H) u net bytes) net bytes feed feed'
-      report report' out out' stopped status
-      → Serves (λ events. []) (upgraded_text H node) (upgrade_feed_answer H node) node.rules.net bytes feed feed' report report' out out' stopped
-      status
-  upgrade-serves node u net bytes e n b {feed} {feed'} {report} {report'} {out} {out'} stopped status s =
+      → {feed feed' report report' out out' : Option (List ℕ)} {wants : List FeedEvent → Type 0} {untouched : Type 0} (stopped : Bool)
+      (status : Status)
+      → Serves wants (said_by (upgrade_machine H) u) (sent_by (upgrade_machine H) u) (served_feed (upgrade_machine H) u net bytes) net bytes feed
+      feed' report report' out out' untouched stopped status
+      → Serves AnyEvents (λ events. []) (upgraded_text H node) (upgrade_feed_answer H node) node.rules.net bytes feed feed' report report' out out'
+      untouched stopped status
+  upgrade-serves node u net bytes e n b {feed} {feed'} {report} {report'} {out} {out'} {wants} {untouched} stopped status s =
       let m = upgrade_machine H in
-      Serves-same (λ events. said-none events u)
+      Serves-same (λ events w. tt) (λ events. said-none events u)
       (λ events. sent-upgraded events u ∙ ap (λ (v : Upgrading). feed_text v.net (upgraded_events H v.node events)) e)
       (λ text. ap (λ v. served_feed m v node.rules.net bytes text) e ∙ ap (λ k. served_feed m (upgrader_of node) node.rules.net k text) (sym b)
       ∙ served-node node text)
-      stopped status (subst (λ k. Serves (said_by m u) (sent_by m u) (served_feed m u k bytes) k bytes feed feed' report report' out out' stopped
-      status) (sym n) s)
+      stopped status (subst (λ k. Serves wants (said_by m u) (sent_by m u) (served_feed m u k bytes) k bytes feed feed' report report' out out'
+      untouched stopped status) (sym n) s)
 
   -- ---- what is stored is followed
 

@@ -5,7 +5,7 @@ use Rattle.uo_base.specs.declared.event.Net.{Net}
 use Rattle.uo_digest.specs.declared.digest.Digest.{Digest}
 use Rattle.bridge_prover.specs.Watched.{scripts_of}
 use Rattle.feed_run.specs.declared.status.Status.TheVariants.{Clash}
-use Rattle.feed_run.specs.Machine.{said_by}
+use Rattle.feed_run.specs.Machine.{said_by, Wants}
 use Rattle.node_commands.specs.Auditor.{fresh_auditor, audit_machine, audit_answer}
 use Rattle.node_commands.specs.Forging.{AuditsFeed}
 use Rattle.node_commands.specs.Meaning.{Meaning, IsEnd}
@@ -19,6 +19,7 @@ auditing H limits net named = record {
   Begun = Option (List (List ℕ));
   Begins = λ prior watch begun. begun ≡ list_in named limits.bytes watch;
   net = λ list. net;
+  wants = λ list events. Wants (audit_machine H) (fresh_auditor net limits (scripts_of list)) events;
   lines = λ list events. said_by (audit_machine H) (fresh_auditor net limits (scripts_of list)) events;
   frames = λ list events. [];
   answer = λ list. audit_answer H limits net (scripts_of list);

@@ -47,6 +47,7 @@ abbrev pub refuses : Option Verdict → Bool
 refuses None = false
 refuses (Some verdict) = is_refused verdict
 
+-- what it keeps behind an event
 unfoldable pub next_auditor : (List ℕ → Digest) → AuditorState → FeedEvent → AuditorState
 next_auditor H a event = record {
   audit = next_audit H a.audit (event_in event);
@@ -69,6 +70,7 @@ abbrev pub audited_text : (events : ℕ) → AuditLine → List ℕ
 audited_text events (Audited.Verdict verdict) = line_of verdict
 audited_text events (Audited.Clash c) = clash_text events (Some c)
 
+-- what it prints of an event
 unfoldable pub judged_line : (List ℕ → Digest) → AuditorState → FeedEvent → List ℕ
 judged_line H a event = judged_text (judged_of H a event) a.events (clash_on H a.audit.bridge (event_in event))
 
@@ -82,6 +84,7 @@ abbrev pub end_unless : (forged : Bool) → Answer → Answer
 end_unless true answer = record { status = Status.Clash; report = []; out = [] }
 end_unless false answer = answer
 
+-- what it says at the end of a feed, where it was told of no forged event
 abbrev pub audit_end : AuditorState → Answer
 audit_end a =
     let s = a.audit.bridge in
@@ -109,6 +112,7 @@ abbrev pub answer_unless : (forged : Bool) → (whole : Answer) → (lines clash
 answer_unless true whole lines clash = record { status = Status.Clash; report = lines ++ clash; out = [] }
 answer_unless false whole lines clash = whole
 
+-- where no event is forged the lines of the events and the last ones, and else those up to the first forged event, and its two texts
 unfoldable pub audit_answer : (List ℕ → Digest) → Limits → Net → (scripts : List (List ℕ)) → List ℕ → Answer
 audit_answer H limits net scripts feed =
     let events = events_of net limits.bytes feed in

@@ -12,7 +12,7 @@ use Rattle.ticket_check.specs.Reading.{ticket_in}
 use Rattle.ticket_check.specs.Judging.{TicketRight}
 use Rattle.ticket_check.specs.Checking.{live_of, checked_by, check_of, AcceptsOver, IsChecked}
 use Rattle.node_commands.specs.Answers.{said}
-use Rattle.node_commands.specs.Meaning.{Meaning, IsEnd}
+use Rattle.node_commands.specs.Meaning.{Meaning, IsEnd, AnyEvents}
 use Rattle.node_commands.specs.Starting.{Start, IsStart, IsUsable}
 use Rattle.node_commands.specs.Tickets.{told_as, IsStateAt}
 
@@ -32,12 +32,14 @@ abbrev pub ChecksText : (List ℕ → Digest) → Limits → (prior text : List 
 ChecksText H limits prior text (Ok node) = (k : Ticket) → ticket_in text ≡ Ok k → ChecksTicket H limits prior node k
 ChecksText H limits prior text (Err bad) = (level : Level) → IsStateAt H limits prior level → ⊥
 
+-- It prints what is said of the ticket in the feed over the newest level of the prior state, and stores nothing.
 abbrev pub checking : (List ℕ → Digest) → Limits → Meaning
 checking H limits = record {
   uses = record { feed = true; prior = true; watch = false; out = false; steps = true };
   Begun = NodeState;
   Begins = λ prior watch begun. IsStart H limits prior begun;
   net = λ node. node.rules.net;
+  wants = λ begun. AnyEvents;
   lines = λ node events. [];
   frames = λ node events. [];
   answer = check_answer H limits.bytes;

@@ -16,7 +16,7 @@ use Rattle.node_commands.specs.Auditing.{auditing}
 use Rattle.node_commands.specs.Checking.{checking}
 use Rattle.node_commands.specs.Following.{following_afresh, following_on}
 use Rattle.node_commands.specs.Generating.{generating}
-use Rattle.node_commands.specs.Meaning.{Meaning, IsEnd}
+use Rattle.node_commands.specs.Meaning.{Meaning, IsEnd, AnyEvents}
 use Rattle.node_commands.specs.Ordering.{hash_named, ordering}
 use Rattle.node_commands.specs.Prover.{proving}
 use Rattle.node_commands.specs.Relaying.{relaying}
@@ -29,12 +29,14 @@ use Rattle.node_commands.specs.UpgradingFeed.{upgrading_feed}
 abbrev pub bad_words : WordFault → BadInput
 bad_words fault = record { status = Words; line = Line.Words fault.at }
 
+-- refused words: that one line is all, and nothing is read or stored
 abbrev pub refusing : WordFault → Meaning
 refusing fault = record {
   uses = record { feed = false; prior = false; watch = false; out = false; steps = false };
   Begun = Unit {0};
   Begins = λ prior watch begun. begun ≡ Err (bad_words fault);
   net = λ begun. Main;
+  wants = λ begun. AnyEvents;
   lines = λ begun events. [];
   frames = λ begun events. [];
   answer = λ begun feed. said Words (Line.Words fault.at);
@@ -48,6 +50,7 @@ abbrev pub following_from : (resumed : Bool) → (List ℕ → Digest) → Limit
 following_from true H limits net named = following_on H limits
 following_from false H limits net named = following_afresh H limits net named
 
+-- what a command means with these options
 abbrev pub meaning_for : (List ℕ → Digest) → Limits → Task → Settings → Meaning
 meaning_for H limits Following s = following_from (is_some s.from) H limits (net_for s.net) (is_some s.watch)
 meaning_for H limits Proving s = proving H limits (net_for s.net) (is_some s.watch)
@@ -61,6 +64,7 @@ meaning_for H limits Checking s = checking H limits
 meaning_for H limits Rechecking s = rechecking H limits (net_for s.net) (is_some s.watch)
 meaning_for H limits (Relaying followers) s = relaying H limits followers (net_for s.net) (is_some s.from) (is_some s.watch)
 
+-- what is asked for, or the line on the words
 abbrev pub meaning_by : (List ℕ → Digest) → Limits → Result Asked WordFault → Meaning
 meaning_by H limits (Ok asked) = meaning_for H limits asked.task asked.given
 meaning_by H limits (Err fault) = refusing fault

@@ -21,6 +21,7 @@ use Rattle.node_commands.specs.Answers.{answer_with}
 use Rattle.report_lines.specs.Lines.{whole_line}
 use Rattle.node_commands.specs.Machine.{end_by, is_refused}
 
+-- the line of an event
 abbrev pub line_of : Verdict → List ℕ
 line_of verdict = whole_line (Line.Verdict verdict)
 
@@ -36,6 +37,7 @@ answer_told told chain stored events =
 abbrev pub events_for : Rules → List ℕ → Events
 events_for rules feed = events_of rules.net rules.limits.bytes feed
 
+-- the events, with their bytes read
 abbrev pub chain_events : Events → List ChainEvent
 chain_events events = map event_in events.events
 
@@ -61,6 +63,7 @@ full_answer H scripts rules s feed =
     let last = full_after H scripts rules s (chain_events events) in
     answer_told (full_verdicts H scripts rules s (chain_events events)) (chain_of last.now) (full_text H scripts rules last) events
 
+-- rules with this network and these limits
 abbrev pub rules_of : Limits → Net → Rules
 rules_of limits net = record { net = net; limits = limits }
 

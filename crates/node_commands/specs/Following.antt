@@ -6,8 +6,9 @@ use Rattle.uo_digest.specs.declared.digest.Digest.{Digest}
 use Rattle.compact_node.specs.Node.{NodeState}
 use Rattle.node_commands.specs.declared.bad_input.BadInput.{BadInput}
 use Rattle.node_commands.specs.Follow.{follow_lines, follow_answer, fresh_for, PrintsAsFull}
-use Rattle.node_commands.specs.Meaning.{Inputs, Meaning, Uses, IsEnd}
+use Rattle.node_commands.specs.Meaning.{Inputs, Meaning, Uses, IsEnd, AnyEvents}
 use Rattle.node_commands.specs.Proving.{FollowsProving}
+use Rattle.node_commands.specs.Plainly.{IsFollowedValid, IsResumedValid}
 use Rattle.node_commands.specs.Starting.{Start, IsStart, IsGoodBehind, ResumesAsFull}
 use Rattle.node_commands.specs.Watching.{list_in, IsGood}
 
@@ -19,6 +20,7 @@ following H uses begins claims good = record {
   Begun = NodeState;
   Begins = begins;
   net = λ node. node.rules.net;
+  wants = λ begun. AnyEvents;
   lines = follow_lines H;
   frames = λ node events. [];
   answer = follow_answer H;
@@ -32,20 +34,22 @@ abbrev pub fresh_start : Limits → Net → Result (Option (List (List ℕ))) Ba
 fresh_start limits net (Ok list) = Ok (fresh_for limits net list)
 fresh_start limits net (Err bad) = Err bad
 
--- From the start. What is answered is that of a node that holds every output, and over what a proving node wrote, with messages in full or lean ones
--- for the list, it has the lines of that node's accepted blocks and made rollbacks.
+-- From the start. What is said could be said by a node that holds every output and reads no proof, or `audit` shows two texts with one digest; what
+-- is answered is that of a node that holds every output and judges each proof by them; and over what a proving node wrote, with messages in full or
+-- lean ones for the list, it has the lines of that node's accepted blocks and made rollbacks.
 abbrev pub following_afresh : (List ℕ → Digest) → Limits → Net → (named : Bool) → Meaning
 following_afresh H limits net named =
     following H (record { feed = true; prior = false; watch = named; out = true; steps = true })
     (λ prior watch begun. begun ≡ fresh_start limits net (list_in named limits.bytes watch))
-    (λ inputs. IfOk (list_in named limits.bytes inputs.watch) (λ list. PrintsAsFull H limits net list inputs.feed
-    × FollowsProving H (fresh_for limits net list) inputs.feed))
+    (λ inputs. IfOk (list_in named limits.bytes inputs.watch) (λ list. IsFollowedValid H limits net list inputs.feed
+    × PrintsAsFull H limits net list inputs.feed × FollowsProving H (fresh_for limits net list) inputs.feed))
     (λ feed prior watch. IsGood named net limits watch feed)
 
--- from a prior state, with the network and the watch list of that state
+-- From a prior state, with the network and the watch list of that state. Where `follow` stored it, what was said since the start could be said by a
+-- node that reads no proof; where a node came to it that holds every output, what is answered is that of this node.
 abbrev pub following_on : (List ℕ → Digest) → Limits → Meaning
 following_on H limits =
     following H (record { feed = true; prior = true; watch = false; out = true; steps = true })
     (λ prior watch begun. IsStart H limits prior begun)
-    (λ inputs. ResumesAsFull H limits inputs.prior inputs.feed inputs.begun)
+    (λ inputs. IsResumedValid H limits inputs.prior inputs.feed inputs.begun × ResumesAsFull H limits inputs.prior inputs.feed inputs.begun)
     (λ feed prior watch. IsGoodBehind H limits prior feed)

@@ -28,9 +28,11 @@ use Rattle.node_commands.specs.Machine.{is_refused}
 
 -- ---- the node that holds every output and watches these scripts, over some events
 
+-- what it says of each event, up to the first that is forged
 abbrev pub told_by : (List ℕ → Digest) → Limits → Net → (scripts : List (List ℕ)) → List FeedEvent → List Verdict
 told_by H limits net scripts events = full_verdicts H scripts (rules_of limits net) start (map event_in events)
 
+-- its newest level then
 abbrev pub level_behind : (List ℕ → Digest) → Limits → Net → (scripts : List (List ℕ)) → List FeedEvent → Level
 level_behind H limits net scripts events = (full_after H scripts (rules_of limits net) start (map event_in events)).now
 

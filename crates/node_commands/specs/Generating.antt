@@ -10,7 +10,7 @@ use Rattle.feed_run.specs.declared.stop.Stop.{Stop}
 use Rattle.report_lines.specs.declared.line.Line.{Line}
 use Rattle.report_lines.specs.declared.line.Line.TheVariants.{Generated}
 use Rattle.report_lines.specs.Lines.{whole_line}
-use Rattle.node_commands.specs.Meaning.{Meaning, IsEnd}
+use Rattle.node_commands.specs.Meaning.{Meaning, IsEnd, AnyEvents}
 
 -- the line of a generated feed: its blocks, its rollbacks, its bytes
 abbrev pub generated_line : (number blocks : ℕ) → Net → Line
@@ -31,6 +31,7 @@ generating number blocks net = record {
   Begun = Unit {0};
   Begins = λ prior watch begun. begun ≡ Ok tt;
   net = λ begun. net;
+  wants = λ begun. AnyEvents;
   lines = λ begun events. [];
   frames = λ begun events. [];
   answer = λ begun feed. gen_answer number blocks net;

@@ -11,6 +11,8 @@ pub mod Generating
 pub mod Machine
 pub mod Meaning
 pub mod Ordering
+pub mod Plainly
+pub mod PriorText
 pub mod Prover
 pub mod Proving
 pub mod Rechecking

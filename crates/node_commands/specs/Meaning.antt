@@ -25,13 +25,19 @@ pub record Inputs (Begun : Type 0) : Type 0 where
   pub watch : List ℕ
   pub begun : Option (Result Begun BadInput)
 
+-- a command that reads its feed to the end wants any events
+abbrev pub AnyEvents : List FeedEvent → Type 0
+AnyEvents events = Unit {0}
+
 pub record Meaning : Type 1 where
   pub uses : Uses
   -- what it begins with, and that it is this with a prior state and a watch list of these bytes
   pub Begun : Type 0
   pub Begins : (prior watch : List ℕ) → Result Begun BadInput → Type 0
-  -- the network of the feed, what is printed and what is stored of some first events of it, and the whole answer to a feed
+  -- the network of the feed, whether some first events of it are all wanted, what is printed and what is stored of them, and the whole answer to
+  -- a feed
   pub net : Begun → Net
+  pub wants : Begun → List FeedEvent → Type 0
   pub lines : Begun → List FeedEvent → List ℕ
   pub frames : Begun → List FeedEvent → List ℕ
   pub answer : Begun → List ℕ → Answer

@@ -20,7 +20,7 @@ use Rattle.order_laws.specs.Links.{LinksUp}
 use Rattle.report_lines.specs.declared.line.Line.{Line}
 use Rattle.report_lines.specs.Lines.{whole_line, hash_text}
 use Rattle.node_commands.specs.Answers.{answer_with}
-use Rattle.node_commands.specs.Meaning.{Meaning, IsEnd}
+use Rattle.node_commands.specs.Meaning.{Meaning, IsEnd, AnyEvents}
 
 -- ---- the tip
 
@@ -29,6 +29,7 @@ abbrev pub hash_of_digits : Result (List ℕ) FromHexError → Digest
 hash_of_digits (Ok bytes) = record { 0 = reverse bytes }
 hash_of_digits (Err fault) = no_hash
 
+-- the hash that a word names
 abbrev pub hash_named : (word : List ℕ) → Digest
 hash_named word = hash_of_digits (decode_sized word 32)
 
@@ -74,10 +75,11 @@ pub record OrdersFeed (net : Net) (limit : ℕ) (tip : Digest) (feed : List ℕ)
 -- it tells no event, and stores nothing before the feed was read to its end
 abbrev pub ordering : (limit : ℕ) → Net → (tip : Digest) → Meaning
 ordering limit net tip = record {
-  uses = record { feed = true; prior = false; watch = false; out = true; steps = true };
+  uses = record { feed = true; prior = false; watch = false; out = true; steps = false };
   Begun = Unit {0};
   Begins = λ prior watch begun. begun ≡ Ok tt;
   net = λ begun. net;
+  wants = λ begun. AnyEvents;
   lines = λ begun events. [];
   frames = λ begun events. [];
   answer = λ begun. order_answer net limit tip;

@@ -20,7 +20,7 @@ use Rattle.report_lines.specs.Lines.{whole_line}
 use Rattle.node_commands.specs.Answers.{answer_with}
 use Rattle.node_commands.specs.Follow.{line_of, rules_of}
 use Rattle.node_commands.specs.Machine.{is_refused, follow_end}
-use Rattle.node_commands.specs.Meaning.{Meaning, IsEnd}
+use Rattle.node_commands.specs.Meaning.{Meaning, IsEnd, AnyEvents}
 use Rattle.node_commands.specs.Proving.{proving_text, proving_verdicts, proving_chain}
 use Rattle.node_commands.specs.Watching.{list_in, IsGood}
 
@@ -78,6 +78,7 @@ prove_machine H = record {
 
 -- ---- what `prove` answers to a feed: what the proving node says of each event, and what it writes of them
 
+-- a line for each event and the last line; and what that node writes is stored
 unfoldable pub prove_answer : (List ℕ → Digest) → Limits → Net → Option (List (List ℕ)) → List ℕ → Answer
 prove_answer H limits net watch feed =
     let events = events_of net limits.bytes feed in
@@ -93,6 +94,7 @@ proving H limits net named = record {
   Begun = Option (List (List ℕ));
   Begins = λ prior watch begun. begun ≡ list_in named limits.bytes watch;
   net = λ list. net;
+  wants = λ begun. AnyEvents;
   lines = λ list events. flat_map line_of (proving_verdicts (rules_of limits net) events);
   frames = λ list events. proving_text H list (rules_of limits net) events;
   answer = prove_answer H limits net;

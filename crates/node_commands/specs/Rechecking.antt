@@ -1,13 +1,11 @@
 -- What `recheck` answers to a ticket and a feed, and what it means.
-use Rattle.std.specs.Prelude.{◌≡◌, ◌⊎◌, ◌≤◌, ◌<◌, ℕ, ◌+◌, nat_lt, Bool, true, false, List, [], ◌∷◌, ◌++◌, length, Some, None, Result, Ok, Err}
+use Rattle.std.specs.Prelude.{◌≡◌, ◌⊎◌, ◌≤◌, ℕ, ◌+◌, nat_lt, Bool, true, false, List, [], ◌∷◌, ◌++◌, length, Some, None, Result, Ok, Err}
 use Rattle.std.specs.Prelude.{if◌then◌else◌}
 use Rattle.std.specs.declared.option.Option.{Option}
-use Rattle.std.specs.Global.{Vec}
 use Rattle.uo_base.specs.declared.event.Limits.{Limits}
 use Rattle.uo_base.specs.declared.event.Net.{Net}
 use Rattle.uo_base.specs.FeedEvent.{FeedEvent}
 use Rattle.uo_base.specs.Reading.{IsBytes}
-use Rattle.uo_base.specs.Told.{Tells}
 use Rattle.uo_digest.specs.declared.digest.Digest.{Digest}
 use Rattle.block_codec.specs.Block.{Block}
 use Rattle.block_rules.specs.Blocks.{external}
@@ -24,15 +22,15 @@ use Rattle.audit_replay.specs.declared.audit.AuditLine.TheVariants as Audited
 use Rattle.audit_replay.specs.Audit.{AuditState, fresh_audit, next_audit, clash_on}
 use Rattle.feed_frame.specs.Events.{events_of}
 use Rattle.feed_run.specs.Answer.{Answer}
-use Rattle.feed_run.specs.Machine.{Machine, said_by}
+use Rattle.feed_run.specs.Machine.{Machine, said_by, Wants}
 use Rattle.feed_run.specs.declared.status.Status.TheVariants as Status
-use Rattle.report_lines.specs.declared.line.Line.TheVariants as Line
 use Rattle.report_lines.specs.Lines.{clash_lines}
 use Rattle.ticket_check.specs.Tickets.{Ticket}
 use Rattle.ticket_check.specs.Reading.{ticket_in}
 use Rattle.ticket_check.specs.declared.fault.TicketFault.{TicketFault}
 use Rattle.ticket_check.specs.declared.checked.Checked.{Checked}
 use Rattle.ticket_check.specs.Checking.{recheck_of, fault_said, IsRechecked}
+use Rattle.node_commands.specs.PriorText.{long_prior}
 use Rattle.node_commands.specs.declared.bad_input.BadInput.{BadInput}
 use Rattle.node_commands.specs.Answers.{served_feed}
 use Rattle.node_commands.specs.Auditor.{clash_text, end_unless}
@@ -43,14 +41,17 @@ use Rattle.node_commands.specs.Watching.{list_in}
 
 -- ---- the machine: an auditor, how many events it was told, and the text of a ticket
 
+-- what contracts see of `Rechecker`
 pub record RecheckerState : Type 0 where
   pub audit : AuditState
   pub events : ℕ
   pub ticket : List ℕ
 
+-- it was told of no event
 abbrev pub fresh_rechecker : Net → Limits → List (List ℕ) → (ticket : List ℕ) → RecheckerState
 fresh_rechecker net limits scripts ticket = record { audit = fresh_audit net limits scripts; events = 0; ticket = ticket }
 
+-- what it keeps behind an event
 unfoldable pub next_rechecker : (List ℕ → Digest) → RecheckerState → FeedEvent → RecheckerState
 next_rechecker H r event = record { audit = next_audit H r.audit (event_in event); events = r.events + 1; ticket = r.ticket }
 
@@ -64,6 +65,7 @@ abbrev pub shown_of : (events : ℕ) → AuditLine → List ℕ
 shown_of events (Audited.Verdict verdict) = []
 shown_of events (Audited.Clash c) = clash_text events (Some c)
 
+-- what it prints of an event
 unfoldable pub shown_line : (List ℕ → Digest) → RecheckerState → FeedEvent → List ℕ
 shown_line H r event = shown_text (judged_on H r.audit.bridge (event_in event)) r.events (clash_on H r.audit.bridge (event_in event))
 
@@ -82,6 +84,7 @@ machine_ending H at_end = record {
   count = λ r. r.events;
 }
 
+-- with what is said of the ticket at the end
 abbrev pub recheck_machine : (List ℕ → Digest) → Machine RecheckerState
 recheck_machine H = machine_ending H (recheck_end H)
 
@@ -91,13 +94,12 @@ silent_end r = record { status = Status.AllAccepted; report = []; out = [] }
 
 -- ---- what it begins with
 
+-- the text of a ticket, and the watch list that is named
 pub record Rechecked : Type 0 where
   pub ticket : List ℕ
   pub list : Option (List (List ℕ))
 
-abbrev pub long_prior : (limit : ℕ) → BadInput
-long_prior limit = record { status = Status.InputLimit; line = Line.LimitPrior limit }
-
+-- the ticket with the list, or why the list can not be used
 abbrev pub with_list : (ticket : List ℕ) → Result (Option (List (List ℕ))) BadInput → Result Rechecked BadInput
 with_list ticket (Ok list) = Ok (record { ticket = ticket; list = list })
 with_list ticket (Err bad) = Err bad
@@ -106,19 +108,11 @@ with_list ticket (Err bad) = Err bad
 unfoldable pub recheck_start : (named : Bool) → (limit : ℕ) → (prior watch : List ℕ) → Result Rechecked BadInput
 recheck_start named limit prior watch = if nat_lt limit (length prior) then Err (long_prior limit) else with_list prior (list_in named limit watch)
 
--- the ticket is the text that is told, or that has too many bytes
-abbrev pub IsTextIn : (limit : ℕ) → List ℕ → Result (Vec ℕ) BadInput → Type 0
-IsTextIn limit text (Ok read) = (read.items ≡ text) × (length text ≤ limit)
-IsTextIn limit text (Err bad) = (bad ≡ long_prior limit) × (limit < length text)
-
-pub record IsTicketText (limit : ℕ) (left : Option (List ℕ)) (read : Result (Vec ℕ) BadInput) : Type 0 where
-  pub text : List ℕ
-  pub told : Tells left text
-  pub is : IsTextIn limit text read
-
+-- the machine that begins with these
 abbrev pub rechecker_of : Limits → Net → Rechecked → RecheckerState
 rechecker_of limits net begun = fresh_rechecker net limits (scripts_of begun.list) begun.ticket
 
+-- what it answers to a feed
 abbrev pub recheck_answer : (List ℕ → Digest) → Limits → Net → Rechecked → List ℕ → Answer
 recheck_answer H limits net begun = served_feed (recheck_machine H) (rechecker_of limits net begun) net limits.bytes
 
@@ -150,6 +144,7 @@ pub record RechecksFeed (H : List ℕ → Digest) (limits : Limits) (net : Net) 
       (f : IsForgedBehind H limits net scripts front event)
       → ShowsAlone H (level_behind H limits net scripts front) (length front) f.block f.message scripts (recheck_answer H limits net begun feed)
 
+-- the same, where it began
 abbrev pub RechecksAsBegun : (List ℕ → Digest) → Limits → Net → (feed : List ℕ) → Result Rechecked BadInput → Type 0
 RechecksAsBegun H limits net feed (Ok begun) = RechecksFeed H limits net begun feed
 RechecksAsBegun H limits net feed (Err bad) = Unit {0}
@@ -161,12 +156,14 @@ pub record IsGoodBeside (named : Bool) (net : Net) (limits : Limits) (prior list
   pub usable : list_in named limits.bytes list ≡ Ok scripts
   pub whole : (events_of net limits.bytes feed).ending ≡ None
 
+-- It prints what is said of the ticket behind the feed, or at the first forged event what `audit` shows, and stores nothing.
 abbrev pub rechecking : (List ℕ → Digest) → Limits → Net → (named : Bool) → Meaning
 rechecking H limits net named = record {
   uses = record { feed = true; prior = true; watch = named; out = false; steps = true };
   Begun = Rechecked;
   Begins = λ prior watch begun. begun ≡ recheck_start named limits.bytes prior watch;
   net = λ begun. net;
+  wants = λ begun events. Wants (recheck_machine H) (rechecker_of limits net begun) events;
   lines = λ begun events. said_by (recheck_machine H) (rechecker_of limits net begun) events;
   frames = λ begun events. [];
   answer = recheck_answer H limits net;

@@ -30,12 +30,14 @@ use Rattle.node_commands.specs.Machine.{is_refused, tip_of, end_line}
 
 -- ---- what comes of an act: nothing where a bridge has no event to take
 
+-- what the bridge replied, as it is printed
 abbrev pub reply_kind : Kind → ReplyKind
 reply_kind (Next serial) = Said.Next
 reply_kind Same = Said.Same
 reply_kind (Back count) = Said.Back count
 reply_kind Lost = Said.Lost
 
+-- the line of an act
 abbrev pub outcome_line : Option Outcome → Line
 outcome_line None = Line.NoEvent
 outcome_line (Some (Judged verdict)) = Line.Verdict verdict
@@ -45,6 +47,7 @@ outcome_line (Some (Moved serial)) = Line.Moved serial
 outcome_line (Some Stale) = Line.Stale
 outcome_line (Some Unknown) = Line.Unknown
 
+-- the lines of some acts
 abbrev pub outcome_lines : List (Option Outcome) → List ℕ
 outcome_lines outcomes = flat_map (λ o. whole_line (outcome_line o)) outcomes
 
@@ -90,6 +93,7 @@ world_behind H w acts = world_after H w (somes acts)
 abbrev pub node_line : (follower : ℕ) → FollowerState → Line
 node_line follower x = let chain = x.node.newest.chain in Line.Node follower (newest_of x.serials) (tip_of chain) chain.leaves
 
+-- a line for each follower, from this number on
 abbrev pub node_lines : (first : ℕ) → List FollowerState → List ℕ
 node_lines first [] = []
 node_lines first (x ∷ xs) = whole_line (node_line first x) ++ node_lines (first + 1) xs
@@ -119,6 +123,7 @@ pub record RelayState : Type 0 where
   pub lines : ℕ
   pub refused : Bool
 
+-- nothing of the script is done
 abbrev pub fresh_relay : Limits → Net → (lists : List (List (List ℕ))) → List ScriptLine → RelayState
 fresh_relay limits net lists script = record { world = fresh_world net limits lists; script = script; lines = length script; refused = false }
 
@@ -154,6 +159,7 @@ acted H r act = record {
   refused = r.refused || is_undone (Some (outcome_on r.world act));
 }
 
+-- behind some acts, with what is left of the script
 abbrev pub relayed : (List ℕ → Digest) → RelayState → List (Option WorldAct) → (left : List ScriptLine) → RelayState
 relayed H r acts left = record {
   world = world_behind H r.world acts;
@@ -162,9 +168,11 @@ relayed H r acts left = record {
   refused = r.refused || list_any is_undone (outcomes_of H r.world acts);
 }
 
+-- behind the acts up to the bridge that takes this event
 unfoldable pub next_relay : (List ℕ → Digest) → RelayState → FeedEvent → RelayState
 next_relay H r event = relayed H r (turn_of event r.script) (behind_bridge r.script)
 
+-- the lines of these acts
 unfoldable pub turn_lines : (List ℕ → Digest) → RelayState → FeedEvent → List ℕ
 turn_lines H r event = outcome_lines (outcomes_of H r.world (turn_of event r.script))
 

@@ -56,6 +56,7 @@ pub record IsNone (H : List ℕ → Digest) (limits : Limits) (text : List ℕ) 
   pub no_other : (version : ℕ) → IsOfVersion version text → ⊥
   pub is : bad ≡ record { status = Status.Prior; line = Line.PriorForm }
 
+-- this is what is read of a text: the node that it says, or why there is none
 abbrev pub IsStart : (List ℕ → Digest) → Limits → List ℕ → Start → Type 0
 IsStart H limits text (Ok node) = IsNodeOf H limits text node
 IsStart H limits text (Err bad) = IsLong limits text bad ⊎ IsOther limits text bad ⊎ IsNone H limits text bad

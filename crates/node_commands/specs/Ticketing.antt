@@ -12,7 +12,7 @@ use Rattle.ticket_check.specs.Tickets.{Ticket, ticket_text}
 use Rattle.ticket_check.specs.Judging.{TicketRight}
 use Rattle.ticket_check.specs.Written.{ticket_of}
 use Rattle.node_commands.specs.Answers.{said}
-use Rattle.node_commands.specs.Meaning.{Meaning, IsEnd}
+use Rattle.node_commands.specs.Meaning.{Meaning, IsEnd, AnyEvents}
 use Rattle.node_commands.specs.Starting.{Start, IsStart, IsUsable}
 use Rattle.node_commands.specs.Tickets.{IsStateAt}
 
@@ -38,6 +38,7 @@ ticketing H limits number = record {
   Begun = NodeState;
   Begins = λ prior watch begun. IsStart H limits prior begun;
   net = λ node. node.rules.net;
+  wants = λ begun. AnyEvents;
   lines = λ node events. [];
   frames = λ node events. [];
   answer = λ node feed. ticket_answer number node;

@@ -12,7 +12,7 @@ use Rattle.feed_run.specs.Status.{is_stop}
 use Rattle.report_lines.specs.declared.line.Line.TheVariants.{UpgradedState}
 use Rattle.report_lines.specs.Lines.{whole_line}
 use Rattle.node_commands.specs.Answers.{said}
-use Rattle.node_commands.specs.Meaning.{Meaning}
+use Rattle.node_commands.specs.Meaning.{Meaning, AnyEvents}
 use Rattle.node_commands.specs.Starting.{Start, IsStart, IsUsable}
 
 -- how many levels there are, and what is stored of them
@@ -40,6 +40,7 @@ upgrading_state H limits = record {
   Begun = NodeState;
   Begins = λ prior watch begun. IsStart H limits prior begun;
   net = λ node. node.rules.net;
+  wants = λ begun. AnyEvents;
   lines = λ node events. [];
   frames = λ node events. [];
   answer = λ node feed. upgraded (suc (length node.older)) (stored_text node);

@@ -15,7 +15,7 @@ use Rattle.feed_upgrade.specs.Upgrader.{upgrade_end}
 use Rattle.node_commands.specs.Answers.{answer_with}
 use Rattle.node_commands.specs.Follow.{events_for, follow_lines, follow_answer, fresh_for}
 use Rattle.node_commands.specs.Following.{fresh_start}
-use Rattle.node_commands.specs.Meaning.{Meaning}
+use Rattle.node_commands.specs.Meaning.{Meaning, AnyEvents}
 use Rattle.node_commands.specs.Watching.{list_in, IsGood}
 
 -- the frames of some events, each with its message upgraded by the count of entries that a node which follows them has before it
@@ -53,6 +53,7 @@ upgrading_feed H limits net named = record {
   Begun = NodeState;
   Begins = λ prior watch begun. begun ≡ fresh_start limits net (list_in named limits.bytes watch);
   net = λ node. node.rules.net;
+  wants = λ begun. AnyEvents;
   lines = λ node events. [];
   frames = upgraded_text H;
   answer = upgrade_feed_answer H;

@@ -15,6 +15,7 @@ abbrev pub unless_bad : Option ℕ → List (List ℕ) → Result (Option (List 
 unless_bad None scripts = Ok (Some scripts)
 unless_bad (Some number) scripts = Err (record { status = Status.WatchList; line = Line.Watch number })
 
+-- the scripts that a text lists, or the number of its first bad line
 abbrev pub scripts_in : List ℕ → Result (Option (List (List ℕ))) BadInput
 scripts_in text = unless_bad (first_bad 1 (lines_of text)) (listed (lines_of text) [])
 

@@ -5,7 +5,7 @@ ghost use Rattle.uo_base.specs.Faults.{Rose};
 ghost use Rattle.bridge_prover.specs.Watched.{scripts_of};
 ghost use Rattle.feed_run.specs.Status.{is_stop};
 ghost use Rattle.node_commands.specs.Auditing.{auditing};
-ghost use Rattle.node_commands.specs.Runs.{Ran, UsedRose, status_in};
+ghost use Rattle.node_commands.specs.Runs.{NoPort, Ran, UsedRose, status_in};
 
 use crate::auditor::Auditor;
 use crate::inputs::{read_list, watched};
@@ -34,7 +34,7 @@ pub fn audit<D: Digester, F: Source, W: Source, R: Sink, L: Ledger>(
     requires bytes { limits.bytes ≤ 2 ^ 48 }
     ensures ran { (prior out : Option (List ℕ))
         → Ran (auditing D.digest_of limits net named) limits.bytes (F.left feed.old) (F.left feed.new) prior (W.left list.old)
-        (R.held report.old) (R.held report.new) out out (is_err result) (status_in result) }
+        (R.held report.old) (R.held report.new) out out NoPort (is_err result) (status_in result) }
     ensures goes_on { IfOk result (λ status. is_stop status ≡ false) }
     ensures stays { OnFalse named (list.new ≡ list.old) }
     ensures read { IsErrOf result Stop.ReadFault → Rose (F.faults feed.old) (F.faults feed.new)

@@ -1,5 +1,5 @@
 //! What a run of `audit` keeps from event to event.
-ghost use Rattle.std.specs.Prelude.{◌≡◌, ◌<◌, ◌^◌, ◌+◌, ◌++◌, false, IfOk, OnOk};
+ghost use Rattle.std.specs.Prelude.{◌≡◌, ◌<◌, ◌^◌, ◌+◌, ◌++◌, false, IfOk, OnOk, true};
 ghost use Rattle.uo_base.specs.FeedEvent.{event_of};
 ghost use Rattle.node_rules.specs.Fitting.{IsShort};
 ghost use Rattle.audit_replay.specs.Audit.{verdict_in};
@@ -78,6 +78,8 @@ impl<D: Digester> EventHandler for Auditor<D> {
     ghost state = { λ a. a };
 
     ghost machine = { audit_machine D.digest_of };
+
+    ghost digests = { true };
 
     fn take<L: Ledger>(
         &mut self,

@@ -6,7 +6,8 @@ ghost use Rattle.uo_base.specs.Moved.{AppendsPart};
 ghost use Rattle.feed_run.specs.Status.{is_stop};
 ghost use Rattle.ticket_check.specs.Checking.{check_of};
 ghost use Rattle.node_commands.specs.Checking.{check_answer, checking};
-ghost use Rattle.node_commands.specs.Runs.{Ran, Serves, status_in};
+ghost use Rattle.node_commands.specs.Meaning.{AnyEvents};
+ghost use Rattle.node_commands.specs.Runs.{NoPort, Ran, Serves, status_in};
 ghost use Rattle.node_commands.specs.Tickets.{told_as};
 
 use crate::prior::read_prior;
@@ -34,7 +35,7 @@ pub fn check<D: Digester, F: Source, P: Source, R: Sink, L: Ledger>(
     requires bytes { limits.bytes ≤ 2 ^ 48 }
     ensures ran { (watch out : Option (List ℕ)) → Ran (checking D.digest_of limits) limits.bytes
         (F.left feed.old) (F.left feed.new) (P.left prior.old) watch
-        (R.held report.old) (R.held report.new) out out (is_err result) (status_in result) }
+        (R.held report.old) (R.held report.new) out out NoPort (is_err result) (status_in result) }
     ensures goes_on { IfOk result (λ status. is_stop status ≡ false) }
     ensures read { IsErrOf result Stop.ReadFault → Rose (F.faults feed.old) (F.faults feed.new) ⊎ Rose (P.faults prior.old) (P.faults prior.new) }
     ensures write { IsErrOf result Stop.WriteFault → Rose (R.faults report.old) (R.faults report.new) }
@@ -54,8 +55,8 @@ fn check_read<D: Digester, F: Source, R: Sink, L: Ledger>(
     report: &mut R,
     steps: &mut Steps<L>,
 ) -> Result<Status, Stop>
-    ensures served { (out : Option (List ℕ)) → Serves (λ events. []) (λ events. []) (check_answer D.digest_of limit node.now) node.now.rules.net limit
-        (F.left feed.old) (F.left feed.new) (R.held report.old) (R.held report.new) out out (is_err result) (status_in result) }
+    ensures served { (out : Option (List ℕ)) → Serves AnyEvents (λ events. []) (λ events. []) (check_answer D.digest_of limit node.now) node.now.rules.net limit
+        (F.left feed.old) (F.left feed.new) (R.held report.old) (R.held report.new) out out NoPort (is_err result) (status_in result) }
     ensures goes_on { IfOk result (λ status. is_stop status ≡ false) }
     ensures read { IsErrOf result Stop.ReadFault → Rose (F.faults feed.old) (F.faults feed.new) }
     ensures write { IsErrOf result Stop.WriteFault → Rose (R.faults report.old) (R.faults report.new) }

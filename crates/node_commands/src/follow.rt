@@ -5,13 +5,13 @@ ghost use Rattle.uo_base.specs.Faults.{Rose};
 ghost use Rattle.feed_run.specs.Status.{is_stop};
 ghost use Rattle.node_commands.specs.Follow.{follow_lines, follow_answer};
 ghost use Rattle.node_commands.specs.Following.{following_afresh, following_on};
+ghost use Rattle.node_commands.specs.Meaning.{AnyEvents};
 ghost use Rattle.node_commands.specs.Runs.{Ran, Serves, UsedRose, status_in};
 
 use crate::follower::Follower;
-use crate::inputs::read_list;
+use crate::inputs::{read_list, watched};
 use crate::prior::read_prior;
 use crate::serve::serve;
-use crate::starting::fresh_for;
 use compact_node::Node;
 use feed_run::{Status, Stop};
 use report_lines::say;
@@ -33,9 +33,9 @@ pub fn follow<D: Digester, F: Source, O: Sink, R: Sink, L: Ledger>(
 ) -> Result<Status, Stop>
     requires bytes { bytes ≤ 2 ^ 48 }
     requires told { bytes ≡ node.rules.limits.bytes }
-    ensures served { Serves (follow_lines D.digest_of node) (λ events. []) (follow_answer D.digest_of node) node.rules.net bytes
-        (F.left feed.old) (F.left feed.new) (R.held report.old) (R.held report.new) (O.held out.old) (O.held out.new) (is_err result)
-        (status_in result) }
+    ensures served { Serves AnyEvents (follow_lines D.digest_of node) (λ events. []) (follow_answer D.digest_of node) node.rules.net bytes
+        (F.left feed.old) (F.left feed.new) (R.held report.old) (R.held report.new) (O.held out.old) (O.held out.new) (out.new ≡ out.old)
+        (is_err result) (status_in result) }
     ensures goes_on { IfOk result (λ status. is_stop status ≡ false) }
     ensures read { IsErrOf result Stop.ReadFault → Rose (F.faults feed.old) (F.faults feed.new) }
     ensures write { IsErrOf result Stop.WriteFault → Rose (O.faults out.old) (O.faults out.new) ⊎ Rose (R.faults report.old) (R.faults report.new) }
@@ -61,7 +61,7 @@ pub fn follow_afresh<D: Digester, F: Source, W: Source, O: Sink, R: Sink, L: Led
     requires bytes { limits.bytes ≤ 2 ^ 48 }
     ensures ran { (prior : Option (List ℕ)) → Ran (following_afresh D.digest_of limits net named) limits.bytes (F.left feed.old) (F.left feed.new)
         prior (W.left list.old)
-        (R.held report.old) (R.held report.new) (O.held out.old) (O.held out.new) (is_err result) (status_in result) }
+        (R.held report.old) (R.held report.new) (O.held out.old) (O.held out.new) (out.new ≡ out.old) (is_err result) (status_in result) }
     ensures goes_on { IfOk result (λ status. is_stop status ≡ false) }
     ensures stays { OnFalse named (list.new ≡ list.old) }
     ensures read { IsErrOf result Stop.ReadFault → Rose (F.faults feed.old) (F.faults feed.new)
@@ -70,7 +70,7 @@ pub fn follow_afresh<D: Digester, F: Source, W: Source, O: Sink, R: Sink, L: Led
 {
     match read_list(alloc, named, limits.bytes, list)? {
         Ok(watch) => {
-            let node = fresh_for::<D>(alloc, limits, net, watch)?;
+            let node = Node::<D>::new(alloc, net, limits, watched(alloc, watch))?;
             follow::<D, F, O, R, L>(alloc, node, limits.bytes, feed, out, report, steps)
         }
         Err(bad) => say(alloc, report, bad.status, bad.line),
@@ -91,7 +91,7 @@ pub fn follow_on<D: Digester, F: Source, P: Source, O: Sink, R: Sink, L: Ledger>
     requires bytes { limits.bytes ≤ 2 ^ 48 }
     ensures ran { (watch : Option (List ℕ)) → Ran (following_on D.digest_of limits) limits.bytes (F.left feed.old) (F.left feed.new)
         (P.left prior.old) watch
-        (R.held report.old) (R.held report.new) (O.held out.old) (O.held out.new) (is_err result) (status_in result) }
+        (R.held report.old) (R.held report.new) (O.held out.old) (O.held out.new) (out.new ≡ out.old) (is_err result) (status_in result) }
     ensures goes_on { IfOk result (λ status. is_stop status ≡ false) }
     ensures read { IsErrOf result Stop.ReadFault → Rose (F.faults feed.old) (F.faults feed.new) ⊎ Rose (P.faults prior.old) (P.faults prior.new) }
     ensures write { IsErrOf result Stop.WriteFault → Rose (O.faults out.old) (O.faults out.new) ⊎ Rose (R.faults report.old) (R.faults report.new) }

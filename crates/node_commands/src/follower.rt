@@ -1,5 +1,5 @@
 //! What a run of `follow` keeps from event to event.
-ghost use Rattle.std.specs.Prelude.{◌≡◌, ◌<◌, ◌^◌, ◌+◌, IfOk, OnOk};
+ghost use Rattle.std.specs.Prelude.{◌≡◌, ◌<◌, ◌^◌, ◌+◌, IfOk, OnOk, true};
 ghost use Rattle.uo_base.specs.FeedEvent.{event_of};
 ghost use Rattle.node_rules.specs.Fitting.{IsShort};
 ghost use Rattle.node_commands.specs.Machine.{Following, follower_of, told_of, next_follower, follow_machine};
@@ -70,6 +70,8 @@ impl<D: Digester> EventHandler for Follower<D> {
     ghost state = { λ f. f };
 
     ghost machine = { follow_machine D.digest_of };
+
+    ghost digests = { true };
 
     #[tactic(auto, unfolding(crate::specs::Machine::event_line))]
     fn take<L: Ledger>(

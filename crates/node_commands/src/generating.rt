@@ -26,7 +26,7 @@ pub fn make_feed<O: Sink, R: Sink>(
 ) -> Result<Status, Stop>
     requires { blocks ≤ 100000 }
     ensures ran { (limit : ℕ) (feed prior watch : Option (List ℕ)) → Ran (generating number blocks net) limit feed feed prior watch
-        (R.held report.old) (R.held report.new) (O.held out.old) (O.held out.new) (is_err result) (status_in result) }
+        (R.held report.old) (R.held report.new) (O.held out.old) (O.held out.new) (out.new ≡ out.old) (is_err result) (status_in result) }
     ensures goes_on { IfOk result (λ status. is_stop status ≡ false) }
     ensures read { IsErrOf result Stop.ReadFault → ⊥ }
     ensures write { IsErrOf result Stop.WriteFault → Rose (O.faults out.old) (O.faults out.new) ⊎ Rose (R.faults report.old) (R.faults report.new) }
@@ -49,6 +49,7 @@ fn store_generated<O: Sink, R: Sink>(
     ensures part_sent { AppendsPart (O.held out.old) (O.held out.new) (generated number blocks net) }
     ensures part_said { AppendsPart (R.held report.old) (R.held report.new) (whole_line (generated_line number blocks net)) }
     ensures order { Appends (R.held report.old) (R.held report.new) [] ⊎ Appends (O.held out.old) (O.held out.new) (generated number blocks net) }
+    ensures untouched { blocks ≡ 0 → out.new ≡ out.old }
     ensures read { IsErrOf result Stop.ReadFault → ⊥ }
     ensures write { IsErrOf result Stop.WriteFault → Rose (O.faults out.old) (O.faults out.new) ⊎ Rose (R.faults report.old) (R.faults report.new) }
 {

@@ -1,8 +1,22 @@
-//! What holds of runs that are stopped and go on, of states and feeds that are written anew, and of hashes among the words. There is no code here.
+//! What holds of each run of `follow`, of runs that are stopped and go on, of states and feeds that are written anew, and of hashes among the words.
+//! There is no code here.
 ghost use Rattle.node_commands.specs.Ordering.{PrintedIsNamed};
+ghost use Rattle.node_commands.specs.Plainly.{FollowedIsValid, ResumedIsValid};
 ghost use Rattle.node_commands.specs.Stopping.{FreshBegins, PiecesAreParted, ResumedIsWhole};
 ghost use Rattle.node_commands.specs.Upgrading.{StatesAreUpgraded};
 ghost use Rattle.node_commands.specs.UpgradingFeed.{UpgradedFeedsAreFollowed};
+
+/// Whatever the feed, what `follow` says of its events could be said by a node that holds every output and reads no proof; or `audit` over the same
+/// bytes ends with two different texts with one digest.
+pub fn followed_is_valid()
+    ensures { FollowedIsValid }
+{}
+
+/// So it is of what a first run says and then of what a run says that goes on from the state that it stored; or an auditor that is told the events
+/// of both shows two such texts.
+pub fn resumed_is_valid()
+    ensures { ResumedIsValid }
+{}
 
 /// A run of `follow` that ends between two events, and a second one from the state that it stored, print the lines and store the bytes
 /// of one run over both, however often a run is stopped, where no proof is forged before. The last lines differ: that of an end, since each

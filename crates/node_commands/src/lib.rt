@@ -22,7 +22,6 @@ mod relay;
 mod relayer;
 mod running;
 mod serve;
-mod starting;
 mod telling;
 mod ticket;
 mod upgrading;
@@ -31,8 +30,8 @@ mod upgrading_feed;
 pub use command_words::{Command, WordFault, read_words};
 pub use feed_run::Status;
 pub use laws::{
-    fresh_begins, pieces_are_parted, printed_is_named, resumed_is_whole, states_are_upgraded,
-    upgraded_feeds_are_followed,
+    followed_is_valid, fresh_begins, pieces_are_parted, printed_is_named, resumed_is_valid,
+    resumed_is_whole, states_are_upgraded, upgraded_feeds_are_followed,
 };
 pub use report_lines::line_of;
 pub use running::run;

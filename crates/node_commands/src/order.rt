@@ -28,10 +28,11 @@ pub fn order<F: Source, O: Sink, R: Sink, L: Ledger>(
     requires { bytes ≤ 2 ^ 48 }
     ensures ran { (prior watch : Option (List ℕ))
         → Ran (ordering bytes net (hash_named tip.now)) bytes (F.left feed.old) (F.left feed.new) prior watch
-        (R.held report.old) (R.held report.new) (O.held out.old) (O.held out.new) (is_err result) (status_in result) }
+        (R.held report.old) (R.held report.new) (O.held out.old) (O.held out.new) (out.new ≡ out.old) (is_err result) (status_in result) }
     ensures goes_on { IfOk result (λ status. is_stop status ≡ false) }
     ensures read { IsErrOf result Stop.ReadFault → Rose (F.faults feed.old) (F.faults feed.new) }
     ensures write { IsErrOf result Stop.WriteFault → Rose (O.faults out.old) (O.faults out.new) ⊎ Rose (R.faults report.old) (R.faults report.new) }
+    ensures steps { steps.new ≡ steps.old }
 {
     let mut orderer = Orderer::new(alloc, net, hash_named(tip));
     serve(alloc, net, bytes, &mut orderer, feed, out, report, steps)

@@ -1,7 +1,8 @@
-//! The prior state, which is read whole before the feed.
+//! The prior bytes, which are read whole before the feed.
 ghost use Rattle.std.specs.Prelude.{◌≡◌, ◌≤◌, ◌<◌, ◌^◌, length, false, IfOk, IfErr, IsErrOf};
 ghost use Rattle.uo_base.specs.Faults.{Rose};
 ghost use Rattle.feed_run.specs.Status.{is_stop};
+ghost use Rattle.node_commands.specs.PriorText.{IsPriorRead};
 ghost use Rattle.node_commands.specs.Starting.{IsStart, IsStartOf};
 
 use crate::bad_input::BadInput;
@@ -13,6 +14,28 @@ use std::alloc::Global;
 use std::sync::ledger::Ledger;
 use uo_base::{InputFault, Limits, Source, read_all};
 use uo_digest::{Digester, Steps};
+
+/// Reads the prior bytes, of which there may be at most `limit`.
+pub fn read_text<P: Source>(
+    alloc: Global,
+    limit: u64,
+    source: &mut P,
+) -> Result<Result<Vec<u8>, BadInput>, Stop>
+    ensures text { IfOk result (λ text. IsPriorRead limit (P.left source.old) text) }
+    ensures goes_on { IfOk result (λ text. IfErr text (λ bad. is_stop bad.status ≡ false)) }
+    ensures read { IsErrOf result Stop.ReadFault → Rose (P.faults source.old) (P.faults source.new) }
+    ensures write { IsErrOf result Stop.WriteFault → ⊥ }
+{
+    match read_all(alloc, source, limit) {
+        Ok(text) => Ok(Ok(text)),
+        Err(InputFault::Limit) => Ok(Err(BadInput {
+            status: Status::InputLimit,
+            line: Line::LimitPrior(limit),
+        })),
+        Err(InputFault::ReadFault) => Err(Stop::ReadFault),
+        Err(InputFault::NoMemory) => Err(Stop::NoMemory),
+    }
+}
 
 /// Reads the prior state, of at most `limits.bytes` bytes.
 pub fn read_prior<D: Digester, P: Source, L: Ledger>(
@@ -29,14 +52,9 @@ pub fn read_prior<D: Digester, P: Source, L: Ledger>(
     ensures read { IsErrOf result Stop.ReadFault → Rose (P.faults source.old) (P.faults source.new) }
     ensures write { IsErrOf result Stop.WriteFault → ⊥ }
 {
-    match read_all(alloc, source, limits.bytes) {
+    match read_text(alloc, limits.bytes, source)? {
         Ok(text) => prior_in::<D, L>(alloc, &text, limits, steps),
-        Err(InputFault::Limit) => Ok(Err(BadInput {
-            status: Status::InputLimit,
-            line: Line::LimitPrior(limits.bytes),
-        })),
-        Err(InputFault::ReadFault) => Err(Stop::ReadFault),
-        Err(InputFault::NoMemory) => Err(Stop::NoMemory),
+        Err(bad) => Ok(Err(bad)),
     }
 }
 

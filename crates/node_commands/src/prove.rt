@@ -34,7 +34,7 @@ pub fn prove<D: Digester, F: Source, W: Source, O: Sink, R: Sink, L: Ledger>(
     requires bytes { limits.bytes ≤ 2 ^ 48 }
     ensures ran { (prior : Option (List ℕ)) → Ran (proving D.digest_of limits net named) limits.bytes (F.left feed.old) (F.left feed.new) prior
         (W.left list.old)
-        (R.held report.old) (R.held report.new) (O.held out.old) (O.held out.new) (is_err result) (status_in result) }
+        (R.held report.old) (R.held report.new) (O.held out.old) (O.held out.new) (out.new ≡ out.old) (is_err result) (status_in result) }
     ensures goes_on { IfOk result (λ status. is_stop status ≡ false) }
     ensures stays { OnFalse named (list.new ≡ list.old) }
     ensures read { IsErrOf result Stop.ReadFault → Rose (F.faults feed.old) (F.faults feed.new)

@@ -2,11 +2,9 @@
 ghost use Rattle.std.specs.Prelude.{◌≡◌, ◌<◌, ◌≤◌, ◌^◌, ◌+◌, ◌++◌, true, map, option_map, Some, None, IfOk, OnOk};
 ghost use Rattle.uo_base.specs.FeedEvent.{event_of, BlockCame};
 ghost use Rattle.feed_frame.specs.FeedText.{event_text, proof_frame_text};
-ghost use Rattle.node_rules.specs.Fitting.{IsShort};
-ghost use Rattle.node_rules.specs.Fitting.{AreEventBytes};
+ghost use Rattle.node_rules.specs.Fitting.{AreEventBytes, IsShort};
 ghost use Rattle.node_rules.specs.Machine.{event_in, is_made};
 ghost use Rattle.node_rules.specs.Proving.{CanBeWritten, IsShortMessage};
-ghost use Rattle.uo_base.specs.Reading.{IsBytes};
 ghost use Rattle.bridge_prover.specs.Bridge.{message_on};
 ghost use Rattle.node_commands.specs.Prover.{ProverState, fresh_prover, proved_of, next_prover, beside, made_frames, prove_machine};
 
@@ -15,6 +13,7 @@ use block_rules::Verdict;
 use bridge_prover::{Bridge, Proved};
 use feed_run::{EventHandler, Piece, Status, Stop};
 use leaf_cache::Watch;
+use node_rules::check_bytes;
 use report_lines::{line_of, push_line};
 use std::alloc::Global;
 use std::marker::Model;
@@ -107,6 +106,8 @@ impl<D: Digester> EventHandler for Prover<D> {
 
     ghost machine = { prove_machine D.digest_of };
 
+    ghost digests = { true };
+
     #[tactic(auto, unfolding(crate::specs::Prover::proved_line))]
     fn take<L: Ledger>(
         &mut self,
@@ -131,21 +132,6 @@ impl<D: Digester> EventHandler for Prover<D> {
         push_line(self.alloc, line, said)?;
         Ok(status_of(self.refused))
     }
-}
-
-// What an event holds is bytes.
-fn check_bytes(event: &Event<'_>)
-    ensures { AreEventBytes (event_of event.now) }
-{
-    if let Event::Block { block, .. } = event {
-        check_block(block);
-    }
-}
-
-fn check_block(block: &[u8])
-    ensures { IsBytes block.now }
-{
-    let _length = block.len();
 }
 
 // Appends the frames of an event that was accepted or made.

@@ -5,21 +5,21 @@ ghost use Rattle.std.specs.Io.KnownBytes.{Appends};
 ghost use Rattle.uo_base.specs.Faults.{Rose};
 ghost use Rattle.uo_base.specs.Moved.{AppendsPart};
 ghost use Rattle.bridge_prover.specs.Watched.{scripts_of};
-ghost use Rattle.feed_run.specs.Machine.{said_by};
+ghost use Rattle.feed_run.specs.Machine.{said_by, Wants};
 ghost use Rattle.feed_run.specs.Status.{is_stop};
 ghost use Rattle.node_commands.specs.Answers.{served_feed};
-ghost use Rattle.node_commands.specs.Rechecking.{IsTicketText, recheck_end, recheck_machine, rechecking};
-ghost use Rattle.node_commands.specs.Runs.{Ran, Serves, UsedRose, status_in};
+ghost use Rattle.node_commands.specs.Rechecking.{recheck_end, recheck_machine, rechecking};
+ghost use Rattle.node_commands.specs.Runs.{NoPort, Ran, Serves, UsedRose, status_in};
 
-use crate::bad_input::BadInput;
 use crate::inputs::{read_list, watched};
+use crate::prior::read_text;
 use crate::rechecker::Rechecker;
 use crate::serve::bad_end;
 use feed_run::{Status, Stop, handle_feed};
-use report_lines::{Line, say};
+use report_lines::say;
 use std::alloc::Global;
 use std::sync::ledger::Ledger;
-use uo_base::{InputFault, Limits, Net, QuietSink, Sink, Source, put_all, read_all};
+use uo_base::{Limits, Net, QuietSink, Sink, Source, put_all};
 use uo_digest::{Digester, Steps};
 
 /// Audits a feed, as one who watches the scripts of the list that is named, if one is, and then judges the ticket that the prior port gives over all
@@ -40,7 +40,7 @@ pub fn recheck<D: Digester, F: Source, P: Source, W: Source, R: Sink, L: Ledger>
     requires bytes { limits.bytes ≤ 2 ^ 48 }
     ensures ran { (out : Option (List ℕ)) → Ran (rechecking D.digest_of limits net named) limits.bytes (F.left feed.old) (F.left feed.new)
         (P.left prior.old) (W.left list.old)
-        (R.held report.old) (R.held report.new) out out (is_err result) (status_in result) }
+        (R.held report.old) (R.held report.new) out out NoPort (is_err result) (status_in result) }
     ensures goes_on { IfOk result (λ status. is_stop status ≡ false) }
     ensures stays { OnFalse named (list.new ≡ list.old) }
     ensures read { IsErrOf result Stop.ReadFault
@@ -68,28 +68,6 @@ pub fn recheck<D: Digester, F: Source, P: Source, W: Source, R: Sink, L: Ledger>
     )
 }
 
-// Reads the text of a ticket, of at most `limit` bytes.
-fn read_text<P: Source>(
-    alloc: Global,
-    limit: u64,
-    source: &mut P,
-) -> Result<Result<Vec<u8>, BadInput>, Stop>
-    ensures text { IfOk result (λ text. IsTicketText limit (P.left source.old) text) }
-    ensures goes_on { IfOk result (λ text. IfErr text (λ bad. is_stop bad.status ≡ false)) }
-    ensures read { IsErrOf result Stop.ReadFault → Rose (P.faults source.old) (P.faults source.new) }
-    ensures write { IsErrOf result Stop.WriteFault → ⊥ }
-{
-    match read_all(alloc, source, limit) {
-        Ok(text) => Ok(Ok(text)),
-        Err(InputFault::Limit) => Ok(Err(BadInput {
-            status: Status::InputLimit,
-            line: Line::LimitPrior(limit),
-        })),
-        Err(InputFault::ReadFault) => Err(Stop::ReadFault),
-        Err(InputFault::NoMemory) => Err(Stop::NoMemory),
-    }
-}
-
 // Answers a feed: the lines of the first forged event, or what is said of the ticket at its end, or why the feed ended before.
 fn serve_judged<D: Digester, F: Source, R: Sink, L: Ledger>(
     alloc: Global,
@@ -102,9 +80,9 @@ fn serve_judged<D: Digester, F: Source, R: Sink, L: Ledger>(
 ) -> Result<Status, Stop>
     requires bytes { bytes ≤ 2 ^ 48 }
     requires fresh { rechecker.old.events ≡ 0 }
-    ensures served { (out : Option (List ℕ)) → Serves (said_by (recheck_machine D.digest_of) rechecker.old) (λ events. [])
-        (served_feed (recheck_machine D.digest_of) rechecker.old net bytes) net bytes
-        (F.left feed.old) (F.left feed.new) (R.held report.old) (R.held report.new) out out (is_err result) (status_in result) }
+    ensures served { (out : Option (List ℕ)) → Serves (Wants (recheck_machine D.digest_of) rechecker.old)
+        (said_by (recheck_machine D.digest_of) rechecker.old) (λ events. []) (served_feed (recheck_machine D.digest_of) rechecker.old net bytes) net bytes
+        (F.left feed.old) (F.left feed.new) (R.held report.old) (R.held report.new) out out NoPort (is_err result) (status_in result) }
     ensures goes_on { IfOk result (λ status. is_stop status ≡ false) }
     ensures read { IsErrOf result Stop.ReadFault → Rose (F.faults feed.old) (F.faults feed.new) }
     ensures write { IsErrOf result Stop.WriteFault → Rose (R.faults report.old) (R.faults report.new) }

@@ -1,5 +1,5 @@
 //! What a run of `recheck` keeps from event to event.
-ghost use Rattle.std.specs.Prelude.{◌≡◌, ◌<◌, ◌^◌, ◌+◌, ◌++◌, false, IfOk, OnOk};
+ghost use Rattle.std.specs.Prelude.{◌≡◌, ◌<◌, ◌^◌, ◌+◌, ◌++◌, false, IfOk, OnOk, true};
 ghost use Rattle.uo_base.specs.FeedEvent.{event_of};
 ghost use Rattle.node_rules.specs.Fitting.{IsShort};
 ghost use Rattle.node_commands.specs.Rechecking.{RecheckerState, fresh_rechecker, machine_ending, next_rechecker, recheck_end, shown_line, shown_of};
@@ -95,6 +95,8 @@ impl<D: Digester> EventHandler for Rechecker<D> {
     ghost state = { λ r. r };
 
     ghost machine = { machine_ending D.digest_of silent_end };
+
+    ghost digests = { true };
 
     fn take<L: Ledger>(
         &mut self,

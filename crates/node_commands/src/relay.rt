@@ -7,11 +7,13 @@ ghost use Rattle.uo_base.specs.Moved.{AppendsPart};
 ghost use Rattle.feed_run.specs.Machine.{said_by};
 ghost use Rattle.feed_run.specs.Status.{is_stop};
 ghost use Rattle.node_commands.specs.Relayer.{relay_last, relay_machine, relayed_feed};
-ghost use Rattle.node_commands.specs.Relaying.{IsPriorOf, lists_for, read_as, relaying};
-ghost use Rattle.node_commands.specs.Runs.{Ran, Serves, UsedRose, status_in};
+ghost use Rattle.node_commands.specs.Meaning.{AnyEvents};
+ghost use Rattle.node_commands.specs.Relaying.{IsScriptText, lists_for, read_as, relaying};
+ghost use Rattle.node_commands.specs.Runs.{NoPort, Ran, Serves, UsedRose, status_in};
 
 use crate::bad_input::BadInput;
 use crate::inputs::{read_list, watched};
+use crate::prior::read_text;
 use crate::relayer::Relayer;
 use feed_frame::FeedFault;
 use feed_run::{Status, Stop, handle_feed};
@@ -21,7 +23,7 @@ use relay_script::read_script;
 use report_lines::{Line, say};
 use std::alloc::Global;
 use std::sync::ledger::Ledger;
-use uo_base::{InputFault, Limits, Net, NoMemory, QuietSink, Sink, Source, put_all, read_all};
+use uo_base::{Limits, Net, NoMemory, QuietSink, Sink, Source, put_all};
 use uo_digest::{Digester, Steps};
 
 /// Runs the script that is named, or the empty one, in a world of one bridge and so many followers, of which the first watches the scripts of the
@@ -45,7 +47,7 @@ pub fn relay<D: Digester, F: Source, P: Source, W: Source, R: Sink, L: Ledger>(
     requires some { 1 ≤ followers }
     ensures ran { (out : Option (List ℕ)) → Ran (relaying D.digest_of limits followers net scripted listed) limits.bytes
         (F.left feed.old) (F.left feed.new) (P.left prior.old) (W.left list.old)
-        (R.held report.old) (R.held report.new) out out (is_err result) (status_in result) }
+        (R.held report.old) (R.held report.new) out out NoPort (is_err result) (status_in result) }
     ensures goes_on { IfOk result (λ status. is_stop status ≡ false) }
     ensures prior_stays { OnFalse scripted (prior.new ≡ prior.old) }
     ensures list_stays { OnFalse listed (list.new ≡ list.old) }
@@ -58,7 +60,7 @@ pub fn relay<D: Digester, F: Source, P: Source, W: Source, R: Sink, L: Ledger>(
         Ok(watch) => watched(alloc, watch),
         Err(bad) => return say(alloc, report, bad.status, bad.line),
     };
-    let text = match read_text(alloc, scripted, limits.bytes, prior)? {
+    let text = match script_text(alloc, scripted, limits.bytes, prior)? {
         Ok(text) => text,
         Err(bad) => return say(alloc, report, bad.status, bad.line),
     };
@@ -84,8 +86,9 @@ fn serve_script<D: Digester, F: Source, R: Sink, L: Ledger>(
 ) -> Result<Status, Stop>
     requires { bytes ≤ 2 ^ 48 }
     ensures served { (out : Option (List ℕ))
-        → Serves (said_by (relay_machine D.digest_of) relayer.old) (λ events. []) (relayed_feed D.digest_of relayer.old net bytes) net bytes
-        (F.left feed.old) (F.left feed.new) (R.held report.old) (R.held report.new) out out (is_err result) (status_in result) }
+        → Serves AnyEvents (said_by (relay_machine D.digest_of) relayer.old) (λ events. []) (relayed_feed D.digest_of relayer.old net bytes) net
+        bytes
+        (F.left feed.old) (F.left feed.new) (R.held report.old) (R.held report.new) out out NoPort (is_err result) (status_in result) }
     ensures goes_on { IfOk result (λ status. is_stop status ≡ false) }
     ensures read { IsErrOf result Stop.ReadFault → Rose (F.faults feed.old) (F.faults feed.new) }
     ensures write { IsErrOf result Stop.WriteFault → Rose (R.faults report.old) (R.faults report.new) }
@@ -139,29 +142,22 @@ fn lists_for(alloc: Global, followers: u32, first: Watch) -> Result<Vec<Watch>, 
     Ok(lists)
 }
 
-// Reads the text that is named, of at most `limit` bytes. Where none is, it is empty, and the source stays as it was.
-fn read_text<P: Source>(
+// Reads the script that is named, of at most `limit` bytes. Where none is, it is empty, and the source stays as it was.
+fn script_text<P: Source>(
     alloc: Global,
     named: bool,
     limit: u64,
     source: &mut P,
 ) -> Result<Result<Vec<u8>, BadInput>, Stop>
-    ensures text { IfOk result (λ read. IsPriorOf named limit (P.left source.old) (read_as (λ text. text.items) read)) }
+    ensures text { IfOk result (λ read. IsScriptText named limit (P.left source.old) (read_as (λ text. text.items) read)) }
     ensures goes_on { IfOk result (λ read. IfErr read (λ bad. is_stop bad.status ≡ false)) }
     ensures stays { OnFalse named (source.new ≡ source.old) }
     ensures read { IsErrOf result Stop.ReadFault → UsedRose named (P.faults source.old) (P.faults source.new) }
     ensures write { IsErrOf result Stop.WriteFault → ⊥ }
 {
-    if !named {
-        return Ok(Ok(Vec::new(alloc)));
-    }
-    match read_all(alloc, source, limit) {
-        Ok(text) => Ok(Ok(text)),
-        Err(InputFault::Limit) => Ok(Err(BadInput {
-            status: Status::InputLimit,
-            line: Line::LimitPrior(limit),
-        })),
-        Err(InputFault::ReadFault) => Err(Stop::ReadFault),
-        Err(InputFault::NoMemory) => Err(Stop::NoMemory),
+    if named {
+        read_text(alloc, limit, source)
+    } else {
+        Ok(Ok(Vec::new(alloc)))
     }
 }

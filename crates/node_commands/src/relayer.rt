@@ -1,5 +1,5 @@
 //! What a run of `relay` keeps from event to event.
-ghost use Rattle.std.specs.Prelude.{◌≡◌, ◌<◌, ◌++◌, false, Some, IfOk, OnOk, length, option_map, slice_get};
+ghost use Rattle.std.specs.Prelude.{◌≡◌, ◌<◌, ◌++◌, false, Some, IfOk, OnOk, length, option_map, slice_get, true};
 ghost use Rattle.uo_base.specs.FeedEvent.{event_of};
 ghost use Rattle.feed_run.specs.Status.{is_stop, status_of};
 ghost use Rattle.node_rules.specs.Fitting.{IsShort};
@@ -196,6 +196,8 @@ impl<'s, D: Digester> EventHandler for Relayer<'s, D> {
     ghost state = { λ r. r };
 
     ghost machine = { relay_machine D.digest_of };
+
+    ghost digests = { true };
 
     fn take<L: Ledger>(
         &mut self,

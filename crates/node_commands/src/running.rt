@@ -45,9 +45,12 @@ pub fn run<D: Digester, F: Source, P: Source, W: Source, O: Sink, R: Sink, L: Le
     requires bytes { limits.bytes ≤ 2 ^ 48 }
 
     // There are inputs, which are the told ones where they are told. The report and the output grow by the whole answer to the words and
-    // these inputs, or where a fault or want of memory stops the run by a part of it. Of a feed in which no proof is forged the answer
-    // of `follow` is that of a node that holds every output, rollbacks included, with the state that it stores; and of the events before the
-    // first forged one it prints the same lines. So it is where it goes on from a prior state to which such a node came by any such events.
+    // these inputs, or where a fault or want of memory stops the run by a part of it. Whatever the feed, what `follow` says of its events could be
+    // said by a node that holds every output and reads no proof; or `audit` over the same feed shows two different texts with one digest. So it is of
+    // what was said since the start where it goes on from a state that it stored. Of a feed in which no proof is forged the answer
+    // of `follow` is that of a node that holds every output and judges each proof by them, rollbacks included, with the state that it stores; and of
+    // the events before the first forged one it prints the same lines. So it is where it goes on from a prior state to which such a node came by any
+    // such events.
     // Where the feed is what a proving node with the same network and leaf limit writes of any events, with proofs in full or lean ones for
     // the watch list that is named, `follow` accepts from the start each block and makes each rollback of it: its lines are that node's
     // `accepted` and `rolledback` lines, in their order, and its status is 0; or past the limit of bytes the first of these lines, and a
@@ -62,8 +65,8 @@ pub fn run<D: Digester, F: Source, P: Source, W: Source, O: Sink, R: Sink, L: Le
     // are. The whole answer of `follow` to what it stored, with the same network and watch list, is that to the feed, and of a feed that ends
     // badly the lines of the events are the same. `upgrade state` stores the text of version 2 of each state, and prints how many levels it has.
     // `order` stores the frames of the one path from a block that begins a chain to the tip, among the first blocks of each hash of the feed, and
-    // prints how many there are and how many other blocks came; or it prints why there is no path. Over what it stores neither `follow` nor `prove`
-    // refuses a block for its link before it has refused another.
+    // prints how many there are and how many other blocks came; or it prints why there is no path. Over what it stores neither `follow` from its
+    // start nor `prove` refuses a block for its link before it has refused another.
     // `recheck` audits the feed, prints no line of an event, and then judges the ticket by all outputs that are live behind it: it is live exactly
     // where it is right, and where the roots accept it and it is not right, two different texts with one digest are printed, the first of the forest.
     // At the first forged event it prints what `audit` shows, and nothing of the ticket. `relay` does what its script says in a world of one bridge
@@ -75,12 +78,12 @@ pub fn run<D: Digester, F: Source, P: Source, W: Source, O: Sink, R: Sink, L: Le
     // the feed is live exactly where the roots of the prior state's newest level accept it, and else the first reason why not. Where the state is
     // that of such a node, and the ticket is not accepted without being right, it does so exactly where it is right. Where the words are accepted,
     // the watch list or prior state that they name can be used, the feed has no bad frame, and none has more bytes than may be read, the status is 0
-    // or 1, or 4 of `audit`, or that of a failed port or of want of memory (`complete`). Where a fault or want of memory stops the run, what an event
+    // or 1, or 4 of `audit` and `recheck`, or that of a failed port or want of memory (`complete`). Where one of these stops the run, what an event
     // stores is stored before its line is begun, and all that is to be stored before anything is printed behind the lines of the events; and where
-    // the feed fails, the lines of all events that were wholly taken are there, and where a sink fails those of all but the last two.
+    // the feed fails, the lines of all events that were wholly taken are there, and where a sink fails those of all but the last.
     ensures did { Did (meaning_of D.digest_of limits (map string_bytes words.now)) limits.bytes
         (F.left feed.old) (F.left feed.new) (P.left prior.old) (W.left watch.old)
-        (R.held report.old) (R.held report.new) (O.held out.old) (O.held out.new) result }
+        (R.held report.old) (R.held report.new) (O.held out.old) (O.held out.new) (out.new ≡ out.old) result }
 
     // A fault is answered only where a port failed that the words use.
     ensures read { result ≡ Status.ReadFault
@@ -123,7 +126,7 @@ fn run_command<D: Digester, F: Source, P: Source, W: Source, O: Sink, R: Sink, L
     requires bytes { limits.bytes ≤ 2 ^ 48 }
     ensures ran { Ran (meaning_of D.digest_of limits (map string_bytes words.now)) limits.bytes
         (F.left feed.old) (F.left feed.new) (P.left prior.old) (W.left watch.old)
-        (R.held report.old) (R.held report.new) (O.held out.old) (O.held out.new) (is_err result) (status_in result) }
+        (R.held report.old) (R.held report.new) (O.held out.old) (O.held out.new) (out.new ≡ out.old) (is_err result) (status_in result) }
     ensures goes_on { IfOk result (λ status. is_stop status ≡ false) }
     ensures read { IsErrOf result Stop.ReadFault
         → UsedRose (meaning_of D.digest_of limits (map string_bytes words.now)).uses.feed (F.faults feed.old) (F.faults feed.new)

@@ -1,9 +1,10 @@
 //! The run of a command over a feed.
 ghost use Rattle.std.specs.Prelude.{◌≡◌, ◌≤◌, ◌^◌, ◌⊎◌, [], false, IfOk, OnOk, IsErrOf, is_err};
+ghost use Rattle.std.specs.Bool.{OnFalse};
 ghost use Rattle.std.specs.Io.KnownBytes.{Appends};
 ghost use Rattle.uo_base.specs.Faults.{Rose};
 ghost use Rattle.uo_base.specs.Moved.{AppendsPart};
-ghost use Rattle.feed_run.specs.Machine.{said_by, sent_by};
+ghost use Rattle.feed_run.specs.Machine.{said_by, sent_by, Wants};
 ghost use Rattle.node_commands.specs.Answers.{served_feed, bad_end};
 ghost use Rattle.node_commands.specs.Runs.{Serves, status_in};
 ghost use Rattle.feed_run.specs.Status.{is_stop};
@@ -29,13 +30,14 @@ pub fn serve<C: EventHandler, F: Source, O: Sink, R: Sink, L: Ledger>(
 ) -> Result<Status, Stop>
     requires bytes { bytes ≤ 2 ^ 48 }
     requires fresh { C.machine.count (C.state command.old) ≡ 0 }
-    ensures served { Serves (said_by C.machine (C.state command.old)) (sent_by C.machine (C.state command.old))
-        (served_feed C.machine (C.state command.old) net bytes) net bytes
-        (F.left feed.old) (F.left feed.new) (R.held report.old) (R.held report.new) (O.held out.old) (O.held out.new) (is_err result)
-        (status_in result) }
+    ensures served { Serves (Wants C.machine (C.state command.old)) (said_by C.machine (C.state command.old))
+        (sent_by C.machine (C.state command.old)) (served_feed C.machine (C.state command.old) net bytes) net bytes
+        (F.left feed.old) (F.left feed.new) (R.held report.old) (R.held report.new) (O.held out.old) (O.held out.new) (out.new ≡ out.old)
+        (is_err result) (status_in result) }
     ensures goes_on { IfOk result (λ status. is_stop status ≡ false) }
     ensures read { IsErrOf result Stop.ReadFault → Rose (F.faults feed.old) (F.faults feed.new) }
     ensures write { IsErrOf result Stop.WriteFault → Rose (O.faults out.old) (O.faults out.new) ⊎ Rose (R.faults report.old) (R.faults report.new) }
+    ensures steps { OnFalse C.digests (steps.new ≡ steps.old) }
 {
     let ending = handle_feed(alloc, net, bytes, command, feed, out, report, steps)?;
     match bad_end(ending) {
@@ -57,6 +59,7 @@ fn finish<C: EventHandler, O: Sink, R: Sink>(
     ensures sent { OnOk result (Appends (O.held out.old) (O.held out.new) (C.machine.at_end (C.state command.now)).out) }
     ensures part_said { AppendsPart (R.held report.old) (R.held report.new) (C.machine.at_end (C.state command.now)).report }
     ensures part_sent { AppendsPart (O.held out.old) (O.held out.new) (C.machine.at_end (C.state command.now)).out }
+    ensures untouched { (C.machine.at_end (C.state command.now)).out ≡ [] → out.new ≡ out.old }
     ensures order { Appends (R.held report.old) (R.held report.new) []
         ⊎ Appends (O.held out.old) (O.held out.new) (C.machine.at_end (C.state command.now)).out }
     ensures read { IsErrOf result Stop.ReadFault → ⊥ }

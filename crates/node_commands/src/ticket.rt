@@ -31,7 +31,7 @@ pub fn make_ticket<D: Digester, P: Source, O: Sink, R: Sink, L: Ledger>(
     requires leaves { limits.leaves < 2 ^ 40 }
     requires bytes { limits.bytes ≤ 2 ^ 48 }
     ensures ran { (feed watch : Option (List ℕ)) → Ran (ticketing D.digest_of limits number) limits.bytes feed feed (P.left prior.old) watch
-        (R.held report.old) (R.held report.new) (O.held out.old) (O.held out.new) (is_err result) (status_in result) }
+        (R.held report.old) (R.held report.new) (O.held out.old) (O.held out.new) (out.new ≡ out.old) (is_err result) (status_in result) }
     ensures goes_on { IfOk result (λ status. is_stop status ≡ false) }
     ensures read { IsErrOf result Stop.ReadFault → Rose (P.faults prior.old) (P.faults prior.new) }
     ensures write { IsErrOf result Stop.WriteFault → Rose (O.faults out.old) (O.faults out.new) ⊎ Rose (R.faults report.old) (R.faults report.new) }
@@ -58,6 +58,7 @@ fn store_ticket<D: Digester, O: Sink, R: Sink>(
     ensures part_said { AppendsPart (R.held report.old) (R.held report.new) (ticket_answer number node.now).report }
     ensures order { Appends (R.held report.old) (R.held report.new) []
         ⊎ Appends (O.held out.old) (O.held out.new) (ticket_answer number node.now).out }
+    ensures untouched { (ticket_answer number node.now).out ≡ [] → out.new ≡ out.old }
     ensures read { IsErrOf result Stop.ReadFault → ⊥ }
     ensures write { IsErrOf result Stop.WriteFault → Rose (O.faults out.old) (O.faults out.new) ⊎ Rose (R.faults report.old) (R.faults report.new) }
 {

@@ -6,9 +6,9 @@ ghost use Rattle.feed_run.specs.Status.{is_stop};
 ghost use Rattle.node_commands.specs.Runs.{Ran, UsedRose, status_in};
 ghost use Rattle.node_commands.specs.UpgradingFeed.{upgrading_feed};
 
-use crate::inputs::read_list;
+use crate::inputs::{read_list, watched};
 use crate::serve::serve;
-use crate::starting::fresh_for;
+use compact_node::Node;
 use feed_run::{Status, Stop};
 use feed_upgrade::Upgrader;
 use report_lines::say;
@@ -35,7 +35,7 @@ pub fn upgrade_feed<D: Digester, F: Source, W: Source, O: Sink, R: Sink, L: Ledg
     requires bytes { limits.bytes ≤ 2 ^ 48 }
     ensures ran { (prior : Option (List ℕ)) → Ran (upgrading_feed D.digest_of limits net named) limits.bytes (F.left feed.old) (F.left feed.new) prior
         (W.left list.old)
-        (R.held report.old) (R.held report.new) (O.held out.old) (O.held out.new) (is_err result) (status_in result) }
+        (R.held report.old) (R.held report.new) (O.held out.old) (O.held out.new) (out.new ≡ out.old) (is_err result) (status_in result) }
     ensures goes_on { IfOk result (λ status. is_stop status ≡ false) }
     ensures stays { OnFalse named (list.new ≡ list.old) }
     ensures read { IsErrOf result Stop.ReadFault → Rose (F.faults feed.old) (F.faults feed.new)
@@ -44,7 +44,7 @@ pub fn upgrade_feed<D: Digester, F: Source, W: Source, O: Sink, R: Sink, L: Ledg
 {
     match read_list(alloc, named, limits.bytes, list)? {
         Ok(watch) => {
-            let node = fresh_for::<D>(alloc, limits, net, watch)?;
+            let node = Node::<D>::new(alloc, net, limits, watched(alloc, watch))?;
             let mut upgrader = Upgrader::<D>::new(alloc, node);
             serve(
                 alloc,

@@ -1,8 +1,8 @@
 -- Known hashes are found by one pass over them, and given ones are filled in between.
 use Rattle.std.proofs.Common.{◌≡◌, ◌≢◌, ℕ, zero, suc, ◌+◌, ◌<◌, Bool, true, false, List, [], ◌∷◌, ◌++◌, map, length, get_or, take, drop, filter}
 use Rattle.std.proofs.Common.{Option, Some, None, refl, sym, ap, ◌∙◌, subst, ap₂, ⊎_elim, inl, inr, arith, append_assoc}
-use Rattle.std.specs.Prelude.{◌⊎◌, cond, is_none, slice_get, unwrap_or}
-use Rattle.std.proofs.lemmas.Bool.{cases_Bool, cases_lt, cases_eq, false≢true, false_from_ne_true, or_left, or_right}
+use Rattle.std.specs.Prelude.{◌⊎◌, ◌==◌, cond, is_none, option_map, slice_get, unwrap_or}
+use Rattle.std.proofs.lemmas.Bool.{cases_Bool, cases_lt, cases_eq, eqb-true, false≢true, false_from_ne_true, or_left, or_right}
 use Rattle.std.proofs.lemmas.List.{drop_all, drop_more, take_more, length-drop, map-append}
 use Rattle.std.proofs.lemmas.List.Sums.{sum_by-cons}
 use Rattle.std.proofs.lemmas.Option.{none-some, same_Some}
@@ -17,7 +17,11 @@ use Rattle.forest_model.specs.Evaluation.{beside, asked}
 use Rattle.forest_model.proofs.Lists.{need_ascending}
 use Rattle.proof_shape.specs.Targeted.{Targeted}
 use Rattle.node_rules.specs.Messages.{Message, known_to}
-use Rattle.node_rules.specs.Judged.{AreHashes, IsOtherCount}
+use Rattle.block_rules.specs.Steps.{unless}
+use Rattle.block_rules.specs.declared.refusal.ProofRefusal.TheVariants.{HashCount}
+use Rattle.block_rules.specs.declared.refusal.Refusal.TheVariants as Why
+use Rattle.node_rules.specs.Accepting.{count_fault}
+use Rattle.node_rules.specs.Judged.{AreHashes}
 use Rattle.cache_model.specs.Cache.{look}
 use Rattle.cache_model.specs.Lists.{AscendByPlace}
 use Rattle.cache_model.specs.Undo.{find, is_same_place, held_key}
@@ -271,8 +275,13 @@ module _ (m : Message) (t : Targeted) (known : ℕ → ℕ → Option Digest) (k
   asked_are : nones found ≡ length (asked t.leaves t.targets (known_to m.lean known))
   asked_are = ap nones found_there ∙ nones_asked known_there (need t.leaves t.targets)
 
-  pub other_count : (want got : ℕ) → want ≡ nones found → got ≡ length m.proof.hashes → got ≢ want → IsOtherCount m t known want got
-  other_count want got w g d = record { want_is = w ∙ asked_are; got_is = g; differ = d }
+  pub other_count : (want got : ℕ) → want ≡ nones found → got ≡ length m.proof.hashes → got ≢ want
+      → option_map Why.Proof (count_fault t.leaves t.targets known m) ≡ Some (Why.Proof (HashCount want got))
+  other_count want got w g d =
+      let wanted : want ≡ length (asked t.leaves t.targets (known_to m.lean known)) = w ∙ asked_are in
+      let fault = λ (a b : ℕ). option_map Why.Proof (unless (b == a) (HashCount a b)) in
+      let f : (got == want) ≡ false = false_from_ne_true (got == want) (λ same. d (eqb-true got want same)) in
+      sym (ap₂ fault wanted g) ∙ ap (λ x. option_map Why.Proof (unless x (HashCount want got))) f
 
   pub are_hashes : (want got : ℕ) (hashes : List Digest) → want ≡ nones found → got ≡ length m.proof.hashes → got ≡ want
       → hashes ≡ filled m.proof.hashes 0 found → AreHashes m t known hashes
@@ -307,7 +316,8 @@ module _ (m : Message) (t : Targeted) (known : ℕ → ℕ → Option Digest) (n
   abbrev unknown : (row off : ℕ) → look [] row off ≡ known_to m.lean known row off
   unknown row off = sym (none row off)
 
-  pub given_count : (want got : ℕ) → want ≡ length needed → got ≡ length m.proof.hashes → got ≢ want → IsOtherCount m t known want got
+  pub given_count : (want got : ℕ) → want ≡ length needed → got ≡ length m.proof.hashes → got ≢ want
+      → option_map Why.Proof (count_fault t.leaves t.targets known m) ≡ Some (Why.Proof (HashCount want got))
   given_count want got w g d = other_count m t known [] unknown needed (unknown_all needed) needed_is refl want got (w ∙ sym (nothing_found needed)) g
       d
 

@@ -8,6 +8,7 @@ use Rattle.std.proofs.lemmas.List.Concat.{flat_map-append}
 use Rattle.std.proofs.lemmas.List.Elements.{All-nil, All-cons, All-get_or}
 use Rattle.std.proofs.lemmas.Option.{slice_get_within, slice_get-get_or}
 use Rattle.uo_base.specs.declared.event.Net.{Net}
+use Rattle.uo_base.specs.declared.event.Net.TheVariants.{Main, Regtest}
 use Rattle.feed_frame.specs.Frames.{block_magic, most_block}
 use Rattle.feed_frame.specs.Written.{frame_text}
 use Rattle.chain_order.specs.Arrivals.{Arrival}
@@ -59,6 +60,24 @@ frame_short (a ∷ arrivals) number body short lt same =
     let one = get_or (a ∷ arrivals) number a in
     let is = same one (slice_get-get_or (a ∷ arrivals) number a lt) in
     subst (λ b. length b ≤ most_block) (sym is) (All-get_or (λ (x : Arrival). length x.body ≤ most_block) (a ∷ arrivals) number a lt short)
+
+-- ---- no numbers
+
+pub some_left : (numbers : List ℕ) (i : ℕ) → numbers ≡ [] → i < length numbers → ⊥
+some_left numbers i none within = let z = ap (λ (l : List ℕ). length l) none in omega (arith, within, z)
+
+-- a frame is no empty text
+frame_some : (net : Net) (body others : List ℕ) → frame_text (block_magic net) body ++ others ≡ [] → ⊥
+frame_some Main body others e = cc
+frame_some Regtest body others e = cc
+
+pub no_numbers : (net : Net) (arrivals : List Arrival) (numbers : List ℕ) → All (λ number. number < length arrivals) numbers
+    → numbered_text net arrivals numbers ≡ [] → numbers ≡ []
+no_numbers net arrivals [] within e = refl
+no_numbers net [] (n ∷ numbers) within e = absurd (let lt = within 0 0 (omega arith) in omega (arith, lt))
+no_numbers net (a ∷ arrivals) (n ∷ numbers) within e =
+    let one = slice_get-get_or (a ∷ arrivals) n a (within 0 0 (omega arith)) in
+    absurd (frame_some net _ _ (ap (λ o. frame_of net o ++ numbered_text net (a ∷ arrivals) numbers) (sym one) ∙ e))
 
 -- ---- the numbers of a path
 

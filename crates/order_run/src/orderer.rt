@@ -1,5 +1,5 @@
 //! What a run of `order` keeps from event to event.
-ghost use Rattle.std.specs.Prelude.{◌≡◌, ◌<◌, ◌≤◌, ◌^◌, ◌+◌, ◌-◌, ◌++◌, length, All, IfOk, IfErr, OnOk, IsErrOf};
+ghost use Rattle.std.specs.Prelude.{◌≡◌, ◌<◌, ◌≤◌, ◌^◌, ◌+◌, ◌-◌, ◌++◌, [], false, length, All, IfOk, IfErr, OnOk, IsErrOf};
 ghost use Rattle.std.specs.Io.KnownBytes.{Appends};
 ghost use Rattle.uo_base.specs.Faults.{Rose};
 ghost use Rattle.uo_base.specs.Moved.{AppendsPart};
@@ -84,6 +84,7 @@ impl Orderer {
             ++ whole_line (Line.Ordered (length numbers.now) (self.now.blocks - length numbers.now))) }
         ensures sent { OnOk result (Appends (O.held out.old) (O.held out.new) (numbered_text self.now.net self.now.arrivals numbers.now)) }
         ensures part { AppendsPart (O.held out.old) (O.held out.new) (numbered_text self.now.net self.now.arrivals numbers.now) }
+        ensures untouched { numbered_text self.now.net self.now.arrivals numbers.now ≡ [] → out.new ≡ out.old }
         ensures read { IsErrOf result Stop.ReadFault → ⊥ }
         ensures write { IsErrOf result Stop.WriteFault → Rose (O.faults out.old) (O.faults out.new) }
         ensures later { O.faults out.old ≤ O.faults out.new }
@@ -114,6 +115,8 @@ impl EventHandler for Orderer {
     ghost state = { λ o. o };
 
     ghost machine = { order_machine };
+
+    ghost digests = { false };
 
     #[tactic(auto, unfolding(crate::specs::Machine::next_order))]
     fn take<L: Ledger>(

@@ -1,5 +1,5 @@
 //! Writing the frames of a path.
-ghost use Rattle.std.specs.Prelude.{◌≡◌, ◌≤◌, ◌<◌, length, All, OnOk, IsErrOf};
+ghost use Rattle.std.specs.Prelude.{◌≡◌, ◌≤◌, ◌<◌, [], length, All, OnOk, IsErrOf};
 ghost use Rattle.std.specs.Io.KnownBytes.{Appends};
 ghost use Rattle.uo_base.specs.Faults.{Rose};
 ghost use Rattle.uo_base.specs.Moved.{AppendsPart};
@@ -20,6 +20,7 @@ pub fn put_numbered<O: Sink>(
     requires short { AreShort arrivals.now }
     ensures whole { OnOk result (Appends (O.held out.old) (O.held out.new) (numbered_text net arrivals.now numbers.now)) }
     ensures part { AppendsPart (O.held out.old) (O.held out.new) (numbered_text net arrivals.now numbers.now) }
+    ensures untouched { numbers.now ≡ [] → out.new ≡ out.old }
     ensures later { O.faults out.old ≤ O.faults out.new }
     ensures cause { IsErrOf result SinkFault.Failed → Rose (O.faults out.old) (O.faults out.new) }
 {

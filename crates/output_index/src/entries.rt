@@ -19,7 +19,7 @@ use uo_base::NoMemory;
 ///
 /// The boxes of entries that were taken out are kept for the next ones, so that a block which spends as many outputs as it makes asks
 /// for no box here. A new box is made only where none is spare, so there are never more, held and spare, than the most entries that
-/// were held at once. For each box that is made there is made room among the spare ones too, so to take out an entry takes no memory.
+/// were held at once. For each box that is made there is made room among the spare ones too, so that an entry can always be taken out.
 #[derive(Drop)]
 pub(crate) struct Entries {
     pages: Vec<Page>,

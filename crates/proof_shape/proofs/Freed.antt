@@ -6,12 +6,12 @@ use Rattle.std.specs.List.Sorted.{IsNonDecreasing, IsPermutation}
 use Rattle.std.proofs.lemmas.Bool.{cases_lt, cases_Bool, and_parts, ltb-true, false_from_ne_true}
 use Rattle.forest_place.specs.declared.place.Place.{Place}
 use Rattle.forest_place.specs.Forest.{InForest, is_root}
-use Rattle.forest_place.specs.Places.{AreWithin, has_place, place_in}
+use Rattle.forest_place.specs.Places.{AreWithin, has_place, place_in, up}
 use Rattle.forest_place.specs.Position.{positions_of}
 use Rattle.forest_place.proofs.Listed.{place}
 use Rattle.forest_place.proofs.Parts.{half_pow, InForest-up}
 use Rattle.forest_model.specs.Cover.{HasShape}
-use Rattle.proof_shape.specs.Survey.{pos, up, is_top, has}
+use Rattle.proof_shape.specs.Survey.{pos, is_top, has}
 use Rattle.proof_shape.specs.Swept.{ArePositions, IsAdded, IsClimbed, ClimbsNext, NumberNext, IsSweep, IsSwept, AreFree}
 use Rattle.proof_shape.proofs.Ordered.{has_at, has_where, sorted_number_is}
 use Rattle.proof_shape.proofs.Longer.{has_cases, place_where}

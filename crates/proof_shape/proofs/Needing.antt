@@ -12,7 +12,7 @@ use Rattle.std.proofs.lemmas.List.{take_more, append-nil, length-append, length-
 use Rattle.std.proofs.lemmas.List.Elements.{filter_map-append}
 use Rattle.forest_place.specs.declared.place.Place.{Place}
 use Rattle.forest_place.specs.Forest.{InForest, is_root, sibling_off}
-use Rattle.forest_place.specs.Places.{is_at, has_place, IsBefore, IsAscending, AreWithin, place_in, IsNear}
+use Rattle.forest_place.specs.Places.{is_at, has_place, IsBefore, IsAscending, AreWithin, place_in, IsNear, up}
 use Rattle.forest_place.proofs.Parts.{InForest-left, InForest-right, not_root-left, not_root-right, double_half, double_half_odd}
 use Rattle.forest_place.proofs.Siblings.{sibling_cases, sibling_twice, sibling_within, sibling_no_root}
 use Rattle.forest_place.proofs.Listed.{same_Bools, place, same_from_is_at, has_first, within_rest}
@@ -25,7 +25,7 @@ use Rattle.forest_model.proofs.Lists.{need_has, need_had, need_ascending}
 use Rattle.proof_shape.specs.Shape.{has_number}
 use Rattle.proof_shape.specs.Swept.{ArePositions, IsSwept}
 use Rattle.proof_shape.proofs.Ordered.{has_at, has_where, number_is, sorted_number_is, sorted_from_rising}
-use Rattle.proof_shape.specs.Survey.{IsCoverOf, pos, up, is_top, has, Rises, needed_beside, needed_of}
+use Rattle.proof_shape.specs.Survey.{IsCoverOf, pos, is_top, has, Rises, needed_beside, needed_of}
 use Rattle.proof_shape.specs.Moves.{CoversTell}
 use Rattle.proof_shape.proofs.Longer.{place_where}
 use Rattle.proof_shape.proofs.Faulty.{position_at}

@@ -6,13 +6,12 @@ use Rattle.std.proofs.lemmas.Bool.{cases_Bool, false≢true, false_from_ne_true,
 use Rattle.std.proofs.Math.Bool.{or-false}
 use Rattle.forest_place.specs.declared.place.Place.{Place}
 use Rattle.forest_place.specs.Forest.{InForest, sibling_off}
-use Rattle.forest_place.specs.Places.{has_place, is_at, AreWithin}
+use Rattle.forest_place.specs.Places.{has_place, is_at, AreWithin, up}
 use Rattle.forest_place.proofs.Parts.{InForest-up}
 use Rattle.forest_place.proofs.Siblings.{sibling_off-left, sibling_off-right}
 use Rattle.forest_model.specs.Cover.{cover, need}
 use Rattle.forest_model.proofs.Covers.{needed_parts}
 use Rattle.forest_model.proofs.Lists.{need_had}
-use Rattle.proof_shape.specs.Survey.{up}
 use Rattle.proof_shape.proofs.Needing.{covered_up}
 use Rattle.forest_place.proofs.Listed.{same_Bools}
 

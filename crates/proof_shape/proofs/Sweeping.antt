@@ -13,11 +13,11 @@ use Rattle.forest_place.specs.Position.{position, rows}
 use Rattle.forest_place.proofs.Parts.{InForest-up}
 use Rattle.forest_place.proofs.Positions.{position_rises, position_order, one_position, position_small, rows_least}
 use Rattle.std.proofs.Math.Pow.{pow_mono}
-use Rattle.forest_place.specs.Places.{AreWithin, place_in}
+use Rattle.forest_place.specs.Places.{AreWithin, place_in, up}
 use Rattle.forest_place.proofs.Listed.{has_left}
 use Rattle.proof_shape.specs.Shape.{has_number}
 use Rattle.proof_shape.specs.Swept.{IsPushed, IsClimbed, ClimbsNext, NumberNext, IsSweep}
-use Rattle.proof_shape.specs.Survey.{pos, up, is_top, has}
+use Rattle.proof_shape.specs.Survey.{pos, is_top, has}
 use Rattle.proof_shape.proofs.Ordered.{has_at}
 use Rattle.proof_shape.proofs.Longer.{has_cases}
 

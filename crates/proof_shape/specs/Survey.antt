@@ -6,12 +6,9 @@ use Rattle.forest_place.specs.Places.{has_place, AreWithin, place_in}
 use Rattle.forest_place.specs.Position.{position}
 use Rattle.forest_model.specs.Cover.{cover, need}
 
--- the position of a place, the place above, whether it is a slot's root, and whether a list has it
+-- the position of a place, whether it is a slot's root, and whether a list has it
 abbrev pub pos : ℕ → Place → ℕ
 pos n p = position n p.row p.off
-
-abbrev pub up : Place → Place
-up p = record { row = suc p.row; off = p.off / 2 }
 
 abbrev pub is_top : ℕ → Place → Bool
 is_top n p = is_root n p.row p.off

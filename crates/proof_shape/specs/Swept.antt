@@ -2,9 +2,9 @@
 use Rattle.std.specs.Prelude.{◌≡◌, ℕ, ◌-◌, ◌<◌, ◌≤◌, true, false, ◌⊎◌, List, [], ◌∷◌, ◌++◌, length, get_or}
 use Rattle.forest_place.specs.declared.place.Place.{Place}
 use Rattle.forest_place.specs.Forest.{InForest}
-use Rattle.forest_place.specs.Places.{AreWithin, place_in}
+use Rattle.forest_place.specs.Places.{AreWithin, place_in, up}
 use Rattle.proof_shape.specs.Shape.{has_number}
-use Rattle.proof_shape.specs.Survey.{pos, up, is_top, has}
+use Rattle.proof_shape.specs.Survey.{pos, is_top, has}
 
 -- the numbers are positions of places of the forest
 abbrev pub ArePositions : ℕ → List ℕ → Type 0

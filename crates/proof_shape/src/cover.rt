@@ -3,9 +3,9 @@ ghost use Rattle.std.specs.Prelude.{◌≡◌, ◌^◌, ◌<◌, true, false, If
 ghost use Rattle.std.specs.List.Sorted.{IsNonDecreasing};
 ghost use Rattle.forest_place.specs.declared.place.Place.{Place as Placed};
 ghost use Rattle.forest_place.specs.Forest.{InForest};
-ghost use Rattle.forest_place.specs.Places.{AreWithin};
+ghost use Rattle.forest_place.specs.Places.{AreWithin, up};
 ghost use Rattle.proof_shape.specs.Swept.{ArePositions, IsAdded, IsPushed, IsClimbed, ClimbsNext, NumberNext, IsSweep, IsSwept, AreFree};
-ghost use Rattle.proof_shape.specs.Survey.{pos, up, is_top};
+ghost use Rattle.proof_shape.specs.Survey.{pos, is_top};
 
 use forest_place::{Place, is_root, parent, place_of, position, rows};
 use std::alloc::{AllocError, Global};

@@ -1,17 +1,17 @@
-//! Why positions are not those of targets.
+//! Why numbers are not those of targets.
 ghost use Rattle.std.specs.Prelude.{◌≡◌};
 ghost use Rattle.proof_shape.specs.declared.fault.ShapeFault.TheVariants.{NoMemory};
 
 use std::alloc::{AllocError, AllocFailed};
 use thiserror::Error;
 
-/// Why `Targets::new` refused a list of positions. The first number is the least index at which the list goes wrong.
+/// Why a list of numbers, by position or by fixed position, names no targets. The first number is the least index at which it goes wrong.
 #[derive(Clone, Copy, Debug, PartialEq, Eq, Error)]
 pub enum ShapeFault {
-    /// The position at this index is that of no place of the forest.
+    /// The number at this index is that of no place of the forest.
     #[error("target {0} is outside the forest")]
     Outside(u32),
-    /// The position at the first index was at the second one already.
+    /// The number at the first index was at the second one already.
     #[error("target {0} repeats target {1}")]
     Repeated(u32, u32),
     /// The place at the first index stands above or beneath that at the second one, which comes before it. There may be

@@ -8,7 +8,7 @@ ghost use Rattle.proof_shape.specs.Moves.{gone_by, GoneTell};
 
 use crate::cover::above;
 use crate::order::contains;
-use forest_place::{Place, position, sibling};
+use forest_place::{Place, child, position, sibling, side};
 
 // Whether a place is gone, by the places at and above targets, and those at and above needed places.
 fn is_gone(n: u64, covered: &[u64], kept: &[u64], place: Place) -> bool
@@ -33,14 +33,7 @@ pub fn child_of(n: u64, goes: Place, alone: bool, side: u64) -> Place
     ensures within { InForest n result.row result.off }
     ensures row { goes.row ≤ result.row + 1 }
 {
-    if alone {
-        goes
-    } else {
-        Place {
-            row: goes.row - 1,
-            off: 2 * goes.off + side,
-        }
-    }
+    if alone { goes } else { child(goes, side) }
 }
 
 // Where a place moves. `None` where it is gone or beneath a target.
@@ -61,7 +54,7 @@ pub(crate) fn moved_from(n: u64, covered: &[u64], kept: &[u64], place: Place) ->
     match moved_from(n, covered, kept, next) {
         Some(goes) => {
             let alone = is_gone(n, covered, kept, sibling(place));
-            Some(child_of(n, goes, alone, place.off % 2))
+            Some(child_of(n, goes, alone, side(place)))
         }
         None => None,
     }

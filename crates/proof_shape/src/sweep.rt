@@ -1,11 +1,11 @@
 //! The places at and above others, from one sweep.
 ghost use Rattle.std.specs.Prelude.{◌≡◌, ◌^◌, ◌<◌, IfOk, IsTrue, map};
 ghost use Rattle.std.specs.List.Sorted.{IsNonDecreasing, IsStrictlyIncreasing, IsPermutation};
-ghost use Rattle.forest_place.specs.Places.{AreWithin};
+ghost use Rattle.forest_place.specs.Places.{AreWithin, up};
 ghost use Rattle.forest_place.specs.Position.{positions_of as numbers_of};
 ghost use Rattle.forest_model.specs.Cover.{HasShape};
 ghost use Rattle.proof_shape.specs.Moves.{CoversTell};
-ghost use Rattle.proof_shape.specs.Survey.{IsCoverOf, up};
+ghost use Rattle.proof_shape.specs.Survey.{IsCoverOf};
 ghost use Rattle.proof_shape.specs.Swept.{ArePositions};
 
 use crate::cover::cover_of;

@@ -7,9 +7,9 @@ use Rattle.std.proofs.lemmas.Option.{none-some, same_Some}
 use Rattle.std.proofs.lemmas.List.{length-set, get_or-set_same, get_or-set_other}
 use Rattle.forest_place.specs.declared.place.Place.{Place}
 use Rattle.forest_place.specs.Forest.{InForest}
-use Rattle.forest_place.specs.Places.{place_in, AreWithin}
+use Rattle.forest_place.specs.Places.{place_in, AreWithin, up}
 use Rattle.forest_model.specs.Deletion.{child_place}
-use Rattle.proof_shape.specs.Survey.{pos, up, is_top, Rises}
+use Rattle.proof_shape.specs.Survey.{pos, is_top, Rises}
 use Rattle.proof_shape.proofs.Ordered.{has_at}
 use Rattle.proof_shape.proofs.Sweeping.{self_up}
 use Rattle.proof_verify.specs.PlaceSources.{source_at, number_in, AreLinked}

@@ -6,13 +6,13 @@ use Rattle.std.proofs.lemmas.Bool.{cases_eq, cases_Bool, false_from_ne_true}
 use Rattle.std.proofs.lemmas.List.Elements.{All-get_or}
 use Rattle.forest_place.specs.declared.place.Place.{Place}
 use Rattle.forest_place.specs.Forest.{InForest, sibling_off}
-use Rattle.forest_place.specs.Places.{has_place, place_in}
+use Rattle.forest_place.specs.Places.{has_place, place_in, up, child}
 use Rattle.forest_place.proofs.Positions.{one_position}
 use Rattle.forest_model.specs.Deletion.{is_gone, moved, child_place}
 use Rattle.forest_model.proofs.Moving.{moved-step, moved-is_gone}
-use Rattle.proof_shape.specs.Survey.{up, is_top, has}
+use Rattle.proof_shape.specs.Survey.{is_top, has}
 use Rattle.proof_shape.proofs.Gone.{target_gone}
-use Rattle.proof_verify.specs.PlaceSources.{source_at, number_in, child, IsHalf, AreHalves, AreLinked, IsTargetAt}
+use Rattle.proof_verify.specs.PlaceSources.{source_at, number_in, IsHalf, AreHalves, AreLinked, IsTargetAt}
 use Rattle.proof_verify.specs.Destinations.{mark_at, is_half_gone, is_source_gone, IsHalfBefore, IsBefore, AreMarked, is_other_half_gone}
 use Rattle.proof_verify.specs.Destinations.{destination_at, AreDestinations}
 use Rattle.proof_verify.specs.NewPlaces.{IsInner, IsNewPlace, new_place_at, AreNew}
@@ -30,7 +30,7 @@ gone_halves : (ts : List Place) (r o : ℕ) → has_place ts (suc r) o ≡ false
 gone_halves ts r o none = rw none refl
 
 gone_children : (ts : List Place) (p : Place) → has ts p ≡ false → 0 < p.row
-    → is_gone ts p.row p.off ≡ (is_gone ts (child p 0).row (child p 0).off && is_gone ts (child p 1).row (child p 1).off)
+    → is_gone ts p.row p.off ≡ (is_gone ts (child 0 p).row (child 0 p).off && is_gone ts (child 1 p).row (child 1 p).off)
 gone_children ts p none some =
     let e : p.row ≡ suc (p.row - 1) = omega (arith, some) in
     let f : 2 * p.off ≡ 2 * p.off + 0 = omega arith in
@@ -72,7 +72,7 @@ module _ (n : ℕ) (ts cs : List Place) (os : List PlaceSource) (plan : IsPlan n
           → is_source_gone gone o ≡ is_gone ts (place_in cs m).row (place_in cs m).off
       as_inner (Target i) some w b none = absurd w
       as_inner (Halves x y) some w b none =
-          ap₂ (λ s t. s && t) (half_gone m f (child (place_in cs m) 0) x b.0 w.0) (half_gone m f (child (place_in cs m) 1) y b.1 w.1)
+          ap₂ (λ s t. s && t) (half_gone m f (child 0 (place_in cs m)) x b.0 w.0) (half_gone m f (child 1 (place_in cs m)) y b.1 w.1)
           ∙ sym (gone_children ts (place_in cs m) none some)
 
       by_target : (has ts (place_in cs m) ≡ true) ⊎ (has ts (place_in cs m) ≡ false)
@@ -101,14 +101,14 @@ module _ (n : ℕ) (ts cs : List Place) (os : List PlaceSource) (plan : IsPlan n
             ⊎_elim
             (λ (even : (place_in cs i).off % 2 ≡ 0).
             let e = eq-eqb _ _ even in
-            ap (λ b. is_half_gone gone (if b then y else x)) e ∙ (half_gone (length cs) (λ k l lc. marks_are k lc) (child (up (place_in cs i)) 1) y
-            (half_bound n cs (child (up (place_in cs i)) 1) y w.1) w.1
+            ap (λ b. is_half_gone gone (if b then y else x)) e ∙ (half_gone (length cs) (λ k l lc. marks_are k lc) (child 1 (up (place_in cs i))) y
+            (half_bound n cs (child 1 (up (place_in cs i))) y w.1) w.1
             ∙ ap (λ (q : Place). is_gone ts q.row q.off) (sym (even_beside (place_in cs i) even))))
             (λ (odd : (place_in cs i).off % 2 ≡ 0 → ⊥).
             let e = ne_eqb _ _ odd in
             let o : (place_in cs i).off % 2 ≡ 1 = omega (arith, odd) in
-            ap (λ b. is_half_gone gone (if b then y else x)) e ∙ (half_gone (length cs) (λ k l lc. marks_are k lc) (child (up (place_in cs i)) 0) x
-            (half_bound n cs (child (up (place_in cs i)) 0) x w.0) w.0
+            ap (λ b. is_half_gone gone (if b then y else x)) e ∙ (half_gone (length cs) (λ k l lc. marks_are k lc) (child 0 (up (place_in cs i))) x
+            (half_bound n cs (child 0 (up (place_in cs i))) x w.0) w.0
             ∙ ap (λ (q : Place). is_gone ts q.row q.off) (sym (odd_beside (place_in cs i) o))))
             (cases_eq ((place_in cs i).off % 2) 0)
 

@@ -3,9 +3,9 @@ use Rattle.std.specs.Prelude.{◌≡◌, ℕ, ◌+◌, ◌-◌, ◌*◌, ◌<◌
 use Rattle.forest_place.specs.declared.place.Place.{Place}
 use Rattle.forest_place.specs.Forest.{is_slot, root_off}
 use Rattle.forest_place.specs.Position.{position}
-use Rattle.forest_place.specs.Places.{place_in}
+use Rattle.forest_place.specs.Places.{place_in, up, child}
 use Rattle.proof_shape.specs.Shape.{has_number}
-use Rattle.proof_shape.specs.Survey.{up, is_top, has, needed_of, needed_beside}
+use Rattle.proof_shape.specs.Survey.{is_top, has, needed_of, needed_beside}
 use Rattle.proof_verify.specs.declared.place_source.Half.{Half}
 use Rattle.proof_verify.specs.declared.place_source.Half.TheVariants.{Covered, Needed}
 use Rattle.proof_verify.specs.declared.place_source.PlaceSource.{PlaceSource}
@@ -17,10 +17,6 @@ source_at os k = get_or os k (Target 0)
 abbrev pub number_in : List ℕ → ℕ → ℕ
 number_in xs k = get_or xs k 0
 
--- the child of a place at a side
-abbrev pub child : Place → ℕ → Place
-child p side = record { row = p.row - 1; off = 2 * p.off + side }
-
 -- the half is at this place: among the covered places, or among the needed ones beside them
 abbrev pub IsHalf : ℕ → List Place → Place → Half → Type 0
 IsHalf n cs p (Covered k) = (k < length cs) × (place_in cs k ≡ p)
@@ -29,7 +25,7 @@ IsHalf n cs p (Needed j) = (j < length (needed_of n cs)) × (place_in (needed_of
 -- a place is made of its two halves
 abbrev pub AreHalves : ℕ → List Place → Place → PlaceSource → Type 0
 AreHalves n cs p (Target i) = ⊥
-AreHalves n cs p (Halves x y) = IsHalf n cs (child p 0) x × IsHalf n cs (child p 1) y
+AreHalves n cs p (Halves x y) = IsHalf n cs (child 0 p) x × IsHalf n cs (child 1 p) y
 
 -- how many of the needed places are siblings of the first i covered places
 abbrev pub rank_of : ℕ → List Place → ℕ → ℕ

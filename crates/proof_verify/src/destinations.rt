@@ -10,7 +10,7 @@ ghost use Rattle.proof_verify.specs.Destinations.{AreMarked, AreDestinations};
 ghost use Rattle.proof_verify.specs.PlaceSources.{AreLinked};
 
 use crate::place_source::{Half, PlaceSource};
-use forest_place::{Place, is_root};
+use forest_place::{Place, is_root, side};
 use proof_shape::child_of;
 use std::alloc::{AllocError, Global};
 
@@ -109,7 +109,7 @@ fn fill_destinations(
         } else if is_root(n, place) {
             Some(place)
         } else {
-            let side = place.off % 2;
+            let side = side(place);
             let above = parents[i];
             let alone = is_other_gone(gone, sources[above], side);
             destination_beneath(n, destinations[above], alone, side)

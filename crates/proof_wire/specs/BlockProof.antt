@@ -20,9 +20,11 @@ pub record BlockProof : Type 0 where
   pub spends : List Spend
   pub hashes : List Digest
 
+-- the numbers of the places
 abbrev pub targets_of : List Spend → List ℕ
 targets_of spends = map (λ s. s.target) spends
 
+-- what is said of the outputs
 abbrev pub rests_of : List Spend → List Rest
 rests_of spends = map (λ s. s.rest) spends
 

@@ -6,6 +6,7 @@ use Rattle.std.specs.List.{AllByRecursion, AllZip}
 use Rattle.std.proofs.lemmas.Bool.{cases_Bool, leb-true, le-leb}
 use Rattle.std.proofs.lemmas.List.{length-append, append-nil, append_assoc}
 use Rattle.std.proofs.lemmas.Option.{none-some, same_Some, slice_get_within}
+use Rattle.uo_base.proofs.Lists.{all-at, all-push}
 use Rattle.uo_digest.specs.declared.digest.Digest.{Digest}
 use Rattle.forest_model.specs.Right.{entries}
 use Rattle.leaf_record.specs.Leaf.{leaf_text}
@@ -20,6 +21,7 @@ use Rattle.relay_core.specs.World.{FollowerState, WorldState, newest_of, fresh_f
 use Rattle.relay_core.specs.World.{event_for, next_world, world_after}
 use Rattle.relay_core.specs.Branches.{Digests, Begun, rules_of, begun_world, blocks_of, world_at, branch, AreActBytes, StandsForActs, IsOnBranch}
 use Rattle.relay_core.specs.Branches.{AreOnBranches, IsNeverRefused, FollowersAreOnBranches, OneSerialOneChain, RepliesAreNeverRefused}
+use Rattle.relay_core.specs.Branches.{IsNeverLost, NoReplyIsLost}
 use Rattle.relay_core.specs.Branches.{ActsAreFollowed}
 use Rattle.forest_roots.proofs.One.{one_stump}
 use Rattle.node_rules.proofs.Fitting.{start_fits}
@@ -27,13 +29,10 @@ use Rattle.compact_node.proofs.Throughout.{fresh-node, fresh-stands}
 use Rattle.bridge_prover.proofs.Refining.{fresh_stands, fresh_is_bridge}
 use Rattle.relay_core.proofs.Linking.{IsLevelOf, ReplyFits}
 use Rattle.relay_core.proofs.Handing.{FollowerFits, at_newest, reply_moves}
-use Rattle.relay_core.proofs.Standing.{all-at, zip-at, zip-weaker, Sound, act_sound}
+use Rattle.relay_core.proofs.Firm.{firm_start, never_lost}
+use Rattle.relay_core.proofs.Standing.{zip-at, zip-weaker, Sound, act_sound}
 
 -- ---- lists of acts
-
-all-append : (xs ys : List WorldAct) → AllByRecursion AreActBytes xs → AllByRecursion AreActBytes ys → AllByRecursion AreActBytes (xs ++ ys)
-all-append [] ys a b = b
-all-append (x ∷ xs) ys a b = (a.0, all-append xs ys a.1 b)
 
 module _ (H : List ℕ → Digest) where
   pub after-push : (w : WorldState) (acts : List WorldAct) (act : WorldAct)
@@ -134,6 +133,7 @@ module _ (H : List ℕ → Digest) where
       line = (refl, (refl, refl));
       replies = tt;
       followers = fresh_followers begun.lists;
+      firm = firm_start begun.net begun.limits begun.lists;
     }
 
     one_more : (acts : List WorldAct) (act : WorldAct) → AreActBytes act → IsSound acts → IsSound (acts ++ act ∷ [])
@@ -240,13 +240,18 @@ replies_are_never_refused H long begun acts w stands =
     let sound = sound_after H long begun stands.leaves stands.bytes acts stands.all in
     through H begun acts (IsNeverRefused H) w stands (never_refused H long begun stands.leaves stands.bytes acts sound)
 
+pub no_reply_is_lost : NoReplyIsLost
+no_reply_is_lost H long begun acts w stands =
+    let sound = sound_after H long begun stands.leaves stands.bytes acts stands.all in
+    through H begun acts IsNeverLost w stands (never_lost (world_after H (begun_world begun) acts) sound.firm)
+
 pub acts_are_followed : ActsAreFollowed
 acts_are_followed H begun = (
   λ leaves bytes. record { leaves = leaves; bytes = bytes; all = tt; is = refl },
   λ acts w act are stands. record {
     leaves = stands.leaves;
     bytes = stands.bytes;
-    all = all-append acts (act ∷ []) stands.all (are, tt);
+    all = all-push AreActBytes acts act stands.all are;
     is = ap (λ v. next_world H v act) stands.is ∙ sym (after-push H (begun_world begun) acts act);
   },
 )

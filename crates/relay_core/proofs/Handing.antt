@@ -5,6 +5,7 @@ use Rattle.std.specs.Prelude.{◌==◌, nat_le, is_some, slice_get}
 use Rattle.std.specs.List.{AllZip}
 use Rattle.std.proofs.lemmas.Bool.{and_parts, eqb-true, leb-true, false≢true}
 use Rattle.std.proofs.lemmas.Option.{same_Some}
+use Rattle.uo_base.proofs.Lists.{got_front, zip-take}
 use Rattle.uo_digest.specs.declared.digest.Digest.{Digest}
 use Rattle.block_codec.specs.Block.{Block, block_hash_of}
 use Rattle.block_rules.specs.declared.verdict.Verdict.{Verdict}
@@ -24,7 +25,7 @@ use Rattle.node_rules.proofs.Writing.{own_accepts}
 use Rattle.compact_node.proofs.Keeping.{next_is_node}
 use Rattle.compact_node.proofs.Refining.{compact_is_full}
 use Rattle.compact_node.proofs.Throughout.{kept_told}
-use Rattle.relay_core.proofs.Linking.{got_front, Leads, Follows, KindFits, ReplyFits}
+use Rattle.relay_core.proofs.Linking.{Leads, Follows, KindFits, ReplyFits}
 
 -- ---- pairs in step
 
@@ -33,13 +34,6 @@ zip-long P [] [] z = refl
 zip-long P [] (y ∷ ys) z = absurd z
 zip-long P (x ∷ xs) [] z = absurd z
 zip-long P (x ∷ xs) (y ∷ ys) z = ap suc (zip-long P xs ys z.1)
-
-zip-take : {X Y : Type 0} (P : X → Y → Type 0) (k : ℕ) (xs : List X) (ys : List Y) → AllZip P xs ys → AllZip P (take k xs) (take k ys)
-zip-take P zero xs ys z = tt
-zip-take P (suc k) [] [] z = tt
-zip-take P (suc k) [] (y ∷ ys) z = absurd z
-zip-take P (suc k) (x ∷ xs) [] z = absurd z
-zip-take P (suc k) (x ∷ xs) (y ∷ ys) z = (z.0, zip-take P k xs ys z.1)
 
 -- behind a rollback
 back-zip : (P : ℕ → Level → Type 0) (k : ℕ) (ss : List ℕ) (l : Level) (ls : List Level) → k ≤ length ls → AllZip P ss (l ∷ ls)
@@ -145,6 +139,11 @@ module _ (H : List ℕ → Digest) (rules : Rules) where
 
     pub at_newest : IsAt (newest_of x.serials) fits.state.now
     at_newest = newest_at x.serials fits.state.now fits.state.older fits.at
+
+    pub serials_long : length x.serials ≡ suc (length x.node.older)
+    serials_long =
+        zip-long IsAt x.serials (fits.state.now ∷ fits.state.older) fits.at
+        ∙ ap suc (zip-long (LevelStands H x.node.scripts) fits.state.older x.node.older fits.stands.older)
 
     one_more : (serial : ℕ) (l : Level) (ss : List ℕ) (now : Level) (older : List Level) → IsAt serial l → AllZip IsAt ss (now ∷ older)
         → AllZip IsAt (take 101 (serial ∷ ss)) (l ∷ take 100 (now ∷ older))

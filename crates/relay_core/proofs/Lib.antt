@@ -1,4 +1,5 @@
 pub mod Linking
+pub mod Firm
 pub mod Handing
 pub mod Standing
 pub mod Acting

@@ -5,6 +5,7 @@ use Rattle.std.specs.Prelude.{◌==◌, slice_get, option_map}
 use Rattle.std.specs.List.{AllByRecursion}
 use Rattle.std.proofs.lemmas.Bool.{eqb-true}
 use Rattle.std.proofs.lemmas.Option.{none-some, same_Some}
+use Rattle.uo_base.proofs.Lists.{got_front}
 use Rattle.uo_digest.specs.declared.digest.Digest.{Digest}
 use Rattle.block_codec.specs.Block.{Block}
 use Rattle.block_codec.specs.Reading.{block_in}
@@ -21,15 +22,6 @@ use Rattle.relay_core.specs.World.{Sent, sent_at, newest_of, after_on, met_at, n
 use Rattle.relay_core.specs.Branches.{blocks_of, proved_after, level_after_all, hash_in, tip_of}
 
 -- ---- lists
-
-pub got_front : {X : Type 0} (xs ys : List X) (i : ℕ) (x : X) → slice_get xs i ≡ Some x → slice_get (xs ++ ys) i ≡ Some x
-got_front [] ys i x e = absurd (none-some x e)
-got_front (z ∷ xs) ys zero x e = e
-got_front (z ∷ xs) ys (suc i) x e = got_front xs ys i x e
-
-pub got_last : {X : Type 0} (xs : List X) (x : X) → slice_get (xs ++ x ∷ []) (length xs) ≡ Some x
-got_last [] x = refl
-got_last (z ∷ xs) x = got_last xs x
 
 -- what is at an index of a longer list is at it before, or is the last
 pub got_either : {X : Type 0} (xs : List X) (x : X) (P : ℕ → X → Type 0) → ((i : ℕ) (y : X) → slice_get xs i ≡ Some y → P i y) → P (length xs) x

@@ -9,6 +9,7 @@ use Rattle.std.proofs.lemmas.Option.{none-some, same_Some, slice_get_within}
 use Rattle.uo_base.specs.FeedEvent.{FeedEvent}
 use Rattle.uo_base.specs.FeedEvent as Feed
 use Rattle.uo_base.specs.Reading.{IsBytes}
+use Rattle.uo_base.proofs.Lists.{all-at, all-push, got_last}
 use Rattle.uo_digest.specs.declared.digest.Digest.{Digest}
 use Rattle.block_codec.specs.Block.{Block, BlockFits}
 use Rattle.block_codec.specs.Reading.{block_in}
@@ -24,6 +25,7 @@ use Rattle.node_rules.specs.Proving.{written_text}
 use Rattle.node_rules.specs.Fitting.{AreEventBytes, EventFits, LevelFits}
 use Rattle.node_rules.specs.Machine.{ChainEvent, BlockCame, RollbackCame, Level, State, Outcome, chain_of, own_judge, level_after, pushed, by_refusal}
 use Rattle.node_rules.specs.Machine.{back, rolled_back, gone_to, verdict_by, is_made, OnEachLevel}
+use Rattle.reorg_undo.specs.Undo.{UndoRecord}
 use Rattle.bridge_prover.specs.Bridge.{BridgeState, refusal_on, verdict_on, after_block, bridge_by, next_bridge, gone_back, chain_back, message_by}
 use Rattle.bridge_prover.specs.Bridge.{message_on, told_if}
 use Rattle.bridge_prover.specs.Own.{own_in}
@@ -38,21 +40,14 @@ use Rattle.node_rules.proofs.Fitting.{read_event_fits, step_fits}
 use Rattle.node_rules.proofs.Written.{written_fits}
 use Rattle.node_rules.proofs.MessageLaws.{message_read}
 use Rattle.bridge_prover.proofs.Refining.{bridge_is_own, next_is_bridge}
+use Rattle.bridge_prover.proofs.Telling.{undo-back}
 use Rattle.bridge_prover.proofs.Throughout.{kept_rules, kept_watch}
-use Rattle.relay_core.proofs.Linking.{got_last, got_either, IsLevelOf, Leads, Line, line-drop, line_level, line_more, ReplyFits, reply_fits}
+use Rattle.relay_core.proofs.Linking.{got_either, IsLevelOf, Leads, Line, line-drop, line_level, line_more, ReplyFits, reply_fits}
 use Rattle.relay_core.proofs.Linking.{replies_more}
-use Rattle.relay_core.proofs.Handing.{FollowerFits, follower_more, reply_moves}
+use Rattle.relay_core.proofs.Handing.{FollowerFits, follower_more, serials_long, reply_moves}
+use Rattle.relay_core.proofs.Firm.{Firm, firm_ask, firm_reply, firm_moved, firm_back, firm_block}
 
 -- ---- lists
-
-all-push : {X : Type 0} (P : X → Type 0) (xs : List X) (x : X) → AllByRecursion P xs → P x → AllByRecursion P (xs ++ x ∷ [])
-all-push P [] x all one = (one, tt)
-all-push P (y ∷ xs) x all one = (all.0, all-push P xs x all.1 one)
-
-pub all-at : {X : Type 0} (P : X → Type 0) (xs : List X) (i : ℕ) (x : X) → AllByRecursion P xs → slice_get xs i ≡ Some x → P x
-all-at P [] i x all e = absurd (none-some x e)
-all-at P (y ∷ xs) zero x all e = subst P (same_Some y x e) all.0
-all-at P (y ∷ xs) (suc i) x all e = all-at P xs i x all.1 e
 
 -- the one that is in step with one at an index
 pub zip-at : {X Y : Type 0} (P : X → Y → Type 0) (xs : List X) (ys : List Y) (i : ℕ) (y : Y) → AllZip P xs ys → slice_get ys i ≡ Some y
@@ -172,6 +167,7 @@ module _ (H : List ℕ → Digest) (long : Digests H) (rules : Rules) (few : rul
       pub line : Line H rules w.sent levels w.chain ((state.now ∷ state.older) ++ rest)
       pub replies : AllByRecursion (ReplyFits H rules w.sent levels) w.replies
       pub followers : AllZip (FollowerFits H rules levels) lists w.followers
+      pub firm : Firm w
 
     module _ (P Q : ℕ → Level → Type 0) (w : WorldState) (sound : Sound P w) (keeps : (s : ℕ) (l : Level) → s ≤ length w.sent → P s l → Q s l) where
       abbrev levels : List Level
@@ -198,6 +194,7 @@ module _ (H : List ℕ → Digest) (long : Digests H) (rules : Rules) (few : rul
         line = sound.line;
         replies = sound.replies;
         followers = sound.followers;
+        firm = sound.firm;
       }
 
       abbrev with_parts : BridgeState → List Sent → List ℕ → WorldState
@@ -240,10 +237,10 @@ module _ (H : List ℕ → Digest) (long : Digests H) (rules : Rules) (few : rul
             ap (λ ls. l ∷ (ls ++ sound.rest)) (sym (take-append-drop 100 (t.now ∷ t.older)))
             ∙ ap (λ ls. l ∷ ls) (append_assoc (take 100 (t.now ∷ t.older)) (drop 100 (t.now ∷ t.older)) sound.rest)
 
-        grown : (e : ChainEvent) (x : Sent) (s' : BridgeState) → s' ≡ next_bridge H w.bridge e
-            → with_parts s' (x ∷ []) (suc (length w.sent) ∷ w.chain) ≡ next → Extends t x.block x.message s' →
+        grown : (e : ChainEvent) (x : Sent) (s' : BridgeState) (u : UndoRecord) → s'.undo ≡ take 100 (u ∷ w.bridge.undo)
+            → s' ≡ next_bridge H w.bridge e → with_parts s' (x ∷ []) (suc (length w.sent) ∷ w.chain) ≡ next → Extends t x.block x.message s' →
             Sound Q (with_parts s' (x ∷ []) (suc (length w.sent) ∷ w.chain))
-        grown e x s' is is_next more =
+        grown e x s' u undo is is_next more =
             let l = more.newer in
             let line = serial_line x l more.leads in
             let count = sound.count in
@@ -262,6 +259,7 @@ module _ (H : List ℕ → Digest) (long : Digests H) (rules : Rules) (few : rul
               replies = replies_more H rules w.sent levels (x ∷ []) (l ∷ []) w.replies sound.replies;
               followers = zip-weaker (FollowerFits H rules levels) (FollowerFits H rules (levels ++ l ∷ []))
                   (λ scripts f fits. follower_more H rules levels (l ∷ []) scripts f fits) lists w.followers sound.followers;
+              firm = firm_block w sound.firm s' x u undo;
             }
 
         -- ---- an event
@@ -290,7 +288,7 @@ module _ (H : List ℕ → Digest) (long : Digests H) (rules : Rules) (few : rul
             by_case b reads None accepts =
                 let e = BlockCame (Some b) (handed_in message) in
                 let fits = subst (λ y. EventFits (BlockCame y (handed_in message))) reads (read_event_fits (Feed.BlockCame bytes message) is_bytes) in
-                grown e (record { block = bytes; message = message_for w.bridge b }) (after_block H w.bridge b)
+                grown e (record { block = bytes; message = message_for w.bridge b }) (after_block H w.bridge b) _ refl
                 (ap (λ x. bridge_by x (after_block H w.bridge b) w.bridge) (sym accepts))
                 (sym (ap (world_by bytes (handed_in message)) reads ∙ ap (world_if bytes b) accepts) ∙ is_next)
                 (extends w.bridge t bytes b (handed_in message) reads fits sound.beside accepts)
@@ -324,6 +322,7 @@ module _ (H : List ℕ → Digest) (long : Digests H) (rules : Rules) (few : rul
                   (line-drop H rules w.sent levels k w.chain all (longer k is_few) sound.line);
               replies = sound.replies;
               followers = sound.followers;
+              firm = firm_back w sound.firm k (gone_back H k w.bridge) (undo-back H k w.bridge) (leb-true k (length w.bridge.undo) can);
             })
           where
             deep_enough : (k : ℕ) → is_made (own_outcome rules t (RollbackCame k)).verdict ≡ true → nat_le k (length t.older) ≡ true
@@ -354,9 +353,9 @@ module _ (H : List ℕ → Digest) (long : Digests H) (rules : Rules) (few : rul
 
         -- ---- the other acts
 
-        ask_sound : (x : Option FollowerState) → Sound Q (with_ask w x)
-        ask_sound None = same_world
-        ask_sound (Some x) = record {
+        ask_sound : (f : ℕ) (x : Option FollowerState) → slice_get w.followers f ≡ x → Sound Q (with_ask w x)
+        ask_sound f None at = same_world
+        ask_sound f (Some x) at = record {
           levels = levels;
           count = sound.count;
           told = told_still;
@@ -366,11 +365,12 @@ module _ (H : List ℕ → Digest) (long : Digests H) (rules : Rules) (few : rul
           line = sound.line;
           replies = sound.replies;
           followers = sound.followers;
+          firm = firm_ask w sound.firm f x at;
         }
 
-        reply_sound : (x : Option (List ℕ)) → Sound Q (with_reply w x)
-        reply_sound None = same_world
-        reply_sound (Some serials) = record {
+        reply_sound : (j : ℕ) (x : Option (List ℕ)) → slice_get w.asks j ≡ x → Sound Q (with_reply w x)
+        reply_sound j None at = same_world
+        reply_sound j (Some serials) at = record {
           levels = levels;
           count = sound.count;
           told = told_still;
@@ -381,6 +381,7 @@ module _ (H : List ℕ → Digest) (long : Digests H) (rules : Rules) (few : rul
           replies = all-push (ReplyFits H rules w.sent levels) w.replies (reply_to w.chain serials) sound.replies
               (reply_fits H rules w.sent levels w.chain all sound.line serials);
           followers = sound.followers;
+          firm = firm_reply w sound.firm j serials at;
         }
 
         deliver_sound : (f : ℕ) (x : Option FollowerState) (r : Option Reply) (j : ℕ) → slice_get w.followers f ≡ x → slice_get w.replies j ≡ r
@@ -404,10 +405,13 @@ module _ (H : List ℕ → Digest) (long : Digests H) (rules : Rules) (few : rul
               followers = zip-set (FollowerFits H rules levels) lists w.followers f x (moved H w.sent r.kind x) sound.followers at_f
                   (λ scripts fits. (reply_moves H rules w.sent levels scripts x fits r a
                   (all-at (ReplyFits H rules w.sent levels) w.replies j r sound.replies at_j)).follower);
+              firm = firm_moved w sound.firm H f j x r at_f at_j a
+                  (let one = zip-at (FollowerFits H rules levels) lists w.followers f x sound.followers at_f in
+                  serials_long H rules w.sent levels one.0 x one.2);
             }
 
         pub act_sound : (act : WorldAct) → next_world H w act ≡ next → AreActBytes act → Sound Q (next_world H w act)
         act_sound (BridgeTook event) is_next are = bridge_sound event is_next are
-        act_sound (FollowerAsked f) is_next are = ask_sound (slice_get w.followers f)
-        act_sound (AskServed j) is_next are = reply_sound (slice_get w.asks j)
+        act_sound (FollowerAsked f) is_next are = ask_sound f (slice_get w.followers f) refl
+        act_sound (AskServed j) is_next are = reply_sound j (slice_get w.asks j) refl
         act_sound (ReplyDelivered f j) is_next are = deliver_sound f (slice_get w.followers f) (slice_get w.replies j) j refl refl

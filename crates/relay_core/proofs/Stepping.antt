@@ -11,9 +11,9 @@ use Rattle.relay_core.specs.declared.act.Outcome.{Outcome}
 use Rattle.relay_core.specs.Changes.{ChangesAsTold}
 use Rattle.relay_core.specs.Acts.{WorldAct, BridgeTook, FollowerAsked, AskServed, ReplyDelivered}
 use Rattle.relay_core.specs.World.{FollowerState, WorldState, is_accepted, sent_of, with_ask, with_reply, next_world, outcome_on}
-use Rattle.relay_core.specs.Branches.{Begun, AreActBytes, StandsForActs, AreOnBranches, IsNeverRefused, Digests}
+use Rattle.relay_core.specs.Branches.{Begun, AreActBytes, StandsForActs, AreOnBranches, IsNeverRefused, IsNotLost, Digests}
 use Rattle.relay_core.proofs.Changing.{outcomes_tell_changes}
-use Rattle.relay_core.proofs.Acting.{acts_are_followed, followers_are_on_branches, replies_are_never_refused}
+use Rattle.relay_core.proofs.Acting.{acts_are_followed, followers_are_on_branches, no_reply_is_lost, replies_are_never_refused}
 
 pub on_ok : {T E : Type 0} (r : Result T E) (A B : Type 0) → OnOk r A → (A → B) → OnOk r B
 on_ok (Ok x) A B h f = f h
@@ -68,6 +68,11 @@ module _ (H : List ℕ → Digest) where
   pub never_against : Digests H → (w : WorldState) (begun : Begun) (acts : List WorldAct) → StandsForActs H begun acts w
       → IsNeverRefused H w
   never_against long w begun acts stands = replies_are_never_refused H long begun acts w stands
+
+  pub found_on : {E : Type 0} (r : Result Outcome E) → Digests H → (w : WorldState) (act : WorldAct) → IfOk r (λ o. o ≡ outcome_on w act)
+      → IfOk r (λ o. (begun : Begun) (acts : List WorldAct) → StandsForActs H begun acts w → IsNotLost o)
+  found_on (Ok o) long w act is = λ begun acts stands. subst IsNotLost (sym is) (no_reply_is_lost H long begun acts w stands act)
+  found_on (Err e) long w act is = tt
 
   pub told_on : {E : Type 0} (r : Result Outcome E) (w v : WorldState) (act : WorldAct) → IfOk r (λ o. o ≡ outcome_on w act)
       → OnOk r (v ≡ next_world H w act) → IfOk r (λ o. ChangesAsTold o w v)

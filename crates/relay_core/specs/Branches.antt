@@ -1,5 +1,5 @@
 -- The branches of the bridge, and what holds of followers beside them, whatever the digest function.
-use Rattle.std.specs.Prelude.{◌≡◌, ℕ, ◌<◌, ◌≤◌, ◌^◌, nat_le, true, List, [], ◌∷◌, ◌++◌, map, length, slice_get, Option, Some, None, option_map}
+use Rattle.std.specs.Prelude.{◌≡◌, ◌≢◌, ℕ, ◌<◌, ◌≤◌, ◌^◌, nat_le, true, List, [], ◌∷◌, ◌++◌, map, length, slice_get, Option, Some, None, option_map}
 use Rattle.std.specs.Prelude.{if◌then◌else◌}
 use Rattle.std.specs.List.{AllByRecursion, AllZip}
 use Rattle.uo_base.specs.declared.event.Limits.{Limits}
@@ -14,9 +14,12 @@ use Rattle.node_rules.specs.Fitting.{AreEventBytes}
 use Rattle.node_rules.specs.Judging.{Rules}
 use Rattle.node_rules.specs.Machine.{BlockCame, Level, State, start, no_tip, event_in, own_judge, step, is_made}
 use Rattle.compact_node.specs.Node.{LevelStands, verdict_on}
+use Rattle.relay_core.specs.declared.act.Kind.TheVariants.{Lost}
+use Rattle.relay_core.specs.declared.act.Outcome.{Outcome}
+use Rattle.relay_core.specs.declared.act.Outcome.TheVariants.{Replied}
 use Rattle.relay_core.specs.declared.store.Reply.{Reply}
 use Rattle.relay_core.specs.Acts.{WorldAct, BridgeTook, FollowerAsked, AskServed, ReplyDelivered}
-use Rattle.relay_core.specs.World.{Sent, FollowerState, WorldState, fresh_world, newest_of, applies, sent_at, event_for, next_world, world_after}
+use Rattle.relay_core.specs.World.{Sent, FollowerState, WorldState, fresh_world, newest_of, applies, sent_at, event_for, next_world, outcome_on, world_after}
 
 -- ---- branches
 
@@ -119,6 +122,17 @@ IsNeverRefused H w = (f j : ℕ) (x : FollowerState) (r : Reply) → slice_get w
 abbrev pub RepliesAreNeverRefused : Type 0
 RepliesAreNeverRefused = (H : List ℕ → Digest) → Digests H → (begun : Begun) (acts : List WorldAct) (w : WorldState) →
     StandsForActs H begun acts w → IsNeverRefused H w
+
+-- no act comes to a reply that says `Lost`: each ask has a serial on the bridge's chain
+abbrev pub IsNotLost : Outcome → Type 0
+IsNotLost o = (reply : ℕ) → o ≢ Replied reply Lost
+
+abbrev pub IsNeverLost : WorldState → Type 0
+IsNeverLost w = (act : WorldAct) → IsNotLost (outcome_on w act)
+
+abbrev pub NoReplyIsLost : Type 0
+NoReplyIsLost = (H : List ℕ → Digest) → Digests H → (begun : Begun) (acts : List WorldAct) (w : WorldState) →
+    StandsForActs H begun acts w → IsNeverLost w
 
 -- a world at its start stands for no act, and one that stands for some acts stands behind a further act for these and that one
 abbrev pub ActsAreFollowed : Type 0

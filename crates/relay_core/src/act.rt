@@ -41,7 +41,8 @@ pub enum Kind {
         /// How many, at least 1 and at most 100.
         count: u32,
     },
-    /// None of the serials is on the chain.
+    /// None of the serials is on the chain. In a world that acts made this never comes: the oldest level of a follower is never above the oldest one
+    /// that the bridge can go back to, and that one stays on the bridge's chain.
     Lost,
 }
 

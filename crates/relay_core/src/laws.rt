@@ -1,5 +1,5 @@
 //! What holds of worlds. There is no code here.
-ghost use Rattle.relay_core.specs.Branches.{ActsAreFollowed, FollowersAreOnBranches, OneSerialOneChain, RepliesAreNeverRefused};
+ghost use Rattle.relay_core.specs.Branches.{ActsAreFollowed, FollowersAreOnBranches, NoReplyIsLost, OneSerialOneChain, RepliesAreNeverRefused};
 ghost use Rattle.relay_core.specs.Changes.{OutcomesTellChanges};
 ghost use Rattle.relay_core.specs.Levels.{SerialsAreOfLevels};
 
@@ -21,6 +21,11 @@ pub fn one_serial_one_chain()
 /// A reply that applies is never refused by the node that it goes to.
 pub fn replies_are_never_refused()
     ensures { RepliesAreNeverRefused }
+{}
+
+/// No reply says `Lost`. The oldest level of a follower is never above the oldest one that the bridge can go back to, so its serial is on the chain.
+pub fn no_reply_is_lost()
+    ensures { NoReplyIsLost }
 {}
 
 /// A follower has a serial for each level of its node, which stands for what the proving node holds behind the branch of that serial.

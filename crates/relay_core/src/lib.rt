@@ -12,7 +12,7 @@ mod world;
 
 pub use act::{Act, Kind, Outcome};
 pub use laws::{
-    acts_are_followed, followers_are_on_branches, one_serial_one_chain, outcomes_tell_changes,
-    replies_are_never_refused, serials_are_of_levels,
+    acts_are_followed, followers_are_on_branches, no_reply_is_lost, one_serial_one_chain,
+    outcomes_tell_changes, replies_are_never_refused, serials_are_of_levels,
 };
 pub use world::World;

@@ -1,10 +1,9 @@
 //! A world.
 ghost use Rattle.std.specs.Prelude.{◌≡◌, ◌+◌, ◌<◌, ◌≤◌, ◌^◌, ◌++◌, ◌∷◌, [], ℕ, suc, length, map, reverse, slice_get, slice_set, option_map};
 ghost use Rattle.std.specs.Prelude.{option_copied, if◌then◌else◌, ◌-◌, List, Some, IfOk, OnOk, OnErr};
-ghost use Rattle.uo_base.specs.Reading.{IsBytes};
 ghost use Rattle.uo_base.specs.FeedEvent as Feed;
 ghost use Rattle.uo_base.specs.FeedEvent.{event_of};
-ghost use Rattle.node_rules.specs.Fitting.{AreEventBytes, IsShort};
+ghost use Rattle.node_rules.specs.Fitting.{IsShort};
 ghost use Rattle.node_rules.specs.Machine.{event_in};
 ghost use Rattle.bridge_prover.specs.Bridge.{verdict_on};
 ghost use Rattle.relay_core.specs.Acts.{WorldAct, FollowerAsked, AskServed, ReplyDelivered, IsShortAct, act_of};
@@ -20,6 +19,7 @@ use block_rules::Verdict;
 use bridge_prover::Bridge;
 use compact_node::Node;
 use leaf_cache::Watch;
+use node_rules::check_bytes;
 use std::alloc::Global;
 use std::marker::Model;
 use std::sync::ledger::Ledger;
@@ -64,7 +64,7 @@ impl<D: Digester> Model for World<D> {
 impl<D: Digester> World<D> {
     ghost use Rattle.relay_core.specs.World.{fresh_world, with_event, next_world, outcome_on};
     ghost use Rattle.relay_core.specs.Changes.{ChangesAsTold};
-    ghost use Rattle.relay_core.specs.Branches.{AreOnBranches, Begun, IsNeverRefused, StandsForActs};
+    ghost use Rattle.relay_core.specs.Branches.{AreOnBranches, Begun, IsNeverRefused, IsNotLost, StandsForActs};
 
     /// A world with no block, and one follower for each watch list, in their order.
     pub fn new(
@@ -142,16 +142,17 @@ impl<D: Digester> World<D> {
         // At most one serial is given.
         ensures counted { length self.new.sent ≤ length self.old.sent + 1 }
 
-        // Where it stands for some acts, it stands for these and this one then, each follower is on the branch of its newest serial, and no
-        // reply that applies is refused.
+        // Where it stands for some acts, it stands for these and this one then, each follower is on the branch of its newest serial, no reply that
+        // applies is refused, and none says `Lost`.
         ensures stands { OnOk result ((begun : Begun) (acts : List WorldAct) → StandsForActs D.digest_of begun acts self.old
             → StandsForActs D.digest_of begun (acts ++ act_of act.entry ∷ []) self.new) }
         ensures branches { OnOk result ((begun : Begun) (acts : List WorldAct) → StandsForActs D.digest_of begun acts self.old
             → AreOnBranches D.digest_of begun (acts ++ act_of act.entry ∷ []) self.new) }
         ensures accepted { (begun : Begun) (acts : List WorldAct) → StandsForActs D.digest_of begun acts self.old
             → IsNeverRefused D.digest_of self.old }
+        ensures found { IfOk result (λ o. (begun : Begun) (acts : List WorldAct) → StandsForActs D.digest_of begun acts self.old → IsNotLost o) }
     {
-        check_bytes(&act);
+        check_act(&act);
         self.handle(act, steps)
     }
 
@@ -318,16 +319,10 @@ fn followers_of<D: Digester>(
 }
 
 // What an act holds is bytes.
-fn check_bytes(act: &Act<'_>)
+fn check_act(act: &Act<'_>)
     ensures { AreActBytes (act_of act.now) }
 {
-    if let Act::Bridge(Event::Block { block, .. }) = act {
-        check_block(block);
+    if let Act::Bridge(event) = act {
+        check_bytes(event);
     }
-}
-
-fn check_block(block: &[u8])
-    ensures { IsBytes block.now }
-{
-    let _length = block.len();
 }

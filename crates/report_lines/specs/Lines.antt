@@ -28,9 +28,11 @@ hash_text hash = encode_lower (reverse hash.0)
 abbrev pub with_one : List ℕ → ℕ → List ℕ
 with_one word x = word ++ codes " " ++ decimal x
 
+-- a word, and two numbers
 abbrev pub with_two : List ℕ → ℕ → ℕ → List ℕ
 with_two word x y = word ++ codes " " ++ decimal x ++ codes " " ++ decimal y
 
+-- why a proof is refused
 abbrev pub proof_text : ProofRefusal → List ℕ
 proof_text (Outside i) = with_one (codes "outside") i
 proof_text (Repeated i j) = with_two (codes "repeated") i j
@@ -39,11 +41,13 @@ proof_text (HashCount want got) = with_two (codes "hashes") want got
 proof_text (EmptyRoot row) = with_one (codes "empty") row
 proof_text (RootDiffers row) = with_one (codes "root") row
 
+-- why a witness is refused
 abbrev pub witness_text : WitnessFault → List ℕ
 witness_text Form = codes "form"
 witness_text Root = codes "root"
 witness_text Unexpected = codes "unexpected"
 
+-- why a block is refused
 abbrev pub refusal_text : Refusal → List ℕ
 refusal_text Why.Block = codes "block"
 refusal_text Why.Link = codes "link"
@@ -65,6 +69,7 @@ refusal_text (Why.Immature tx input) = with_two (codes "immature") tx input
 refusal_text (Why.Overspend tx) = with_one (codes "overspend") tx
 refusal_text (Why.Subsidy claimed allowed) = with_two (codes "subsidy") claimed allowed
 
+-- what is said of an event
 abbrev pub verdict_text : Verdict → List ℕ
 verdict_text (Accepted height hash leaves) = codes "accepted " ++ decimal height ++ codes " " ++ hash_text hash ++ codes " " ++ decimal leaves
 verdict_text (Refused height (Some hash) why) = codes "refused " ++ decimal height ++ codes " " ++ hash_text hash ++ codes " " ++ refusal_text why
@@ -82,6 +87,7 @@ check_fault_text (Check.Version version) = with_one (codes "version") version
 check_fault_text Check.Tip = codes "tip"
 check_fault_text (Check.Proof why) = proof_text why
 
+-- what the bridge replies
 abbrev pub reply_text : ReplyKind → List ℕ
 reply_text Next = codes "next"
 reply_text Same = codes "same"

@@ -1,5 +1,6 @@
 //! The lines of two texts with one digest.
-ghost use Rattle.std.specs.Prelude.{◌≡◌, ◌++◌, OnOk};
+ghost use Rattle.std.specs.Prelude.{◌≡◌, ◌++◌, OnOk, OnErr};
+ghost use Rattle.uo_base.specs.Moved.{Grew};
 ghost use Rattle.report_lines.specs.Lines.{hex_line, text_lines, clash_lines, ticket_clash_lines};
 
 use crate::line::Line;
@@ -10,7 +11,8 @@ use uo_digest::Digest;
 
 // Appends a word and some bytes in hexadecimal, with the byte that ends the line.
 fn push_hex(alloc: Global, word: &str, bytes: &[u8], out: &mut Vec<u8>) -> Result<(), NoMemory>
-    ensures { OnOk result (out.new.items ≡ out.old.items ++ hex_line word.now bytes.now) }
+    ensures ok { OnOk result (out.new.items ≡ out.old.items ++ hex_line word.now bytes.now) }
+    ensures err { OnErr result (out.new.items ≡ out.old.items) }
 {
     let digits = hex::encode(alloc, bytes)?;
     let line = format!(in alloc; "{word} {digits}\n")?;
@@ -27,7 +29,8 @@ fn push_texts(
     digest: &Digest,
     out: &mut Vec<u8>,
 ) -> Result<(), NoMemory>
-    ensures { OnOk result (out.new.items ≡ out.old.items ++ text_lines first.now second.now digest.now) }
+    ensures ok { OnOk result (out.new.items ≡ out.old.items ++ text_lines first.now second.now digest.now) }
+    ensures err { OnErr result (Grew out.old.items out.new.items) }
 {
     push_hex(alloc, "first", first, out)?;
     push_hex(alloc, "second", second, out)?;
@@ -36,7 +39,7 @@ fn push_texts(
 }
 
 /// Appends the four lines of a clash: how many events came before it, two texts, and the digest of both, all bytes in their order. Where
-/// there is no memory, a part may be there.
+/// there is no memory, a part may stand behind the text before it.
 #[tactic(auto, unfolding(crate::specs::Lines::clash_lines))]
 pub fn push_clash(
     alloc: Global,
@@ -46,14 +49,15 @@ pub fn push_clash(
     digest: &Digest,
     out: &mut Vec<u8>,
 ) -> Result<(), NoMemory>
-    ensures { OnOk result (out.new.items ≡ out.old.items ++ clash_lines events first.now second.now digest.now) }
+    ensures ok { OnOk result (out.new.items ≡ out.old.items ++ clash_lines events first.now second.now digest.now) }
+    ensures err { OnErr result (Grew out.old.items out.new.items) }
 {
     push_line(alloc, Line::Clash(events), out)?;
     push_texts(alloc, first, second, digest, out)
 }
 
 /// Appends the four lines of a ticket that is accepted and false: two texts and the digest of both, all bytes in their order. Where there
-/// is no memory, a part may be there.
+/// is no memory, a part may stand behind the text before it.
 #[tactic(auto, unfolding(crate::specs::Lines::ticket_clash_lines))]
 pub fn push_ticket_clash(
     alloc: Global,
@@ -62,7 +66,8 @@ pub fn push_ticket_clash(
     digest: &Digest,
     out: &mut Vec<u8>,
 ) -> Result<(), NoMemory>
-    ensures { OnOk result (out.new.items ≡ out.old.items ++ ticket_clash_lines first.now second.now digest.now) }
+    ensures ok { OnOk result (out.new.items ≡ out.old.items ++ ticket_clash_lines first.now second.now digest.now) }
+    ensures err { OnErr result (Grew out.old.items out.new.items) }
 {
     push_line(alloc, Line::TicketClash, out)?;
     push_texts(alloc, first, second, digest, out)

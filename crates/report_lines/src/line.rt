@@ -45,7 +45,7 @@ pub enum ReplyKind {
     Same,
     /// So many blocks are to be taken back.
     Back(u32),
-    /// None of the follower's blocks is on the bridge's chain.
+    /// None of the follower's levels is on the bridge's chain. The program never says it: the oldest one always is.
     Lost,
 }
 

@@ -36,6 +36,7 @@ abbrev pub kept_entries : (ℕ → Option Place) → List (List ℕ) → ℕ →
 kept_entries place scripts i [] = []
 kept_entries place scripts i (u ∷ us) = cons_option (kept_entry scripts i (place i) u) (kept_entries place scripts (suc i) us)
 
+-- the watched outputs of a level
 abbrev pub level_kept : (List ℕ → Digest) → List (List ℕ) → History → List StoredEntry
 level_kept H scripts us = kept_entries (entry_place (entries H leaf_text us)) scripts 0 us
 
@@ -51,6 +52,7 @@ level_of H scripts l =
     let kept = level_kept H scripts l.history in
     record { tip = l.tip; roots = stump_of H es; kept = kept; hashes = digests_at H es (need (length es) (places_of kept)) }
 
+-- the value of a state that holds every output
 abbrev pub state_of : (List ℕ → Digest) → Net → List (List ℕ) → State → StateValue
 state_of H net scripts s = record { net = net; blocks = s.now.blocks; scripts = scripts; levels = map (level_of H scripts) (s.now ∷ s.older) }
 

@@ -23,6 +23,7 @@ mod spelled;
 mod state;
 mod targets;
 mod telling;
+mod version;
 mod writing;
 
 pub use fault::StateFault;
@@ -33,4 +34,5 @@ pub use laws::{
 pub use level::StoredLevel;
 pub use read::read_state;
 pub use state::StoredState;
+pub use version::split_version;
 pub use writing::{write_front, write_level};

@@ -10,25 +10,11 @@ use crate::fault::StateFault;
 use crate::judging::judge_state;
 use crate::reading::read_body;
 use crate::state::StoredState;
+use crate::version::split_version;
 use forest_place::Naming;
 use std::alloc::Global;
 use std::sync::ledger::Ledger;
 use uo_digest::{Digester, Steps};
-
-// The version and what follows it, where the text begins with `UTXS` and a version.
-fn split_version(text: &[u8]) -> Option<(u8, &[u8])>
-    ensures { MatchOption result
-        ((v : ℕ) (body : List ℕ) → text.now ≡ 85 ∷ 84 ∷ 88 ∷ 83 ∷ v ∷ body → ⊥)
-        (λ parts. text.now ≡ 85 ∷ 84 ∷ 88 ∷ 83 ∷ parts.0 ∷ parts.1.now) }
-{
-    if text.len() < 5 {
-        return None;
-    }
-    if text[0] != b'U' || text[1] != b'T' || text[2] != b'X' || text[3] != b'S' {
-        return None;
-    }
-    Some((text[4], &text[5..]))
-}
 
 // What follows the version of texts that name places so.
 fn read_behind<D: Digester, L: Ledger>(
@@ -61,7 +47,7 @@ pub fn read_state<D: Digester, L: Ledger>(
     ensures none { IsErrOf result StateFault.NotAState → (s : StateValue) → IsState D.digest_of most s → IsTextOf s text.now → ⊥ }
     ensures version { (v : ℕ) → IsErrOf result (StateFault.Version v) ↔ IsOfVersion v text.now }
 {
-    let Some((version, body)) = split_version(text) else {
+    let Some((version, body)) = split_version(b"UTXS", text) else {
         return Err(StateFault::NotAState);
     };
     let Some(naming) = Naming::of_version(version) else {

@@ -9,9 +9,9 @@ use Rattle.uo_digest.specs.declared.digest.Digest.{Digest}
 use Rattle.forest_place.specs.declared.place.Place.{Place}
 use Rattle.forest_place.specs.declared.naming.Naming.TheVariants.{FixedPosition}
 use Rattle.forest_place.specs.Named.{place_by}
-use Rattle.forest_model.specs.Cover.{need, HasShape}
+use Rattle.forest_model.specs.Cover.{HasShape}
 use Rattle.forest_model.specs.Standing.{root}
-use Rattle.forest_model.specs.Evaluation.{asked, nothing_known, IsAccepted}
+use Rattle.forest_model.specs.Evaluation.{nothing_known, IsAccepted}
 use Rattle.forest_model.specs.Right.{entries, IsRight}
 use Rattle.forest_model.proofs.Right.{accepted_from_right}
 use Rattle.forest_roots.specs.Stump.{Stump, root_in}
@@ -23,9 +23,7 @@ use Rattle.proof_shape.specs.declared.fault.ShapeFault.TheVariants as Shape
 use Rattle.proof_shape.specs.Shape.{AreFixedTargets, IsFixedFault}
 use Rattle.proof_shape.specs.Targeted.{Targeted}
 use Rattle.proof_verify.specs.declared.fault.ProofFault.{ProofFault}
-use Rattle.proof_verify.specs.declared.fault.ProofFault.TheVariants as Fault
 use Rattle.proof_verify.specs.Verified.{IsProofFault, IsDeleted}
-use Rattle.proof_verify.proofs.Values.{asked_all}
 use Rattle.block_rules.specs.declared.refusal.ProofRefusal.{ProofRefusal}
 use Rattle.block_rules.specs.declared.refusal.ProofRefusal.TheVariants.{Outside}
 use Rattle.node_rules.specs.Messages.{Message, named, targets}
@@ -36,7 +34,7 @@ use Rattle.node_rules.proofs.Placing.{named_by}
 use Rattle.node_rules.proofs.Righting.{right_is_tested, no_none}
 use Rattle.node_rules.proofs.Same.{is_same-true, is_same-same}
 use Rattle.node_rules.proofs.Shapes.{shape_passes}
-use Rattle.node_rules.proofs.Telling.{count_told, empty_told, other_told}
+use Rattle.node_rules.proofs.Claiming.{full_told}
 use Rattle.ticket_check.specs.Tickets.{Ticket}
 use Rattle.ticket_check.specs.declared.verdict.TicketVerdict.TheVariants as Said
 use Rattle.ticket_check.specs.Alone.{alone, target_at}
@@ -126,18 +124,9 @@ module _ (H : List ℕ → Digest) (f : Stump) (k : Ticket) (p : Place) (e : tar
   abbrev Told : List Place → ProofFault → Type 0
   Told ts fault = IsProofFault H f ts leaves k.hashes fault
 
-  needs : length (asked f.leaves (targets f.leaves (message_of k)) nothing_known) ≡ length (need f.leaves (targets f.leaves (message_of k)))
-  needs = ap length (asked_all f.leaves (targets f.leaves (message_of k)))
-
-  told : (fault : ProofFault) → Told (targets f.leaves (message_of k)) fault → ticket_fault H v k ≡ Some (proof_refusal fault)
-  told (Fault.HashCount want got) w =
-      count_told H v (points k) (message_of k) shaped (λ same. w.2 (w.1 ∙ (same ∙ (needs ∙ sym w.0))))
-      ∙ ap₂ (λ x y. Some (proof_refusal (Fault.HashCount x y))) (needs ∙ sym w.0) (sym w.1)
-  told (Fault.EmptyRoot row) w = empty_told H v (points k) (message_of k) shaped row (w.0 ∙ sym needs) w.1
-  told (Fault.RootDiffers row had computed) w = other_told H v (points k) (message_of k) shaped row (w.0 ∙ sym needs) w.1 w.2
-
   fault_told : (fault : ProofFault) → Told (p ∷ []) fault → Some (proof_refusal fault) ≡ ticket_fault H v k
-  fault_told fault w = sym (told fault (subst (λ ts. Told ts fault) (sym (target_one H v k p e)) w))
+  fault_told fault w = sym (full_told H f nothing_known (points k) FixedPosition (message_of k).proof shaped fault
+      (subst (λ ts. Told ts fault) (sym (target_one H v k p e)) w))
 
 -- ---- what was asked, by the names of the calls
 

@@ -10,6 +10,7 @@ ghost use Rattle.ticket_check.specs.Reading.{body_at, AreWholeDigests, IsWhole, 
 use crate::fault::TicketFault;
 use crate::view::TicketView;
 use leaf_record::read_rest;
+use state_text::split_version;
 use uo_base::Cursor;
 use uo_digest::Digest;
 
@@ -72,28 +73,13 @@ fn read_body<'a>(body: &'a [u8]) -> Option<TicketView<'a>>
     read_whole(body)
 }
 
-// The version and what follows it, where the text begins with `UTXT` and a version.
-fn split_version(text: &[u8]) -> Option<(u8, &[u8])>
-    ensures { MatchOption result
-        ((v : ℕ) (body : List ℕ) → text.now ≡ 85 ∷ 84 ∷ 88 ∷ 84 ∷ v ∷ body → ⊥)
-        (λ parts. text.now ≡ 85 ∷ 84 ∷ 88 ∷ 84 ∷ parts.0 ∷ parts.1.now) }
-{
-    if text.len() < 5 {
-        return None;
-    }
-    if text[0] != b'U' || text[1] != b'T' || text[2] != b'X' || text[3] != b'T' {
-        return None;
-    }
-    Some((text[4], &text[5..]))
-}
-
 // The ticket that the whole text is, or why it is none, in terms of texts.
 fn read_text<'a>(text: &'a [u8]) -> Result<TicketView<'a>, TicketFault>
     ensures found { IfOk result (λ k. TicketFits k × (text.now ≡ ticket_text k)) }
     ensures none { IsErrOf result TicketFault.NotATicket → (k : Ticket) → TicketFits k → text.now ≡ ticket_text k → ⊥ }
     ensures version { (v : ℕ) → IsErrOf result (TicketFault.Version v) ↔ IsOfVersion v text.now }
 {
-    let Some((version, body)) = split_version(text) else {
+    let Some((version, body)) = split_version(b"UTXT", text) else {
         return Err(TicketFault::NotATicket);
     };
     if version != 1 {

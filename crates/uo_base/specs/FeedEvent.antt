@@ -3,6 +3,7 @@ use Rattle.std.specs.Prelude.{ℕ, List, Option, option_copied}
 use Rattle.uo_base.specs.declared.event.Event.{Event}
 use Rattle.uo_base.specs.declared.event.Event.TheVariants.{Block, Rollback, Stray}
 
+-- an event of a feed
 pub data FeedEvent : Type 0 where
   -- a block's bytes, and the message of the proof right before it
   BlockCame : List ℕ → Option (List ℕ) → FeedEvent

@@ -1,4 +1,5 @@
--- What public clauses cite. What only proofs and private functions cite is the last part of Reading, and `ahead`.
+-- What public clauses cite. What only proofs and private functions cite is the last part of Reading, `ahead`,
+-- `is_opening` and `is_making`.
 pub mod Ahead
 pub mod Bits
 pub mod Compact

@@ -7,6 +7,7 @@ use Rattle.uo_digest.specs.declared.digest.Digest.{Digest}
 abbrev pub IsDigest : Digest → Type 0
 IsDigest d = length d.0 ≡ 32
 
+-- its bytes
 abbrev pub digest_text : Digest → List ℕ
 digest_text d = d.0
 

@@ -20,7 +20,7 @@ of_kind file quiet (Quiet s) = quiet s
 pub record IsFileWrite {R F D : Type 0} (told : F → Option (List ℕ)) (old new : FileSink R F D) (result : Result ℕ SinkFault) (piece : List ℕ) : Type
     0 where
   pub name : sink_name new ≡ sink_name old
-  pub file : WritesFile told (sink_file old) (sink_file new) result piece
+  pub file : WritesFile told (sink_name old) (sink_file old) (sink_file new) result piece
 
 -- a write to the sink that is held; of one in memory it is known what it holds
 abbrev pub DoesWrite : {R F D : Type 0} → (told : F → Option (List ℕ)) → (old new : AnySink R F D) → Result ℕ SinkFault → List ℕ → Type 0

@@ -1,12 +1,11 @@
 //! How a bridge judges an event with the message beside it.
-ghost use Rattle.std.specs.Prelude.{◌≡◌, ◌<◌, ◌^◌, length, option_copied, option_map, None, IfOk, IfErr, IfSome, OnOk, OnErr};
+ghost use Rattle.std.specs.Prelude.{◌≡◌, ◌+◌, ◌*◌, ◌≤◌, ◌<◌, ◌^◌, length, option_copied, option_map, None, IfOk, IfErr, IfSome, OnOk, OnErr};
 ghost use Rattle.block_codec.specs.Reading.{block_in};
 ghost use Rattle.uo_base.specs.FeedEvent.{event_of};
 
 use super::Bridge;
 use crate::Judged;
 use crate::accept::check_proof;
-use crate::claims::found_shown;
 use crate::shown::right_entries;
 use block_codec::{BlockView, block_hash};
 use block_rules::{Found, Outside, Refusal, RuleFault, Spends, Verdict, money_rules};
@@ -26,6 +25,7 @@ struct Shown {
 
 impl<D: Digester> Bridge<D> {
     ghost use Rattle.block_codec.specs.Block.{BlockFits, block_hash_of};
+    ghost use Rattle.forest_place.specs.Position.{rows};
     ghost use Rattle.block_rules.specs.declared.refusal.Refusal.TheVariants as Why;
     ghost use Rattle.block_rules.specs.declared.verdict.Verdict.TheVariants as Said;
     ghost use Rattle.node_rules.specs.Fitting.{EventFits, IsShort};
@@ -35,7 +35,7 @@ impl<D: Digester> Bridge<D> {
     ghost use Rattle.node_rules.specs.Judging.{found_by};
     ghost use Rattle.node_rules.specs.Messages.{points_of};
     ghost use Rattle.node_rules.specs.Reading.{handed_in, read};
-    ghost use Rattle.bridge_prover.specs.Full.{JudgesAsFull, LevelsJudged, history_of, judged_on, next_judged, verdict_in, watched_by};
+    ghost use Rattle.bridge_prover.specs.Full.{JudgesAsFull, LevelsJudged, history_of, judged_on, most_judged, next_judged, verdict_in, watched_by};
     ghost use Rattle.bridge_prover.specs.Shown.{AreKnown, Shows};
     ghost use Rattle.bridge_prover.specs.Taken.{IsTaken, IsNotTaken, refusal_beside, view_on};
 
@@ -51,6 +51,7 @@ impl<D: Digester> Bridge<D> {
         ensures verdict { IfOk result (λ j. verdict_in j ≡ judged_on D.digest_of self.old (event_in (event_of event.entry))) }
         ensures next { OnOk result (self.new ≡ next_judged D.digest_of self.old (event_in (event_of event.entry))) }
         ensures stays { OnErr result (self.new ≡ self.old) }
+        ensures steps { steps.new ≤ steps.old + most_judged self.old (event_in (event_of event.entry)) }
 
         // The block has a text.
         ensures fits { IfOk result (λ j. EventFits (event_in (event_of event.entry))) }
@@ -84,6 +85,7 @@ impl<D: Digester> Bridge<D> {
             (BlockCame (block_in bytes.now) (handed_in (option_copied message.entry)))) }
         ensures stays { OnErr result (self.new ≡ self.old) }
         ensures fits { IfOk result (λ j. EventFits (BlockCame (block_in bytes.now) (handed_in (option_copied message.entry)))) }
+        ensures steps { steps.new ≤ steps.old + most_judged self.old (BlockCame (block_in bytes.now) (handed_in (option_copied message.entry))) }
     {
         let chain = self.chain();
         match receive(self.alloc, chain.tip, bytes)? {
@@ -105,6 +107,7 @@ impl<D: Digester> Bridge<D> {
             (BlockCame (Some block.now) (handed_in (option_copied message.entry)))) }
         ensures stays { OnErr result (self.new ≡ self.old) }
         ensures fits { BlockFits block.now }
+        ensures steps { steps.new ≤ steps.old + most_judged self.old (BlockCame (Some block.now) (handed_in (option_copied message.entry))) }
     {
         // That it has a text.
         let _bytes = block.bytes();
@@ -145,6 +148,7 @@ impl<D: Digester> Bridge<D> {
             (handed_in (option_copied message.entry)) taken self.new) }
         ensures err { IfErr result (λ fault. IsNotTaken D.digest_of self.old block.now (handed_in (option_copied message.entry)) fault) }
         ensures stays { OnErr result (self.new ≡ self.old) }
+        ensures steps { steps.new ≤ steps.old + most_judged self.old (BlockCame (Some block.now) (handed_in (option_copied message.entry))) }
     {
         let spends = self.shape(block)?;
         // A block that is not too heavy has few inputs, since it has a text.
@@ -176,6 +180,7 @@ impl<D: Digester> Bridge<D> {
         ensures err { IfErr result (λ fault. IsFirst
             (refusal_beside D.digest_of self.old spends.now.external (handed_in (option_copied message.entry))) fault) }
         ensures stays { self.new ≡ self.old }
+        ensures steps { steps.new ≤ steps.old + length spends.now.external + 2 * (length spends.now.external * rows (length self.old.entries)) }
     {
         let Some(message) = message_rules(self.alloc, spends, message)? else {
             return Ok(Some(Shown {
@@ -205,8 +210,8 @@ impl<D: Digester> Bridge<D> {
         ensures err { IfErr result (λ fault. IsFirst
             (option_map Why.Proof (proof_fault D.digest_of (view_on D.digest_of self.old) (points_of external.now) message.now)) fault) }
         ensures stays { self.new ≡ self.old }
+        ensures steps { steps.new ≤ steps.old + length external.now + 2 * (length external.now * rows (length self.old.entries)) }
     {
-        let found = found_shown(self.alloc, message)?;
         let checked = check_proof(
             self.alloc,
             &self.forest,
@@ -228,6 +233,9 @@ impl<D: Digester> Bridge<D> {
         let Some(numbers) = right else {
             return Ok(None);
         };
-        Ok(Some(Shown { numbers, found }))
+        Ok(Some(Shown {
+            numbers,
+            found: checked.into_found(),
+        }))
     }
 }

@@ -8,7 +8,7 @@ use published::{FIRST_COINBASE, Ids, PUBLISHED};
 use std::alloc::Global;
 use std::process::Abort;
 use std::test::Fail;
-use tx_codec::{Items, TxView, one_tx, read_tx, write_copy, write_tx};
+use tx_codec::{Items, TxView, one_tx, read_tx, write_tx};
 use uo_base::Cursor;
 use uo_digest::{hex_plain, hex_reversed};
 
@@ -27,9 +27,7 @@ fn check_written(rt: &impl Abort, alloc: Global, tx: &TxView<'_>, text: &[u8]) -
     let mut out = Vec::from_slice(alloc, [1, 2, 3].as_slice())?;
     let copy = tx.to_tx(alloc)?;
     write_tx(&copy, &mut out)?;
-    write_copy(alloc, tx, &mut out)?;
     let mut wanted = Vec::from_slice(alloc, [1, 2, 3].as_slice())?;
-    wanted.extend_from_slice(text)?;
     wanted.extend_from_slice(text)?;
     assert!(rt; out.as_slice() == wanted.as_slice());
     Ok(())

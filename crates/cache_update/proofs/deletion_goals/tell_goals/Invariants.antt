@@ -1,7 +1,7 @@
 use Rattle.std.proofs.Common.{◌≡◌, ℕ, ◌+◌, ◌<◌, ◌≤◌, length, get_or, vec_len, vec_capacity}
 use Rattle.uo_digest.specs.declared.digest.Digest.{Digest}
 use Rattle.forest_place.specs.declared.place.Place.{Place}
-use Rattle.proof_shape.specs.Survey.{up}
+use Rattle.forest_place.specs.Places.{up}
 use Rattle.cache_update.specs.DeletionGoals.{GoesWith, NoneBefore, TellGoals}
 use Rattle.cache_update.proofs.deletion_goals.tell_goals.Given as goal
 

@@ -1,5 +1,5 @@
 use Rattle.std.specs.Prelude.{option_copied}
-use Rattle.compact_node.specs.Node.{view_by}
+use Rattle.node_rules.specs.Claimed.{view_by}
 use Rattle.compact_node.proofs.Claiming.{proof_errs}
 use Rattle.compact_node.proofs.claims.claim_in.Goals as goal
 

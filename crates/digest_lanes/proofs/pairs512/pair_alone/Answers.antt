@@ -1,13 +1,8 @@
-use Rattle.std.proofs.Common.{◌≡◌, ℕ, List, [], ◌∷◌, ◌++◌, map, refl, sym, ap, ◌∙◌, arith}
+use Rattle.std.proofs.Common.{◌++◌, map-id, sym, ap, ◌∙◌, arith}
 use Rattle.std.specs.Prelude.{take}
 use Rattle.sha2.specs.Sha512.{compress, digest_bytes, padded_message}
 use Rattle.digest_lanes.proofs.Pair512Lemmas.{digest_front, sha512_256_of_pair}
 use Rattle.digest_lanes.proofs.pairs512.pair_alone.Goals as goal
-
--- the words of one lane are those of the text
-one_lane : (words : List ℕ) → map (λ word. word) words ≡ words
-one_lane [] = refl
-one_lane (w ∷ ws) = ap (λ xs. w ∷ xs) (one_lane ws)
 
 pub returns : goal.returns
 returns c =
@@ -15,10 +10,10 @@ returns c =
     let far = c.half_of_one-far.ensures in
     let l = c.args.left.now in
     let r = c.args.right.now in
-    let words = c.pair_words-words.ensures 0 (omega arith) l r near.long far.long (one_lane c.half_of_one-near.result ∙ near.words)
-    (one_lane c.half_of_one-far.result ∙ far.words) in
+    let words = c.pair_words-words.ensures 0 (omega arith) l r near.long far.long (map-id c.half_of_one-near.result ∙ near.words)
+    (map-id c.half_of_one-far.result ∙ far.words) in
     let block = padded_message (l ++ r) in
-    let state = sym (one_lane c.compress-state.result) ∙ c.compress-state.ensures 0 (omega arith) block words
+    let state = sym (map-id c.compress-state.result) ∙ c.compress-state.ensures 0 (omega arith) block words
     ∙ ap (λ s. compress s block) (c.initial_state.ensures 0 (omega arith)) in
     c.digest.ensures ∙ digest_front c.compress-state.result ∙ ap (λ s. take 32 (digest_bytes s 8)) state
     ∙ sha512_256_of_pair l r near.long far.long

@@ -11,5 +11,5 @@ unfolding event_text
 returns-clause-sent c =
     let frame = frame_text (block_magic c.args.net) c.args.block.now in
     let message = option_map (upgraded c.args.n) (option_copied c.args.message) in
-    c.in_ok-push_block.ensures ∙ ap (λ (w : List ℕ). w ++ frame) c.in_ok-old.ensures.sent
+    c.in_ok-push_block.ensures.whole ∙ ap (λ (w : List ℕ). w ++ frame) c.in_ok-old.ensures.sent
     ∙ append_assoc c.args.sent.now.bytes.items (proof_frame_text message) frame

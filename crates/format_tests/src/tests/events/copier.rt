@@ -1,8 +1,8 @@
 //! The handler.
-ghost use Rattle.std.specs.Prelude.{◌≡◌, ◌≤◌, ◌++◌, IfOk, OnOk};
+ghost use Rattle.std.specs.Prelude.{◌≡◌, ◌≤◌, ◌++◌, false, IfOk, OnOk};
 ghost use Rattle.std.specs.String.{string_bytes};
 ghost use Rattle.uo_base.specs.FeedEvent.{event_of};
-ghost use Rattle.feed_run.specs.Copying.{Copying, copying, frame_of, count_line};
+ghost use Rattle.format_tests.specs.Copying.{Copying, copying, frame_of, count_line};
 ghost use Rattle.feed_run.specs.Machine.{IsShort};
 
 use feed_run::{EventHandler, Piece, Status, Stop};
@@ -37,6 +37,8 @@ impl EventHandler for Copier {
     ghost state = { λ c. record { net = c.net; copied = c.copied } };
 
     ghost machine = { copying };
+
+    ghost digests = { false };
 
     fn take<L: Ledger>(
         &mut self,

@@ -5,7 +5,7 @@ use std::alloc::Global;
 use std::fs::remove_file;
 use std::rt::Files;
 use std::test::Fail;
-use uo_base::{Failed, FileSink, FileSource, Source, fill, put_all};
+use uo_base::{Failed, FileSink, FileSource, Sink, Source, fill, put_all};
 
 /// More than is read ahead at once, and no multiple of it.
 const LONG: u32 = 200_001;
@@ -70,5 +70,15 @@ fn missing_files_fail(rt: HostRuntime) -> Result<(), Fail> {
     for _ in 0..2 {
         assert!(rt; source.read(&mut [0; 4]) == Err(Failed));
     }
+    Ok(())
+}
+
+#[test]
+fn an_empty_piece_makes_no_file(rt: HostRuntime) -> Result<(), Fail> {
+    let name = "uo_base_empty_piece";
+    let mut sink = FileSink::new(&rt, String::from_str(rt.alloc(), name)?);
+    assert!(rt; sink.write(&[]) == Ok(0));
+    let mut source = FileSource::new(&rt, String::from_str(rt.alloc(), name)?);
+    assert!(rt; source.read(&mut [0; 4]) == Err(Failed));
     Ok(())
 }

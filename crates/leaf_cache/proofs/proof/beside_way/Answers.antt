@@ -11,8 +11,8 @@ returns-in_default c = way_ends c.args.held.now _ _ _ _ c.loop-place.invariant c
     c.sibling.ensures.row c.sibling.ensures.off c.digest_in.ensures c.in_default.is
 
 pub loop-place-preserved : goal.loop-place-preserved
-loop-place-preserved c = way_on c.args.held.now _ _ _ _ c.loop-place.invariant c.sibling.result c.in-Some.digest c.digest_in.result _
-    c.loop-place-test.true c.sibling.ensures.row c.sibling.ensures.off c.digest_in.ensures c.in-Some.is c.in_ok-push.ensures.items
+loop-place-preserved c = rw (c.parent-place.ensures.row, c.parent-place.ensures.off) (way_on c.args.held.now _ _ _ _ c.loop-place.invariant c.sibling.result c.in-Some.digest c.digest_in.result _
+    c.loop-place-test.true c.sibling.ensures.row c.sibling.ensures.off c.digest_in.ensures c.in-Some.is c.in_ok-push.ensures.items)
 
 pub returns : goal.returns
 returns c = way_top c.args.held.now _ _ _ _ c.loop-place.invariant (omega (arith, c.loop-place-test.false))

@@ -9,7 +9,7 @@ use Rattle.live_forest.specs.Proving.{list_of}
 use Rattle.live_forest.proofs.Seeking.{alike, tree_none}
 use Rattle.live_forest.proofs.Noting.{there, digest_here, rows_stay}
 use Rattle.live_forest.proofs.Beneath.{noted_is}
-use Rattle.live_forest.proofs.Following.{all_in_half, own_kept, pair_of, other_pair, half_within, half_stands, high_above, stand_beneath, on_half}
+use Rattle.live_forest.proofs.Following.{first_half, other_of, first_pair, all_in_half, own_kept, pair_of, other_pair, half_within, half_stands, high_above, stand_beneath, on_half}
 use Rattle.live_forest.proofs.Following.{on_both}
 use Rattle.live_forest.specs.Parts.{entries_in}
 use Rattle.live_forest.proofs.proving.descend_to_fork.Goals as goal
@@ -21,8 +21,8 @@ share_half-requires g c =
       row_small (length (entries_in c.args.n c.args.store.now)) c.way.at.row c.way.at.off 40 c.way.invariant.within c.requires.small,
     )
 
-pub overflow_shr-first : goal.overflow_shr-first
-overflow_shr-first g c =
+pub overflow_shr-half : goal.overflow_shr-half
+overflow_shr-half g c =
     let row = row_small (length (entries_in c.args.n c.args.store.now)) c.way.at.row c.way.at.off 40 c.way.invariant.within c.requires.small in
     omega (arith, row)
 
@@ -33,15 +33,10 @@ pub beside_in-requires-clause-within : goal.beside_in-requires-clause-within
 beside_in-requires-clause-within g c =
     let es = entries_in c.args.n c.args.store.now in
     let at = c.way.at in
-    let half = c.child-half.result in
-    let other : Place = record { row = half.row; off = sibling_off half.off } in
-    let pair = pair_of at half other _ (c.share_half.ensures.0 c.way-test.true).0 c.child-half.ensures refl refl in
-    let some = c.requires.some in
-    let inside = all_in_half es at half c.args.numbers.now c.requires.rise some (c.share_half.ensures.0 c.way-test.true).0 c.child-half.ensures
-    (c.share_half.ensures.0 c.way-test.true).1 c.way.invariant.inside in
-    let first = (inside 0 0 some).1 in
-    subst (λ o. InForest (length es) half.row (sibling_off o)) (sym first)
-    (half_within (length es) at other half (other_pair at half other pair) c.way.invariant.within)
+    let half = first_half at c.args.numbers.now in
+    let other = other_of half in
+    let pair = first_pair es at c.args.numbers.now c.requires.some (c.share_half.ensures.0 c.way-test.true).0 c.way.invariant.inside in
+    half_within (length es) at other half (other_pair at half other pair) c.way.invariant.within
 
 pub way-preserved-in-None : goal.way-preserved-in-None
 way-preserved-in-None g c =
@@ -50,15 +45,14 @@ way-preserved-in-None g c =
     let parts = c.args.store.now in
     let at = c.way.at in
     let q = c.way.above in
-    let half = c.child-half.result in
-    let other : Place = record { row = half.row; off = sibling_off half.off } in
-    let pair = pair_of at half other _ (c.share_half.ensures.0 c.way-test.true).0 c.child-half.ensures refl refl in
+    let half = first_half at c.args.numbers.now in
+    let other = other_of half in
+    let share = c.share_half.ensures.0 c.way-test.true in
     let some = c.requires.some in
-    let inside = all_in_half es at half c.args.numbers.now c.requires.rise some (c.share_half.ensures.0 c.way-test.true).0 c.child-half.ensures
-    (c.share_half.ensures.0 c.way-test.true).1 c.way.invariant.inside in
-    let first = (inside 0 0 some).1 in
+    let pair = first_pair es at c.args.numbers.now some share.0 c.way.invariant.inside in
+    let inside = all_in_half es at c.args.numbers.now c.requires.rise some share.1 c.way.invariant.inside in
     let none : None ≡ kept es parts other.row other.off =
-    c.in-None.ensures ∙ ap (λ o. kept es parts half.row (sibling_off o)) first in
+    c.in-None.ensures in
     let nothing : content es other.row other.off ≡ None = tree_none es parts (alike H es parts c.requires.right) other.row other.off
     (half_within (length es) at other half (other_pair at half other pair) c.way.invariant.within) none in
     record {
@@ -78,17 +72,16 @@ child-below-requires-clause-row g c =
     let parts = c.args.store.now in
     let at = c.way.at in
     let q = c.way.above in
-    let half = c.child-half.result in
-    let other : Place = record { row = half.row; off = sibling_off half.off } in
-    let pair = pair_of at half other _ (c.share_half.ensures.0 c.way-test.true).0 c.child-half.ensures refl refl in
+    let half = first_half at c.args.numbers.now in
+    let other = other_of half in
+    let share = c.share_half.ensures.0 c.way-test.true in
     let some = c.requires.some in
-    let inside = all_in_half es at half c.args.numbers.now c.requires.rise some (c.share_half.ensures.0 c.way-test.true).0 c.child-half.ensures
-    (c.share_half.ensures.0 c.way-test.true).1 c.way.invariant.inside in
-    let first = (inside 0 0 some).1 in
+    let pair = first_pair es at c.args.numbers.now some share.0 c.way.invariant.inside in
+    let inside = all_in_half es at c.args.numbers.now c.requires.rise some share.1 c.way.invariant.inside in
     let one = own_kept H es parts c.requires.right half.row half.off _ (half_within (length es) at half other pair c.way.invariant.within)
-    (inside 0 0 some).0 first in
+    (inside 0 0 some).0 refl in
     let two : Some c.in-Some.digest.now ≡ kept es parts other.row other.off =
-    c.in-Some.ensures ∙ ap (λ o. kept es parts half.row (sibling_off o)) first in
+    c.in-Some.ensures in
     let above = high_above H es parts c.requires.right at half other q one.0 c.in-Some.digest.now pair c.way.invariant.within c.way.invariant.stands
     one.1 two in
     above
@@ -100,28 +93,27 @@ put-requires g c =
     let parts = c.args.store.now in
     let at = c.way.at in
     let q = c.way.above in
-    let half = c.child-half.result in
-    let other : Place = record { row = half.row; off = sibling_off half.off } in
-    let pair = pair_of at half other _ (c.share_half.ensures.0 c.way-test.true).0 c.child-half.ensures refl refl in
+    let half = first_half at c.args.numbers.now in
+    let other = other_of half in
+    let share = c.share_half.ensures.0 c.way-test.true in
     let some = c.requires.some in
-    let inside = all_in_half es at half c.args.numbers.now c.requires.rise some (c.share_half.ensures.0 c.way-test.true).0 c.child-half.ensures
-    (c.share_half.ensures.0 c.way-test.true).1 c.way.invariant.inside in
-    let first = (inside 0 0 some).1 in
+    let pair = first_pair es at c.args.numbers.now some share.0 c.way.invariant.inside in
+    let inside = all_in_half es at c.args.numbers.now c.requires.rise some share.1 c.way.invariant.inside in
     let one = own_kept H es parts c.requires.right half.row half.off _ (half_within (length es) at half other pair c.way.invariant.within)
-    (inside 0 0 some).0 first in
+    (inside 0 0 some).0 refl in
     let two : Some c.in-Some.digest.now ≡ kept es parts other.row other.off =
-    c.in-Some.ensures ∙ ap (λ o. kept es parts half.row (sibling_off o)) first in
+    c.in-Some.ensures in
     let above = high_above H es parts c.requires.right at half other q one.0 c.in-Some.digest.now pair c.way.invariant.within c.way.invariant.stands
     one.1 two in
     let below = c.child-below.result in
     let beside = c.sibling.result in
-    let under = pair_of q below beside _ above c.child-below.ensures c.sibling.ensures.row c.sibling.ensures.off in
-    let alike : below.off % 2 ≡ half.off % 2 = let off = ap (λ (p : Place). p.off) c.child-below.ensures in omega (arith, off) in
+    let under = pair_of q below beside _ c.side.ensures.side above c.child-below.ensures c.sibling.ensures.row c.sibling.ensures.off in
+    let alike : below.off % 2 ≡ half.off % 2 = let off = ap (λ (p : Place). p.off) c.child-below.ensures in omega (arith, off, c.side.ensures.is) in
     let beneath = stand_beneath H es parts c.requires.right at half other q below beside one.0 c.in-Some.digest.now pair under alike
     c.way.invariant.within c.way.invariant.stands one.1 two in
     let there' = there H es parts c.requires.right other.row other.off beside c.in-Some.digest.now
     (half_within (length es) at other half (other_pair at half other pair) c.way.invariant.within) beneath.other_there two in
-    c.way.invariant.wide.is beside.row beside.off there'
+    (c.way.invariant.wide beside.row).1 (omega (arith, there'))
 
 pub way-preserved : goal.way-preserved
 way-preserved g c =
@@ -130,23 +122,22 @@ way-preserved g c =
     let parts = c.args.store.now in
     let at = c.way.at in
     let q = c.way.above in
-    let half = c.child-half.result in
-    let other : Place = record { row = half.row; off = sibling_off half.off } in
-    let pair = pair_of at half other _ (c.share_half.ensures.0 c.way-test.true).0 c.child-half.ensures refl refl in
+    let half = first_half at c.args.numbers.now in
+    let other = other_of half in
+    let share = c.share_half.ensures.0 c.way-test.true in
     let some = c.requires.some in
-    let inside = all_in_half es at half c.args.numbers.now c.requires.rise some (c.share_half.ensures.0 c.way-test.true).0 c.child-half.ensures
-    (c.share_half.ensures.0 c.way-test.true).1 c.way.invariant.inside in
-    let first = (inside 0 0 some).1 in
+    let pair = first_pair es at c.args.numbers.now some share.0 c.way.invariant.inside in
+    let inside = all_in_half es at c.args.numbers.now c.requires.rise some share.1 c.way.invariant.inside in
     let one = own_kept H es parts c.requires.right half.row half.off _ (half_within (length es) at half other pair c.way.invariant.within)
-    (inside 0 0 some).0 first in
+    (inside 0 0 some).0 refl in
     let two : Some c.in-Some.digest.now ≡ kept es parts other.row other.off =
-    c.in-Some.ensures ∙ ap (λ o. kept es parts half.row (sibling_off o)) first in
+    c.in-Some.ensures in
     let above = high_above H es parts c.requires.right at half other q one.0 c.in-Some.digest.now pair c.way.invariant.within c.way.invariant.stands
     one.1 two in
     let below = c.child-below.result in
     let beside = c.sibling.result in
-    let under = pair_of q below beside _ above c.child-below.ensures c.sibling.ensures.row c.sibling.ensures.off in
-    let alike : below.off % 2 ≡ half.off % 2 = let off = ap (λ (p : Place). p.off) c.child-below.ensures in omega (arith, off) in
+    let under = pair_of q below beside _ c.side.ensures.side above c.child-below.ensures c.sibling.ensures.row c.sibling.ensures.off in
+    let alike : below.off % 2 ≡ half.off % 2 = let off = ap (λ (p : Place). p.off) c.child-below.ensures in omega (arith, off, c.side.ensures.is) in
     let beneath = stand_beneath H es parts c.requires.right at half other q below beside one.0 c.in-Some.digest.now pair under alike
     c.way.invariant.within c.way.invariant.stands one.1 two in
     let within' = half_within (length es) at other half (other_pair at half other pair) c.way.invariant.within in

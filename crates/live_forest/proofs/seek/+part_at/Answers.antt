@@ -1,4 +1,5 @@
-use Rattle.std.proofs.Common.{length, sym, ◌∙◌, subst, arith}
+use Rattle.std.proofs.Common.{length, sym, ap, ◌∙◌, subst, arith}
+use Rattle.forest_place.specs.Places.{child}
 use Rattle.forest_place.proofs.Positions.{row_small}
 use Rattle.live_forest.specs.Lookups.{IsPartAt}
 use Rattle.live_forest.proofs.Seeking.{none_of, some_of, up_code, part_at_root, nothing_at_root, entry_above, node_above}
@@ -47,7 +48,7 @@ returns-then-node-eq0 t c =
 
 pub returns-else-node-eq0 : goal.returns-else-node-eq0
 returns-else-node-eq0 t c =
-    subst (IsPartAt (entries_in c.args.n c.args.store.now) c.args.row c.args.off) (sym c.child.ensures)
+    subst (IsPartAt (entries_in c.args.n c.args.store.now) c.args.row c.args.off) (sym (c.child.ensures ∙ ap (λ s. child s c.smallest-node.result) c.side.ensures.is))
     (node_above (entries_in c.args.n c.args.store.now) c.args.store.now c.requires.alike c.args.row c.args.off c.in-Some.above
     c.smallest-node.result
     c.requires.within (sym c.is_root.ensures ∙ c.if-is_root.false) c.in-Some.ensures c.smallest-node.ensures

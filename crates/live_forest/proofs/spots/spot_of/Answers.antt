@@ -33,7 +33,7 @@ returns-then-has_some c =
     let some = ap (has_part s row) (sym c.sibling.ensures.off) ∙ sym c.has_some.ensures ∙ c.if-has_some.true in
     let cell : c.rank.result ≡ rank s (middle row (off / 2)) =
     c.rank.ensures ∙ ap (rank s) (c.middle.ensures ∙ ap (middle row) c.parent-above.ensures.off) in
-    ap (λ k. record { cell = k; right = off % 2 == 1 }) cell ∙ sym (spot_beside s row off c.rows-test.true some) ∙ sym c.rows.invariant.2
+    ap₂ (λ k o. record { cell = k; right = o == 1 }) cell c.side.ensures.is ∙ sym (spot_beside s row off c.rows-test.true some) ∙ sym c.rows.invariant.2
 
 pub rows-preserved : goal.rows-preserved
 rows-preserved c =

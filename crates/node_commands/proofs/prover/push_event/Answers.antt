@@ -12,4 +12,4 @@ returns-in-Rollback c =
     OnOk-map c.push_rollback.result
     (λ e. e ∙ ap (λ w. c.args.sent.now.bytes.items ++ w) (sym (ap
     (λ ev. event_text c.args.net (beside (option_map (λ bytes. bytes.items) c.args.proved.now.message) (event_of ev))) c.in-Rollback.is)))
-    c.push_rollback.ensures
+    c.push_rollback.ensures.whole

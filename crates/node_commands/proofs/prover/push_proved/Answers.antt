@@ -14,4 +14,4 @@ returns c =
     OnOk-map c.push_block.result
     (λ e. e ∙ ap (λ (w : List ℕ). w ++ frame) c.in_ok-push_message.ensures
     ∙ append_assoc c.args.sent.now.bytes.items (proof_frame_text message) frame)
-    c.push_block.ensures
+    c.push_block.ensures.whole

@@ -17,7 +17,7 @@ returns-in-Some-clause-served g c =
     λ out.
     serves-judged g.D.Digester.digest_of c.args.rechecker.now c.args.net c.args.bytes _ _ _ _ _ _ _ _ _ c.in_ok-ending.ensures.ended _
     (last-line _ _ c.in-Some.status c.in-Some.line (sym c.bad_end.ensures ∙ c.in-Some.is)) refl out c.say.result c.say.ensures.status
-    c.say.ensures.whole c.say.ensures.part c.say.ensures.read c.in_ok-ending.ensures.kept_up
+    c.say.ensures.whole c.say.ensures.part c.say.ensures.read c.in_ok-ending.ensures.kept_up c.in_ok-ending.ensures.wanted
 
 pub returns-clause-served : goal.returns-clause-served
 returns-clause-served g c =
@@ -25,3 +25,4 @@ returns-clause-served g c =
     serves-judged g.D.Digester.digest_of c.args.rechecker.now c.args.net c.args.bytes _ _ _ _ _ _ _ _ _ c.in_ok-ending.ensures.ended _
     (last-end _ _ (sym c.bad_end.ensures ∙ c.in-None.is)) (end-quiet g.D.Digester.digest_of c.handle_feed.new.handler) out c.tell_judged.result
     c.tell_judged.ensures.status c.tell_judged.ensures.said c.tell_judged.ensures.part c.tell_judged.ensures.read c.in_ok-ending.ensures.kept_up
+    c.in_ok-ending.ensures.wanted

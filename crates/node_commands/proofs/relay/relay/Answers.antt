@@ -4,14 +4,15 @@ use Rattle.bridge_prover.specs.Watched.{scripts_of}
 use Rattle.feed_run.specs.declared.status.Status.TheVariants.{Prior}
 use Rattle.relay_script.specs.Reading.{script_in}
 use Rattle.report_lines.specs.declared.line.Line.TheVariants as Line
-use Rattle.node_commands.specs.Relaying.{IsPriorOf, RelayStart, lists_for, prior_text, read_as, relay_start, relaying, script_of}
+use Rattle.node_commands.specs.PriorText.{prior_text}
+use Rattle.node_commands.specs.Relaying.{IsScriptText, RelayStart, lists_for, read_as, relay_start, relaying, script_of}
 use Rattle.node_commands.specs.Watching.{IsListOf}
 use Rattle.node_commands.proofs.RanLemmas.{ran-unbegun, ran-refusing, ran-begun}
 use Rattle.node_commands.proofs.RelayLemmas.{relay-begins, relay-serves, fresh-is}
 use Rattle.node_commands.proofs.relay.relay.Goals as goal
 
 pub returns-in_err-watch-clause-ran : goal.returns-in_err-watch-clause-ran
-returns-in_err-watch-clause-ran g c = λ out. ran-unbegun _ _ _ _ _ _ _ _ c.from_residual.ensures.0
+returns-in_err-watch-clause-ran g c = λ out. ran-unbegun _ _ _ _ _ _ _ _ c.from_residual.ensures.0 tt
 
 pub returns-in-Err-clause-ran : goal.returns-in-Err-clause-ran
 returns-in-Err-clause-ran g c =
@@ -21,21 +22,21 @@ returns-in-Err-clause-ran g c =
     ran-refusing (relaying g.D.Digester.digest_of c.args.limits c.args.followers c.args.net c.args.scripted c.args.listed) _ prior _ (told_text prior)
     l.text (Tells-told_text prior) l.told c.in-Err.bad
     (ap (λ x. relay_start c.args.followers x (script_of (prior_text c.args.scripted c.args.limits.bytes (told_text prior)))) l.is) _ _ _ _
-    c.say.result c.say.ensures.status c.say.ensures.whole c.say.ensures.part
+    c.say.result c.say.ensures.status c.say.ensures.whole c.say.ensures.part tt
 
 pub returns-in_err-text-clause-ran : goal.returns-in_err-text-clause-ran
-returns-in_err-text-clause-ran g c = λ out. ran-unbegun _ _ _ _ _ _ _ _ c.from_residual-in_err-text.ensures.0
+returns-in_err-text-clause-ran g c = λ out. ran-unbegun _ _ _ _ _ _ _ _ c.from_residual-in_err-text.ensures.0 tt
 
 pub returns-in-Err-2-clause-ran : goal.returns-in-Err-2-clause-ran
 returns-in-Err-2-clause-ran g c =
     λ out.
     let l = subst (IsListOf _ _ _) c.in-Ok.is c.in_ok-watch.ensures.list in
-    let t = subst (λ x. IsPriorOf c.args.scripted c.args.limits.bytes (g.P.Source.left c.args.prior.now) (read_as (λ text. text.items) x))
+    let t = subst (λ x. IsScriptText c.args.scripted c.args.limits.bytes (g.P.Source.left c.args.prior.now) (read_as (λ text. text.items) x))
     c.in-Err-2.is c.in_ok-text.ensures.text in
     ran-refusing (relaying g.D.Digester.digest_of c.args.limits c.args.followers c.args.net c.args.scripted c.args.listed) _ _ _ t.text l.text t.told
     l.told c.in-Err-2.bad
     (ap₂ (λ x y. relay_start c.args.followers x (script_of y)) l.is t.is) _ _ _ _ c.say-in-Err-2.result c.say-in-Err-2.ensures.status
-    c.say-in-Err-2.ensures.whole c.say-in-Err-2.ensures.part
+    c.say-in-Err-2.ensures.whole c.say-in-Err-2.ensures.part tt
 
 pub returns-clause-read : goal.returns-clause-read
 returns-clause-read g c = λ failed. inl (c.serve_script.ensures.read failed)
@@ -44,7 +45,7 @@ pub returns-in-Err-read_script-clause-ran : goal.returns-in-Err-read_script-clau
 returns-in-Err-read_script-clause-ran g c =
     λ out.
     let l = subst (IsListOf _ _ _) c.in-Ok.is c.in_ok-watch.ensures.list in
-    let t = subst (λ x. IsPriorOf c.args.scripted c.args.limits.bytes (g.P.Source.left c.args.prior.now) (read_as (λ text. text.items) x))
+    let t = subst (λ x. IsScriptText c.args.scripted c.args.limits.bytes (g.P.Source.left c.args.prior.now) (read_as (λ text. text.items) x))
     c.in-Ok-2.is c.in_ok-text.ensures.text in
     let fault = c.in-Err-read_script.fault in
     ran-refusing (relaying g.D.Digester.digest_of c.args.limits c.args.followers c.args.net c.args.scripted c.args.listed) _ _ _ t.text l.text t.told
@@ -52,19 +53,19 @@ returns-in-Err-read_script-clause-ran g c =
     (relay-begins c.args.followers _ _ c.in-Ok.watch c.in-Ok-2.text.items (Err fault) l.is t.is
     (c.in-Err-read_script.ensures.exact ∙ ap script_in c.as_slice.ensures.value))
     _ _ _ _ c.say-in-Err-read_script.result c.say-in-Err-read_script.ensures.status c.say-in-Err-read_script.ensures.whole
-    c.say-in-Err-read_script.ensures.part
+    c.say-in-Err-read_script.ensures.part tt
 
 pub returns-in_err-lists-clause-ran : goal.returns-in_err-lists-clause-ran
-returns-in_err-lists-clause-ran g c = λ out. ran-unbegun _ _ _ _ _ _ _ _ c.from_residual-in_err-lists.ensures.0
+returns-in_err-lists-clause-ran g c = λ out. ran-unbegun _ _ _ _ _ _ _ _ c.from_residual-in_err-lists.ensures.0 tt
 
 pub returns-in_err-world-clause-ran : goal.returns-in_err-world-clause-ran
-returns-in_err-world-clause-ran g c = λ out. ran-unbegun _ _ _ _ _ _ _ _ c.from_residual-in_err-world.ensures.0
+returns-in_err-world-clause-ran g c = λ out. ran-unbegun _ _ _ _ _ _ _ _ c.from_residual-in_err-world.ensures.0 tt
 
 pub returns-clause-ran : goal.returns-clause-ran
 returns-clause-ran g c =
     λ out.
     let l = subst (IsListOf _ _ _) c.in-Ok.is c.in_ok-watch.ensures.list in
-    let t = subst (λ x. IsPriorOf c.args.scripted c.args.limits.bytes (g.P.Source.left c.args.prior.now) (read_as (λ text. text.items) x))
+    let t = subst (λ x. IsScriptText c.args.scripted c.args.limits.bytes (g.P.Source.left c.args.prior.now) (read_as (λ text. text.items) x))
     c.in-Ok-2.is c.in_ok-text.ensures.text in
     let lines = c.in-Ok-read_script.script in
     let lists = lists_for c.args.followers (scripts_of c.in-Ok.watch) in

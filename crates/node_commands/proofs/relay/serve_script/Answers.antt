@@ -13,4 +13,4 @@ returns-clause-served g c =
     script-last g.D.Digester.digest_of c.args.relayer.now c.args.net c.args.bytes c.handle_feed.new.handler c.in_ok-ending.ending
     c.in_ok-ending.ensures.ended
     c.write_last.result c.write_last.ensures.status c.write_last.ensures.said c.write_last.ensures.part c.write_last.ensures.read
-    c.in_ok-ending.ensures.kept_up
+    c.in_ok-ending.ensures.kept_up c.in_ok-ending.ensures.wanted

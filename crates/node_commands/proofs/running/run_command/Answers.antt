@@ -8,7 +8,7 @@ use Rattle.node_commands.specs.Prover.{proving}
 use Rattle.node_commands.specs.Rechecking.{rechecking}
 use Rattle.node_commands.specs.Relaying.{relaying}
 use Rattle.node_commands.specs.UpgradingFeed.{upgrading_feed}
-use Rattle.node_commands.proofs.RanLemmas.{copied_some, ran-refusing, ran-words, ran-afresh, ran-on, ran-named, ran-beside, watch-afresh, read-afresh}
+use Rattle.node_commands.proofs.RanLemmas.{copied_some, ran-alone, ran-refusing, ran-words, ran-afresh, ran-on, ran-named, ran-beside, watch-afresh, read-afresh}
 use Rattle.node_commands.proofs.running.run_command.Goals as goal
 
 pub returns-in-Err-clause-ran : goal.returns-in-Err-clause-ran
@@ -18,7 +18,7 @@ returns-in-Err-clause-ran g c =
     ran-words _ _ _ _ _ _ _ _ _ _ _ _ _ _ _ c.in-Err.ensures.exact
     (ran-refusing (refusing c.in-Err.fault) _ prior watch (told_text prior) (told_text watch) (Tells-told_text prior) (Tells-told_text watch)
     (bad_words c.in-Err.fault) refl _ _ _ _
-    c.say.result c.say.ensures.status c.say.ensures.whole c.say.ensures.part)
+    c.say.result c.say.ensures.status c.say.ensures.whole c.say.ensures.part refl)
 
 pub returns-in-Some-clause-ran : goal.returns-in-Some-clause-ran
 returns-in-Some-clause-ran g c =
@@ -54,7 +54,7 @@ pub returns-in-Ok-Audit-clause-ran : goal.returns-in-Ok-Audit-clause-ran
 returns-in-Ok-Audit-clause-ran g c =
     let exact = rw c.in-Ok-Audit.field-0-is at c.in-Ok-Audit.ensures.exact in
     ran-named _ _ _ _ _ _ _ _ _ _ _ _ _ _ _ exact (auditing g.D.Digester.digest_of c.args.limits c.in-Ok-Audit.net) _ _ refl
-    (c.is_some-in-Ok-Audit.ensures ∙ copied_some _) (c.audit.ensures.ran _ _)
+    (c.is_some-in-Ok-Audit.ensures ∙ copied_some _) (ran-alone refl (c.audit.ensures.ran _ _))
 
 pub make_feed-requires : goal.make_feed-requires
 make_feed-requires g c =
@@ -90,17 +90,17 @@ returns-in-Ok-Ticket-clause-ran g c =
 pub returns-in-Ok-Check-clause-ran : goal.returns-in-Ok-Check-clause-ran
 returns-in-Ok-Check-clause-ran g c =
     let exact = rw c.in-Ok-Check.field-0-is at c.in-Ok-Check.ensures.exact in
-    ran-words _ _ _ _ _ _ _ _ _ _ _ _ _ _ _ exact (c.check.ensures.ran _ _)
+    ran-words _ _ _ _ _ _ _ _ _ _ _ _ _ _ _ exact (ran-alone refl (c.check.ensures.ran _ _))
 
 pub returns-in-Ok-Recheck-clause-ran : goal.returns-in-Ok-Recheck-clause-ran
 returns-in-Ok-Recheck-clause-ran g c =
     let exact = rw c.in-Ok-Recheck.field-0-is at c.in-Ok-Recheck.ensures.exact in
     ran-named _ _ _ _ _ _ _ _ _ _ _ _ _ _ _ exact (rechecking g.D.Digester.digest_of c.args.limits c.in-Ok-Recheck.net) _ _ refl
-    (c.is_some-in-Ok-Recheck.ensures ∙ copied_some _) (c.recheck.ensures.ran _)
+    (c.is_some-in-Ok-Recheck.ensures ∙ copied_some _) (ran-alone refl (c.recheck.ensures.ran _))
 
 pub returns-in-Ok-Relay-clause-ran : goal.returns-in-Ok-Relay-clause-ran
 returns-in-Ok-Relay-clause-ran g c =
     let exact = rw c.in-Ok-Relay.field-0-is at c.in-Ok-Relay.ensures.exact in
     ran-beside _ _ _ _ _ _ _ _ _ _ _ _ _ _ _ exact (relaying g.D.Digester.digest_of c.args.limits c.in-Ok-Relay.followers c.in-Ok-Relay.net) _ _ _ _
     refl
-    (c.is_some-in-Ok-Relay.ensures ∙ copied_some _) (c.is_some-in-Ok-Relay-2.ensures ∙ copied_some _) (c.relay.ensures.ran _)
+    (c.is_some-in-Ok-Relay.ensures ∙ copied_some _) (c.is_some-in-Ok-Relay-2.ensures ∙ copied_some _) (ran-alone refl (c.relay.ensures.ran _))

@@ -15,10 +15,10 @@ returns-in-Some-clause-served g c =
     serves-last _ _ _ _ _ _ _ _ _ _ _ _ _ _ c.in_ok-ending.ensures.ended _
     (last-line _ _ c.in-Some.status c.in-Some.line (sym c.bad_end.ensures ∙ c.in-Some.is)) c.say.result
     c.say.ensures.status c.say.ensures.whole (OnOk-any c.say.result (Appends-nil _)) c.say.ensures.part (AppendsPart-none _ _) (inr (Appends-nil _))
-    c.say.ensures.read c.in_ok-ending.ensures.kept_up
+    c.say.ensures.read c.in_ok-ending.ensures.kept_up c.in_ok-ending.ensures.wanted (λ none same. same)
 
 pub returns-in-None-clause-served : goal.returns-in-None-clause-served
 returns-in-None-clause-served g c =
     serves-last _ _ _ _ _ _ _ _ _ _ _ _ _ _ c.in_ok-ending.ensures.ended _ (last-end _ _ (sym c.bad_end.ensures ∙ c.in-None.is)) c.finish.result
     c.finish.ensures.status c.finish.ensures.said c.finish.ensures.sent c.finish.ensures.part_said c.finish.ensures.part_sent c.finish.ensures.order
-    c.finish.ensures.read c.in_ok-ending.ensures.kept_up
+    c.finish.ensures.read c.in_ok-ending.ensures.kept_up c.in_ok-ending.ensures.wanted (λ none same. c.finish.ensures.untouched none ∙ same)

@@ -6,7 +6,7 @@ use Rattle.node_commands.proofs.RanLemmas.{ran-unbegun, ran-refusing, ran-begun,
 use Rattle.node_commands.proofs.ticket.make_ticket.Goals as goal
 
 pub returns-in_err-node-clause-ran : goal.returns-in_err-node-clause-ran
-returns-in_err-node-clause-ran g c = λ feed watch. ran-unbegun _ _ _ _ _ _ _ _ c.from_residual.ensures.0
+returns-in_err-node-clause-ran g c = λ feed watch. ran-unbegun _ _ _ _ _ _ _ _ c.from_residual.ensures.0 refl
 
 pub returns-in-Ok-clause-ran : goal.returns-in-Ok-clause-ran
 returns-in-Ok-clause-ran g c =
@@ -14,7 +14,7 @@ returns-in-Ok-clause-ran g c =
     let s = subst (IsStartOf _ _ _) c.in-Ok.is c.in_ok-node.ensures.begun in
     let m = ticketing g.D.Digester.digest_of c.args.limits c.args.number in
     ran-begun m _ _ watch s.text (told_text watch) s.told (Tells-told_text watch) c.in-Ok.node s.is _ _
-    (serves-once m c.in-Ok.node feed refl refl c.store_ticket.result _ _ _ _ c.store_ticket.ensures.status c.store_ticket.ensures.said
+    (serves-once m c.in-Ok.node feed refl refl tt c.store_ticket.ensures.untouched c.store_ticket.result _ _ _ _ c.store_ticket.ensures.status c.store_ticket.ensures.said
     c.store_ticket.ensures.sent
     c.store_ticket.ensures.part_said c.store_ticket.ensures.part_sent c.store_ticket.ensures.order c.store_ticket.ensures.read)
 
@@ -23,4 +23,4 @@ returns-in-Err-clause-ran g c =
     λ feed watch.
     let s = subst (IsStartOf _ _ _) c.in-Err.is c.in_ok-node.ensures.begun in
     ran-refusing (ticketing g.D.Digester.digest_of c.args.limits c.args.number) _ _ watch s.text (told_text watch) s.told (Tells-told_text watch)
-    c.in-Err.bad s.is _ _ _ _ c.say.result c.say.ensures.status c.say.ensures.whole c.say.ensures.part
+    c.in-Err.bad s.is _ _ _ _ c.say.result c.say.ensures.status c.say.ensures.whole c.say.ensures.part refl

@@ -3,7 +3,7 @@ use Rattle.std.specs.Io.KnownBytes.{Appends}
 use Rattle.std.proofs.KnownBytes.{Appends-trans}
 use Rattle.uo_base.proofs.PortLemmas.{AppendsPart-after}
 use Rattle.order_run.specs.Frames.{numbered_text}
-use Rattle.order_run.proofs.Numbers.{one_more, all_parts, frame_is, frame_short}
+use Rattle.order_run.proofs.Numbers.{one_more, all_parts, frame_is, frame_short, some_left}
 use Rattle.order_run.proofs.path_frames.put_numbered.Goals as goal
 
 pub put_block-requires : goal.put_block-requires
@@ -21,6 +21,9 @@ returns-in_err-put_block-clause-part g c =
     AppendsPart-after _ _ _ before _ behind _ c.loop-number.invariant.written c.put_block.ensures.part
     (all_parts c.args.net c.args.arrivals.now c.args.numbers.now i c.loop-number-test.true ∙ ap (λ l. before ++ (l ++ behind)) (sym frame))
 
+pub returns-in_err-put_block-clause-untouched : goal.returns-in_err-put_block-clause-untouched
+returns-in_err-put_block-clause-untouched g c = λ none. absurd (some_left _ c.loop-number.number-index none c.loop-number-test.true)
+
 pub loop-number-preserved : goal.loop-number-preserved
 loop-number-preserved g c =
     let i = c.loop-number.number-index in
@@ -31,5 +34,6 @@ loop-number-preserved g c =
     record {
       written = subst (λ l. Appends (g.O.Sink.held c.args.out.now) (g.O.Sink.held c.put_block.new.sink) l) all
           (Appends-trans _ _ _ _ _ c.loop-number.invariant.written c.in_ok-put_block.ensures.whole);
+      quiet = λ none. absurd (some_left _ i none c.loop-number-test.true);
       later = (let a = c.put_block.ensures.later in let b = c.loop-number.invariant.later in omega arith);
     }

@@ -33,7 +33,8 @@ returns-in-Some-moved_from-clause-is t c = λ ts tell.
     let alone : c.is_gone-alone.result ≡ is_gone ts p.row (sibling_off p.off) =
     c.is_gone-alone.ensures ∙ (ap₂ (gone_by c.args.n c.args.covered.now c.args.kept.now) c.sibling.ensures.row c.sibling.ensures.off
     ∙ tell p.row (sibling_off p.off) sib) in
-    c.child_of.ensures.is ∙ (ap₂ (λ b x. child_place b (p.off % 2) x) alone (sym up) ∙ sym (moved_up c.args.n ts p c.requires.within stays other))
+    c.child_of.ensures.is ∙ (ap (λ s. child_place c.is_gone-alone.result s (Some c.in-Some-moved_from.goes)) c.side.ensures.is
+    ∙ ap₂ (λ b x. child_place b (p.off % 2) x) alone (sym up) ∙ sym (moved_up c.args.n ts p c.requires.within stays other))
 
 pub returns-in-None-clause-is : goal.returns-in-None-clause-is
 returns-in-None-clause-is t c = λ ts tell.

@@ -1,5 +1,5 @@
 use Rattle.std.proofs.Common.{◌≡◌, take, map}
-use Rattle.proof_shape.specs.Survey.{up}
+use Rattle.forest_place.specs.Places.{up}
 use Rattle.proof_shape.proofs.sweep.parents_of.Given as goal
 
 abbrev pub invariant-loop-place : goal.invariant-loop-place

@@ -3,8 +3,9 @@ use Rattle.forest_place.specs.declared.place.Place.{Place}
 use Rattle.forest_place.specs.Forest.{InForest}
 use Rattle.forest_place.specs.Places.{place_in}
 use Rattle.proof_shape.specs.Survey.{is_top}
-use Rattle.proof_verify.specs.Destinations.{destination_at, AreDestinations}
-use Rattle.proof_verify.specs.PlaceSources.{number_in}
+use Rattle.forest_model.specs.Deletion.{child_place}
+use Rattle.proof_verify.specs.Destinations.{destination_at, is_other_half_gone, AreDestinations}
+use Rattle.proof_verify.specs.PlaceSources.{number_in, source_at}
 use Rattle.proof_verify.proofs.DestinationSteps.{IfSome-from, inside, parent_later, destined_gone, destined_top, destined_child}
 use Rattle.proof_verify.proofs.destinations.fill_destinations.Goals as goal
 use Rattle.proof_verify.proofs.destinations.fill_destinations.Goals.{then-gone-i, else-gone-i+then-is_root, else-gone-i+else-is_root}
@@ -51,6 +52,8 @@ loop-i-preserved c =
             | else-gone-i+else-is_root w ↦
                 destined_child n cs c.requires.within c.requires.rises os ps c.requires.linked gone c.loop-i.destinations j c.if-gone-i.to lt
                 w.is_other_gone-alone.result s w.if-gone-i.false (sym w.is_root.ensures ∙ w.if-is_root.false)
-                w.is_other_gone-alone.ensures (w.to-is ∙ w.destination_beneath.ensures.is) (rw w.to-is w.destination_beneath.ensures.within)
+                (w.is_other_gone-alone.ensures ∙ ap (is_other_half_gone gone (source_at os (number_in ps j))) w.side-side.ensures.is)
+                (w.to-is ∙ w.destination_beneath.ensures.is ∙ ap (λ s. child_place w.is_other_gone-alone.result s
+                (destination_at c.loop-i.destinations (number_in ps j))) w.side-side.ensures.is) (rw w.to-is w.destination_beneath.ensures.within)
           ]),
     )

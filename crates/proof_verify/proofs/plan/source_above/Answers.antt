@@ -30,22 +30,23 @@ pub returns-in-true-true : goal.returns-in-true-true
 returns-in-true-true c =
     let other : is_top c.args.n (place_in c.args.covered.now c.args.i) ≡ false = sym c.is_root.ensures ∙ c.if-is_root.false in
     even_paired c.args.n c.args.covered.now c.args.i c.requires.index c.requires.rises c.args.rank c.requires.rank c.sibling.result
-    c.sibling.ensures.row c.sibling.ensures.off other c.in-true-true.is-0 (c.in-true-true.ensures.0 refl)
+    c.sibling.ensures.row c.sibling.ensures.off other (sym c.side.ensures.is ∙ c.in-true-true.is-0) (c.in-true-true.ensures.0 refl)
 
 pub returns-in-true-false : goal.returns-in-true-false
 returns-in-true-false c =
     let other : is_top c.args.n (place_in c.args.covered.now c.args.i) ≡ false = sym c.is_root.ensures ∙ c.if-is_root.false in
     even_alone c.args.n c.args.covered.now c.args.i c.requires.index c.requires.rises c.args.rank c.requires.rank c.sibling.result
-    c.sibling.ensures.row c.sibling.ensures.off other c.in-true-false.is-0 (λ near. false≢true (c.in-true-false.ensures.1 near))
+    c.sibling.ensures.row c.sibling.ensures.off other (sym c.side.ensures.is ∙ c.in-true-false.is-0) (λ near. false≢true (c.in-true-false.ensures.1 near))
 
 pub returns-in-false-true : goal.returns-in-false-true
 returns-in-false-true c =
     let other : is_top c.args.n (place_in c.args.covered.now c.args.i) ≡ false = sym c.is_root.ensures ∙ c.if-is_root.false in
     odd_paired c.args.n c.args.covered.now c.args.i c.requires.index c.requires.rises c.args.rank c.requires.rank c.sibling.result
-    c.sibling.ensures.row c.sibling.ensures.off other c.in-false-true.is-0 (c.in-false-true.ensures.0 refl)
+    c.sibling.ensures.row c.sibling.ensures.off other (λ e. c.in-false-true.is-0 (c.side.ensures.is ∙ e)) (c.in-false-true.ensures.0 refl)
 
 pub returns-in-false-false : goal.returns-in-false-false
 returns-in-false-false c =
     let other : is_top c.args.n (place_in c.args.covered.now c.args.i) ≡ false = sym c.is_root.ensures ∙ c.if-is_root.false in
     odd_alone c.args.n c.args.covered.now c.args.i c.requires.index c.requires.rises c.args.rank c.requires.rank c.sibling.result
-    c.sibling.ensures.row c.sibling.ensures.off other c.in-false-false.is-0 (λ near. false≢true (c.in-false-false.ensures.1 near))
+    c.sibling.ensures.row c.sibling.ensures.off other (λ e. c.in-false-false.is-0 (c.side.ensures.is ∙ e))
+    (λ near. false≢true (c.in-false-false.ensures.1 near))

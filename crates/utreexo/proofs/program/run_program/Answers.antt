@@ -14,5 +14,6 @@ returns-clause-did g c =
     subst (λ (l : Limits). Did (meaning_of program_digest l (map string_bytes c.args.words.now)) l.bytes (g.F.Source.left c.args.feed.now)
     (g.F.Source.left c.run.new.feed)
     (g.P.Source.left c.args.prior.now) (g.W.Source.left c.args.watch.now)
-    (g.R.Sink.held c.args.report.now) (g.R.Sink.held c.run.new.report) (g.O.Sink.held c.args.out.now) (g.O.Sink.held c.run.new.out) c.run.result)
+    (g.R.Sink.held c.args.report.now) (g.R.Sink.held c.run.new.report) (g.O.Sink.held c.args.out.now) (g.O.Sink.held c.run.new.out)
+    (c.run.new.out ≡ c.args.out.now) c.run.result)
     (limits_of c.standard.result c.standard.ensures.leaves c.standard.ensures.bytes) c.run.ensures.did

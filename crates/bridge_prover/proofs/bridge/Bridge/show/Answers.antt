@@ -1,6 +1,7 @@
-use Rattle.std.proofs.Common.{◌≡◌, None, Option, sym, ap, ◌∙◌, subst}
+use Rattle.std.proofs.Common.{◌≡◌, ◌+◌, ◌*◌, ◌≤◌, length, None, Option, sym, ap, ◌∙◌, subst}
 use Rattle.std.specs.Prelude.{option_copied, option_map, IfSome}
 use Rattle.std.proofs.lemmas.Result.{IfOk-weaker, IfErr-weaker}
+use Rattle.forest_place.specs.Position.{rows}
 use Rattle.block_rules.specs.declared.refusal.Refusal.TheVariants as Why
 use Rattle.node_rules.specs.Accepting.{proof_fault}
 use Rattle.node_rules.specs.Judged.{IsFirst, handed_as}
@@ -88,3 +89,8 @@ returns-clause-err g c =
     (c.in_ok-message.ensures.is ∙ ap handed_as c.in-Some.is) c.in_ok-message.ensures.passes
     (subst (λ xs. IsFirst (option_map Why.Proof (proof_fault H (view_on H s) (points_of xs) c.in-Some.message)) fault) c.external.ensures e))
     c.show_by.ensures.err
+
+pub returns-clause-steps : goal.returns-clause-steps
+returns-clause-steps g c =
+    subst (λ ext. c.show_by.new.steps ≤ c.args.steps.now + length ext + 2 * (length ext * rows (length c.args.self.now.entries))) c.external.ensures
+    c.show_by.ensures.steps

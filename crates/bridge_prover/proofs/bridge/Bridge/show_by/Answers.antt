@@ -1,6 +1,8 @@
-use Rattle.std.proofs.Common.{ℕ, None, Some, ap, subst}
+use Rattle.std.proofs.Common.{ℕ, ◌+◌, ◌*◌, ◌≤◌, length, None, Some, ap, subst, ◌∙◌}
+use Rattle.forest_place.specs.Position.{rows}
 use Rattle.std.specs.Global.{Vec}
 use Rattle.std.specs.Prelude.{option_map}
+use Rattle.block_rules.specs.declared.chain.Found.{Found}
 use Rattle.block_rules.specs.declared.refusal.Refusal.TheVariants as Why
 use Rattle.cache_model.specs.Cache.{look}
 use Rattle.node_rules.specs.Accepting.{proof_fault}
@@ -18,7 +20,7 @@ returns-in_err-checked-clause-err g c =
     let H = g.D.Digester.digest_of in
     let is = subst (IsBridge H) c.self.view_is c.self.invariant.0 in
     let fault = c.in_err-checked.field-0.0 in
-    handed_on _ _ fault c.from_residual-in_err-checked.ensures.1
+    handed_on _ _ fault c.from_residual.ensures.1
     (refused_for H c.args.self.now is c.args.external.now c.args.message.now c.args.known.now c.requires.known fault
     (subst (λ es. IsFirst (option_map Why.Proof (proof_fault H (view_in H es (look c.args.known.now)) (points_of c.args.external.now)
     c.args.message.now)) fault)
@@ -85,4 +87,24 @@ returns-clause-shows g c =
     c.in-Some.is
 
 pub returns-clause-found : goal.returns-clause-found
-returns-clause-found g c = c.in_ok-found.ensures
+returns-clause-found g c = ap (λ (f : Vec Found). f.items) c.into_found.ensures ∙ c.in_ok-checked.ensures.found
+
+pub returns-in_err-checked-clause-steps : goal.returns-in_err-checked-clause-steps
+returns-in_err-checked-clause-steps g c =
+    subst (λ (x : BridgeState). c.check_proof.new.steps ≤ c.args.steps.now + length c.args.external.now
+    + 2 * (length c.args.external.now * rows (length x.entries))) c.self.view_is c.check_proof.ensures.steps
+
+pub returns-in_err-right-clause-steps : goal.returns-in_err-right-clause-steps
+returns-in_err-right-clause-steps g c =
+    subst (λ (x : BridgeState). c.check_proof.new.steps ≤ c.args.steps.now + length c.args.external.now
+    + 2 * (length c.args.external.now * rows (length x.entries))) c.self.view_is c.check_proof.ensures.steps
+
+pub returns-in_default-clause-steps : goal.returns-in_default-clause-steps
+returns-in_default-clause-steps g c =
+    subst (λ (x : BridgeState). c.check_proof.new.steps ≤ c.args.steps.now + length c.args.external.now
+    + 2 * (length c.args.external.now * rows (length x.entries))) c.self.view_is c.check_proof.ensures.steps
+
+pub returns-clause-steps : goal.returns-clause-steps
+returns-clause-steps g c =
+    subst (λ (x : BridgeState). c.check_proof.new.steps ≤ c.args.steps.now + length c.args.external.now
+    + 2 * (length c.args.external.now * rows (length x.entries))) c.self.view_is c.check_proof.ensures.steps

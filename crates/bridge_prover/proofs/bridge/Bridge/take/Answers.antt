@@ -1,5 +1,6 @@
-use Rattle.std.proofs.Common.{◌≡◌, None, sym, ap, ◌∙◌, subst, length}
+use Rattle.std.proofs.Common.{◌≡◌, ◌+◌, ◌*◌, ◌≤◌, None, sym, ap, ◌∙◌, subst, length}
 use Rattle.std.specs.Prelude.{option_copied}
+use Rattle.forest_place.specs.Position.{rows}
 use Rattle.block_rules.specs.Steps.{first_of}
 use Rattle.block_rules.specs.Money.{money_steps}
 use Rattle.node_rules.specs.Reading.{handed_in}
@@ -7,7 +8,7 @@ use Rattle.node_rules.proofs.Counted.{external_few}
 use Rattle.node_rules.proofs.Handing.{handed_on}
 use Rattle.bridge_prover.specs.Bridge.{BridgeState, bridge_with}
 use Rattle.bridge_prover.specs.Judged.{IsReady}
-use Rattle.bridge_prover.proofs.Taking.{unshaped, not_shown, caught, found_many, unpaid, shown_ready, gone}
+use Rattle.bridge_prover.proofs.Taking.{unshaped, not_shown, caught, found_many, unpaid, shown_ready, gone, told_most, taken_most, shown_long}
 use Rattle.bridge_prover.proofs.bridge.Bridge.take.Goals as goal
 
 pub returns-in_err-spends-clause-err : goal.returns-in_err-spends-clause-err
@@ -66,3 +67,42 @@ returns-clause-err g c =
     unpaid g.D.Digester.digest_of c.args.self.now c.args.block.now (handed_in (option_copied c.args.message)) c.in_ok-spends.spends
     c.in_ok-spends.ensures.judged _ c.in_ok-shown.ensures.passes c.in_ok-shown.ensures.shows c.in_ok-shown.ensures.found c.in-Some.shown
     c.in-Some.is c.in-Err.why (ap (λ xs. first_of (money_steps c.in_ok-spends.spends xs)) (sym c.deref.ensures.value) ∙ c.in-Err.ensures)
+
+pub returns-in_err-shown-clause-steps : goal.returns-in_err-shown-clause-steps
+returns-in_err-shown-clause-steps g c =
+    told_most g.D.Digester.digest_of c.args.self.now c.args.block.now (handed_in (option_copied c.args.message)) c.in_ok-spends.spends
+    c.in_ok-spends.ensures.judged c.args.steps.now c.show.new.steps c.in_err-shown.ensures.steps
+
+pub returns-in_default-clause-steps : goal.returns-in_default-clause-steps
+returns-in_default-clause-steps g c =
+    told_most g.D.Digester.digest_of c.args.self.now c.args.block.now (handed_in (option_copied c.args.message)) c.in_ok-spends.spends
+    c.in_ok-spends.ensures.judged c.args.steps.now c.show.new.steps c.in_ok-shown.ensures.steps
+
+pub returns-in-Ok-take_in-clause-steps : goal.returns-in-Ok-take_in-clause-steps
+returns-in-Ok-take_in-clause-steps g c =
+    let paid : first_of (money_steps c.in_ok-spends.spends c.in-Some.shown.found.items) ≡ None =
+    ap (λ xs. first_of (money_steps c.in_ok-spends.spends xs)) (sym c.deref.ensures.value) ∙ c.in-Ok.ensures.passes in
+    taken_most g.D.Digester.digest_of c.args.self.now c.args.block.now (handed_in (option_copied c.args.message)) c.in_ok-spends.spends
+    c.in_ok-spends.ensures.judged c.args.steps.now c.show.new.steps c.in_ok-shown.ensures.steps c.in-Some.shown.numbers.items c.take_in.new.steps
+    (shown_long g.D.Digester.digest_of c.args.self.now c.args.block.now (handed_in (option_copied c.args.message)) c.in_ok-spends.spends
+    c.in_ok-spends.ensures.judged _ c.in_ok-shown.ensures.passes c.in_ok-shown.ensures.shows c.in_ok-shown.ensures.found c.in-Some.shown
+    c.in-Some.is paid)
+    (subst (λ (x : BridgeState). c.take_in.new.steps ≤ c.show.new.steps + length c.in-Some.shown.numbers.items * rows (length x.entries)
+    + 2 * length c.in_ok-spends.spends.new + 40) c.in_ok-shown.ensures.stays c.take_in.ensures.steps)
+
+pub returns-in-Ok-clause-steps : goal.returns-in-Ok-clause-steps
+returns-in-Ok-clause-steps g c =
+    let paid : first_of (money_steps c.in_ok-spends.spends c.in-Some.shown.found.items) ≡ None =
+    ap (λ xs. first_of (money_steps c.in_ok-spends.spends xs)) (sym c.deref.ensures.value) ∙ c.in-Ok.ensures.passes in
+    taken_most g.D.Digester.digest_of c.args.self.now c.args.block.now (handed_in (option_copied c.args.message)) c.in_ok-spends.spends
+    c.in_ok-spends.ensures.judged c.args.steps.now c.show.new.steps c.in_ok-shown.ensures.steps c.in-Some.shown.numbers.items c.take_in.new.steps
+    (shown_long g.D.Digester.digest_of c.args.self.now c.args.block.now (handed_in (option_copied c.args.message)) c.in_ok-spends.spends
+    c.in_ok-spends.ensures.judged _ c.in_ok-shown.ensures.passes c.in_ok-shown.ensures.shows c.in_ok-shown.ensures.found c.in-Some.shown
+    c.in-Some.is paid)
+    (subst (λ (x : BridgeState). c.take_in.new.steps ≤ c.show.new.steps + length c.in-Some.shown.numbers.items * rows (length x.entries)
+    + 2 * length c.in_ok-spends.spends.new + 40) c.in_ok-shown.ensures.stays c.take_in.ensures.steps)
+
+pub returns-clause-steps : goal.returns-clause-steps
+returns-clause-steps g c =
+    told_most g.D.Digester.digest_of c.args.self.now c.args.block.now (handed_in (option_copied c.args.message)) c.in_ok-spends.spends
+    c.in_ok-spends.ensures.judged c.args.steps.now c.show.new.steps c.in_ok-shown.ensures.steps

@@ -1,5 +1,6 @@
-use Rattle.std.proofs.Common.{◌≡◌, ◌/◌, ◌%◌, ◌^◌, ◌<◌, ◌+◌, ◌∙◌, nat_eq, length, take, ap, arith}
+use Rattle.std.proofs.Common.{◌≡◌, ◌^◌, ◌<◌, ◌+◌, ◌∙◌, length, take, ap, arith}
 use Rattle.std.proofs.lemmas.List.{length-take-le}
+use Rattle.forest_place.specs.Forest.{is_slot}
 use Rattle.forest_roots.specs.Stump.{Stump}
 use Rattle.forest_roots.proofs.Rising.{rising_small, rising_more, rising_ends}
 use Rattle.forest_roots.proofs.roots.Roots.push_all.Goals as goal
@@ -15,9 +16,9 @@ loop-count-preserved g c =
       same_count = c.loop-count.invariant.same_count;
       rising = rising_more g.D.Digester.digest_of c.self.inside.count c.self.inside.slots c.args.digests.now c.args.steps.now c.loop-count.row
           c.loop-count.self-inside.slots c.loop-count.digests c.loop-count.count c.loop-count.steps r c.loop-count-test.true few
-          (nat_eq (c.loop-count.self-inside.count / 2 ^ c.loop-count.row % 2) 1) c.raise_row.result c.raise_row.new.nodes c.count_above-count.result
+          c.is_slot-slot.result c.raise_row.result c.raise_row.new.nodes c.count_above-count.result
           c.raise_row.new.steps
-          (ap (λ n. nat_eq (n / 2 ^ c.loop-count.row % 2) 1) c.loop-count.invariant.same_count) c.raise_row.ensures.stays
+          (c.is_slot-slot.ensures ∙ ap (λ n. is_slot n c.loop-count.row) c.loop-count.invariant.same_count) c.raise_row.ensures.stays
           (c.raise_row.ensures.len ∙ long) c.count_above-count.ensures (rw long at c.raise_row.ensures.above) (rw long at c.raise_row.ensures.steps);
     }
 

@@ -29,6 +29,11 @@ returns-in-Ok-clause-part g c =
     let t = told_numbers _ _ c.self.view_is _ _ (sym c.deref.ensures.value) c.in-Ok.ensures.told in
     rw (ends_ordered c.args.self.now.net c.args.self.now.blocks _ _ _ t.path t.are t.told) c.write_path.ensures.part
 
+pub returns-in-Ok-clause-untouched : goal.returns-in-Ok-clause-untouched
+returns-in-Ok-clause-untouched g c =
+    let t = told_numbers _ _ c.self.view_is _ _ (sym c.deref.ensures.value) c.in-Ok.ensures.told in
+    rw (ends_ordered c.args.self.now.net c.args.self.now.blocks _ _ _ t.path t.are t.told) c.write_path.ensures.untouched
+
 pub returns-in-Err-NoTip-clause-status : goal.returns-in-Err-NoTip-clause-status
 returns-in-Err-NoTip-clause-status g c =
     let told = rw c.in-Err-NoTip.field-0-is at c.in-Err-NoTip.ensures.told in
