@@ -42,7 +42,7 @@ makes the pages from the sources, and the gate refuses a page that says somethin
 | 7. The program does this with SHA-512/256 and within these limits | `program_digest`, `program_limits` | `run_program` |
 
 What is not opened here is named with the reason. [The exact claim](STATEMENT_EXACT.md) opens proofs, right and forged, the forest, each refusal with its
-details, and the states that are stored; [the third page](STATEMENT_TICKETS.md) tickets, and what a node and an auditor keep; and
+details, and the states that are stored; [the third page](STATEMENT_TICKETS.md) tickets, what a node keeps, and which two texts are shown; and
 [the fourth](STATEMENT_OTHERS.md) all other commands. Types of Rust stand as they are written, but in few lines; the words `pub`, `abbrev` and `unfoldable`
 are left out. Names of the standard library stand for what they say: lists, options, numbers in decimal and hexadecimal digits, SHA-256.""",
     seeds=[
@@ -75,8 +75,7 @@ are left out. Names of the standard library stand for what they say: lists, opti
         "node_rules.Reading.Handed": "what stands beside a block",
         "report_lines.declared.line.Line.Line": "each stands in `line_text`",
         "state_text.Stored.IsTextOf": "it is the text of this state, in either version",
-        "audit_replay.Laws.shown_on": "the two texts that an auditor shows over these events",
-        "audit_replay.Audit.fresh_audit": "an auditor that was told nothing",
+        "audit_replay.Laws.shown_by": "the two texts that the first forged one of these events shows",
     },
     parts={
         "report_lines.Lines.line_text": (
@@ -111,25 +110,22 @@ A proof is *forged* (`is_forged`) where the rules before it pass, the roots acce
         "compact_node.Throughout.node_after": "likewise",
         "compact_node.State.stored_text": "likewise",
         "compact_node.State.stored_state": "likewise",
-        "audit_replay.Laws.shown_on": "likewise",
-        "audit_replay.Audit.fresh_audit": "likewise",
+        "audit_replay.Laws.shown_by": "which two texts the first forged event shows: `AuditsFeed` says what they are",
         "compact_node.Node.fresh_node": "it answers as a node with no block (`PrintsAsFull`)",
         "compact_node.Node.IsNode": "what holds of it",
         "compact_node.State.IsReadAs": "the node that a state text says (`ResumesAsFull`)",
         "node_commands.Auditor.audit_answer": "`AuditsFeed` says what it is",
-        "node_commands.Auditor.audit_machine": "its lines are those of `AuditsFeed`",
-        "node_commands.Auditor.fresh_auditor": "likewise",
+        "node_commands.Auditor.audit_lines": "those of `AuditsFeed`",
         "block_codec.Reading.block_in": "the block of which these bytes are the text (`BlockIsRead`)",
         "proof_wire.Reading.whole_at": "the message of which these bytes are the text (law `message_is_read`)",
         "report_lines.declared.line.Line.Line": "each stands in `line_text`",
         "leaf_record.declared.record.Record.Record": "a leaf, as the program keeps it",
-        "feed_run.Machine.said_by": "what `audit` prints of these events, as `AuditsFeed` says",
     },
     parts={"report_lines.Lines.line_text": (["PriorForm", "PriorVersion", "LimitPrior", "Supply"], "the further lines of `follow` and `audit`")},
 )
 TICKETS = Plan(
     file="docs/STATEMENT_TICKETS.md",
-    head="""# Tickets, and what a node and an auditor keep
+    head="""# Tickets, what a node keeps, and which two texts are shown
 
 The third page, behind [the exact claim](STATEMENT_EXACT.md): what `upgrade state`, `ticket`, `check` and `recheck` do (`upgrading_state`, `ticketing`,
 `checking`, `rechecking`, clauses `did.ran.gives` and `did.claims` of `run`), and all that the first two pages left closed.""",

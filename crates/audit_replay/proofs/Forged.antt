@@ -96,11 +96,6 @@ module _ (H : List ℕ → Digest) (s : BridgeState) (a : IsAudit H s) (es : Lis
   pub knowledge_here : (known : List (Place × Digest)) → AreKnown H (watched_by s) (history_of s) known → IsKnowledge H es (look known)
   knowledge_here known are = subst (λ e. IsKnowledge H e (look known)) (sym ee) (knowledge H s a known are)
 
-  pub clash_here : (known : List (Place × Digest)) (ext : List Outside) (m : Message) (x : Option TextClash) → x ≡ clash_in H es hs (look known) ext m
-      → x ≡ clash_in H s.entries s.held (look known) ext m
-  clash_here known ext m x e = subst (λ h. x ≡ clash_in H s.entries h (look known) ext m) eh
-      (subst (λ l. x ≡ clash_in H l hs (look known) ext m) ee e)
-
 module _ (H : List ℕ → Digest) (s : BridgeState) (b : Block) (handed : Handed) (forged : is_forged_on H s b handed ≡ true) where
   abbrev ext : List Outside
   ext = external b s.chain.blocks
@@ -167,9 +162,9 @@ module _ (H : List ℕ → Digest) (s : BridgeState) (b : Block) (handed : Hande
         (subst (λ k. IsClash H (history_of s) k (points_of ext) m c) (same_known H (watched_by s) (history_of s) known are)
         (subst (λ l. IsClash H (history_of s) (look known) (points_of l) m c) same here.2))
 
-    pub clash_which : (ext' : List Outside) (x : Option TextClash) (c : TextClash) → ext' ≡ ext → x ≡ clash_in H s.entries s.held (look known) ext' m
-        → x ≡ Some c → clash_beside H s ext handed ≡ Some c
+    pub clash_which : (ext' : List Outside) (x : Option TextClash) (c : TextClash) → ext' ≡ ext → x ≡ clash_in H (history_of s) (look known) ext' m
+        → x ≡ Some c → clash_beside H (watched_by s) (history_of s) ext handed ≡ Some c
     clash_which ext' x c same which some =
-        subst (λ h. clash_beside H s ext h ≡ Some c) (sym is)
-        (subst (λ k. clash_in H s.entries s.held k ext m ≡ Some c) (same_known H (watched_by s) (history_of s) known are)
-        (subst (λ l. clash_in H s.entries s.held (look known) l m ≡ Some c) same (sym which ∙ some)))
+        subst (λ h. clash_beside H (watched_by s) (history_of s) ext h ≡ Some c) (sym is)
+        (subst (λ k. clash_in H (history_of s) k ext m ≡ Some c) (same_known H (watched_by s) (history_of s) known are)
+        (subst (λ l. clash_in H (history_of s) (look known) l m ≡ Some c) same (sym which ∙ some)))

@@ -5,6 +5,8 @@ use Rattle.std.specs.Prelude.{not, ◌&&◌, is_none, is_some, option_map}
 use Rattle.std.specs.List.{AllByRecursion, flat_map}
 use Rattle.std.proofs.lemmas.Bool.{and_parts, not-true, cases_Bool, false≢true}
 use Rattle.std.proofs.lemmas.List.{length-map}
+use Rattle.uo_base.specs.declared.event.Limits.{Limits}
+use Rattle.uo_base.specs.declared.event.Net.{Net}
 use Rattle.uo_base.proofs.Lists.{all-append}
 use Rattle.uo_digest.specs.declared.digest.Digest.{Digest}
 use Rattle.forest_model.specs.Content.{IsDigest}
@@ -45,10 +47,11 @@ use Rattle.clash_find.specs.Clashes.{TextClash}
 use Rattle.clash_find.specs.Answers.{StandForHistory, IsClash}
 use Rattle.clash_find.specs.Found.{clash_in}
 use Rattle.audit_replay.specs.Audit.{AuditState, IsAudit, fresh_audit, next_audit, clash_on}
-use Rattle.audit_replay.specs.Laws.{shown_or, shown_on, AreShown, FreshShowsForged}
+use Rattle.audit_replay.specs.Laws.{shown_or, shown_on, shown_by, AreShown, FreshShowsForged}
 use Rattle.audit_replay.proofs.Auditing.{judged_rules, judged_scripts, next_is_audit, fresh_is_audit}
 use Rattle.audit_replay.proofs.Forged.{stands_for}
 use Rattle.audit_replay.proofs.Shown.{shows}
+use Rattle.audit_replay.proofs.Throughout.{fresh_is_full}
 
 -- ---- what is claimed fits
 
@@ -162,7 +165,7 @@ module _ (H : List ℕ → Digest) (long : (x : List ℕ) → IsDigest (H x)) (s
     unjudged : judged_on H s forging ≡ None
     unjudged = nothing_said (is_forged_on H s b (read m)) _ forged_here
 
-    found_there : (x : TextClash) × (clash_in H (entries H leaf_text us) s.held known ext m ≡ Some x) × IsClash H us known (points_of ext) m x
+    found_there : (x : TextClash) × (clash_in H us known ext m ≡ Some x) × IsClash H us known (points_of ext) m x
     found_there =
         let at : length us ≡ length (entries H leaf_text us) = sym (length-map us (option_map (λ (r : Leaf). H (leaf_text r)))) in
         shows H long us s.held (subst (λ e. StandForHistory H e s.held us) stand.entries_are stand) ext m so.count
@@ -175,10 +178,9 @@ module _ (H : List ℕ → Digest) (long : (x : List ℕ) → IsDigest (H x)) (s
     found_here : clash_on H s forging ≡ Some found_there.0
     unfolding found_there
     found_here =
-        ap (λ w. clash_in H s.entries s.held (known_at H w (history_of s)) (external b s.chain.blocks) m) watched
-        ∙ (ap (λ h. clash_in H s.entries s.held (known_at H scripts h) (external b s.chain.blocks) m) history_is
-        ∙ (ap (λ (c : Chain). clash_in H s.entries s.held known (external b c.blocks) m) stands.chain
-        ∙ (ap (λ e. clash_in H e s.held known ext m) stand.entries_are ∙ found_there.1)))
+        ap (λ w. clash_in H (history_of s) (known_at H w (history_of s)) (external b s.chain.blocks) m) watched
+        ∙ (ap (λ h. clash_in H h (known_at H scripts h) (external b s.chain.blocks) m) history_is
+        ∙ (ap (λ (c : Chain). clash_in H us known (external b c.blocks) m) stands.chain ∙ found_there.1))
 
     shown_here : (later : Option TextClash) → AreShown H (shown_or (judged_on H s forging) (clash_on H s forging) later) scripts t.now b m
     shown_here later = record {
@@ -248,3 +250,18 @@ fresh_shows_forged H long net limits scripts few front later b m fit block_fits 
     let rules : Rules = record { net = net; limits = limits } in
     shown_behind H long scripts rules b m block_fits message_fits front later start (fresh_audit net limits scripts) refl refl
     (fresh_is_audit H net limits (Some scripts) few) (fresh_stands H net limits (Some scripts)) fit honest forged
+
+-- and so does the node that holds every output
+pub full_shows_forged : (H : List ℕ → Digest) → ((x : List ℕ) → IsDigest (H x)) → (net : Net) (limits : Limits) (scripts : List (List ℕ))
+    → limits.leaves < 2 ^ 40 →
+    let rules : Rules = record { net = net; limits = limits } in
+    (front later : List ChainEvent) (b : Block) (m : Message) → AllByRecursion EventFits front → BlockFits b → ProofFits m.proof →
+    let l = (state_after rules (full_judge H scripts rules) start front).now in
+    never_stops rules (full_judge H scripts rules) start front ≡ true →
+    is_forged H scripts rules (chain_of l) l.history b (read m) ≡ true →
+    AreShown H (shown_by H scripts rules start (front ++ BlockCame (Some b) (read m) ∷ later)) scripts l b m
+full_shows_forged H long net limits scripts few front later b m fit block_fits message_fits honest forged =
+    let rules : Rules = record { net = net; limits = limits } in
+    subst (λ x. AreShown H x scripts (state_after rules (full_judge H scripts rules) start front).now b m)
+    (fresh_is_full H net limits scripts few (front ++ BlockCame (Some b) (read m) ∷ later)).shown
+    (fresh_shows_forged H long net limits scripts few front later b m fit block_fits message_fits honest forged)

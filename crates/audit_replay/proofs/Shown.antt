@@ -36,13 +36,12 @@ use Rattle.node_rules.proofs.Faults.{accepted}
 use Rattle.node_rules.proofs.Righting.{right_is_tested}
 use Rattle.node_rules.proofs.Same.{bytes_eq-same, bytes_eq-true, is_same-same}
 use Rattle.clash_find.specs.Clashes.{TextClash}
-use Rattle.clash_find.specs.Texts.{text_at, claims}
+use Rattle.clash_find.specs.Texts.{claims}
 use Rattle.clash_find.specs.Answers.{StandForHistory, IsClash}
-use Rattle.clash_find.specs.Found.{text_for, differing, clash_over, clash_at, clash_in}
+use Rattle.clash_find.specs.Found.{text_of_cover, node_text as node_text_in, text_in, differing, clash_in}
 use Rattle.clash_find.proofs.Agreement.{value_of, node_text, cover_text, HasDigests, AgreeAt, found, right_agrees}
 use Rattle.clash_find.proofs.Listing.{node_listed, cover_listed}
-use Rattle.clash_find.proofs.Answering.{standing, there_is}
-use Rattle.clash_find.proofs.Answering.{node_shown as node_has_text, leaf_other as other_length}
+use Rattle.clash_find.proofs.Answering.{pair_by, pair_for, first_by, standing, there_is, leaf_other as other_length}
 
 -- ---- the first of a list
 
@@ -187,7 +186,7 @@ module _ (H : List ℕ → Digest) (long : (x : List ℕ) → IsDigest (H x)) (u
   cover_text_of = cover_text H es text_of ts leaf_texts hashes
 
   abbrev shown_at : Place → Option TextClash
-  shown_at = clash_at H es outputs known ext m
+  shown_at = pair_for H us n ts rs k hs
 
   same_length : n ≡ length us
   same_length = length-map us (option_map (λ (r : Leaf). H (leaf_text r)))
@@ -208,8 +207,12 @@ module _ (H : List ℕ → Digest) (long : (x : List ℕ) → IsDigest (H x)) (u
   each_entry = entry_texts H leaf_text long LeafFits no_pair one_leaf us stand.fit
 
   -- a node that stands has a text, which has its digest
-  node_shown : (r o : ℕ) (t : Tree) → tree_at es r o ≡ Some t → text_at H es outputs r o ≡ Some (node_text_of t)
-  node_shown = node_has_text H long us outputs stand.held stand.fit ts rs k hs
+  node_shown : (r o : ℕ) (t : Tree) → tree_at es r o ≡ Some t → text_in H us r o ≡ Some (node_text_of t)
+  node_shown r o t s = ap (option_map (node_text_in H us)) s ∙ same t
+    where
+      same : (t : Tree) → Some (node_text_in H us t) ≡ Some (node_text_of t)
+      same (leaf i d) = refl
+      same (inner a b) = refl
 
   node_digest : (r o : ℕ) (t : Tree) → tree_at es r o ≡ Some t → H (node_text_of t) ≡ digest_of H t
   node_digest r o (leaf i d) s = (each_entry i d (tree_at-leaves es r o (leaf i d) s)).0
@@ -249,7 +252,7 @@ module _ (H : List ℕ → Digest) (long : (x : List ℕ) → IsDigest (H x)) (u
   has_digests (given r o) = tt
   has_digests (both l r) = (value_long l, value_long r)
 
-  text_same : (c : Cover) → cover_text_of c ≡ text_for H n known ext m c
+  text_same : (c : Cover) → cover_text_of c ≡ text_of_cover H n ts rs k hs c
   text_same (target a b) = refl
   text_same (given a b) = refl
   text_same (both l r) = refl
@@ -262,13 +265,13 @@ module _ (H : List ℕ → Digest) (long : (x : List ℕ) → IsDigest (H x)) (u
       let there : is_digest (V c) (digest_at H es r o) ≡ true = ap (λ x. is_digest (V c) (option_map (digest_of H) x)) s
       ∙ (ap (λ d. is_digest (V c) (Some d)) (sym v) ∙ is_same-same (V c)) in
       let shown = node_shown r o t s in
-      let over : clash_over H es outputs known ext m (place r o) c ≡ None =
-      sym (ap (option_and_then (clash_over H es outputs known ext m (place r o))) e) ∙ silent in
-      let text : option_and_then (λ x. differing x (text_for H n known ext m c) (V c)) (text_at H es outputs r o) ≡ None =
-      sym (ap (λ (b : Bool). if b then option_and_then (λ x. differing x (text_for H n known ext m c) (V c)) (text_at H es outputs r o) else None)
+      let over : pair_by H us n ts rs k hs (place r o) c ≡ None =
+      sym (ap (option_and_then (pair_by H us n ts rs k hs (place r o))) e) ∙ silent in
+      let text : option_and_then (λ x. differing x (text_of_cover H n ts rs k hs c) (V c)) (text_in H us r o) ≡ None =
+      sym (ap (λ (b : Bool). if b then option_and_then (λ x. differing x (text_of_cover H n ts rs k hs c) (V c)) (text_in H us r o) else None)
       there) ∙ over in
-      differing-none (node_text_of t) (text_for H n known ext m c) (V c)
-      (sym (ap (option_and_then (λ x. differing x (text_for H n known ext m c) (V c))) shown) ∙ text) ∙ sym (text_same c)
+      differing-none (node_text_of t) (text_of_cover H n ts rs k hs c) (V c)
+      (sym (ap (option_and_then (λ x. differing x (text_of_cover H n ts rs k hs c) (V c))) shown) ∙ text) ∙ sym (text_same c)
 
   agree_at : first_of (map shown_at (places n)) ≡ None → (r o : ℕ) → InForest n r o → AgreeAt H es text_of ts leaf_texts hashes r o
   agree_at silent r o h c t e s v = (nothing_here r o c t e s v (none-at shown_at (places n) (place r o) silent (places_have n r o h)), has_digests c)
@@ -354,12 +357,12 @@ module _ (H : List ℕ → Digest) (long : (x : List ℕ) → IsDigest (H x)) (u
   shown_as p x shows = by_cover (cover ts p.row p.off) refl shows
     where
       by_text : (c : Cover) → cover ts p.row p.off ≡ Some c → digest_at H es p.row p.off ≡ Some (V c)
-          → option_and_then (λ y. differing y (text_for H n known ext m c) (V c)) (text_at H es outputs p.row p.off) ≡ Some x
+          → option_and_then (λ y. differing y (text_of_cover H n ts rs k hs c) (V c)) (text_in H us p.row p.off) ≡ Some x
           → IsShownAt p x
       by_text c e there shows =
           let w = standing H (tree_at es p.row p.off) (V c) there in
-          let is : differing (node_text_of w.0) (text_for H n known ext m c) (V c) ≡ Some x =
-          sym (ap (option_and_then (λ y. differing y (text_for H n known ext m c) (V c))) (node_shown p.row p.off w.0 w.1)) ∙ shows in
+          let is : differing (node_text_of w.0) (text_of_cover H n ts rs k hs c) (V c) ≡ Some x =
+          sym (ap (option_and_then (λ y. differing y (text_of_cover H n ts rs k hs c) (V c))) (node_shown p.row p.off w.0 w.1)) ∙ shows in
           record {
             beneath = c;
             covered = e;
@@ -370,27 +373,30 @@ module _ (H : List ℕ → Digest) (long : (x : List ℕ) → IsDigest (H x)) (u
           }
 
       by_digest : (c : Cover) → cover ts p.row p.off ≡ Some c → (b : Bool) → is_digest (V c) (digest_at H es p.row p.off) ≡ b
-          → (if b then option_and_then (λ y. differing y (text_for H n known ext m c) (V c)) (text_at H es outputs p.row p.off) else None) ≡ Some x
+          → (if b then option_and_then (λ y. differing y (text_of_cover H n ts rs k hs c) (V c)) (text_in H us p.row p.off) else None) ≡ Some x
           → IsShownAt p x
       by_digest c e false t shows = absurd (none-some x shows)
       by_digest c e true t shows = by_text c e (there_is (V c) (digest_at H es p.row p.off) t) shows
 
-      by_cover : (y : Option Cover) → cover ts p.row p.off ≡ y → option_and_then (clash_over H es outputs known ext m p) y ≡ Some x → IsShownAt p x
+      by_cover : (y : Option Cover) → cover ts p.row p.off ≡ y → option_and_then (pair_by H us n ts rs k hs p) y ≡ Some x → IsShownAt p x
       by_cover None e shows = absurd (none-some x shows)
       by_cover (Some c) e shows = by_digest c e (is_digest (V c) (digest_at H es p.row p.off)) refl shows
 
   shown_is : (p : Place) (x : TextClash) → InForest n p.row p.off → shown_at p ≡ Some x → IsClash H us known (points_of ext) m x
   shown_is p x h shows = let w = shown_as p x shows in is_clash p.row p.off w.beneath w.node x h w.covered w.stands w.digests w.made
 
+  in_whole : clash_in H us known ext m ≡ first_of (map shown_at (places n))
+  in_whole =
+      ap (λ j. if is_none (proof_fault H (record { n = j; roots = root H es; known = known }) (points_of ext) m) then
+      first_by H us j (targets j m) rs k hs else None) (sym same_length)
+      ∙ ap (λ y. if is_none y then first_of (map shown_at (places n)) else None) none
+
   -- what is accepted and not right shows two texts
-  pub shows : is_right H us known (points_of ext) m ≡ false → (x : TextClash) × (clash_in H es outputs known ext m ≡ Some x)
+  pub shows : is_right H us known (points_of ext) m ≡ false → (x : TextClash) × (clash_in H us known ext m ≡ Some x)
       × IsClash H us known (points_of ext) m x
   shows wrong = by (first_of (map shown_at (places n))) refl
     where
-      in_whole : clash_in H es outputs known ext m ≡ first_of (map shown_at (places n))
-      in_whole = ap (λ y. if is_none y then first_of (map shown_at (places n)) else None) none
-
-      by : (y : Option TextClash) → first_of (map shown_at (places n)) ≡ y → (x : TextClash) × (clash_in H es outputs known ext m ≡ Some x)
+      by : (y : Option TextClash) → first_of (map shown_at (places n)) ≡ y → (x : TextClash) × (clash_in H us known ext m ≡ Some x)
           × IsClash H us known (points_of ext) m x
       by None e = absurd (false≢true (sym wrong ∙ right_then e))
       by (Some x) e = let w = some-at shown_at (places n) x e in (x, in_whole ∙ e, shown_is w.0 x (places_had n w.0.row w.0.off w.1) w.2)
@@ -419,12 +425,9 @@ module _ (H : List ℕ → Digest) (long : (x : List ℕ) → IsDigest (H x)) (u
       by_form (both l d) e w = w.1 l d refl
 
   -- it shows nothing
-  pub shows_none : is_right H us known (points_of ext) m ≡ true → clash_in H es outputs known ext m ≡ None
+  pub shows_none : is_right H us known (points_of ext) m ≡ true → clash_in H us known ext m ≡ None
   shows_none sound = in_whole ∙ by (first_of (map shown_at (places n))) refl
     where
-      in_whole : clash_in H es outputs known ext m ≡ first_of (map shown_at (places n))
-      in_whole = ap (λ y. if is_none y then first_of (map shown_at (places n)) else None) none
-
       by : (y : Option TextClash) → first_of (map shown_at (places n)) ≡ y → y ≡ None
       by None e = refl
       by (Some x) e =

@@ -5,6 +5,7 @@ use Rattle.uo_base.specs.declared.event.Net.{Net}
 use Rattle.uo_digest.specs.declared.digest.Digest.{Digest}
 use Rattle.block_codec.specs.Block.{Block}
 use Rattle.leaf_record.specs.Leaf.{Leaf}
+use Rattle.leaf_record.specs.History.{History}
 use Rattle.block_rules.specs.declared.chain.Outside.{Outside}
 use Rattle.block_rules.specs.declared.verdict.Verdict.{Verdict}
 use Rattle.block_rules.specs.Blocks.{external}
@@ -62,17 +63,22 @@ ShowsClashOf H s (BlockCame (Some b) handed) c = IsClashOf H s b handed c
 ShowsClashOf H s (RollbackCame k) c = ⊥
 ShowsClashOf H s StrayCame c = ⊥
 
--- which two they are, at a forged event
-abbrev pub clash_beside : (List ℕ → Digest) → BridgeState → List Outside → Handed → Option TextClash
-clash_beside H s ext nothing = None
-clash_beside H s ext (unread why) = None
-clash_beside H s ext (read m) = clash_in H s.entries s.held (known_at H (watched_by s) (history_of s)) ext m
+-- which two they are, over a history, for one who watches these scripts: of the message beside a block that spends these outputs
+abbrev pub clash_beside : (List ℕ → Digest) → (scripts : List (List ℕ)) → History → List Outside → Handed → Option TextClash
+clash_beside H scripts us ext nothing = None
+clash_beside H scripts us ext (unread why) = None
+clash_beside H scripts us ext (read m) = clash_in H us (known_at H scripts us) ext m
 
+-- of an event behind so many blocks
+abbrev pub clash_at : (List ℕ → Digest) → (scripts : List (List ℕ)) → History → (blocks : ℕ) → ChainEvent → Option TextClash
+clash_at H scripts us blocks (BlockCame None handed) = None
+clash_at H scripts us blocks (BlockCame (Some b) handed) = clash_beside H scripts us (external b blocks) handed
+clash_at H scripts us blocks (RollbackCame k) = None
+clash_at H scripts us blocks StrayCame = None
+
+-- by what a bridge keeps
 abbrev pub clash_on : (List ℕ → Digest) → BridgeState → ChainEvent → Option TextClash
-clash_on H s (BlockCame None handed) = None
-clash_on H s (BlockCame (Some b) handed) = clash_beside H s (external b s.chain.blocks) handed
-clash_on H s (RollbackCame k) = None
-clash_on H s StrayCame = None
+clash_on H s e = clash_at H (watched_by s) (history_of s) s.chain.blocks e
 
 -- each line that is a clash shows them
 abbrev pub ShowsClash : (List ℕ → Digest) → BridgeState → ChainEvent → AuditLine → Type 0

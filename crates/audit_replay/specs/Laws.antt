@@ -1,5 +1,5 @@
 -- What holds of auditors, whatever the digest function.
-use Rattle.std.specs.Prelude.{◌≡◌, ℕ, ◌<◌, ◌^◌, true, false, not, List, [], ◌∷◌, ◌++◌, Option, Some, None}
+use Rattle.std.specs.Prelude.{◌≡◌, ℕ, ◌<◌, ◌^◌, true, false, not, List, [], ◌∷◌, ◌++◌, length, slice_get, Option, Some, None, option_and_then}
 use Rattle.std.specs.List.{AllByRecursion}
 use Rattle.uo_base.specs.declared.event.Limits.{Limits}
 use Rattle.uo_base.specs.declared.event.Net.{Net}
@@ -22,7 +22,7 @@ use Rattle.bridge_prover.specs.Standing.{IsBridge, Stands}
 use Rattle.bridge_prover.specs.Full.{history_of, judged_on, watched_by}
 use Rattle.clash_find.specs.Clashes.{TextClash}
 use Rattle.clash_find.specs.Answers.{IsClash}
-use Rattle.audit_replay.specs.Audit.{AuditState, fresh_audit, next_audit, clash_on}
+use Rattle.audit_replay.specs.Audit.{AuditState, fresh_audit, next_audit, clash_at, clash_on}
 
 -- ---- a list of events, of which none is judged behind a forged one
 
@@ -39,12 +39,33 @@ abbrev pub audit_after : (List ℕ → Digest) → AuditState → List ChainEven
 audit_after H s [] = s
 audit_after H s (e ∷ es) = ends_at (judged_on H s.bridge e) (next_audit H s e) (audit_after H (next_audit H s e) es)
 
--- the auditor says of each what the node says that holds every output, has ended exactly where that one has no verdict on one of them, which
--- is the first forged one, and stands for what it holds then
+-- ---- what is shown
+
+-- which two texts an auditor shows at the first forged event of a list
+abbrev pub shown_or : Option Verdict → (here later : Option TextClash) → Option TextClash
+shown_or None here later = here
+shown_or (Some v) here later = later
+
+abbrev pub shown_on : (List ℕ → Digest) → AuditState → List ChainEvent → Option TextClash
+shown_on H s [] = None
+shown_on H s (e ∷ es) = shown_or (judged_on H s.bridge e) (clash_on H s.bridge e) (shown_on H (next_audit H s e) es)
+
+-- which two the node that holds every output and watches these scripts would show: each event before the first forged one has a verdict
+abbrev pub shown_by : (List ℕ → Digest) → (scripts : List (List ℕ)) → Rules → State → List ChainEvent → Option TextClash
+shown_by H scripts rules t events =
+    let judge = full_judge H scripts rules in
+    let level = (state_after rules judge t events).now in
+    option_and_then (clash_at H scripts level.history level.blocks) (slice_get events (length (verdicts rules judge t events)))
+
+-- ---- beside the node that holds every output
+
+-- the auditor says of each what that node says, has ended exactly where it has no verdict on one of them, which is the first forged one, shows what
+-- the node would show of that one, and stands for what it holds then
 pub record AuditsThroughout (H : List ℕ → Digest) (scripts : List (List ℕ)) (rules : Rules) (t : State) (s : AuditState)
     (events : List ChainEvent) : Type 0 where
   pub said : verdicts_on H s events ≡ verdicts rules (full_judge H scripts rules) t events
   pub ended : (audit_after H s events).ended ≡ not (never_stops rules (full_judge H scripts rules) t events)
+  pub shown : shown_on H s events ≡ shown_by H scripts rules t events
   pub stands : Stands H (state_after rules (full_judge H scripts rules) t events) (audit_after H s events).bridge
 
 -- each that stands for that node and has not ended does so
@@ -59,16 +80,7 @@ FreshIsFull = (H : List ℕ → Digest) (net : Net) (limits : Limits) (scripts :
     let rules : Rules = record { net = net; limits = limits } in
     (events : List ChainEvent) → AuditsThroughout H scripts rules start (fresh_audit net limits scripts) events
 
--- ---- what is shown
-
--- which two texts are shown at the first forged event of a list
-abbrev pub shown_or : Option Verdict → (here later : Option TextClash) → Option TextClash
-shown_or None here later = here
-shown_or (Some v) here later = later
-
-abbrev pub shown_on : (List ℕ → Digest) → AuditState → List ChainEvent → Option TextClash
-shown_on H s [] = None
-shown_on H s (e ∷ es) = shown_or (judged_on H s.bridge e) (clash_on H s.bridge e) (shown_on H (next_audit H s e) es)
+-- ---- what a forged event shows
 
 -- two texts are shown, and they are different and have one digest: one is that of a node of this history, and the proof in the message digests the
 -- other

@@ -5,7 +5,7 @@ ghost use Rattle.uo_base.specs.FeedEvent.{event_of};
 ghost use Rattle.node_rules.specs.Machine.{BlockCame, event_in};
 ghost use Rattle.node_rules.specs.Reading.{handed_in};
 ghost use Rattle.node_rules.specs.Fitting.{IsShort};
-ghost use Rattle.bridge_prover.specs.Full.{judged_on};
+ghost use Rattle.bridge_prover.specs.Full.{history_of, judged_on, watched_by};
 ghost use Rattle.block_rules.specs.Blocks.{external};
 ghost use Rattle.audit_replay.specs.Audit.{IsAudit, IsClashOf, ShowsClashOf, clash_beside, clash_on};
 
@@ -30,8 +30,8 @@ fn clash_of<D: Digester, L: Ledger>(
     requires is { IsAudit D.digest_of bridge.now }
     requires forged { judged_on D.digest_of bridge.now (BlockCame (Some block.now) (handed_in (option_copied message))) ≡ None }
     ensures shows { IfOk result (λ clash. IsClashOf D.digest_of bridge.now block.now (handed_in (option_copied message.entry)) clash) }
-    ensures which { IfOk result (λ clash. clash_beside D.digest_of bridge.now (external block.now bridge.now.chain.blocks)
-        (handed_in (option_copied message.entry)) ≡ Some clash) }
+    ensures which { IfOk result (λ clash. clash_beside D.digest_of (watched_by bridge.now) (history_of bridge.now)
+        (external block.now bridge.now.chain.blocks) (handed_in (option_copied message.entry)) ≡ Some clash) }
 {
     let chain = bridge.chain();
     let spends = match shape_rules(alloc, block, &chain, bridge.net(), bridge.limits()) {

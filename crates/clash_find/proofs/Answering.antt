@@ -43,10 +43,24 @@ use Rattle.node_rules.proofs.Same.{bytes_eq-same, bytes_eq-true, is_same-same, i
 use Rattle.node_rules.proofs.Serving.{AreSame, same_value, same_cover, hash_of_all}
 use Rattle.clash_find.specs.Clashes.{TextClash}
 use Rattle.clash_find.specs.Texts.{tree_text, text_at, claim_text, preimage_text, AreDigests, IsWithin}
-use Rattle.clash_find.specs.Found.{text_of_cover, differing, pair_over, pair_at, first_pair}
+use Rattle.clash_find.specs.Found.{digest_of_cover, text_of_cover, node_text as node_text_in, text_in, differing}
 use Rattle.clash_find.specs.Searched.{digests_of, DoRootsAgree, IsClashAt, IsCompared, AreCompared}
 use Rattle.clash_find.proofs.Agreement.{value_of, node_text, cover_text, HasDigests, AgreeAt, found, right_agrees}
 use Rattle.clash_find.proofs.Listing.{node_listed, cover_listed}
+
+-- the two texts at a place, and the first of all, where the history has so many entries
+abbrev pub pair_by : (List ℕ → Digest) → History → ℕ → List Place → List Leaf → (ℕ → ℕ → Option Digest) → List Digest → Place → Cover
+    → Option TextClash
+pair_by H us n ts rs known hs p c =
+    let d = digest_of_cover H n ts rs known hs c in
+    if is_digest d (digest_at H (entries H leaf_text us) p.row p.off) then option_and_then
+    (λ x. differing x (text_of_cover H n ts rs known hs c) d) (text_in H us p.row p.off) else None
+
+abbrev pub pair_for : (List ℕ → Digest) → History → ℕ → List Place → List Leaf → (ℕ → ℕ → Option Digest) → List Digest → Place → Option TextClash
+pair_for H us n ts rs known hs p = option_and_then (pair_by H us n ts rs known hs p) (cover ts p.row p.off)
+
+abbrev pub first_by : (List ℕ → Digest) → History → ℕ → List Place → List Leaf → (ℕ → ℕ → Option Digest) → List Digest → Option TextClash
+first_by H us n ts rs known hs = first_of (map (pair_for H us n ts rs known hs) (places n))
 
 -- what is beside the place at an index
 beside_slice : {X : Type 0} (none : X) (ps : List Place) (xs : List X) (i : ℕ) → IsDistinct ps → length xs ≡ length ps → i < length ps
@@ -179,14 +193,26 @@ module _ (H : List ℕ → Digest) (long : (x : List ℕ) → IsDigest (H x)) (u
   each_entry = entry_texts H leaf_text long LeafFits no_pair one_leaf us fit
 
   -- a node that stands has a text
+  tree_shown : (r o : ℕ) (t : Tree) → tree_at es r o ≡ Some t → tree_text H outputs t ≡ Some (node_text_of t)
+  tree_shown r o (leaf i d) s =
+      let w = entry_of H leaf_text us i d (tree_at-leaves es r o (leaf i d) s) in
+      ap (option_map leaf_text) (held i w.rec w.live) ∙ ap Some (sym w.shown)
+  tree_shown r o (inner a b) s = refl
+
   pub node_shown : (r o : ℕ) (t : Tree) → tree_at es r o ≡ Some t → text_at H es outputs r o ≡ Some (node_text_of t)
-  node_shown r o t s = ap (option_and_then (tree_text H outputs)) s ∙ by_tree t s
+  node_shown r o t s = ap (option_and_then (tree_text H outputs)) s ∙ tree_shown r o t s
+
+  -- which is that of the history's node
+  text_there : (r o : ℕ) → text_in H us r o ≡ text_at H es outputs r o
+  text_there r o = by (tree_at es r o) refl
     where
-      by_tree : (t : Tree) → tree_at es r o ≡ Some t → tree_text H outputs t ≡ Some (node_text_of t)
-      by_tree (leaf i d) s =
-          let w = entry_of H leaf_text us i d (tree_at-leaves es r o (leaf i d) s) in
-          ap (option_map leaf_text) (held i w.rec w.live) ∙ ap Some (sym w.shown)
-      by_tree (inner a b) s = refl
+      same : (t : Tree) → node_text_in H us t ≡ node_text_of t
+      same (leaf i d) = refl
+      same (inner a b) = refl
+
+      by : (x : Option Tree) → tree_at es r o ≡ x → option_map (node_text_in H us) x ≡ option_and_then (tree_text H outputs) x
+      by None e = refl
+      by (Some t) e = ap Some (same t) ∙ sym (tree_shown r o t e)
 
   -- its text has its digest
   node_digest : (r o : ℕ) (t : Tree) → tree_at es r o ≡ Some t → H (node_text_of t) ≡ digest_of H t
@@ -372,7 +398,7 @@ module _ (H : List ℕ → Digest) (long : (x : List ℕ) → IsDigest (H x)) (u
     text_same (both l r) = refl
 
     abbrev shown_at : Place → Option TextClash
-    shown_at = pair_at H es outputs ts rs k hs
+    shown_at = pair_for H us n ts rs k hs
 
     clash_here : (item : CoveredPlace) → IsItem item → (c : TextClash) → IsClashAt H es outputs rs item c → shown_at item.place ≡ Some c
     clash_here item it c w =
@@ -381,15 +407,15 @@ module _ (H : List ℕ → Digest) (long : (x : List ℕ) → IsDigest (H x)) (u
         is_there (V it.beneath) (digest_at H es p.row p.off) (w.same ∙ ap Some it.digest) in
         let second : c.second ≡ text_of_cover H n ts rs k hs it.beneath = w.second ∙ (it.text ∙ text_same it.beneath) in
         let digest : c.digest ≡ V it.beneath = w.digest ∙ it.digest in
-        ap (option_and_then (pair_over H es outputs ts rs k hs p)) it.covered
+        ap (option_and_then (pair_by H us n ts rs k hs p)) it.covered
         ∙ (ap (λ b. if b then option_and_then (λ x. differing x (text_of_cover H n ts rs k hs it.beneath) (V it.beneath))
-        (text_at H es outputs p.row p.off) else None) there
-        ∙ (ap (option_and_then (λ x. differing x (text_of_cover H n ts rs k hs it.beneath) (V it.beneath))) w.first
+        (text_in H us p.row p.off) else None) there
+        ∙ (ap (option_and_then (λ x. differing x (text_of_cover H n ts rs k hs it.beneath) (V it.beneath))) (text_there p.row p.off ∙ w.first)
         ∙ (ap₂ (differing c.first) (sym second) (sym digest) ∙ differing-other c w.differ)))
 
     none_here : (item : CoveredPlace) → IsItem item → IsCompared H es outputs rs item None → shown_at item.place ≡ None
     none_here item it w =
-        ap (option_and_then (pair_over H es outputs ts rs k hs item.place)) it.covered
+        ap (option_and_then (pair_by H us n ts rs k hs item.place)) it.covered
         ∙ by_digest (is_digest (V it.beneath) (digest_at H es item.place.row item.place.off)) refl
       where
         by_text : (x : Option (List ℕ)) → ((y : List ℕ) → x ≡ Some y → y ≡ text_of_cover H n ts rs k hs it.beneath)
@@ -399,11 +425,12 @@ module _ (H : List ℕ → Digest) (long : (x : List ℕ) → IsDigest (H x)) (u
 
         by_digest : (b : Bool) → is_digest (V it.beneath) (digest_at H es item.place.row item.place.off) ≡ b →
             (if b then option_and_then (λ x. differing x (text_of_cover H n ts rs k hs it.beneath) (V it.beneath))
-            (text_at H es outputs item.place.row item.place.off) else None) ≡ None
+            (text_in H us item.place.row item.place.off) else None) ≡ None
         by_digest false e = refl
         by_digest true e =
-            by_text (text_at H es outputs item.place.row item.place.off)
-            (λ y s. (w (there_is (V it.beneath) (digest_at H es item.place.row item.place.off) e ∙ ap Some (sym it.digest)) y s).0
+            by_text (text_in H us item.place.row item.place.off)
+            (λ y s. (w (there_is (V it.beneath) (digest_at H es item.place.row item.place.off) e ∙ ap Some (sym it.digest)) y
+            (sym (text_there item.place.row item.place.off) ∙ s)).0
             ∙ (it.text ∙ text_same it.beneath))
 
     -- nothing is shown at a place whose item shows nothing
@@ -413,12 +440,12 @@ module _ (H : List ℕ → Digest) (long : (x : List ℕ) → IsDigest (H x)) (u
     place_none : (q : Place) → InForest n q.row q.off → ((j : ℕ) → j < length items → (get_or items j blank).place ≡ q → Silent j) → shown_at q ≡ None
     place_none q h silent = by_cover (cover ts q.row q.off) refl
       where
-        by_cover : (x : Option Cover) → cover ts q.row q.off ≡ x → option_and_then (pair_over H es outputs ts rs k hs q) x ≡ None
+        by_cover : (x : Option Cover) → cover ts q.row q.off ≡ x → option_and_then (pair_by H us n ts rs k hs q) x ≡ None
         by_cover None e = refl
         by_cover (Some c) e =
             let w = ready.evaluated.all q.row q.off c h e in
             let at : (get_or items w.0 blank).place ≡ q = w.2 blank in
-            ap (option_and_then (pair_over H es outputs ts rs k hs q)) (sym e)
+            ap (option_and_then (pair_by H us n ts rs k hs q)) (sym e)
             ∙ subst (λ p. shown_at p ≡ None) at (none_here (get_or items w.0 blank) (item_at w.0 blank w.1) (silent w.0 w.1 at))
 
     -- items come in the order of their places
@@ -445,7 +472,7 @@ module _ (H : List ℕ → Digest) (long : (x : List ℕ) → IsDigest (H x)) (u
         (cases_eq j i))
         (cases_lt j i)
 
-    pub exact : (r : Option TextClash) → AreCompared H es outputs rs items r → r ≡ first_pair H es outputs ts rs k hs
+    pub exact : (r : Option TextClash) → AreCompared H es outputs rs items r → r ≡ first_by H us n ts rs k hs
     exact None compared = sym (first-none shown_at (places n) (λ q i. place_none q (places_had n q.row q.off i) (λ j lt at. compared j blank lt)))
     exact (Some c) (i, d, lt, at, before) =
         let clash = subst (λ (x : CoveredPlace). IsClashAt H es outputs rs x c) (get_or_default items i d blank lt) at in

@@ -6,7 +6,6 @@ use Rattle.std.proofs.lemmas.List.{length-map}
 use Rattle.std.proofs.lemmas.Option.{none-some}
 use Rattle.uo_digest.specs.declared.digest.Digest.{Digest}
 use Rattle.forest_place.specs.declared.place.Place.{Place}
-use Rattle.forest_place.specs.Places.{places}
 use Rattle.forest_model.specs.Content.{IsDigest}
 use Rattle.forest_model.specs.Standing.{root}
 use Rattle.forest_model.specs.Cover.{HasShape}
@@ -21,7 +20,6 @@ use Rattle.block_rules.specs.declared.fault.RuleFault.{RuleFault}
 use Rattle.block_rules.specs.declared.fault.RuleFault.TheVariants.{Refused}
 use Rattle.block_rules.specs.declared.refusal.ProofRefusal.{ProofRefusal}
 use Rattle.block_rules.specs.declared.refusal.Refusal.{Refusal}
-use Rattle.block_rules.specs.Steps.{first_of}
 use Rattle.output_index.specs.Held.{Held, leaf_at}
 use Rattle.node_rules.specs.Messages.{Message, point_of, points_of, named, targets, known_to}
 use Rattle.node_rules.specs.Accepting.{proof_fault}
@@ -33,10 +31,10 @@ use Rattle.node_rules.proofs.ClaimedLeaves.{message-long}
 use Rattle.clash_find.specs.Clashes.{TextClash}
 use Rattle.clash_find.specs.Texts.{claims}
 use Rattle.clash_find.specs.Answers.{StandForHistory, IsAnswer}
-use Rattle.clash_find.specs.Found.{clash_at, clash_in}
+use Rattle.clash_find.specs.Found.{clash_in}
 use Rattle.clash_find.specs.Searched.{digests_of, AreFound, IsSearched}
 use Rattle.clash_find.proofs.Refusing.{targets_long, no_shape, no_count}
-use Rattle.clash_find.proofs.Answering.{IsReady, accepts, differs, right, exact, some_found}
+use Rattle.clash_find.proofs.Answering.{first_by, IsReady, accepts, differs, right, exact, some_found}
 
 module _ (H : List ℕ → Digest) (long : (x : List ℕ) → IsDigest (H x)) (outputs : List Held) (ext : List Outside) (m : Message)
     (count : length m.proof.spends ≡ length ext) (known : ℕ → ℕ → Option Digest) where
@@ -58,8 +56,8 @@ module _ (H : List ℕ → Digest) (long : (x : List ℕ) → IsDigest (H x)) (o
   abbrev fault_over : ℕ → (ℕ → Option Digest) → Option ProofRefusal
   fault_over n roots = proof_fault H (record { n = n; roots = roots; known = known }) points m
 
-  abbrev clash_by : List (Option Digest) → Option ProofRefusal → Option TextClash
-  clash_by es x = if is_none x then first_of (map (clash_at H es outputs known ext m) (places (length es))) else None
+  abbrev clash_by : History → ℕ → Option ProofRefusal → Option TextClash
+  clash_by us n x = if is_none x then first_by H us n (targets n m) rs k hs else None
 
   -- ---- where targets or hashes are refused
 
@@ -69,12 +67,14 @@ module _ (H : List ℕ → Digest) (long : (x : List ℕ) → IsDigest (H x)) (o
       let same : length us ≡ length es0 = sym (length-map us (option_map (λ (r : Leaf). H (leaf_text r)))) ∙ ap length (sym s.entries_are) in
       absurd (refused (root H (entries H leaf_text us)) (subst (λ j. fault_over j (root H (entries H leaf_text us)) ≡ None) same none))
 
-  pub none_exact : (es : List (Option Digest)) → ((roots : ℕ → Option Digest) → fault_over (length es) roots ≢ None)
-      → None ≡ clash_in H es outputs known ext m
-  none_exact es refused = by_fault (fault_over (length es) (root H es)) refl
+  pub none_exact : (es0 : List (Option Digest)) → ((roots : ℕ → Option Digest) → fault_over (length es0) roots ≢ None) → (us : History)
+      → StandForHistory H es0 outputs us → None ≡ clash_in H us known ext m
+  none_exact es0 refused us s = by_fault (fault_over (length us) (root H (entries H leaf_text us))) refl
     where
-      by_fault : (x : Option ProofRefusal) → fault_over (length es) (root H es) ≡ x → None ≡ clash_by es x
-      by_fault None e = absurd (refused (root H es) e)
+      by_fault : (x : Option ProofRefusal) → fault_over (length us) (root H (entries H leaf_text us)) ≡ x → None ≡ clash_by us (length us) x
+      by_fault None e =
+          let same : length us ≡ length es0 = sym (length-map us (option_map (λ (r : Leaf). H (leaf_text r)))) ∙ ap length (sym s.entries_are) in
+          absurd (refused (root H (entries H leaf_text us)) (subst (λ j. fault_over j (root H (entries H leaf_text us)) ≡ None) same e))
       by_fault (Some f) e = refl
 
   -- ---- what was searched
@@ -164,19 +164,23 @@ module _ (H : List ℕ → Digest) (long : (x : List ℕ) → IsDigest (H x)) (o
               },
             )
 
-    pub which : answer ≡ clash_in H es outputs known ext m
-    which = by w.searched.agree answer w.searched.found
+    -- by this number of entries
+    which_by : answer ≡ clash_by us n (fault_over n (root H es))
+    which_by = by w.searched.agree answer w.searched.found
       where
-        by_fault : (x : Option ProofRefusal) → fault_over n (root H es) ≡ x → (fault_over n (root H es) ≡ None → ⊥) → None ≡ clash_by es x
+        by_fault : (x : Option ProofRefusal) → fault_over n (root H es) ≡ x → (fault_over n (root H es) ≡ None → ⊥) → None ≡ clash_by us n x
         by_fault None e never = absurd (never e)
         by_fault (Some f) e never = refl
 
-        by : (b : Bool) (x : Option TextClash) → AreFound H es outputs rs w.searched.items b x → x ≡ clash_in H es outputs known ext m
+        by : (b : Bool) (x : Option TextClash) → AreFound H es outputs rs w.searched.items b x → x ≡ clash_by us n (fault_over n (root H es))
         by false x f = f.1 ∙ by_fault (fault_over n (root H es)) refl
             (λ e. differs H long us outputs held fit ts rs k hs w.searched.items ready f.0 (taken e))
         by true x f =
             exact H long us outputs held fit ts rs k hs w.searched.items ready x f.1
-            ∙ sym (ap (clash_by es) (no_fault (accepts H long us outputs held fit ts rs k hs w.searched.items ready f.0)))
+            ∙ sym (ap (clash_by us n) (no_fault (accepts H long us outputs held fit ts rs k hs w.searched.items ready f.0)))
+
+    pub which : answer ≡ clash_in H us known ext m
+    which = which_by ∙ ap (λ j. clash_by us j (fault_over j (root H es))) same_length
 
   -- by the names of the calls
   pub found_so : (es0 : List (Option Digest)) (n0 : ℕ) (t : Targeted) (full seen_full : List Digest) (seen : List Leaf) (ext0 : List Outside)
@@ -197,10 +201,9 @@ module _ (H : List ℕ → Digest) (long : (x : List ℕ) → IsDigest (H x)) (o
       (subst (λ (e : List (Option Digest)). IsKnowledge H e known) s.entries_are view)
 
   pub found_exact : (es0 : List (Option Digest)) (t : Targeted) (full : List Digest) (answer : Option TextClash) → IsFoundFor es0 t full answer
-      → (us : History) → StandForHistory H es0 outputs us → answer ≡ clash_in H es0 outputs known ext m
+      → (us : History) → StandForHistory H es0 outputs us → answer ≡ clash_in H us known ext m
   found_exact es0 t full answer w us s =
-      subst (λ (e : List (Option Digest)). answer ≡ clash_in H e outputs known ext m) (sym s.entries_are)
-      (which us s.held s.fit t full answer (subst (λ (e : List (Option Digest)). IsFoundFor e t full answer) s.entries_are w))
+      which us s.held s.fit t full answer (subst (λ (e : List (Option Digest)). IsFoundFor e t full answer) s.entries_are w)
 
   -- as many leaves as targets
   pub leaves_long : (n0 : ℕ) (t : Targeted) (ext0 : List Outside) (seen : List Leaf) → ext0 ≡ ext → AreNamed n0 m t → seen ≡ claims ext0 m

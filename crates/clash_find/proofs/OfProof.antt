@@ -19,7 +19,7 @@ use Rattle.clash_find.specs.Clashes.{TextClash}
 use Rattle.clash_find.specs.Answers.{StandForHistory, AcceptsAll, IsAnswerIn}
 use Rattle.clash_find.specs.Found.{IsFirstPair}
 use Rattle.clash_find.specs.Searched.{digests_of, AreFound, IsSearched}
-use Rattle.clash_find.proofs.Answering.{IsReady, accepts, differs, right, exact, some_found}
+use Rattle.clash_find.proofs.Answering.{first_by, IsReady, accepts, differs, right, exact, some_found}
 use Rattle.proof_verify.proofs.Values.{asked_all}
 
 -- the hashes of all needed places are those by their ranks
@@ -46,8 +46,15 @@ module _ (H : List ℕ → Digest) (long : (x : List ℕ) → IsDigest (H x)) (o
       let same : length us ≡ length es = sym (length-map us (option_map (λ (r : Leaf). H (leaf_text r)))) ∙ ap length (sym s.entries_are) in
       absurd (other_count (length us) (root H (entries H leaf_text us)) (subst (λ j. length hs ≢ length (need j ts)) (sym same) other) a)
 
-  pub count_exact : (es : List (Option Digest)) → length hs ≢ length (need (length es) ts) → IsFirstPair H es outputs ts rs hs None
-  count_exact es other = record { accepted = λ a. absurd (other_count (length es) (root H es) other a); refused = λ a. refl }
+  pub count_exact : (es : List (Option Digest)) → length hs ≢ length (need (length es) ts) → (us : History) → StandForHistory H es outputs us
+      → IsFirstPair H us ts rs hs None
+  count_exact es other us s =
+      let same : length us ≡ length es = sym (length-map us (option_map (λ (r : Leaf). H (leaf_text r)))) ∙ ap length (sym s.entries_are) in
+      record {
+        accepted =
+            λ a. absurd (other_count (length us) (root H (entries H leaf_text us)) (subst (λ j. length hs ≢ length (need j ts)) (sym same) other) a);
+        refused = λ a. refl;
+      }
 
   -- what was searched
   pub record IsFoundIn (es : List (Option Digest)) (answer : Option TextClash) : Type 0 where
@@ -99,17 +106,18 @@ module _ (H : List ℕ → Digest) (long : (x : List ℕ) → IsDigest (H x)) (o
               record { of_forest = s.1.of_forest; of_proof = s.1.of_proof; differ = s.1.differ; first_is = s.1.first_is; second_is = s.1.second_is },
             )
 
-    pub which : IsFirstPair H es outputs ts rs hs answer
+    pub which : IsFirstPair H us ts rs hs answer
     which = by w.searched.agree answer w.searched.found
       where
-        by : (b : Bool) (x : Option TextClash) → AreFound H es outputs rs w.searched.items b x → IsFirstPair H es outputs ts rs hs x
+        by : (b : Bool) (x : Option TextClash) → AreFound H es outputs rs w.searched.items b x → IsFirstPair H us ts rs hs x
         by false x f = record {
-          accepted = λ a. absurd (differs H long us outputs held fit ts rs nothing_known hs w.searched.items ready f.0 a);
+          accepted = λ a. absurd (differs H long us outputs held fit ts rs nothing_known hs w.searched.items ready f.0 (to_es a));
           refused = λ no. f.1;
         }
         by true x f = record {
-          accepted = λ a. exact H long us outputs held fit ts rs nothing_known hs w.searched.items ready x f.1;
-          refused = λ no. absurd (no (accepts H long us outputs held fit ts rs nothing_known hs w.searched.items ready f.0));
+          accepted = λ a. exact H long us outputs held fit ts rs nothing_known hs w.searched.items ready x f.1
+              ∙ ap (λ j. first_by H us j ts rs nothing_known hs) same_length;
+          refused = λ no. absurd (no (to_us (accepts H long us outputs held fit ts rs nothing_known hs w.searched.items ready f.0)));
         }
 
   pub found_answer : (es0 : List (Option Digest)) (answer : Option TextClash) → IsFoundIn es0 answer → (us : History)
@@ -117,10 +125,8 @@ module _ (H : List ℕ → Digest) (long : (x : List ℕ) → IsDigest (H x)) (o
   found_answer es0 answer w us s = answered us s.held s.fit answer (subst (λ (e : List (Option Digest)). IsFoundIn e answer) s.entries_are w)
 
   pub found_exact : (es0 : List (Option Digest)) (answer : Option TextClash) → IsFoundIn es0 answer → (us : History)
-      → StandForHistory H es0 outputs us → IsFirstPair H es0 outputs ts rs hs answer
-  found_exact es0 answer w us s =
-      subst (λ (e : List (Option Digest)). IsFirstPair H e outputs ts rs hs answer) (sym s.entries_are)
-      (which us s.held s.fit answer (subst (λ (e : List (Option Digest)). IsFoundIn e answer) s.entries_are w))
+      → StandForHistory H es0 outputs us → IsFirstPair H us ts rs hs answer
+  found_exact es0 answer w us s = which us s.held s.fit answer (subst (λ (e : List (Option Digest)). IsFoundIn e answer) s.entries_are w)
 
   -- by the names of the calls
   pub found_so : (es0 : List (Option Digest)) (n0 : ℕ) (answer : Option TextClash) → n0 ≡ length es0 → HasShape n0 ts → length rs ≡ length ts

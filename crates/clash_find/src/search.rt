@@ -97,7 +97,7 @@ pub fn find_in<D: Digester, L: Ledger>(
 
     // Which it is.
     ensures exact { IfOk result (λ clash. (us : History) → StandForHistory D.digest_of forest.now.entries outputs.now us →
-        IsFirstPair D.digest_of forest.now.entries outputs.now targets.now.targets leaves.now hashes.now clash) }
+        IsFirstPair D.digest_of us targets.now.targets leaves.now hashes.now clash) }
 {
     // That the targets have shape.
     let _count = targets.leaves();
@@ -131,7 +131,7 @@ pub fn find<D: Digester, L: Ledger>(
 
     // Which it is.
     ensures exact { IfOk result (λ clash. (us : History) → StandForHistory D.digest_of forest.now.entries outputs.now us →
-        clash ≡ clash_in D.digest_of forest.now.entries outputs.now (look known.now) spends.now.external message.now) }
+        clash ≡ clash_in D.digest_of us (look known.now) spends.now.external message.now) }
 {
     let targets = match targets_of(alloc, forest.leaves(), message) {
         Ok(targets) => targets,

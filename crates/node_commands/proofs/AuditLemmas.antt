@@ -29,14 +29,16 @@ use Rattle.clash_find.specs.Clashes.{TextClash}
 use Rattle.audit_replay.specs.declared.audit.AuditLine.{AuditLine}
 use Rattle.audit_replay.specs.declared.audit.AuditLine.TheVariants as Audited
 use Rattle.audit_replay.specs.Audit.{AuditState, next_audit, clash_on, verdict_in, ShowsClash}
-use Rattle.audit_replay.specs.Laws.{verdicts_on, ends_at, audit_after, shown_or, shown_on, AuditsThroughout}
+use Rattle.audit_replay.specs.Laws.{verdicts_on, ends_at, audit_after, shown_or, shown_on, shown_by, AuditsThroughout}
 use Rattle.audit_replay.proofs.Auditing.{judged_rules}
 use Rattle.audit_replay.proofs.Throughout.{fresh_is_full, supply_is_of_level}
 use Rattle.report_lines.specs.declared.line.Line.{Line}
 use Rattle.node_commands.specs.Answers.{bad_end, last_of, answer_with, served, served_feed}
 use Rattle.node_commands.specs.Auditor.{AuditorState, fresh_auditor, judged_of, refuses, next_auditor, clash_text, judged_text, audited_text}
 use Rattle.node_commands.specs.Auditor.{judged_line, supply_end, end_unless, audit_end, audit_machine, level_end, answer_unless, audit_answer}
+use Rattle.node_commands.specs.Auditor.{audit_lines}
 use Rattle.node_commands.specs.Follow.{line_of, rules_of}
+use Rattle.node_commands.specs.Forging.{AreWanted}
 use Rattle.node_commands.specs.Machine.{is_refused}
 use Rattle.node_commands.specs.Runs.{NoPort, Serves}
 use Rattle.node_commands.proofs.FollowLemmas.{or_none, or_again}
@@ -56,6 +58,10 @@ audited-is H a event (Audited.Clash c) says shows =
 pub none-if : (b : Bool) → cond b (let l : List ℕ = [] in l) [] ≡ []
 none-if true = refl
 none-if false = refl
+
+pub goes-honest : (b : Bool) → not b ≡ false → b ≡ true
+goes-honest true e = refl
+goes-honest false e = absurd (false≢true (sym e))
 
 module _ (H : List ℕ → Digest) where
   abbrev m : Machine AuditorState
@@ -182,7 +188,7 @@ module _ (H : List ℕ → Digest) where
       by None later = judged_rules H s.bridge e
       by (Some v) later = later ∙ judged_rules H s.bridge e
 
-  after-bridge : (es : List ChainEvent) (s : AuditState) → IsBridge H s.bridge → IsBridge H (audit_after H s es).bridge
+  pub after-bridge : (es : List ChainEvent) (s : AuditState) → IsBridge H s.bridge → IsBridge H (audit_after H s es).bridge
   after-bridge [] s is = is
   after-bridge (e ∷ es) s is = by (judged_on H s.bridge e)
       (after-bridge es (next_audit H s e) (next_judged_is_bridge H s.bridge e is))
@@ -203,6 +209,37 @@ module _ (H : List ℕ → Digest) where
           → shown_or v (clash_on H s.bridge x) (shown_on H (next_audit H s x) es) ≡ None
       by None none later e = absurd (false≢true (sym e ∙ ap is_none none))
       by (Some v) some later e = later e
+
+  -- ---- beside the node that holds every output
+
+  -- a wanted event comes where the auditor has not ended
+  wanted-at : (front later : List FeedEvent) (event : FeedEvent) (a : AuditorState) → Wants m a (front ++ event ∷ later)
+      → (left_by m a front).audit.ended ≡ false
+  wanted-at [] later event a w = w.0
+  wanted-at (f ∷ front) later event a w =
+      ap (λ s. (left_by m s front).audit.ended) (goes-over a f false w.0) ∙ wanted-at front later event (next_auditor H a f) w.1
+
+  module _ (limits : Limits) (net : Net) (scripts : List (List ℕ)) (few : limits.leaves < 2 ^ 40) where
+    said-lines : (events : List FeedEvent) → said_by m (fresh_auditor net limits scripts) events ≡ audit_lines H limits net scripts events
+    unfolding audit_lines
+    said-lines events =
+        let es = map event_in events in
+        let rules = rules_of limits net in
+        let throughout = fresh_is_full H net limits scripts few es in
+        let told = full_verdicts H scripts rules start es in
+        let shows = shown_by H scripts rules start es in
+        let count : 0 + length told ≡ length told = omega arith in
+        (is-told events (fresh_auditor net limits scripts) refl).said
+        ∙ ap₂ (λ v x. flat_map line_of v ++ clash_text (0 + length v) x) throughout.said throughout.shown
+        ∙ ap (λ k. flat_map line_of told ++ clash_text k shows) count
+
+    wanted-front : (events : List FeedEvent) → Wants m (fresh_auditor net limits scripts) events → AreWanted H limits net scripts events
+    wanted-front events w front later event split =
+        let fresh = fresh_auditor net limits scripts in
+        let going = wanted-at front later event fresh (subst (λ l. Wants m fresh l) split w) in
+        goes-honest (never_stops (rules_of limits net) (full_judge H scripts (rules_of limits net)) start (map event_in front))
+        (sym (fresh_is_full H net limits scripts few (map event_in front)).ended
+        ∙ (sym (ap (λ (s : AuditState). s.ended) (is-told front fresh refl).audit) ∙ going))
 
   -- ---- the whole answer
 
@@ -229,7 +266,7 @@ module _ (H : List ℕ → Digest) where
     state = full_after H scripts rules start es
 
     abbrev shows : Option TextClash
-    shows = shown_on H fresh.audit es
+    shows = shown_by H scripts rules start es
 
     abbrev behind : AuditState
     behind = audit_after H fresh.audit es
@@ -247,9 +284,8 @@ module _ (H : List ℕ → Digest) where
     t = is-told events fresh refl
 
     said : said_by m fresh events ≡ flat_map line_of verdicts ++ clash_text (length verdicts) shows
-    said =
-        t.said ∙ ap (λ v. flat_map line_of v ++ clash_text (0 + length v) shows) throughout.said
-        ∙ ap (λ k. flat_map line_of verdicts ++ clash_text k shows) (let z : 0 + length verdicts ≡ length verdicts = omega arith in z)
+    unfolding audit_lines
+    said = said-lines limits net scripts few events
 
     forged-is : behind.ended ≡ not (never_stops rules (full_judge H scripts rules) start es)
     forged-is = throughout.ended
@@ -298,7 +334,7 @@ module _ (H : List ℕ → Digest) where
         served_is true e ∙ ap (λ l. let a : Answer = record { status = Statuses.Clash; report = l; out = [] } in a) (append-nil text)
         ∙ answer-is true (sym forged-is ∙ (sym ended-is ∙ e))
     by-forged false e =
-        let none : shows ≡ None = shown-none es fresh.audit (sym ended-is ∙ e) in
+        let none : shows ≡ None = sym throughout.shown ∙ shown-none es fresh.audit (sym ended-is ∙ e) in
         let lines : flat_map line_of verdicts ++ clash_text (length verdicts) shows ≡ flat_map line_of verdicts =
         ap (λ x. flat_map line_of verdicts ++ clash_text (length verdicts) x) none ∙ append-nil (flat_map line_of verdicts) in
         served_is false e ∙ ap₂ (λ l a. answer_with l [] a ending) lines (end-is e)
@@ -336,10 +372,10 @@ pub audit-serves : (H : List ℕ → Digest) (limits : Limits) (net : Net) (scri
     → {feed feed' report report' o o' : Option (List ℕ)} {untouched : Type 0} (out : Option (List ℕ)) (stopped : Bool) (status : Status)
     → Serves (Wants (audit_machine H) a) (said_by (audit_machine H) a) (sent_by (audit_machine H) a)
     (served_feed (audit_machine H) a net limits.bytes) net limits.bytes feed feed' report report' o o' untouched stopped status
-    → Serves (λ events. Wants (audit_machine H) (fresh_auditor net limits scripts) events)
-    (λ events. said_by (audit_machine H) (fresh_auditor net limits scripts) events) (λ events. []) (audit_answer H limits net scripts) net
+    → Serves (AreWanted H limits net scripts) (audit_lines H limits net scripts) (λ events. []) (audit_answer H limits net scripts) net
     limits.bytes feed feed' report report' out out NoPort stopped status
 audit-serves H limits net scripts few a e {o = o} {o' = o'} out stopped status s =
     Serves-quiet (audit-stores H limits net scripts) o o' out stopped status
-    (Serves-same (λ events w. subst (λ b. Wants (audit_machine H) b events) e w) (λ events. ap (λ b. said_by (audit_machine H) b events) e) (λ events. sent-none H events a)
+    (Serves-same (λ events w. wanted-front H limits net scripts few events (subst (λ b. Wants (audit_machine H) b events) e w))
+    (λ events. ap (λ b. said_by (audit_machine H) b events) e ∙ said-lines H limits net scripts few events) (λ events. sent-none H events a)
     (served-audit H limits net scripts few a e) stopped status s)

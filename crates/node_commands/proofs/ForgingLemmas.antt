@@ -37,9 +37,8 @@ use Rattle.node_rules.specs.Machine.{by_evidence, back, rolled_back, step, goes_
 use Rattle.node_rules.proofs.Fitting.{read_event_fits}
 use Rattle.node_rules.proofs.MessageLaws.{read_is_text}
 use Rattle.block_rules.specs.Blocks.{external}
-use Rattle.audit_replay.specs.Audit.{fresh_audit}
-use Rattle.audit_replay.specs.Laws.{shown_on, AreShown}
-use Rattle.audit_replay.proofs.Showing.{fresh_shows_forged}
+use Rattle.audit_replay.specs.Laws.{shown_by, AreShown}
+use Rattle.audit_replay.proofs.Showing.{full_shows_forged}
 use Rattle.node_commands.specs.Answers.{bad_end, last_of, answer_with}
 use Rattle.node_commands.specs.Auditor.{clash_text, supply_end, level_end, answer_unless, audit_answer}
 use Rattle.node_commands.specs.Follow.{line_of, rules_of}
@@ -279,12 +278,12 @@ module _ (H : List ℕ → Digest) (long : (x : List ℕ) → IsDigest (H x)) (l
   abbrev answer_by : (goes : Bool) (told : List Verdict) (shown : Option TextClash) → Answer
   answer_by goes told shown = answer_unless (not goes) (whole_by told) (flat_map line_of told) (clash_text (length told) shown)
 
-  answer-is : audit_answer H limits net scripts feed ≡ answer_by goes told (shown_on H (fresh_audit net limits scripts) (map event_in events))
+  answer-is : audit_answer H limits net scripts feed ≡ answer_by goes told (shown_by H scripts rules start (map event_in events))
   unfolding audit_answer
   answer-is = refl
 
   honest-answer : goes ≡ true → audit_answer H limits net scripts feed ≡ whole_by told
-  honest-answer honest = answer-is ∙ ap (λ b. answer_by b told (shown_on H (fresh_audit net limits scripts) (map event_in events))) honest
+  honest-answer honest = answer-is ∙ ap (λ b. answer_by b told (shown_by H scripts rules start (map event_in events))) honest
 
   module _ (front later : List FeedEvent) (event : FeedEvent) (bytes : IsBytes feed) (split : events ≡ front ++ event ∷ later)
       (f : IsForgedBehind H limits net scripts front event) where
@@ -300,9 +299,9 @@ module _ (H : List ℕ → Digest) (long : (x : List ℕ) → IsDigest (H x)) (l
     block_fits : BlockFits f.block
     block_fits = subst EventFits f.is (read_event_fits event (block_bytes event made.1))
 
-    shown : AreShown H (shown_on H (fresh_audit net limits scripts) (map event_in front ++ forging ∷ map event_in later)) scripts
+    shown : AreShown H (shown_by H scripts rules start (map event_in front ++ forging ∷ map event_in later)) scripts
         (level_behind H limits net scripts front) f.block f.message
-    shown = fresh_shows_forged H long net limits scripts few (map event_in front) (map event_in later) f.block f.message (all_fit front made.0)
+    shown = full_shows_forged H long net limits scripts few (map event_in front) (map event_in later) f.block f.message (all_fit front made.0)
         block_fits (message_fits event f.block f.message made.1 f.is) f.honest f.forged
 
     stopped : Stops H scripts rules start (map event_in front) (map event_in later) forging
@@ -323,10 +322,10 @@ module _ (H : List ℕ → Digest) (long : (x : List ℕ) → IsDigest (H x)) (l
       clash = shown.clash;
       is = shown.is;
       answered =
-          answer-is ∙ ap (λ b. answer_by b told (shown_on H (fresh_audit net limits scripts) (map event_in events)))
+          answer-is ∙ ap (λ b. answer_by b told (shown_by H scripts rules start (map event_in events)))
           (ap (never_stops rules (full_judge H scripts rules) start) split_in ∙ stopped.stops)
-          ∙ ap (λ l. answer_by false l (shown_on H (fresh_audit net limits scripts) (map event_in events))) told_is
-          ∙ ap (answer_by false before) (ap (shown_on H (fresh_audit net limits scripts)) split_in ∙ shown.shows)
+          ∙ ap (λ l. answer_by false l (shown_by H scripts rules start (map event_in events))) told_is
+          ∙ ap (answer_by false before) (ap (shown_by H scripts rules start) split_in ∙ shown.shows)
           ∙ ap (λ k. let a : Answer = record {
             status = Status.Clash;
             report = flat_map line_of before ++ clash_text k (Some shown.clash);
@@ -367,7 +366,7 @@ module _ (H : List ℕ → Digest) (long : (x : List ℕ) → IsDigest (H x)) (l
   status-shown : HasForged H limits net scripts events → (audit_answer H limits net scripts feed).status ≡ Status.Clash
   status-shown f =
       ap (λ (a : Answer). a.status) answer-is
-      ∙ ap (λ b. (answer_by b told (shown_on H (fresh_audit net limits scripts) (map event_in events))).status) (forged-told f)
+      ∙ ap (λ b. (answer_by b told (shown_by H scripts rules start (map event_in events))).status) (forged-told f)
 
   pub audits-feed : AuditsFeed H limits net scripts feed
   audits-feed = record {

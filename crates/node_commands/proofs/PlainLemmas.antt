@@ -29,9 +29,8 @@ use Rattle.compact_node.specs.State.{stored_state}
 use Rattle.compact_node.specs.Throughout.{AreHonest, full_after, full_verdicts, node_after, verdicts_on}
 use Rattle.compact_node.proofs.Storing.{one_node_stands, standing_is_written}
 use Rattle.compact_node.proofs.Throughout.{compact_is_full_throughout, fresh-node, fresh-stands, node_throughout, told_after, verdicts_on-append}
-use Rattle.audit_replay.specs.Audit.{fresh_audit}
-use Rattle.audit_replay.specs.Laws.{shown_on}
-use Rattle.audit_replay.proofs.Showing.{fresh_shows_forged}
+use Rattle.audit_replay.specs.Laws.{shown_by}
+use Rattle.audit_replay.proofs.Showing.{full_shows_forged}
 use Rattle.node_commands.specs.Auditor.{answer_unless, audit_answer}
 use Rattle.node_commands.specs.Follow.{line_of, events_for, rules_of}
 use Rattle.node_commands.specs.Forging.{HasForged, told_by}
@@ -107,14 +106,14 @@ module _ (H : List ℕ → Digest) (long : (x : List ℕ) → length (H x).0 ≡
   shows-first f =
       let m = one_of IsMadeOfBytes f.front f.event f.later (subst (AllByRecursion IsMadeOfBytes) f.split made) in
       let fits : BlockFits f.now.block = subst EventFits f.now.is (read_event_fits f.event (block_bytes f.event m.1)) in
-      let s = fresh_shows_forged H long net limits scripts few (map event_in f.front) (map event_in f.later) f.now.block f.now.message
+      let s = full_shows_forged H long net limits scripts few (map event_in f.front) (map event_in f.later) f.now.block f.now.message
       (all_fit f.front m.0) fits (message_fits f.event f.now.block f.now.message m.1 f.now.is) f.honest f.now.forged in
       let split = ap (map event_in) f.split ∙ map-append event_in f.front (f.event ∷ f.later)
       ∙ ap (λ x. map event_in f.front ++ x ∷ map event_in f.later) f.now.is in
       record {
         clash = s.clash;
         is = record { differ = s.is.differ; first_is = s.is.first_is; second_is = s.is.second_is };
-        shown = ap (shown_on H (fresh_audit net limits scripts)) split ∙ s.shows;
+        shown = ap (shown_by H scripts told_rules start) split ∙ s.shows;
       }
 
   auditor-shows : never_stops told_rules (full_judge H scripts told_rules) start (map event_in events) ≡ false

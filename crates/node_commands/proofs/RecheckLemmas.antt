@@ -37,30 +37,32 @@ use Rattle.node_rules.proofs.Fitting.{read_event_fits}
 use Rattle.compact_node.specs.Throughout.{full_verdicts, full_after}
 use Rattle.bridge_prover.specs.Bridge.{BridgeState}
 use Rattle.bridge_prover.specs.Full.{history_of, judged_on}
+use Rattle.bridge_prover.specs.Standing.{IsBridge}
 use Rattle.bridge_prover.specs.Watched.{scripts_of}
 use Rattle.bridge_prover.proofs.Historied.{is_history, newest_history}
+use Rattle.bridge_prover.proofs.Refining.{fresh_is_bridge}
 use Rattle.clash_find.specs.Clashes.{TextClash}
 use Rattle.audit_replay.specs.declared.audit.AuditLine.{AuditLine}
 use Rattle.audit_replay.specs.declared.audit.AuditLine.TheVariants as Audited
 use Rattle.audit_replay.specs.Audit.{AuditState, IsAudit, fresh_audit, next_audit, clash_on, verdict_in, ShowsClash}
-use Rattle.audit_replay.specs.Laws.{verdicts_on, ends_at, audit_after, shown_or, shown_on, AreShown, AuditsThroughout}
+use Rattle.audit_replay.specs.Laws.{verdicts_on, ends_at, audit_after, shown_or, shown_on, shown_by, AreShown, AuditsThroughout}
 use Rattle.audit_replay.proofs.Auditing.{next_is_audit, fresh_is_audit}
 use Rattle.audit_replay.proofs.Showing.{fresh_shows_forged}
 use Rattle.audit_replay.proofs.Throughout.{fresh_is_full}
 use Rattle.ticket_check.specs.declared.checked.Checked.{Checked}
 use Rattle.ticket_check.specs.declared.checked.Checked.TheVariants as Said
-use Rattle.ticket_check.specs.Checking.{said_of, rechecked_by, recheck_of, IsRechecked}
-use Rattle.ticket_check.proofs.CheckLaws.{rechecked_is_right}
+use Rattle.ticket_check.specs.Checking.{said_of, rechecked_by, recheck_of, recheck_over, IsRechecked}
+use Rattle.ticket_check.proofs.CheckLaws.{rechecked_is_right, recheck_same}
 use Rattle.ticket_check.proofs.TicketLaws.{ticket_fits}
 use Rattle.node_commands.specs.PriorText.{long_prior}
 use Rattle.node_commands.specs.declared.bad_input.BadInput.{BadInput}
 use Rattle.node_commands.specs.Answers.{bad_end, last_of, answer_with, served_feed}
-use Rattle.node_commands.specs.Auditor.{clash_text, end_unless}
+use Rattle.node_commands.specs.Auditor.{clash_text, end_unless, answer_unless}
 use Rattle.node_commands.specs.Follow.{rules_of}
-use Rattle.node_commands.specs.Forging.{level_behind, AreTrueTo, IsForgedBehind}
+use Rattle.node_commands.specs.Forging.{level_behind, AreTrueTo, AreWanted, IsForgedBehind}
 use Rattle.node_commands.specs.Meaning.{IsEnd}
 use Rattle.node_commands.specs.Rechecking.{RecheckerState, next_rechecker, machine_ending, silent_end, shown_text, shown_of, shown_line, recheck_end}
-use Rattle.node_commands.specs.Rechecking.{recheck_machine, Rechecked, with_list, recheck_start, rechecker_of, recheck_answer}
+use Rattle.node_commands.specs.Rechecking.{recheck_machine, Rechecked, with_list, recheck_start, rechecker_of, recheck_lines, recheck_answer}
 use Rattle.node_commands.specs.Rechecking.{RechecksOver, ShowsAlone, RechecksFeed, RechecksAsBegun}
 use Rattle.node_commands.specs.Runs.{NoPort, Serves, status_in}
 use Rattle.node_commands.specs.Tickets.{told_as}
@@ -68,7 +70,7 @@ use Rattle.report_lines.specs.declared.line.Line.{Line}
 use Rattle.node_commands.proofs.ServeLemmas.{wanted-same, OnOk-any, serves-last, Serves-same, Serves-quiet}
 use Rattle.node_commands.proofs.TicketLemmas.{told-quiet}
 use Rattle.node_commands.specs.Watching.{list_in}
-use Rattle.node_commands.proofs.AuditLemmas.{none-if, shown-none}
+use Rattle.node_commands.proofs.AuditLemmas.{none-if, goes-honest, after-bridge, shown-none}
 use Rattle.node_commands.proofs.ForgingLemmas.{all-told, Stops, stops-at, no-verdict, one_of, block_bytes, all_fit, message_fits}
 
 -- ---- one event
@@ -180,6 +182,13 @@ module _ (H : List ℕ → Digest) where
       by None none later = last-told r event events going none
       by (Some v) some later = more-told r event events going v some (later (ap is_none some))
 
+  -- a wanted event comes where the auditor has not ended
+  pub wanted-at : (front later : List FeedEvent) (event : FeedEvent) (r : RecheckerState) → Wants m r (front ++ event ∷ later)
+      → (left_by m r front).audit.ended ≡ false
+  wanted-at [] later event r w = w.0
+  wanted-at (f ∷ front) later event r w =
+      ap (λ s. (left_by m s front).audit.ended) (goes-over r f false w.0) ∙ wanted-at front later event (next_rechecker H r f) w.1
+
   -- what an auditor keeps is such
   after-audit : (es : List ChainEvent) (s : AuditState) → AllByRecursion EventFits es → IsAudit H s.bridge
       → IsAudit H (audit_after H s es).bridge
@@ -193,14 +202,33 @@ module _ (H : List ℕ → Digest) where
       by None next later = next
       by (Some v) next later = later
 
+-- ---- beside the node that holds every output
+
+module _ (H : List ℕ → Digest) (limits : Limits) (few : limits.leaves < 2 ^ 40) (net : Net) (begun : Rechecked) (events : List FeedEvent) where
+  abbrev node_rules : Rules
+  node_rules = rules_of limits net
+
+  said-lines : said_by (recheck_machine H) (rechecker_of limits net begun) events ≡ recheck_lines H limits net begun events
+  unfolding recheck_lines
+  said-lines =
+      let es = map event_in events in
+      let throughout = fresh_is_full H net limits (scripts_of begun.list) few es in
+      let told = full_verdicts H (scripts_of begun.list) node_rules start es in
+      let count : 0 + length told ≡ length told = omega arith in
+      (is-told H events (rechecker_of limits net begun) refl).said ∙ ap₂ (λ v x. clash_text (0 + length v) x) throughout.said throughout.shown
+      ∙ ap (λ k. clash_text k (shown_by H (scripts_of begun.list) node_rules start es)) count
+
+  wanted-front : Wants (recheck_machine H) (rechecker_of limits net begun) events → AreWanted H limits net (scripts_of begun.list) events
+  wanted-front w front later event split =
+      let fresh = rechecker_of limits net begun in
+      let going = wanted-at H front later event fresh (subst (λ l. Wants (recheck_machine H) fresh l) split w) in
+      goes-honest (never_stops node_rules (full_judge H (scripts_of begun.list) node_rules) start (map event_in front))
+      (sym (fresh_is_full H net limits (scripts_of begun.list) few (map event_in front)).ended
+      ∙ (sym (ap (λ (s : AuditState). s.ended) (is-told H front fresh refl).audit) ∙ going))
+
 -- ---- the answer
 
-wanted_none : (b : Bool) (ending : Option FeedFault) → ending ≡ None → cond b None ending ≡ None
-wanted_none true ending e = refl
-wanted_none false ending e = e
-
-module _ (H : List ℕ → Digest) (long : (x : List ℕ) → IsDigest (H x)) (limits : Limits) (few : limits.leaves < 2 ^ 40) (net : Net) (begun : Rechecked)
-    (feed : List ℕ) where
+module _ (H : List ℕ → Digest) (limits : Limits) (few : limits.leaves < 2 ^ 40) (net : Net) (begun : Rechecked) (feed : List ℕ) where
   abbrev scripts : List (List ℕ)
   scripts = scripts_of begun.list
 
@@ -245,7 +273,10 @@ module _ (H : List ℕ → Digest) (long : (x : List ℕ) → IsDigest (H x)) (l
   unfolding recheck_end
   end-is = ap₂ (λ (a : AuditState) (k : List ℕ). end_unless a.ended (told_as (recheck_of H a.bridge k))) t.audit t.ticket
 
-  answer-is : recheck_answer H limits net begun feed ≡ answer_with (clash_text (length (verdicts_on H fresh.audit es)) shows) []
+  abbrev by_machine : Answer
+  by_machine = served_feed (recheck_machine H) fresh net limits.bytes feed
+
+  answer-is : by_machine ≡ answer_with (clash_text (length (verdicts_on H fresh.audit es)) shows) []
       (end_with behind.ended behind.bridge) (cond behind.ended None ending)
   unfolding served_feed
   answer-is =
@@ -255,15 +286,64 @@ module _ (H : List ℕ → Digest) (long : (x : List ℕ) → IsDigest (H x)) (l
       ∙ ap₂ (λ a b. answer_with (clash_text (length (verdicts_on H fresh.audit es)) shows) [] a (cond b None ending)) end-is
       (ap (λ (s : AuditState). s.ended) t.audit)
 
+  -- ---- by the node that holds every output
+
+  abbrev verdicts : List Verdict
+  verdicts = full_verdicts H scripts rules start es
+
+  abbrev node_shows : Option TextClash
+  node_shows = shown_by H scripts rules start es
+
+  abbrev node_says : Answer
+  node_says = told_as (recheck_over H state.now.history state.now.tip begun.ticket)
+
+  said-is : clash_text (length (verdicts_on H fresh.audit es)) shows ≡ clash_text (length verdicts) node_shows
+  said-is = ap₂ (λ v x. clash_text (length v) x) throughout.said throughout.shown
+
+  is-bridge : IsBridge H behind.bridge
+  is-bridge = after-bridge H es fresh.audit (fresh_is_bridge H net limits (Some scripts) few)
+
+  history-is : history_of behind.bridge ≡ state.now.history
+  history-is = is_history H behind.bridge state.now.history (newest_history H state behind.bridge is-bridge throughout.stands)
+
+  tip-is : behind.bridge.chain.tip ≡ state.now.tip
+  tip-is = ap (λ (c : Chain). c.tip) throughout.stands.chain
+
+  node-judges : told_as (recheck_of H behind.bridge begun.ticket) ≡ node_says
+  node-judges = ap told_as (recheck_same H behind.bridge begun.ticket is-bridge
+      ∙ ap₂ (λ (us : History) (d : Digest). recheck_over H us d begun.ticket) history-is tip-is)
+
+  node-answer : (b : Bool) → not (never_stops rules (full_judge H scripts rules) start es) ≡ b
+      → answer_unless b (answer_with [] [] node_says ending) [] (clash_text (length verdicts) node_shows) ≡ recheck_answer H limits net begun feed
+  unfolding recheck_answer recheck_lines
+  node-answer b e = ap (λ x. answer_unless x (answer_with [] [] node_says ending) [] (clash_text (length verdicts) node_shows)) (sym e)
+
+  same-by : (b : Bool) → behind.ended ≡ b → by_machine ≡ recheck_answer H limits net begun feed
+  same-by true e =
+      let text = clash_text (length (verdicts_on H fresh.audit es)) shows in
+      answer-is ∙ ap (λ b. answer_with text [] (end_with b behind.bridge) (cond b None ending)) e
+      ∙ ap (λ l. let a : Answer = record { status = Statuses.Clash; report = l; out = [] } in a) (append-nil text ∙ said-is)
+      ∙ node-answer true (sym throughout.ended ∙ e)
+  same-by false e =
+      let none : shows ≡ None = shown-none H es fresh.audit e in
+      answer-is
+      ∙ ap₂ (λ x b. answer_with (clash_text (length (verdicts_on H fresh.audit es)) x) [] (end_with b behind.bridge) (cond b None ending)) none e
+      ∙ ap (λ a. answer_with [] [] a ending) node-judges ∙ node-answer false (sym throughout.ended ∙ e)
+
+  -- what the machine answers is that
+  pub same-answer : by_machine ≡ recheck_answer H limits net begun feed
+  same-answer = same-by behind.ended refl
+
   -- ---- no event is forged
 
-  module _ (bytes : IsBytes feed) (ticket_bytes : IsBytes begun.ticket) (whole : ending ≡ None) (honest : AreTrueTo H limits net scripts events) where
+  module _ (long : (x : List ℕ) → IsDigest (H x)) (bytes : IsBytes feed) (ticket_bytes : IsBytes begun.ticket) (whole : ending ≡ None)
+      (honest : AreTrueTo H limits net scripts events) where
     goes-on : behind.ended ≡ false
     goes-on = throughout.ended ∙ ap not honest
 
     answered : recheck_answer H limits net begun feed ≡ told_as (recheck_of H behind.bridge begun.ticket)
     answered =
-        answer-is
+        sym same-answer ∙ answer-is
         ∙ ap₂ (λ x b. answer_with (clash_text (length (verdicts_on H fresh.audit es)) x) [] (end_with b behind.bridge) (cond b None ending))
         (shown-none H es fresh.audit goes-on) goes-on
         ∙ ap (answer_with [] [] (told_as (recheck_of H behind.bridge begun.ticket))) whole
@@ -274,28 +354,22 @@ module _ (H : List ℕ → Digest) (long : (x : List ℕ) → IsDigest (H x)) (l
     audit : IsAudit H behind.bridge
     audit = after-audit H es fresh.audit fits (fresh_is_audit H net limits (Some scripts) few)
 
-    history_is : history_of behind.bridge ≡ state.now.history
-    history_is = is_history H behind.bridge state.now.history (newest_history H state behind.bridge audit.is throughout.stands)
-
-    tip_is : behind.bridge.chain.tip ≡ state.now.tip
-    tip_is = ap (λ (c : Chain). c.tip) throughout.stands.chain
-
     rechecks-over : RechecksOver H (level_behind H limits net scripts events) begun.ticket (recheck_answer H limits net begun feed)
     rechecks-over = record {
       none = λ fault e. answered ∙ ap (λ r. told_as (said_of (rechecked_by H behind.bridge) r)) e;
       is = λ k e. (
         rechecked_by H behind.bridge k,
         answered ∙ ap (λ r. told_as (said_of (rechecked_by H behind.bridge) r)) e,
-        subst (λ (h : History). IsRechecked H h state.now.tip k (rechecked_by H behind.bridge k)) history_is
-            (subst (λ (d : Digest). IsRechecked H (history_of behind.bridge) d k (rechecked_by H behind.bridge k)) tip_is
+        subst (λ (h : History). IsRechecked H h state.now.tip k (rechecked_by H behind.bridge k)) history-is
+            (subst (λ (d : Digest). IsRechecked H (history_of behind.bridge) d k (rechecked_by H behind.bridge k)) tip-is
             (rechecked_is_right H long behind.bridge k audit (ticket_fits begun.ticket k ticket_bytes e))),
       );
     }
 
   -- ---- the first that is forged
 
-  module _ (front later : List FeedEvent) (event : FeedEvent) (bytes : IsBytes feed) (split : events ≡ front ++ event ∷ later)
-      (f : IsForgedBehind H limits net scripts front event) where
+  module _ (long : (x : List ℕ) → IsDigest (H x)) (front later : List FeedEvent) (event : FeedEvent) (bytes : IsBytes feed)
+      (split : events ≡ front ++ event ∷ later) (f : IsForgedBehind H limits net scripts front event) where
     abbrev forging : ChainEvent
     forging = BlockCame (Some f.block) (read f.message)
 
@@ -331,7 +405,7 @@ module _ (H : List ℕ → Digest) (long : (x : List ℕ) → IsDigest (H x)) (l
       clash = shown_there.clash;
       is = shown_there.is;
       answered =
-          answer-is
+          sym same-answer ∙ answer-is
           ∙ ap (λ b. answer_with (clash_text (length (verdicts_on H fresh.audit es)) shows) [] (end_with b behind.bridge)
           (cond b None ending)) ended-is
           ∙ ap (λ l. let a : Answer = record { status = Statuses.Clash; report = l; out = [] } in a)
@@ -339,12 +413,12 @@ module _ (H : List ℕ → Digest) (long : (x : List ℕ) → IsDigest (H x)) (l
           ∙ ap₂ clash_text count_is (ap (shown_on H (fresh_audit net limits scripts)) split_in ∙ shown_there.shows));
     }
 
-  rechecks-feed : RechecksFeed H limits net begun feed
-  rechecks-feed = record { honest = rechecks-over; forged = shows-alone }
+  rechecks-feed : ((x : List ℕ) → IsDigest (H x)) → RechecksFeed H limits net begun feed
+  rechecks-feed long = record { honest = rechecks-over long; forged = shows-alone long }
 
 pub recheck-claims : (H : List ℕ → Digest) → ((x : List ℕ) → IsDigest (H x)) → (limits : Limits) → limits.leaves < 2 ^ 40
     → (net : Net) (feed : List ℕ) (begun : Result Rechecked BadInput) → RechecksAsBegun H limits net feed begun
-recheck-claims H long limits few net feed (Ok begun) = rechecks-feed H long limits few net begun feed
+recheck-claims H long limits few net feed (Ok begun) = rechecks-feed H limits few net begun feed long
 recheck-claims H long limits few net feed (Err bad) = tt
 
 -- ---- how it ends
@@ -364,20 +438,25 @@ told-ends (Said.Refused why) = inl (inr (inl refl))
 told-ends (Said.Live txid index amount) = inl (inl refl)
 told-ends (Said.Clash c) = inr refl
 
-end-ends : (forged : Bool) (c : Checked) → IsEnd (end_unless forged (told_as c)).status ⊎ ((end_unless forged (told_as c)).status ≡ Statuses.Clash)
-end-ends true c = inr refl
-end-ends false c = told-ends c
+unless-ends : (forged : Bool) (c : Checked) (fault : Option FeedFault) (clash : List ℕ) → fault ≡ None
+    → let a = answer_unless forged (answer_with [] [] (told_as c) fault) [] clash in IsEnd a.status ⊎ (a.status ≡ Statuses.Clash)
+unless-ends true c fault clash whole = inr refl
+unless-ends false c fault clash whole =
+    subst (λ (x : Option FeedFault). IsEnd (last_of (told_as c) (bad_end x)).status ⊎ ((last_of (told_as c) (bad_end x)).status ≡ Statuses.Clash))
+    (sym whole) (told-ends c)
 
 pub recheck-ends : (H : List ℕ → Digest) (limits : Limits) (net : Net) (begun : Rechecked) (feed : List ℕ)
     → (events_of net limits.bytes feed).ending ≡ None
     → IsEnd (recheck_answer H limits net begun feed).status ⊎ ((recheck_answer H limits net begun feed).status ≡ Statuses.Clash)
-unfolding served_feed recheck_end
+unfolding recheck_answer
 recheck-ends H limits net begun feed whole =
     let events = events_of net limits.bytes feed in
-    let last = left_by (recheck_machine H) (rechecker_of limits net begun) events.events in
-    subst (λ (x : Option FeedFault). IsEnd (last_of (recheck_end H last) (bad_end x)).status
-    ⊎ ((last_of (recheck_end H last) (bad_end x)).status ≡ Statuses.Clash)) (sym (wanted_none last.audit.ended events.ending whole))
-    (end-ends last.audit.ended (recheck_of H last.audit.bridge last.ticket))
+    let es = map event_in events.events in
+    let scripts = scripts_of begun.list in
+    let rules = rules_of limits net in
+    let level = (full_after H scripts rules start es).now in
+    unless-ends (not (never_stops rules (full_judge H scripts rules) start es)) (recheck_over H level.history level.tip begun.ticket) events.ending
+    (recheck_lines H limits net begun events.events) whole
 
 -- ---- what is said at the end
 
@@ -483,16 +562,17 @@ start-read named limit prior watch list short is =
     ap (with_list prior) is ∙ sym (ap (λ (b : Bool). if b then Err (long_prior limit) else with_list prior (list_in named limit watch))
     (le-ltb limit (length prior) short))
 
--- by the rechecker that it begins with
-pub serves-begun : (H : List ℕ → Digest) (r begun : RecheckerState) (net : Net) (limit : ℕ) {feed feed' report report' out : Option (List ℕ)}
-    (stopped : Bool) (status : Status) → r ≡ begun
-    → Serves (Wants (recheck_machine H) r) (said_by (recheck_machine H) r) (λ events. []) (served_feed (recheck_machine H) r net limit) net limit feed
-    feed' report report' out out NoPort stopped status
-    → Serves (λ events. Wants (recheck_machine H) begun events) (said_by (recheck_machine H) begun) (λ events. [])
-    (served_feed (recheck_machine H) begun net limit) net limit feed feed' report report' out out NoPort stopped status
-serves-begun H r begun net limit {feed = feed} {feed' = feed'} {report = report} {report' = report'} {out = out} stopped status e s =
-    subst (λ (x : RecheckerState). Serves (Wants (recheck_machine H) x) (said_by (recheck_machine H) x) (λ events. [])
-    (served_feed (recheck_machine H) x net limit) net limit feed feed' report report' out out NoPort stopped status) e s
+-- what a call over the machine gave is what it gave of the node that holds every output
+pub recheck-serves : (H : List ℕ → Digest) (limits : Limits) → limits.leaves < 2 ^ 40 → (net : Net) (begun : Rechecked) (r : RecheckerState)
+    → r ≡ rechecker_of limits net begun → {feed feed' report report' out : Option (List ℕ)} (stopped : Bool) (status : Status)
+    → Serves (Wants (recheck_machine H) r) (said_by (recheck_machine H) r) (λ events. []) (served_feed (recheck_machine H) r net limits.bytes) net
+    limits.bytes feed feed' report report' out out NoPort stopped status
+    → Serves (AreWanted H limits net (scripts_of begun.list)) (recheck_lines H limits net begun) (λ events. []) (recheck_answer H limits net begun)
+    net limits.bytes feed feed' report report' out out NoPort stopped status
+recheck-serves H limits few net begun r e stopped status s =
+    Serves-same (λ events w. wanted-front H limits few net begun events (subst (λ b. Wants (recheck_machine H) b events) e w))
+    (λ events. ap (λ b. said_by (recheck_machine H) b events) e ∙ said-lines H limits few net begun events) (λ events. refl)
+    (λ text. ap (λ b. served_feed (recheck_machine H) b net limits.bytes text) e ∙ same-answer H limits few net begun text) stopped status s
 
 -- all events were taken, and then the last line or a part of it was written
 pub serves-judged : (H : List ℕ → Digest) (start : RecheckerState) (net : Net) (limit : ℕ) (feed feed' report report' report'' o o' : Option (List ℕ))

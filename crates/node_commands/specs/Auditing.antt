@@ -5,9 +5,8 @@ use Rattle.uo_base.specs.declared.event.Net.{Net}
 use Rattle.uo_digest.specs.declared.digest.Digest.{Digest}
 use Rattle.bridge_prover.specs.Watched.{scripts_of}
 use Rattle.feed_run.specs.declared.status.Status.TheVariants.{Clash}
-use Rattle.feed_run.specs.Machine.{said_by, Wants}
-use Rattle.node_commands.specs.Auditor.{fresh_auditor, audit_machine, audit_answer}
-use Rattle.node_commands.specs.Forging.{AuditsFeed}
+use Rattle.node_commands.specs.Auditor.{audit_lines, audit_answer}
+use Rattle.node_commands.specs.Forging.{AreWanted, AuditsFeed}
 use Rattle.node_commands.specs.Meaning.{Meaning, IsEnd}
 use Rattle.node_commands.specs.Watching.{list_in, IsGood}
 
@@ -19,8 +18,8 @@ auditing H limits net named = record {
   Begun = Option (List (List ℕ));
   Begins = λ prior watch begun. begun ≡ list_in named limits.bytes watch;
   net = λ list. net;
-  wants = λ list events. Wants (audit_machine H) (fresh_auditor net limits (scripts_of list)) events;
-  lines = λ list events. said_by (audit_machine H) (fresh_auditor net limits (scripts_of list)) events;
+  wants = λ list. AreWanted H limits net (scripts_of list);
+  lines = λ list. audit_lines H limits net (scripts_of list);
   frames = λ list events. [];
   answer = λ list. audit_answer H limits net (scripts_of list);
   Claims = λ inputs. IfOk (list_in named limits.bytes inputs.watch) (λ list. AuditsFeed H limits net (scripts_of list) inputs.feed);

@@ -1,6 +1,6 @@
 -- The machine of `audit`: an auditor, how many events it was told, and whether it refused one. And what `audit` answers to a feed, by the node
 -- that holds every output.
-use Rattle.std.specs.Prelude.{ℕ, ◌+◌, ◌||◌, not, Bool, true, false, List, [], ◌++◌, length, Option, Some, None}
+use Rattle.std.specs.Prelude.{ℕ, ◌+◌, ◌||◌, not, Bool, true, false, List, [], ◌++◌, length, map, Option, Some, None}
 use Rattle.std.specs.List.{flat_map, list_any}
 use Rattle.uo_base.specs.declared.event.Limits.{Limits}
 use Rattle.uo_base.specs.declared.event.Net.{Net}
@@ -21,7 +21,7 @@ use Rattle.clash_find.specs.Clashes.{TextClash}
 use Rattle.audit_replay.specs.declared.audit.AuditLine.{AuditLine}
 use Rattle.audit_replay.specs.declared.audit.AuditLine.TheVariants as Audited
 use Rattle.audit_replay.specs.Audit.{AuditState, fresh_audit, next_audit, clash_on}
-use Rattle.audit_replay.specs.Laws.{shown_on}
+use Rattle.audit_replay.specs.Laws.{shown_by}
 use Rattle.report_lines.specs.declared.line.Line.TheVariants as Line
 use Rattle.report_lines.specs.Lines.{whole_line, clash_lines}
 use Rattle.node_commands.specs.Answers.{answer_with}
@@ -112,6 +112,13 @@ abbrev pub answer_unless : (forged : Bool) → (whole : Answer) → (lines clash
 answer_unless true whole lines clash = record { status = Status.Clash; report = lines ++ clash; out = [] }
 answer_unless false whole lines clash = whole
 
+-- what is printed of some events: the lines up to the first forged one, and of the two texts that it shows
+unfoldable pub audit_lines : (List ℕ → Digest) → Limits → Net → (scripts : List (List ℕ)) → List FeedEvent → List ℕ
+audit_lines H limits net scripts events =
+    let es = map event_in events in
+    let told = full_verdicts H scripts (rules_of limits net) start es in
+    flat_map line_of told ++ clash_text (length told) (shown_by H scripts (rules_of limits net) start es)
+
 -- where no event is forged the lines of the events and the last ones, and else those up to the first forged event, and its two texts
 unfoldable pub audit_answer : (List ℕ → Digest) → Limits → Net → (scripts : List (List ℕ)) → List ℕ → Answer
 audit_answer H limits net scripts feed =
@@ -123,4 +130,4 @@ audit_answer H limits net scripts feed =
     let lines = flat_map line_of told in
     answer_unless (not (never_stops rules (full_judge H scripts rules) start es))
     (answer_with lines [] (level_end (list_any is_refused told) (length events.events) net level) events.ending)
-    lines (clash_text (length told) (shown_on H (fresh_audit net limits scripts) es))
+    lines (clash_text (length told) (shown_by H scripts rules start es))

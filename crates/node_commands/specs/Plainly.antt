@@ -6,8 +6,7 @@ use Rattle.uo_base.specs.declared.event.Net.{Net}
 use Rattle.uo_base.specs.Reading.{IsBytes}
 use Rattle.uo_digest.specs.declared.digest.Digest.{Digest}
 use Rattle.clash_find.specs.Clashes.{TextClash}
-use Rattle.audit_replay.specs.Audit.{fresh_audit}
-use Rattle.audit_replay.specs.Laws.{shown_on}
+use Rattle.audit_replay.specs.Laws.{shown_by}
 use Rattle.leaf_cache.specs.Watched.{AreWatched}
 use Rattle.state_text.specs.Stored.{IsTextOf}
 use Rattle.node_rules.specs.Machine.{ChainEvent, start}
@@ -51,11 +50,12 @@ IsFollowedValid H limits net list feed =
 
 -- ---- from a prior state
 
--- an auditor that is told these events from its start shows two such texts
+-- an auditor that is told these events from its start shows two such texts: those of the first event that is forged to the node that holds every
+-- output
 pub record AuditorShows (H : List ℕ → Digest) (limits : Limits) (net : Net) (scripts : List (List ℕ)) (events : List ChainEvent) : Type 0 where
   pub clash : TextClash
   pub is : IsCollision H clash
-  pub shown : shown_on H (fresh_audit net limits scripts) events ≡ Some clash
+  pub shown : shown_by H scripts (rules_of limits net) start events ≡ Some clash
 
 -- Where the prior bytes are what `follow` stores of a first feed, in either version: what it says of the events of that feed, and behind it what a
 -- run that goes on from there says of its own, could be said by a node that holds every output and reads no proof; or an auditor that is told the

@@ -1,6 +1,6 @@
 -- What `recheck` answers to a ticket and a feed, and what it means.
-use Rattle.std.specs.Prelude.{◌≡◌, ◌⊎◌, ◌≤◌, ℕ, ◌+◌, nat_lt, Bool, true, false, List, [], ◌∷◌, ◌++◌, length, Some, None, Result, Ok, Err}
-use Rattle.std.specs.Prelude.{if◌then◌else◌}
+use Rattle.std.specs.Prelude.{◌≡◌, ◌⊎◌, ◌≤◌, ℕ, ◌+◌, nat_lt, Bool, true, false, List, [], ◌∷◌, ◌++◌, length, map, Some, None, Result, Ok, Err}
+use Rattle.std.specs.Prelude.{not, if◌then◌else◌}
 use Rattle.std.specs.declared.option.Option.{Option}
 use Rattle.uo_base.specs.declared.event.Limits.{Limits}
 use Rattle.uo_base.specs.declared.event.Net.{Net}
@@ -12,7 +12,8 @@ use Rattle.block_rules.specs.Blocks.{external}
 use Rattle.block_rules.specs.declared.verdict.Verdict.{Verdict}
 use Rattle.cache_model.specs.Known.{known_at}
 use Rattle.node_rules.specs.Messages.{Message, points_of}
-use Rattle.node_rules.specs.Machine.{Level, event_in}
+use Rattle.node_rules.specs.Machine.{Level, start, event_in, full_judge, never_stops}
+use Rattle.compact_node.specs.Throughout.{full_verdicts, full_after}
 use Rattle.bridge_prover.specs.Full.{judged_on}
 use Rattle.bridge_prover.specs.Watched.{scripts_of}
 use Rattle.clash_find.specs.Clashes.{TextClash}
@@ -20,21 +21,23 @@ use Rattle.clash_find.specs.Answers.{IsClash}
 use Rattle.audit_replay.specs.declared.audit.AuditLine.{AuditLine}
 use Rattle.audit_replay.specs.declared.audit.AuditLine.TheVariants as Audited
 use Rattle.audit_replay.specs.Audit.{AuditState, fresh_audit, next_audit, clash_on}
+use Rattle.audit_replay.specs.Laws.{shown_by}
 use Rattle.feed_frame.specs.Events.{events_of}
 use Rattle.feed_run.specs.Answer.{Answer}
-use Rattle.feed_run.specs.Machine.{Machine, said_by, Wants}
+use Rattle.feed_run.specs.Machine.{Machine}
 use Rattle.feed_run.specs.declared.status.Status.TheVariants as Status
 use Rattle.report_lines.specs.Lines.{clash_lines}
 use Rattle.ticket_check.specs.Tickets.{Ticket}
 use Rattle.ticket_check.specs.Reading.{ticket_in}
 use Rattle.ticket_check.specs.declared.fault.TicketFault.{TicketFault}
 use Rattle.ticket_check.specs.declared.checked.Checked.{Checked}
-use Rattle.ticket_check.specs.Checking.{recheck_of, fault_said, IsRechecked}
+use Rattle.ticket_check.specs.Checking.{recheck_of, recheck_over, fault_said, IsRechecked}
 use Rattle.node_commands.specs.PriorText.{long_prior}
 use Rattle.node_commands.specs.declared.bad_input.BadInput.{BadInput}
-use Rattle.node_commands.specs.Answers.{served_feed}
-use Rattle.node_commands.specs.Auditor.{clash_text, end_unless}
-use Rattle.node_commands.specs.Forging.{level_behind, AreTrueTo, IsForgedBehind}
+use Rattle.node_commands.specs.Answers.{answer_with}
+use Rattle.node_commands.specs.Auditor.{clash_text, end_unless, answer_unless}
+use Rattle.node_commands.specs.Follow.{chain_events, rules_of}
+use Rattle.node_commands.specs.Forging.{level_behind, AreTrueTo, AreWanted, IsForgedBehind}
 use Rattle.node_commands.specs.Meaning.{Meaning, IsEnd}
 use Rattle.node_commands.specs.Tickets.{told_as}
 use Rattle.node_commands.specs.Watching.{list_in}
@@ -112,9 +115,26 @@ recheck_start named limit prior watch = if nat_lt limit (length prior) then Err 
 abbrev pub rechecker_of : Limits → Net → Rechecked → RecheckerState
 rechecker_of limits net begun = fresh_rechecker net limits (scripts_of begun.list) begun.ticket
 
--- what it answers to a feed
-abbrev pub recheck_answer : (List ℕ → Digest) → Limits → Net → Rechecked → List ℕ → Answer
-recheck_answer H limits net begun = served_feed (recheck_machine H) (rechecker_of limits net begun) net limits.bytes
+-- ---- what `recheck` answers to a feed, by the node that holds every output
+
+-- what is printed of some events: the lines of the two texts that the first forged one shows
+unfoldable pub recheck_lines : (List ℕ → Digest) → Limits → Net → Rechecked → List FeedEvent → List ℕ
+recheck_lines H limits net begun events =
+    let es = map event_in events in
+    let scripts = scripts_of begun.list in
+    clash_text (length (full_verdicts H scripts (rules_of limits net) start es)) (shown_by H scripts (rules_of limits net) start es)
+
+-- where no event is forged what is said of the ticket over that node's newest level, and else those lines
+unfoldable pub recheck_answer : (List ℕ → Digest) → Limits → Net → Rechecked → List ℕ → Answer
+recheck_answer H limits net begun feed =
+    let events = events_of net limits.bytes feed in
+    let es = chain_events events in
+    let scripts = scripts_of begun.list in
+    let rules = rules_of limits net in
+    let level = (full_after H scripts rules start es).now in
+    answer_unless (not (never_stops rules (full_judge H scripts rules) start es))
+    (answer_with [] [] (told_as (recheck_over H level.history level.tip begun.ticket)) events.ending)
+    [] (recheck_lines H limits net begun events.events)
 
 -- ---- what that means
 
@@ -163,8 +183,8 @@ rechecking H limits net named = record {
   Begun = Rechecked;
   Begins = λ prior watch begun. begun ≡ recheck_start named limits.bytes prior watch;
   net = λ begun. net;
-  wants = λ begun events. Wants (recheck_machine H) (rechecker_of limits net begun) events;
-  lines = λ begun events. said_by (recheck_machine H) (rechecker_of limits net begun) events;
+  wants = λ begun. AreWanted H limits net (scripts_of begun.list);
+  lines = recheck_lines H limits net;
   frames = λ begun events. [];
   answer = recheck_answer H limits net;
   Claims = λ inputs. RechecksAsBegun H limits net inputs.feed (recheck_start named limits.bytes inputs.prior inputs.watch);

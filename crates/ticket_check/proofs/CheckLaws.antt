@@ -1,5 +1,6 @@
 -- What is said of a ticket means what it should.
-use Rattle.std.proofs.Common.{◌≡◌, ℕ, Bool, true, false, List, [], ◌∷◌, length, Option, Some, None, refl, sym, ap, ◌∙◌, subst}
+use Rattle.std.proofs.Common.{◌≡◌, ℕ, Bool, true, false, List, [], ◌∷◌, length, Option, Some, None, Result, Ok, Err, refl, sym, ap, ◌∙◌}
+use Rattle.std.proofs.Common.{subst}
 use Rattle.std.specs.Prelude.{◌&&◌, option_map, if◌then◌else◌}
 use Rattle.std.proofs.lemmas.List.{length-map}
 use Rattle.std.proofs.lemmas.Bool.{and_from, false≢true}
@@ -21,9 +22,10 @@ use Rattle.node_rules.proofs.Agreeing.{fault_alike}
 use Rattle.node_rules.proofs.Same.{is_same-same}
 use Rattle.bridge_prover.specs.Bridge.{BridgeState}
 use Rattle.bridge_prover.specs.Full.{history_of}
+use Rattle.bridge_prover.specs.Standing.{IsBridge}
+use Rattle.bridge_prover.proofs.Historied.{own_history}
 use Rattle.clash_find.specs.Clashes.{TextClash}
 use Rattle.clash_find.specs.Answers.{StandForHistory, IsClash}
-use Rattle.clash_find.specs.Found.{clash_in}
 use Rattle.audit_replay.specs.Audit.{IsAudit}
 use Rattle.audit_replay.proofs.Forged.{stands_for}
 use Rattle.audit_replay.proofs.Shown.{shows, shows_none}
@@ -37,6 +39,9 @@ use Rattle.ticket_check.specs.declared.checked.Checked.TheVariants as Said
 use Rattle.ticket_check.specs.Laws.{CheckedIsAccepted, LiveIsRight, RecheckedIsRight}
 use Rattle.ticket_check.specs.Clashing.{IsTicketClash, spending, ticket_clash_in}
 use Rattle.ticket_check.specs.Checking.{live_of, said_by, verdict_over, view_in, unless_clash, over_all, AcceptsAmong, AcceptsOver, IsRechecked}
+use Rattle.ticket_check.specs.Checking.{said_of, rechecked_by, recheck_of, rechecked_over, recheck_over}
+use Rattle.ticket_check.specs.Reading.{ticket_in}
+use Rattle.ticket_check.specs.declared.fault.TicketFault.{TicketFault}
 use Rattle.ticket_check.proofs.Tickets.{live_is_accepted, right_is_live, ticket_right_is_tested, target_one, passes_one}
 
 -- only what is live is said to be so
@@ -89,6 +94,25 @@ live_is_right H t s k stands honest = let checked = checked_is_accepted H s k in
 
 -- ---- by an auditor
 
+-- it says what the node says that holds every output, over its history
+rechecked_same : (H : List ℕ → Digest) (s : BridgeState) (k : Ticket) → IsBridge H s
+    → rechecked_by H s k ≡ rechecked_over H (history_of s) s.chain.tip k
+rechecked_same H s k is =
+    let us = history_of s in
+    let entries_are = (own_history H s is).entries_are in
+    let counted : length s.entries ≡ length us = ap length entries_are ∙ length-map us (option_map (λ (l : Leaf). H (leaf_text l))) in
+    let said : View → Checked = λ view. said_by (ticket_verdict H view s.chain.tip k) (unless_clash (ticket_clash_in H us k) k) in
+    ap (λ (e : List (Option Digest)). said (record { n = length s.entries; roots = root H e; known = nothing_known })) entries_are
+    ∙ ap (λ n. said (record { n = n; roots = root H (entries H leaf_text us); known = nothing_known })) counted
+
+pub recheck_same : (H : List ℕ → Digest) (s : BridgeState) (text : List ℕ) → IsBridge H s
+    → recheck_of H s text ≡ recheck_over H (history_of s) s.chain.tip text
+recheck_same H s text is = by (ticket_in text)
+  where
+    by : (r : Result Ticket TicketFault) → said_of (rechecked_by H s) r ≡ said_of (rechecked_over H (history_of s) s.chain.tip) r
+    by (Ok k) = rechecked_same H s k is
+    by (Err fault) = refl
+
 module _ (H : List ℕ → Digest) (long : (x : List ℕ) → IsDigest (H x)) (s : BridgeState) (k : Ticket) (audit : IsAudit H s)
     (fits : TicketFits k) where
   abbrev us : History
@@ -117,7 +141,7 @@ module _ (H : List ℕ → Digest) (long : (x : List ℕ) → IsDigest (H x)) (s
   verdict = ticket_verdict H (view_in H s) tip k
 
   abbrev found : Option TextClash
-  found = ticket_clash_in H s.entries s.held k
+  found = ticket_clash_in H us k
 
   abbrev outside : List Outside
   outside = spending k.leaf.point ∷ []
@@ -187,10 +211,6 @@ module _ (H : List ℕ → Digest) (long : (x : List ℕ) → IsDigest (H x)) (s
     none_there : proof_fault H (over H (entries H leaf_text us)) (points k) (message_of k) ≡ None
     none_there = subst (λ e. proof_fault H (over H e) (points k) (message_of k) ≡ None) stand.entries_are none_here
 
-    moved : clash_in H s.entries s.held nothing_known outside (message_of k)
-        ≡ clash_in H (entries H leaf_text us) s.held nothing_known outside (message_of k)
-    moved = ap (λ e. clash_in H e s.held nothing_known outside (message_of k)) stand.entries_are
-
     tested : is_right H us nothing_known (points k) (message_of k) ≡ true → Right
     tested sound =
         (ticket_right_is_tested H us tip k).0
@@ -225,12 +245,12 @@ module _ (H : List ℕ → Digest) (long : (x : List ℕ) → IsDigest (H x)) (s
     accepted_so : (b : Bool) → is_right H us nothing_known (points k) (message_of k) ≡ b → IsRechecked H us tip k (unless_clash found k)
     accepted_so true sound =
         right_so a (tested sound) found
-        (moved ∙ shows_none H long us s.held stand_there outside (message_of k) refl (fits.leaf, tt) fits.hashes nothing_known
+        (shows_none H long us s.held stand_there outside (message_of k) refl (fits.leaf, tt) fits.hashes nothing_known
         (λ row off d e. absurd (none-some d e)) none_there sound)
     accepted_so false wrong =
         let x = shows H long us s.held stand_there outside (message_of k) refl (fits.leaf, tt) fits.hashes nothing_known
         (λ row off d e. absurd (none-some d e)) none_there wrong in
-        clash_so a (untested wrong) found x.0 (moved ∙ x.1) (ticket_clash_so x.0 x.2)
+        clash_so a (untested wrong) found x.0 x.1 (ticket_clash_so x.0 x.2)
 
   by_verdict : (v : TicketVerdict) → verdict ≡ v → IsRechecked H us tip k (said_by v (unless_clash found k))
   by_verdict Verdict.Tip e = refused_so Verdict.Tip (unless_clash found k) e (λ z. cc) refl

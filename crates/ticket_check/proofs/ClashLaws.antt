@@ -85,22 +85,16 @@ module _ (H : List ℕ → Digest) (es : List (Option Digest)) (held : List Held
         → (us : History) → StandForHistory H es held us → IsTicketAnswer H us tip k x
     answer_so x w us s = by_answer us s x (brought (λ ts l d. IsAnswerIn H us ts l d x) (w us (stand us s)))
 
-    abbrev over : View
-    over = record { n = length es; roots = root H es; known = nothing_known }
+    -- it is the first pair of texts in the proof of this target
+    whole : (us : History) → StandForHistory H es held us → ticket_clash_in H us k ≡ first_pair H us (p ∷ []) (k.leaf ∷ []) nothing_known k.hashes
+    whole us s =
+        let over : View = record { n = length us; roots = root H (entries H leaf_text us); known = nothing_known } in
+        ap (λ (y : Option ProofRefusal). if is_none y then first_pair H us (targets (length us) (message_of k)) (k.leaf ∷ []) nothing_known k.hashes
+        else None) (passes_one H over k p (named_there us s) (accepted_there us s))
+        ∙ ap (λ ts. first_pair H us ts (k.leaf ∷ []) nothing_known k.hashes) (target_one H over k p (named_there us s))
 
-    abbrev pair_of : List Place → Option TextClash
-    pair_of ts = first_pair H es held ts (k.leaf ∷ []) nothing_known k.hashes
-
-    whole : ticket_clash_in H es held k ≡ pair_of (p ∷ [])
-    whole =
-        ap (λ (y : Option ProofRefusal). if is_none y then pair_of (targets (length es) (message_of k)) else None)
-        (passes_one H over k p named accepted)
-        ∙ ap pair_of (target_one H over k p named)
-
-    pub exact_so : (x : Option TextClash) → ((us : History) → StandForHistory H seen seen_held us → IsFirstPair H seen seen_held t.targets rs hs x)
-        → (us : History) → StandForHistory H es held us → x ≡ ticket_clash_in H es held k
+    pub exact_so : (x : Option TextClash) → ((us : History) → StandForHistory H seen seen_held us → IsFirstPair H us t.targets rs hs x)
+        → (us : History) → StandForHistory H es held us → x ≡ ticket_clash_in H us k
     exact_so x w us s =
-        let first = brought (λ ts l d. IsFirstPair H es held ts l d x)
-        (subst (λ h. IsFirstPair H es h t.targets rs hs x) held_is
-        (subst (λ (e : List (Option Digest)). IsFirstPair H e seen_held t.targets rs hs x) seen_is (w us (stand us s)))) in
-        first.accepted accepted ∙ sym whole
+        let first = brought (λ ts l d. IsFirstPair H us ts l d x) (w us (stand us s)) in
+        first.accepted (accepted_there us s) ∙ sym (whole us s)

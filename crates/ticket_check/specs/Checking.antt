@@ -10,6 +10,7 @@ use Rattle.leaf_record.specs.History.{History}
 use Rattle.node_rules.specs.Accepting.{View}
 use Rattle.compact_node.specs.Node.{NodeState}
 use Rattle.bridge_prover.specs.Bridge.{BridgeState}
+use Rattle.bridge_prover.specs.Full.{history_of}
 use Rattle.clash_find.specs.Clashes.{TextClash}
 use Rattle.ticket_check.specs.Tickets.{Ticket}
 use Rattle.ticket_check.specs.Reading.{ticket_in}
@@ -63,10 +64,24 @@ unless_clash None k = live_of k
 unless_clash (Some c) k = Said.Clash c
 
 abbrev pub rechecked_by : (List ℕ → Digest) → BridgeState → Ticket → Checked
-rechecked_by H s k = said_by (ticket_verdict H (view_in H s) s.chain.tip k) (unless_clash (ticket_clash_in H s.entries s.held k) k)
+rechecked_by H s k = said_by (ticket_verdict H (view_in H s) s.chain.tip k) (unless_clash (ticket_clash_in H (history_of s) k) k)
 
 abbrev pub recheck_of : (List ℕ → Digest) → BridgeState → List ℕ → Checked
 recheck_of H s text = said_of (rechecked_by H s) (ticket_in text)
+
+-- ---- by a node that holds every output, over a history behind a block of this hash
+
+-- its own roots
+abbrev pub over_all : (List ℕ → Digest) → History → View
+over_all H us = record { n = length us; roots = root H (entries H leaf_text us); known = nothing_known }
+
+-- a ticket that its roots accept is live, or two different texts with one digest are shown
+abbrev pub rechecked_over : (List ℕ → Digest) → History → (tip : Digest) → Ticket → Checked
+rechecked_over H us tip k = said_by (ticket_verdict H (over_all H us) tip k) (unless_clash (ticket_clash_in H us k) k)
+
+-- what is said of a text
+abbrev pub recheck_over : (List ℕ → Digest) → History → (tip : Digest) → List ℕ → Checked
+recheck_over H us tip text = said_of (rechecked_over H us tip) (ticket_in text)
 
 -- ---- what that means
 
@@ -78,14 +93,12 @@ pub record IsChecked (H : List ℕ → Digest) (s : NodeState) (k : Ticket) (sai
   pub live : (said ≡ live_of k) ↔ AcceptsOver H s k
   pub why : said ≡ said_by (verdict_over H s k) (live_of k)
 
--- over the whole history behind a block: it is live exactly where it is right, and a clash exactly where the roots accept it and it is not
--- right: then two different texts with one digest, the first of the forest. Else the first part that fails is told
-abbrev pub over_all : (List ℕ → Digest) → History → View
-over_all H us = record { n = length us; roots = root H (entries H leaf_text us); known = nothing_known }
-
+-- the roots of all outputs of a history accept it, behind a block of this hash
 abbrev pub AcceptsAmong : (List ℕ → Digest) → History → Digest → Ticket → Type 0
 AcceptsAmong H us tip k = TicketAccepts H (length us) (root H (entries H leaf_text us)) tip k
 
+-- over the whole history behind a block: it is live exactly where it is right, and a clash exactly where the roots accept it and it is not
+-- right: then two different texts with one digest, the first of the forest. Else the first part that fails is told
 pub record IsRechecked (H : List ℕ → Digest) (us : History) (tip : Digest) (k : Ticket) (said : Checked) : Type 0 where
   pub live : (said ≡ live_of k) ↔ TicketRight H us tip k
   pub clash : ((c : TextClash) × (said ≡ Said.Clash c)) ↔ (AcceptsAmong H us tip k × (TicketRight H us tip k → ⊥))

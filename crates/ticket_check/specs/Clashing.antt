@@ -6,7 +6,6 @@ use Rattle.forest_model.specs.Evaluation.{nothing_known}
 use Rattle.leaf_record.specs.Leaf.{Outpoint}
 use Rattle.leaf_record.specs.History.{History}
 use Rattle.block_rules.specs.declared.chain.Outside.{Outside}
-use Rattle.output_index.specs.Held.{Held}
 use Rattle.clash_find.specs.Clashes.{TextClash}
 use Rattle.clash_find.specs.Answers.{IsClashIn}
 use Rattle.clash_find.specs.Found.{clash_in}
@@ -29,5 +28,5 @@ abbrev pub spending : Outpoint → Outside
 spending point = record { tx = 0; input = 0; txid = point.txid; index = point.index }
 
 -- which two they are: those that a block would show that spends this one output beside this proof
-abbrev pub ticket_clash_in : (List ℕ → Digest) → List (Option Digest) → List Held → Ticket → Option TextClash
-ticket_clash_in H es outputs k = clash_in H es outputs nothing_known (spending k.leaf.point ∷ []) (message_of k)
+abbrev pub ticket_clash_in : (List ℕ → Digest) → History → Ticket → Option TextClash
+ticket_clash_in H us k = clash_in H us nothing_known (spending k.leaf.point ∷ []) (message_of k)

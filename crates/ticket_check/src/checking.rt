@@ -1,6 +1,7 @@
 //! Judging the text of a ticket.
 ghost use Rattle.std.specs.Prelude.{◌≡◌, length, IfOk};
 ghost use Rattle.forest_model.specs.Standing.{root};
+ghost use Rattle.bridge_prover.specs.Full.{history_of};
 ghost use Rattle.audit_replay.specs.Audit.{IsAudit};
 ghost use Rattle.ticket_check.specs.Judging.{TicketAccepts, ticket_verdict};
 ghost use Rattle.ticket_check.specs.Checking.{check_of, checked_by, fault_said, live_of as live_in, recheck_of, rechecked_by, said_by};
@@ -105,7 +106,7 @@ fn clash_of<D: Digester, L: Ledger>(
 ) -> Result<Option<Clash>, NoMemory>
     requires audit { IsAudit D.digest_of bridge.now }
     requires accepted { TicketAccepts D.digest_of (length bridge.now.entries) (root D.digest_of bridge.now.entries) bridge.now.chain.tip ticket.now }
-    ensures { IfOk result (λ clash. clash ≡ ticket_clash_in D.digest_of bridge.now.entries bridge.now.held ticket.now) }
+    ensures { IfOk result (λ clash. clash ≡ ticket_clash_in D.digest_of (history_of bridge.now) ticket.now) }
 {
     ticket_clash::<D, L>(alloc, bridge, ticket, steps)
 }

@@ -39,7 +39,7 @@ pub fn ticket_clash<D: Digester, L: Ledger>(
 
     // Which they are.
     ensures exact { IfOk result (λ clash. (us : History) → StandForHistory D.digest_of bridge.now.entries bridge.now.held us →
-        clash ≡ ticket_clash_in D.digest_of bridge.now.entries bridge.now.held ticket.now) }
+        clash ≡ ticket_clash_in D.digest_of us ticket.now) }
 {
     let n = bridge.forest().leaves();
     let Some(targets) = target_at(alloc, n, ticket.target())? else {

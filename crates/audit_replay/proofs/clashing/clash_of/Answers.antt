@@ -8,7 +8,7 @@ use Rattle.node_rules.proofs.Counted.{external_few}
 use Rattle.bridge_prover.specs.Full.{history_of, watched_by}
 use Rattle.bridge_prover.specs.Shown.{AreKnown}
 use Rattle.bridge_prover.proofs.Historied.{known_so}
-use Rattle.audit_replay.proofs.Forged.{forged_by, not_shaped, message_passes, shaped_so, few_shown, stands_here, knowledge_here, clash_here}
+use Rattle.audit_replay.proofs.Forged.{forged_by, not_shaped, message_passes, shaped_so, few_shown, stands_here, knowledge_here}
 use Rattle.audit_replay.proofs.Forged.{clash_there, clash_shown, clash_which}
 use Rattle.audit_replay.proofs.clashing.clash_of.Goals as goal
 
@@ -94,6 +94,4 @@ returns-clause-which g c =
     (known_so H s c.in_ok-known.known.items c.requires.is.is c.in_ok-known.ensures.own c.in_ok-known.ensures.ascends) in
     clash_which H s b handed forged c.in-Ok-Some.message (c.in-Ok-Some.ensures.is ∙ ap handed_as c.in-Ok-Some.field-0-is) c.deref.result.now are
     c.in-Ok.spends.external c.in_ok-clash.field-0 c.in-Some.clash (ap (λ (x : BlockSpends). x.external) shaped.spends)
-    (clash_here H s c.requires.is _ _ c.forest.ensures.entries c.outputs.ensures c.deref.result.now c.in-Ok.spends.external c.in-Ok-Some.message
-    c.in_ok-clash.field-0
-    (c.in_ok-clash.ensures.exact (history_of s) (stands_here H s c.requires.is _ _ c.forest.ensures.entries c.outputs.ensures))) c.in-Some.is
+    (c.in_ok-clash.ensures.exact (history_of s) (stands_here H s c.requires.is _ _ c.forest.ensures.entries c.outputs.ensures)) c.in-Some.is

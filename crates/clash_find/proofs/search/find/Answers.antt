@@ -14,6 +14,15 @@ returns-in-Err-Refused-clause-answer g c = λ us s view.
     c.leaves.ensures.is c.in-Err-Refused.ensures c.in-Err-Refused.field-0-is)
     us s
 
+pub returns-in-Err-Refused-clause-exact : goal.returns-in-Err-Refused-clause-exact
+returns-in-Err-Refused-clause-exact g c = λ us s.
+    none_exact g.D.Digester.digest_of g.met.D.Digester.has_32_bytes c.args.outputs.now c.args.spends.now.external c.args.message.now c.requires.count
+    (look c.args.known.now) c.args.forest.now.entries
+    (shape_refused g.D.Digester.digest_of g.met.D.Digester.has_32_bytes c.args.outputs.now c.args.spends.now.external c.args.message.now
+    c.requires.count (look c.args.known.now) c.args.forest.now.entries c.leaves.result c.in-Err-Refused.field-0 c.in-Err-Refused.field-0-0
+    c.leaves.ensures.is c.in-Err-Refused.ensures c.in-Err-Refused.field-0-is)
+    us s
+
 pub returns-in-Err-Refused-full_hashes-clause-answer : goal.returns-in-Err-Refused-full_hashes-clause-answer
 returns-in-Err-Refused-full_hashes-clause-answer g c = λ us s view.
     none_accepted g.D.Digester.digest_of g.met.D.Digester.has_32_bytes c.args.outputs.now c.args.spends.now.external c.args.message.now
@@ -32,6 +41,7 @@ returns-in-Err-Refused-full_hashes-clause-exact g c = λ us s.
     c.requires.count (look c.args.known.now) c.args.forest.now.entries c.leaves.result c.in-Ok.targets c.in-Err-Refused-full_hashes.field-0
     c.in-Err-Refused-full_hashes.field-0-0 c.leaves.ensures.is c.in-Ok.ensures c.in-Err-Refused-full_hashes.ensures
     c.in-Err-Refused-full_hashes.field-0-is)
+    us s
 
 pub search-requires-clause-leaves : goal.search-requires-clause-leaves
 search-requires-clause-leaves g c =

@@ -18,6 +18,7 @@ returns-then-hashes-needed-clause-exact g c = λ us s.
     c.args.forest.now.entries
     (other_so H g.met.D.Digester.has_32_bytes c.args.outputs.now c.args.targets.now.targets c.args.leaves.now c.args.hashes.now
     c.args.forest.now.entries c.args.targets.now.leaves c.needed.result.now c.requires.entries c.needed.ensures c.if-hashes-needed.true)
+    us s
 
 pub returns-clause-answer : goal.returns-clause-answer
 returns-clause-answer g c =

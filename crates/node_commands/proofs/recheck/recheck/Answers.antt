@@ -1,10 +1,10 @@
 use Rattle.std.proofs.Common.{Ok, Err, inl, subst, ◌∙◌, ap₂}
 use Rattle.uo_base.proofs.PortLemmas.{told_text, Tells-told_text}
 use Rattle.node_commands.specs.PriorText.{IsPriorRead}
-use Rattle.node_commands.specs.Rechecking.{Rechecked, fresh_rechecker, rechecker_of, rechecking}
+use Rattle.node_commands.specs.Rechecking.{Rechecked, fresh_rechecker, rechecking}
 use Rattle.node_commands.specs.Watching.{IsListOf}
 use Rattle.node_commands.proofs.RanLemmas.{ran-unbegun, ran-refusing, ran-begun}
-use Rattle.node_commands.proofs.RecheckLemmas.{start-long, start-read, serves-begun}
+use Rattle.node_commands.proofs.RecheckLemmas.{start-long, start-read, recheck-serves}
 use Rattle.node_commands.proofs.recheck.recheck.Goals as goal
 
 pub returns-in_err-ticket-clause-ran : goal.returns-in_err-ticket-clause-ran
@@ -43,8 +43,9 @@ returns-clause-ran g c =
     let begun : Rechecked = record { ticket = s.text; list = c.in-Ok-2.watch } in
     ran-begun (rechecking g.D.Digester.digest_of c.args.limits c.args.net c.args.named) _ _ _ s.text l.text s.told l.told begun
     (start-read c.args.named c.args.limits.bytes s.text l.text (Ok c.in-Ok-2.watch) s.is.1 l.is) _ _
-    (serves-begun g.D.Digester.digest_of _ (rechecker_of c.args.limits c.args.net begun) c.args.net c.args.limits.bytes _ _
-    (c.in_ok-rechecker.ensures ∙ ap₂ (fresh_rechecker c.args.net c.args.limits) c.watched-watch.ensures s.is.0) (c.serve_judged.ensures.served out))
+    (recheck-serves g.D.Digester.digest_of c.args.limits c.requires.leaves c.args.net begun _
+    (c.in_ok-rechecker.ensures ∙ ap₂ (fresh_rechecker c.args.net c.args.limits) c.watched-watch.ensures s.is.0) _ _
+    (c.serve_judged.ensures.served out))
 
 pub returns-clause-read : goal.returns-clause-read
 returns-clause-read g c = λ failed. inl (c.serve_judged.ensures.read failed)
