@@ -63,7 +63,7 @@ are left out. Names of the standard library stand for what they say: lists, opti
         "compact_node.State.stored_text": "the text of version 2 of what it keeps",
         "compact_node.State.stored_state": "what it keeps",
         "node_commands.Follow.full_text": "what a node stores that holds every output",
-        "node_commands.Follow.AreTrue": "no proof among the events is forged",
+        "compact_node.Throughout.NoneIsForged": "no proof among the events is forged",
         "node_commands.Follow.PrintsAsFull": "the claim with exact lines, where no proof is forged",
         "node_commands.Starting.ResumesAsFull": "the claim with exact lines, from a prior state",
         "node_commands.Starting.IsStart": "what a prior state says",

@@ -344,7 +344,7 @@ module _ (H : List ℕ → Digest) where
     unfolding served_feed
     served-fresh = by-forged last.audit.ended refl
 
-  served-audit : (limits : Limits) (net : Net) (scripts : List (List ℕ)) → limits.leaves < 2 ^ 40 → (a : AuditorState)
+  pub served-audit : (limits : Limits) (net : Net) (scripts : List (List ℕ)) → limits.leaves < 2 ^ 40 → (a : AuditorState)
       → a ≡ fresh_auditor net limits scripts
       → (feed : List ℕ) → served_feed (audit_machine H) a net limits.bytes feed ≡ audit_answer H limits net scripts feed
   served-audit limits net scripts few a e feed = ap (λ s. served_feed (audit_machine H) s net limits.bytes feed) e

@@ -15,7 +15,7 @@ use Rattle.feed_run.specs.declared.status.Status.{Status}
 use Rattle.feed_run.specs.Machine.{left_by, said_by, sent_by}
 use Rattle.node_rules.specs.Machine.{ChainEvent, State, start, chain_of, event_in}
 use Rattle.compact_node.specs.Node.{NodeState, IsNode, Stands}
-use Rattle.compact_node.specs.Throughout.{verdicts_on, node_after, full_verdicts, full_after}
+use Rattle.compact_node.specs.Throughout.{verdicts_on, node_after, full_verdicts, full_after, NoneIsForged}
 use Rattle.compact_node.specs.State.{stored_text}
 use Rattle.compact_node.proofs.Storing.{standing_is_written}
 use Rattle.compact_node.proofs.Throughout.{compact_is_full_throughout, verdicts_on-append, told_after, node_throughout, fresh-stands, fresh-node}
@@ -23,7 +23,7 @@ use Rattle.state_text.specs.Stored.{state_text}
 use Rattle.node_commands.specs.Meaning.{AnyEvents}
 use Rattle.node_commands.specs.Answers.{bad_end, last_of, answer_with, served_feed}
 use Rattle.node_commands.specs.Follow.{line_of, follow_lines, answer_told, events_for, chain_events, follow_answer, full_text, full_answer, fresh_for}
-use Rattle.node_commands.specs.Follow.{AreTrue, IsAsOfFull, PrintsAsFull}
+use Rattle.node_commands.specs.Follow.{IsAsOfFull, PrintsAsFull}
 use Rattle.node_commands.specs.Runs.{Serves}
 use Rattle.node_commands.proofs.ServeLemmas.{Serves-same}
 use Rattle.node_commands.specs.Machine.{Following, follower_of, event_line, told_of, next_follower, end_by, stored_end, follow_machine, is_refused}
@@ -119,7 +119,7 @@ module _ (H : List ℕ → Digest) where
   -- ---- beside the node that holds every output
 
   module _ (t : State) (node : NodeState) (is : IsNode node) (stands : Stands H t node) (feed : List ℕ) where
-    whole : AreTrue H node.scripts node.rules t (events_for node.rules feed).events
+    whole : NoneIsForged H node.scripts node.rules t (chain_events (events_for node.rules feed))
         → follow_answer H node feed ≡ full_answer H node.scripts node.rules t feed
     unfolding follow_answer full_answer
     whole honest =
@@ -133,7 +133,8 @@ module _ (H : List ℕ → Digest) where
         ∙ ap (λ w. answer_told full (chain_of (full_after H node.scripts node.rules t es).now) w events)
         (stores_full H node es (full_after H node.scripts node.rules t es) is a.stands)
 
-    begins : (front later : List FeedEvent) → (events_for node.rules feed).events ≡ front ++ later → AreTrue H node.scripts node.rules t front
+    begins : (front later : List FeedEvent) → (events_for node.rules feed).events ≡ front ++ later
+        → NoneIsForged H node.scripts node.rules t (map event_in front)
         → (rest : List ℕ) × ((follow_answer H node feed).report
         ≡ flat_map line_of (full_verdicts H node.scripts node.rules t (map event_in front)) ++ rest)
     unfolding follow_answer

@@ -21,7 +21,7 @@ use Rattle.block_rules.specs.declared.refusal.Refusal.{Refusal}
 use Rattle.block_rules.specs.declared.verdict.Verdict.{Verdict}
 use Rattle.block_rules.specs.declared.verdict.Verdict.TheVariants.{TooDeep}
 use Rattle.clash_find.specs.Clashes.{TextClash}
-use Rattle.compact_node.specs.Throughout.{full_verdicts, full_after}
+use Rattle.compact_node.specs.Throughout.{full_verdicts, full_after, NoneIsForged}
 use Rattle.feed_frame.specs.declared.fault.FeedFault.{FeedFault}
 use Rattle.feed_frame.specs.declared.fault.FeedFault.TheVariants as Fault
 use Rattle.feed_frame.specs.Events.{events_of}
@@ -42,7 +42,7 @@ use Rattle.audit_replay.proofs.Showing.{full_shows_forged}
 use Rattle.node_commands.specs.Answers.{bad_end, last_of, answer_with}
 use Rattle.node_commands.specs.Auditor.{clash_text, supply_end, level_end, answer_unless, audit_answer}
 use Rattle.node_commands.specs.Follow.{line_of, rules_of}
-use Rattle.node_commands.specs.Forging.{told_by, level_behind, IsForgedBehind, HasForged, ShowsTexts, AuditsFeed}
+use Rattle.node_commands.specs.Forging.{IsForgedBehind, HasForged, ShowsTexts, AuditsFeed}
 use Rattle.node_commands.specs.Machine.{is_refused}
 use Rattle.feed_frame.proofs.FeedBytes.{IsMadeOfBytes, events_bytes}
 
@@ -50,7 +50,7 @@ use Rattle.feed_frame.proofs.FeedBytes.{IsMadeOfBytes, events_bytes}
 
 module _ (H : List ℕ → Digest) (scripts : List (List ℕ)) (rules : Rules) where
   -- it says something of each event before
-  pub all-told : (es : List ChainEvent) (t : State) → never_stops rules (full_judge H scripts rules) t es ≡ true
+  pub all-told : (es : List ChainEvent) (t : State) → NoneIsForged H scripts rules t es
       → length (full_verdicts H scripts rules t es) ≡ length es
   all-told [] t honest = refl
   all-told (e ∷ es) t honest = by (step rules (full_judge H scripts rules) t e).verdict honest
@@ -58,7 +58,7 @@ module _ (H : List ℕ → Digest) (scripts : List (List ℕ)) (rules : Rules) w
     where
       by : (v : Option Verdict) → (is_some v && never_stops rules (full_judge H scripts rules)
           (step rules (full_judge H scripts rules) t e).state es) ≡ true
-          → (never_stops rules (full_judge H scripts rules) (step rules (full_judge H scripts rules) t e).state es ≡ true
+          → (NoneIsForged H scripts rules (step rules (full_judge H scripts rules) t e).state es
           → length (full_verdicts H scripts rules (step rules (full_judge H scripts rules) t e).state es) ≡ length es)
           → length (verdict_before v (full_verdicts H scripts rules (step rules (full_judge H scripts rules) t e).state es))
           ≡ length (e ∷ es)
@@ -70,8 +70,7 @@ module _ (H : List ℕ → Digest) (scripts : List (List ℕ)) (rules : Rules) w
     pub said : full_verdicts H scripts rules t (front ++ e ∷ later) ≡ full_verdicts H scripts rules t front
     pub stops : never_stops rules (full_judge H scripts rules) t (front ++ e ∷ later) ≡ false
 
-  pub stops-at : (front later : List ChainEvent) (e : ChainEvent) (t : State) → never_stops rules (full_judge H scripts rules) t front
-      ≡ true
+  pub stops-at : (front later : List ChainEvent) (e : ChainEvent) (t : State) → NoneIsForged H scripts rules t front
       → (step rules (full_judge H scripts rules) (full_after H scripts rules t front) e).verdict ≡ None → Stops t front later e
   stops-at [] later e t honest none = record {
     said = ap (λ v. verdict_before v (full_verdicts H scripts rules (step rules (full_judge H scripts rules) t e).state later))
@@ -88,7 +87,7 @@ module _ (H : List ℕ → Digest) (scripts : List (List ℕ)) (rules : Rules) w
           front) ≡ true
           → (step rules (full_judge H scripts rules) (goes_on v t
           (full_after H scripts rules (step rules (full_judge H scripts rules) t f).state front)) e).verdict ≡ None
-          → (never_stops rules (full_judge H scripts rules) (step rules (full_judge H scripts rules) t f).state front ≡ true
+          → (NoneIsForged H scripts rules (step rules (full_judge H scripts rules) t f).state front
           → (step rules (full_judge H scripts rules) (full_after H scripts rules
           (step rules (full_judge H scripts rules) t f).state front) e).verdict ≡ None
           → Stops (step rules (full_judge H scripts rules) t f).state front later e)
@@ -163,7 +162,7 @@ module _ (H : List ℕ → Digest) (scripts : List (List ℕ)) (rules : Rules) w
     pub event : FeedEvent
     pub later : List FeedEvent
     pub split : events ≡ front ++ event ∷ later
-    pub honest : never_stops rules (full_judge H scripts rules) t (map event_in front) ≡ true
+    pub honest : NoneIsForged H scripts rules t (map event_in front)
     pub now : IsForgedNow H scripts rules (full_after H scripts rules t (map event_in front)) (event_in event)
 
   pub first-forged : (events : List FeedEvent) (t : State) → never_stops rules (full_judge H scripts rules) t (map event_in events) ≡ false
@@ -267,13 +266,13 @@ module _ (H : List ℕ → Digest) (long : (x : List ℕ) → IsDigest (H x)) (l
 
   abbrev whole_by : List Verdict → Answer
   whole_by told = answer_with (flat_map line_of told) []
-      (level_end (list_any is_refused told) (length events) net (level_behind H limits net scripts events)) ending
+      (level_end (list_any is_refused told) (length events) net (full_after H scripts rules start (map event_in events)).now) ending
 
   abbrev goes : Bool
   goes = never_stops rules (full_judge H scripts rules) start (map event_in events)
 
   abbrev told : List Verdict
-  told = told_by H limits net scripts events
+  told = full_verdicts H scripts rules start (map event_in events)
 
   abbrev answer_by : (goes : Bool) (told : List Verdict) (shown : Option TextClash) → Answer
   answer_by goes told shown = answer_unless (not goes) (whole_by told) (flat_map line_of told) (clash_text (length told) shown)
@@ -299,9 +298,15 @@ module _ (H : List ℕ → Digest) (long : (x : List ℕ) → IsDigest (H x)) (l
     block_fits : BlockFits f.block
     block_fits = subst EventFits f.is (read_event_fits event (block_bytes event made.1))
 
+<<<<<<< ours
     shown : AreShown H (shown_by H scripts rules start (map event_in front ++ forging ∷ map event_in later)) scripts
         (level_behind H limits net scripts front) f.block f.message
     shown = full_shows_forged H long net limits scripts few (map event_in front) (map event_in later) f.block f.message (all_fit front made.0)
+=======
+    shown : AreShown H (shown_on H (fresh_audit net limits scripts) (map event_in front ++ forging ∷ map event_in later)) scripts
+        (full_after H scripts rules start (map event_in front)).now f.block f.message
+    shown = fresh_shows_forged H long net limits scripts few (map event_in front) (map event_in later) f.block f.message (all_fit front made.0)
+>>>>>>> theirs
         block_fits (message_fits event f.block f.message made.1 f.is) f.honest f.forged
 
     stopped : Stops H scripts rules start (map event_in front) (map event_in later) forging
@@ -309,7 +314,7 @@ module _ (H : List ℕ → Digest) (long : (x : List ℕ) → IsDigest (H x)) (l
         (no-verdict H scripts rules (full_after H scripts rules start (map event_in front)) f.block (read f.message) f.forged)
 
     abbrev before : List Verdict
-    before = told_by H limits net scripts front
+    before = full_verdicts H scripts rules start (map event_in front)
 
     told_is : told ≡ before
     told_is = ap (full_verdicts H scripts rules start) split_in ∙ stopped.said

@@ -26,14 +26,14 @@ use Rattle.state_text.specs.OfHistory.{state_of}
 use Rattle.state_text.specs.Stored.{IsTextOf}
 use Rattle.compact_node.specs.Node.{NodeState, IsNode, Stands, fresh_node}
 use Rattle.compact_node.specs.State.{stored_state}
-use Rattle.compact_node.specs.Throughout.{AreHonest, full_after, full_verdicts, node_after, verdicts_on}
+use Rattle.compact_node.specs.Throughout.{NoneIsForged, full_after, full_verdicts, node_after, verdicts_on}
 use Rattle.compact_node.proofs.Storing.{one_node_stands, standing_is_written}
 use Rattle.compact_node.proofs.Throughout.{compact_is_full_throughout, fresh-node, fresh-stands, node_throughout, told_after, verdicts_on-append}
 use Rattle.audit_replay.specs.Laws.{shown_by}
 use Rattle.audit_replay.proofs.Showing.{full_shows_forged}
 use Rattle.node_commands.specs.Auditor.{answer_unless, audit_answer}
 use Rattle.node_commands.specs.Follow.{line_of, events_for, rules_of}
-use Rattle.node_commands.specs.Forging.{HasForged, told_by}
+use Rattle.node_commands.specs.Forging.{HasForged}
 use Rattle.node_commands.specs.Plainly.{IsFollowedValid, AuditorShows, IsResumedValid}
 use Rattle.node_commands.specs.Starting.{Start, IsNodeOf, IsStart}
 use Rattle.node_commands.proofs.ForgingLemmas.{HasForgedFrom, first-forged, one_of, block_bytes, all_fit, message_fits, audits-feed}
@@ -74,7 +74,7 @@ module _ (H : List ℕ → Digest) (long : (x : List ℕ) → length (H x).0 ≡
       λ is_bytes. inr (record {
         clash = s.clash;
         is = record { differ = s.is.differ; first_is = s.is.first_is; second_is = s.is.second_is };
-        lines = flat_map line_of (told_by H limits net scripts f.front);
+        lines = flat_map line_of (full_verdicts H scripts rules start (map event_in f.front));
         events = length f.front;
         printed = s.answered;
       })
@@ -90,7 +90,7 @@ followed-valid H long limits few short net list feed = λ bytes. valid-over H lo
 
 module _ (H : List ℕ → Digest) (scripts : List (List ℕ)) (rules : Rules) where
   -- where none of some events is forged, none of the first ones is
-  honest-front : (t : State) (es fs : List ChainEvent) → AreHonest H scripts rules t (es ++ fs) → AreHonest H scripts rules t es
+  honest-front : (t : State) (es fs : List ChainEvent) → NoneIsForged H scripts rules t (es ++ fs) → NoneIsForged H scripts rules t es
   honest-front t [] fs h = refl
   honest-front t (e ∷ es) fs h =
       let o = full_outcome H scripts rules t e in
@@ -165,7 +165,7 @@ module _ (H : List ℕ → Digest) (long : (x : List ℕ) → length (H x).0 ≡
   abbrev IsOr : NodeState → Type 0
   IsOr node = AreValid by start both (verdicts_on H new before ++ verdicts_on H node came) ⊎ AuditorShows H limits net scripts both
 
-  module _ (honest : AreHonest H scripts by start both) (text : IsTextOf (stored_state then) prior) (node : NodeState)
+  module _ (honest : NoneIsForged H scripts by start both) (text : IsTextOf (stored_state then) prior) (node : NodeState)
       (is : IsNodeOf H limits prior node) where
     stands : Stands H reached then
     stands =

@@ -29,14 +29,14 @@ use Rattle.node_rules.specs.Machine.{step, verdict_before, goes_on, verdicts, st
 use Rattle.node_rules.specs.Proving.{passed_on, proved_events, IsShortMessage, CanBeWritten}
 use Rattle.node_rules.proofs.Proving.{events_again, events_short}
 use Rattle.compact_node.specs.Node.{NodeState, next_node}
-use Rattle.compact_node.specs.Throughout.{verdicts_on, node_after, AreHonest}
+use Rattle.compact_node.specs.Throughout.{verdicts_on, node_after, NoneIsForged}
 use Rattle.compact_node.specs.Following as Fresh
 use Rattle.compact_node.proofs.Following.{fresh_follows_proving}
 use Rattle.compact_node.specs.State.{stored_text}
 use Rattle.compact_node.proofs.Throughout.{verdicts_on-append, fresh-node}
 use Rattle.report_lines.specs.declared.line.Line.TheVariants as Line
 use Rattle.node_commands.specs.Answers.{answer_with}
-use Rattle.node_commands.specs.Follow.{line_of, follow_answer, full_text, fresh_for, rules_of, AreTrue}
+use Rattle.node_commands.specs.Follow.{line_of, follow_answer, full_text, fresh_for, rules_of}
 use Rattle.report_lines.specs.Lines.{whole_line}
 use Rattle.node_commands.specs.Machine.{end_by, is_refused}
 use Rattle.node_commands.specs.Proving.{proving_text, proving_verdicts, proving_chain, proving_state, answer_made, IsFollowed, IsFollowedTo}
@@ -83,13 +83,13 @@ strays_said H s strays (inl e) = inl (ap (λ es. verdicts_on H s (map event_in e
 strays_said H s strays (inr e) = inr (ap (λ es. verdicts_on H s (map event_in es)) e)
 
 strays_honest : (H : List ℕ → Digest) (scripts : List (List ℕ)) (rules : Rules) (strays : List FeedEvent)
-    → (strays ≡ []) ⊎ (strays ≡ Feed.StrayCame ∷ []) → (t : State) → AreHonest H scripts rules t (map event_in strays)
-strays_honest H scripts rules strays (inl e) t = subst (λ es. AreHonest H scripts rules t (map event_in es)) (sym e) refl
-strays_honest H scripts rules strays (inr e) t = subst (λ es. AreHonest H scripts rules t (map event_in es)) (sym e) refl
+    → (strays ≡ []) ⊎ (strays ≡ Feed.StrayCame ∷ []) → (t : State) → NoneIsForged H scripts rules t (map event_in strays)
+strays_honest H scripts rules strays (inl e) t = subst (λ es. NoneIsForged H scripts rules t (map event_in es)) (sym e) refl
+strays_honest H scripts rules strays (inr e) t = subst (λ es. NoneIsForged H scripts rules t (map event_in es)) (sym e) refl
 
 honest_to : (H : List ℕ → Digest) (scripts : List (List ℕ)) (rules : Rules) (front later : List ChainEvent) (strays : List FeedEvent)
     → (strays ≡ []) ⊎ (strays ≡ Feed.StrayCame ∷ []) → (t : State)
-    → AreHonest H scripts rules t (front ++ later) → AreHonest H scripts rules t (front ++ map event_in strays)
+    → NoneIsForged H scripts rules t (front ++ later) → NoneIsForged H scripts rules t (front ++ map event_in strays)
 honest_to H scripts rules [] later strays one t h = strays_honest H scripts rules strays one t
 honest_to H scripts rules (e ∷ es) later strays one t h =
     let o = step rules (full_judge H scripts rules) t e in
@@ -189,7 +189,8 @@ module _ (H : List ℕ → Digest) (long : (x : List ℕ) → length (H x).0 ≡
     stored : stored_text (node_after H node came) ≡ full_text H scripts (rules_of limits net) then
     stored = stores_full H node came then (fresh-node H net limits scripts few short) follows.stands
 
-    followed : length feed ≤ limits.bytes → feed ≡ feed_text net proved → IsFollowed H node (rules_of limits net) events feed
+    followed : length feed ≤ limits.bytes → feed ≡ feed_text net proved
+        → IsFollowed H scripts (rules_of limits net) (rules_of limits net) events feed (follow_answer H node feed)
     unfolding follow_answer
     followed room is =
         let r = read room is in
@@ -199,9 +200,9 @@ module _ (H : List ℕ → Digest) (long : (x : List ℕ) → length (H x).0 ≡
         let last = node_after H node came in
         let text = full_text H scripts (rules_of limits net) then in
         record {
-          honest = subst (λ es. AreTrue H scripts (rules_of limits net) start es) (sym r.all)
-              (subst (AreHonest H scripts (rules_of limits net) start) (sym again) f.honest);
-          answer =
+          honest = subst (λ es. NoneIsForged H scripts (rules_of limits net) start (map event_in es)) (sym r.all)
+              (subst (NoneIsForged H scripts (rules_of limits net) start) (sym again) f.honest);
+          answered =
               ap (λ es. answer_to (map event_in es) (length es) ending) r.all ∙ ap (answer_to (map event_in proved) (length proved)) r.ends
               ∙ ap (λ es. answer_to es (length proved) None) again
               ∙ ap (λ vs. answer_by vs last.newest.chain (stored_text last) (length proved) (list_any is_refused vs) None) f.said
@@ -219,7 +220,7 @@ module _ (H : List ℕ → Digest) (long : (x : List ℕ) → length (H x).0 ≡
           (feed_cut net limits.bytes proved (all_framed proved (events_short H long (rules_of limits net) few watch events all))
           (subst (λ f. limits.bytes < length f) is past))
 
-      followed_to : IsFollowedTo H node (rules_of limits net) events feed
+      followed_to : IsFollowedTo H scripts (rules_of limits net) (rules_of limits net) events feed (follow_answer H node feed)
       unfolding follow_answer
       followed_to =
           let r = read_to in
@@ -231,16 +232,16 @@ module _ (H : List ℕ → Digest) (long : (x : List ℕ) → length (H x).0 ≡
           let then = node_after H node front in
           let halves : came ≡ front ++ later = sym again ∙ ap (map event_in) r.split ∙ map-append event_in r.front r.later in
           record {
-            honest = subst (λ es. AreTrue H scripts (rules_of limits net) start es) (sym r.all)
-                (subst (AreHonest H scripts (rules_of limits net) start) (sym (map-append event_in r.front r.strays))
+            honest = subst (λ es. NoneIsForged H scripts (rules_of limits net) start (map event_in es)) (sym r.all)
+                (subst (NoneIsForged H scripts (rules_of limits net) start) (sym (map-append event_in r.front r.strays))
                 (honest_to H scripts (rules_of limits net) front later r.strays r.one start
-                (subst (AreHonest H scripts (rules_of limits net) start) halves f.honest)));
+                (subst (NoneIsForged H scripts (rules_of limits net) start) halves f.honest)));
             front = verdicts_on H node front;
             later = verdicts_on H then later;
             split = sym f.said ∙ ap (verdicts_on H node) halves ∙ verdicts_on-append H node front later;
             strays = verdicts_on H then strays;
             one = strays_said H then r.strays r.one;
-            answer =
+            answered =
                 ap (λ es. answer_to (map event_in es) (length es) ending) r.all
                 ∙ ap (answer_to (map event_in (r.front ++ r.strays)) (length (r.front ++ r.strays))) r.ends
                 ∙ ap (λ es. answer_to es (length (r.front ++ r.strays)) (Some (Limit limits.bytes))) (map-append event_in r.front r.strays)
@@ -250,7 +251,7 @@ module _ (H : List ℕ → Digest) (long : (x : List ℕ) → length (H x).0 ≡
   -- ---- whatever the proving node may read
 
   module _ (proving : Limits) (watch : Option (List (List ℕ))) (events : List FeedEvent) (feed : List ℕ)
-      (w : IsWritten H node proving watch events feed) where
+      (w : IsWritten H scripts (rules_of limits net) proving watch events feed) where
     abbrev mixed : Limits
     mixed = record { leaves = limits.leaves; bytes = proving.bytes }
 
@@ -275,16 +276,16 @@ module _ (H : List ℕ → Digest) (long : (x : List ℕ) → length (H x).0 ≡
     abbrev made_by : State → Answer
     made_by t = answer_made (kept_by proving) (chain_of t.now) (full_text H scripts (rules_of limits net) t)
 
-    whole : length feed ≤ limits.bytes → IsFollowed H node (rules_of proving net) events feed
+    whole : length feed ≤ limits.bytes → IsFollowed H scripts (rules_of limits net) (rules_of proving net) events feed (follow_answer H node feed)
     whole room =
         let f = followed watch w.serves events w.bytes feed room text_is in
         record {
           honest = f.honest;
-          answer = f.answer ∙ ap (λ vs. answer_made vs (proving_chain (rules_of limits net) events)
+          answered = f.answered ∙ ap (λ vs. answer_made vs (proving_chain (rules_of limits net) events)
               (full_text H scripts (rules_of limits net) (proving_state (rules_of limits net) events))) kept_is ∙ ap made_by state_is;
         }
 
-    cut : limits.bytes < length feed → IsFollowedTo H node (rules_of proving net) events feed
+    cut : limits.bytes < length feed → IsFollowedTo H scripts (rules_of limits net) (rules_of proving net) events feed (follow_answer H node feed)
     cut past =
         let f = followed_to watch w.serves events w.bytes feed past text_is in
         record {
@@ -294,11 +295,10 @@ module _ (H : List ℕ → Digest) (long : (x : List ℕ) → length (H x).0 ≡
           split = sym kept_is ∙ f.split;
           strays = f.strays;
           one = f.one;
-          answer =
-              f.answer;
+          answered = f.answered;
         }
 
-  pub follows-proving : (feed : List ℕ) → FollowsProving H node feed
+  pub follows-proving : (feed : List ℕ) → FollowsProving H scripts (rules_of limits net) feed (follow_answer H node feed)
   follows-proving feed = record {
     whole = λ proving watch events w room. whole proving watch events feed w room;
     cut = λ proving watch events w past. cut proving watch events feed w past;

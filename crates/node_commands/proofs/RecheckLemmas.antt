@@ -34,7 +34,7 @@ use Rattle.node_rules.specs.Reading.{read}
 use Rattle.node_rules.specs.Judging.{Rules}
 use Rattle.node_rules.specs.Machine.{ChainEvent, BlockCame, State, start, full_judge, event_in, never_stops, verdict_before}
 use Rattle.node_rules.proofs.Fitting.{read_event_fits}
-use Rattle.compact_node.specs.Throughout.{full_verdicts, full_after}
+use Rattle.compact_node.specs.Throughout.{full_verdicts, full_after, NoneIsForged}
 use Rattle.bridge_prover.specs.Bridge.{BridgeState}
 use Rattle.bridge_prover.specs.Full.{history_of, judged_on}
 use Rattle.bridge_prover.specs.Standing.{IsBridge}
@@ -59,7 +59,11 @@ use Rattle.node_commands.specs.declared.bad_input.BadInput.{BadInput}
 use Rattle.node_commands.specs.Answers.{bad_end, last_of, answer_with, served_feed}
 use Rattle.node_commands.specs.Auditor.{clash_text, end_unless, answer_unless}
 use Rattle.node_commands.specs.Follow.{rules_of}
+<<<<<<< ours
 use Rattle.node_commands.specs.Forging.{level_behind, AreTrueTo, AreWanted, IsForgedBehind}
+=======
+use Rattle.node_commands.specs.Forging.{IsForgedBehind}
+>>>>>>> theirs
 use Rattle.node_commands.specs.Meaning.{IsEnd}
 use Rattle.node_commands.specs.Rechecking.{RecheckerState, next_rechecker, machine_ending, silent_end, shown_text, shown_of, shown_line, recheck_end}
 use Rattle.node_commands.specs.Rechecking.{recheck_machine, Rechecked, with_list, recheck_start, rechecker_of, recheck_lines, recheck_answer}
@@ -336,8 +340,12 @@ module _ (H : List ℕ → Digest) (limits : Limits) (few : limits.leaves < 2 ^ 
 
   -- ---- no event is forged
 
+<<<<<<< ours
   module _ (long : (x : List ℕ) → IsDigest (H x)) (bytes : IsBytes feed) (ticket_bytes : IsBytes begun.ticket) (whole : ending ≡ None)
       (honest : AreTrueTo H limits net scripts events) where
+=======
+  module _ (bytes : IsBytes feed) (ticket_bytes : IsBytes begun.ticket) (whole : ending ≡ None) (honest : NoneIsForged H scripts rules start es) where
+>>>>>>> theirs
     goes-on : behind.ended ≡ false
     goes-on = throughout.ended ∙ ap not honest
 
@@ -354,7 +362,17 @@ module _ (H : List ℕ → Digest) (limits : Limits) (few : limits.leaves < 2 ^ 
     audit : IsAudit H behind.bridge
     audit = after-audit H es fresh.audit fits (fresh_is_audit H net limits (Some scripts) few)
 
+<<<<<<< ours
     rechecks-over : RechecksOver H (level_behind H limits net scripts events) begun.ticket (recheck_answer H limits net begun feed)
+=======
+    history_is : history_of behind.bridge ≡ state.now.history
+    history_is = is_history H behind.bridge state.now.history (newest_history H state behind.bridge audit.is throughout.stands)
+
+    tip_is : behind.bridge.chain.tip ≡ state.now.tip
+    tip_is = ap (λ (c : Chain). c.tip) throughout.stands.chain
+
+    rechecks-over : RechecksOver H state.now begun.ticket (recheck_answer H limits net begun feed)
+>>>>>>> theirs
     rechecks-over = record {
       none = λ fault e. answered ∙ ap (λ r. told_as (said_of (rechecked_by H behind.bridge) r)) e;
       is = λ k e. (
@@ -383,7 +401,7 @@ module _ (H : List ℕ → Digest) (limits : Limits) (few : limits.leaves < 2 ^ 
     block_fits = subst EventFits f.is (read_event_fits event (block_bytes event made.1))
 
     shown_there : AreShown H (shown_on H (fresh_audit net limits scripts) (map event_in front ++ forging ∷ map event_in later)) scripts
-        (level_behind H limits net scripts front) f.block f.message
+        (full_after H scripts rules start (map event_in front)).now f.block f.message
     shown_there = fresh_shows_forged H long net limits scripts few (map event_in front) (map event_in later) f.block f.message (all_fit front made.0)
         block_fits (message_fits event f.block f.message made.1 f.is) f.honest f.forged
 
@@ -399,7 +417,7 @@ module _ (H : List ℕ → Digest) (limits : Limits) (few : limits.leaves < 2 ^ 
         ap length (throughout.said ∙ (ap (λ x. full_verdicts H scripts rules start x) split_in ∙ stopped.said))
         ∙ (all-told H scripts rules (map event_in front) start f.honest ∙ length-map front event_in)
 
-    shows-alone : ShowsAlone H (level_behind H limits net scripts front) (length front) f.block f.message scripts
+    shows-alone : ShowsAlone H (full_after H scripts rules start (map event_in front)).now (length front) f.block f.message scripts
         (recheck_answer H limits net begun feed)
     shows-alone = record {
       clash = shown_there.clash;

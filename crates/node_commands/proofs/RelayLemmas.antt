@@ -147,7 +147,7 @@ last-out at_end none None = none
 last-out at_end none (Some (status, line)) = refl
 
 module _ (H : List ℕ → Digest) (limits : Limits) (net : Net) (lists : List (List (List ℕ))) (script : List ScriptLine) where
-  relayed-is : (feed : List ℕ) → relayed_feed H (fresh_relay limits net lists script) net limits.bytes feed
+  pub relayed-is : (feed : List ℕ) → relayed_feed H (fresh_relay limits net lists script) net limits.bytes feed
       ≡ relay_answer H limits net lists script feed
   unfolding relayed_feed relay_last relay_answer
   relayed-is feed =

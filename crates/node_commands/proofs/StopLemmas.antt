@@ -23,13 +23,13 @@ use Rattle.compact_node.specs.Node.{NodeState, Stands, next_node}
 use Rattle.compact_node.specs.State.{stored_state, stored_text}
 use Rattle.state_text.specs.Stored.{StateValue, text_by, state_text, IsTextOf}
 use Rattle.state_text.specs.OfHistory.{state_of}
-use Rattle.compact_node.specs.Throughout.{verdicts_on, node_after, full_after, AreHonest}
+use Rattle.compact_node.specs.Throughout.{verdicts_on, node_after, full_after, NoneIsForged}
 use Rattle.compact_node.proofs.Storing.{one_node_stands, standing_is_written}
 use Rattle.compact_node.proofs.Throughout.{compact_is_full_throughout, verdicts_on-append, told_after, node_throughout, fresh-stands, fresh-node}
 use Rattle.feed_run.specs.declared.status.Status.{Status}
 use Rattle.report_lines.specs.declared.line.Line.{Line}
 use Rattle.node_commands.specs.Answers.{bad_end, last_of}
-use Rattle.node_commands.specs.Follow.{line_of, events_for, chain_events, follow_answer, full_text, rules_of, AreTrue}
+use Rattle.node_commands.specs.Follow.{line_of, events_for, chain_events, follow_answer, full_text, rules_of}
 use Rattle.node_commands.specs.Machine.{end_by}
 use Rattle.node_commands.specs.Starting.{IsNodeOf}
 use Rattle.node_commands.specs.Stopping.{StandsBehind, IsParted, PiecesAreParted, lines_on, left_on, IsLeftBy, ResumedIsWhole, FreshBegins}
@@ -53,9 +53,9 @@ module _ (H : List ℕ → Digest) (scripts : List (List ℕ)) (rules : Rules) w
   goes-past None t x y fs e k = absurd cc
   goes-past (Some v) t x y fs e k = k
 
-  full-append : (t : State) (es fs : List ChainEvent) → AreHonest H scripts rules t (es ++ fs)
+  full-append : (t : State) (es fs : List ChainEvent) → NoneIsForged H scripts rules t (es ++ fs)
       → (full_after H scripts rules t (es ++ fs) ≡ full_after H scripts rules (full_after H scripts rules t es) fs)
-      × AreHonest H scripts rules (full_after H scripts rules t es) fs
+      × NoneIsForged H scripts rules (full_after H scripts rules t es) fs
   full-append t [] fs h = (refl, h)
   full-append t (e ∷ es) fs h =
       let o = step rules (full_judge H scripts rules) t e in
@@ -65,8 +65,8 @@ module _ (H : List ℕ → Digest) (scripts : List (List ℕ)) (rules : Rules) w
         honest_past (full_after H scripts rules o.state es) o.verdict parts.0 more.1,
       )
     where
-      honest_past : (x : State) (v : Option Verdict) → is_some v ≡ true → AreHonest H scripts rules x fs
-          → AreHonest H scripts rules (goes_on v t x) fs
+      honest_past : (x : State) (v : Option Verdict) → is_some v ≡ true → NoneIsForged H scripts rules x fs
+          → NoneIsForged H scripts rules (goes_on v t x) fs
       honest_past x None e k = absurd cc
       honest_past x (Some v) e k = k
 
@@ -136,16 +136,16 @@ module _ (H : List ℕ → Digest) (long : (x : List ℕ) → length (H x).0 ≡
   far = full_after H scripts rules start (map event_in (before ++ events))
 
   module _ (parted : IsParted rules whole front back) (bytes : AllByRecursion AreEventBytes events)
-      (honest : AreTrue H scripts rules start (before ++ events)) where
-    both : AreHonest H scripts rules start (map event_in before ++ es)
-    both = subst (AreHonest H scripts rules start) (map-append event_in before events) honest
+      (honest : NoneIsForged H scripts rules start (map event_in (before ++ events))) where
+    both : NoneIsForged H scripts rules start (map event_in before ++ es)
+    both = subst (NoneIsForged H scripts rules start) (map-append event_in before events) honest
 
     -- the node stands behind the front, too
     stands : Stands H far then
     stands =
         let f = full-append H scripts rules start (map event_in before) es both in
         let near = full_after H scripts rules start (map event_in before) in
-        let Agrees = λ (w : List (List ℕ)) (r : Rules). AreHonest H w r near es
+        let Agrees = λ (w : List (List ℕ)) (r : Rules). NoneIsForged H w r near es
         → Stands H (full_after H w r near es) then in
         let one : Agrees node.scripts node.rules = λ h. (compact_is_full_throughout H near node es begun.is begun.stands h).stands in
         let two = subst (λ r. Agrees scripts r) begun.rules_are (subst (λ w. Agrees w node.rules) begun.scripts_are one) in

@@ -1,5 +1,5 @@
 -- What `ticket`, `check` and `recheck` give, and what it means.
-use Rattle.std.proofs.Common.{◌≡◌, inl, inr, ℕ, ◌<◌, ◌≤◌, ◌^◌, Bool, true, false, List, [], length, Option, Some, None, Result}
+use Rattle.std.proofs.Common.{◌≡◌, inl, inr, ℕ, ◌<◌, ◌≤◌, ◌^◌, Bool, true, false, List, [], length, map, Option, Some, None, Result}
 use Rattle.std.proofs.Common.{Ok, Err, IfOk, OnOk, IsErrOf, is_err, refl, sym, ap, subst, arith}
 use Rattle.std.specs.Prelude.{◌↔◌, IfSome, nat_lt, if◌then◌else◌}
 use Rattle.std.specs.Io.KnownBytes.{Appends}
@@ -18,8 +18,9 @@ use Rattle.feed_run.specs.Answer.{Answer}
 use Rattle.feed_run.specs.declared.status.Status.{Status}
 use Rattle.feed_run.specs.declared.status.Status.TheVariants as Statuses
 use Rattle.feed_run.specs.declared.stop.Stop.{Stop}
-use Rattle.node_rules.specs.Machine.{Level}
+use Rattle.node_rules.specs.Machine.{Level, start, event_in}
 use Rattle.compact_node.specs.Node.{NodeState}
+use Rattle.compact_node.specs.Throughout.{full_after}
 use Rattle.report_lines.specs.declared.line.Line.TheVariants.{LimitFeed}
 use Rattle.ticket_check.specs.Tickets.{Ticket}
 use Rattle.ticket_check.specs.Judging.{TicketRight}
@@ -36,10 +37,11 @@ use Rattle.ticket_check.proofs.CheckLaws.{checked_is_accepted, live_is_right}
 use Rattle.node_commands.specs.Answers.{said}
 use Rattle.node_commands.specs.Meaning.{AnyEvents, IsEnd}
 use Rattle.node_commands.specs.Checking.{check_answer, ChecksText}
+use Rattle.node_commands.specs.Follow.{rules_of}
 use Rattle.node_commands.specs.Runs.{NoPort, Serves, status_in}
 use Rattle.node_commands.specs.Starting.{Start, IsStart}
 use Rattle.node_commands.specs.Ticketing.{ticketed, TicketIsRight}
-use Rattle.node_commands.specs.Tickets.{told_as, reached_by}
+use Rattle.node_commands.specs.Tickets.{told_as}
 use Rattle.node_commands.proofs.ServeLemmas.{failed-so, write-failed}
 use Rattle.node_commands.proofs.StartLemmas.{back_at, no_bad}
 
@@ -183,7 +185,7 @@ module _ (H : List ℕ → Digest) (long : (x : List ℕ) → length (H x).0 ≡
   ticket-is-right number (Ok node) start = λ level k at e.
       let b = back_at H long limits few at.net at.scripts at.watched at.before at.bytes prior at.text node start in
       subst (λ (l : Level). TicketRight H l.history l.tip k) (sym at.newest)
-      (kept_tickets_are_right H (reached_by H limits at.net at.scripts at.before) node number k b.is b.stands e)
+      (kept_tickets_are_right H (full_after H at.scripts (rules_of limits at.net) start (map event_in at.before)) node number k b.is b.stands e)
   ticket-is-right number (Err bad) start =
       λ level at. no_bad H long limits few at.net at.scripts at.watched at.before at.bytes prior at.text bad at.short start
 
@@ -192,7 +194,7 @@ module _ (H : List ℕ → Digest) (long : (x : List ℕ) → length (H x).0 ≡
     accepted = checked_is_accepted H node k;
     right = λ level at honest.
         let b = back_at H long limits few at.net at.scripts at.watched at.before at.bytes prior at.text node start in
-        let reached = reached_by H limits at.net at.scripts at.before in
+        let reached = full_after H at.scripts (rules_of limits at.net) start (map event_in at.before) in
         subst (λ (l : Level). (checked_by H node k ≡ live_of k) ↔ TicketRight H l.history l.tip k) (sym at.newest)
         (live_is_right H reached node k b.stands (λ a. subst (λ (l : Level). TicketRight H l.history l.tip k) at.newest (honest a)));
   }

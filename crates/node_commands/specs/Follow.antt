@@ -12,7 +12,7 @@ use Rattle.node_rules.specs.Judging.{Rules}
 use Rattle.node_rules.specs.Machine.{ChainEvent, State, start, chain_of, event_in}
 use Rattle.compact_node.specs.Node.{NodeState, fresh_node}
 use Rattle.compact_node.specs.State.{stored_text}
-use Rattle.compact_node.specs.Throughout.{verdicts_on, node_after, full_verdicts, full_after, AreHonest}
+use Rattle.compact_node.specs.Throughout.{verdicts_on, node_after, full_verdicts, full_after, NoneIsForged}
 use Rattle.state_text.specs.OfHistory.{state_of}
 use Rattle.state_text.specs.Stored.{state_text}
 use Rattle.report_lines.specs.declared.line.Line.{Line}
@@ -69,15 +69,11 @@ rules_of limits net = record { net = net; limits = limits }
 
 -- ---- both beside each other
 
--- no proof among the events is forged to one who watches these scripts
-abbrev pub AreTrue : (List ℕ → Digest) → List (List ℕ) → Rules → State → List FeedEvent → Type 0
-AreTrue H scripts rules s events = AreHonest H scripts rules s (map event_in events)
-
--- Where all events of a feed are such, this answer to it is what a node answers that holds every output, from this state on; and whatever
--- comes behind them, of events that are such it first has what that node prints.
+-- Where no proof in a feed is forged, this answer to it is what a node answers that holds every output, from this state on; and whatever comes behind
+-- events of which none is forged, of these it first has what that node prints.
 pub record IsAsOfFull (H : List ℕ → Digest) (scripts : List (List ℕ)) (rules : Rules) (s : State) (feed : List ℕ) (answer : Answer) : Type 0 where
-  pub whole : AreTrue H scripts rules s (events_for rules feed).events → answer ≡ full_answer H scripts rules s feed
-  pub front : (front later : List FeedEvent) → (events_for rules feed).events ≡ front ++ later → AreTrue H scripts rules s front →
+  pub whole : NoneIsForged H scripts rules s (chain_events (events_for rules feed)) → answer ≡ full_answer H scripts rules s feed
+  pub front : (front later : List FeedEvent) → (events_for rules feed).events ≡ front ++ later → NoneIsForged H scripts rules s (map event_in front) →
       (rest : List ℕ) × (answer.report ≡ flat_map line_of (full_verdicts H scripts rules s (map event_in front)) ++ rest)
 
 -- ---- from the start

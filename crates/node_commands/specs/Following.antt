@@ -1,11 +1,11 @@
 -- What `follow` means.
-use Rattle.std.specs.Prelude.{◌≡◌, ℕ, Bool, true, false, List, [], Option, Result, Ok, Err, IfOk}
+use Rattle.std.specs.Prelude.{◌≡◌, ℕ, Bool, true, false, List, [], Option, Result, Ok, Err, IfOk, unwrap_or}
 use Rattle.uo_base.specs.declared.event.Limits.{Limits}
 use Rattle.uo_base.specs.declared.event.Net.{Net}
 use Rattle.uo_digest.specs.declared.digest.Digest.{Digest}
 use Rattle.compact_node.specs.Node.{NodeState}
 use Rattle.node_commands.specs.declared.bad_input.BadInput.{BadInput}
-use Rattle.node_commands.specs.Follow.{follow_lines, follow_answer, fresh_for, PrintsAsFull}
+use Rattle.node_commands.specs.Follow.{follow_lines, follow_answer, fresh_for, rules_of, PrintsAsFull}
 use Rattle.node_commands.specs.Meaning.{Inputs, Meaning, Uses, IsEnd, AnyEvents}
 use Rattle.node_commands.specs.Proving.{FollowsProving}
 use Rattle.node_commands.specs.Plainly.{IsFollowedValid, IsResumedValid}
@@ -42,7 +42,8 @@ following_afresh H limits net named =
     following H (record { feed = true; prior = false; watch = named; out = true; steps = true })
     (λ prior watch begun. begun ≡ fresh_start limits net (list_in named limits.bytes watch))
     (λ inputs. IfOk (list_in named limits.bytes inputs.watch) (λ list. IsFollowedValid H limits net list inputs.feed
-    × PrintsAsFull H limits net list inputs.feed × FollowsProving H (fresh_for limits net list) inputs.feed))
+    × PrintsAsFull H limits net list inputs.feed
+    × FollowsProving H (unwrap_or list []) (rules_of limits net) inputs.feed (follow_answer H (fresh_for limits net list) inputs.feed)))
     (λ feed prior watch. IsGood named net limits watch feed)
 
 -- From a prior state, with the network and the watch list of that state. Where `follow` stored it, what was said since the start could be said by a

@@ -7,6 +7,7 @@ pub mod Commands
 pub mod Follow
 pub mod Following
 pub mod Forging
+pub mod Fronts
 pub mod Generating
 pub mod Machine
 pub mod Meaning

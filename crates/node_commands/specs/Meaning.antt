@@ -35,7 +35,7 @@ pub record Meaning : Type 1 where
   pub Begun : Type 0
   pub Begins : (prior watch : List ℕ) → Result Begun BadInput → Type 0
   -- the network of the feed, whether some first events of it are all wanted, what is printed and what is stored of them, and the whole answer to
-  -- a feed
+  -- a feed, which begins with what is printed and stored of all its events (`AnswersBeginWithEvents`)
   pub net : Begun → Net
   pub wants : Begun → List FeedEvent → Type 0
   pub lines : Begun → List FeedEvent → List ℕ

@@ -15,9 +15,9 @@ use Rattle.node_rules.specs.Judging.{Rules}
 use Rattle.node_rules.specs.Laws.{Serves}
 use Rattle.node_rules.specs.Machine.{State, start, chain_of, event_in, own_judge, verdicts, state_after, kept_verdicts}
 use Rattle.node_rules.specs.Proving.{proved_events}
-use Rattle.compact_node.specs.Node.{NodeState}
+use Rattle.compact_node.specs.Throughout.{NoneIsForged}
 use Rattle.report_lines.specs.declared.line.Line.TheVariants as Line
-use Rattle.node_commands.specs.Follow.{line_of, events_for, follow_answer, full_text, rules_of, AreTrue}
+use Rattle.node_commands.specs.Follow.{line_of, events_for, chain_events, full_text, rules_of}
 use Rattle.report_lines.specs.Lines.{whole_line}
 use Rattle.node_commands.specs.Machine.{end_line}
 
@@ -50,41 +50,43 @@ answer_made made chain stored = record {
   out = stored;
 }
 
--- no proof in the feed is forged, and `follow` answers the lines of the blocks that the proving node accepted and of the rollbacks that it made,
--- and stores what that node holds, with the scripts of its own list
-pub record IsFollowed (H : List ℕ → Digest) (node : NodeState) (rules : Rules) (events : List FeedEvent) (feed : List ℕ) : Type 0 where
-  pub honest : AreTrue H node.scripts node.rules start (events_for node.rules feed).events
-  pub answer : follow_answer H node feed ≡ answer_made (kept_verdicts (proving_verdicts rules events)) (proving_chain rules events)
-      (full_text H node.scripts node.rules (proving_state rules events))
+-- no proof in the feed is forged, and this answer to it has the lines of the blocks that the proving node accepted and of the rollbacks that it made,
+-- and stores what that node holds, with these scripts
+pub record IsFollowed (H : List ℕ → Digest) (scripts : List (List ℕ)) (rules proving : Rules) (events : List FeedEvent) (feed : List ℕ)
+    (answer : Answer) : Type 0 where
+  pub honest : NoneIsForged H scripts rules start (chain_events (events_for rules feed))
+  pub answered : answer ≡ answer_made (kept_verdicts (proving_verdicts proving events)) (proving_chain proving events)
+      (full_text H scripts rules (proving_state proving events))
 
 -- the same where the feed goes on past the limit: these are the first of the lines, with a `stray` behind them where the limit stands between a
 -- proof and the end of its block, and the line of the limit
-pub record IsFollowedTo (H : List ℕ → Digest) (node : NodeState) (rules : Rules) (events : List FeedEvent) (feed : List ℕ) : Type 0 where
-  pub honest : AreTrue H node.scripts node.rules start (events_for node.rules feed).events
+pub record IsFollowedTo (H : List ℕ → Digest) (scripts : List (List ℕ)) (rules proving : Rules) (events : List FeedEvent) (feed : List ℕ)
+    (answer : Answer) : Type 0 where
+  pub honest : NoneIsForged H scripts rules start (chain_events (events_for rules feed))
   pub front : List Verdict
   pub later : List Verdict
-  pub split : kept_verdicts (proving_verdicts rules events) ≡ front ++ later
+  pub split : kept_verdicts (proving_verdicts proving events) ≡ front ++ later
   pub strays : List Verdict
   pub one : (strays ≡ []) ⊎ (strays ≡ Stray ∷ [])
-  pub answer : follow_answer H node feed ≡ record {
+  pub answered : answer ≡ record {
     status = InputLimit;
     report =
-        flat_map line_of (front ++ strays) ++ whole_line (Line.LimitFeed node.rules.limits.bytes);
+        flat_map line_of (front ++ strays) ++ whole_line (Line.LimitFeed rules.limits.bytes);
     out = [];
   }
 
--- a proving node with the same network and leaf limit, whatever it may read, writes this feed of some events, with messages that serve the
--- node: in full, or lean ones for the list of the node
-pub record IsWritten (H : List ℕ → Digest) (node : NodeState) (proving : Limits) (watch : Option (List (List ℕ))) (events : List FeedEvent)
-    (feed : List ℕ) : Type 0 where
-  pub leaves : proving.leaves ≡ node.rules.limits.leaves
-  pub serves : Serves watch node.scripts
+-- a proving node with the network and the leaf limit of these rules, whatever it may read, writes this feed of some events, with messages that serve
+-- one who watches these scripts: in full, or lean ones for this list
+pub record IsWritten (H : List ℕ → Digest) (scripts : List (List ℕ)) (rules : Rules) (proving : Limits) (watch : Option (List (List ℕ)))
+    (events : List FeedEvent) (feed : List ℕ) : Type 0 where
+  pub leaves : proving.leaves ≡ rules.limits.leaves
+  pub serves : Serves watch scripts
   pub bytes : AllByRecursion AreEventBytes events
-  pub text : feed ≡ proving_text H watch (rules_of proving node.rules.net) events
+  pub text : feed ≡ proving_text H watch (rules_of proving rules.net) events
 
--- Such a feed is followed by this node, up to the limit.
-pub record FollowsProving (H : List ℕ → Digest) (node : NodeState) (feed : List ℕ) : Type 0 where
-  pub whole : (proving : Limits) (watch : Option (List (List ℕ))) (events : List FeedEvent) → IsWritten H node proving watch events feed
-      → length feed ≤ node.rules.limits.bytes → IsFollowed H node (rules_of proving node.rules.net) events feed
-  pub cut : (proving : Limits) (watch : Option (List (List ℕ))) (events : List FeedEvent) → IsWritten H node proving watch events feed
-      → node.rules.limits.bytes < length feed → IsFollowedTo H node (rules_of proving node.rules.net) events feed
+-- Such a feed is followed by this answer, up to the limit.
+pub record FollowsProving (H : List ℕ → Digest) (scripts : List (List ℕ)) (rules : Rules) (feed : List ℕ) (answer : Answer) : Type 0 where
+  pub whole : (proving : Limits) (watch : Option (List (List ℕ))) (events : List FeedEvent) → IsWritten H scripts rules proving watch events feed
+      → length feed ≤ rules.limits.bytes → IsFollowed H scripts rules (rules_of proving rules.net) events feed answer
+  pub cut : (proving : Limits) (watch : Option (List (List ℕ))) (events : List FeedEvent) → IsWritten H scripts rules proving watch events feed
+      → rules.limits.bytes < length feed → IsFollowedTo H scripts rules (rules_of proving rules.net) events feed answer

@@ -15,14 +15,14 @@ use Rattle.state_text.specs.Stored.{StateValue, IsOfVersion, IsTextOf}
 use Rattle.state_text.specs.OfHistory.{state_of}
 use Rattle.compact_node.specs.Node.{NodeState, IsNode}
 use Rattle.compact_node.specs.State.{IsReadAs}
-use Rattle.compact_node.specs.Throughout.{full_after}
+use Rattle.compact_node.specs.Throughout.{full_after, NoneIsForged}
 use Rattle.feed_frame.specs.Events.{events_of}
 use Rattle.feed_run.specs.Answer.{Answer}
 use Rattle.feed_run.specs.declared.status.Status.TheVariants as Status
 use Rattle.report_lines.specs.declared.line.Line.TheVariants as Line
 use Rattle.node_commands.specs.declared.bad_input.BadInput.{BadInput}
 use Rattle.node_commands.specs.Answers.{said}
-use Rattle.node_commands.specs.Follow.{follow_answer, rules_of, AreTrue, IsAsOfFull}
+use Rattle.node_commands.specs.Follow.{follow_answer, rules_of, IsAsOfFull}
 
 -- ---- what is read
 
@@ -92,7 +92,7 @@ abbrev pub ResumesAsFull : (List ℕ → Digest) → Limits → (prior feed : Li
 ResumesAsFull H limits prior feed begun =
     (net : Net) (scripts : List (List ℕ)) (before : List FeedEvent) → AreWatched scripts → AllByRecursion AreEventBytes before →
     let rules = rules_of limits net in
-    AreTrue H scripts rules start before →
+    NoneIsForged H scripts rules start (map event_in before) →
     let s = full_after H scripts rules start (map event_in before) in
     IsTextOf (state_of H net scripts s) prior → length prior ≤ limits.bytes
     → IfSome begun (λ b. IsAsOfFull H scripts rules s feed (start_answer H b feed))

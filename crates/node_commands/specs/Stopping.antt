@@ -13,10 +13,10 @@ use Rattle.node_rules.specs.Machine.{start, event_in}
 use Rattle.compact_node.specs.Node.{NodeState, IsNode, Stands, fresh_node}
 use Rattle.compact_node.specs.State.{stored_state}
 use Rattle.state_text.specs.Stored.{text_by}
-use Rattle.compact_node.specs.Throughout.{verdicts_on, node_after, full_after}
+use Rattle.compact_node.specs.Throughout.{verdicts_on, node_after, full_after, NoneIsForged}
 use Rattle.feed_frame.specs.Events.{settled_of}
 use Rattle.node_commands.specs.Answers.{bad_end}
-use Rattle.node_commands.specs.Follow.{line_of, events_for, chain_events, follow_answer, rules_of, AreTrue}
+use Rattle.node_commands.specs.Follow.{line_of, events_for, chain_events, follow_answer, rules_of}
 use Rattle.node_commands.specs.Starting.{IsNodeOf}
 
 -- a node with these rules and scripts, that stands for what a node that holds every output comes to from its start by these events, none of them
@@ -24,7 +24,7 @@ use Rattle.node_commands.specs.Starting.{IsNodeOf}
 pub record StandsBehind (H : List ℕ → Digest) (limits : Limits) (net : Net) (scripts : List (List ℕ)) (before : List FeedEvent)
     (node : NodeState) : Type 0 where
   pub bytes : AllByRecursion AreEventBytes before
-  pub honest : AreTrue H scripts (rules_of limits net) start before
+  pub honest : NoneIsForged H scripts (rules_of limits net) start (map event_in before)
   pub is : IsNode node
   pub rules_are : node.rules ≡ rules_of limits net
   pub scripts_are : node.scripts ≡ scripts
@@ -67,7 +67,7 @@ ResumedIsWhole = (H : List ℕ → Digest) → ((x : List ℕ) → length (H x).
     (before : List FeedEvent) (node again : NodeState) (whole front back prior : List ℕ) → StandsBehind H limits net scripts before node →
     let rules = rules_of limits net in
     let events = (events_for rules front).events in
-    IsParted rules whole front back → AllByRecursion AreEventBytes events → AreTrue H scripts rules start (before ++ events)
+    IsParted rules whole front back → AllByRecursion AreEventBytes events → NoneIsForged H scripts rules start (map event_in (before ++ events))
     → IsLeftBy H node front prior → IsNodeOf H limits prior again →
     GoesOn H node again whole front back × StandsBehind H limits net scripts (before ++ events) again
 

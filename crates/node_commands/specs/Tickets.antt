@@ -7,8 +7,8 @@ use Rattle.uo_base.specs.FeedEvent.{FeedEvent}
 use Rattle.uo_digest.specs.declared.digest.Digest.{Digest}
 use Rattle.leaf_cache.specs.Watched.{AreWatched}
 use Rattle.node_rules.specs.Fitting.{AreEventBytes}
-use Rattle.node_rules.specs.Machine.{Level, State, start, event_in}
-use Rattle.compact_node.specs.Throughout.{full_after}
+use Rattle.node_rules.specs.Machine.{Level, start, event_in}
+use Rattle.compact_node.specs.Throughout.{full_after, NoneIsForged}
 use Rattle.state_text.specs.OfHistory.{state_of}
 use Rattle.state_text.specs.Stored.{IsTextOf}
 use Rattle.feed_run.specs.Answer.{Answer}
@@ -20,7 +20,7 @@ use Rattle.report_lines.specs.Lines.{ticket_clash_lines}
 use Rattle.ticket_check.specs.declared.checked.Checked.{Checked}
 use Rattle.ticket_check.specs.declared.checked.Checked.TheVariants as Said
 use Rattle.node_commands.specs.Answers.{said}
-use Rattle.node_commands.specs.Follow.{AreTrue, rules_of}
+use Rattle.node_commands.specs.Follow.{rules_of}
 
 -- ---- what is answered
 
@@ -39,10 +39,6 @@ told_as (Said.Clash c) = record { status = Status.Clash; report = ticket_clash_l
 
 -- ---- the level of a state
 
--- what a node holds that holds every output and watches these scripts, after these events
-abbrev pub reached_by : (List ℕ → Digest) → Limits → Net → (scripts : List (List ℕ)) → List FeedEvent → State
-reached_by H limits net scripts events = full_after H scripts (rules_of limits net) start (map event_in events)
-
 -- the bytes are the state, in either version, of such a node, no proof among whose events is forged, and this is its newest level
 pub record IsStateAt (H : List ℕ → Digest) (limits : Limits) (prior : List ℕ) (level : Level) : Type 0 where
   pub net : Net
@@ -50,7 +46,7 @@ pub record IsStateAt (H : List ℕ → Digest) (limits : Limits) (prior : List �
   pub before : List FeedEvent
   pub watched : AreWatched scripts
   pub bytes : AllByRecursion AreEventBytes before
-  pub honest : AreTrue H scripts (rules_of limits net) start before
-  pub text : IsTextOf (state_of H net scripts (reached_by H limits net scripts before)) prior
+  pub honest : NoneIsForged H scripts (rules_of limits net) start (map event_in before)
+  pub text : IsTextOf (state_of H net scripts (full_after H scripts (rules_of limits net) start (map event_in before))) prior
   pub short : length prior ≤ limits.bytes
-  pub newest : level ≡ (reached_by H limits net scripts before).now
+  pub newest : level ≡ (full_after H scripts (rules_of limits net) start (map event_in before)).now

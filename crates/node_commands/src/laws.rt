@@ -1,10 +1,16 @@
-//! What holds of each run of `follow`, of runs that are stopped and go on, of states and feeds that are written anew, and of hashes among the words.
-//! There is no code here.
+//! What holds of the answers of all commands, of each run of `follow`, of runs that are stopped and go on, of states and feeds that are written anew,
+//! and of hashes among the words. There is no code here.
+ghost use Rattle.node_commands.specs.Fronts.{AnswersBeginWithEvents};
 ghost use Rattle.node_commands.specs.Ordering.{PrintedIsNamed};
 ghost use Rattle.node_commands.specs.Plainly.{FollowedIsValid, ResumedIsValid};
 ghost use Rattle.node_commands.specs.Stopping.{FreshBegins, PiecesAreParted, ResumedIsWhole};
 ghost use Rattle.node_commands.specs.Upgrading.{StatesAreUpgraded};
 ghost use Rattle.node_commands.specs.UpgradingFeed.{UpgradedFeedsAreFollowed};
+
+/// What a command prints and stores of the events of a feed stands at the front of its answer to the feed, whatever it began with.
+pub fn answers_begin_with_events()
+    ensures { AnswersBeginWithEvents }
+{}
 
 /// Whatever the feed, what `follow` says of its events could be said by a node that holds every output and reads no proof; or `audit` over the same
 /// bytes ends with two different texts with one digest.
