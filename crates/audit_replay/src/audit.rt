@@ -1,5 +1,5 @@
 //! The auditor.
-ghost use Rattle.std.specs.Prelude.{◌≡◌, ◌<◌, ◌≤◌, ◌^◌, false, is_none, IfOk, OnOk, OnErr};
+ghost use Rattle.std.specs.Prelude.{◌≡◌, ◌+◌, ◌<◌, ◌≤◌, ◌^◌, false, true, is_none, is_some, IfOk, OnOk, OnErr};
 ghost use Rattle.leaf_record.specs.History as history;
 ghost use Rattle.uo_base.specs.FeedEvent.{event_of};
 
@@ -46,7 +46,7 @@ impl<D: Digester> Audit<D> {
     ghost use Rattle.node_rules.specs.Machine.{event_in};
     ghost use Rattle.node_rules.specs.Machine as machine;
     ghost use Rattle.node_rules.specs.Fitting.{IsShort};
-    ghost use Rattle.bridge_prover.specs.Full.{JudgesAsFull, history_of, judged_on};
+    ghost use Rattle.bridge_prover.specs.Full.{JudgesAsFull, history_of, judged_on, most_judged};
     ghost use Rattle.audit_replay.specs.Audit.{IsAudit, fresh_audit, next_audit, verdict_in, ShowsClash};
 
     /// An auditor with no block and no output. It judges a lean message as one who watches these scripts.
@@ -112,6 +112,10 @@ impl<D: Digester> Audit<D> {
         // forged where that one has no verdict, and stands for what that node holds then.
         ensures refines { IfOk result (λ line. JudgesAsFull D.digest_of self.old.bridge (event_in (event_of event.entry)) (verdict_in line)
             self.new.bridge) }
+
+        // Where the event is not forged, it takes no more digests than the bridge does to judge it.
+        ensures steps { is_some (judged_on D.digest_of self.old.bridge (event_in (event_of event.entry))) ≡ true
+            → steps.new ≤ steps.old + most_judged self.old.bridge (event_in (event_of event.entry)) }
     {
         match self.bridge.judge(event, steps)? {
             Judged::Verdict(verdict) => Ok(AuditLine::Verdict(verdict)),

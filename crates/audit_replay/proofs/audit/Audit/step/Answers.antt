@@ -1,5 +1,6 @@
 use Rattle.std.proofs.Common.{Bool, sym, ap, ap₂, ◌∙◌, subst}
-use Rattle.std.specs.Prelude.{is_none}
+use Rattle.std.specs.Prelude.{is_none, is_some}
+use Rattle.std.proofs.lemmas.Bool.{false≢true}
 use Rattle.uo_base.specs.FeedEvent.{event_of}
 use Rattle.node_rules.specs.Machine.{event_in}
 use Rattle.bridge_prover.specs.Bridge.{BridgeState}
@@ -28,3 +29,17 @@ returns-in_ok-clash-in-Forged-clause-next g c =
     (c.in_ok-verdict.ensures.next ∙ ap (λ (x : AuditState). next_judged H x.bridge e) c.self.view_is)
     (ap is_none (sym (ap verdict_in c.in-Forged.is)
     ∙ (c.in_ok-verdict.ensures.verdict ∙ ap (λ (x : AuditState). judged_on H x.bridge e) c.self.view_is)))
+
+pub returns-in_ok-clash-in-Forged-clause-steps : goal.returns-in_ok-clash-in-Forged-clause-steps
+returns-in_ok-clash-in-Forged-clause-steps g c =
+    let H = g.D.Digester.digest_of in
+    let e = event_in (event_of c.args.event) in
+    λ judged. absurd (false≢true (ap is_some (sym (ap verdict_in c.in-Forged.is)
+    ∙ (c.in_ok-verdict.ensures.verdict ∙ ap (λ (x : AuditState). judged_on H x.bridge e) c.self.view_is)) ∙ judged))
+
+pub returns-in_err-clash-in-Forged-clause-steps : goal.returns-in_err-clash-in-Forged-clause-steps
+returns-in_err-clash-in-Forged-clause-steps g c =
+    let H = g.D.Digester.digest_of in
+    let e = event_in (event_of c.args.event) in
+    λ judged. absurd (false≢true (ap is_some (sym (ap verdict_in c.in-Forged.is)
+    ∙ (c.in_ok-verdict.ensures.verdict ∙ ap (λ (x : AuditState). judged_on H x.bridge e) c.self.view_is)) ∙ judged))
