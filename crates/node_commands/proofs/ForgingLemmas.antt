@@ -298,15 +298,9 @@ module _ (H : List ℕ → Digest) (long : (x : List ℕ) → IsDigest (H x)) (l
     block_fits : BlockFits f.block
     block_fits = subst EventFits f.is (read_event_fits event (block_bytes event made.1))
 
-<<<<<<< ours
     shown : AreShown H (shown_by H scripts rules start (map event_in front ++ forging ∷ map event_in later)) scripts
-        (level_behind H limits net scripts front) f.block f.message
-    shown = full_shows_forged H long net limits scripts few (map event_in front) (map event_in later) f.block f.message (all_fit front made.0)
-=======
-    shown : AreShown H (shown_on H (fresh_audit net limits scripts) (map event_in front ++ forging ∷ map event_in later)) scripts
         (full_after H scripts rules start (map event_in front)).now f.block f.message
-    shown = fresh_shows_forged H long net limits scripts few (map event_in front) (map event_in later) f.block f.message (all_fit front made.0)
->>>>>>> theirs
+    shown = full_shows_forged H long net limits scripts few (map event_in front) (map event_in later) f.block f.message (all_fit front made.0)
         block_fits (message_fits event f.block f.message made.1 f.is) f.honest f.forged
 
     stopped : Stops H scripts rules start (map event_in front) (map event_in later) forging

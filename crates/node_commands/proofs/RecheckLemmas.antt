@@ -59,11 +59,7 @@ use Rattle.node_commands.specs.declared.bad_input.BadInput.{BadInput}
 use Rattle.node_commands.specs.Answers.{bad_end, last_of, answer_with, served_feed}
 use Rattle.node_commands.specs.Auditor.{clash_text, end_unless, answer_unless}
 use Rattle.node_commands.specs.Follow.{rules_of}
-<<<<<<< ours
-use Rattle.node_commands.specs.Forging.{level_behind, AreTrueTo, AreWanted, IsForgedBehind}
-=======
-use Rattle.node_commands.specs.Forging.{IsForgedBehind}
->>>>>>> theirs
+use Rattle.node_commands.specs.Forging.{AreWanted, IsForgedBehind}
 use Rattle.node_commands.specs.Meaning.{IsEnd}
 use Rattle.node_commands.specs.Rechecking.{RecheckerState, next_rechecker, machine_ending, silent_end, shown_text, shown_of, shown_line, recheck_end}
 use Rattle.node_commands.specs.Rechecking.{recheck_machine, Rechecked, with_list, recheck_start, rechecker_of, recheck_lines, recheck_answer}
@@ -340,12 +336,8 @@ module _ (H : List ℕ → Digest) (limits : Limits) (few : limits.leaves < 2 ^ 
 
   -- ---- no event is forged
 
-<<<<<<< ours
   module _ (long : (x : List ℕ) → IsDigest (H x)) (bytes : IsBytes feed) (ticket_bytes : IsBytes begun.ticket) (whole : ending ≡ None)
-      (honest : AreTrueTo H limits net scripts events) where
-=======
-  module _ (bytes : IsBytes feed) (ticket_bytes : IsBytes begun.ticket) (whole : ending ≡ None) (honest : NoneIsForged H scripts rules start es) where
->>>>>>> theirs
+      (honest : NoneIsForged H scripts rules start es) where
     goes-on : behind.ended ≡ false
     goes-on = throughout.ended ∙ ap not honest
 
@@ -362,17 +354,7 @@ module _ (H : List ℕ → Digest) (limits : Limits) (few : limits.leaves < 2 ^ 
     audit : IsAudit H behind.bridge
     audit = after-audit H es fresh.audit fits (fresh_is_audit H net limits (Some scripts) few)
 
-<<<<<<< ours
-    rechecks-over : RechecksOver H (level_behind H limits net scripts events) begun.ticket (recheck_answer H limits net begun feed)
-=======
-    history_is : history_of behind.bridge ≡ state.now.history
-    history_is = is_history H behind.bridge state.now.history (newest_history H state behind.bridge audit.is throughout.stands)
-
-    tip_is : behind.bridge.chain.tip ≡ state.now.tip
-    tip_is = ap (λ (c : Chain). c.tip) throughout.stands.chain
-
     rechecks-over : RechecksOver H state.now begun.ticket (recheck_answer H limits net begun feed)
->>>>>>> theirs
     rechecks-over = record {
       none = λ fault e. answered ∙ ap (λ r. told_as (said_of (rechecked_by H behind.bridge) r)) e;
       is = λ k e. (

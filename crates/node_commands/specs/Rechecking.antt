@@ -1,10 +1,6 @@
 -- What `recheck` answers to a ticket and a feed, and what it means.
 use Rattle.std.specs.Prelude.{◌≡◌, ◌⊎◌, ◌≤◌, ℕ, ◌+◌, nat_lt, Bool, true, false, List, [], ◌∷◌, ◌++◌, length, map, Some, None, Result, Ok, Err}
-<<<<<<< ours
 use Rattle.std.specs.Prelude.{not, if◌then◌else◌}
-=======
-use Rattle.std.specs.Prelude.{if◌then◌else◌}
->>>>>>> theirs
 use Rattle.std.specs.declared.option.Option.{Option}
 use Rattle.uo_base.specs.declared.event.Limits.{Limits}
 use Rattle.uo_base.specs.declared.event.Net.{Net}
@@ -16,13 +12,8 @@ use Rattle.block_rules.specs.Blocks.{external}
 use Rattle.block_rules.specs.declared.verdict.Verdict.{Verdict}
 use Rattle.cache_model.specs.Known.{known_at}
 use Rattle.node_rules.specs.Messages.{Message, points_of}
-<<<<<<< ours
 use Rattle.node_rules.specs.Machine.{Level, start, event_in, full_judge, never_stops}
-use Rattle.compact_node.specs.Throughout.{full_verdicts, full_after}
-=======
-use Rattle.node_rules.specs.Machine.{Level, start, event_in}
-use Rattle.compact_node.specs.Throughout.{full_after, NoneIsForged}
->>>>>>> theirs
+use Rattle.compact_node.specs.Throughout.{full_verdicts, full_after, NoneIsForged}
 use Rattle.bridge_prover.specs.Full.{judged_on}
 use Rattle.bridge_prover.specs.Watched.{scripts_of}
 use Rattle.clash_find.specs.Clashes.{TextClash}
@@ -43,17 +34,10 @@ use Rattle.ticket_check.specs.declared.checked.Checked.{Checked}
 use Rattle.ticket_check.specs.Checking.{recheck_of, recheck_over, fault_said, IsRechecked}
 use Rattle.node_commands.specs.PriorText.{long_prior}
 use Rattle.node_commands.specs.declared.bad_input.BadInput.{BadInput}
-<<<<<<< ours
 use Rattle.node_commands.specs.Answers.{answer_with}
 use Rattle.node_commands.specs.Auditor.{clash_text, end_unless, answer_unless}
 use Rattle.node_commands.specs.Follow.{chain_events, rules_of}
-use Rattle.node_commands.specs.Forging.{level_behind, AreTrueTo, AreWanted, IsForgedBehind}
-=======
-use Rattle.node_commands.specs.Answers.{served_feed}
-use Rattle.node_commands.specs.Auditor.{clash_text, end_unless}
-use Rattle.node_commands.specs.Follow.{chain_events, rules_of}
-use Rattle.node_commands.specs.Forging.{IsForgedBehind}
->>>>>>> theirs
+use Rattle.node_commands.specs.Forging.{AreWanted, IsForgedBehind}
 use Rattle.node_commands.specs.Meaning.{Meaning, IsEnd}
 use Rattle.node_commands.specs.Tickets.{told_as}
 use Rattle.node_commands.specs.Watching.{list_in}
