@@ -220,7 +220,7 @@ module _ (H : List ℕ → Digest) where
       ap (λ s. (left_by m s front).audit.ended) (goes-over a f false w.0) ∙ wanted-at front later event (next_auditor H a f) w.1
 
   module _ (limits : Limits) (net : Net) (scripts : List (List ℕ)) (few : limits.leaves < 2 ^ 40) where
-    said-lines : (events : List FeedEvent) → said_by m (fresh_auditor net limits scripts) events ≡ audit_lines H limits net scripts events
+    pub said-lines : (events : List FeedEvent) → said_by m (fresh_auditor net limits scripts) events ≡ audit_lines H limits net scripts events
     unfolding audit_lines
     said-lines events =
         let es = map event_in events in

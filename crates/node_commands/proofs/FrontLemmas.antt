@@ -21,7 +21,7 @@ use Rattle.command_words.specs.Words.{Asked, Task, Following, Proving, Auditing,
 use Rattle.command_words.specs.Words.{Checking, Rechecking, Relaying, net_for, command_of}
 use Rattle.node_commands.specs.declared.bad_input.BadInput.{BadInput}
 use Rattle.node_commands.specs.Answers.{answer_with, bad_end, last_of, served_feed}
-use Rattle.node_commands.specs.Auditor.{fresh_auditor, audit_machine, audit_answer}
+use Rattle.node_commands.specs.Auditor.{fresh_auditor, audit_machine, audit_lines, audit_answer}
 use Rattle.node_commands.specs.Commands.{following_from, meaning_for, meaning_by}
 use Rattle.node_commands.specs.Follow.{line_of, events_for, chain_events, follow_lines, follow_answer, rules_of}
 use Rattle.node_commands.specs.Following.{fresh_start}
@@ -29,12 +29,13 @@ use Rattle.node_commands.specs.Fronts.{BeginsWith, AnswersByEvents, AnswersBegin
 use Rattle.node_commands.specs.Machine.{end_by, follow_end, is_refused}
 use Rattle.node_commands.specs.Prover.{prove_answer}
 use Rattle.node_commands.specs.Proving.{proving_text, proving_verdicts, proving_chain}
-use Rattle.node_commands.specs.Rechecking.{recheck_machine, rechecker_of}
+use Rattle.node_commands.specs.Rechecking.{recheck_machine, Rechecked, rechecker_of, recheck_lines, recheck_answer}
 use Rattle.node_commands.specs.Relayer.{RelayState, relay_last, relay_answer, fresh_relay, relay_machine, relayed_feed}
 use Rattle.node_commands.specs.Starting.{Start, IsNodeOf}
 use Rattle.node_commands.specs.UpgradingFeed.{upgraded_text, upgrade_feed_answer}
 use Rattle.node_commands.specs.Watching.{list_in}
-use Rattle.node_commands.proofs.AuditLemmas.{served-audit}
+use Rattle.node_commands.proofs.AuditLemmas.{served-audit, said-lines as audited-lines}
+use Rattle.node_commands.proofs.RecheckLemmas.{same-answer, said-lines as rechecked-lines}
 use Rattle.node_commands.proofs.RelayLemmas.{relayed-is}
 
 -- ---- an answer by its parts
@@ -112,12 +113,22 @@ module _ (H : List ℕ → Digest) (limits : Limits) where
       (with-lines lines text last events.ending, with-frames lines text last events.ending)
 
   audit-front : limits.leaves < 2 ^ 40 → (net : Net) (scripts : List (List ℕ)) (feed : List ℕ)
-      → BeginsWith (audit_answer H limits net scripts feed).report
-      (said_by (audit_machine H) (fresh_auditor net limits scripts) (events_of net limits.bytes feed).events)
+      → BeginsWith (audit_answer H limits net scripts feed).report (audit_lines H limits net scripts (events_of net limits.bytes feed).events)
   audit-front few net scripts feed =
       let fresh = fresh_auditor net limits scripts in
-      subst (λ (a : Answer). BeginsWith a.report (said_by (audit_machine H) fresh (events_of net limits.bytes feed).events))
-      (served-audit H limits net scripts few fresh refl feed) (served-lines (audit_machine H) fresh net limits.bytes feed)
+      let events = (events_of net limits.bytes feed).events in
+      subst (BeginsWith (audit_answer H limits net scripts feed).report) (audited-lines H limits net scripts few events)
+      (subst (λ (a : Answer). BeginsWith a.report (said_by (audit_machine H) fresh events)) (served-audit H limits net scripts few fresh refl feed)
+      (served-lines (audit_machine H) fresh net limits.bytes feed))
+
+  recheck-front : limits.leaves < 2 ^ 40 → (net : Net) (begun : Rechecked) (feed : List ℕ)
+      → BeginsWith (recheck_answer H limits net begun feed).report (recheck_lines H limits net begun (events_of net limits.bytes feed).events)
+  recheck-front few net begun feed =
+      let fresh = rechecker_of limits net begun in
+      let events = (events_of net limits.bytes feed).events in
+      subst (BeginsWith (recheck_answer H limits net begun feed).report) (rechecked-lines H limits few net begun events)
+      (subst (λ (a : Answer). BeginsWith a.report (said_by (recheck_machine H) fresh events)) (same-answer H limits few net begun feed)
+      (served-lines (recheck_machine H) fresh net limits.bytes feed))
 
   relayed-front : (r : RelayState) (net : Net) (feed : List ℕ)
       → BeginsWith (relayed_feed H r net limits.bytes feed).report (said_by (relay_machine H) r (events_of net limits.bytes feed).events)
@@ -161,10 +172,7 @@ module _ (H : List ℕ → Digest) (limits : Limits) (few : limits.leaves < 2 ^ 
   task-fronts (Ordering tip) s = λ begun feed is. (from-none _, from-none _)
   task-fronts (Ticketing number) s = λ node feed is. (from-none _, from-none _)
   task-fronts Checking s = λ node feed is. (from-none _, from-none _)
-  task-fronts Rechecking s = λ begun feed is. (
-    served-lines (recheck_machine H) (rechecker_of limits (net_for s.net) begun) (net_for s.net) limits.bytes feed,
-    from-none _,
-  )
+  task-fronts Rechecking s = λ begun feed is. (recheck-front H limits few (net_for s.net) begun feed, from-none _)
   task-fronts (Relaying followers) s = λ start feed is. (relay-front H limits (net_for s.net) start.lists start.script feed, from-none _)
 
   asked-fronts : (asked : Result Asked WordFault) → AnswersByEvents (meaning_by H limits asked) limits.bytes prior watch

@@ -208,7 +208,7 @@ module _ (H : List ℕ → Digest) (limits : Limits) (few : limits.leaves < 2 ^ 
   abbrev node_rules : Rules
   node_rules = rules_of limits net
 
-  said-lines : said_by (recheck_machine H) (rechecker_of limits net begun) events ≡ recheck_lines H limits net begun events
+  pub said-lines : said_by (recheck_machine H) (rechecker_of limits net begun) events ≡ recheck_lines H limits net begun events
   unfolding recheck_lines
   said-lines =
       let es = map event_in events in

@@ -30,7 +30,7 @@ use Rattle.node_commands.specs.Machine.{is_refused}
 -- each of these events comes behind others of which none is forged
 abbrev pub AreWanted : (List ℕ → Digest) → Limits → Net → (scripts : List (List ℕ)) → List FeedEvent → Type 0
 AreWanted H limits net scripts events = (front later : List FeedEvent) (event : FeedEvent) → events ≡ front ++ event ∷ later
-    → AreTrueTo H limits net scripts front
+    → NoneIsForged H scripts (rules_of limits net) start (map event_in front)
 
 -- behind events none of which is forged comes a block with a message that is: its roots accept the message, and it is not right
 pub record IsForgedBehind (H : List ℕ → Digest) (limits : Limits) (net : Net) (scripts : List (List ℕ)) (front : List FeedEvent)
