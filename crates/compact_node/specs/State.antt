@@ -14,16 +14,19 @@ use Rattle.state_text.specs.OfHistory.{IsHistory, state_of}
 use Rattle.state_text.specs.Cached.{CachedLevel, CachedState, IsFilled, state_in}
 use Rattle.compact_node.specs.Node.{LevelState, NodeState, IsNode, Stands}
 
+-- what of a level is stored, or told by what is stored
 abbrev pub cached_level : LevelState → CachedLevel
 cached_level l = record { tip = l.chain.tip; roots = l.roots; kept = l.kept; held = l.held }
 
+-- the same of a node: its network and scripts, how many blocks its chain has, and its levels, the present one first
 abbrev pub cached_state : NodeState → CachedState
 cached_state s = record { net = s.rules.net; blocks = s.newest.chain.blocks; scripts = s.scripts; levels = map cached_level (s.newest ∷ s.older) }
 
--- what is stored of a node, and the text that is written of it
+-- what is stored of a node
 abbrev pub stored_state : NodeState → StateValue
 stored_state s = state_in (cached_state s)
 
+-- the text that a node stores of itself
 abbrev pub stored_text : NodeState → List ℕ
 stored_text s = state_text (stored_state s)
 

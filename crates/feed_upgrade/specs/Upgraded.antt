@@ -12,16 +12,18 @@ upgraded_events H s [] = []
 upgraded_events H s (event ∷ events) =
     upgraded_event s.newest.chain.leaves event ∷ upgraded_events H (next_node H s (event_in event)) events
 
--- how many messages of version 1 stand beside the block of an event: one or none
+-- how many messages of version 1 stand beside a block: one or none
 abbrev pub old_in : Option (List ℕ) → ℕ
 old_in None = 0
 old_in (Some message) = if is_old message then 1 else 0
 
+-- how many stand beside the block of an event
 abbrev pub old_beside : FeedEvent → ℕ
 old_beside (BlockCame block message) = old_in message
 old_beside (RollbackCame count) = 0
 old_beside StrayCame = 0
 
+-- how many stand beside the blocks of these events
 abbrev pub old_messages : List FeedEvent → ℕ
 old_messages [] = 0
 old_messages (event ∷ events) = old_beside event + old_messages events

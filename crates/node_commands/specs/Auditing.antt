@@ -10,8 +10,8 @@ use Rattle.node_commands.specs.Forging.{AreWanted, AuditsFeed}
 use Rattle.node_commands.specs.Meaning.{Meaning, IsEnd}
 use Rattle.node_commands.specs.Watching.{list_in, IsGood}
 
--- It stores nothing. Where no watch list is named nothing is watched. At the first event that is forged to a node that holds every output it shows
--- two different texts with one digest.
+-- What `audit` means. It stores nothing. Where no watch list is named nothing is watched. At the first event that is forged to a node that holds
+-- every output it shows two different texts with one digest.
 abbrev pub auditing : (List ℕ → Digest) → Limits → Net → (named : Bool) → Meaning
 auditing H limits net named = record {
   uses = record { feed = true; prior = false; watch = named; out = false; steps = true };

@@ -34,7 +34,7 @@ pub record AuditorState : Type 0 where
   pub events : ℕ
   pub refused : Bool
 
--- which reads lean messages as one who watches these scripts
+-- an auditor that was told nothing, and reads lean messages as one who watches these scripts
 abbrev pub fresh_auditor : Net → Limits → List (List ℕ) → AuditorState
 fresh_auditor net limits scripts = record { audit = fresh_audit net limits scripts; events = 0; refused = false }
 
@@ -90,7 +90,7 @@ audit_end a =
     let s = a.audit.bridge in
     end_unless a.audit.ended (supply_end a.refused a.events (supply (history_of s)) (issued s.rules.net s.chain.blocks) s.chain)
 
--- it takes the events of a feed up to the first forged one, and stores nothing
+-- an auditor takes the events of a feed up to the first forged one, and stores nothing
 abbrev pub audit_machine : (List ℕ → Digest) → Machine AuditorState
 audit_machine H = record {
   next = next_auditor H;

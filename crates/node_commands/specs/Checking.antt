@@ -32,7 +32,7 @@ abbrev pub ChecksText : (List ℕ → Digest) → Limits → (prior text : List 
 ChecksText H limits prior text (Ok node) = (k : Ticket) → ticket_in text ≡ Ok k → ChecksTicket H limits prior node k
 ChecksText H limits prior text (Err bad) = (level : Level) → IsStateAt H limits prior level → ⊥
 
--- It prints what is said of the ticket in the feed over the newest level of the prior state, and stores nothing.
+-- What `check` means. It prints what is said of the ticket in the feed over the newest level of the prior state, and stores nothing.
 abbrev pub checking : (List ℕ → Digest) → Limits → Meaning
 checking H limits = record {
   uses = record { feed = true; prior = true; watch = false; out = false; steps = true };

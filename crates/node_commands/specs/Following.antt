@@ -34,9 +34,9 @@ abbrev pub fresh_start : Limits → Net → Result (Option (List (List ℕ))) Ba
 fresh_start limits net (Ok list) = Ok (fresh_for limits net list)
 fresh_start limits net (Err bad) = Err bad
 
--- From the start. What is said could be said by a node that holds every output and reads no proof, or `audit` shows two texts with one digest; what
--- is answered is that of a node that holds every output and judges each proof by them; and over what a proving node wrote, with messages in full or
--- lean ones for the list, it has the lines of that node's accepted blocks and made rollbacks.
+-- What `follow` means from the start. What it says could be said by a node that holds every output and reads no proof, or `audit` shows two texts
+-- with one digest; what it answers is that of a node that holds every output and judges each proof by them; and over what a proving node wrote, with
+-- messages in full or lean ones for the list, it has the lines of that node's accepted blocks and made rollbacks.
 abbrev pub following_afresh : (List ℕ → Digest) → Limits → Net → (named : Bool) → Meaning
 following_afresh H limits net named =
     following H (record { feed = true; prior = false; watch = named; out = true; steps = true })
@@ -46,8 +46,8 @@ following_afresh H limits net named =
     × FollowsProving H (unwrap_or list []) (rules_of limits net) inputs.feed (follow_answer H (fresh_for limits net list) inputs.feed)))
     (λ feed prior watch. IsGood named net limits watch feed)
 
--- From a prior state, with the network and the watch list of that state. Where `follow` stored it, what was said since the start could be said by a
--- node that reads no proof; where a node came to it that holds every output, what is answered is that of this node.
+-- What `follow` means from a prior state, whose network and watch list it takes. Where `follow` stored that, what was said since the start could be
+-- said by a node that reads no proof; where a node came to it that holds every output, what is answered is that of this node.
 abbrev pub following_on : (List ℕ → Digest) → Limits → Meaning
 following_on H limits =
     following H (record { feed = true; prior = true; watch = false; out = true; steps = true })

@@ -24,7 +24,7 @@ gen_answer number blocks net = record {
   out = generated number blocks net;
 }
 
--- it reads nothing, and tells no event
+-- What `gen` means. It reads nothing, and tells no event.
 abbrev pub generating : (number blocks : ℕ) → Net → Meaning
 generating number blocks net = record {
   uses = record { feed = false; prior = false; watch = false; out = true; steps = false };

@@ -29,6 +29,7 @@ pub record Inputs (Begun : Type 0) : Type 0 where
 abbrev pub AnyEvents : List FeedEvent → Type 0
 AnyEvents events = Unit {0}
 
+-- what a command means: what it uses and begins with, what it says and stores of a feed, what is claimed of that, and how it ends
 pub record Meaning : Type 1 where
   pub uses : Uses
   -- what it begins with, and that it is this with a prior state and a watch list of these bytes

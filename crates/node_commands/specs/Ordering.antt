@@ -72,7 +72,7 @@ pub record OrdersFeed (net : Net) (limit : ℕ) (tip : Digest) (feed : List ℕ)
   pub either : let arrivals = arrivals_of (bodies_of (events_of net limit feed).events) in IsToldOf arrivals tip (path_of arrivals tip)
   pub links : IsBytes feed → LinksUp net (order_answer net limit tip feed).out
 
--- it tells no event, and stores nothing before the feed was read to its end
+-- What `order` means. It tells no event, and stores nothing before the feed was read to its end.
 abbrev pub ordering : (limit : ℕ) → Net → (tip : Digest) → Meaning
 ordering limit net tip = record {
   uses = record { feed = true; prior = false; watch = false; out = true; steps = false };

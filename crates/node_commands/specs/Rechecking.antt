@@ -179,7 +179,7 @@ pub record IsGoodBeside (named : Bool) (net : Net) (limits : Limits) (prior list
   pub usable : list_in named limits.bytes list ≡ Ok scripts
   pub whole : (events_of net limits.bytes feed).ending ≡ None
 
--- It prints what is said of the ticket behind the feed, or at the first forged event what `audit` shows, and stores nothing.
+-- What `recheck` means. It prints what is said of the ticket behind the feed, or at the first forged event what `audit` shows, and stores nothing.
 abbrev pub rechecking : (List ℕ → Digest) → Limits → Net → (named : Bool) → Meaning
 rechecking H limits net named = record {
   uses = record { feed = true; prior = true; watch = named; out = false; steps = true };

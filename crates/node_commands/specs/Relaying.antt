@@ -74,8 +74,8 @@ relay_start followers (Err bad) script = Err bad
 abbrev pub AreNotLost : List (Option Outcome) → Type 0
 AreNotLost outcomes = AllByRecursion (λ o. (reply : ℕ) → outcome_line o ≢ Line.Replied reply Said.Lost) outcomes
 
--- Behind the acts of a script over a feed, which is bytes, each follower is on the branch of its newest serial: on a chain that the bridge had. And no
--- follower was told that it is lost.
+-- Behind the acts of a script over a feed, which is bytes, each follower is on the branch of its newest serial: on a chain that the bridge had. And
+-- no follower was told that it is lost.
 pub record RelaysOnBranches (H : List ℕ → Digest) (limits : Limits) (net : Net) (start : RelayStart) (feed : List ℕ) : Type 0 where
   pub on_branches : IsBytes feed →
       let begun : Begun = record { net = net; limits = limits; lists = start.lists } in
@@ -93,7 +93,7 @@ pub record IsGoodRelay (scripted listed : Bool) (net : Net) (limits : Limits) (f
   pub runs : script_of (prior_text scripted limits.bytes prior) ≡ Ok script
   pub good : IsGood listed net limits watch feed
 
--- it stores nothing
+-- What `relay` means. It stores nothing.
 abbrev pub relaying : (List ℕ → Digest) → Limits → (followers : ℕ) → Net → (scripted listed : Bool) → Meaning
 relaying H limits followers net scripted listed = record {
   uses = record { feed = true; prior = scripted; watch = listed; out = false; steps = true };

@@ -80,7 +80,7 @@ pub record IsUnbegun (feed feed' report report' out out' : Option (List ℕ)) (u
   pub sent : Appends out out' []
   pub quiet : untouched
 
--- or within the one line that says why an input can not be used
+-- a run was stopped within the one line that says why an input can not be used
 pub record IsRefusing (bad : BadInput) (feed feed' report report' out out' : Option (List ℕ)) (untouched : Type 0) : Type 0 where
   pub lost : feed' ≡ feed
   pub reported : AppendsPart report report' (whole_line bad.line)
@@ -135,6 +135,6 @@ abbrev pub status_in : Result Status Stop → Status
 status_in (Ok status) = status
 status_in (Err stop) = stop_status stop
 
--- a port that is used failed
+-- a fault was counted of a port that is used
 abbrev pub UsedRose : Bool → ℕ → ℕ → Type 0
 UsedRose used before now = IsTrue used × Rose before now

@@ -37,19 +37,19 @@ pub record IsNodeOf (H : List ℕ → Digest) (limits : Limits) (text : List ℕ
   pub limits_are : node.rules.limits ≡ limits
   pub is : IsNode node
 
--- the text has more bytes
+-- the text has more bytes than may be read
 pub record IsLong (limits : Limits) (text : List ℕ) (bad : BadInput) : Type 0 where
   pub long : limits.bytes < length text
   pub is : bad ≡ record { status = Status.InputLimit; line = Line.LimitPrior limits.bytes }
 
--- it is that of a version that is not read
+-- the text is that of a version that is not read
 pub record IsOther (limits : Limits) (text : List ℕ) (bad : BadInput) : Type 0 where
   pub short : length text ≤ limits.bytes
   pub version : ℕ
   pub other : IsOfVersion version text
   pub is : bad ≡ record { status = Status.Prior; line = Line.PriorVersion version }
 
--- it is that of no state of any version
+-- the text is that of no state of any version
 pub record IsNone (H : List ℕ → Digest) (limits : Limits) (text : List ℕ) (bad : BadInput) : Type 0 where
   pub short : length text ≤ limits.bytes
   pub none : (s : StateValue) → IsState H limits.leaves s → IsTextOf s text → ⊥
@@ -74,14 +74,14 @@ pub record IsUsable (H : List ℕ → Digest) (limits : Limits) (prior : List �
   pub text : IsTextOf state prior
   pub short : length prior ≤ limits.bytes
 
--- and the feed, of the state's network, has no bad frame and no more bytes than may be read
+-- the prior bytes can be used, and the feed, of the state's network, has no bad frame and no byte too many
 pub record IsGoodBehind (H : List ℕ → Digest) (limits : Limits) (prior feed : List ℕ) : Type 0 where
   pub usable : IsUsable H limits prior
   pub whole : (events_of usable.state.net limits.bytes feed).ending ≡ None
 
 -- ---- what is answered
 
--- by the node, or the one line that says why there is none
+-- what is answered by the node that was read, or the one line that says why there is none
 abbrev pub start_answer : (List ℕ → Digest) → Start → List ℕ → Answer
 start_answer H (Ok node) feed = follow_answer H node feed
 start_answer H (Err bad) feed = said bad.status bad.line

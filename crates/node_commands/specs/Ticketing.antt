@@ -31,7 +31,7 @@ TicketIsRight H limits number prior (Ok node) =
     (level : Level) (k : Ticket) → IsStateAt H limits prior level → ticket_of node.newest number ≡ Some k → TicketRight H level.history level.tip k
 TicketIsRight H limits number prior (Err bad) = (level : Level) → IsStateAt H limits prior level → ⊥
 
--- it reads no feed, but digests what it reads of the state
+-- What `ticket` means. It reads no feed, but digests what it reads of the state.
 abbrev pub ticketing : (List ℕ → Digest) → Limits → (number : ℕ) → Meaning
 ticketing H limits number = record {
   uses = record { feed = false; prior = true; watch = false; out = true; steps = true };

@@ -33,7 +33,7 @@ abbrev pub StatesAreUpgraded : Type 0
 StatesAreUpgraded = (H : List ℕ → Digest) (limits : Limits) (prior : List ℕ) (begun : Start) → limits.leaves < 2 ^ 40 → IsStart H limits prior begun
     → UpgradesState H limits prior begun
 
--- it reads no feed, but digests what it reads of the state
+-- What `upgrade state` means. It reads no feed, but digests what it reads of the state.
 abbrev pub upgrading_state : (List ℕ → Digest) → Limits → Meaning
 upgrading_state H limits = record {
   uses = record { feed = false; prior = true; watch = false; out = true; steps = true };

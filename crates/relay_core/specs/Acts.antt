@@ -5,6 +5,7 @@ use Rattle.node_rules.specs.Fitting.{IsShort}
 use Rattle.relay_core.specs.declared.act.Act.{Act}
 use Rattle.relay_core.specs.declared.act.Act.TheVariants.{Bridge, Ask, Serve, Deliver}
 
+-- an act in a world of one bridge and many followers
 pub data WorldAct : Type 0 where
   -- the bridge handles an event
   BridgeTook : FeedEvent → WorldAct

@@ -41,14 +41,16 @@ abbrev pub proved_after : Rules → List (List ℕ) → State
 proved_after rules [] = start
 proved_after rules (block ∷ older) = (step rules own_judge (proved_after rules older) (BlockCame (block_in block) nothing)).state
 
+-- the newest level of that node
 abbrev pub level_after_all : Rules → List (List ℕ) → Level
 level_after_all rules blocks = (proved_after rules blocks).now
 
--- the hash of the newest block
+-- the hash of a block, or 32 zero bytes where there is none
 abbrev pub hash_in : Option Block → Digest
 hash_in None = no_tip
 hash_in (Some b) = block_hash_of b
 
+-- the hash of the newest block of a branch
 abbrev pub tip_of : List (List ℕ) → Digest
 tip_of [] = no_tip
 tip_of (block ∷ older) = hash_in (block_in block)
@@ -68,9 +70,11 @@ pub record Begun : Type 0 where
   pub limits : Limits
   pub lists : List (List (List ℕ))
 
+-- what the nodes of a world are told when they begin
 abbrev pub rules_of : Begun → Rules
 rules_of begun = record { net = begun.net; limits = begun.limits }
 
+-- the world at its start
 abbrev pub begun_world : Begun → WorldState
 begun_world begun = fresh_world begun.net begun.limits begun.lists
 

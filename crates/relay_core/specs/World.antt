@@ -38,10 +38,11 @@ pub record WorldState : Type 0 where
   pub replies : List Reply
   pub followers : List FollowerState
 
--- no block: one follower for each watch list
+-- a follower with no block, that watches these scripts
 abbrev pub fresh_follower : Net → Limits → List (List ℕ) → FollowerState
 fresh_follower net limits scripts = record { node = fresh_node net limits scripts; serials = 0 ∷ [] }
 
+-- a world with no block, and one follower for each watch list
 abbrev pub fresh_world : Net → Limits → List (List (List ℕ)) → WorldState
 fresh_world net limits lists = record {
   bridge = fresh_bridge net limits None;
@@ -67,6 +68,7 @@ chain_after (RolledBack count height hash leaves) serial chain = drop count chai
 chain_after (TooDeep asked kept) serial chain = chain
 chain_after Stray serial chain = chain
 
+-- whether a block was accepted
 abbrev pub is_accepted : Verdict → Bool
 is_accepted (Accepted height hash leaves) = true
 is_accepted (Refused height hash why) = false
@@ -80,9 +82,11 @@ sent_of (BlockCame block beside) message = record { block = block; message = mes
 sent_of (RollbackCame count) message = []
 sent_of StrayCame message = []
 
+-- the blocks that were sent, with that of an event if it is accepted
 abbrev pub sent_after : Verdict → FeedEvent → Option (List ℕ) → List Sent → List Sent
 sent_after v event message sent = sent ++ (if is_accepted v then sent_of event message else [])
 
+-- the world once the bridge has handled an event
 abbrev pub with_event : (List ℕ → Digest) → WorldState → FeedEvent → WorldState
 with_event H w event =
     let e = event_in event in
@@ -95,16 +99,19 @@ with_event H w event =
 
 -- ---- a follower asks
 
+-- the world with the ask of a follower, if there is such a follower
 abbrev pub with_ask : WorldState → Option FollowerState → WorldState
 with_ask w None = w
 with_ask w (Some x) = record w { asks = w.asks ++ x.serials ∷ [] }
 
+-- the number of that ask, or that there is no such follower
 abbrev pub asked : WorldState → Option FollowerState → Outcome
 asked w None = Unknown
 asked w (Some x) = Asked (length w.asks)
 
 -- ---- the bridge answers an ask
 
+-- whether a serial is on a chain
 abbrev pub is_on : List ℕ → ℕ → Bool
 is_on [] s = false
 is_on (x ∷ chain) s = (x == s) || is_on chain s
@@ -120,6 +127,7 @@ after_on [] s = None
 after_on (x ∷ []) s = None
 after_on (x ∷ y ∷ older) s = if y == s then Some x else after_on (y ∷ older) s
 
+-- the block that comes next, or that there is none yet
 abbrev pub next_or_same : Option ℕ → Kind
 next_or_same None = Same
 next_or_same (Some serial) = Next serial
@@ -130,13 +138,16 @@ kind_by chain first None = Lost
 kind_by chain first (Some zero) = next_or_same (after_on chain first)
 kind_by chain first (Some (suc k)) = Back (suc k)
 
+-- what the bridge replies, by its chain, to one who asked with these serials
 abbrev pub reply_to : List ℕ → List ℕ → Reply
 reply_to chain serials = record { first = newest_of serials; kind = kind_by chain (newest_of serials) (met_at chain serials) }
 
+-- the world with the reply to an ask, if there is such an ask
 abbrev pub with_reply : WorldState → Option (List ℕ) → WorldState
 with_reply w None = w
 with_reply w (Some serials) = record w { replies = w.replies ++ reply_to w.chain serials ∷ [] }
 
+-- the number of that reply and what it says, or that there is no such ask
 abbrev pub replied : WorldState → Option (List ℕ) → Outcome
 replied w None = Unknown
 replied w (Some serials) = Replied (length w.replies) (reply_to w.chain serials).kind
@@ -150,6 +161,7 @@ can_do Same kept = false
 can_do (Back count) kept = nat_le count kept
 can_do Lost kept = false
 
+-- whether a reply moves a follower: its newest serial is that of the one who asked, and it can do what is said
 abbrev pub applies : Reply → FollowerState → Bool
 applies r x = (newest_of x.serials == r.first) && can_do r.kind (length x.node.older)
 
@@ -158,6 +170,7 @@ abbrev pub sent_at : List Sent → ℕ → Option Sent
 sent_at sent zero = None
 sent_at sent (suc i) = slice_get sent i
 
+-- a block that was sent, as an event of a node
 abbrev pub block_event : Option Sent → FeedEvent
 block_event None = StrayCame
 block_event (Some x) = BlockCame x.block x.message
@@ -176,18 +189,22 @@ serials_after Same serials = serials
 serials_after (Back count) serials = drop count serials
 serials_after Lost serials = serials
 
+-- a follower once it has done what a reply says
 abbrev pub moved : (List ℕ → Digest) → List Sent → Kind → FollowerState → FollowerState
 moved H sent kind x = record { node = next_node H x.node (event_in (event_for sent kind)); serials = serials_after kind x.serials }
 
+-- the followers once one of them got a reply: it has moved, if the reply applies to it
 abbrev pub followers_after : (List ℕ → Digest) → List Sent → List FollowerState → ℕ → Option FollowerState → Option Reply
     → List FollowerState
 followers_after H sent followers f None r = followers
 followers_after H sent followers f (Some x) None = followers
 followers_after H sent followers f (Some x) (Some r) = if applies r x then slice_set followers f (moved H sent r.kind x) else followers
 
+-- the world once a follower got a reply
 abbrev pub with_moved : (List ℕ → Digest) → WorldState → ℕ → Option FollowerState → Option Reply → WorldState
 with_moved H w f x r = record w { followers = followers_after H w.sent w.followers f x r }
 
+-- what comes of that: the follower's newest serial then, or that the reply does not apply, or that one of the two is not there
 abbrev pub delivered : Option FollowerState → Option Reply → Outcome
 delivered None r = Unknown
 delivered (Some x) None = Unknown
@@ -195,12 +212,14 @@ delivered (Some x) (Some r) = if applies r x then Moved (newest_of (serials_afte
 
 -- ---- an act
 
+-- the world behind an act
 abbrev pub next_world : (List ℕ → Digest) → WorldState → WorldAct → WorldState
 next_world H w (BridgeTook event) = with_event H w event
 next_world H w (FollowerAsked f) = with_ask w (slice_get w.followers f)
 next_world H w (AskServed j) = with_reply w (slice_get w.asks j)
 next_world H w (ReplyDelivered f j) = with_moved H w f (slice_get w.followers f) (slice_get w.replies j)
 
+-- what comes of an act in a world
 abbrev pub outcome_on : WorldState → WorldAct → Outcome
 outcome_on w (BridgeTook event) = Judged (verdict_on w.bridge (event_in event))
 outcome_on w (FollowerAsked f) = asked w (slice_get w.followers f)
@@ -209,10 +228,12 @@ outcome_on w (ReplyDelivered f j) = delivered (slice_get w.followers f) (slice_g
 
 -- ---- a list of acts
 
+-- the world behind these acts
 abbrev pub world_after : (List ℕ → Digest) → WorldState → List WorldAct → WorldState
 world_after H w [] = w
 world_after H w (act ∷ acts) = world_after H (next_world H w act) acts
 
+-- what comes of each of these acts
 abbrev pub outcomes_on : (List ℕ → Digest) → WorldState → List WorldAct → List Outcome
 outcomes_on H w [] = []
 outcomes_on H w (act ∷ acts) = outcome_on w act ∷ outcomes_on H (next_world H w act) acts

@@ -38,18 +38,22 @@ abbrev pub fault_said : TicketFault → Checked
 fault_said Fault.NotATicket = Said.Form
 fault_said (Fault.Version v) = Said.Version v
 
+-- what is said of the ticket that was read, or why none was
 abbrev pub said_of : (Ticket → Checked) → Result Ticket TicketFault → Checked
 said_of say (Err f) = fault_said f
 said_of say (Ok k) = say k
 
 -- ---- by a node, over its newest level
 
+-- what the newest roots of a node say of a ticket
 abbrev pub verdict_over : (List ℕ → Digest) → NodeState → Ticket → TicketVerdict
 verdict_over H s k = ticket_verdict H (view_of s.newest.roots) s.newest.chain.tip k
 
+-- what a node says of a ticket: where it is live, with the output
 abbrev pub checked_by : (List ℕ → Digest) → NodeState → Ticket → Checked
 checked_by H s k = said_by (verdict_over H s k) (live_of k)
 
+-- what a node says of a text that may be a ticket
 abbrev pub check_of : (List ℕ → Digest) → NodeState → List ℕ → Checked
 check_of H s text = said_of (checked_by H s) (ticket_in text)
 
@@ -59,13 +63,16 @@ check_of H s text = said_of (checked_by H s) (ticket_in text)
 abbrev pub view_in : (List ℕ → Digest) → BridgeState → View
 view_in H s = record { n = length s.entries; roots = root H s.entries; known = nothing_known }
 
+-- that the output is live, unless two texts are found
 abbrev pub unless_clash : Option TextClash → Ticket → Checked
 unless_clash None k = live_of k
 unless_clash (Some c) k = Said.Clash c
 
+-- what an auditor says of a ticket: of one that the roots accept and that is not right it shows two texts
 abbrev pub rechecked_by : (List ℕ → Digest) → BridgeState → Ticket → Checked
 rechecked_by H s k = said_by (ticket_verdict H (view_in H s) s.chain.tip k) (unless_clash (ticket_clash_in H (history_of s) k) k)
 
+-- what an auditor says of a text that may be a ticket
 abbrev pub recheck_of : (List ℕ → Digest) → BridgeState → List ℕ → Checked
 recheck_of H s text = said_of (rechecked_by H s) (ticket_in text)
 
@@ -85,6 +92,7 @@ recheck_over H us tip text = said_of (rechecked_over H us tip) (ticket_in text)
 
 -- ---- what that means
 
+-- the newest roots of a node accept a ticket
 abbrev pub AcceptsOver : (List ℕ → Digest) → NodeState → Ticket → Type 0
 AcceptsOver H s k = TicketAccepts H s.newest.roots.leaves (root_in s.newest.roots) s.newest.chain.tip k
 

@@ -40,9 +40,11 @@ pub record TicketRight (H : List ℕ → Digest) (us : History) (tip : Digest) (
 
 -- ---- what is said: a ticket is a message in full with one spend
 
+-- a ticket as a message
 abbrev pub message_of : Ticket → Message
 message_of k = sent false (record { spends = record { target = k.target; rest = k.leaf.rest } ∷ []; hashes = k.hashes })
 
+-- the outpoint of its output
 abbrev pub points : Ticket → List Outpoint
 points k = k.leaf.point ∷ []
 
@@ -54,10 +56,12 @@ view_of f = record { n = f.leaves; roots = root_in f; known = nothing_known }
 abbrev pub ticket_fault : (List ℕ → Digest) → View → Ticket → Option ProofRefusal
 ticket_fault H v k = proof_fault H v (points k) (message_of k)
 
+-- live, if its proof is not refused
 abbrev pub unless_refused : Option ProofRefusal → TicketVerdict
 unless_refused None = Said.Live
 unless_refused (Some why) = Said.Refused why
 
+-- what is said of a ticket by one who has these roots behind this block
 abbrev pub ticket_verdict : (List ℕ → Digest) → View → Digest → Ticket → TicketVerdict
 ticket_verdict H v tip k = if is_same k.tip tip then unless_refused (ticket_fault H v k) else Said.Tip
 

@@ -14,6 +14,7 @@ use Rattle.ticket_check.specs.declared.fault.TicketFault.TheVariants.{NotATicket
 abbrev pub front_text : Digest → ℕ → List ℕ
 front_text tip target = 85 ∷ 84 ∷ 88 ∷ 84 ∷ 1 ∷ tip.0 ++ to_le_bytes w64 target
 
+-- what follows the version: the block, where the leaf stands, the output, and the hashes
 unfoldable pub body_at : List ℕ → Option (Ticket × List ℕ)
 body_at bytes = do
   tip ← digest_in_front bytes
@@ -41,6 +42,7 @@ ended_read None = Err NotATicket
 ended_read (Some (k, [])) = Ok k
 ended_read (Some (k, x ∷ left)) = Err NotATicket
 
+-- the ticket that this body is, where its version is 1
 abbrev pub of_version : ℕ → List ℕ → Result Ticket TicketFault
 of_version v body = if v == 1 then ended_read (body_at body) else Err (Version v)
 
