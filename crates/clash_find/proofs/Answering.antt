@@ -42,7 +42,7 @@ use Rattle.node_rules.specs.Right.{is_digest}
 use Rattle.node_rules.proofs.Same.{bytes_eq-same, bytes_eq-true, is_same-same, is_same-true}
 use Rattle.node_rules.proofs.Serving.{AreSame, same_value, same_cover, hash_of_all}
 use Rattle.clash_find.specs.Clashes.{TextClash}
-use Rattle.clash_find.specs.Texts.{tree_text, text_at, claim_text, preimage_text, AreDigests, IsWithin}
+use Rattle.clash_find.specs.Texts.{tree_text, node_text_at, claim_text, preimage_text, AreDigests, IsWithin}
 use Rattle.clash_find.specs.Found.{digest_of_cover, text_of_cover, node_text as node_text_in, text_in, differing}
 use Rattle.clash_find.specs.Searched.{digests_of, DoRootsAgree, IsClashAt, IsCompared, AreCompared}
 use Rattle.clash_find.proofs.Agreement.{value_of, node_text, cover_text, HasDigests, AgreeAt, found, right_agrees}
@@ -199,11 +199,11 @@ module _ (H : List ℕ → Digest) (long : (x : List ℕ) → IsDigest (H x)) (u
       ap (option_map leaf_text) (held i w.rec w.live) ∙ ap Some (sym w.shown)
   tree_shown r o (inner a b) s = refl
 
-  pub node_shown : (r o : ℕ) (t : Tree) → tree_at es r o ≡ Some t → text_at H es outputs r o ≡ Some (node_text_of t)
+  pub node_shown : (r o : ℕ) (t : Tree) → tree_at es r o ≡ Some t → node_text_at H es outputs r o ≡ Some (node_text_of t)
   node_shown r o t s = ap (option_and_then (tree_text H outputs)) s ∙ tree_shown r o t s
 
   -- which is that of the history's node
-  text_there : (r o : ℕ) → text_in H us r o ≡ text_at H es outputs r o
+  text_there : (r o : ℕ) → text_in H us r o ≡ node_text_at H es outputs r o
   text_there r o = by (tree_at es r o) refl
     where
       same : (t : Tree) → node_text_in H us t ≡ node_text_of t

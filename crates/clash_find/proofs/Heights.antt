@@ -11,7 +11,7 @@ use Rattle.forest_model.specs.Standing.{half, climb, tree_at}
 use Rattle.forest_model.proofs.Climbs.{tree_at-left, tree_at-right}
 use Rattle.live_forest.specs.State.{leaf_number}
 use Rattle.output_index.specs.Held.{Held}
-use Rattle.clash_find.specs.Texts.{tree_text, text_at, pair_text, halves_at}
+use Rattle.clash_find.specs.Texts.{tree_text, node_text_at, pair_text, halves_at}
 
 -- the tree is at most so high
 abbrev IsLow : ℕ → Tree → Type 0
@@ -77,7 +77,7 @@ module _ (H : List ℕ → Digest) (outputs : List Held) where
 
   -- where no leaf stands, the text is that of what stands at the children
   pub halves_are : (es : List (Option Digest)) (row off : ℕ) → InForest (length es) row off → leaf_number (tree_at es row off) ≡ None
-      → halves_at H es row off ≡ text_at H es outputs row off
+      → halves_at H es row off ≡ node_text_at H es outputs row off
   halves_are es zero off h e = sym (no_leaf_low (tree_at es zero off) (low_tree es zero off) e)
   halves_are es (suc row) off h e =
       ap₂ pair_text (ap (option_map (digest_of H)) (tree_at-left es row off h)) (ap (option_map (digest_of H)) (tree_at-right es row off h))
@@ -90,5 +90,5 @@ module _ (H : List ℕ → Digest) (outputs : List Held) where
   leaf_text_is (Some (inner l r)) i e = absurd (none-some i e)
 
   pub leaf_is : (es : List (Option Digest)) (row off i : ℕ) → leaf_number (tree_at es row off) ≡ Some i
-      → tree_text H outputs (leaf i (H [])) ≡ text_at H es outputs row off
+      → tree_text H outputs (leaf i (H [])) ≡ node_text_at H es outputs row off
   leaf_is es row off i e = sym (leaf_text_is (tree_at es row off) i e)

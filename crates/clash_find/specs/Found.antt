@@ -27,16 +27,16 @@ differing x y d = if bytes_eq x y then None else Some (record { first = x; secon
 -- ---- in a proof of targets, with these leaves and hashes, where some digests may be known
 
 -- the leaf text that is claimed at a target
-abbrev pub text_beside : List Place → List Leaf → ℕ → ℕ → List ℕ
-text_beside ts rs = beside [] ts (map leaf_text rs)
+abbrev pub claimed_text_at : List Place → List Leaf → ℕ → ℕ → List ℕ
+claimed_text_at ts rs = beside [] ts (map leaf_text rs)
 
 -- what it comes to for a cover
 abbrev pub digest_of_cover : (List ℕ → Digest) → ℕ → List Place → List Leaf → (ℕ → ℕ → Option Digest) → List Digest → Cover → Digest
-digest_of_cover H n ts rs known hs c = value H (λ r o. H (text_beside ts rs r o)) (hash_of H n ts known hs) c
+digest_of_cover H n ts rs known hs c = value H (λ r o. H (claimed_text_at ts rs r o)) (hash_of H n ts known hs) c
 
 -- the text that has this digest
 abbrev pub text_of_cover : (List ℕ → Digest) → ℕ → List Place → List Leaf → (ℕ → ℕ → Option Digest) → List Digest → Cover → List ℕ
-text_of_cover H n ts rs known hs (target row off) = text_beside ts rs row off
+text_of_cover H n ts rs known hs (target row off) = claimed_text_at ts rs row off
 text_of_cover H n ts rs known hs (given row off) = []
 text_of_cover H n ts rs known hs (both l r) = (digest_of_cover H n ts rs known hs l).0 ++ (digest_of_cover H n ts rs known hs r).0
 

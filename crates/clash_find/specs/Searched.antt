@@ -10,7 +10,7 @@ use Rattle.proof_verify.specs.Evaluation.{AreEvaluatedAt}
 use Rattle.proof_verify.specs.declared.evaluation.CoveredPlace.{CoveredPlace}
 use Rattle.output_index.specs.Held.{Held}
 use Rattle.clash_find.specs.Clashes.{TextClash}
-use Rattle.clash_find.specs.Texts.{text_at, preimage_text, AreDigests}
+use Rattle.clash_find.specs.Texts.{node_text_at, preimage_text, AreDigests}
 
 -- the digests of the leaf texts
 abbrev pub digests_of : (List ℕ → Digest) → List Leaf → List Digest
@@ -29,7 +29,7 @@ DoRootsAgree H es items false = (i : ℕ) × (d : CoveredPlace) × (i < length i
 pub record IsClashAt (H : List ℕ → Digest) (es : List (Option Digest)) (outputs : List Held) (rs : List Leaf) (item : CoveredPlace)
     (c : TextClash) : Type 0 where
   pub same : digest_at H es item.place.row item.place.off ≡ Some item.digest
-  pub first : text_at H es outputs item.place.row item.place.off ≡ Some c.first
+  pub first : node_text_at H es outputs item.place.row item.place.off ≡ Some c.first
   pub second : c.second ≡ preimage_text rs item.preimage
   pub differ : c.first ≢ c.second
   pub digest : c.digest ≡ item.digest
@@ -38,7 +38,7 @@ pub record IsClashAt (H : List ℕ → Digest) (es : List (Option Digest)) (outp
 abbrev pub IsCompared : (List ℕ → Digest) → List (Option Digest) → List Held → List Leaf → CoveredPlace → Option TextClash → Type 0
 IsCompared H es outputs rs item (Some c) = IsClashAt H es outputs rs item c
 IsCompared H es outputs rs item None =
-    digest_at H es item.place.row item.place.off ≡ Some item.digest → (x : List ℕ) → text_at H es outputs item.place.row item.place.off ≡ Some x
+    digest_at H es item.place.row item.place.off ≡ Some item.digest → (x : List ℕ) → node_text_at H es outputs item.place.row item.place.off ≡ Some x
     → (x ≡ preimage_text rs item.preimage) × AreDigests item.preimage
 
 -- at the first of the places, or at none of them

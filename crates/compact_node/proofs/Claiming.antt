@@ -32,7 +32,7 @@ use Rattle.node_rules.specs.Reading.{Handed, nothing, unread, read, handed_in}
 use Rattle.node_rules.specs.Judged.{IsFirst, IsMessageRead}
 use Rattle.node_rules.specs.Judging.{message_steps, view_step}
 use Rattle.node_rules.proofs.Faults.{passes}
-use Rattle.compact_node.specs.After.{without}
+use Rattle.compact_node.specs.After.{stump_without}
 use Rattle.compact_node.specs.Node.{places_spent, hashes_over, hashes_spent}
 use Rattle.node_rules.specs.Claimed.{view_by, IsFilledOut, IsProofRefused}
 use Rattle.node_rules.proofs.Claiming.{same_targets, read_count, read_leaves, read_passes, refused_first}
@@ -80,7 +80,7 @@ read_hashes H v ext m t leaves hashes c = c.filled.hashes_are H ∙ ap
 pub record IsTaken (H : List ℕ → Digest) (v : View) (f : Stump) (ext : List Outside) (handed : Handed) (g : Stump) : Type
     0 where
   pub passes : first_of (steps_over H v ext handed) ≡ None
-  pub roots : g ≡ without H f (places_spent f.leaves handed) (hashes_spent H v handed)
+  pub roots : g ≡ stump_without H f (places_spent f.leaves handed) (hashes_spent H v handed)
 
 module _ (H : List ℕ → Digest) (f : Stump) (hs : List (Place × Digest)) (ext : List Outside) (found : List FoundOutput)
     (t : Targeted) (leaves hashes : List Digest) where

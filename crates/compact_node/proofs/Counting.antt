@@ -13,7 +13,7 @@ use Rattle.block_rules.specs.declared.verdict.Verdict.{Verdict}
 use Rattle.node_rules.specs.Judging.{Rules}
 use Rattle.node_rules.specs.Laws.{kept_after}
 use Rattle.node_rules.specs.Machine.{ChainEvent, BlockCame, RollbackCame, StrayCame, event_in, verdict_by}
-use Rattle.compact_node.specs.Node.{NodeState, LevelState, IsNode, AreOlder, back_from, refusal_on, node_by, node_with, verdict_on, next_node}
+use Rattle.compact_node.specs.Node.{NodeState, LevelState, IsNode, AreOlder, back_from, node_refusal, node_by, node_with, node_verdict, next_node}
 use Rattle.compact_node.specs.Laws.{LevelsTold}
 use Rattle.compact_node.specs.Throughout.{verdicts_on, node_after, kept_by}
 
@@ -40,9 +40,9 @@ module _ (rules : Rules) (scripts : List (List ℕ)) where
 -- ---- one event, and all of a list
 
 module _ (H : List ℕ → Digest) where
-  pub next_kept : (s : NodeState) (e : ChainEvent) → length (next_node H s e).older ≡ kept_after (Some (verdict_on H s e)) (length s.older)
+  pub next_kept : (s : NodeState) (e : ChainEvent) → length (next_node H s e).older ≡ kept_after (Some (node_verdict H s e)) (length s.older)
   next_kept s (BlockCame None handed) = refl
-  next_kept s (BlockCame (Some b) handed) = by (refusal_on H s b handed)
+  next_kept s (BlockCame (Some b) handed) = by (node_refusal H s b handed)
     where
       by : (x : Option Refusal) →
           length (node_by x (node_with H s b handed) s).older
@@ -52,7 +52,7 @@ module _ (H : List ℕ → Digest) where
   next_kept s (RollbackCame k) = by_test (nat_le k (length s.older)) refl
     where
       by_test : (t : Bool) → nat_le k (length s.older) ≡ t
-          → length (next_node H s (RollbackCame k)).older ≡ kept_after (Some (verdict_on H s (RollbackCame k))) (length s.older)
+          → length (next_node H s (RollbackCame k)).older ≡ kept_after (Some (node_verdict H s (RollbackCame k))) (length s.older)
       by_test true e = rw e (back-kept s.rules s.scripts k s.newest s.older (leb-true k (length s.older) e))
       by_test false e = rw e refl
   next_kept s StrayCame = refl
@@ -62,9 +62,9 @@ module _ (H : List ℕ → Digest) where
   kept_throughout s [] = refl
   kept_throughout s (e ∷ es) = kept_throughout (next_node H s e) es ∙ ap (kept_by (verdicts_on H (next_node H s e) es)) (next_kept s e)
 
-  pub levels_told : (s : NodeState) (e : ChainEvent) → IsNode s → LevelsTold s (verdict_on H s e) (next_node H s e)
+  pub levels_told : (s : NodeState) (e : ChainEvent) → IsNode s → LevelsTold s (node_verdict H s e) (next_node H s e)
   levels_told s (BlockCame None handed) is = (refl, refl)
-  levels_told s (BlockCame (Some b) handed) is = by (refusal_on H s b handed)
+  levels_told s (BlockCame (Some b) handed) is = by (node_refusal H s b handed)
     where
       by : (x : Option Refusal) → LevelsTold s (verdict_by s.newest.chain b (length (new_records b s.newest.chain.blocks)) x)
           (node_by x (node_with H s b handed) s)
@@ -72,7 +72,7 @@ module _ (H : List ℕ → Digest) where
       by (Some why) = (refl, refl)
   levels_told s (RollbackCame k) is = by_test (nat_le k (length s.older)) refl
     where
-      by_test : (t : Bool) → nat_le k (length s.older) ≡ t → LevelsTold s (verdict_on H s (RollbackCame k)) (next_node H s (RollbackCame k))
+      by_test : (t : Bool) → nat_le k (length s.older) ≡ t → LevelsTold s (node_verdict H s (RollbackCame k)) (next_node H s (RollbackCame k))
       by_test true e =
           let few = leb-true k (length s.older) e in
           rw e (
@@ -89,7 +89,7 @@ module _ (H : List ℕ → Digest) where
 -- what holds of the verdict on each event and of what is kept then holds of what a step answers and leaves. The equation only names the event
 pub stepped : {E : Type 0} (H : List ℕ → Digest) (P : Verdict → NodeState → Type 0) (s s' : NodeState) (event : Event)
     (e : ChainEvent) (result : Result Verdict E) → event_in (event_of event) ≡ e →
-    ((x : ChainEvent) → P (verdict_on H s x) (next_node H s x)) → IfOk result (λ v. v ≡ verdict_on H s e)
+    ((x : ChainEvent) → P (node_verdict H s x) (next_node H s x)) → IfOk result (λ v. v ≡ node_verdict H s e)
     → OnOk result (s' ≡ next_node H s e) → IfOk result (λ v. P v s')
-stepped H P s s' event e (Ok v) same p said next = subst (λ x. P x s') (sym said) (subst (P (verdict_on H s e)) (sym next) (p e))
+stepped H P s s' event e (Ok v) same p said next = subst (λ x. P x s') (sym said) (subst (P (node_verdict H s e)) (sym next) (p e))
 stepped H P s s' event e (Err fault) same p said next = tt

@@ -31,8 +31,8 @@ use Rattle.block_rules.proofs.Passed.{room_passed}
 use Rattle.node_rules.specs.Reading.{Handed}
 use Rattle.node_rules.specs.Judging.{Rules, Evidence, compact, refusal}
 use Rattle.node_rules.specs.Machine.{ChainEvent, BlockCame, RollbackCame, StrayCame}
-use Rattle.compact_node.specs.After.{without, held_without, changes_of, with_leaf, with_leaves, kept_with, held_with, kept_with_all, held_with_all}
-use Rattle.compact_node.specs.Node.{NodeState, IsNode, LevelState, IsLevel, AreOlder, back_from, gone_back, level_with, view_over, refusal_on}
+use Rattle.compact_node.specs.After.{stump_without, held_without, changes_of, with_leaf, with_leaves, kept_with, held_with, kept_with_all, held_with_all}
+use Rattle.compact_node.specs.Node.{NodeState, IsNode, LevelState, IsLevel, AreOlder, back_from, node_gone_back, level_with, view_over, node_refusal}
 use Rattle.compact_node.specs.Node.{places_spent, hashes_spent, roots_spent, kept_spent, held_spent, roots_after, node_with, node_by, next_node}
 use Rattle.forest_roots.proofs.Additions.{with_leaf-leaves, with_leaf-adds, with_leaf-stump, with_leaves-leaves, with_leaves-stump}
 use Rattle.compact_node.proofs.Changes.{within_all}
@@ -49,13 +49,13 @@ spent-stump H l handed s = without-stump H l.roots (places_spent l.roots.leaves 
 -- whatever was spent, the lists are those of the roots
 without_of_roots : (H : List ℕ → Digest) (f : Stump) (ts : List Place) (hashes : List Digest) (ks : List Kept) (hs : List (Place × Digest))
     → IsStump f → AreOfRoots f ks hs →
-    AreOfRoots (without H f ts hashes) (moved_leaves f.leaves ts ks) (held_without H f.leaves ts hashes ks hs)
+    AreOfRoots (stump_without H f ts hashes) (moved_leaves f.leaves ts ks) (held_without H f.leaves ts hashes ks hs)
 without_of_roots H f ts hashes ks hs s a =
-    let after : AreRootsAfter H f ts hashes (without H f ts hashes) =
+    let after : AreRootsAfter H f ts hashes (stump_without H f ts hashes) =
     record { leaves = without-leaves H f ts hashes; roots = λ row slot. without-slot H f ts hashes s row slot } in
-    subst (λ pairs. AreOfRoots (without H f ts hashes) (moved_leaves f.leaves ts ks)
+    subst (λ pairs. AreOfRoots (stump_without H f ts hashes) (moved_leaves f.leaves ts ks)
     (held_deleted f.leaves ts pairs (leaf_places (moved_leaves f.leaves ts ks)) hs)) (within_all H f.leaves ts hashes)
-    (deleted_of_roots H f (without H f ts hashes) ts hashes after (changes_of H f.leaves ts hashes) ks hs a)
+    (deleted_of_roots H f (stump_without H f ts hashes) ts hashes after (changes_of H f.leaves ts hashes) ks hs a)
 
 -- ---- and with what is added
 
@@ -99,7 +99,7 @@ older-taken rules (suc k) chain [] are = tt
 older-taken rules (suc k) chain (l ∷ ls) are = (are.0, are.1, are.2, older-taken rules k l.chain ls are.3)
 
 -- a node that went back is one
-pub back_is_node : (k : ℕ) (s : NodeState) → IsNode s → IsNode (gone_back k s)
+pub back_is_node : (k : ℕ) (s : NodeState) → IsNode s → IsNode (node_gone_back k s)
 back_is_node k s is = from k s.newest s.older is
   where
     from : (k : ℕ) (l : LevelState) (ls : List LevelState) → IsNode (record { rules = s.rules; scripts = s.scripts; newest = l; older = ls })
@@ -116,11 +116,11 @@ back_is_node k s is = from k s.newest s.older is
     })
 
 -- one step more
-pub back-more : (k : ℕ) (s : NodeState) → gone_back 1 (gone_back k s) ≡ gone_back (k + 1) s
+pub back-more : (k : ℕ) (s : NodeState) → node_gone_back 1 (node_gone_back k s) ≡ node_gone_back (k + 1) s
 back-more k s = from k s.newest s.older ∙ ap (λ n. back_from s.rules s.scripts n s.newest s.older) (let e : suc k ≡ k + 1 = omega arith in e)
   where
     from : (k : ℕ) (l : LevelState) (ls : List LevelState)
-        → gone_back 1 (back_from s.rules s.scripts k l ls) ≡ back_from s.rules s.scripts (suc k) l ls
+        → node_gone_back 1 (back_from s.rules s.scripts k l ls) ≡ back_from s.rules s.scripts (suc k) l ls
     from zero l [] = refl
     from zero l (m ∷ ls) = refl
     from (suc k) l [] = refl
@@ -129,7 +129,7 @@ back-more k s = from k s.newest s.older ∙ ap (λ n. back_from s.rules s.script
 -- ---- a block
 
 module _ (H : List ℕ → Digest) (s : NodeState) (is : IsNode s) (b : Block) (handed : Handed)
-    (passes : refusal_on H s b handed ≡ None) where
+    (passes : node_refusal H s b handed ≡ None) where
   abbrev new : List Leaf
   new = new_records b s.newest.chain.blocks
 
@@ -174,9 +174,9 @@ module _ (H : List ℕ → Digest) (s : NodeState) (is : IsNode s) (b : Block) (
 -- a node stays one
 pub next_is_node : (H : List ℕ → Digest) (s : NodeState) (e : ChainEvent) → IsNode s → IsNode (next_node H s e)
 next_is_node H s (BlockCame None handed) is = is
-next_is_node H s (BlockCame (Some b) handed) is = by_case (refusal_on H s b handed) refl
+next_is_node H s (BlockCame (Some b) handed) is = by_case (node_refusal H s b handed) refl
   where
-    by_case : (x : Option Refusal) → refusal_on H s b handed ≡ x → IsNode (node_by x (node_with H s b handed) s)
+    by_case : (x : Option Refusal) → node_refusal H s b handed ≡ x → IsNode (node_by x (node_with H s b handed) s)
     by_case None h = node-with H s is b handed h
     by_case (Some why) h = is
 next_is_node H s (RollbackCame k) is = ⊎_elim (λ t. rw t (back_is_node k s is)) (λ t. rw t is) (cases_Bool (nat_le k (length s.older)))

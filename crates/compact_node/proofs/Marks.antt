@@ -11,7 +11,7 @@ use Rattle.cache_update.specs.Marks.{Fits, kept_back, held_back}
 use Rattle.cache_update.proofs.Chained.{fits_more}
 use Rattle.block_rules.specs.declared.chain.Chain.{Chain}
 use Rattle.node_rules.specs.Judging.{Rules}
-use Rattle.compact_node.specs.Node.{LevelState, NodeState, IsNode, with_level, gone_back}
+use Rattle.compact_node.specs.Node.{LevelState, NodeState, IsNode, with_level, node_gone_back}
 use Rattle.compact_node.specs.Marked.{PastState, given_by, level_of, levels_behind, MarksFit, node_of, IsMarked}
 use Rattle.compact_node.proofs.Keeping.{back_is_node}
 
@@ -91,11 +91,11 @@ module _ (rules : Rules) (scripts : List (List ℕ)) (chain chain' : Chain) (roo
 module _ (rules : Rules) (scripts : List (List ℕ)) (chain : Chain) (roots : Stump) (p : Parted) (past : List PastState) where
   -- none is there
   pub popped_none : (rest : List PastState) (first : Option PastState) → first ≡ slice_get past 0 → rest ≡ drop 1 past → first ≡ None
-      → node_of rules scripts chain roots p rest ≡ gone_back 1 (node_of rules scripts chain roots p past)
+      → node_of rules scripts chain roots p rest ≡ node_gone_back 1 (node_of rules scripts chain roots p past)
   popped_none rest first got left none = by past got left
     where
       by : (past : List PastState) → first ≡ slice_get past 0 → rest ≡ drop 1 past
-          → node_of rules scripts chain roots p rest ≡ gone_back 1 (node_of rules scripts chain roots p past)
+          → node_of rules scripts chain roots p rest ≡ node_gone_back 1 (node_of rules scripts chain roots p past)
       by [] got left = ap (λ xs. node_of rules scripts chain roots p xs) left
       by (x ∷ xs) got left = absurd (none-some x (sym none ∙ got))
 
@@ -117,10 +117,10 @@ module _ (rules : Rules) (scripts : List (List ℕ)) (chain : Chain) (roots : St
   module _ (x : PastState) (rest : List PastState) (is : IsPopped x rest) (q : Parted) (kept : q.kept ≡ kept_back x.mark p.kept)
       (held : q.held ≡ held_back x.mark p.held) where
     pub popped_node : (scripts' : List (List ℕ)) → scripts' ≡ scripts
-        → node_of rules scripts' x.chain x.roots q rest ≡ gone_back 1 (node_of rules scripts chain roots p past)
+        → node_of rules scripts' x.chain x.roots q rest ≡ node_gone_back 1 (node_of rules scripts chain roots p past)
     popped_node scripts' watch =
         same_node rules scripts scripts' x.chain x.roots (given_by x.mark p) q rest watch (kept, held)
-        ∙ ap (λ xs. gone_back 1 (node_of rules scripts chain roots p xs)) (sym (popped x rest is))
+        ∙ ap (λ xs. node_gone_back 1 (node_of rules scripts chain roots p xs)) (sym (popped x rest is))
 
     pub popped_marked : (scripts' : List (List ℕ)) → scripts' ≡ scripts → p.kept_room ≤ q.kept_room → p.held_room ≤ q.held_room
         → IsMarked rules scripts chain roots p past → IsMarked rules scripts' x.chain x.roots q rest

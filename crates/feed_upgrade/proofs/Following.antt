@@ -17,7 +17,7 @@ use Rattle.feed_frame.proofs.FeedBytes.{IsMadeOfBytes, events_bytes}
 use Rattle.feed_frame.proofs.Rewritten.{read_again_all, rewritten}
 use Rattle.node_rules.specs.Machine.{event_in}
 use Rattle.node_rules.specs.Reading.{message_in}
-use Rattle.compact_node.specs.Node.{NodeState, IsNode, verdict_on, next_node}
+use Rattle.compact_node.specs.Node.{NodeState, IsNode, node_verdict, next_node}
 use Rattle.compact_node.specs.Throughout.{verdicts_on, node_after}
 use Rattle.compact_node.proofs.Keeping.{next_is_node}
 use Rattle.message_upgrade.specs.Upgrade.{upgraded, upgraded_event}
@@ -48,7 +48,7 @@ taken_alike H s b message is bytes =
 
 module _ (H : List ℕ → Digest) where
   event_said : (s : NodeState) (event : FeedEvent) → IsNode s → IsMadeOfBytes event
-      → verdict_on H s (event_in (upgraded_event s.newest.chain.leaves event)) ≡ verdict_on H s (event_in event)
+      → node_verdict H s (event_in (upgraded_event s.newest.chain.leaves event)) ≡ node_verdict H s (event_in event)
   event_said s (BlockCame block None) is bytes = refl
   event_said s (BlockCame block (Some message)) is bytes = let t = taken_alike H s (block_in block) message is bytes.1 in t.said
   event_said s (RollbackCame count) is bytes = refl

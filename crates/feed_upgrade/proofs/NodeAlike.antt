@@ -14,8 +14,8 @@ use Rattle.node_rules.specs.Accepting.{View}
 use Rattle.node_rules.specs.Reading.{Handed}
 use Rattle.node_rules.specs.Judging.{Evidence, compact, refusal}
 use Rattle.node_rules.specs.Machine.{BlockCame}
-use Rattle.compact_node.specs.After.{without, with_leaves, held_without, kept_with_all, held_with_all}
-use Rattle.compact_node.specs.Node.{LevelState, NodeState, view_over, verdict_on, next_node, refusal_on, places_spent, hashes_over, hashes_spent}
+use Rattle.compact_node.specs.After.{stump_without, with_leaves, held_without, kept_with_all, held_with_all}
+use Rattle.compact_node.specs.Node.{LevelState, NodeState, view_over, node_verdict, next_node, node_refusal, places_spent, hashes_over, hashes_spent}
 use Rattle.compact_node.specs.Node.{with_level, node_by, node_with}
 use Rattle.message_upgrade.proofs.Alike.{IsAlike, AreAlike, lifted, same_compact, same_verdict}
 
@@ -38,7 +38,7 @@ module _ (H : List ℕ → Digest) where
         let l = s.newest in
         let n = l.roots.leaves in
         let new = new_records b l.chain.blocks in
-        let f = without H l.roots ts hashes in
+        let f = stump_without H l.roots ts hashes in
         let level : LevelState = record {
           chain = record { blocks = suc l.chain.blocks; tip = block_hash_of b; leaves = l.chain.leaves + length new };
           roots = with_leaves H f (map (λ leaf. H (leaf_text leaf)) new);
@@ -61,10 +61,10 @@ module _ (H : List ℕ → Digest) where
         let v = view_over s.newest in
         ap (λ (x : Evidence). node_by (refusal s.rules s.newest.chain b x) (node_with H s b handed) s)
         (lifted v.n (compact H v ext) (same_compact H v ext) handed other alike)
-        ∙ ap (λ (x : NodeState). node_by (refusal_on H s b other) x s) (same_node handed other alike)
+        ∙ ap (λ (x : NodeState). node_by (node_refusal H s b other) x s) (same_node handed other alike)
 
   pub same_said : (s : NodeState) (b : Option Block) (handed other : Handed) → AreAlike s.newest.roots.leaves handed other
-      → verdict_on H s (BlockCame b handed) ≡ verdict_on H s (BlockCame b other)
+      → node_verdict H s (BlockCame b handed) ≡ node_verdict H s (BlockCame b other)
   same_said s None handed other alike = refl
   same_said s (Some b) handed other alike = same_verdict H s.rules s.newest.chain (view_over s.newest) b handed other alike
 

@@ -10,7 +10,7 @@ use Rattle.node_rules.specs.Machine as Chain
 use Rattle.node_rules.specs.Reading.{message_in}
 use Rattle.block_codec.specs.Block.{Block}
 use Rattle.std.specs.declared.option.Option.{Option}
-use Rattle.compact_node.specs.Node.{NodeState, IsNode, verdict_on, next_node}
+use Rattle.compact_node.specs.Node.{NodeState, IsNode, node_verdict, next_node}
 use Rattle.compact_node.specs.Throughout.{verdicts_on, node_after}
 use Rattle.message_upgrade.specs.Upgrade.{upgraded}
 use Rattle.feed_upgrade.specs.Upgraded.{upgraded_events}
@@ -18,8 +18,8 @@ use Rattle.feed_upgrade.specs.Upgraded.{upgraded_events}
 -- Of a block with a message and with that message upgraded a node says the same, with the details, and keeps the same then, also where the message is
 -- forged.
 pub record IsTakenAlike (H : List ℕ → Digest) (s : NodeState) (b : Option Block) (message : List ℕ) : Type 0 where
-  pub said : verdict_on H s (Chain.BlockCame b (message_in (upgraded s.newest.chain.leaves message)))
-      ≡ verdict_on H s (Chain.BlockCame b (message_in message))
+  pub said : node_verdict H s (Chain.BlockCame b (message_in (upgraded s.newest.chain.leaves message)))
+      ≡ node_verdict H s (Chain.BlockCame b (message_in message))
   pub kept : next_node H s (Chain.BlockCame b (message_in (upgraded s.newest.chain.leaves message)))
       ≡ next_node H s (Chain.BlockCame b (message_in message))
 

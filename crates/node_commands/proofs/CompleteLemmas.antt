@@ -42,7 +42,7 @@ use Rattle.node_commands.specs.Prover.{prove_answer, proving}
 use Rattle.ticket_check.specs.Written.{ticket_of}
 use Rattle.relay_script.specs.declared.line.ScriptLine.{ScriptLine}
 use Rattle.node_commands.specs.Relayer.{relay_answer}
-use Rattle.node_commands.specs.Relaying.{RelayStart, lists_for, script_of, relay_start, IsGoodRelay, relaying}
+use Rattle.node_commands.specs.Relaying.{RelayStart, lists_for, relay_script_of, relay_start, IsGoodRelay, relaying}
 use Rattle.node_commands.specs.Starting.{Start, IsNodeOf, IsStart, IsUsable, IsGoodBehind}
 use Rattle.node_commands.specs.Rechecking.{Rechecked, recheck_start, IsGoodBeside, rechecking}
 use Rattle.node_commands.specs.Ticketing.{ticketing}
@@ -200,7 +200,7 @@ module _ (H : List ℕ → Digest) (limits : Limits) (few : limits.leaves < 2 ^ 
       (sym is) (ordered limits net tip feed whole)
 
   relay-ends : (followers : ℕ) (net : Net) (scripted listed : Bool) (begun : Result RelayStart BadInput)
-      → begun ≡ relay_start followers (list_in listed limits.bytes watch) (script_of (prior_text scripted limits.bytes prior))
+      → begun ≡ relay_start followers (list_in listed limits.bytes watch) (relay_script_of (prior_text scripted limits.bytes prior))
       → IsGoodRelay scripted listed net limits feed prior watch
       → IsEnd (answer_by (relaying H limits followers net scripted listed) begun feed).status
   relay-ends followers net scripted listed begun is g =

@@ -44,11 +44,11 @@ use Rattle.report_lines.specs.Lines.{whole_line}
 use Rattle.node_commands.specs.PriorText.{long_prior, prior_text, IsTextIn, IsPriorRead}
 use Rattle.node_commands.specs.Meaning.{AnyEvents}
 use Rattle.node_commands.specs.Answers.{bad_end, last_of}
-use Rattle.node_commands.specs.Relayer.{outcome_line, outcome_lines, is_undone, acts_of, script_acts, outcomes_of, world_behind, node_lines}
+use Rattle.node_commands.specs.Relayer.{outcome_line, outcome_lines, is_undone, acts_of, script_acts, outcomes_of, relay_behind, node_lines}
 use Rattle.node_commands.specs.Relayer.{relay_end, relay_answer, RelayState, fresh_relay, turn_of, behind_bridge, own_act, acted, relayed, next_relay}
 use Rattle.node_commands.specs.Relayer.{turn_lines, relay_last, relay_machine, relayed_feed, IsLineTaken, IsPlayed, node_line}
 use Rattle.node_commands.specs.declared.bad_input.BadInput.{BadInput}
-use Rattle.node_commands.specs.Relaying.{RelayStart, AreNotLost, RelaysOnBranches, IsScriptText, read_as, script_by, script_of, script_start, lists_for}
+use Rattle.node_commands.specs.Relaying.{RelayStart, AreNotLost, RelaysOnBranches, IsScriptText, read_as, script_by, relay_script_of, script_start, lists_for}
 use Rattle.node_commands.specs.Relaying.{relay_start}
 use Rattle.node_commands.specs.Runs.{NoPort, Serves, status_in}
 use Rattle.node_commands.proofs.ForgingLemmas.{block_bytes}
@@ -65,13 +65,13 @@ lines-append : (xs ys : List (Option Outcome)) → outcome_lines (xs ++ ys) ≡ 
 lines-append xs ys = flat_map-append (λ o. whole_line (outcome_line o)) xs ys
 
 module _ (H : List ℕ → Digest) where
-  behind-append : (xs ys : List (Option WorldAct)) (w : WorldState) → world_behind H w (xs ++ ys) ≡ world_behind H (world_behind H w xs) ys
+  behind-append : (xs ys : List (Option WorldAct)) (w : WorldState) → relay_behind H w (xs ++ ys) ≡ relay_behind H (relay_behind H w xs) ys
   behind-append [] ys w = refl
   behind-append (None ∷ xs) ys w = behind-append xs ys w
   behind-append (Some act ∷ xs) ys w = behind-append xs ys (next_world H w act)
 
   outcomes-append : (xs ys : List (Option WorldAct)) (w : WorldState)
-      → outcomes_of H w (xs ++ ys) ≡ outcomes_of H w xs ++ outcomes_of H (world_behind H w xs) ys
+      → outcomes_of H w (xs ++ ys) ≡ outcomes_of H w xs ++ outcomes_of H (relay_behind H w xs) ys
   outcomes-append [] ys w = refl
   outcomes-append (None ∷ xs) ys w = ap (λ os. None ∷ os) (outcomes-append xs ys w)
   outcomes-append (Some act ∷ xs) ys w = ap (λ os. Some (outcome_on w act) ∷ os) (outcomes-append xs ys (next_world H w act))
@@ -81,16 +81,16 @@ module _ (H : List ℕ → Digest) where
   relayed-append xs ys r mid left =
       let made : WorldState → Bool → RelayState = λ w b. record { world = w; script = left; lines = r.lines; refused = b } in
       ap₂ (λ w os. made w (r.refused || list_any is_undone os)) (behind-append xs ys r.world) (outcomes-append xs ys r.world)
-      ∙ ap (λ b. made (world_behind H (world_behind H r.world xs) ys) b)
-      (ap (λ b. r.refused || b) (any-append (outcomes_of H r.world xs) (outcomes_of H (world_behind H r.world xs) ys))
-      ∙ sym (or_again r.refused (list_any is_undone (outcomes_of H r.world xs)) (list_any is_undone (outcomes_of H (world_behind H r.world xs) ys))))
+      ∙ ap (λ b. made (relay_behind H (relay_behind H r.world xs) ys) b)
+      (ap (λ b. r.refused || b) (any-append (outcomes_of H r.world xs) (outcomes_of H (relay_behind H r.world xs) ys))
+      ∙ sym (or_again r.refused (list_any is_undone (outcomes_of H r.world xs)) (list_any is_undone (outcomes_of H (relay_behind H r.world xs) ys))))
 
   -- one act first
   relayed-one : (r : RelayState) (act : WorldAct) (acts : List (Option WorldAct)) (left : List ScriptLine)
       → relayed H r (Some act ∷ acts) left ≡ relayed H (acted H r act) acts left
   relayed-one r act acts left =
       let w = next_world H r.world act in
-      let made : Bool → RelayState = λ b. record { world = world_behind H w acts; script = left; lines = r.lines; refused = b } in
+      let made : Bool → RelayState = λ b. record { world = relay_behind H w acts; script = left; lines = r.lines; refused = b } in
       ap made (sym (or_again r.refused (is_undone (Some (outcome_on r.world act))) (list_any is_undone (outcomes_of H w acts))))
 
   -- none
@@ -134,7 +134,7 @@ module _ (H : List ℕ → Digest) (whole : Bool) where
       append_assoc (turn_lines H r event) (said_by (relay_machine H) s events)
       (outcome_lines (outcomes_of H (left_by (relay_machine H) s events).world (left s events)))
       ∙ (ap (λ l. turn_lines H r event ++ l) (said-told events s)
-      ∙ (sym (lines-append (outcomes_of H r.world turn) (outcomes_of H (world_behind H r.world turn) rest))
+      ∙ (sym (lines-append (outcomes_of H r.world turn) (outcomes_of H (relay_behind H r.world turn) rest))
       ∙ (ap outcome_lines (sym (outcomes-append H turn rest r.world))
       ∙ ap (λ acts. outcome_lines (outcomes_of H r.world acts)) (sym (acts-turn whole r.script event events)))))
 
@@ -220,7 +220,7 @@ module _ (H : List ℕ → Digest) (long : (x : List ℕ) → length (H x).0 ≡
         let begun : Begun = record { net = net; limits = limits; lists = start.lists } in
         let acts = script_acts net limits.bytes start.script feed in
         let events = events_of net limits.bytes feed in
-        followers_are_on_branches H long begun (somes acts) (world_behind H (begun_world begun) acts)
+        followers_are_on_branches H long begun (somes acts) (relay_behind H (begun_world begun) acts)
         (record {
           leaves = few;
           bytes = short;
@@ -310,9 +310,9 @@ script-last H r net limit {feed} {feed'} {report} {report'} {report''} {o} {o'} 
 pub relay-begins : (followers : ℕ) (list : Result (Option (List (List ℕ))) BadInput) (text : Result (List ℕ) BadInput)
     (watch : Option (List (List ℕ))) (bytes : List ℕ) (script : Result (List ScriptLine) ScriptFault)
     → Ok watch ≡ list → Ok bytes ≡ text → script ≡ script_in bytes → script_start (lists_for followers (scripts_of watch)) (script_by script)
-    ≡ relay_start followers list (script_of text)
+    ≡ relay_start followers list (relay_script_of text)
 relay-begins followers list text watch bytes script a b s =
-    ap (λ x. script_start (lists_for followers (scripts_of watch)) (script_by x)) s ∙ ap₂ (λ x y. relay_start followers x (script_of y)) a b
+    ap (λ x. script_start (lists_for followers (scripts_of watch)) (script_by x)) s ∙ ap₂ (λ x y. relay_start followers x (relay_script_of y)) a b
 
 pub fresh-is : (limits : Limits) (net : Net) (r : RelayState) (w : WorldState) (lists lists' : List (List (List ℕ))) (script : List ScriptLine)
     → r ≡ record { world = w; script = script; lines = length script; refused = false }

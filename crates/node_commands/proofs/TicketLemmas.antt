@@ -31,7 +31,7 @@ use Rattle.ticket_check.specs.declared.verdict.TicketVerdict.{TicketVerdict}
 use Rattle.ticket_check.specs.declared.verdict.TicketVerdict.TheVariants as Verdict
 use Rattle.ticket_check.specs.declared.checked.Checked.{Checked}
 use Rattle.ticket_check.specs.declared.checked.Checked.TheVariants as Said
-use Rattle.ticket_check.specs.Checking.{live_of, said_by, said_of, verdict_over, checked_by, check_of}
+use Rattle.ticket_check.specs.Checking.{live_of, said_of_live, said_of, verdict_of_ticket, checked_by, check_of}
 use Rattle.ticket_check.proofs.KeptTickets.{kept_tickets_are_right}
 use Rattle.ticket_check.proofs.CheckLaws.{checked_is_accepted, live_is_right}
 use Rattle.node_commands.specs.Answers.{said}
@@ -160,13 +160,13 @@ check-quiet H limit node text = by (nat_lt limit (length text))
     by false = told-quiet (check_of H node text)
 
 -- it ends with a status of a feed that was read to its end
-told-ends : (v : TicketVerdict) (k : Ticket) → IsEnd (told_as (said_by v (live_of k))).status
+told-ends : (v : TicketVerdict) (k : Ticket) → IsEnd (told_as (said_of_live v (live_of k))).status
 told-ends Verdict.Tip k = inr (inl refl)
 told-ends (Verdict.Refused why) k = inr (inl refl)
 told-ends Verdict.Live k = inl refl
 
 check-told : (H : List ℕ → Digest) (node : NodeState) (r : Result Ticket TicketFault) → IsEnd (told_as (said_of (checked_by H node) r)).status
-check-told H node (Ok k) = told-ends (verdict_over H node k) k
+check-told H node (Ok k) = told-ends (verdict_of_ticket H node k) k
 check-told H node (Err Fault.NotATicket) = inr (inl refl)
 check-told H node (Err (Fault.Version v)) = inr (inl refl)
 

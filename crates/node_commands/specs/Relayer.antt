@@ -18,7 +18,7 @@ use Rattle.relay_core.specs.declared.act.Kind.TheVariants.{Next, Same, Back, Los
 use Rattle.relay_core.specs.declared.act.Outcome.{Outcome}
 use Rattle.relay_core.specs.declared.act.Outcome.TheVariants.{Judged, Asked, Replied, Moved, Stale, Unknown}
 use Rattle.relay_core.specs.Acts.{WorldAct, BridgeTook, FollowerAsked, AskServed, ReplyDelivered}
-use Rattle.relay_core.specs.World.{FollowerState, WorldState, fresh_world, newest_of, next_world, outcome_on, world_after}
+use Rattle.relay_core.specs.World.{FollowerState, WorldState, fresh_world, newest_serial, next_world, outcome_on, world_after}
 use Rattle.relay_script.specs.declared.line.ScriptLine.{ScriptLine}
 use Rattle.relay_script.specs.declared.line.ScriptLine.TheVariants as Script
 use Rattle.report_lines.specs.declared.line.Line.{Line}
@@ -84,14 +84,14 @@ outcomes_of H w (None ∷ acts) = None ∷ outcomes_of H w acts
 outcomes_of H w (Some act ∷ acts) = Some (outcome_on w act) ∷ outcomes_of H (next_world H w act) acts
 
 -- and what becomes of the world
-abbrev pub world_behind : (List ℕ → Digest) → WorldState → List (Option WorldAct) → WorldState
-world_behind H w acts = world_after H w (somes acts)
+abbrev pub relay_behind : (List ℕ → Digest) → WorldState → List (Option WorldAct) → WorldState
+relay_behind H w acts = world_after H w (somes acts)
 
 -- ---- the last lines
 
 -- the newest serial of a follower, and the chain of its node
 abbrev pub node_line : (follower : ℕ) → FollowerState → Line
-node_line follower x = let chain = x.node.newest.chain in Line.Node follower (newest_of x.serials) (tip_of chain) chain.leaves
+node_line follower x = let chain = x.node.newest.chain in Line.Node follower (newest_serial x.serials) (tip_of chain) chain.leaves
 
 -- a line for each follower, from this number on
 abbrev pub node_lines : (first : ℕ) → List FollowerState → List ℕ
@@ -111,7 +111,7 @@ relay_answer H limits net lists script feed =
     let acts = script_acts net limits.bytes script feed in
     let first = fresh_world net limits lists in
     let outcomes = outcomes_of H first acts in
-    answer_with (outcome_lines outcomes) [] (relay_end (list_any is_undone outcomes) (length script) (world_behind H first acts))
+    answer_with (outcome_lines outcomes) [] (relay_end (list_any is_undone outcomes) (length script) (relay_behind H first acts))
     (events_of net limits.bytes feed).ending
 
 -- ---- a run of it
@@ -162,7 +162,7 @@ acted H r act = record {
 -- behind some acts, with what is left of the script
 abbrev pub relayed : (List ℕ → Digest) → RelayState → List (Option WorldAct) → (left : List ScriptLine) → RelayState
 relayed H r acts left = record {
-  world = world_behind H r.world acts;
+  world = relay_behind H r.world acts;
   script = left;
   lines = r.lines;
   refused = r.refused || list_any is_undone (outcomes_of H r.world acts);

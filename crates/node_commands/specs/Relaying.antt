@@ -21,7 +21,7 @@ use Rattle.report_lines.specs.declared.line.ReplyKind.TheVariants as Said
 use Rattle.node_commands.specs.PriorText.{prior_text}
 use Rattle.node_commands.specs.declared.bad_input.BadInput.{BadInput}
 use Rattle.node_commands.specs.Meaning.{Meaning, IsEnd, AnyEvents}
-use Rattle.node_commands.specs.Relayer.{outcome_line, outcomes_of, world_behind, script_acts, relay_answer, fresh_relay, relay_machine}
+use Rattle.node_commands.specs.Relayer.{outcome_line, outcomes_of, relay_behind, script_acts, relay_answer, fresh_relay, relay_machine}
 use Rattle.node_commands.specs.Watching.{list_in, IsGood}
 
 -- ---- the script
@@ -43,9 +43,9 @@ script_by (Ok script) = Ok script
 script_by (Err fault) = Err (record { status = Status.Prior; line = Line.Script fault.line })
 
 -- the script that the prior bytes are
-abbrev pub script_of : Result (List ℕ) BadInput → Result (List ScriptLine) BadInput
-script_of (Ok text) = script_by (script_in text)
-script_of (Err bad) = Err bad
+abbrev pub relay_script_of : Result (List ℕ) BadInput → Result (List ScriptLine) BadInput
+relay_script_of (Ok text) = script_by (script_in text)
+relay_script_of (Err bad) = Err bad
 
 -- ---- what it begins with
 
@@ -80,7 +80,7 @@ pub record RelaysOnBranches (H : List ℕ → Digest) (limits : Limits) (net : N
   pub on_branches : IsBytes feed →
       let begun : Begun = record { net = net; limits = limits; lists = start.lists } in
       let acts = script_acts net limits.bytes start.script feed in
-      AreOnBranches H begun (somes acts) (world_behind H (begun_world begun) acts)
+      AreOnBranches H begun (somes acts) (relay_behind H (begun_world begun) acts)
   pub none_lost : IsBytes feed →
       let begun : Begun = record { net = net; limits = limits; lists = start.lists } in
       AreNotLost (outcomes_of H (begun_world begun) (script_acts net limits.bytes start.script feed))
@@ -90,7 +90,7 @@ pub record RelaysOnBranches (H : List ℕ → Digest) (limits : Limits) (net : N
 -- the watch list and the script can be used, where they are named, and the feed has no bad frame and no more bytes than may be read
 pub record IsGoodRelay (scripted listed : Bool) (net : Net) (limits : Limits) (feed prior watch : List ℕ) : Type 0 where
   pub script : List ScriptLine
-  pub runs : script_of (prior_text scripted limits.bytes prior) ≡ Ok script
+  pub runs : relay_script_of (prior_text scripted limits.bytes prior) ≡ Ok script
   pub good : IsGood listed net limits watch feed
 
 -- What `relay` means. It stores nothing.
@@ -99,7 +99,7 @@ relaying H limits followers net scripted listed = record {
   uses = record { feed = true; prior = scripted; watch = listed; out = false; steps = true };
   Begun = RelayStart;
   Begins = λ prior watch begun. begun ≡ relay_start followers (list_in listed limits.bytes watch)
-      (script_of (prior_text scripted limits.bytes prior));
+      (relay_script_of (prior_text scripted limits.bytes prior));
   net = λ start. net;
   wants = λ begun. AnyEvents;
   lines = λ start events. said_by (relay_machine H) (fresh_relay limits net start.lists start.script) events;

@@ -16,18 +16,18 @@ use Rattle.node_commands.specs.Meaning.{Meaning, AnyEvents}
 use Rattle.node_commands.specs.Starting.{Start, IsStart, IsUsable}
 
 -- how many levels there are, and what is stored of them
-abbrev pub upgraded : (levels : ℕ) → (stored : List ℕ) → Answer
-upgraded levels stored = record { status = AllAccepted; report = whole_line (UpgradedState levels); out = stored }
+abbrev pub told_upgraded : (levels : ℕ) → (stored : List ℕ) → Answer
+told_upgraded levels stored = record { status = AllAccepted; report = whole_line (UpgradedState levels); out = stored }
 
 -- by the node that was read, or the one line that says why there is none
 abbrev pub upgrade_answer : Start → Answer
-upgrade_answer (Ok node) = upgraded (suc (length node.older)) (stored_text node)
+upgrade_answer (Ok node) = told_upgraded (suc (length node.older)) (stored_text node)
 upgrade_answer (Err bad) = said bad.status bad.line
 
 -- what was read is of no state but this one: so of each state, in either version, the text of version 2 is stored
 abbrev pub UpgradesState : (List ℕ → Digest) → Limits → (prior : List ℕ) → Start → Type 0
 UpgradesState H limits prior begun = (s : StateValue) → IsState H limits.leaves s → IsTextOf s prior → length prior ≤ limits.bytes
-    → upgrade_answer begun ≡ upgraded (length s.levels) (state_text s)
+    → upgrade_answer begun ≡ told_upgraded (length s.levels) (state_text s)
 
 abbrev pub StatesAreUpgraded : Type 0
 StatesAreUpgraded = (H : List ℕ → Digest) (limits : Limits) (prior : List ℕ) (begun : Start) → limits.leaves < 2 ^ 40 → IsStart H limits prior begun
@@ -43,7 +43,7 @@ upgrading_state H limits = record {
   wants = λ begun. AnyEvents;
   lines = λ node events. [];
   frames = λ node events. [];
-  answer = λ node feed. upgraded (suc (length node.older)) (stored_text node);
+  answer = λ node feed. told_upgraded (suc (length node.older)) (stored_text node);
   Claims = λ inputs. IfSome inputs.begun (UpgradesState H limits inputs.prior);
   AreGood = λ feed prior watch. IsUsable H limits prior;
   Ends = λ status. (status ≡ AllAccepted) ⊎ (is_stop status ≡ true);

@@ -14,7 +14,7 @@ use Rattle.node_rules.specs.Judging.{Rules, refusal, compact, own}
 use Rattle.node_rules.specs.Machine as Chain
 use Rattle.node_rules.specs.Machine.{State, chain_of, event_in, own_judge, by_refusal, verdicts, verdict_by, verdict_before}
 use Rattle.node_rules.specs.Reading.{nothing}
-use Rattle.compact_node.specs.Node.{NodeState, refusal_on, node_with, node_by, view_over}
+use Rattle.compact_node.specs.Node.{NodeState, node_refusal, node_with, node_by, view_over}
 use Rattle.compact_node.specs.Throughout.{verdicts_on}
 use Rattle.chain_order.specs.Arrivals.{Arrival}
 use Rattle.chain_order.specs.Path.{AreLinked}
@@ -72,7 +72,7 @@ module _ (H : List ℕ → Digest) where
           let of = is b refl in
           let chain = s.newest.chain in
           let same = same_hash b.header.prev chain.tip (of.prev ∙ linked.0) in
-          told b of more (refusal_on H s b nothing)
+          told b of more (node_refusal H s b nothing)
           (all_other s.rules chain b (compact H (view_over s.newest) (external b chain.blocks) nothing) same
           (compact_other H (view_over s.newest) (external b chain.blocks)))
 

@@ -13,13 +13,13 @@ use Rattle.leaf_record.specs.Leaf.{leaf_text}
 use Rattle.block_rules.specs.declared.chain.Chain.{Chain}
 use Rattle.node_rules.specs.Judging.{Rules}
 use Rattle.node_rules.specs.Machine.{Level, start, event_in, is_made}
-use Rattle.compact_node.specs.Node.{LevelStands, verdict_on}
+use Rattle.compact_node.specs.Node.{LevelStands, node_verdict}
 use Rattle.bridge_prover.specs.Bridge as Bridges
 use Rattle.relay_core.specs.declared.store.Reply.{Reply}
 use Rattle.relay_core.specs.Acts.{WorldAct, BridgeTook, FollowerAsked, AskServed, ReplyDelivered}
-use Rattle.relay_core.specs.World.{FollowerState, WorldState, newest_of, fresh_follower, is_accepted, sent_of, with_ask, with_reply, applies}
+use Rattle.relay_core.specs.World.{FollowerState, WorldState, newest_serial, fresh_follower, is_acceptance, sent_of, with_ask, with_reply, applies}
 use Rattle.relay_core.specs.World.{event_for, next_world, world_after}
-use Rattle.relay_core.specs.Branches.{Digests, Begun, rules_of, begun_world, blocks_of, world_at, branch, AreActBytes, StandsForActs, IsOnBranch}
+use Rattle.relay_core.specs.Branches.{Digests, Begun, begun_rules, begun_world, blocks_of, world_at, branch, AreActBytes, StandsForActs, IsOnBranch}
 use Rattle.relay_core.specs.Branches.{AreOnBranches, IsNeverRefused, FollowersAreOnBranches, OneSerialOneChain, RepliesAreNeverRefused}
 use Rattle.relay_core.specs.Branches.{IsNeverLost, NoReplyIsLost}
 use Rattle.relay_core.specs.Branches.{ActsAreFollowed}
@@ -44,7 +44,7 @@ module _ (H : List ℕ → Digest) where
   sent_grows : (w : WorldState) (act : WorldAct) → length w.sent ≤ length (next_world H w act).sent
   sent_grows w (BridgeTook event) =
       let e = event_in event in
-      let more = cond (is_accepted (Bridges.verdict_on w.bridge e)) (sent_of event (Bridges.message_on H w.bridge e)) [] in
+      let more = cond (is_acceptance (Bridges.verdict_on w.bridge e)) (sent_of event (Bridges.message_on H w.bridge e)) [] in
       omega (arith, length-append w.sent more)
   sent_grows w (FollowerAsked f) = by (slice_get w.followers f)
     where
@@ -85,7 +85,7 @@ module _ (H : List ℕ → Digest) where
 
   module _ (long : Digests H) (begun : Begun) (few : begun.limits.leaves < 2 ^ 40) (short : begun.limits.bytes ≤ 2 ^ 48) where
     abbrev rules : Rules
-    rules = rules_of begun
+    rules = begun_rules begun
 
     abbrev first : WorldState
     first = begun_world begun
@@ -168,7 +168,7 @@ module _ (H : List ℕ → Digest) where
       pub on_branch : (scripts : List (List ℕ)) (x : FollowerState) → FollowerFits H rules sound.levels scripts x
           → IsOnBranch H begun acts scripts x
       on_branch scripts x fits =
-          let s = newest_of x.serials in
+          let s = newest_serial x.serials in
           let l = fits.state.now in
           let at = at_newest H rules w.sent sound.levels scripts x fits in
           let of = sound.told s l at in
@@ -189,7 +189,7 @@ module _ (H : List ℕ → Digest) where
           sound.followers
 
       pub one_chain : (f g : ℕ) (x y : FollowerState) → slice_get w.followers f ≡ Some x → slice_get w.followers g ≡ Some y
-          → newest_of x.serials ≡ newest_of y.serials →
+          → newest_serial x.serials ≡ newest_serial y.serials →
           (x.node.newest.chain ≡ y.node.newest.chain) × (x.node.newest.roots ≡ y.node.newest.roots)
       one_chain f g x y at_f at_g same =
           let a = zip-at (FollowerFits H rules sound.levels) begun.lists w.followers f x sound.followers at_f in
@@ -207,7 +207,7 @@ module _ (H : List ℕ → Digest) where
 
       pub never_refused : (f j : ℕ) (x : FollowerState) (r : Reply) → slice_get w.followers f ≡ Some x → slice_get w.replies j ≡ Some r
           → applies r x ≡ true →
-          is_made (Some (verdict_on H x.node (event_in (event_for w.sent r.kind)))) ≡ true
+          is_made (Some (node_verdict H x.node (event_in (event_for w.sent r.kind)))) ≡ true
       never_refused f j x r at_f at_j can =
           let a = zip-at (FollowerFits H rules sound.levels) begun.lists w.followers f x sound.followers at_f in
           (reply_moves H rules w.sent sound.levels a.0 x a.2 r can
@@ -232,7 +232,7 @@ one_serial_one_chain H long begun acts w stands =
     let sound = sound_after H long begun stands.leaves stands.bytes acts stands.all in
     through H begun acts
     (λ v. (f g : ℕ) (x y : FollowerState) → slice_get v.followers f ≡ Some x → slice_get v.followers g ≡ Some y
-    → newest_of x.serials ≡ newest_of y.serials → (x.node.newest.chain ≡ y.node.newest.chain) × (x.node.newest.roots ≡ y.node.newest.roots))
+    → newest_serial x.serials ≡ newest_serial y.serials → (x.node.newest.chain ≡ y.node.newest.chain) × (x.node.newest.roots ≡ y.node.newest.roots))
     w stands (one_chain H long begun stands.leaves stands.bytes acts sound)
 
 pub replies_are_never_refused : RepliesAreNeverRefused

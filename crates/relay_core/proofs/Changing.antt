@@ -16,7 +16,7 @@ use Rattle.bridge_prover.specs.Bridge.{BridgeState, refusal_on, verdict_on, afte
 use Rattle.relay_core.specs.declared.act.Outcome.TheVariants.{Moved, Stale}
 use Rattle.relay_core.specs.declared.store.Reply.{Reply}
 use Rattle.relay_core.specs.Acts.{BridgeTook, FollowerAsked, AskServed, ReplyDelivered}
-use Rattle.relay_core.specs.World.{FollowerState, WorldState, newest_of, serials_after, with_ask, asked, with_reply, replied, applies, moved}
+use Rattle.relay_core.specs.World.{FollowerState, WorldState, newest_serial, serials_after, with_ask, ask_outcome, with_reply, replied, applies, follower_moved}
 use Rattle.relay_core.specs.World.{followers_after, delivered}
 use Rattle.relay_core.specs.Changes.{ChangesAsTold, OutcomesTellChanges, moves_node}
 
@@ -43,7 +43,7 @@ module _ (H : List ℕ → Digest) where
       by false off = refl
   same_bridge s Feed.StrayCame off = refl
 
-  asking : (w : WorldState) (x : Option FollowerState) → ChangesAsTold (asked w x) w (with_ask w x)
+  asking : (w : WorldState) (x : Option FollowerState) → ChangesAsTold (ask_outcome w x) w (with_ask w x)
   asking w None = record { bridge = λ off. refl; followers = λ off. refl }
   asking w (Some x) = record { bridge = λ off. refl; followers = λ off. refl }
 
@@ -57,8 +57,8 @@ module _ (H : List ℕ → Digest) where
   unmoved w f (Some x) None off = refl
   unmoved w f (Some x) (Some r) off = by (applies r x) off
     where
-      by : (b : Bool) → moves_node (cond b (Moved (newest_of (serials_after r.kind x.serials))) Stale) ≡ false
-          → cond b (slice_set w.followers f (moved H w.sent r.kind x)) w.followers ≡ w.followers
+      by : (b : Bool) → moves_node (cond b (Moved (newest_serial (serials_after r.kind x.serials))) Stale) ≡ false
+          → cond b (slice_set w.followers f (follower_moved H w.sent r.kind x)) w.followers ≡ w.followers
       by true off = absurd (false≢true (sym off))
       by false off = refl
 

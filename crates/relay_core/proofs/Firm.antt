@@ -19,8 +19,8 @@ use Rattle.relay_core.specs.declared.act.Kind.TheVariants.{Next, Same, Back, Los
 use Rattle.relay_core.specs.declared.act.Outcome.TheVariants.{Replied, Moved, Stale}
 use Rattle.relay_core.specs.declared.store.Reply.{Reply}
 use Rattle.relay_core.specs.Acts.{BridgeTook, FollowerAsked, AskServed, ReplyDelivered}
-use Rattle.relay_core.specs.World.{Sent, FollowerState, WorldState, fresh_follower, fresh_world, newest_of, asked, is_on, met_at, after_on, next_or_same}
-use Rattle.relay_core.specs.World.{kind_by, reply_to, replied, can_do, applies, serials_after, moved, delivered}
+use Rattle.relay_core.specs.World.{Sent, FollowerState, WorldState, fresh_follower, fresh_world, newest_serial, ask_outcome, is_on, fork_index, after_on, next_or_same}
+use Rattle.relay_core.specs.World.{kind_by, reply_to, replied, can_do, applies, serials_after, follower_moved, delivered}
 use Rattle.relay_core.specs.Branches.{IsNeverLost}
 use Rattle.relay_core.proofs.Linking.{got_either}
 
@@ -65,10 +65,10 @@ ends-take part zero s ss at ends = at s refl
 ends-take part (suc k) s [] at ends = ends
 ends-take part (suc k) s (p ∷ ss) at ends = ends-take part k p ss at ends
 
-met : (chain ss : List ℕ) → EndsOn chain ss → is_some (met_at chain ss) ≡ true
+met : (chain ss : List ℕ) → EndsOn chain ss → is_some (fork_index chain ss) ≡ true
 met chain [] ends = absurd ends
 met chain (s ∷ []) ends = rw ends refl
-met chain (s ∷ p ∷ ss) ends = by (is_on chain s) (met_at chain (p ∷ ss)) (met chain (p ∷ ss) ends)
+met chain (s ∷ p ∷ ss) ends = by (is_on chain s) (fork_index chain (p ∷ ss)) (met chain (p ∷ ss) ends)
   where
     by : (b : Bool) (x : Option ℕ) → is_some x ≡ true → is_some (cond b (Some 0) (option_map (λ k. suc k) x)) ≡ true
     by true x e = refl
@@ -127,7 +127,7 @@ module _ (lines : List (List ℕ)) where
     ends : EndsOn part x.serials
 
   -- what comes next goes in front of the line
-  line-next : (serial : ℕ) (ss : List ℕ) (part : List ℕ) → IsNext (newest_of ss) serial → EndsOn part ss → (rest : List ℕ) → IsLine (ss ++ rest)
+  line-next : (serial : ℕ) (ss : List ℕ) (part : List ℕ) → IsNext (newest_serial ss) serial → EndsOn part ss → (rest : List ℕ) → IsLine (ss ++ rest)
       → IsLine (serial ∷ ss ++ rest)
   line-next serial [] part next ends rest line = absurd ends
   line-next serial (s ∷ ss) part next ends rest line = (
@@ -224,7 +224,7 @@ module _ (w : WorldState) (firm : Firm w) where
   -- what is answered to an ask
   found_ask : (j : ℕ) (serials : List ℕ) → slice_get w.asks j ≡ Some serials → let r = reply_to w.chain serials in IsFound lines r.first r.kind
   found_ask j serials at =
-      kind_found lines w.chain firm.chain (newest_of serials) (met_at w.chain serials)
+      kind_found lines w.chain firm.chain (newest_serial serials) (fork_index w.chain serials)
       (met w.chain serials (ends-more (floor_of w) w.chain (λ s. on_more 0 (length w.bridge.undo) w.chain s (omega arith)) serials
       (all-at (EndsOn (floor_of w)) w.asks j serials firm.asks at)))
 
@@ -241,7 +241,7 @@ module _ (w : WorldState) (firm : Firm w) where
   }
 
   kind_moves : (x : FollowerState) → IsFirm lines (floor_of w) x → (kind : Kind) → length x.serials ≡ suc (length x.node.older)
-      → can_do kind (length x.node.older) ≡ true → IsFound lines (newest_of x.serials) kind
+      → can_do kind (length x.node.older) ≡ true → IsFound lines (newest_serial x.serials) kind
       → (rest : List ℕ) × (IsLine lines (serials_after kind x.serials ++ rest)) × EndsOn (floor_of w) (serials_after kind x.serials)
   kind_moves x is (Next serial) long can next =
       let ss = x.serials in
@@ -267,10 +267,10 @@ module _ (w : WorldState) (firm : Firm w) where
 
   pub firm_moved : (H : List ℕ → Digest) (f j : ℕ) (x : FollowerState) (r : Reply) → slice_get w.followers f ≡ Some x → slice_get w.replies j ≡ Some r
       → applies r x ≡ true → length x.serials ≡ suc (length x.node.older)
-      → Firm (record w { followers = slice_set w.followers f (moved H w.sent r.kind x) })
+      → Firm (record w { followers = slice_set w.followers f (follower_moved H w.sent r.kind x) })
   firm_moved H f j x r at_f at_j can long =
-      let parts = and_parts (newest_of x.serials == r.first) (can_do r.kind (length x.node.older)) can in
-      let found = subst (λ n. IsFound lines n r.kind) (sym (eqb-true (newest_of x.serials) r.first parts.0))
+      let parts = and_parts (newest_serial x.serials == r.first) (can_do r.kind (length x.node.older)) can in
+      let found = subst (λ n. IsFound lines n r.kind) (sym (eqb-true (newest_serial x.serials) r.first parts.0))
       (all-at (λ (r : Reply). IsFound lines r.first r.kind) w.replies j r firm.replies at_j) in
       let then = kind_moves x (all-at (IsFirm lines (floor_of w)) w.followers f x firm.followers at_f) r.kind long parts.1 found in
       record {
@@ -280,7 +280,7 @@ module _ (w : WorldState) (firm : Firm w) where
         deep = firm.deep;
         asks = firm.asks;
         replies = firm.replies;
-        followers = all-set (IsFirm lines (floor_of w)) w.followers f (moved H w.sent r.kind x) firm.followers
+        followers = all-set (IsFirm lines (floor_of w)) w.followers f (follower_moved H w.sent r.kind x) firm.followers
             (record { rest = then.0; line = then.1; ends = then.2 });
       }
 
@@ -342,7 +342,7 @@ module _ (w : WorldState) (firm : Firm w) where
   never_lost (BridgeTook event) reply e = cc
   never_lost (FollowerAsked f) reply e = by (slice_get w.followers f) e
     where
-      by : (x : Option FollowerState) → asked w x ≢ Replied reply Lost
+      by : (x : Option FollowerState) → ask_outcome w x ≢ Replied reply Lost
       by None e = cc
       by (Some x) e = cc
   never_lost (AskServed j) reply e = by (slice_get w.asks j) refl e
@@ -350,8 +350,8 @@ module _ (w : WorldState) (firm : Firm w) where
       by : (x : Option (List ℕ)) → slice_get w.asks j ≡ x → replied w x ≢ Replied reply Lost
       by None at e = cc
       by (Some serials) at e =
-          let lost : kind_by w.chain (newest_of serials) (met_at w.chain serials) ≡ Lost = cc in
-          subst (IsFound lines (newest_of serials)) lost (found_ask j serials at)
+          let lost : kind_by w.chain (newest_serial serials) (fork_index w.chain serials) ≡ Lost = cc in
+          subst (IsFound lines (newest_serial serials)) lost (found_ask j serials at)
   never_lost (ReplyDelivered f j) reply e = by (slice_get w.followers f) (slice_get w.replies j) e
     where
       by : (x : Option FollowerState) (r : Option Reply) → delivered x r ≢ Replied reply Lost
@@ -359,6 +359,6 @@ module _ (w : WorldState) (firm : Firm w) where
       by (Some x) None e = cc
       by (Some x) (Some r) e = told (applies r x) e
         where
-          told : (b : Bool) → cond b (Moved (newest_of (serials_after r.kind x.serials))) Stale ≢ Replied reply Lost
+          told : (b : Bool) → cond b (Moved (newest_serial (serials_after r.kind x.serials))) Stale ≢ Replied reply Lost
           told true e = cc
           told false e = cc

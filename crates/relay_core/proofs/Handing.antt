@@ -16,11 +16,11 @@ use Rattle.node_rules.specs.Judging.{Rules, full, message_of, written}
 use Rattle.node_rules.specs.Laws.{IsTakenByAll}
 use Rattle.node_rules.specs.Machine.{ChainEvent, BlockCame, RollbackCame, Level, State, Outcome, chain_of, full_judge, level_after, pushed}
 use Rattle.node_rules.specs.Machine.{by_refusal, by_evidence, back, rolled_back, event_in, step, full_outcome, is_made}
-use Rattle.compact_node.specs.Node.{NodeState, IsNode, LevelStands, Stands, verdict_on, next_node}
+use Rattle.compact_node.specs.Node.{NodeState, IsNode, LevelStands, Stands, node_verdict, next_node}
 use Rattle.relay_core.specs.declared.act.Kind.{Kind}
 use Rattle.relay_core.specs.declared.act.Kind.TheVariants.{Next, Same, Back, Lost}
 use Rattle.relay_core.specs.declared.store.Reply.{Reply}
-use Rattle.relay_core.specs.World.{Sent, FollowerState, newest_of, can_do, applies, block_event, event_for, serials_after, moved}
+use Rattle.relay_core.specs.World.{Sent, FollowerState, newest_serial, can_do, applies, block_event, event_for, serials_after, follower_moved}
 use Rattle.node_rules.proofs.Writing.{own_accepts}
 use Rattle.compact_node.proofs.Keeping.{next_is_node}
 use Rattle.compact_node.proofs.Refining.{compact_is_full}
@@ -99,10 +99,10 @@ module _ (H : List ℕ → Digest) (rules : Rules) where
   -- it takes the event, and stands for these levels then
   takes : (state : State) (x : NodeState) (e : ChainEvent) (v : Verdict) (t : State) → IsNode x → Stands H state x
       → full_outcome H x.scripts x.rules state e ≡ record { verdict = Some v; state = t } → is_made (Some v) ≡ true →
-      (is_made (Some (verdict_on H x e)) ≡ true) × Stands H t (next_node H x e)
+      (is_made (Some (node_verdict H x e)) ≡ true) × Stands H t (next_node H x e)
   takes state x e v t is stands o made =
       let all = compact_is_full H x e is state stands (ap (λ (p : Outcome). is_some p.verdict) o) in
-      let said : Some v ≡ Some (verdict_on H x e) = ap (λ (p : Outcome). p.verdict) (sym o) ∙ all.0 in
+      let said : Some v ≡ Some (node_verdict H x e) = ap (λ (p : Outcome). p.verdict) (sym o) ∙ all.0 in
       (ap is_made (sym said) ∙ made, subst (λ (p : Outcome). Stands H p.state (next_node H x e)) o all.1)
 
   module _ (sent : List Sent) (levels : List Level) (scripts : List (List ℕ)) (x : FollowerState) (fits : FollowerFits levels scripts x) where
@@ -111,10 +111,10 @@ module _ (H : List ℕ → Digest) (rules : Rules) where
 
     -- the follower behind the reply, and that its node was not against it
     pub record Moves (kind : Kind) : Type 0 where
-      pub follower : FollowerFits levels scripts (moved H sent kind x)
-      pub made : is_made (Some (verdict_on H x.node (event_in (event_for sent kind)))) ≡ true
+      pub follower : FollowerFits levels scripts (follower_moved H sent kind x)
+      pub made : is_made (Some (node_verdict H x.node (event_in (event_for sent kind)))) ≡ true
 
-    moves : (kind : Kind) (t : State) → (is_made (Some (verdict_on H x.node (event_in (event_for sent kind)))) ≡ true)
+    moves : (kind : Kind) (t : State) → (is_made (Some (node_verdict H x.node (event_in (event_for sent kind)))) ≡ true)
         × Stands H t (next_node H x.node (event_in (event_for sent kind))) →
         AllZip IsAt (serials_after kind x.serials) (t.now ∷ t.older) → Moves kind
     moves kind t took at =
@@ -133,11 +133,11 @@ module _ (H : List ℕ → Digest) (rules : Rules) where
         }
 
     -- the newest serial is that of the newest level
-    newest_at : (ss : List ℕ) (l : Level) (ls : List Level) → AllZip IsAt ss (l ∷ ls) → IsAt (newest_of ss) l
+    newest_at : (ss : List ℕ) (l : Level) (ls : List Level) → AllZip IsAt ss (l ∷ ls) → IsAt (newest_serial ss) l
     newest_at [] l ls z = absurd z
     newest_at (s ∷ ss) l ls z = z.0
 
-    pub at_newest : IsAt (newest_of x.serials) fits.state.now
+    pub at_newest : IsAt (newest_serial x.serials) fits.state.now
     at_newest = newest_at x.serials fits.state.now fits.state.older fits.at
 
     pub serials_long : length x.serials ≡ suc (length x.node.older)
@@ -149,7 +149,7 @@ module _ (H : List ℕ → Digest) (rules : Rules) where
         → AllZip IsAt (take 101 (serial ∷ ss)) (l ∷ take 100 (now ∷ older))
     one_more serial l ss now older at z = (at, zip-take IsAt 100 ss (now ∷ older) z)
 
-    next_moves : (serial : ℕ) → Follows H rules sent levels (newest_of x.serials) serial → Moves (Next serial)
+    next_moves : (serial : ℕ) → Follows H rules sent levels (newest_serial x.serials) serial → Moves (Next serial)
     next_moves serial f =
         let s = fits.state in
         let same : f.older ≡ s.now = same_Some _ _ (sym f.at_first ∙ at_newest) in
@@ -167,7 +167,7 @@ module _ (H : List ℕ → Digest) (rules : Rules) where
         (subst (λ w. full_outcome H w rules s e₀ ≡ record { verdict = Some v; state = t }) (sym fits.same_scripts) full) in
         let took = takes s x.node e₀ v t fits.is fits.stands full' refl in
         moves (Next serial) t
-        (subst (λ e. (is_made (Some (verdict_on H x.node e)) ≡ true) × Stands H t (next_node H x.node e)) (sym read) took)
+        (subst (λ e. (is_made (Some (node_verdict H x.node e)) ≡ true) × Stands H t (next_node H x.node e)) (sym read) took)
         (one_more serial f.newer x.serials s.now s.older f.at_serial fits.at)
 
     back_moves : (count : ℕ) → nat_le count (length x.node.older) ≡ true → Moves (Back count)
@@ -183,7 +183,7 @@ module _ (H : List ℕ → Digest) (rules : Rules) where
         moves (Back count) t (takes s x.node (RollbackCame count) _ t fits.is fits.stands full refl)
         (back-zip IsAt count x.serials s.now s.older few fits.at)
 
-    kind_moves : (kind : Kind) → can_do kind (length x.node.older) ≡ true → KindFits H rules sent levels (newest_of x.serials) kind → Moves kind
+    kind_moves : (kind : Kind) → can_do kind (length x.node.older) ≡ true → KindFits H rules sent levels (newest_serial x.serials) kind → Moves kind
     kind_moves (Next serial) can f = next_moves serial f
     kind_moves Same can f = absurd (false≢true can)
     kind_moves (Back count) can f = back_moves count can
@@ -191,6 +191,6 @@ module _ (H : List ℕ → Digest) (rules : Rules) where
 
     pub reply_moves : (r : Reply) → applies r x ≡ true → ReplyFits H rules sent levels r → Moves r.kind
     reply_moves r a f =
-        let parts = and_parts (newest_of x.serials == r.first) (can_do r.kind (length x.node.older)) a in
-        let same : newest_of x.serials ≡ r.first = eqb-true (newest_of x.serials) r.first parts.0 in
+        let parts = and_parts (newest_serial x.serials == r.first) (can_do r.kind (length x.node.older)) a in
+        let same : newest_serial x.serials ≡ r.first = eqb-true (newest_serial x.serials) r.first parts.0 in
         kind_moves r.kind parts.1 (subst (λ n. KindFits H rules sent levels n r.kind) (sym same) f)

@@ -7,17 +7,17 @@ use Rattle.node_rules.specs.Machine.{Level}
 use Rattle.compact_node.specs.Node.{LevelState, LevelStands}
 use Rattle.relay_core.specs.Acts.{WorldAct}
 use Rattle.relay_core.specs.World.{FollowerState, world_after}
-use Rattle.relay_core.specs.Branches.{Begun, rules_of, begun_world, branch, level_after_all}
+use Rattle.relay_core.specs.Branches.{Begun, begun_rules, begun_world, branch, level_after_all}
 use Rattle.relay_core.specs.Levels.{HasLevelsOf, SerialsAreOfLevels}
 use Rattle.relay_core.proofs.Linking.{IsLevelOf}
 use Rattle.relay_core.proofs.Handing.{FollowerFits}
 use Rattle.relay_core.proofs.Acting.{sound_after}
 
 module _ (H : List ℕ → Digest) (begun : Begun) (acts : List WorldAct) (levels : List Level) (told : (s : ℕ) (l : Level)
-    → slice_get levels s ≡ Some l → IsLevelOf (rules_of begun) l (branch H (begun_world begun) acts s)) where
+    → slice_get levels s ≡ Some l → IsLevelOf (begun_rules begun) l (branch H (begun_world begun) acts s)) where
   each_level : (scripts : List (List ℕ)) (ss : List ℕ) (ms : List Level) (ls : List LevelState) → AllZip (λ s l. slice_get levels s ≡ Some l) ss ms
       → AllZip (LevelStands H scripts) ms ls →
-      AllZip (λ s l. LevelStands H scripts (level_after_all (rules_of begun) (branch H (begun_world begun) acts s)) l) ss ls
+      AllZip (λ s l. LevelStands H scripts (level_after_all (begun_rules begun) (branch H (begun_world begun) acts s)) l) ss ls
   each_level scripts [] [] [] a b = tt
   each_level scripts [] [] (l ∷ ls) a b = absurd b
   each_level scripts [] (m ∷ ms) ls a b = absurd a
@@ -26,7 +26,7 @@ module _ (H : List ℕ → Digest) (begun : Begun) (acts : List WorldAct) (level
   each_level scripts (s ∷ ss) (m ∷ ms) (l ∷ ls) a b =
       (subst (λ k. LevelStands H scripts k l) (sym (told s m a.0).level) b.0, each_level scripts ss ms ls a.1 b.1)
 
-  each_follower : (lists : List (List (List ℕ))) (xs : List FollowerState) → AllZip (FollowerFits H (rules_of begun) levels) lists xs
+  each_follower : (lists : List (List (List ℕ))) (xs : List FollowerState) → AllZip (FollowerFits H (begun_rules begun) levels) lists xs
       → AllByRecursion (HasLevelsOf H begun acts) xs
   each_follower [] [] z = tt
   each_follower [] (x ∷ xs) z = absurd z

@@ -8,7 +8,7 @@ use Rattle.std.proofs.lemmas.List.{get_or_push, get_or_append_left, length_push}
 use Rattle.std.proofs.lemmas.List.Sorted.{searched}
 use Rattle.std.specs.List.Sorted.{IsBinarySearchResult}
 use Rattle.std.specs.Ordering.{nat_cmp}
-use Rattle.relay_core.specs.World.{is_on, met_at, after_on}
+use Rattle.relay_core.specs.World.{is_on, fork_index, after_on}
 use Rattle.relay_core.specs.Rising.{IsRising, IsKept}
 
 -- ---- on a chain
@@ -44,12 +44,12 @@ after_at (x ∷ y ∷ xs) s (suc j) lt e h =
 
 -- ---- which is met first
 
-pub met_not : (chain ss : List ℕ) → ((k : ℕ) → k < length ss → is_on chain (get_or ss k 0) ≡ false) → met_at chain ss ≡ None
+pub met_not : (chain ss : List ℕ) → ((k : ℕ) → k < length ss → is_on chain (get_or ss k 0) ≡ false) → fork_index chain ss ≡ None
 met_not chain [] h = refl
 met_not chain (s ∷ ss) h = rw (h 0 (omega arith)) (ap (option_map (λ k. suc k)) (met_not chain ss (λ k lt. h (suc k) (omega (arith, lt)))))
 
 pub met_here : (chain ss : List ℕ) (k : ℕ) → k < length ss → is_on chain (get_or ss k 0) ≡ true
-    → ((j : ℕ) → j < k → is_on chain (get_or ss j 0) ≡ false) → met_at chain ss ≡ Some k
+    → ((j : ℕ) → j < k → is_on chain (get_or ss j 0) ≡ false) → fork_index chain ss ≡ Some k
 met_here chain [] k lt e h = absurd (omega (arith, lt))
 met_here chain (s ∷ ss) zero lt e h = rw e refl
 met_here chain (s ∷ ss) (suc k) lt e h =
@@ -209,11 +209,11 @@ met_more chain ss k lt none one j less =
     subst (λ i. is_on chain (get_or (reverse ss) i 0) ≡ false) same (ap (is_on chain) (turned ss k lt) ∙ one)) (cases_lt j k)
 
 pub met_found : (chain ss : List ℕ) (k : ℕ) → k < length ss → NoneMet chain ss k → is_on chain (get_or ss (length ss - 1 - k) 0) ≡ true
-    → Some k ≡ met_at chain (reverse ss)
+    → Some k ≡ fork_index chain (reverse ss)
 met_found chain ss k lt none on = let long = length-reverse ss in
     sym (met_here chain (reverse ss) k (omega (arith, lt, long)) (ap (is_on chain) (turned ss k lt) ∙ on) none)
 
-pub met_none : (chain ss : List ℕ) (k : ℕ) → length ss ≤ k → NoneMet chain ss k → None ≡ met_at chain (reverse ss)
+pub met_none : (chain ss : List ℕ) (k : ℕ) → length ss ≤ k → NoneMet chain ss k → None ≡ fork_index chain (reverse ss)
 met_none chain ss k ge none = let long = length-reverse ss in sym (met_not chain (reverse ss) (λ j lt. none j (omega (arith, lt, long, ge))))
 
 -- what a world begins with

@@ -18,8 +18,8 @@ use Rattle.node_rules.specs.Machine.{BlockCame, Level, State, start, chain_of, o
 use Rattle.relay_core.specs.declared.act.Kind.{Kind}
 use Rattle.relay_core.specs.declared.act.Kind.TheVariants.{Next, Same, Back, Lost}
 use Rattle.relay_core.specs.declared.store.Reply.{Reply}
-use Rattle.relay_core.specs.World.{Sent, sent_at, newest_of, after_on, met_at, next_or_same, kind_by, reply_to}
-use Rattle.relay_core.specs.Branches.{blocks_of, proved_after, level_after_all, hash_in, tip_of}
+use Rattle.relay_core.specs.World.{Sent, sent_at, newest_serial, after_on, fork_index, next_or_same, kind_by, reply_to}
+use Rattle.relay_core.specs.Branches.{blocks_of, proved_after, level_after_all, hash_in, branch_tip}
 
 -- ---- lists
 
@@ -39,7 +39,7 @@ sent_front sent more (suc i) x e = got_front sent more i x e
 pub record IsLevelOf (rules : Rules) (l : Level) (blocks : List (List ℕ)) : Type 0 where
   pub level : level_after_all rules blocks ≡ l
   pub blocks_are : l.blocks ≡ length blocks
-  pub tip : l.tip ≡ tip_of blocks
+  pub tip : l.tip ≡ branch_tip blocks
 
 module _ (H : List ℕ → Digest) (rules : Rules) where
   -- ---- one block
@@ -160,7 +160,7 @@ module _ (H : List ℕ → Digest) (rules : Rules) where
     kind_fits ss ls line first (Some (suc k)) = tt
 
     pub reply_fits : (ss : List ℕ) (ls : List Level) → Line ss ls → (serials : List ℕ) → ReplyFits (reply_to ss serials)
-    reply_fits ss ls line serials = kind_fits ss ls line (newest_of serials) (met_at ss serials)
+    reply_fits ss ls line serials = kind_fits ss ls line (newest_serial serials) (fork_index ss serials)
 
   -- ---- once there are more
 

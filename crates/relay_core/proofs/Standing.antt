@@ -33,8 +33,8 @@ use Rattle.bridge_prover.specs.Standing.{Stands, IsBridge}
 use Rattle.bridge_prover.specs.Laws.{own_outcome, text_by, IsAsOwn}
 use Rattle.relay_core.specs.declared.store.Reply.{Reply}
 use Rattle.relay_core.specs.Acts.{WorldAct, BridgeTook, FollowerAsked, AskServed, ReplyDelivered}
-use Rattle.relay_core.specs.World.{Sent, FollowerState, WorldState, chain_after, is_accepted, with_event, with_ask, with_reply, reply_to, applies}
-use Rattle.relay_core.specs.World.{moved, with_moved, next_world}
+use Rattle.relay_core.specs.World.{Sent, FollowerState, WorldState, chain_after, is_acceptance, with_event, with_ask, with_reply, reply_to, applies}
+use Rattle.relay_core.specs.World.{follower_moved, with_moved, next_world}
 use Rattle.relay_core.specs.Branches.{AreActBytes, Digests, blocks_of}
 use Rattle.node_rules.proofs.Fitting.{read_event_fits, step_fits}
 use Rattle.node_rules.proofs.Written.{written_fits}
@@ -269,14 +269,14 @@ module _ (H : List ℕ → Digest) (long : Digests H) (rules : Rules) (few : rul
         world_by bytes handed y =
             let e = BlockCame y handed in
             let v = verdict_on w.bridge e in
-            with_parts (next_bridge H w.bridge e) (cond (is_accepted v) (record { block = bytes; message = message_on H w.bridge e } ∷ []) [])
+            with_parts (next_bridge H w.bridge e) (cond (is_acceptance v) (record { block = bytes; message = message_on H w.bridge e } ∷ []) [])
             (chain_after v (suc (length w.sent)) w.chain)
 
         abbrev world_if : List ℕ → Block → Option Refusal → WorldState
         world_if bytes b x =
             let v = verdict_by w.bridge.chain b (length (new_records b w.bridge.chain.blocks)) x in
             with_parts (bridge_by x (after_block H w.bridge b) w.bridge)
-            (cond (is_accepted v) (record { block = bytes; message = told_if x (message_for w.bridge b) } ∷ []) [])
+            (cond (is_acceptance v) (record { block = bytes; message = told_if x (message_for w.bridge b) } ∷ []) [])
             (chain_after v (suc (length w.sent)) w.chain)
 
         with_block : (bytes : List ℕ) (message : Option (List ℕ)) → with_event H w (Feed.BlockCame bytes message) ≡ next → IsBytes bytes
@@ -341,7 +341,7 @@ module _ (H : List ℕ → Digest) (long : Digests H) (rules : Rules) (few : rul
           where
             by : (x : Bool) → nat_le k (length w.bridge.undo) ≡ x →
                 let v = cond x (gone_to k (chain_back k w.bridge.chain w.bridge.undo)) (TooDeep k (length w.bridge.undo)) in
-                Sound Q (with_parts (cond x (gone_back H k w.bridge) w.bridge) (cond (is_accepted v) [] [])
+                Sound Q (with_parts (cond x (gone_back H k w.bridge) w.bridge) (cond (is_acceptance v) [] [])
                 (chain_after v (suc (length w.sent)) w.chain))
             by true can = gone k can
             by false deep = same_parts
@@ -391,7 +391,7 @@ module _ (H : List ℕ → Digest) (long : Digests H) (rules : Rules) (few : rul
         deliver_sound f (Some x) (Some r) j at_f at_j = by (applies r x) refl
           where
             by : (b : Bool) → applies r x ≡ b → Sound Q
-                (record w { followers = cond b (slice_set w.followers f (moved H w.sent r.kind x)) w.followers })
+                (record w { followers = cond b (slice_set w.followers f (follower_moved H w.sent r.kind x)) w.followers })
             by false a = same_world
             by true a = record {
               levels = levels;
@@ -402,7 +402,7 @@ module _ (H : List ℕ → Digest) (long : Digests H) (rules : Rules) (few : rul
               rest = sound.rest;
               line = sound.line;
               replies = sound.replies;
-              followers = zip-set (FollowerFits H rules levels) lists w.followers f x (moved H w.sent r.kind x) sound.followers at_f
+              followers = zip-set (FollowerFits H rules levels) lists w.followers f x (follower_moved H w.sent r.kind x) sound.followers at_f
                   (λ scripts fits. (reply_moves H rules w.sent levels scripts x fits r a
                   (all-at (ReplyFits H rules w.sent levels) w.replies j r sound.replies at_j)).follower);
               firm = firm_moved w sound.firm H f j x r at_f at_j a

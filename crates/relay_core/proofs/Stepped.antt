@@ -9,7 +9,7 @@ use Rattle.uo_digest.specs.declared.digest.Digest.{Digest}
 use Rattle.node_rules.specs.Machine.{event_in}
 use Rattle.bridge_prover.specs.Bridge.{BridgeState, verdict_on, next_bridge, message_on}
 use Rattle.relay_core.specs.declared.store.Reply.{Reply}
-use Rattle.relay_core.specs.World.{Sent, FollowerState, WorldState, chain_after, is_accepted, sent_after, with_event, with_moved, applies, moved}
+use Rattle.relay_core.specs.World.{Sent, FollowerState, WorldState, chain_after, is_acceptance, sent_after, with_event, with_moved, applies, follower_moved}
 
 -- what is there put there again
 set_same : {X : Type 0} (xs : List X) (i : ℕ) (x : X) → slice_get xs i ≡ Some x → slice_set xs i x ≡ xs
@@ -30,7 +30,7 @@ module _ (H : List ℕ → Digest) (w : WorldState) where
       let e = event_in (RollbackCame count) in
       let made = λ (b : BridgeState) (c : List ℕ) (s : List Sent). let v : WorldState = record w { bridge = b; sent = s; chain = c } in v in
       ap₂ (λ b c. made b c w.sent) p q ∙ ap (made (next_bridge H w.bridge e) (chain_after (verdict_on w.bridge e) (suc (length w.sent)) w.chain))
-      (none_sent (is_accepted (verdict_on w.bridge e)))
+      (none_sent (is_acceptance (verdict_on w.bridge e)))
 
   pub rolled_ok : {T E : Type 0} (r : Result T E) (count : ℕ) (bridge : BridgeState) (chain : List ℕ) → let e = event_in (RollbackCame count) in
       OnOk r (bridge ≡ next_bridge H w.bridge e) → ((serial : ℕ) → OnOk r (chain ≡ chain_after (verdict_on w.bridge e) serial w.chain))
@@ -40,19 +40,19 @@ module _ (H : List ℕ → Digest) (w : WorldState) where
 
   -- a follower took a reply
   handed : (f : ℕ) (x y : FollowerState) (r : Reply) (j : ℕ) → slice_get w.followers f ≡ Some x → slice_get w.replies j ≡ Some r
-      → y ≡ cond (applies r x) (moved H w.sent r.kind x) x →
+      → y ≡ cond (applies r x) (follower_moved H w.sent r.kind x) x →
       record w { followers = slice_set w.followers f y } ≡ with_moved H w f (slice_get w.followers f) (slice_get w.replies j)
   handed f x y r j at_f at_j is =
       let made = λ (xs : List FollowerState). let v : WorldState = record w { followers = xs } in v in
       ap (λ z. made (slice_set w.followers f z)) is ∙ (ap made (by (applies r x)) ∙ ap₂ (λ a b. with_moved H w f a b) (sym at_f) (sym at_j))
     where
-      by : (b : Bool) → slice_set w.followers f (cond b (moved H w.sent r.kind x) x)
-          ≡ cond b (slice_set w.followers f (moved H w.sent r.kind x)) w.followers
+      by : (b : Bool) → slice_set w.followers f (cond b (follower_moved H w.sent r.kind x) x)
+          ≡ cond b (slice_set w.followers f (follower_moved H w.sent r.kind x)) w.followers
       by true = refl
       by false = set_same w.followers f x at_f
 
   pub handed_ok : {T E : Type 0} (a : Result T E) (f : ℕ) (x y : FollowerState) (r : Reply) (j : ℕ) → slice_get w.followers f ≡ Some x
-      → slice_get w.replies j ≡ Some r → OnOk a (y ≡ cond (applies r x) (moved H w.sent r.kind x) x) →
+      → slice_get w.replies j ≡ Some r → OnOk a (y ≡ cond (applies r x) (follower_moved H w.sent r.kind x) x) →
       OnOk a (record w { followers = slice_set w.followers f y } ≡ with_moved H w f (slice_get w.followers f) (slice_get w.replies j))
   handed_ok (Ok z) f x y r j at_f at_j h = handed f x y r j at_f at_j h
   handed_ok (Err e) f x y r j at_f at_j h = tt

@@ -10,7 +10,7 @@ use Rattle.bridge_prover.specs.Bridge.{verdict_on, message_on}
 use Rattle.relay_core.specs.declared.act.Outcome.{Outcome}
 use Rattle.relay_core.specs.Changes.{ChangesAsTold}
 use Rattle.relay_core.specs.Acts.{WorldAct, BridgeTook, FollowerAsked, AskServed, ReplyDelivered}
-use Rattle.relay_core.specs.World.{FollowerState, WorldState, is_accepted, sent_of, with_ask, with_reply, next_world, outcome_on}
+use Rattle.relay_core.specs.World.{FollowerState, WorldState, is_acceptance, sent_of, with_ask, with_reply, next_world, outcome_on}
 use Rattle.relay_core.specs.Branches.{Begun, AreActBytes, StandsForActs, AreOnBranches, IsNeverRefused, IsNotLost, Digests}
 use Rattle.relay_core.proofs.Changing.{outcomes_tell_changes}
 use Rattle.relay_core.proofs.Acting.{acts_are_followed, followers_are_on_branches, no_reply_is_lost, replies_are_never_refused}
@@ -34,8 +34,8 @@ module _ (H : List ℕ → Digest) where
   given_one : (w : WorldState) (act : WorldAct) → length (next_world H w act).sent ≤ length w.sent + 1
   given_one w (BridgeTook event) =
       let e = event_in event in
-      let few = one_sent event (message_on H w.bridge e) (is_accepted (verdict_on w.bridge e)) in
-      omega (arith, length-append w.sent (cond (is_accepted (verdict_on w.bridge e)) (sent_of event (message_on H w.bridge e)) []), few)
+      let few = one_sent event (message_on H w.bridge e) (is_acceptance (verdict_on w.bridge e)) in
+      omega (arith, length-append w.sent (cond (is_acceptance (verdict_on w.bridge e)) (sent_of event (message_on H w.bridge e)) []), few)
   given_one w (FollowerAsked f) = by (slice_get w.followers f)
     where
       by : (x : Option FollowerState) → length (with_ask w x).sent ≤ length w.sent + 1

@@ -13,13 +13,13 @@ use Rattle.node_rules.specs.Reading.{nothing}
 use Rattle.node_rules.specs.Fitting.{AreEventBytes}
 use Rattle.node_rules.specs.Judging.{Rules}
 use Rattle.node_rules.specs.Machine.{BlockCame, Level, State, start, no_tip, event_in, own_judge, step, is_made}
-use Rattle.compact_node.specs.Node.{LevelStands, verdict_on}
+use Rattle.compact_node.specs.Node.{LevelStands, node_verdict}
 use Rattle.relay_core.specs.declared.act.Kind.TheVariants.{Lost}
 use Rattle.relay_core.specs.declared.act.Outcome.{Outcome}
 use Rattle.relay_core.specs.declared.act.Outcome.TheVariants.{Replied}
 use Rattle.relay_core.specs.declared.store.Reply.{Reply}
 use Rattle.relay_core.specs.Acts.{WorldAct, BridgeTook, FollowerAsked, AskServed, ReplyDelivered}
-use Rattle.relay_core.specs.World.{Sent, FollowerState, WorldState, fresh_world, newest_of, applies, sent_at, event_for, next_world, outcome_on, world_after}
+use Rattle.relay_core.specs.World.{Sent, FollowerState, WorldState, fresh_world, newest_serial, applies, sent_at, event_for, next_world, outcome_on, world_after}
 
 -- ---- branches
 
@@ -51,9 +51,9 @@ hash_in None = no_tip
 hash_in (Some b) = block_hash_of b
 
 -- the hash of the newest block of a branch
-abbrev pub tip_of : List (List ℕ) → Digest
-tip_of [] = no_tip
-tip_of (block ∷ older) = hash_in (block_in block)
+abbrev pub branch_tip : List (List ℕ) → Digest
+branch_tip [] = no_tip
+branch_tip (block ∷ older) = hash_in (block_in block)
 
 -- ---- a world beside the acts that make it
 
@@ -71,8 +71,8 @@ pub record Begun : Type 0 where
   pub lists : List (List (List ℕ))
 
 -- what the nodes of a world are told when they begin
-abbrev pub rules_of : Begun → Rules
-rules_of begun = record { net = begun.net; limits = begun.limits }
+abbrev pub begun_rules : Begun → Rules
+begun_rules begun = record { net = begun.net; limits = begun.limits }
 
 -- the world at its start
 abbrev pub begun_world : Begun → WorldState
@@ -91,10 +91,10 @@ pub record StandsForActs (H : List ℕ → Digest) (begun : Begun) (acts : List 
 -- watch list, for all outputs of the proving node after this branch
 pub record IsOnBranch (H : List ℕ → Digest) (begun : Begun) (acts : List WorldAct) (scripts : List (List ℕ))
     (x : FollowerState) : Type 0 where
-  pub given : newest_of x.serials ≤ length (world_after H (begun_world begun) acts).sent
-  pub blocks : x.node.newest.chain.blocks ≡ length (branch H (begun_world begun) acts (newest_of x.serials))
-  pub tip : x.node.newest.chain.tip ≡ tip_of (branch H (begun_world begun) acts (newest_of x.serials))
-  pub stands : LevelStands H scripts (level_after_all (rules_of begun) (branch H (begun_world begun) acts (newest_of x.serials)))
+  pub given : newest_serial x.serials ≤ length (world_after H (begun_world begun) acts).sent
+  pub blocks : x.node.newest.chain.blocks ≡ length (branch H (begun_world begun) acts (newest_serial x.serials))
+  pub tip : x.node.newest.chain.tip ≡ branch_tip (branch H (begun_world begun) acts (newest_serial x.serials))
+  pub stands : LevelStands H scripts (level_after_all (begun_rules begun) (branch H (begun_world begun) acts (newest_serial x.serials)))
       x.node.newest
   pub watch : x.node.scripts ≡ scripts
 
@@ -115,13 +115,13 @@ FollowersAreOnBranches = (H : List ℕ → Digest) → Digests H → (begun : Be
 abbrev pub OneSerialOneChain : Type 0
 OneSerialOneChain = (H : List ℕ → Digest) → Digests H → (begun : Begun) (acts : List WorldAct) (w : WorldState) →
     StandsForActs H begun acts w → (f g : ℕ) (x y : FollowerState) → slice_get w.followers f ≡ Some x → slice_get w.followers g ≡ Some y →
-    newest_of x.serials ≡ newest_of y.serials → (x.node.newest.chain ≡ y.node.newest.chain) × (x.node.newest.roots ≡ y.node.newest.roots)
+    newest_serial x.serials ≡ newest_serial y.serials → (x.node.newest.chain ≡ y.node.newest.chain) × (x.node.newest.roots ≡ y.node.newest.roots)
 
 -- a reply that applies is not refused by the node: it accepts the block, or goes back
 abbrev pub IsNeverRefused : (List ℕ → Digest) → WorldState → Type 0
 IsNeverRefused H w = (f j : ℕ) (x : FollowerState) (r : Reply) → slice_get w.followers f ≡ Some x → slice_get w.replies j ≡ Some r
     → applies r x ≡ true →
-    is_made (Some (verdict_on H x.node (event_in (event_for w.sent r.kind)))) ≡ true
+    is_made (Some (node_verdict H x.node (event_in (event_for w.sent r.kind)))) ≡ true
 
 abbrev pub RepliesAreNeverRefused : Type 0
 RepliesAreNeverRefused = (H : List ℕ → Digest) → Digests H → (begun : Begun) (acts : List WorldAct) (w : WorldState) →

@@ -5,12 +5,12 @@ use Rattle.uo_digest.specs.declared.digest.Digest.{Digest}
 use Rattle.compact_node.specs.Node.{LevelStands}
 use Rattle.relay_core.specs.Acts.{WorldAct}
 use Rattle.relay_core.specs.World.{FollowerState, WorldState}
-use Rattle.relay_core.specs.Branches.{Digests, Begun, rules_of, begun_world, branch, level_after_all, StandsForActs}
+use Rattle.relay_core.specs.Branches.{Digests, Begun, begun_rules, begun_world, branch, level_after_all, StandsForActs}
 
 -- a follower has a serial for each of its levels, and each level stands for all outputs of the proving node after the branch of its serial
 abbrev pub HasLevelsOf : (List ℕ → Digest) → Begun → List WorldAct → FollowerState → Type 0
 HasLevelsOf H begun acts x =
-    AllZip (λ s l. LevelStands H x.node.scripts (level_after_all (rules_of begun) (branch H (begun_world begun) acts s)) l) x.serials
+    AllZip (λ s l. LevelStands H x.node.scripts (level_after_all (begun_rules begun) (branch H (begun_world begun) acts s)) l) x.serials
     (x.node.newest ∷ x.node.older)
 
 abbrev pub SerialsAreOfLevels : Type 0

@@ -54,9 +54,9 @@ fresh_world net limits lists = record {
 }
 
 -- the first of some serials, the newest
-abbrev pub newest_of : List ℕ → ℕ
-newest_of [] = 0
-newest_of (s ∷ older) = s
+abbrev pub newest_serial : List ℕ → ℕ
+newest_serial [] = 0
+newest_serial (s ∷ older) = s
 
 -- ---- the bridge handles an event
 
@@ -69,12 +69,12 @@ chain_after (TooDeep asked kept) serial chain = chain
 chain_after Stray serial chain = chain
 
 -- whether a block was accepted
-abbrev pub is_accepted : Verdict → Bool
-is_accepted (Accepted height hash leaves) = true
-is_accepted (Refused height hash why) = false
-is_accepted (RolledBack count height hash leaves) = false
-is_accepted (TooDeep asked kept) = false
-is_accepted Stray = false
+abbrev pub is_acceptance : Verdict → Bool
+is_acceptance (Accepted height hash leaves) = true
+is_acceptance (Refused height hash why) = false
+is_acceptance (RolledBack count height hash leaves) = false
+is_acceptance (TooDeep asked kept) = false
+is_acceptance Stray = false
 
 -- what is sent of an event that is an accepted block
 abbrev pub sent_of : FeedEvent → Option (List ℕ) → List Sent
@@ -84,7 +84,7 @@ sent_of StrayCame message = []
 
 -- the blocks that were sent, with that of an event if it is accepted
 abbrev pub sent_after : Verdict → FeedEvent → Option (List ℕ) → List Sent → List Sent
-sent_after v event message sent = sent ++ (if is_accepted v then sent_of event message else [])
+sent_after v event message sent = sent ++ (if is_acceptance v then sent_of event message else [])
 
 -- the world once the bridge has handled an event
 abbrev pub with_event : (List ℕ → Digest) → WorldState → FeedEvent → WorldState
@@ -105,9 +105,9 @@ with_ask w None = w
 with_ask w (Some x) = record w { asks = w.asks ++ x.serials ∷ [] }
 
 -- the number of that ask, or that there is no such follower
-abbrev pub asked : WorldState → Option FollowerState → Outcome
-asked w None = Unknown
-asked w (Some x) = Asked (length w.asks)
+abbrev pub ask_outcome : WorldState → Option FollowerState → Outcome
+ask_outcome w None = Unknown
+ask_outcome w (Some x) = Asked (length w.asks)
 
 -- ---- the bridge answers an ask
 
@@ -117,9 +117,9 @@ is_on [] s = false
 is_on (x ∷ chain) s = (x == s) || is_on chain s
 
 -- the least index at which one of some serials is on a chain
-abbrev pub met_at : List ℕ → List ℕ → Option ℕ
-met_at chain [] = None
-met_at chain (s ∷ older) = if is_on chain s then Some 0 else option_map (λ k. suc k) (met_at chain older)
+abbrev pub fork_index : List ℕ → List ℕ → Option ℕ
+fork_index chain [] = None
+fork_index chain (s ∷ older) = if is_on chain s then Some 0 else option_map (λ k. suc k) (fork_index chain older)
 
 -- the serial right after one on a chain: none where that one is the newest
 abbrev pub after_on : List ℕ → ℕ → Option ℕ
@@ -140,7 +140,7 @@ kind_by chain first (Some (suc k)) = Back (suc k)
 
 -- what the bridge replies, by its chain, to one who asked with these serials
 abbrev pub reply_to : List ℕ → List ℕ → Reply
-reply_to chain serials = record { first = newest_of serials; kind = kind_by chain (newest_of serials) (met_at chain serials) }
+reply_to chain serials = record { first = newest_serial serials; kind = kind_by chain (newest_serial serials) (fork_index chain serials) }
 
 -- the world with the reply to an ask, if there is such an ask
 abbrev pub with_reply : WorldState → Option (List ℕ) → WorldState
@@ -163,7 +163,7 @@ can_do Lost kept = false
 
 -- whether a reply moves a follower: its newest serial is that of the one who asked, and it can do what is said
 abbrev pub applies : Reply → FollowerState → Bool
-applies r x = (newest_of x.serials == r.first) && can_do r.kind (length x.node.older)
+applies r x = (newest_serial x.serials == r.first) && can_do r.kind (length x.node.older)
 
 -- the block of a serial, with its message
 abbrev pub sent_at : List Sent → ℕ → Option Sent
@@ -190,15 +190,15 @@ serials_after (Back count) serials = drop count serials
 serials_after Lost serials = serials
 
 -- a follower once it has done what a reply says
-abbrev pub moved : (List ℕ → Digest) → List Sent → Kind → FollowerState → FollowerState
-moved H sent kind x = record { node = next_node H x.node (event_in (event_for sent kind)); serials = serials_after kind x.serials }
+abbrev pub follower_moved : (List ℕ → Digest) → List Sent → Kind → FollowerState → FollowerState
+follower_moved H sent kind x = record { node = next_node H x.node (event_in (event_for sent kind)); serials = serials_after kind x.serials }
 
 -- the followers once one of them got a reply: it has moved, if the reply applies to it
 abbrev pub followers_after : (List ℕ → Digest) → List Sent → List FollowerState → ℕ → Option FollowerState → Option Reply
     → List FollowerState
 followers_after H sent followers f None r = followers
 followers_after H sent followers f (Some x) None = followers
-followers_after H sent followers f (Some x) (Some r) = if applies r x then slice_set followers f (moved H sent r.kind x) else followers
+followers_after H sent followers f (Some x) (Some r) = if applies r x then slice_set followers f (follower_moved H sent r.kind x) else followers
 
 -- the world once a follower got a reply
 abbrev pub with_moved : (List ℕ → Digest) → WorldState → ℕ → Option FollowerState → Option Reply → WorldState
@@ -208,7 +208,7 @@ with_moved H w f x r = record w { followers = followers_after H w.sent w.followe
 abbrev pub delivered : Option FollowerState → Option Reply → Outcome
 delivered None r = Unknown
 delivered (Some x) None = Unknown
-delivered (Some x) (Some r) = if applies r x then Moved (newest_of (serials_after r.kind x.serials)) else Stale
+delivered (Some x) (Some r) = if applies r x then Moved (newest_serial (serials_after r.kind x.serials)) else Stale
 
 -- ---- an act
 
@@ -222,7 +222,7 @@ next_world H w (ReplyDelivered f j) = with_moved H w f (slice_get w.followers f)
 -- what comes of an act in a world
 abbrev pub outcome_on : WorldState → WorldAct → Outcome
 outcome_on w (BridgeTook event) = Judged (verdict_on w.bridge (event_in event))
-outcome_on w (FollowerAsked f) = asked w (slice_get w.followers f)
+outcome_on w (FollowerAsked f) = ask_outcome w (slice_get w.followers f)
 outcome_on w (AskServed j) = replied w (slice_get w.asks j)
 outcome_on w (ReplyDelivered f j) = delivered (slice_get w.followers f) (slice_get w.replies j)
 

@@ -1,7 +1,7 @@
 //! A follower.
 ghost use Rattle.std.specs.Prelude.{◌≡◌, ◌<◌, ◌≤◌, ◌^◌, ◌∷◌, [], length, reverse, slice_get, IfOk, OnOk, OnErr};
 ghost use Rattle.uo_base.specs.FeedEvent.{event_of};
-ghost use Rattle.relay_core.specs.World.{newest_of, fresh_follower, applies, can_do, moved};
+ghost use Rattle.relay_core.specs.World.{newest_serial, fresh_follower, applies, can_do, follower_moved};
 ghost use Rattle.relay_core.specs.declared.act.Kind.TheVariants as Said;
 
 use crate::act::Kind;
@@ -59,7 +59,7 @@ impl<D: Digester> Follower<D> {
     }
 
     pub(crate) fn newest(&self) -> u64
-        ensures { result ≡ newest_of self.now.serials }
+        ensures { result ≡ newest_serial self.now.serials }
     {
         newest(self.serials.as_slice())
     }
@@ -95,7 +95,7 @@ impl<D: Digester> Follower<D> {
         kind: Kind,
         steps: &mut Steps<L>,
     ) -> Result<(), NoMemory>
-        ensures next { OnOk result (self.new ≡ moved D.digest_of sent.now kind self.old) }
+        ensures next { OnOk result (self.new ≡ follower_moved D.digest_of sent.now kind self.old) }
         ensures stays { OnErr result (self.new ≡ self.old) }
     {
         match kind {
@@ -111,7 +111,7 @@ impl<D: Digester> Follower<D> {
         serial: u64,
         steps: &mut Steps<L>,
     ) -> Result<(), NoMemory>
-        ensures next { OnOk result (self.new ≡ moved D.digest_of sent.now (Said.Next serial) self.old) }
+        ensures next { OnOk result (self.new ≡ follower_moved D.digest_of sent.now (Said.Next serial) self.old) }
         ensures stays { OnErr result (self.new ≡ self.old) }
     {
         self.serials.reserve(1)?;
@@ -121,7 +121,7 @@ impl<D: Digester> Follower<D> {
     }
 
     fn go_back<L: Ledger>(&mut self, count: u32, steps: &mut Steps<L>) -> Result<(), NoMemory>
-        ensures next { OnOk result (self.new ≡ moved D.digest_of [] (Said.Back count) self.old) }
+        ensures next { OnOk result (self.new ≡ follower_moved D.digest_of [] (Said.Back count) self.old) }
         ensures stays { OnErr result (self.new ≡ self.old) }
     {
         self.node.step(Event::Rollback { count }, steps)?;

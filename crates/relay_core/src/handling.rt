@@ -5,7 +5,7 @@ ghost use Rattle.std.specs.Vec.{vec_len, vec_capacity};
 ghost use Rattle.uo_base.specs.FeedEvent as Feed;
 ghost use Rattle.node_rules.specs.Machine.{event_in};
 ghost use Rattle.bridge_prover.specs.Bridge.{verdict_on, next_bridge, message_on};
-ghost use Rattle.relay_core.specs.World.{Sent, chain_after, is_accepted, sent_after};
+ghost use Rattle.relay_core.specs.World.{Sent, chain_after, is_acceptance, sent_after};
 ghost use Rattle.relay_core.specs.Rising.{IsRising};
 
 use crate::line::cut;

@@ -2,7 +2,7 @@
 ghost use Rattle.std.specs.Prelude.{◌≡◌, ◌+◌, ◌<◌, ◌≤◌, ℕ, ◌∷◌, length, take, drop, reverse, slice_get, slice_index, Some, None, false, is_some};
 ghost use Rattle.std.specs.Prelude.{IfSome, OnErr};
 ghost use Rattle.std.specs.Vec.{vec_len, vec_capacity};
-ghost use Rattle.relay_core.specs.World.{newest_of, is_on, met_at, after_on, next_or_same, reply_to};
+ghost use Rattle.relay_core.specs.World.{newest_serial, is_on, fork_index, after_on, next_or_same, reply_to};
 ghost use Rattle.relay_core.specs.Rising.{IsRising};
 
 use crate::act::Kind;
@@ -10,7 +10,7 @@ use crate::store::Reply;
 
 // The newest.
 pub(crate) fn newest(serials: &[u64]) -> u64
-    ensures { result ≡ newest_of (reverse serials.now) }
+    ensures { result ≡ newest_serial (reverse serials.now) }
 {
     match serials.last() {
         Some(serial) => *serial,
@@ -81,7 +81,7 @@ fn has(chain: &[u64], serial: u64) -> bool
 // The least number of newer serials before one that is on the chain.
 fn met(chain: &[u64], serials: &[u64]) -> Option<usize>
     requires { (n : ℕ) × IsRising n chain.now }
-    ensures is { result ≡ met_at (reverse chain.now) (reverse serials.now) }
+    ensures is { result ≡ fork_index (reverse chain.now) (reverse serials.now) }
     ensures within { IfSome result (λ k. k < length serials.now) }
 {
     let count = serials.len();

@@ -7,7 +7,7 @@ ghost use Rattle.node_rules.specs.Fitting.{IsShort};
 ghost use Rattle.node_rules.specs.Machine.{event_in};
 ghost use Rattle.bridge_prover.specs.Bridge.{verdict_on};
 ghost use Rattle.relay_core.specs.Acts.{WorldAct, FollowerAsked, AskServed, ReplyDelivered, IsShortAct, act_of};
-ghost use Rattle.relay_core.specs.World.{newest_of, applies, moved, delivered, fresh_follower};
+ghost use Rattle.relay_core.specs.World.{newest_serial, applies, follower_moved, delivered, fresh_follower};
 ghost use Rattle.relay_core.specs.Branches.{AreActBytes};
 
 use crate::act::{Act, Outcome};
@@ -119,7 +119,7 @@ impl<D: Digester> World<D> {
     /// The serial of the newest block of a follower; 0 where it has none.
     pub fn serial(&self, follower: u32) -> u64
         requires { follower < length self.now.followers }
-        ensures { option_map (λ x. newest_of x.serials) (slice_get self.now.followers follower) ≡ Some result }
+        ensures { option_map (λ x. newest_serial x.serials) (slice_get self.now.followers follower) ≡ Some result }
     {
         self.followers[follower as usize].newest()
     }
@@ -287,7 +287,7 @@ fn hand<D: Digester, L: Ledger>(
 ) -> Result<Outcome, NoMemory>
     ensures outcome { IfOk result (λ o. o ≡ delivered (Some follower.old) (Some reply.now)) }
     ensures next { OnOk result (follower.new
-        ≡ (if applies reply.now follower.old then moved D.digest_of sent.now reply.now.kind follower.old else follower.old)) }
+        ≡ (if applies reply.now follower.old then follower_moved D.digest_of sent.now reply.now.kind follower.old else follower.old)) }
     ensures stays { OnErr result (follower.new ≡ follower.old) }
 {
     if follower.can_take(reply) {

@@ -32,25 +32,25 @@ use Rattle.audit_replay.proofs.Shown.{shows, shows_none}
 use Rattle.ticket_check.specs.Tickets.{Ticket, TicketFits}
 use Rattle.ticket_check.specs.declared.verdict.TicketVerdict.{TicketVerdict}
 use Rattle.ticket_check.specs.declared.verdict.TicketVerdict.TheVariants as Verdict
-use Rattle.ticket_check.specs.Judging.{TicketAccepts, TicketRight, view_of, target_in, message_of, points, ticket_fault, unless_refused}
+use Rattle.ticket_check.specs.Judging.{TicketAccepts, TicketRight, stump_view, target_in, ticket_message, points, ticket_fault, unless_refused}
 use Rattle.ticket_check.specs.Judging.{ticket_verdict}
 use Rattle.ticket_check.specs.declared.checked.Checked.{Checked}
 use Rattle.ticket_check.specs.declared.checked.Checked.TheVariants as Said
 use Rattle.ticket_check.specs.Laws.{CheckedIsAccepted, LiveIsRight, RecheckedIsRight}
 use Rattle.ticket_check.specs.Clashing.{IsTicketClash, spending, ticket_clash_in}
-use Rattle.ticket_check.specs.Checking.{live_of, said_by, verdict_over, view_in, unless_clash, over_all, AcceptsAmong, AcceptsOver, IsRechecked}
+use Rattle.ticket_check.specs.Checking.{live_of, said_of_live, verdict_of_ticket, view_in, unless_clash, over_all, AcceptsAmong, AcceptsOver, IsRechecked}
 use Rattle.ticket_check.specs.Checking.{said_of, rechecked_by, recheck_of, rechecked_over, recheck_over}
 use Rattle.ticket_check.specs.Reading.{ticket_in}
 use Rattle.ticket_check.specs.declared.fault.TicketFault.{TicketFault}
 use Rattle.ticket_check.proofs.Tickets.{live_is_accepted, right_is_live, ticket_right_is_tested, target_one, passes_one}
 
 -- only what is live is said to be so
-live_only : (v : TicketVerdict) (k : Ticket) → said_by v (live_of k) ≡ live_of k → v ≡ Verdict.Live
+live_only : (v : TicketVerdict) (k : Ticket) → said_of_live v (live_of k) ≡ live_of k → v ≡ Verdict.Live
 live_only Verdict.Tip k e = absurd cc
 live_only (Verdict.Refused why) k e = absurd cc
 live_only Verdict.Live k e = refl
 
-no_clash : (v : TicketVerdict) (k : Ticket) (c : TextClash) → said_by v (live_of k) ≡ Said.Clash c → ⊥
+no_clash : (v : TicketVerdict) (k : Ticket) (c : TextClash) → said_of_live v (live_of k) ≡ Said.Clash c → ⊥
 no_clash Verdict.Tip k c e = cc
 no_clash (Verdict.Refused why) k c e = cc
 no_clash Verdict.Live k c e = cc
@@ -59,9 +59,9 @@ no_clash Verdict.Live k c e = cc
 
 pub checked_is_accepted : CheckedIsAccepted
 checked_is_accepted H s k =
-    let law = live_is_accepted H (view_of s.newest.roots) s.newest.chain.tip k in
+    let law = live_is_accepted H (stump_view s.newest.roots) s.newest.chain.tip k in
     record {
-      live = (λ e. law.0 (live_only (verdict_over H s k) k e), λ a. ap (λ v. said_by v (live_of k)) (law.1 a));
+      live = (λ e. law.0 (live_only (verdict_of_ticket H s k) k e), λ a. ap (λ v. said_of_live v (live_of k)) (law.1 a));
       why = refl;
     }
 
@@ -71,11 +71,11 @@ abbrev over : (List ℕ → Digest) → List (Option Digest) → View
 over H es = record { n = length es; roots = root H es; known = nothing_known }
 
 pub same_verdict : (H : List ℕ → Digest) (es : List (Option Digest)) (tip : Digest) (k : Ticket) (f : Stump) → StandsFor H es f
-    → ticket_verdict H (view_of f) tip k ≡ ticket_verdict H (over H es) tip k
+    → ticket_verdict H (stump_view f) tip k ≡ ticket_verdict H (over H es) tip k
 same_verdict H es tip k f stands =
     ap (λ x. if is_same k.tip tip then unless_refused x else Verdict.Tip)
-    (fault_alike H (view_of f) (over H es) (record { n = stands.leaves; roots = stands.roots; known = λ row off. refl }) (points k)
-    (message_of k))
+    (fault_alike H (stump_view f) (over H es) (record { n = stands.leaves; roots = stands.roots; known = λ row off. refl }) (points k)
+    (ticket_message k))
 
 pub live_is_right : LiveIsRight
 live_is_right H t s k stands honest = let checked = checked_is_accepted H s k in (λ e. honest (checked.live.0 e), λ r. checked.live.1 (accepts r))
@@ -88,9 +88,9 @@ live_is_right H t s k stands honest = let checked = checked_is_accepted H s k in
         (right_is_live H t.now.history t.now.tip k r) in
         let live = (live_is_accepted H (over H (entries H leaf_text t.now.history)) t.now.tip k).1 there in
         let tip_is : s.newest.chain.tip ≡ t.now.tip = ap (λ (x : Chain). x.tip) stands.newest.chain in
-        let here = ap (λ x. ticket_verdict H (view_of s.newest.roots) x k) tip_is
+        let here = ap (λ x. ticket_verdict H (stump_view s.newest.roots) x k) tip_is
         ∙ (same_verdict H (entries H leaf_text t.now.history) t.now.tip k s.newest.roots stands.newest.roots ∙ live) in
-        (live_is_accepted H (view_of s.newest.roots) s.newest.chain.tip k).0 here
+        (live_is_accepted H (stump_view s.newest.roots) s.newest.chain.tip k).0 here
 
 -- ---- by an auditor
 
@@ -101,7 +101,7 @@ rechecked_same H s k is =
     let us = history_of s in
     let entries_are = (own_history H s is).entries_are in
     let counted : length s.entries ≡ length us = ap length entries_are ∙ length-map us (option_map (λ (l : Leaf). H (leaf_text l))) in
-    let said : View → Checked = λ view. said_by (ticket_verdict H view s.chain.tip k) (unless_clash (ticket_clash_in H us k) k) in
+    let said : View → Checked = λ view. said_of_live (ticket_verdict H view s.chain.tip k) (unless_clash (ticket_clash_in H us k) k) in
     ap (λ (e : List (Option Digest)). said (record { n = length s.entries; roots = root H e; known = nothing_known })) entries_are
     ∙ ap (λ n. said (record { n = n; roots = root H (entries H leaf_text us); known = nothing_known })) counted
 
@@ -168,15 +168,15 @@ module _ (H : List ℕ → Digest) (long : (x : List ℕ) → IsDigest (H x)) (s
       ∙ ap (λ n. ticket_verdict H (record { n = n; roots = root H (entries H leaf_text us); known = nothing_known }) tip k) (sym same_length)
 
   -- it is refused
-  refused_so : (v : TicketVerdict) (live : Checked) → verdict ≡ v → (v ≡ Verdict.Live → ⊥) → said_by v live ≡ said_by v (live_of k)
-      → IsRechecked H us tip k (said_by v live)
+  refused_so : (v : TicketVerdict) (live : Checked) → verdict ≡ v → (v ≡ Verdict.Live → ⊥) → said_of_live v live ≡ said_of_live v (live_of k)
+      → IsRechecked H us tip k (said_of_live v live)
   refused_so v live is other same =
       let never : Accepts → ⊥ = λ a. other (sym is ∙ (live_is_accepted H (view_in H s) tip k).1 a) in
       record {
         live = (λ e. absurd (other (live_only v k (sym same ∙ e))), λ r. absurd (never (right_accepts r)));
         clash = (λ w. absurd (no_clash v k w.0 (sym same ∙ w.1)), λ w. absurd (never (to_entries w.0)));
         shows = λ c e. absurd (no_clash v k c (sym same ∙ e));
-        why = λ no_way. same ∙ ap (λ x. said_by x (live_of k)) (sym is ∙ verdict_us);
+        why = λ no_way. same ∙ ap (λ x. said_of_live x (live_of k)) (sym is ∙ verdict_us);
       }
 
   -- it is right
@@ -208,16 +208,16 @@ module _ (H : List ℕ → Digest) (long : (x : List ℕ) → IsDigest (H x)) (s
     none_here : ticket_fault H (view_in H s) k ≡ None
     none_here = passes_one H (view_in H s) k a.place a.named a.accepted
 
-    none_there : proof_fault H (over H (entries H leaf_text us)) (points k) (message_of k) ≡ None
-    none_there = subst (λ e. proof_fault H (over H e) (points k) (message_of k) ≡ None) stand.entries_are none_here
+    none_there : proof_fault H (over H (entries H leaf_text us)) (points k) (ticket_message k) ≡ None
+    none_there = subst (λ e. proof_fault H (over H e) (points k) (ticket_message k) ≡ None) stand.entries_are none_here
 
-    tested : is_right H us nothing_known (points k) (message_of k) ≡ true → Right
+    tested : is_right H us nothing_known (points k) (ticket_message k) ≡ true → Right
     tested sound =
         (ticket_right_is_tested H us tip k).0
-        (and_from (is_same k.tip tip) (is_right H us nothing_known (points k) (message_of k))
+        (and_from (is_same k.tip tip) (is_right H us nothing_known (points k) (ticket_message k))
         (subst (λ d. is_same k.tip d ≡ true) a.tip_is (is_same-same k.tip)) sound)
 
-    untested : is_right H us nothing_known (points k) (message_of k) ≡ false → Right → ⊥
+    untested : is_right H us nothing_known (points k) (ticket_message k) ≡ false → Right → ⊥
     untested wrong r = false≢true (sym (ap (λ b. is_same k.tip tip && b) wrong ∙ never (is_same k.tip tip)) ∙ (ticket_right_is_tested H us tip k).1 r)
       where
         never : (b : Bool) → (b && false) ≡ false
@@ -227,7 +227,7 @@ module _ (H : List ℕ → Digest) (long : (x : List ℕ) → IsDigest (H x)) (s
     named_there : target_in (length us) k ≡ Some a.place
     named_there = subst (λ n. target_in n k ≡ Some a.place) (sym same_length) a.named
 
-    ticket_clash_so : (c : TextClash) → IsClash H us nothing_known (points k) (message_of k) c → IsTicketClash H us k c
+    ticket_clash_so : (c : TextClash) → IsClash H us nothing_known (points k) (ticket_message k) c → IsTicketClash H us k c
     ticket_clash_so c w = record {
       place = a.place;
       named = named_there;
@@ -242,21 +242,21 @@ module _ (H : List ℕ → Digest) (long : (x : List ℕ) → IsDigest (H x)) (s
       };
     }
 
-    accepted_so : (b : Bool) → is_right H us nothing_known (points k) (message_of k) ≡ b → IsRechecked H us tip k (unless_clash found k)
+    accepted_so : (b : Bool) → is_right H us nothing_known (points k) (ticket_message k) ≡ b → IsRechecked H us tip k (unless_clash found k)
     accepted_so true sound =
         right_so a (tested sound) found
-        (shows_none H long us s.held stand_there outside (message_of k) refl (fits.leaf, tt) fits.hashes nothing_known
+        (shows_none H long us s.held stand_there outside (ticket_message k) refl (fits.leaf, tt) fits.hashes nothing_known
         (λ row off d e. absurd (none-some d e)) none_there sound)
     accepted_so false wrong =
-        let x = shows H long us s.held stand_there outside (message_of k) refl (fits.leaf, tt) fits.hashes nothing_known
+        let x = shows H long us s.held stand_there outside (ticket_message k) refl (fits.leaf, tt) fits.hashes nothing_known
         (λ row off d e. absurd (none-some d e)) none_there wrong in
         clash_so a (untested wrong) found x.0 x.1 (ticket_clash_so x.0 x.2)
 
-  by_verdict : (v : TicketVerdict) → verdict ≡ v → IsRechecked H us tip k (said_by v (unless_clash found k))
+  by_verdict : (v : TicketVerdict) → verdict ≡ v → IsRechecked H us tip k (said_of_live v (unless_clash found k))
   by_verdict Verdict.Tip e = refused_so Verdict.Tip (unless_clash found k) e (λ z. cc) refl
   by_verdict (Verdict.Refused why) e = refused_so (Verdict.Refused why) (unless_clash found k) e (λ z. cc) refl
   by_verdict Verdict.Live e = accepted_so ((live_is_accepted H (view_in H s) tip k).0 e)
-      (is_right H us nothing_known (points k) (message_of k)) refl
+      (is_right H us nothing_known (points k) (ticket_message k)) refl
 
 pub rechecked_is_right : RecheckedIsRight
 rechecked_is_right H long s k audit fits = by_verdict H long s k audit fits (ticket_verdict H (view_in H s) s.chain.tip k) refl

@@ -20,7 +20,7 @@ use Rattle.clash_find.specs.Answers.{StandForHistory, IsAnswerIn, AcceptsAll}
 use Rattle.clash_find.specs.Found.{IsFirstPair, first_pair}
 use Rattle.ticket_check.specs.Tickets.{Ticket}
 use Rattle.ticket_check.specs.Alone.{target_at}
-use Rattle.ticket_check.specs.Judging.{TicketAccepts, target_in, message_of}
+use Rattle.ticket_check.specs.Judging.{TicketAccepts, target_in, ticket_message}
 use Rattle.ticket_check.specs.Clashing.{IsTicketAnswer, ticket_clash_in}
 use Rattle.ticket_check.proofs.Tickets.{IsTarget, target_is, target_one, passes_one}
 
@@ -89,7 +89,7 @@ module _ (H : List ℕ → Digest) (es : List (Option Digest)) (held : List Held
     whole : (us : History) → StandForHistory H es held us → ticket_clash_in H us k ≡ first_pair H us (p ∷ []) (k.leaf ∷ []) nothing_known k.hashes
     whole us s =
         let over : View = record { n = length us; roots = root H (entries H leaf_text us); known = nothing_known } in
-        ap (λ (y : Option ProofRefusal). if is_none y then first_pair H us (targets (length us) (message_of k)) (k.leaf ∷ []) nothing_known k.hashes
+        ap (λ (y : Option ProofRefusal). if is_none y then first_pair H us (targets (length us) (ticket_message k)) (k.leaf ∷ []) nothing_known k.hashes
         else None) (passes_one H over k p (named_there us s) (accepted_there us s))
         ∙ ap (λ ts. first_pair H us ts (k.leaf ∷ []) nothing_known k.hashes) (target_one H over k p (named_there us s))
 

@@ -35,19 +35,19 @@ use Rattle.block_rules.specs.declared.chain.Chain.{Chain}
 use Rattle.node_rules.proofs.Righting.{got, got_entry}
 use Rattle.compact_node.specs.Node.{LevelState, NodeState, IsNode}
 use Rattle.ticket_check.specs.Judging.{TicketRight}
-use Rattle.ticket_check.specs.Written.{kept_entry, ticket_with}
+use Rattle.ticket_check.specs.Written.{kept_of_number, ticket_with}
 use Rattle.ticket_check.specs.Laws.{KeptTicketsAreRight}
 use Rattle.proof_verify.proofs.Values.{asked_all}
 
 -- ---- what is found
 
 -- it comes from one number
-found_from : (f : ℕ → Option Kept) (i : ℕ) (xs : List ℕ) (v : Kept) → kept_entry (filter_map f xs) i ≡ Some v → (x : ℕ) × (f x ≡ Some v)
+found_from : (f : ℕ → Option Kept) (i : ℕ) (xs : List ℕ) (v : Kept) → kept_of_number (filter_map f xs) i ≡ Some v → (x : ℕ) × (f x ≡ Some v)
 found_from f i [] v e = absurd (none-some v e)
 found_from f i (x ∷ xs) v e = by_first (f x) refl e (found_from f i xs v)
   where
-    by_first : (y : Option Kept) → f x ≡ y → kept_entry (cons_option y (filter_map f xs)) i ≡ Some v
-        → (kept_entry (filter_map f xs) i ≡ Some v → (z : ℕ) × (f z ≡ Some v)) → (z : ℕ) × (f z ≡ Some v)
+    by_first : (y : Option Kept) → f x ≡ y → kept_of_number (cons_option y (filter_map f xs)) i ≡ Some v
+        → (kept_of_number (filter_map f xs) i ≡ Some v → (z : ℕ) × (f z ≡ Some v)) → (z : ℕ) × (f z ≡ Some v)
     by_first None g e rest = rest e
     by_first (Some y) g e rest =
         ⊎_elim
@@ -55,7 +55,7 @@ found_from f i (x ∷ xs) v e = by_first (f x) refl e (found_from f i xs v)
         (λ t. rest (rw t at e))
         (cases_Bool (is_same_number i y.number))
 
-found_number : (ks : List Kept) (i : ℕ) (v : Kept) → kept_entry ks i ≡ Some v → v.number ≡ i
+found_number : (ks : List Kept) (i : ℕ) (v : Kept) → kept_of_number ks i ≡ Some v → v.number ≡ i
 found_number [] i v e = absurd (none-some v e)
 found_number (k ∷ ks) i v e =
     ⊎_elim
@@ -63,7 +63,7 @@ found_number (k ∷ ks) i v e =
     (λ t. found_number ks i v (rw t at e))
     (cases_Bool (is_same_number i k.number))
 
-found_place : (ks : List Kept) (i : ℕ) (v : Kept) → kept_entry ks i ≡ Some v → has_place (leaf_places ks) v.place.row v.place.off ≡ true
+found_place : (ks : List Kept) (i : ℕ) (v : Kept) → kept_of_number ks i ≡ Some v → has_place (leaf_places ks) v.place.row v.place.off ≡ true
 found_place [] i v e = absurd (none-some v e)
 found_place (k ∷ ks) i v e =
     ⊎_elim
@@ -75,7 +75,7 @@ found_place (k ∷ ks) i v e =
     (cases_Bool (is_same_number i k.number))
 
 -- a kept entry stands where a place has a fixed position
-pub kept_low : (s : NodeState) (number : ℕ) (e : Kept) → IsNode s → kept_entry s.newest.kept number ≡ Some e → IsLow e.place.row e.place.off
+pub kept_low : (s : NodeState) (number : ℕ) (e : Kept) → IsNode s → kept_of_number s.newest.kept number ≡ Some e → IsLow e.place.row e.place.off
 kept_low s number e is found =
     let few = is.newest.stump.few in
     places_low s.newest.roots.leaves e.place.row e.place.off (omega (arith, few))
@@ -125,11 +125,11 @@ module _ (H : List ℕ → Digest) (us : History) where
       }
 
   right_of : (scripts : List (List ℕ)) (l : LevelState) (tip : Digest) (number : ℕ) (e : Kept) → length us < 2 ^ 40
-      → IsCacheOf H scripts us l.kept l.held → l.chain.tip ≡ tip → kept_entry l.kept number ≡ Some e
+      → IsCacheOf H scripts us l.kept l.held → l.chain.tip ≡ tip → kept_of_number l.kept number ≡ Some e
       → TicketRight H us tip (ticket_with l e)
   right_of scripts l tip number e few cache tip_is found =
       let from = found_from (kept_leaf H us) number (kept_numbers scripts us) e
-      (ap (λ ks. kept_entry ks number) (sym cache.of_kept) ∙ found) in
+      (ap (λ ks. kept_of_number ks number) (sym cache.of_kept) ∙ found) in
       let is = entry_from from.0 (get_or us from.0 None) (entry_place es from.0) e refl refl from.1 in
       let live = live_at from.0 e is in
       let same : number ≡ from.0 = sym (found_number l.kept number e found) ∙ is.number in
@@ -154,7 +154,7 @@ module _ (H : List ℕ → Digest) (us : History) where
       }
 
 pub kept_tickets_are_right : KeptTicketsAreRight
-kept_tickets_are_right H t s number k is stands e = by (kept_entry s.newest.kept number) refl e
+kept_tickets_are_right H t s number k is stands e = by (kept_of_number s.newest.kept number) refl e
   where
     few : length t.now.history < 2 ^ 40
     few =
@@ -163,7 +163,7 @@ kept_tickets_are_right H t s number k is stands e = by (kept_entry s.newest.kept
         let c = same_length H t.now.history in
         omega (arith, a, b, c)
 
-    by : (x : Option Kept) → kept_entry s.newest.kept number ≡ x → option_map (ticket_with s.newest) x ≡ Some k
+    by : (x : Option Kept) → kept_of_number s.newest.kept number ≡ x → option_map (ticket_with s.newest) x ≡ Some k
         → TicketRight H t.now.history t.now.tip k
     by None found w = absurd (none-some k w)
     by (Some e) found w =
@@ -173,6 +173,6 @@ kept_tickets_are_right H t s number k is stands e = by (kept_entry s.newest.kept
 -- ---- by the names of the calls
 
 pub low_so : (s : NodeState) (number : ℕ) (ks : List Kept) (x : Option (Bor Kept)) (b : Bor Kept) → IsNode s → ks ≡ s.newest.kept
-    → option_map (λ e. e.now) x ≡ kept_entry ks number → x ≡ Some b → IsLow b.now.place.row b.now.place.off
+    → option_map (λ e. e.now) x ≡ kept_of_number ks number → x ≡ Some b → IsLow b.now.place.row b.now.place.off
 low_so s number ks x b is kept found at =
-    kept_low s number b.now is (ap (λ z. kept_entry z number) (sym kept) ∙ (sym found ∙ ap (option_map (λ (e : Bor Kept). e.now)) at))
+    kept_low s number b.now is (ap (λ z. kept_of_number z number) (sym kept) ∙ (sym found ∙ ap (option_map (λ (e : Bor Kept). e.now)) at))

@@ -15,18 +15,18 @@ use Rattle.uo_digest.proofs.DigestLaws.{digest_lawful}
 use Rattle.leaf_record.specs.Leaf.{RestFits, LeafFits, rest_text}
 use Rattle.leaf_record.specs.Reading.{rest_at}
 use Rattle.leaf_record.proofs.LeafLaws.{rest_lawful}
-use Rattle.ticket_check.specs.Tickets.{Ticket, body_text, ticket_text, TicketFits, IsOfVersion}
+use Rattle.ticket_check.specs.Tickets.{Ticket, ticket_body_text, ticket_text, TicketFits, IsOfVersion}
 use Rattle.ticket_check.specs.declared.fault.TicketFault.{TicketFault}
 use Rattle.ticket_check.specs.declared.fault.TicketFault.TheVariants.{NotATicket, Version}
-use Rattle.ticket_check.specs.Reading.{front_text, body_at, ended_read, of_version, ticket_in, IsWhole}
+use Rattle.ticket_check.specs.Reading.{front_text, ticket_body_at, ended_read, of_version, ticket_in, IsWhole}
 
 hashes_lawful : Lawful (AreCounted IsDigest) (counted digest_text) (counted_at digest_in_front)
 hashes_lawful = counted_lawful IsDigest digest_text digest_in_front digest_lawful
 
-pub body_lawful : Lawful TicketFits body_text body_at
-unfolding body_at body_text
+pub body_lawful : Lawful TicketFits ticket_body_text ticket_body_at
+unfolding ticket_body_at ticket_body_text
 body_lawful =
-    same _ TicketFits _ body_text body_at
+    same _ TicketFits _ ticket_body_text ticket_body_at
     (led Always IsDigest digest_text digest_in_front (λ k. k.tip) _ _ _ digest_lawful (λ tip _.
     led (λ k. Unit {0} × (k.tip ≡ tip)) (λ n. n < 2 ^ 64) (to_le_bytes w64) (number_at w64) (λ k. k.target) _ _ _ u64_lawful (λ target _.
     led (λ k. (Unit {0} × (k.tip ≡ tip)) × (k.target ≡ target)) IsDigest digest_text digest_in_front (λ k. k.leaf.point.txid) _ _ _ digest_lawful
@@ -62,7 +62,7 @@ body_lawful =
 pub parts_told : (k : Ticket) (o a b c : List ℕ) → a ≡ o ++ front_text k.tip k.target
     → b ≡ a ++ k.leaf.point.txid.0 ++ to_le_bytes w32 k.leaf.point.index ++ rest_text k.leaf.rest → c ≡ b ++ counted digest_text k.hashes
     → c ≡ o ++ ticket_text k
-unfolding body_text
+unfolding ticket_body_text
 parts_told k o a b c ea eb ec =
     ec ∙ (ap (λ (t : List ℕ). t ++ counted digest_text k.hashes)
     (eb ∙ ap (λ (t : List ℕ). t ++ k.leaf.point.txid.0 ++ to_le_bytes w32 k.leaf.point.index ++ rest_text k.leaf.rest) ea)
@@ -78,13 +78,13 @@ pub parts_fit : (k : Ticket) → IsDigest k.tip → k.target < 2 ^ 64 → LeafFi
 parts_fit k tip target leaf count hashes = record { tip = tip; target = target; leaf = leaf; count = count; hashes = hashes }
 
 -- bytes are the body of what fits
-pub body_took : (bytes : List ℕ) (k : Ticket) → IsBytes bytes → body_at bytes ≡ Some (k, []) → TicketFits k × (bytes ≡ body_text k)
+pub body_took : (bytes : List ℕ) (k : Ticket) → IsBytes bytes → ticket_body_at bytes ≡ Some (k, []) → TicketFits k × (bytes ≡ ticket_body_text k)
 body_took bytes k is_bytes e =
     let t = body_lawful.took bytes k [] is_bytes e in
-    (t.fits, t.parts ∙ append-nil (body_text k))
+    (t.fits, t.parts ∙ append-nil (ticket_body_text k))
 
-pub no_body : (bytes : List ℕ) → ((k : Ticket) → body_at bytes ≡ Some (k, []) → ⊥) → (k : Ticket) → TicketFits k → bytes ≡ body_text k → ⊥
-no_body bytes none k fits e = none k (ap body_at (e ∙ sym (append-nil (body_text k))) ∙ body_lawful.again k [] fits)
+pub no_body : (bytes : List ℕ) → ((k : Ticket) → ticket_body_at bytes ≡ Some (k, []) → ⊥) → (k : Ticket) → TicketFits k → bytes ≡ ticket_body_text k → ⊥
+no_body bytes none k fits e = none k (ap ticket_body_at (e ∙ sym (append-nil (ticket_body_text k))) ∙ body_lawful.again k [] fits)
 
 tails : {a b c d e : ℕ} {xs ys : List ℕ} → a ∷ b ∷ c ∷ d ∷ e ∷ xs ≡ a ∷ b ∷ c ∷ d ∷ e ∷ ys → xs ≡ ys
 tails e = cc
@@ -95,7 +95,7 @@ one_ticket x y a b fx fy e = one_reading _ _ _ body_lawful x y a b fx fy (tails 
 
 -- what is read of a whole text
 pub body_read : (r : Option Ticket) (bytes : List ℕ) → IsBytes bytes → IsWhole r bytes
-    → MatchOption r ((k : Ticket) → TicketFits k → bytes ≡ body_text k → ⊥) (λ k. TicketFits k × (bytes ≡ body_text k))
+    → MatchOption r ((k : Ticket) → TicketFits k → bytes ≡ ticket_body_text k → ⊥) (λ k. TicketFits k × (bytes ≡ ticket_body_text k))
 body_read None bytes is_bytes none = λ k fits e. no_body bytes none k fits e
 body_read (Some k) bytes is_bytes e = body_took bytes k is_bytes e
 
@@ -123,7 +123,7 @@ of_front P (a ∷ b ∷ c ∷ d ∷ v ∷ body) go none =
     (λ f. rw f none)
     (cases_Bool ((a == 85) && ((b == 84) && ((c == 88) && (d == 84)))))
 
-of_one : (P : Result Ticket TicketFault → Type 0) (v : ℕ) (body : List ℕ) → (v ≡ 1 → P (ended_read (body_at body)))
+of_one : (P : Result Ticket TicketFault → Type 0) (v : ℕ) (body : List ℕ) → (v ≡ 1 → P (ended_read (ticket_body_at body)))
     → ((v ≡ 1 → ⊥) → P (Err (Version v))) → P (of_version v body)
 of_one P v body one other =
     ⊎_elim (λ t. rw t (one (eqb-true v 1 t))) (λ f. rw f (other (λ e. false≢true (sym f ∙ eq-eqb v 1 e)))) (cases_Bool (v == 1))
@@ -140,13 +140,13 @@ pub read_exactly : (r : Result Ticket TicketFault) (text : List ℕ) → IsBytes
     → (IsErrOf r NotATicket → (k : Ticket) → TicketFits k → text ≡ ticket_text k → ⊥) → ((v : ℕ) → IsErrOf r (Version v) ↔ IsOfVersion v text)
     → r ≡ ticket_in text
 read_exactly (Ok k) text is_bytes found none version =
-    let again : body_at (body_text k) ≡ Some (k, []) = ap body_at (sym (append-nil (body_text k))) ∙ body_lawful.again k [] found.0 in
+    let again : ticket_body_at (ticket_body_text k) ≡ Some (k, []) = ap ticket_body_at (sym (append-nil (ticket_body_text k))) ∙ body_lawful.again k [] found.0 in
     sym (ap ticket_in found.1 ∙ ap ended_read again)
 read_exactly (Err NotATicket) text is_bytes found none version =
     of_front (λ r. Err NotATicket ≡ r) text
     (λ v body begins.
     of_one (λ r. Err NotATicket ≡ r) v body
-    (λ one. never_read (body_at body) (λ k e. let t = body_took body k (tail_bytes v body text is_bytes begins) e in
+    (λ one. never_read (ticket_body_at body) (λ k e. let t = body_took body k (tail_bytes v body text is_bytes begins) e in
     none refl k t.0 (begins ∙ ap₂ (λ (w : ℕ) (b : List ℕ). 85 ∷ 84 ∷ 88 ∷ 84 ∷ w ∷ b) one t.1)))
     (λ other. let z = (version v).1 (record { other = other; body = body; begins = begins }) in absurd cc))
     refl
@@ -159,11 +159,11 @@ read_exactly (Err (Version v)) text is_bytes found none version =
 pub ticket_fits : (text : List ℕ) (k : Ticket) → IsBytes text → ticket_in text ≡ Ok k → TicketFits k
 ticket_fits text k is_bytes e =
     of_front (λ r. r ≡ Ok k → TicketFits k) text
-    (λ v body begins. of_one (λ r. r ≡ Ok k → TicketFits k) v body (λ one. by_body body (tail_bytes v body text is_bytes begins) (body_at body) refl)
+    (λ v body begins. of_one (λ r. r ≡ Ok k → TicketFits k) v body (λ one. by_body body (tail_bytes v body text is_bytes begins) (ticket_body_at body) refl)
     (λ other h. absurd cc))
     (λ h. absurd cc) e
   where
-    by_body : (body : List ℕ) → IsBytes body → (x : Option (Ticket × List ℕ)) → body_at body ≡ x → ended_read x ≡ Ok k → TicketFits k
+    by_body : (body : List ℕ) → IsBytes body → (x : Option (Ticket × List ℕ)) → ticket_body_at body ≡ x → ended_read x ≡ Ok k → TicketFits k
     by_body body bytes None f h = absurd cc
     by_body body bytes (Some (j, [])) f h = let same : j ≡ k = cc in subst TicketFits same (body_took body j bytes f).0
     by_body body bytes (Some (j, x ∷ left)) f h = absurd cc

@@ -38,7 +38,7 @@ use Rattle.node_rules.proofs.Claiming.{full_told}
 use Rattle.ticket_check.specs.Tickets.{Ticket}
 use Rattle.ticket_check.specs.declared.verdict.TicketVerdict.TheVariants as Said
 use Rattle.ticket_check.specs.Alone.{alone, target_at}
-use Rattle.ticket_check.specs.Judging.{TicketAccepts, TicketRight, target_in, message_of, points, view_of, ticket_fault, unless_refused}
+use Rattle.ticket_check.specs.Judging.{TicketAccepts, TicketRight, target_in, ticket_message, points, stump_view, ticket_fault, unless_refused}
 use Rattle.ticket_check.specs.Judging.{ticket_verdict, is_ticket_right}
 
 -- ---- the target of one number
@@ -83,7 +83,7 @@ target_is n x t e = by_place (place_by FixedPosition n x) refl e
 
 module _ (H : List ℕ → Digest) (v : View) (k : Ticket) where
   abbrev m : Message
-  m = message_of k
+  m = ticket_message k
 
   abbrev AcceptsAt : List Place → Type 0
   AcceptsAt ts = IsAccepted H v.n v.roots ts nothing_known (H (leaf_text k.leaf) ∷ []) k.hashes
@@ -113,19 +113,19 @@ module _ (H : List ℕ → Digest) (v : View) (k : Ticket) where
 
 module _ (H : List ℕ → Digest) (f : Stump) (k : Ticket) (p : Place) (e : target_in f.leaves k ≡ Some p) (shape : HasShape f.leaves (p ∷ [])) where
   abbrev v : View
-  v = view_of f
+  v = stump_view f
 
   abbrev leaves : List Digest
   leaves = H (leaf_text k.leaf) ∷ []
 
-  shaped : shape_fault f.leaves [] 0 (named f.leaves (message_of k)) ≡ None
+  shaped : shape_fault f.leaves [] 0 (named f.leaves (ticket_message k)) ≡ None
   shaped = ap (shape_fault f.leaves [] 0) (named_one H v k p e) ∙ shape_passes f.leaves [] (p ∷ []) 0 shape
 
   abbrev Told : List Place → ProofFault → Type 0
   Told ts fault = IsProofFault H f ts leaves k.hashes fault
 
   fault_told : (fault : ProofFault) → Told (p ∷ []) fault → Some (proof_refusal fault) ≡ ticket_fault H v k
-  fault_told fault w = sym (full_told H f nothing_known (points k) FixedPosition (message_of k).proof shaped fault
+  fault_told fault w = sym (full_told H f nothing_known (points k) FixedPosition (ticket_message k).proof shaped fault
       (subst (λ ts. Told ts fault) (sym (target_one H v k p e)) w))
 
 -- ---- what was asked, by the names of the calls
@@ -148,12 +148,12 @@ module _ (H : List ℕ → Digest) (f : Stump) (k : Ticket) (t : Targeted) (aske
       (subst (λ (x : Targeted). P f x.targets (d ∷ []) hs) it.is (subst (λ x. P x t.targets (d ∷ []) hs) same w)))
 
   pub done_so : (tells : Bool) (pairs : List (Place × Digest)) (g : Stump) → IsDeleted tells H seen t.targets (d ∷ []) hs pairs g
-      → None ≡ ticket_fault H (view_of f) k
-  done_so tells pairs g w = sym (passes_one H (view_of f) k it.place it.named
+      → None ≡ ticket_fault H (stump_view f) k
+  done_so tells pairs g w = sym (passes_one H (stump_view f) k it.place it.named
       (brought (λ x ts leaves hashes. IsAccepted H x.leaves (root_in x) ts nothing_known leaves hashes) w.accepted))
 
   pub stays_so : (fault : ProofFault) (said : ProofRefusal) → IsProofFault H seen t.targets (d ∷ []) hs fault → said ≡ proof_refusal fault
-      → Some said ≡ ticket_fault H (view_of f) k
+      → Some said ≡ ticket_fault H (stump_view f) k
   stays_so fault said w is = ap Some is ∙ fault_told H f k it.place it.named shape_so fault
       (brought (λ x ts leaves hashes. IsProofFault H x ts leaves hashes fault) w)
 
@@ -188,20 +188,20 @@ module _ (H : List ℕ → Digest) (us : History) (tip : Digest) (k : Ticket) wh
   abbrev RightAt : List Place → Type 0
   RightAt ts = IsRight H leaf_text us ts nothing_known (k.leaf ∷ []) k.hashes
 
-  right_from : (x : Option Place) → target_in (length us) k ≡ x → k.tip ≡ tip → RightAt (targets (length us) (message_of k))
-      → named (length us) (message_of k) ≡ map Some (targets (length us) (message_of k)) → TicketRight H us tip k
-  right_from None e same right all = absurd (no_none [] (targets (length us) (message_of k)) (sym (ap (λ (x : Option Place). x ∷ []) e) ∙ all))
+  right_from : (x : Option Place) → target_in (length us) k ≡ x → k.tip ≡ tip → RightAt (targets (length us) (ticket_message k))
+      → named (length us) (ticket_message k) ≡ map Some (targets (length us) (ticket_message k)) → TicketRight H us tip k
+  right_from None e same right all = absurd (no_none [] (targets (length us) (ticket_message k)) (sym (ap (λ (x : Option Place). x ∷ []) e) ∙ all))
   right_from (Some p) e same right all = record { tip_is = same; place = p; named = e; right = subst RightAt (target_one H over k p e) right }
 
   pub ticket_right_is_tested : (is_ticket_right H us tip k ≡ true) ↔ TicketRight H us tip k
   ticket_right_is_tested = (
     λ h.
         let w = and_parts (is_same k.tip tip) _ h in
-        let r = (right_is_tested H us nothing_known (points k) (message_of k)).0 w.1 in
+        let r = (right_is_tested H us nothing_known (points k) (ticket_message k)).0 w.1 in
         right_from (target_in (length us) k) refl (is_same-true k.tip tip w.0) r.0 r.1,
     λ r.
         and_from (is_same k.tip tip) _ (subst (λ d. is_same k.tip d ≡ true) r.tip_is (is_same-same k.tip))
-        ((right_is_tested H us nothing_known (points k) (message_of k)).1
+        ((right_is_tested H us nothing_known (points k) (ticket_message k)).1
         (subst RightAt (sym (target_one H over k r.place r.named)) r.right, all_named H over k r.place r.named, refl)),
   )
 

@@ -18,7 +18,7 @@ use Rattle.ticket_check.specs.declared.fault.TicketFault.{TicketFault}
 use Rattle.ticket_check.specs.declared.fault.TicketFault.TheVariants as Fault
 use Rattle.ticket_check.specs.declared.verdict.TicketVerdict.{TicketVerdict}
 use Rattle.ticket_check.specs.declared.verdict.TicketVerdict.TheVariants as Verdict
-use Rattle.ticket_check.specs.Judging.{TicketAccepts, TicketRight, view_of, ticket_verdict}
+use Rattle.ticket_check.specs.Judging.{TicketAccepts, TicketRight, stump_view, ticket_verdict}
 use Rattle.ticket_check.specs.declared.checked.Checked.{Checked}
 use Rattle.ticket_check.specs.declared.checked.Checked.TheVariants as Said
 use Rattle.ticket_check.specs.Clashing.{IsTicketClash, ticket_clash_in}
@@ -28,10 +28,10 @@ abbrev pub live_of : Ticket → Checked
 live_of k = Said.Live k.leaf.point.txid k.leaf.point.index k.leaf.rest.amount
 
 -- where it is live, what is said then
-abbrev pub said_by : TicketVerdict → Checked → Checked
-said_by Verdict.Tip live = Said.Tip
-said_by (Verdict.Refused why) live = Said.Refused why
-said_by Verdict.Live live = live
+abbrev pub said_of_live : TicketVerdict → Checked → Checked
+said_of_live Verdict.Tip live = Said.Tip
+said_of_live (Verdict.Refused why) live = Said.Refused why
+said_of_live Verdict.Live live = live
 
 -- a text that is none is told so
 abbrev pub fault_said : TicketFault → Checked
@@ -46,12 +46,12 @@ said_of say (Ok k) = say k
 -- ---- by a node, over its newest level
 
 -- what the newest roots of a node say of a ticket
-abbrev pub verdict_over : (List ℕ → Digest) → NodeState → Ticket → TicketVerdict
-verdict_over H s k = ticket_verdict H (view_of s.newest.roots) s.newest.chain.tip k
+abbrev pub verdict_of_ticket : (List ℕ → Digest) → NodeState → Ticket → TicketVerdict
+verdict_of_ticket H s k = ticket_verdict H (stump_view s.newest.roots) s.newest.chain.tip k
 
 -- what a node says of a ticket: where it is live, with the output
 abbrev pub checked_by : (List ℕ → Digest) → NodeState → Ticket → Checked
-checked_by H s k = said_by (verdict_over H s k) (live_of k)
+checked_by H s k = said_of_live (verdict_of_ticket H s k) (live_of k)
 
 -- what a node says of a text that may be a ticket
 abbrev pub check_of : (List ℕ → Digest) → NodeState → List ℕ → Checked
@@ -70,7 +70,7 @@ unless_clash (Some c) k = Said.Clash c
 
 -- what an auditor says of a ticket: of one that the roots accept and that is not right it shows two texts
 abbrev pub rechecked_by : (List ℕ → Digest) → BridgeState → Ticket → Checked
-rechecked_by H s k = said_by (ticket_verdict H (view_in H s) s.chain.tip k) (unless_clash (ticket_clash_in H (history_of s) k) k)
+rechecked_by H s k = said_of_live (ticket_verdict H (view_in H s) s.chain.tip k) (unless_clash (ticket_clash_in H (history_of s) k) k)
 
 -- what an auditor says of a text that may be a ticket
 abbrev pub recheck_of : (List ℕ → Digest) → BridgeState → List ℕ → Checked
@@ -84,7 +84,7 @@ over_all H us = record { n = length us; roots = root H (entries H leaf_text us);
 
 -- a ticket that its roots accept is live, or two different texts with one digest are shown
 abbrev pub rechecked_over : (List ℕ → Digest) → History → (tip : Digest) → Ticket → Checked
-rechecked_over H us tip k = said_by (ticket_verdict H (over_all H us) tip k) (unless_clash (ticket_clash_in H us k) k)
+rechecked_over H us tip k = said_of_live (ticket_verdict H (over_all H us) tip k) (unless_clash (ticket_clash_in H us k) k)
 
 -- what is said of a text
 abbrev pub recheck_over : (List ℕ → Digest) → History → (tip : Digest) → List ℕ → Checked
@@ -99,7 +99,7 @@ AcceptsOver H s k = TicketAccepts H s.newest.roots.leaves (root_in s.newest.root
 -- a ticket is live exactly where the roots accept it, and else the first part that fails is told
 pub record IsChecked (H : List ℕ → Digest) (s : NodeState) (k : Ticket) (said : Checked) : Type 0 where
   pub live : (said ≡ live_of k) ↔ AcceptsOver H s k
-  pub why : said ≡ said_by (verdict_over H s k) (live_of k)
+  pub why : said ≡ said_of_live (verdict_of_ticket H s k) (live_of k)
 
 -- the roots of all outputs of a history accept it, behind a block of this hash
 abbrev pub AcceptsAmong : (List ℕ → Digest) → History → Digest → Ticket → Type 0
@@ -111,4 +111,4 @@ pub record IsRechecked (H : List ℕ → Digest) (us : History) (tip : Digest) (
   pub live : (said ≡ live_of k) ↔ TicketRight H us tip k
   pub clash : ((c : TextClash) × (said ≡ Said.Clash c)) ↔ (AcceptsAmong H us tip k × (TicketRight H us tip k → ⊥))
   pub shows : (c : TextClash) → said ≡ Said.Clash c → IsTicketClash H us k c
-  pub why : (AcceptsAmong H us tip k → ⊥) → said ≡ said_by (ticket_verdict H (over_all H us) tip k) (live_of k)
+  pub why : (AcceptsAmong H us tip k → ⊥) → said ≡ said_of_live (ticket_verdict H (over_all H us) tip k) (live_of k)

@@ -10,7 +10,7 @@ use Rattle.clash_find.specs.Clashes.{TextClash}
 use Rattle.clash_find.specs.Answers.{IsClashIn}
 use Rattle.clash_find.specs.Found.{clash_in}
 use Rattle.ticket_check.specs.Tickets.{Ticket}
-use Rattle.ticket_check.specs.Judging.{TicketRight, target_in, message_of}
+use Rattle.ticket_check.specs.Judging.{TicketRight, target_in, ticket_message}
 
 -- two different texts with one digest: a node's of the forest, and one that the ticket's proof digests
 pub record IsTicketClash (H : List ℕ → Digest) (us : History) (k : Ticket) (c : TextClash) : Type 0 where
@@ -29,4 +29,4 @@ spending point = record { tx = 0; input = 0; txid = point.txid; index = point.in
 
 -- which two they are: those that a block would show that spends this one output beside this proof
 abbrev pub ticket_clash_in : (List ℕ → Digest) → History → Ticket → Option TextClash
-ticket_clash_in H us k = clash_in H us nothing_known (spending k.leaf.point ∷ []) (message_of k)
+ticket_clash_in H us k = clash_in H us nothing_known (spending k.leaf.point ∷ []) (ticket_message k)

@@ -41,20 +41,20 @@ pub record TicketRight (H : List ℕ → Digest) (us : History) (tip : Digest) (
 -- ---- what is said: a ticket is a message in full with one spend
 
 -- a ticket as a message
-abbrev pub message_of : Ticket → Message
-message_of k = sent false (record { spends = record { target = k.target; rest = k.leaf.rest } ∷ []; hashes = k.hashes })
+abbrev pub ticket_message : Ticket → Message
+ticket_message k = sent false (record { spends = record { target = k.target; rest = k.leaf.rest } ∷ []; hashes = k.hashes })
 
 -- the outpoint of its output
 abbrev pub points : Ticket → List Outpoint
 points k = k.leaf.point ∷ []
 
 -- the roots alone
-abbrev pub view_of : Stump → View
-view_of f = record { n = f.leaves; roots = root_in f; known = nothing_known }
+abbrev pub stump_view : Stump → View
+stump_view f = record { n = f.leaves; roots = root_in f; known = nothing_known }
 
 -- why its proof is refused
 abbrev pub ticket_fault : (List ℕ → Digest) → View → Ticket → Option ProofRefusal
-ticket_fault H v k = proof_fault H v (points k) (message_of k)
+ticket_fault H v k = proof_fault H v (points k) (ticket_message k)
 
 -- live, if its proof is not refused
 abbrev pub unless_refused : Option ProofRefusal → TicketVerdict
@@ -68,4 +68,4 @@ ticket_verdict H v tip k = if is_same k.tip tip then unless_refused (ticket_faul
 -- ---- the test of a right ticket, over the whole history
 
 abbrev pub is_ticket_right : (List ℕ → Digest) → History → Digest → Ticket → Bool
-is_ticket_right H us tip k = is_same k.tip tip && is_right H us nothing_known (points k) (message_of k)
+is_ticket_right H us tip k = is_same k.tip tip && is_right H us nothing_known (points k) (ticket_message k)

@@ -15,8 +15,8 @@ abbrev pub front_text : Digest → ℕ → List ℕ
 front_text tip target = 85 ∷ 84 ∷ 88 ∷ 84 ∷ 1 ∷ tip.0 ++ to_le_bytes w64 target
 
 -- what follows the version: the block, where the leaf stands, the output, and the hashes
-unfoldable pub body_at : List ℕ → Option (Ticket × List ℕ)
-body_at bytes = do
+unfoldable pub ticket_body_at : List ℕ → Option (Ticket × List ℕ)
+ticket_body_at bytes = do
   tip ← digest_in_front bytes
   target ← number_at w64 tip.1
   txid ← digest_in_front target.1
@@ -44,7 +44,7 @@ ended_read (Some (k, x ∷ left)) = Err NotATicket
 
 -- the ticket that this body is, where its version is 1
 abbrev pub of_version : ℕ → List ℕ → Result Ticket TicketFault
-of_version v body = if v == 1 then ended_read (body_at body) else Err (Version v)
+of_version v body = if v == 1 then ended_read (ticket_body_at body) else Err (Version v)
 
 -- the ticket that a text is, or why it is none
 abbrev pub ticket_in : List ℕ → Result Ticket TicketFault
@@ -59,8 +59,8 @@ ticket_in (a ∷ b ∷ c ∷ d ∷ v ∷ body) = if (a == 85) && ((b == 84) && (
 
 -- what was read is all that there is
 abbrev pub IsWhole : Option Ticket → List ℕ → Type 0
-IsWhole None bytes = (k : Ticket) → body_at bytes ≡ Some (k, []) → ⊥
-IsWhole (Some k) bytes = body_at bytes ≡ Some (k, [])
+IsWhole None bytes = (k : Ticket) → ticket_body_at bytes ≡ Some (k, []) → ⊥
+IsWhole (Some k) bytes = ticket_body_at bytes ≡ Some (k, [])
 
 -- so many bytes of digests
 abbrev pub AreWholeDigests : List ℕ → Type 0

@@ -16,14 +16,14 @@ pub record Ticket : Type 0 where
   pub hashes : List Digest
 
 -- what follows the version
-unfoldable pub body_text : Ticket → List ℕ
-body_text k =
+unfoldable pub ticket_body_text : Ticket → List ℕ
+ticket_body_text k =
     k.tip.0 ++ to_le_bytes w64 k.target ++ k.leaf.point.txid.0 ++ to_le_bytes w32 k.leaf.point.index ++ rest_text k.leaf.rest
     ++ counted digest_text k.hashes
 
 -- `UTXT`, the version 1 and the body
 abbrev pub ticket_text : Ticket → List ℕ
-ticket_text k = 85 ∷ 84 ∷ 88 ∷ 84 ∷ 1 ∷ body_text k
+ticket_text k = 85 ∷ 84 ∷ 88 ∷ 84 ∷ 1 ∷ ticket_body_text k
 
 -- the text begins as that of a ticket of this other version
 pub record IsOfVersion (v : ℕ) (text : List ℕ) : Type 0 where

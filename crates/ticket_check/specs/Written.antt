@@ -9,8 +9,8 @@ use Rattle.compact_node.specs.Node.{LevelState}
 use Rattle.ticket_check.specs.Tickets.{Ticket, TicketFits, ticket_text}
 
 -- the kept entry with this number
-abbrev pub kept_entry : List Kept → ℕ → Option Kept
-kept_entry ks number = find is_same_number leaf_key number ks
+abbrev pub kept_of_number : List Kept → ℕ → Option Kept
+kept_of_number ks number = find is_same_number leaf_key number ks
 
 -- the newest block, where the entry stands, the output, and the digests that are held on its way up
 abbrev pub ticket_with : LevelState → Kept → Ticket
@@ -23,7 +23,7 @@ ticket_with l e = record {
 
 -- that of the entry with this number, if it is kept
 abbrev pub ticket_of : LevelState → ℕ → Option Ticket
-ticket_of l number = option_map (ticket_with l) (kept_entry l.kept number)
+ticket_of l number = option_map (ticket_with l) (kept_of_number l.kept number)
 
 -- the text grew by that of the ticket, which is read again; or there is none, and it stays
 abbrev pub IsTicketWritten : Option Ticket → List ℕ → List ℕ → Bool → Type 0

@@ -4,7 +4,7 @@ ghost use Rattle.forest_model.specs.Standing.{root};
 ghost use Rattle.bridge_prover.specs.Full.{history_of};
 ghost use Rattle.audit_replay.specs.Audit.{IsAudit};
 ghost use Rattle.ticket_check.specs.Judging.{TicketAccepts, ticket_verdict};
-ghost use Rattle.ticket_check.specs.Checking.{check_of, checked_by, fault_said, live_of as live_in, recheck_of, rechecked_by, said_by};
+ghost use Rattle.ticket_check.specs.Checking.{check_of, checked_by, fault_said, live_of as live_in, recheck_of, rechecked_by, said_of_live};
 ghost use Rattle.ticket_check.specs.Checking.{unless_clash as unless_clash_of, view_in};
 ghost use Rattle.ticket_check.specs.Clashing.{ticket_clash_in};
 

@@ -1,7 +1,7 @@
 //! Judging a ticket by the roots of a forest.
 ghost use Rattle.std.specs.Prelude.{◌≡◌, IfOk, Some};
 ghost use Rattle.ticket_check.specs.Alone.{target_at as target_at_of};
-ghost use Rattle.ticket_check.specs.Judging.{ticket_fault, ticket_verdict, view_of};
+ghost use Rattle.ticket_check.specs.Judging.{ticket_fault, ticket_verdict, stump_view};
 
 use crate::target::{copies_of, target_at};
 use crate::{TicketVerdict, TicketView};
@@ -25,7 +25,7 @@ fn fault_at<D: Digester, L: Ledger>(
     steps: &mut Steps<L>,
 ) -> Result<Option<ProofRefusal>, NoMemory>
     requires { target_at_of roots.now.leaves ticket.now.target ≡ Some targets.now }
-    ensures { IfOk result (λ fault. fault ≡ ticket_fault D.digest_of (view_of roots.now) ticket.now) }
+    ensures { IfOk result (λ fault. fault ≡ ticket_fault D.digest_of (stump_view roots.now) ticket.now) }
 {
     // That the place alone has shape.
     let _count = targets.leaves();
@@ -49,7 +49,7 @@ fn fault_of<D: Digester, L: Ledger>(
     ticket: &TicketView<'_>,
     steps: &mut Steps<L>,
 ) -> Result<Option<ProofRefusal>, NoMemory>
-    ensures { IfOk result (λ fault. fault ≡ ticket_fault D.digest_of (view_of roots.now) ticket.now) }
+    ensures { IfOk result (λ fault. fault ≡ ticket_fault D.digest_of (stump_view roots.now) ticket.now) }
 {
     match target_at(alloc, roots.leaves(), ticket.target())? {
         Some(targets) => fault_at::<D, L>(alloc, roots, &targets, ticket, steps),
@@ -66,7 +66,7 @@ pub fn judge<D: Digester, L: Ledger>(
     ticket: &TicketView<'_>,
     steps: &mut Steps<L>,
 ) -> Result<TicketVerdict, NoMemory>
-    ensures { IfOk result (λ verdict. verdict ≡ ticket_verdict D.digest_of (view_of roots.now) tip.now ticket.now) }
+    ensures { IfOk result (λ verdict. verdict ≡ ticket_verdict D.digest_of (stump_view roots.now) tip.now ticket.now) }
 {
     if ticket.tip() != *tip {
         return Ok(TicketVerdict::Tip);

@@ -4,8 +4,8 @@ ghost use Rattle.uo_base.specs.Reading.{Gives};
 ghost use Rattle.uo_base.specs.Compact.{counted_at};
 ghost use Rattle.uo_digest.specs.Reading.{digest_in_front, digests_in};
 ghost use Rattle.proof_wire.specs.Reading.{parts_at};
-ghost use Rattle.ticket_check.specs.Tickets.{Ticket, TicketFits, IsOfVersion, body_text, ticket_text};
-ghost use Rattle.ticket_check.specs.Reading.{body_at, AreWholeDigests, IsWhole, ticket_in};
+ghost use Rattle.ticket_check.specs.Tickets.{Ticket, TicketFits, IsOfVersion, ticket_body_text, ticket_text};
+ghost use Rattle.ticket_check.specs.Reading.{ticket_body_at, AreWholeDigests, IsWhole, ticket_in};
 
 use crate::fault::TicketFault;
 use crate::view::TicketView;
@@ -33,9 +33,9 @@ fn read_hashes<'a>(at: &mut Cursor<'a>) -> Option<&'a [u8]>
     take_parts(at)
 }
 
-#[tactic(auto, unfolding(crate::specs::Reading::body_at))]
+#[tactic(auto, unfolding(crate::specs::Reading::ticket_body_at))]
 fn read_parts<'a>(at: &mut Cursor<'a>) -> Option<TicketView<'a>>
-    ensures { Gives (λ k. k) result at.new (body_at at.old) }
+    ensures { Gives (λ k. k) result at.new (ticket_body_at at.old) }
 {
     let tip = Digest::read(at)?;
     let target = at.u64()?;
@@ -67,8 +67,8 @@ fn read_whole<'a>(body: &'a [u8]) -> Option<TicketView<'a>>
 // The same, in terms of texts.
 fn read_body<'a>(body: &'a [u8]) -> Option<TicketView<'a>>
     ensures { MatchOption result
-        ((k : Ticket) → TicketFits k → body.now ≡ body_text k → ⊥)
-        (λ k. TicketFits k × (body.now ≡ body_text k)) }
+        ((k : Ticket) → TicketFits k → body.now ≡ ticket_body_text k → ⊥)
+        (λ k. TicketFits k × (body.now ≡ ticket_body_text k)) }
 {
     read_whole(body)
 }

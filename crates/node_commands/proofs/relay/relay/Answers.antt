@@ -5,7 +5,7 @@ use Rattle.feed_run.specs.declared.status.Status.TheVariants.{Prior}
 use Rattle.relay_script.specs.Reading.{script_in}
 use Rattle.report_lines.specs.declared.line.Line.TheVariants as Line
 use Rattle.node_commands.specs.PriorText.{prior_text}
-use Rattle.node_commands.specs.Relaying.{IsScriptText, RelayStart, lists_for, read_as, relay_start, relaying, script_of}
+use Rattle.node_commands.specs.Relaying.{IsScriptText, RelayStart, lists_for, read_as, relay_start, relaying, relay_script_of}
 use Rattle.node_commands.specs.Watching.{IsListOf}
 use Rattle.node_commands.proofs.RanLemmas.{ran-unbegun, ran-refusing, ran-begun}
 use Rattle.node_commands.proofs.RelayLemmas.{relay-begins, relay-serves, fresh-is}
@@ -21,7 +21,7 @@ returns-in-Err-clause-ran g c =
     let l = subst (IsListOf _ _ _) c.in-Err.is c.in_ok-watch.ensures.list in
     ran-refusing (relaying g.D.Digester.digest_of c.args.limits c.args.followers c.args.net c.args.scripted c.args.listed) _ prior _ (told_text prior)
     l.text (Tells-told_text prior) l.told c.in-Err.bad
-    (ap (λ x. relay_start c.args.followers x (script_of (prior_text c.args.scripted c.args.limits.bytes (told_text prior)))) l.is) _ _ _ _
+    (ap (λ x. relay_start c.args.followers x (relay_script_of (prior_text c.args.scripted c.args.limits.bytes (told_text prior)))) l.is) _ _ _ _
     c.say.result c.say.ensures.status c.say.ensures.whole c.say.ensures.part tt
 
 pub returns-in_err-text-clause-ran : goal.returns-in_err-text-clause-ran
@@ -35,7 +35,7 @@ returns-in-Err-2-clause-ran g c =
     c.in-Err-2.is c.in_ok-text.ensures.text in
     ran-refusing (relaying g.D.Digester.digest_of c.args.limits c.args.followers c.args.net c.args.scripted c.args.listed) _ _ _ t.text l.text t.told
     l.told c.in-Err-2.bad
-    (ap₂ (λ x y. relay_start c.args.followers x (script_of y)) l.is t.is) _ _ _ _ c.say-in-Err-2.result c.say-in-Err-2.ensures.status
+    (ap₂ (λ x y. relay_start c.args.followers x (relay_script_of y)) l.is t.is) _ _ _ _ c.say-in-Err-2.result c.say-in-Err-2.ensures.status
     c.say-in-Err-2.ensures.whole c.say-in-Err-2.ensures.part tt
 
 pub returns-clause-read : goal.returns-clause-read

@@ -5,7 +5,7 @@ use Rattle.block_codec.specs.Reading.{block_in}
 use Rattle.node_rules.specs.Reading.{handed_in}
 use Rattle.node_rules.specs.Machine.{event_in}
 use Rattle.bridge_prover.specs.Bridge.{verdict_on, message_on}
-use Rattle.relay_core.specs.World.{is_accepted}
+use Rattle.relay_core.specs.World.{is_acceptance}
 use Rattle.relay_core.proofs.Judged.{not_accepted, sent_same, chain_same}
 use Rattle.relay_core.proofs.handling.take_block.Goals as goal
 
@@ -13,7 +13,7 @@ pub returns-in_default : goal.returns-in_default
 returns-in_default g c =
     let event = Feed.BlockCame c.args.block.now (option_copied c.args.message) in
     let s = c.args.bridge.now in
-    let off : is_accepted (verdict_on s (event_in event)) ≡ false = ap is_accepted (sym c.in_ok-proved.ensures.verdict)
+    let off : is_acceptance (verdict_on s (event_in event)) ≡ false = ap is_acceptance (sym c.in_ok-proved.ensures.verdict)
     ∙ not_accepted c.in_ok-proved.proved.verdict c.in_default.not-Accepted in
     record {
       verdict = c.in_ok-proved.ensures.verdict;

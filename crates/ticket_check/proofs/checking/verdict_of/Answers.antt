@@ -3,7 +3,7 @@ use Rattle.std.proofs.lemmas.Result.{IfOk-weaker}
 use Rattle.uo_digest.specs.declared.digest.Digest.{Digest}
 use Rattle.block_rules.specs.declared.chain.Chain.{Chain}
 use Rattle.forest_roots.specs.Stump.{StandsFor}
-use Rattle.ticket_check.specs.Judging.{view_of, ticket_verdict}
+use Rattle.ticket_check.specs.Judging.{stump_view, ticket_verdict}
 use Rattle.ticket_check.proofs.CheckLaws.{same_verdict}
 use Rattle.ticket_check.proofs.checking.verdict_of.Goals as goal
 
@@ -16,5 +16,5 @@ returns g c =
     let stands : StandsFor H s.entries f = subst (λ (e : List (Option Digest)). StandsFor H e f) c.forest.ensures.entries c.roots-roots.ensures in
     let tip_is : c.chain-chain.result.tip ≡ s.chain.tip = ap (λ (x : Chain). x.tip) c.chain-chain.ensures.is in
     IfOk-weaker c.judge.result _ _
-    (λ verdict is. is ∙ (ap (λ (x : Digest). ticket_verdict H (view_of f) x k) tip_is ∙ same_verdict H s.entries s.chain.tip k f stands))
+    (λ verdict is. is ∙ (ap (λ (x : Digest). ticket_verdict H (stump_view f) x k) tip_is ∙ same_verdict H s.entries s.chain.tip k f stands))
     c.judge.ensures

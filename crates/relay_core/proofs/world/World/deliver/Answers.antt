@@ -1,7 +1,7 @@
 use Rattle.std.proofs.Common.{◌≡◌, List, cond, Some, length, refl, reverse, subst, arith}
 use Rattle.std.proofs.lemmas.Option.{slice_get_read}
 use Rattle.std.specs.Prelude.{OnOk, OnErr, slice_get, slice_set}
-use Rattle.relay_core.specs.World.{Sent, WorldState, applies, moved, with_moved}
+use Rattle.relay_core.specs.World.{Sent, WorldState, applies, follower_moved, with_moved}
 use Rattle.relay_core.proofs.Stepped.{handed_ok, handed_err}
 use Rattle.relay_core.proofs.world.World.deliver.Goals as goal
 
@@ -30,7 +30,7 @@ returns-clause-next g c =
     subst (λ v. OnOk c.hand.result (record w { followers = slice_set w.followers c.args.follower c.hand.new.follower }
     ≡ with_moved H v c.args.follower (slice_get v.followers c.args.follower) (slice_get v.replies c.args.reply))) c.self.view_is
     (handed_ok H w c.hand.result c.args.follower x c.hand.new.follower r c.args.reply at_f at_j
-    (subst (λ (ys : List Sent). OnOk c.hand.result (c.hand.new.follower ≡ cond (applies r x) (moved H ys r.kind x) x))
+    (subst (λ (ys : List Sent). OnOk c.hand.result (c.hand.new.follower ≡ cond (applies r x) (follower_moved H ys r.kind x) x))
     c.as_slice.ensures.value c.hand.ensures.next))
 
 pub returns-clause-stays : goal.returns-clause-stays
