@@ -44,7 +44,12 @@ makes the pages from the sources, and the gate refuses a page that says somethin
 What is not opened here is named with the reason. [The exact claim](STATEMENT_EXACT.md) opens proofs, right and forged, the forest, each refusal with its
 details, and the states that are stored; [the third page](STATEMENT_TICKETS.md) tickets, what a node keeps, and which two texts are shown; and
 [the fourth](STATEMENT_OTHERS.md) all other commands. Types of Rust stand as they are written, but in few lines; the words `pub`, `abbrev` and `unfoldable`
-are left out. Names of the standard library stand for what they say: lists, options, numbers in decimal and hexadecimal digits, SHA-256.""",
+are left out. Names of the standard library stand for what they say: lists, options, numbers in decimal and hexadecimal digits, SHA-256.
+
+`f : A → B` is a function, `λ x. e` one with no name, and `f x` what it gives of x. `ℕ` are the numbers from 0 on, `x ∷ xs` is a list with x in front,
+and `xs ++ ys` two lists in a row. As something said, `x ≡ y` is that both are the same, `P × Q` both, `P ⊎ Q` one of them, `P → Q` that Q holds where P
+does, `P ↔ Q` both ways, `⊥` what never holds, `⊤` and `Unit {0}` what always does, `(x : X) → P` that P holds of each x, `(x : X) × P` of some x, and
+a record all that its fields say. What a port holds is None where it is not told.""",
     seeds=[
         "node_commands.Following.following_afresh",
         "node_commands.Following.following_on",
@@ -57,25 +62,25 @@ are left out. Names of the standard library stand for what they say: lists, opti
     ],
     closed={
         "compact_node.Throughout.verdicts_on": "what `follow` says of each event; the claim is what that can be",
-        "compact_node.Throughout.node_after": "what it keeps then",
-        "compact_node.Node.fresh_node": "a node with no block, that watches these scripts",
-        "compact_node.Node.NodeState": "what a node keeps",
-        "compact_node.State.stored_text": "the text of version 2 of what it keeps",
-        "compact_node.State.stored_state": "what it keeps",
-        "node_commands.Follow.full_text": "what a node stores that holds every output",
-        "compact_node.Throughout.NoneIsForged": "no proof among the events is forged",
+        "compact_node.Throughout.node_after": "the claim is of what it says; the third page opens what it keeps",
+        "compact_node.Node.fresh_node": "the third page opens what it keeps",
+        "compact_node.Node.NodeState": "the third page opens what it keeps",
+        "compact_node.State.stored_text": "that of version 2",
+        "compact_node.State.stored_state": "the third page opens it",
+        "node_commands.Follow.full_text": "the second page opens what is stored",
+        "compact_node.Throughout.NoneIsForged": "the second page says what is forged",
         "node_commands.Follow.PrintsAsFull": "the claim with exact lines, where no proof is forged",
         "node_commands.Starting.ResumesAsFull": "the claim with exact lines, from a prior state",
-        "node_commands.Starting.IsStart": "what a prior state says",
-        "node_commands.Starting.IsGoodBehind": "the prior state can be used, and no frame behind it is bad",
+        "node_commands.Starting.IsStart": "the second page says which texts are states",
+        "node_commands.Starting.IsGoodBehind": "the second page says which texts are states",
         "node_commands.Proving.proving_text": "what a proving node writes; the clause of `prove` says that this is stored",
         "node_commands.Auditor.audit_answer": "that it ends with two such texts is what is claimed",
         "block_codec.Reading.block_in": "the block of which these bytes are the text (`BlockIsRead`)",
-        "node_rules.Reading.handed_in": "what stands beside a block: nothing that a valid block is asked for",
-        "node_rules.Reading.Handed": "what stands beside a block",
+        "node_rules.Reading.handed_in": "nothing that a valid block is asked for",
+        "node_rules.Reading.Handed": "nothing that a valid block is asked for",
         "report_lines.declared.line.Line.Line": "each stands in `line_text`",
-        "state_text.Stored.IsTextOf": "it is the text of this state, in either version",
-        "audit_replay.Laws.shown_by": "the two texts that the first forged one of these events shows",
+        "state_text.Stored.IsTextOf": "the second page has both versions",
+        "audit_replay.Laws.shown_by": "that they differ and have one digest is claimed",
     },
     parts={
         "report_lines.Lines.line_text": (
@@ -106,13 +111,13 @@ A proof is *forged* (`is_forged`) where the rules before it pass, the roots acce
     ],
     closed={
         "compact_node.Node.NodeState": "what a compact node keeps: the claims say what it answers",
-        "compact_node.Throughout.verdicts_on": "likewise",
-        "compact_node.Throughout.node_after": "likewise",
-        "compact_node.State.stored_text": "likewise",
-        "compact_node.State.stored_state": "likewise",
-        "audit_replay.Laws.shown_by": "which two texts the first forged event shows: `AuditsFeed` says what they are",
+        "compact_node.Throughout.verdicts_on": "the claims say what is answered",
+        "compact_node.Throughout.node_after": "the claims say what is answered",
+        "compact_node.State.stored_text": "the claims say what is answered",
+        "compact_node.State.stored_state": "the claims say what is answered",
+        "audit_replay.Laws.shown_by": "`AuditsFeed` says what they are",
         "compact_node.Node.fresh_node": "it answers as a node with no block (`PrintsAsFull`)",
-        "compact_node.Node.IsNode": "what holds of it",
+        "compact_node.Node.IsNode": "it holds of each node; the third page opens it",
         "compact_node.State.IsReadAs": "the node that a state text says (`ResumesAsFull`)",
         "node_commands.Auditor.audit_answer": "`AuditsFeed` says what it is",
         "node_commands.Auditor.audit_lines": "those of `AuditsFeed`",
@@ -154,11 +159,4 @@ ports and the digest are of which `run` speaks. With it every definition stands 
     ],
     calls=[("crates/utreexo/src/program.rt", "run_program"), ("crates/node_commands/src/running.rt", "run")],
 )
-# Of so many definitions of a crate there is no sentence yet; no further one may lack its own.
-SILENT = {
-    **{"audit_replay": 2, "block_codec": 3, "bridge_prover": 16, "cache_model": 5, "cache_update": 1, "chain_gen": 19, "chain_order": 2},
-    **{"clash_find": 2, "compact_node": 17, "feed_frame": 2, "feed_run": 5, "feed_upgrade": 2, "forest_roots": 1, "leaf_record": 2},
-    **{"message_upgrade": 4, "node_commands": 2, "node_rules": 2, "output_index": 3, "proof_wire": 2, "relay_core": 25, "relay_script": 7},
-    **{"state_text": 11, "ticket_check": 16, "tx_codec": 6, "uo_base": 6, "uo_digest": 1, "utreexo": 1},
-}
-PLANS = Plans(pages=[PLAIN, EXACT, TICKETS, OTHERS], most=[(1, 1200), (2, 2000)], silent=SILENT)
+PLANS = Plans(pages=[PLAIN, EXACT, TICKETS, OTHERS], most=[(1, 1200), (2, 2000)], silent={})

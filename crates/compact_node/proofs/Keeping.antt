@@ -31,7 +31,8 @@ use Rattle.block_rules.proofs.Passed.{room_passed}
 use Rattle.node_rules.specs.Reading.{Handed}
 use Rattle.node_rules.specs.Judging.{Rules, Evidence, compact, refusal}
 use Rattle.node_rules.specs.Machine.{ChainEvent, BlockCame, RollbackCame, StrayCame}
-use Rattle.compact_node.specs.After.{stump_without, held_without, changes_of, with_leaf, with_leaves, kept_with, held_with, kept_with_all, held_with_all}
+use Rattle.compact_node.specs.After.{stump_without, held_without, changes_of, with_leaf, with_leaves, kept_with, held_with, kept_with_all}
+use Rattle.compact_node.specs.After.{held_with_all}
 use Rattle.compact_node.specs.Node.{NodeState, IsNode, LevelState, IsLevel, AreOlder, back_from, node_gone_back, level_with, view_over, node_refusal}
 use Rattle.compact_node.specs.Node.{places_spent, hashes_spent, roots_spent, kept_spent, held_spent, roots_after, node_with, node_by, next_node}
 use Rattle.forest_roots.proofs.Additions.{with_leaf-leaves, with_leaf-adds, with_leaf-stump, with_leaves-leaves, with_leaves-stump}

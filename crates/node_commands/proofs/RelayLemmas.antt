@@ -1,5 +1,6 @@
 -- What `relay` writes of a feed is what comes of the acts of its script.
-use Rattle.std.proofs.Common.{◌≡◌, ◌≢◌, ℕ, zero, suc, ◌+◌, ◌<◌, ◌≤◌, ◌^◌, Bool, true, false, cond, ◌||◌, List, [], ◌∷◌, ◌++◌, length, Option, Some, None}
+use Rattle.std.proofs.Common.{◌≡◌, ◌≢◌, ℕ, zero, suc, ◌+◌, ◌<◌, ◌≤◌, ◌^◌, Bool, true, false, cond, ◌||◌, List, [], ◌∷◌, ◌++◌, length, Option, Some}
+use Rattle.std.proofs.Common.{None}
 use Rattle.std.proofs.Common.{Result, Ok, Err, IfOk, OnOk, IsErr, IsErrOf, IsErrAnd, is_err, inr, refl, sym, ap, ap₂, subst, ◌∙◌, arith, append_assoc}
 use Rattle.std.proofs.Common.{append-nil}
 use Rattle.std.specs.Global.{Vec}
@@ -48,7 +49,8 @@ use Rattle.node_commands.specs.Relayer.{outcome_line, outcome_lines, is_undone, 
 use Rattle.node_commands.specs.Relayer.{relay_end, relay_answer, RelayState, fresh_relay, turn_of, behind_bridge, own_act, acted, relayed, next_relay}
 use Rattle.node_commands.specs.Relayer.{turn_lines, relay_last, relay_machine, relayed_feed, IsLineTaken, IsPlayed, node_line}
 use Rattle.node_commands.specs.declared.bad_input.BadInput.{BadInput}
-use Rattle.node_commands.specs.Relaying.{RelayStart, AreNotLost, RelaysOnBranches, IsScriptText, read_as, script_by, relay_script_of, script_start, lists_for}
+use Rattle.node_commands.specs.Relaying.{RelayStart, AreNotLost, RelaysOnBranches, IsScriptText, read_as, script_by, relay_script_of, script_start}
+use Rattle.node_commands.specs.Relaying.{lists_for}
 use Rattle.node_commands.specs.Relaying.{relay_start}
 use Rattle.node_commands.specs.Runs.{NoPort, Serves, status_in}
 use Rattle.node_commands.proofs.ForgingLemmas.{block_bytes}
@@ -285,7 +287,8 @@ last_at H state ending = let last = relay_last H state ending in record { status
 
 last-is : (H : List ℕ → Digest) (r : RelayState) (net : Net) (limit : ℕ) (feed report report' o o' : Option (List ℕ)) (state : RelayState)
     {untouched : Type 0} (ending : Option FeedFault)
-    (t : TakesAll (relay_machine H) r net limit state feed report report' o o' untouched ending) → last_at H state ending ≡ last_relayed H r net limit t.text
+    (t : TakesAll (relay_machine H) r net limit state feed report report' o o' untouched ending)
+    → last_at H state ending ≡ last_relayed H r net limit t.text
 unfolding last_relayed
 last-is H r net limit feed report report' o o' state ending t = ap₂ (last_at H) t.reached t.ends
 

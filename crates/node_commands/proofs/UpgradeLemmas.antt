@@ -17,7 +17,8 @@ pub states_are_upgraded : StatesAreUpgraded
 states_are_upgraded H limits prior (Ok node) few start = λ s is of short.
     let same : s ≡ stored_state node = one_state H limits.leaves prior s (stored_state node) few is
     (subst (λ m. IsState H m.leaves (stored_state node)) start.limits_are start.reads.state) of start.reads.is in
-    ap (λ n. told_upgraded n (stored_text node)) (sym (levels_stored node)) ∙ ap (λ (v : StateValue). told_upgraded (length v.levels) (state_text v)) (sym same)
+    ap (λ n. told_upgraded n (stored_text node)) (sym (levels_stored node))
+    ∙ ap (λ (v : StateValue). told_upgraded (length v.levels) (state_text v)) (sym same)
 states_are_upgraded H limits prior (Err bad) few (inl l) = λ s is of short. absurd (omega (arith, short, l.long))
 states_are_upgraded H limits prior (Err bad) few (inr (inl o)) = λ s is of short. absurd (one_version s prior o.version of o.other)
 states_are_upgraded H limits prior (Err bad) few (inr (inr n)) = λ s is of short. absurd (n.none s is of)

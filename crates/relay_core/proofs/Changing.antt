@@ -16,7 +16,8 @@ use Rattle.bridge_prover.specs.Bridge.{BridgeState, refusal_on, verdict_on, afte
 use Rattle.relay_core.specs.declared.act.Outcome.TheVariants.{Moved, Stale}
 use Rattle.relay_core.specs.declared.store.Reply.{Reply}
 use Rattle.relay_core.specs.Acts.{BridgeTook, FollowerAsked, AskServed, ReplyDelivered}
-use Rattle.relay_core.specs.World.{FollowerState, WorldState, newest_serial, serials_after, with_ask, ask_outcome, with_reply, replied, applies, follower_moved}
+use Rattle.relay_core.specs.World.{FollowerState, WorldState, newest_serial, serials_after, with_ask, ask_outcome, with_reply, replied, applies}
+use Rattle.relay_core.specs.World.{follower_moved}
 use Rattle.relay_core.specs.World.{followers_after, delivered}
 use Rattle.relay_core.specs.Changes.{ChangesAsTold, OutcomesTellChanges, moves_node}
 

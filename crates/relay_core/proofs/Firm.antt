@@ -1,5 +1,6 @@
 -- A follower's oldest serial is on the part of the bridge's chain that the bridge can not take back. So no one who asks is lost.
-use Rattle.std.proofs.Common.{◌≡◌, ◌≢◌, ℕ, zero, suc, ◌≤◌, ◌<◌, Bool, true, false, List, [], ◌∷◌, ◌++◌, ◌||◌, map, length, take, drop, Option, Some, None}
+use Rattle.std.proofs.Common.{◌≡◌, ◌≢◌, ℕ, zero, suc, ◌≤◌, ◌<◌, Bool, true, false, List, [], ◌∷◌, ◌++◌, ◌||◌, map, length, take, drop, Option, Some}
+use Rattle.std.proofs.Common.{None}
 use Rattle.std.proofs.Common.{cond, refl, sym, ap, ◌∙◌, subst, arith}
 use Rattle.std.specs.Prelude.{◌==◌, is_some, slice_get, slice_set, option_map}
 use Rattle.std.specs.List.{AllByRecursion}
@@ -19,7 +20,8 @@ use Rattle.relay_core.specs.declared.act.Kind.TheVariants.{Next, Same, Back, Los
 use Rattle.relay_core.specs.declared.act.Outcome.TheVariants.{Replied, Moved, Stale}
 use Rattle.relay_core.specs.declared.store.Reply.{Reply}
 use Rattle.relay_core.specs.Acts.{BridgeTook, FollowerAsked, AskServed, ReplyDelivered}
-use Rattle.relay_core.specs.World.{Sent, FollowerState, WorldState, fresh_follower, fresh_world, newest_serial, ask_outcome, is_on, fork_index, after_on, next_or_same}
+use Rattle.relay_core.specs.World.{Sent, FollowerState, WorldState, fresh_follower, fresh_world, newest_serial, ask_outcome, is_on, fork_index}
+use Rattle.relay_core.specs.World.{after_on, next_or_same}
 use Rattle.relay_core.specs.World.{kind_by, reply_to, replied, can_do, applies, serials_after, follower_moved, delivered}
 use Rattle.relay_core.specs.Branches.{IsNeverLost}
 use Rattle.relay_core.proofs.Linking.{got_either}

@@ -9,7 +9,8 @@ use Rattle.uo_digest.specs.declared.digest.Digest.{Digest}
 use Rattle.node_rules.specs.Machine.{event_in}
 use Rattle.bridge_prover.specs.Bridge.{BridgeState, verdict_on, next_bridge, message_on}
 use Rattle.relay_core.specs.declared.store.Reply.{Reply}
-use Rattle.relay_core.specs.World.{Sent, FollowerState, WorldState, chain_after, is_acceptance, sent_after, with_event, with_moved, applies, follower_moved}
+use Rattle.relay_core.specs.World.{Sent, FollowerState, WorldState, chain_after, is_acceptance, sent_after, with_event, with_moved, applies}
+use Rattle.relay_core.specs.World.{follower_moved}
 
 -- what is there put there again
 set_same : {X : Type 0} (xs : List X) (i : ℕ) (x : X) → slice_get xs i ≡ Some x → slice_set xs i x ≡ xs

@@ -19,7 +19,8 @@ use Rattle.relay_core.specs.declared.act.Outcome.{Outcome}
 use Rattle.relay_core.specs.declared.act.Outcome.TheVariants.{Replied}
 use Rattle.relay_core.specs.declared.store.Reply.{Reply}
 use Rattle.relay_core.specs.Acts.{WorldAct, BridgeTook, FollowerAsked, AskServed, ReplyDelivered}
-use Rattle.relay_core.specs.World.{Sent, FollowerState, WorldState, fresh_world, newest_serial, applies, sent_at, event_for, next_world, outcome_on, world_after}
+use Rattle.relay_core.specs.World.{Sent, FollowerState, WorldState, fresh_world, newest_serial, applies, sent_at, event_for, next_world, outcome_on}
+use Rattle.relay_core.specs.World.{world_after}
 
 -- ---- branches
 

@@ -38,7 +38,8 @@ use Rattle.ticket_check.specs.declared.checked.Checked.{Checked}
 use Rattle.ticket_check.specs.declared.checked.Checked.TheVariants as Said
 use Rattle.ticket_check.specs.Laws.{CheckedIsAccepted, LiveIsRight, RecheckedIsRight}
 use Rattle.ticket_check.specs.Clashing.{IsTicketClash, spending, ticket_clash_in}
-use Rattle.ticket_check.specs.Checking.{live_of, said_of_live, verdict_of_ticket, view_in, unless_clash, over_all, AcceptsAmong, AcceptsOver, IsRechecked}
+use Rattle.ticket_check.specs.Checking.{live_of, said_of_live, verdict_of_ticket, view_in, unless_clash, over_all, AcceptsAmong, AcceptsOver}
+use Rattle.ticket_check.specs.Checking.{IsRechecked}
 use Rattle.ticket_check.specs.Checking.{said_of, rechecked_by, recheck_of, rechecked_over, recheck_over}
 use Rattle.ticket_check.specs.Reading.{ticket_in}
 use Rattle.ticket_check.specs.declared.fault.TicketFault.{TicketFault}

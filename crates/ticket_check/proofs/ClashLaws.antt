@@ -89,8 +89,8 @@ module _ (H : List ℕ → Digest) (es : List (Option Digest)) (held : List Held
     whole : (us : History) → StandForHistory H es held us → ticket_clash_in H us k ≡ first_pair H us (p ∷ []) (k.leaf ∷ []) nothing_known k.hashes
     whole us s =
         let over : View = record { n = length us; roots = root H (entries H leaf_text us); known = nothing_known } in
-        ap (λ (y : Option ProofRefusal). if is_none y then first_pair H us (targets (length us) (ticket_message k)) (k.leaf ∷ []) nothing_known k.hashes
-        else None) (passes_one H over k p (named_there us s) (accepted_there us s))
+        ap (λ (y : Option ProofRefusal). if is_none y then first_pair H us (targets (length us) (ticket_message k)) (k.leaf ∷ []) nothing_known
+        k.hashes else None) (passes_one H over k p (named_there us s) (accepted_there us s))
         ∙ ap (λ ts. first_pair H us ts (k.leaf ∷ []) nothing_known k.hashes) (target_one H over k p (named_there us s))
 
     pub exact_so : (x : Option TextClash) → ((us : History) → StandForHistory H seen seen_held us → IsFirstPair H us t.targets rs hs x)

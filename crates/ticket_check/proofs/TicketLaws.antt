@@ -83,7 +83,8 @@ body_took bytes k is_bytes e =
     let t = body_lawful.took bytes k [] is_bytes e in
     (t.fits, t.parts ∙ append-nil (ticket_body_text k))
 
-pub no_body : (bytes : List ℕ) → ((k : Ticket) → ticket_body_at bytes ≡ Some (k, []) → ⊥) → (k : Ticket) → TicketFits k → bytes ≡ ticket_body_text k → ⊥
+pub no_body : (bytes : List ℕ) → ((k : Ticket) → ticket_body_at bytes ≡ Some (k, []) → ⊥) → (k : Ticket) → TicketFits k
+    → bytes ≡ ticket_body_text k → ⊥
 no_body bytes none k fits e = none k (ap ticket_body_at (e ∙ sym (append-nil (ticket_body_text k))) ∙ body_lawful.again k [] fits)
 
 tails : {a b c d e : ℕ} {xs ys : List ℕ} → a ∷ b ∷ c ∷ d ∷ e ∷ xs ≡ a ∷ b ∷ c ∷ d ∷ e ∷ ys → xs ≡ ys
@@ -140,7 +141,8 @@ pub read_exactly : (r : Result Ticket TicketFault) (text : List ℕ) → IsBytes
     → (IsErrOf r NotATicket → (k : Ticket) → TicketFits k → text ≡ ticket_text k → ⊥) → ((v : ℕ) → IsErrOf r (Version v) ↔ IsOfVersion v text)
     → r ≡ ticket_in text
 read_exactly (Ok k) text is_bytes found none version =
-    let again : ticket_body_at (ticket_body_text k) ≡ Some (k, []) = ap ticket_body_at (sym (append-nil (ticket_body_text k))) ∙ body_lawful.again k [] found.0 in
+    let again : ticket_body_at (ticket_body_text k) ≡ Some (k, []) =
+    ap ticket_body_at (sym (append-nil (ticket_body_text k))) ∙ body_lawful.again k [] found.0 in
     sym (ap ticket_in found.1 ∙ ap ended_read again)
 read_exactly (Err NotATicket) text is_bytes found none version =
     of_front (λ r. Err NotATicket ≡ r) text
@@ -159,7 +161,8 @@ read_exactly (Err (Version v)) text is_bytes found none version =
 pub ticket_fits : (text : List ℕ) (k : Ticket) → IsBytes text → ticket_in text ≡ Ok k → TicketFits k
 ticket_fits text k is_bytes e =
     of_front (λ r. r ≡ Ok k → TicketFits k) text
-    (λ v body begins. of_one (λ r. r ≡ Ok k → TicketFits k) v body (λ one. by_body body (tail_bytes v body text is_bytes begins) (ticket_body_at body) refl)
+    (λ v body begins. of_one (λ r. r ≡ Ok k → TicketFits k) v body
+    (λ one. by_body body (tail_bytes v body text is_bytes begins) (ticket_body_at body) refl)
     (λ other h. absurd cc))
     (λ h. absurd cc) e
   where
