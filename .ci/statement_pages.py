@@ -159,4 +159,10 @@ ports and the digest are of which `run` speaks. With it every definition stands 
     ],
     calls=[("crates/utreexo/src/program.rt", "run_program"), ("crates/node_commands/src/running.rt", "run")],
 )
-PLANS = Plans(pages=[PLAIN, EXACT, TICKETS, OTHERS], most=[(1, 1200), (2, 2000)], silent={})
+# Of so many definitions of a crate there is no sentence yet; no further one may lack its own.
+SILENT = {
+    **{"block_codec": 3, "bridge_prover": 11, "cache_model": 5, "cache_update": 1, "chain_gen": 19, "chain_order": 2},
+    **{"feed_frame": 2, "feed_run": 3, "forest_roots": 1, "leaf_record": 2, "message_upgrade": 4, "node_rules": 2, "output_index": 3},
+    **{"proof_wire": 2, "relay_script": 7, "state_text": 11, "tx_codec": 6, "uo_base": 6, "uo_digest": 1},
+}
+PLANS = Plans(pages=[PLAIN, EXACT, TICKETS, OTHERS], most=[(1, 1200), (2, 2000)], silent=SILENT)
