@@ -182,29 +182,28 @@ ticket-ends number (Some k) = inl refl
 
 module _ (H : List ℕ → Digest) (long : (x : List ℕ) → length (H x).0 ≡ 32) (limits : Limits) (few : limits.leaves < 2 ^ 40) (prior : List ℕ) where
   pub ticket-is-right : (number : ℕ) (begun : Start) → IsStart H limits prior begun → TicketIsRight H limits number prior begun
-  ticket-is-right number (Ok node) start = λ level k at e.
-      let b = back_at H long limits few at.net at.scripts at.watched at.before at.bytes prior at.text node start in
+  ticket-is-right number (Ok node) is = λ level k at e.
+      let b = back_at H long limits few at.net at.scripts at.watched at.before at.bytes prior at.text node is in
       subst (λ (l : Level). TicketRight H l.history l.tip k) (sym at.newest)
       (kept_tickets_are_right H (full_after H at.scripts (rules_of limits at.net) start (map event_in at.before)) node number k b.is b.stands e)
-  ticket-is-right number (Err bad) start =
-      λ level at. no_bad H long limits few at.net at.scripts at.watched at.before at.bytes prior at.text bad at.short start
+  ticket-is-right number (Err bad) is =
+      λ level at. no_bad H long limits few at.net at.scripts at.watched at.before at.bytes prior at.text bad at.short is
 
   pub checks-text : (text : List ℕ) (begun : Start) → IsStart H limits prior begun → ChecksText H limits prior text begun
-  checks-text text (Ok node) start = λ k read. record {
+  checks-text text (Ok node) is = λ k read. record {
     accepted = checked_is_accepted H node k;
     right = λ level at honest.
-        let b = back_at H long limits few at.net at.scripts at.watched at.before at.bytes prior at.text node start in
+        let b = back_at H long limits few at.net at.scripts at.watched at.before at.bytes prior at.text node is in
         let reached = full_after H at.scripts (rules_of limits at.net) start (map event_in at.before) in
         subst (λ (l : Level). (checked_by H node k ≡ live_of k) ↔ TicketRight H l.history l.tip k) (sym at.newest)
         (live_is_right H reached node k b.stands (λ a. subst (λ (l : Level). TicketRight H l.history l.tip k) at.newest (honest a)));
   }
-  checks-text text (Err bad) start = λ level at. no_bad H long limits few at.net at.scripts at.watched at.before at.bytes prior at.text bad at.short
-      start
+  checks-text text (Err bad) is = λ level at. no_bad H long limits few at.net at.scripts at.watched at.before at.bytes prior at.text bad at.short is
 
   pub ticket-claims : (number : ℕ) (begun : Option Start) → IfSome begun (IsStart H limits prior) → IfSome begun (TicketIsRight H limits number prior)
   ticket-claims number None begins = tt
-  ticket-claims number (Some start) begins = ticket-is-right number start begins
+  ticket-claims number (Some begun) begins = ticket-is-right number begun begins
 
   pub check-claims : (text : List ℕ) (begun : Option Start) → IfSome begun (IsStart H limits prior) → IfSome begun (ChecksText H limits prior text)
   check-claims text None begins = tt
-  check-claims text (Some start) begins = checks-text text start begins
+  check-claims text (Some begun) begins = checks-text text begun begins
